@@ -1,0 +1,49 @@
+-- What blocks and sheets mean: document 01, "Grammars and derivations". Assumes nothing.
+use mathlib.Core.List.{List, [], _∷_, _++_}
+use Prim.Native.Nat.{ℕ, suc}
+use Rattle.packing.specs.declared.Sym.{Sym}
+use Rattle.packing.specs.declared.Word as W
+use Rattle.packing.specs.declared.Rule as R
+
+-- symbols and words are numbered apart
+abbrev pub sym : ℕ → Sym
+sym n = record { 0 = n }
+
+abbrev pub word : ℕ → W.Word
+word n = record { 0 = n }
+
+-- S, W and the rules, numbered from 0; symbol 0 is the start
+pub record Grammar : Type 0 where
+  pub symbols : ℕ
+  pub words : ℕ
+  pub rules : List R.Rule
+
+-- a word that a slot offers, with its cost
+pub data Candidate : Type 0 where
+  candidate : (w : W.Word) (cost : ℕ) → Candidate
+
+-- the slots of an utterance, each with its candidates
+abbrev pub Utterance : Type 0
+Utterance = List (List Candidate)
+
+-- from a place to a later one, by a word with its cost
+pub data Edge : Type 0 where
+  edge : (from upto : ℕ) (w : W.Word) (cost : ℕ) → Edge
+
+-- a candidate of slot i goes from place i to place i + 1
+unfoldable pub slotEdges : ℕ → List Candidate → List Edge
+slotEdges i [] = []
+slotEdges i (candidate w c ∷ cs) = edge i (suc i) w c ∷ slotEdges i cs
+
+unfoldable pub edgesFrom : ℕ → Utterance → List Edge
+edgesFrom i [] = []
+edgesFrom i (cs ∷ slots) = slotEdges i cs ++ edgesFrom (suc i) slots
+
+abbrev pub edges : Utterance → List Edge
+edges u = edgesFrom 0 u
+
+-- n, the weight, and the rule number of each node: node, left part, right part
+pub record Reading : Type 0 where
+  pub slots : ℕ
+  pub weight : ℕ
+  pub walk : List ℕ
