@@ -1,4 +1,7 @@
-// What grammar, utterance and reading blocks and sheets are made of.
+// What blocks and sheets are made of, and the reading of one number of them.
+ghost use mathlib.Core.Path.{_≡_};
+ghost use Prim.Native.Nat.{_^_, _≤_, _<_};
+ghost use Rattle.packing.specs.Source.{inRange, readOf, refusalOf, sourceOf, take};
 
 // A symbol of the grammar, V of document 001.
 pub struct Sym(pub u32);
@@ -12,4 +15,76 @@ pub enum Rule {
     Pair(Sym, Sym, Sym, u32),
     // head, word, weight
     Word(Sym, Word, u32),
+}
+
+// A number of a block or a sheet: its width in a block, its least and greatest value, and the refusals of a
+// value below and above.
+pub struct Field {
+    pub width: usize,
+    pub least: u32,
+    pub most: u32,
+    pub below: u32,
+    pub above: u32,
+}
+
+// A place: a bit of a block, or a number of a sheet.
+pub struct Cursor {
+    pub at: usize,
+}
+
+// What reading a field gives: its value and the next place, or the refusal.
+pub enum Read {
+    Number(u32, Cursor),
+    Refused(u32),
+}
+
+// Where numbers are read from: a block, with the refusal of a field that passes its end, or a sheet.
+pub enum Source {
+    Block(u32),
+    Sheet,
+}
+
+// A value that was found, if it is in its range.
+fn in_range(f: Field, v: u32, next: usize) -> Read
+    ensures { λ r. ⌜ r ≡ readOf (inRange f v next) ⌝ }
+{
+    if f.most < v {
+        return Read::Refused(f.above);
+    }
+    if v < f.least {
+        return Read::Refused(f.below);
+    }
+    Read::Number(v, Cursor { at: next })
+}
+
+// The number at a place of the block or of the sheet, whichever the source is.
+pub fn take(src: Source, block: &[u8], sheet: &[u32], at: usize, f: Field) -> Read
+    requires { ⌜ (at < 2 ^ 32) × (f .width ≤ 24) ⌝ }
+    ensures { λ r. ⌜ r ≡ readOf (take (sourceOf src (now (block .entry)) (now (sheet .entry))) at f) ⌝ }
+{
+    match src {
+        Source::Block(missing) => {
+            let width = f.width;
+            if bits::has_field(block, at, width) {
+                return in_range(f, bits::read_field(block, at, width), at + width);
+            }
+            Read::Refused(missing)
+        }
+        Source::Sheet => {
+            if at < sheet.len() {
+                return in_range(f, sheet[at], at + 1);
+            }
+            Read::Refused(41)
+        }
+    }
+}
+
+// The refusal's number, and 0 of a value.
+pub fn refusal(r: Read) -> u32
+    ensures { λ n. ⌜ n ≡ refusalOf r ⌝ }
+{
+    match r {
+        Read::Number(_, _) => 0,
+        Read::Refused(n) => n,
+    }
 }

@@ -1,0 +1,34 @@
+-- The four conversions: document 01, "The services" and the row sheet or block output. Assumes nothing.
+use mathlib.Core.List.{List, _++_}
+use Prim.Native.Nat.{ℕ}
+use lib.Dec.{ltb}
+use lib.ListN.{length, drop}
+use Rattle.bits.specs.Bits.{pick}
+use Rattle.packing.specs.Meaning.{Grammar, Utterance}
+use Rattle.packing.specs.Parse.{Verdict, accepted, refused, _then_}
+use Rattle.packing.specs.Grammar.{grammarBlock, grammarSheet, blockOfGrammar, sheetOfGrammar}
+use Rattle.packing.specs.Utterance.{utteranceBlock, utteranceSheet, blockOfUtterance, sheetOfUtterance}
+
+-- what each conversion writes, or its refusal
+unfoldable pub grammarToBlock : List ℕ → Verdict (List ℕ)
+grammarToBlock sheet = grammarSheet sheet then λ g. accepted (blockOfGrammar g)
+
+unfoldable pub grammarToSheet : List ℕ → Verdict (List ℕ)
+grammarToSheet block = grammarBlock block then λ g. accepted (sheetOfGrammar g)
+
+unfoldable pub utteranceToBlock : List ℕ → List ℕ → Verdict (List ℕ)
+utteranceToBlock grammar sheet =
+    grammarBlock grammar then λ g. utteranceSheet (g .words) sheet then λ u. accepted (blockOfUtterance (g .words) u)
+
+unfoldable pub utteranceToSheet : List ℕ → List ℕ → Verdict (List ℕ)
+utteranceToSheet grammar block =
+    grammarBlock grammar then λ g. utteranceBlock (g .words) block then λ u. accepted (sheetOfUtterance (g .words) u)
+
+-- 43 where the output is shorter than the result
+unfoldable pub fitting : Verdict (List ℕ) → List ℕ → Verdict (List ℕ)
+fitting v out = v then λ l. pick (ltb (length out) (length l)) (refused 43) (accepted l)
+
+-- the output afterwards: the result and what stood beyond it; all as it was on a refusal
+abbrev pub written : Verdict (List ℕ) → List ℕ → List ℕ
+written (accepted l) out = l ++ drop (length l) out
+written (refused n) out = out

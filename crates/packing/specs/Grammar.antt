@@ -1,0 +1,117 @@
+-- Grammar blocks and sheets: document 01, "Packed blocks" and the rows grammar block and sheet of "Where each check
+-- stands". Assumes nothing.
+use mathlib.Core.List.{List, [], _∷_, _++_}
+use mathlib.Core.Bool.{Bool, true, false}
+use Prim.Native.Nat.{ℕ, zero, suc, _+_, _-_, _*_}
+use lib.Dec.{ltb, eqb}
+use lib.ListN.{length}
+use Rattle.bits.specs.Bits.{pick, pack, ended}
+use Rattle.bits.specs.Width.{widthOf}
+use Rattle.bits.specs.Fields.{bitsOfAll}
+use Rattle.packing.specs.Meaning.{Grammar, sym, word}
+use Rattle.packing.specs.Parse.{Parse, parsed, failed, _⟫_, Verdict, accepted, refused, finish}
+use Rattle.packing.specs.Source.{Source, bytes, numbers, take, within, Entry, entry, values, flds}
+use Rattle.packing.specs.declared.Field.{Field}
+use Rattle.packing.specs.declared.Rule as R
+use Rattle.packing.specs.declared.Rule.the-variants.{Pair, Word}
+
+-- the fields: a block's kind; S, W and R; a rule's kind, symbols, words and weight, and a word rule's last number, which
+-- takes no bits. In a block no kind or weight is too great for its width, so 42 is a sheet's alone
+abbrev pub blockKind : ℕ → ℕ → Field
+blockKind kind n = within 4 kind kind n
+
+abbrev pub size : ℕ → ℕ → Field
+size width most = within width 1 most 3
+
+abbrev pub ruleKind : Field
+ruleKind = within 1 0 1 42
+
+abbrev pub symbol : ℕ → Field
+symbol S = within (widthOf (S - 1)) 0 (S - 1) 4
+
+abbrev pub ruleWord : ℕ → Field
+ruleWord W = within (widthOf (W - 1)) 0 (W - 1) 5
+
+abbrev pub weight : Field
+weight = within 16 0 65535 42
+
+abbrev pub nothing : Field
+nothing = within 0 0 0 42
+
+-- the body of a rule of a kind: two symbols, or a word
+abbrev pub firstOf : ℕ → ℕ → ℕ → Field
+firstOf S W kind = pick (eqb kind 0) (symbol S) (ruleWord W)
+
+abbrev pub secondOf : ℕ → ℕ → Field
+secondOf S kind = pick (eqb kind 0) (symbol S) nothing
+
+abbrev pub ruleOf : ℕ → ℕ → ℕ → ℕ → ℕ → R.Rule
+ruleOf kind head w first second = pick (eqb kind 0) (Pair (sym head) (sym first) (sym second) w) (Word (sym head) (word first) w)
+
+unfoldable pub ruleFrom : Source → ℕ → ℕ → ℕ → Parse R.Rule
+ruleFrom src S W at =
+    take src at ruleKind ⟫ λ kind at. take src at (symbol S) ⟫ λ head at. take src at weight ⟫ λ w at.
+    take src at (firstOf S W kind) ⟫ λ first at. take src at (secondOf S kind) ⟫ λ second at.
+    parsed (ruleOf kind head w first second) at
+
+-- both tests pass
+abbrev pub both : Bool → Bool → Bool
+both a b = pick a b false
+
+-- kind, head and body are equal
+abbrev pub alike : R.Rule → R.Rule → Bool
+alike (Pair h x y w) (Pair h′ x′ y′ w′) = both (eqb (h .0) (h′ .0)) (both (eqb (x .0) (x′ .0)) (eqb (y .0) (y′ .0)))
+alike (Pair h x y w) (Word h′ x′ w′) = false
+alike (Word h x w) (Pair h′ x′ y′ w′) = false
+alike (Word h x w) (Word h′ x′ w′) = both (eqb (h .0) (h′ .0)) (eqb (x .0) (x′ .0))
+
+unfoldable pub anyAlike : R.Rule → List R.Rule → Bool
+anyAlike r [] = false
+anyAlike r (s ∷ rs) = pick (alike r s) true (anyAlike r rs)
+
+-- n rules behind the earlier ones
+unfoldable pub rulesFrom : Source → ℕ → ℕ → ℕ → ℕ → List R.Rule → Parse (List R.Rule)
+rulesFrom src S W zero at rs = parsed rs at
+rulesFrom src S W (suc n) at rs =
+    ruleFrom src S W at ⟫ λ r at. pick (anyAlike r rs) (failed 6) (rulesFrom src S W n at (rs ++ (r ∷ [])))
+
+-- a sheet that has not the 3 + 5 R numbers of its grammar
+abbrev pub unfit : Source → ℕ → Bool
+unfit (bytes missing s) R = false
+unfit (numbers s) R = pick (eqb (length s) (3 + 5 * R)) false true
+
+-- S, W and R, then the rules
+unfoldable pub grammarFrom : Source → ℕ → Parse Grammar
+grammarFrom src at =
+    take src at (size 6 32) ⟫ λ S at. take src at (size 8 200) ⟫ λ W at. take src at (size 9 256) ⟫ λ R at.
+    pick (unfit src R) (failed 41)
+    (rulesFrom src S W R at [] ⟫ λ rs at. parsed (record { symbols = S; words = W; rules = rs }) at)
+
+-- the meaning of a grammar block, and of a grammar sheet
+unfoldable pub grammarBlock : List ℕ → Verdict Grammar
+grammarBlock s = finish (ended s) 7 (take (bytes 1 s) 0 (blockKind 1 2) ⟫ λ kind at. grammarFrom (bytes 1 s) at)
+
+unfoldable pub grammarSheet : List ℕ → Verdict Grammar
+grammarSheet s = pick (ltb (length s) 3) (refused 41) (finish (λ at. true) 41 (grammarFrom (numbers s) 0))
+
+-- the fields of a grammar with their values, and its block and its sheet
+abbrev pub ruleEntries : ℕ → ℕ → R.Rule → List Entry
+ruleEntries S W (Pair h x y w) =
+    entry ruleKind 0 ∷ entry (symbol S) (h .0) ∷ entry weight w ∷ entry (symbol S) (x .0) ∷ entry (symbol S) (y .0) ∷ []
+ruleEntries S W (Word h x w) =
+    entry ruleKind 1 ∷ entry (symbol S) (h .0) ∷ entry weight w ∷ entry (ruleWord W) (x .0) ∷ entry nothing 0 ∷ []
+
+unfoldable pub rulesEntries : ℕ → ℕ → List R.Rule → List Entry
+rulesEntries S W [] = []
+rulesEntries S W (r ∷ rs) = ruleEntries S W r ++ rulesEntries S W rs
+
+unfoldable pub grammarEntries : Grammar → List Entry
+grammarEntries g =
+    entry (size 6 32) (g .symbols) ∷ entry (size 8 200) (g .words) ∷ entry (size 9 256) (length (g .rules))
+    ∷ rulesEntries (g .symbols) (g .words) (g .rules)
+
+unfoldable pub blockOfGrammar : Grammar → List ℕ
+blockOfGrammar g = pack (bitsOfAll (flds (entry (blockKind 1 2) 1 ∷ grammarEntries g)))
+
+unfoldable pub sheetOfGrammar : Grammar → List ℕ
+sheetOfGrammar g = values (grammarEntries g)
