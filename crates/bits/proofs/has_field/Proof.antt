@@ -2,7 +2,7 @@
 use Prim.Native.Nat.{_+_}
 use lib.ListN.{length}
 use borrow.Author.Needs.{needs}
-use Rattle.bits.proofs.Laws.{bytes-have}
+use Rattle.bits.proofs.Num.{bytes-have}
 use Rattle.bits.proofs.has_field.Statement.{statement}
 use Rattle.bits.proofs.has_field.Tie as tie
 

@@ -1,9 +1,9 @@
 use lib.Pow.{shr-le}
 use lib.ListN.{getD, set}
 use Prim.Native.Nat.{_/_, _%_, _-_}
-use Rattle.bits.proofs.Laws.{shifted}
+use Rattle.bits.proofs.Put.{shifted}
 use Rattle.bits.specs.Bits.{putBit}
-use mathlib.Core.Path.{refl, ap}
+use mathlib.Core.Path.{ap}
 use native.Mathlib.Omega.{arith}
 use borrow.Author.Needs.{needs}
 use Rattle.bits.proofs.put_bit.Statement.{statement}

@@ -1,10 +1,10 @@
 -- After k turns the number read is the field of k bits.
 use mathlib.Core.Path.{_≡_, refl}
-use Prim.Native.Nat.{_≤_, _-_, _+_}
+use Prim.Native.Nat.{_≤_, _-_}
 use native.Mathlib.Omega.{arith}
 use native.Mathlib.Numerals.{add-one}
 use Rattle.bits.specs.Bits.{field, num}
-use Rattle.bits.proofs.Laws.{field-small}
+use Rattle.bits.proofs.Num.{field-small}
 use Rattle.bits.proofs.read_field.Statement.{statement}
 use Rattle.bits.proofs.read_field.Tie as tie
 

@@ -1,11 +1,8 @@
-use Rattle.bits.proofs.Laws.{put-more, put-all}
-use Rattle.bits.specs.Bits.{putBit, put}
-use borrow.Author.Needs.{needs}
+use Rattle.bits.proofs.Put.{put-more, put-all}
+use Rattle.bits.specs.Bits.{put}
 use lib.ListN.{length}
-use native.Mathlib.Numerals.{add-one}
-use mathlib.Core.List.{List}
-use Prim.Native.Nat.{ℕ, _≤_, _-_, _+_, _/_, _^_}
-use mathlib.Core.Path.{_≡_, refl, ap, sym, _∙_}
+use Prim.Native.Nat.{_≤_, _-_, _/_, _^_}
+use mathlib.Core.Path.{_≡_, refl}
 use native.Mathlib.Omega.{arith}
 use Rattle.bits.proofs.write_field.Statement.{statement}
 use Rattle.bits.proofs.write_field.Tie as tie
