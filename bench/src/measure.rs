@@ -1,0 +1,62 @@
+//! Times of several functions in one process: called in turn, so that what disturbs one disturbs all.
+
+use std::time::{Duration, Instant};
+
+/// How often functions are called: `rounds` samples of each, each of `calls` calls.
+#[derive(Clone, Copy)]
+pub struct Plan {
+    pub rounds: usize,
+    pub calls: u32,
+}
+
+/// The median time of one call of each function.
+pub fn medians<const COUNT: usize>(plan: Plan, mut functions: [&mut dyn FnMut(); COUNT]) -> [Duration; COUNT] {
+    let mut samples = [(); COUNT].map(|()| Vec::with_capacity(plan.rounds));
+    for _ in 0..plan.rounds {
+        for (function, samples) in functions.iter_mut().zip(&mut samples) {
+            let begin = Instant::now();
+            for _ in 0..plan.calls {
+                function();
+            }
+            samples.push(begin.elapsed() / plan.calls);
+        }
+    }
+    samples.map(|mut samples| {
+        samples.sort_unstable();
+        samples[samples.len() / 2]
+    })
+}
+
+/// Microseconds with as many digits as are worth reading.
+pub fn micros(time: Duration) -> String {
+    let micros = time.as_secs_f64() * 1e6;
+    if micros < 100.0 {
+        format!("{micros:.2} µs")
+    } else {
+        format!("{micros:.0} µs")
+    }
+}
+
+/// How long the first takes beside the second.
+pub fn ratio(first: Duration, second: Duration) -> String {
+    format!("{:.2}", first.as_secs_f64() / second.as_secs_f64())
+}
+
+#[cfg(test)]
+mod tests {
+    use super::*;
+
+    #[test]
+    fn times_are_written_with_few_digits() {
+        assert_eq!(micros(Duration::from_nanos(1_234)), "1.23 µs");
+        assert_eq!(micros(Duration::from_micros(1_234)), "1234 µs");
+        assert_eq!(ratio(Duration::from_micros(3), Duration::from_micros(4)), "0.75");
+    }
+
+    #[test]
+    fn each_function_is_called_in_each_round() {
+        let (mut first, mut second) = (0, 0);
+        medians(Plan { rounds: 3, calls: 5 }, [&mut || first += 1, &mut || second += 1]);
+        assert_eq!((first, second), (15, 15));
+    }
+}

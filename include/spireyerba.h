@@ -1,0 +1,160 @@
+/*
+** Spireyerba: ranked readings of an utterance under a weighted grammar.
+**
+** This header is the whole C interface of libspireyerba.a. The library is
+** written in Rattle, and what is said here of answers and of memory is proved
+** of it for every input.
+**
+**   cc -Iinclude program.c target/staticlib/libspireyerba.a
+**
+** ANSWERS. Every function returns an int32_t. Zero or more is its answer. Less
+** than zero is a refusal: minus one of the numbers SPIREYERBA_... below, such
+** as -SPIREYERBA_GRAMMAR_KIND. Where several conditions hold, the one that is
+** met first is answered: the grammar block's, then the utterance block's or the
+** sheet's, field by field, then the output's.
+**
+** MEMORY. A slice is a pointer and a length, and the length counts elements
+** (uint8_t or uint32_t), not bytes. All memory is the caller's: it is lent for
+** the time of one call, and no pointer is kept. The library allocates nothing
+** and needs less than 64 KiB of stack. A pointer must be valid for its length,
+** aligned for its type and not null (for an empty slice, any address that is
+** not null will do); an output may not overlap another slice.
+**
+** WHAT IS WRITTEN. An input is never changed. Of an output exactly the elements
+** that the answer counts are written, and all others stay as they were. A
+** refusal changes nothing at all. What an output held before makes no
+** difference.
+**
+** THREADS. The library has no state: no variable, no file, no lock. Any
+** functions may run at once on any threads, as long as no output is lent to two
+** calls at a time.
+*/
+#ifndef SPIREYERBA_H
+#define SPIREYERBA_H
+
+#include <stddef.h>
+#include <stdint.h>
+
+#ifdef __cplusplus
+extern "C" {
+#endif
+
+/*
+** LIMITS. Symbols and words are numbered apart, each from 0; symbol 0 is the
+** start. Rules are numbered from 0 in the order of the block.
+*/
+#define SPIREYERBA_MAX_SYMBOLS 32      /* S is 1 to 32                        */
+#define SPIREYERBA_MAX_WORDS 200       /* W is 1 to 200                       */
+#define SPIREYERBA_MAX_RULES 256       /* R is 1 to 256                       */
+#define SPIREYERBA_MAX_SLOTS 24        /* n is 1 to 24                        */
+#define SPIREYERBA_MAX_CANDIDATES 7    /* words that a slot offers: 1 to 7    */
+#define SPIREYERBA_MAX_WEIGHT 65535    /* of a rule, and the cost of a word   */
+
+/*
+** SIZES. No accepted block or sheet is longer; an output of this length is
+** never too short for a conversion. Blocks are in bytes, sheets in numbers.
+*/
+#define SPIREYERBA_GRAMMAR_BLOCK_MAX 1028
+#define SPIREYERBA_UTTERANCE_BLOCK_MAX 515
+#define SPIREYERBA_GRAMMAR_SHEET_MAX 1283
+#define SPIREYERBA_UTTERANCE_SHEET_MAX 361
+
+/* The length of the sheet of a grammar with so many rules. */
+#define SPIREYERBA_GRAMMAR_SHEET_LENGTH(rules) (3 + 5 * (size_t)(rules))
+
+/* Refusals of a grammar. From a sheet: RANGE, SYMBOL, WORD, REPEAT only. */
+enum {
+    SPIREYERBA_GRAMMAR_END = 1,      /* a field passes the end of the block       */
+    SPIREYERBA_GRAMMAR_KIND = 2,     /* the block's kind is not 1                 */
+    SPIREYERBA_GRAMMAR_RANGE = 3,    /* S, W or R is out of range                 */
+    SPIREYERBA_GRAMMAR_SYMBOL = 4,   /* a symbol is not below S                   */
+    SPIREYERBA_GRAMMAR_WORD = 5,     /* a word is not below W                     */
+    SPIREYERBA_GRAMMAR_REPEAT = 6,   /* kind, head and body equal an earlier rule's */
+    SPIREYERBA_GRAMMAR_FILL = 7      /* nonzero fill in the last byte, or further bytes */
+};
+
+/* Refusals of an utterance. From a sheet: RANGE, WORD, ORDER only. */
+enum {
+    SPIREYERBA_UTTERANCE_END = 11,   /* a field passes the end of the block       */
+    SPIREYERBA_UTTERANCE_KIND = 12,  /* the block's kind is not 2                 */
+    SPIREYERBA_UTTERANCE_RANGE = 13, /* n or a slot's count is out of range       */
+    SPIREYERBA_UTTERANCE_WORD = 14,  /* a word is not below the grammar's W       */
+    SPIREYERBA_UTTERANCE_ORDER = 15, /* a word is not above the one before it in its slot */
+    SPIREYERBA_UTTERANCE_FILL = 16   /* nonzero fill in the last byte, or further bytes */
+};
+
+/* Further refusals of sheets, and that of the output of all conversions. */
+enum {
+    SPIREYERBA_SHEET_COUNT = 41,     /* numbers are missing or left over          */
+    SPIREYERBA_SHEET_VALUE = 42,     /* a rule's kind is not 0 or 1, a weight or cost passes 65,535,
+                                        or a word rule's fifth number is not 0    */
+    SPIREYERBA_OUTPUT_SHORT = 43     /* the output is shorter than the result     */
+};
+
+/*
+** CONVERSIONS. A block is packed bits, most significant bit first, its last
+** byte filled with zero bits. A sheet is the same as plain 32-bit numbers:
+**
+**   grammar     S, W, R, then for each rule five numbers: 0 (pair rule), head,
+**               weight, first symbol, second symbol; or 1 (word rule), head,
+**               weight, word, 0
+**   utterance   n, then for each slot its count, and word and cost of each
+**               candidate, words ascending
+**
+** A grammar block has the fields kind (4 bits, 1), S (6), W (8), R (9), then of
+** each rule 0 or 1 (1 bit), head, weight (16), and two symbols or one word. An
+** utterance block has kind (4 bits, 2), n (6), then of each slot its count (3)
+** and word and cost (16) of each candidate. A symbol has as many bits as S - 1
+** needs, a word as many as W - 1, at least 1.
+**
+** Each conversion answers the number of elements written, which is never 0.
+** Sheets and blocks that are accepted turn into each other without change:
+** there and back again is what was handed in.
+*/
+
+/*
+** Packs a grammar's sheet. Answers the bytes written to out.
+** Refuses with GRAMMAR_RANGE, _SYMBOL, _WORD, _REPEAT, SHEET_COUNT,
+** SHEET_VALUE, OUTPUT_SHORT: SHEET_COUNT for fewer than three numbers, then
+** GRAMMAR_RANGE, then SHEET_COUNT unless there are 3 + 5R numbers, then the
+** rules field by field.
+*/
+int32_t spireyerba_grammar_to_block(
+    const uint32_t *sheet, size_t sheet_len,
+    uint8_t *out, size_t out_len);
+
+/*
+** Unpacks a grammar's block. Answers the numbers written to out.
+** Refuses with any of GRAMMAR_..., OUTPUT_SHORT.
+*/
+int32_t spireyerba_grammar_to_sheet(
+    const uint8_t *block, size_t block_len,
+    uint32_t *out, size_t out_len);
+
+/*
+** Packs an utterance's sheet under a grammar, given as its block. Answers the
+** bytes written to out.
+** Refuses with any of GRAMMAR_..., then UTTERANCE_RANGE, _WORD, _ORDER,
+** SHEET_COUNT, SHEET_VALUE (SHEET_COUNT for a missing number at its field, for
+** surplus ones at the end), then OUTPUT_SHORT.
+*/
+int32_t spireyerba_utterance_to_block(
+    const uint8_t *grammar, size_t grammar_len,
+    const uint32_t *sheet, size_t sheet_len,
+    uint8_t *out, size_t out_len);
+
+/*
+** Unpacks an utterance's block under a grammar, given as its block. Answers the
+** numbers written to out.
+** Refuses with any of GRAMMAR_..., any of UTTERANCE_..., OUTPUT_SHORT.
+*/
+int32_t spireyerba_utterance_to_sheet(
+    const uint8_t *grammar, size_t grammar_len,
+    const uint8_t *block, size_t block_len,
+    uint32_t *out, size_t out_len);
+
+#ifdef __cplusplus
+}
+#endif
+
+#endif /* SPIREYERBA_H */

@@ -1,0 +1,63 @@
+/* Includes the header from C, links the library, and converts document 01's grammar G and utterance U both ways. */
+
+#include "spireyerba.h"
+
+#include <stdio.h>
+#include <string.h>
+
+static const uint32_t g_sheet[] = {1, 1, 2, 0, 0, 1, 0, 0, 1, 0, 0, 0, 0};
+static const uint8_t g_block[] = {0x10, 0x40, 0x40, 0x40, 0x00, 0x09, 0x00, 0x00, 0x00};
+static const uint32_t u_sheet[] = {4, 1, 0, 0, 1, 0, 0, 1, 0, 0, 1, 0, 0};
+static const uint8_t u_block[] = {0x21, 0x08, 0x00, 0x00, 0x80, 0x00, 0x08, 0x00, 0x00, 0x80, 0x00, 0x00};
+
+#define LENGTH(array) (sizeof(array) / sizeof((array)[0]))
+
+static uint8_t block[SPIREYERBA_GRAMMAR_BLOCK_MAX];
+static uint32_t sheet[SPIREYERBA_GRAMMAR_SHEET_MAX];
+static int failures;
+
+static void expect(int holds, const char *what) {
+    if (!holds) {
+        printf("header.c: not so: %s\n", what);
+        failures++;
+    }
+}
+
+/* An output held noise; the answer's elements are the result, and the next one is still noise. */
+static void expect_block(int32_t answer, const uint8_t *result, size_t length, const char *what) {
+    expect(answer == (int32_t)length && memcmp(block, result, length) == 0 && block[length] == 0xa5, what);
+}
+
+static void expect_sheet(int32_t answer, const uint32_t *result, size_t length, const char *what) {
+    expect(answer == (int32_t)length && memcmp(sheet, result, 4 * length) == 0 && sheet[length] == 0xa5a5a5a5, what);
+}
+
+static void fill_outputs(void) {
+    memset(block, 0xa5, sizeof block);
+    memset(sheet, 0xa5, sizeof sheet);
+}
+
+int main(void) {
+    int32_t answer;
+
+    fill_outputs();
+    answer = spireyerba_grammar_to_block(g_sheet, LENGTH(g_sheet), block, LENGTH(block));
+    expect_block(answer, g_block, LENGTH(g_block), "the sheet of G packs to its block");
+    answer = spireyerba_grammar_to_sheet(g_block, LENGTH(g_block), sheet, LENGTH(sheet));
+    expect_sheet(answer, g_sheet, LENGTH(g_sheet), "the block of G unpacks to its sheet");
+    expect(LENGTH(g_sheet) == SPIREYERBA_GRAMMAR_SHEET_LENGTH(2), "a sheet of two rules has the stated length");
+
+    fill_outputs();
+    answer = spireyerba_utterance_to_block(g_block, LENGTH(g_block), u_sheet, LENGTH(u_sheet), block, LENGTH(block));
+    expect_block(answer, u_block, LENGTH(u_block), "the sheet of U packs to its block");
+    answer = spireyerba_utterance_to_sheet(g_block, LENGTH(g_block), u_block, LENGTH(u_block), sheet, LENGTH(sheet));
+    expect_sheet(answer, u_sheet, LENGTH(u_sheet), "the block of U unpacks to its sheet");
+
+    fill_outputs();
+    answer = spireyerba_grammar_to_sheet(u_block, LENGTH(u_block), sheet, LENGTH(sheet));
+    expect(answer == -SPIREYERBA_GRAMMAR_KIND && sheet[0] == 0xa5a5a5a5, "an utterance is no grammar");
+    answer = spireyerba_grammar_to_block(g_sheet, LENGTH(g_sheet), block, LENGTH(g_block) - 1);
+    expect(answer == -SPIREYERBA_OUTPUT_SHORT && block[0] == 0xa5, "an output that is one short is refused");
+
+    return failures != 0;
+}

@@ -1,0 +1,21 @@
+//! A second implementation of the services, written from document 01 (docs of the project) and not from
+//! the Rattle code, and what is needed to compare the proved library with it.
+//!
+//! | modules | hold |
+//! |---|---|
+//! | `bits`, `refusal` | fields of bits; the refusals by number |
+//! | `grammar`, `utterance`, `reading` | the meaning of each, its block and its sheet |
+//! | `conversions` | the four conversions over lent slices |
+//! | `library` | the proved library, called through its C interface |
+//! | `compare` | one call of both on the same slices, held to each other |
+//! | `seeded` | seeded inputs, valid and damaged |
+
+pub mod bits;
+pub mod compare;
+pub mod conversions;
+pub mod grammar;
+pub mod library;
+pub mod reading;
+pub mod refusal;
+pub mod seeded;
+pub mod utterance;

@@ -1,0 +1,80 @@
+//! Ways to damage a block or a sheet.
+
+use super::rng::{Noise, Rng};
+use crate::grammar::Grammar;
+
+/// Every proper prefix.
+pub fn truncations<T: Clone>(whole: &[T]) -> impl Iterator<Item = Vec<T>> + '_ {
+    (0..whole.len()).map(|length| whole[..length].to_vec())
+}
+
+/// The whole with one or more numbers after it, zero and other.
+pub fn surplus<T: Noise>(rng: &mut Rng, whole: &[T]) -> Vec<Vec<T>> {
+    let more = [vec![T::cut(0)], vec![T::cut(1)], vec![T::cut(0); 5], rng.noise(1), rng.noise(9)];
+    more.into_iter().map(|more| [whole, more.as_slice()].concat()).collect()
+}
+
+/// A block with one bit turned.
+pub fn flipped(block: &[u8], bit: usize) -> Vec<u8> {
+    let mut damaged = block.to_vec();
+    damaged[bit / 8] ^= 0x80 >> (bit % 8);
+    damaged
+}
+
+/// The block with one bit turned: each bit of its last byte, fill among them, and up to `most` others.
+pub fn flips(rng: &mut Rng, block: &[u8], most: usize) -> Vec<Vec<u8>> {
+    let others = 8 * block.len() - 8;
+    let mut bits: Vec<usize> = (0..others).collect();
+    if others > most {
+        bits = (0..most).map(|_| rng.below(others)).collect();
+    }
+    bits.extend(others..others + 8);
+    bits.into_iter().map(|bit| flipped(block, bit)).collect()
+}
+
+/// The sheet with one number replaced by another at the end of some range, or near the one it replaces.
+pub fn replaced(rng: &mut Rng, sheet: &[u32], at: usize) -> Vec<u32> {
+    const ENDS: [u32; 20] =
+        [0, 1, 2, 3, 4, 7, 8, 24, 25, 31, 32, 33, 199, 200, 201, 256, 257, 65_535, 65_536, u32::MAX];
+    let mut damaged = sheet.to_vec();
+    let before = damaged[at];
+    damaged[at] = match rng.below(4) {
+        0 => before.wrapping_add(1),
+        1 => before.wrapping_sub(1),
+        // the same number to whoever looks at its low bits only
+        2 => before.wrapping_add(1 << rng.within(5..=31)),
+        _ => rng.pick(&ENDS),
+    };
+    damaged
+}
+
+/// A block as it is and in every way damaged.
+pub fn blocks(rng: &mut Rng, block: &[u8], most_flips: usize) -> Vec<Vec<u8>> {
+    let mut all = vec![block.to_vec()];
+    all.extend(truncations(block));
+    all.extend(surplus(rng, block));
+    all.extend(flips(rng, block, most_flips));
+    all
+}
+
+/// A sheet as it is and in every way damaged; up to `most` numbers are replaced.
+pub fn sheets(rng: &mut Rng, sheet: &[u32], most: usize) -> Vec<Vec<u32>> {
+    let mut all = vec![sheet.to_vec()];
+    all.extend(truncations(sheet));
+    all.extend(surplus(rng, sheet));
+    for at in 0..most {
+        let at = if sheet.len() <= most { at % sheet.len() } else { rng.below(sheet.len()) };
+        all.push(replaced(rng, sheet, at));
+    }
+    all
+}
+
+/// The grammar with kind, head and body of one rule put in the place of another's, whose weight stays.
+pub fn repeated_rule(rng: &mut Rng, grammar: &Grammar) -> Grammar {
+    let mut damaged = grammar.clone();
+    let (from, to) = (rng.below(grammar.rules.len()), rng.below(grammar.rules.len()));
+    let weight = damaged.rules[to].weight;
+    damaged.rules[to] = damaged.rules[from];
+    damaged.rules[to].weight = weight;
+    damaged
+}

@@ -1,0 +1,7 @@
+//! Seeded inputs, valid and damaged.
+
+pub mod damage;
+pub mod grammars;
+pub mod raw;
+pub mod rng;
+pub mod utterances;

@@ -1,0 +1,133 @@
+//! The four conversions of the library beside the second implementation, on seeded inputs, valid and damaged.
+
+use spireyerba_tests::compare::{over_seeds, Conversion, Tally};
+use spireyerba_tests::grammar::Grammar;
+use spireyerba_tests::refusal::Refusal::{self, *};
+use spireyerba_tests::seeded::damage::{blocks, repeated_rule, sheets};
+use spireyerba_tests::seeded::grammars::{grammar, Size};
+use spireyerba_tests::seeded::raw;
+use spireyerba_tests::seeded::rng::Rng;
+use spireyerba_tests::seeded::utterances::utterance;
+use spireyerba_tests::{conversions, library};
+
+const GRAMMAR_TO_BLOCK: Conversion<u32, u8> = Conversion {
+    library: |_, sheet, out| library::grammar_to_block(sheet, out),
+    second: |_, sheet, out| conversions::grammar_to_block(sheet, out),
+    longest: 1_028,
+};
+const GRAMMAR_TO_SHEET: Conversion<u8, u32> = Conversion {
+    library: |_, block, out| library::grammar_to_sheet(block, out),
+    second: |_, block, out| conversions::grammar_to_sheet(block, out),
+    longest: 3 + 5 * 256,
+};
+const UTTERANCE_TO_BLOCK: Conversion<u32, u8> =
+    Conversion { library: library::utterance_to_block, second: conversions::utterance_to_block, longest: 515 };
+const UTTERANCE_TO_SHEET: Conversion<u8, u32> = Conversion {
+    library: library::utterance_to_sheet,
+    second: conversions::utterance_to_sheet,
+    longest: 1 + 24 * (1 + 2 * 7),
+};
+
+const GRAMMAR_BLOCK: [Refusal; 7] =
+    [GrammarEnd, GrammarKind, GrammarRange, GrammarSymbol, GrammarWord, GrammarRepeat, GrammarFill];
+
+/// Mostly small, so that there is time for every way to damage it.
+fn size(rng: &mut Rng) -> Size {
+    match rng.below(40) {
+        0 => Size::Greatest,
+        1..=6 => Size::Middle,
+        _ => Size::Small,
+    }
+}
+
+#[test]
+fn grammar_sheets_to_blocks() {
+    let mut tally = Tally::default();
+    over_seeds(0..400, |rng| {
+        let size = size(rng);
+        let grammar = grammar(rng, size);
+        let mut inputs = sheets(rng, &grammar.to_sheet(), 60);
+        inputs.push(repeated_rule(rng, &grammar).to_sheet());
+        inputs.extend((0..50).map(|_| raw::grammar_sheet(rng)));
+        for sheet in inputs {
+            GRAMMAR_TO_BLOCK.compare(rng, &mut tally, &[], &sheet);
+        }
+    });
+    tally.demand(
+        20_000,
+        &[GrammarRange, GrammarSymbol, GrammarWord, GrammarRepeat, SheetCount, SheetValue, OutputShort],
+    );
+}
+
+#[test]
+fn grammar_blocks_to_sheets() {
+    let mut tally = Tally::default();
+    over_seeds(1_000..1_300, |rng| {
+        let size = size(rng);
+        let grammar = grammar(rng, size);
+        let mut inputs = blocks(rng, &grammar.to_block(), 300);
+        inputs.push(repeated_rule(rng, &grammar).to_block());
+        inputs.extend((0..50).map(|_| raw::grammar_block(rng)));
+        inputs.extend((0..10).map(|length| rng.noise(length)));
+        for block in inputs {
+            GRAMMAR_TO_SHEET.compare(rng, &mut tally, &[], &block);
+        }
+    });
+    tally.demand(20_000, &[GRAMMAR_BLOCK.as_slice(), &[OutputShort]].concat());
+}
+
+/// Damaged blocks of a grammar, some of each kind of damage.
+fn damaged_grammars(rng: &mut Rng, grammar: &Grammar) -> Vec<Vec<u8>> {
+    let damaged = blocks(rng, &grammar.to_block(), 60);
+    let mut some: Vec<_> = (0..10).map(|_| damaged[rng.below(damaged.len())].clone()).collect();
+    some.push(repeated_rule(rng, grammar).to_block());
+    some.push(raw::grammar_block(rng));
+    some
+}
+
+#[test]
+fn utterance_sheets_to_blocks() {
+    let mut tally = Tally::default();
+    over_seeds(2_000..2_300, |rng| {
+        let size = size(rng);
+        let grammar = grammar(rng, size);
+        let grammar_block = grammar.to_block();
+        let sheet = utterance(rng, size, grammar.words).to_sheet();
+        let mut inputs = sheets(rng, &sheet, 60);
+        inputs.extend((0..50).map(|_| raw::utterance_sheet(rng, grammar.words)));
+        for damaged in damaged_grammars(rng, &grammar) {
+            UTTERANCE_TO_BLOCK.compare(rng, &mut tally, &damaged, &sheet);
+            let other = rng.below(inputs.len());
+            UTTERANCE_TO_BLOCK.compare(rng, &mut tally, &damaged, &inputs[other]);
+        }
+        for sheet in inputs {
+            UTTERANCE_TO_BLOCK.compare(rng, &mut tally, &grammar_block, &sheet);
+        }
+    });
+    let sheet = [UtteranceRange, UtteranceWord, UtteranceOrder, SheetCount, SheetValue, OutputShort];
+    tally.demand(20_000, &[GRAMMAR_BLOCK.as_slice(), &sheet].concat());
+}
+
+#[test]
+fn utterance_blocks_to_sheets() {
+    let mut tally = Tally::default();
+    over_seeds(3_000..3_300, |rng| {
+        let size = size(rng);
+        let grammar = grammar(rng, size);
+        let grammar_block = grammar.to_block();
+        let utterance = utterance(rng, size, grammar.words).to_block(&grammar);
+        let mut inputs = blocks(rng, &utterance, 300);
+        inputs.extend((0..50).map(|_| raw::utterance_block(rng, grammar.words)));
+        inputs.extend((0..10).map(|length| rng.noise(length)));
+        for damaged in damaged_grammars(rng, &grammar) {
+            UTTERANCE_TO_SHEET.compare(rng, &mut tally, &damaged, &utterance);
+            let other = rng.below(inputs.len());
+            UTTERANCE_TO_SHEET.compare(rng, &mut tally, &damaged, &inputs[other]);
+        }
+        for block in inputs {
+            UTTERANCE_TO_SHEET.compare(rng, &mut tally, &grammar_block, &block);
+        }
+    });
+    let row = [UtteranceEnd, UtteranceKind, UtteranceRange, UtteranceWord, UtteranceOrder, UtteranceFill];
+    tally.demand(20_000, &[GRAMMAR_BLOCK.as_slice(), &row, &[OutputShort]].concat());
+}
