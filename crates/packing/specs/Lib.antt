@@ -6,3 +6,4 @@ pub mod Utterance
 pub mod Reading
 pub mod Conversion
 pub mod Flat
+pub mod Valid

@@ -1,0 +1,5 @@
+pub mod Parse
+pub mod Entries
+pub mod Taking
+pub mod Bounds
+pub mod Flat

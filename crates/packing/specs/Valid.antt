@@ -1,0 +1,45 @@
+-- Valid meanings: those that a block can have, as no condition of its row in document 01's "Where each check stands" holds.
+-- Assumes nothing.
+use mathlib.Core.Path.{_≡_}
+use mathlib.Core.Bool.{false}
+use mathlib.Core.List.{List, [], _∷_}
+use Prim.Native.Nat.{ℕ, _-_, _*_, _^_, _≤_, _<_}
+use lib.ListN.{length}
+use Rattle.packing.specs.Meaning.{Grammar, Utterance, Reading}
+use Rattle.packing.specs.Source.{Entry, entry}
+use Rattle.packing.specs.Grammar.{anyAlike, grammarEntries}
+use Rattle.packing.specs.Utterance.{utteranceEntries}
+use Rattle.packing.specs.Reading.{readingEntries}
+use Rattle.packing.specs.declared.Field.{Field}
+use Rattle.packing.specs.declared.Rule as R
+
+-- a value within its field's least and most, and one that can be written in its width
+abbrev pub InRange : Field → ℕ → Type 0
+InRange f v = (f .least ≤ v) × (v ≤ f .most)
+
+abbrev pub InWidth : Field → ℕ → Type 0
+InWidth f v = v < 2 ^ f .width
+
+-- it is so of every entry
+abbrev pub Each : (Field → ℕ → Type 0) → List Entry → Type 0
+Each P [] = Unit {0}
+Each P (entry f v ∷ es) = P f v × Each P es
+
+abbrev pub Fits : List Entry → Type 0
+Fits es = Each InRange es
+
+-- no two rules have kind, head and body alike
+abbrev pub Unlike : List R.Rule → Type 0
+Unlike [] = Unit {0}
+Unlike (r ∷ rs) = (anyAlike r rs ≡ false) × Unlike rs
+
+abbrev pub ValidGrammar : Grammar → Type 0
+ValidGrammar g = Fits (grammarEntries g) × Unlike (g .rules)
+
+-- under a grammar of W words; that words ascend is in the entries' least
+abbrev pub ValidUtterance : ℕ → Utterance → Type 0
+ValidUtterance W u = Fits (utteranceEntries W u)
+
+-- under a grammar of R rules: 2n − 1 numbers of the rule width, which need not be a walk
+abbrev pub ValidReading : ℕ → Reading → Type 0
+ValidReading R d = Fits (readingEntries R d) × Each InWidth (readingEntries R d) × (length (d .walk) ≡ 2 * d .slots - 1)
