@@ -11,7 +11,7 @@ use Rattle.packing.specs.declared.Rule as R
 use Rattle.packing.specs.declared.Rule.the-variants.{Pair, Word}
 use Rattle.packing.specs.Meaning.{sym, Grammar, Utterance, Edge, edge, edges, Reading}
 use Rattle.derivation.specs.Derivation.{Tree, leaf, node, weight, Derivation, reading}
-use Rattle.derivation.specs.Order.{order, Before}
+use Rattle.derivation.specs.Order.{_▸_, order, Before}
 
 infix 25 _∈_
 -- f at each element of a list and its number, the results joined
@@ -84,7 +84,7 @@ module _ {A : Type 0} (cmp : A → A → Ordering) where
 
 -- the trees of a cell, the least first
 unfoldable pub ranked : Grammar → List Edge → Sym → ℕ → ℕ → List Tree
-unfolding sort order weight trees
+unfolding sort order _▸_ weight trees
 ranked g es A i k = sort (order (weight g es)) (trees g es A i k)
 
 -- the list of demand 3: the readings of the N least derivations

@@ -15,7 +15,6 @@ Ordering·gt ▸ o = Ordering·gt
 -- by the price of a tree, then the rule number, then the split (over one span: fewer slots in the left part), then the left parts, then the right parts
 -- (a rule has leaves or nodes, never both; its leaves over one span compare by edge number, which differs only where two edges have one word)
 unfoldable pub order : (Tree → ℕ) → Tree → Tree → Ordering
-unfolding _▸_
 order price (leaf r e) (leaf s f) = compare (price (leaf r e)) (price (leaf s f)) ▸ compare r s ▸ compare e f
 order price (leaf r e) (node s k c d) = compare (price (leaf r e)) (price (node s k c d)) ▸ compare r s ▸ Ordering·lt
 order price (node r j a b) (leaf s f) = compare (price (node r j a b)) (price (leaf s f)) ▸ compare r s ▸ Ordering·gt
