@@ -1,14 +1,15 @@
 -- Numbers made of bits, by induction on the width.
 -- Assumes nothing.
-use mathlib.Core.Path.{_≡_, refl, sym, _∙_}
+use mathlib.Core.Path.{_≡_, refl, sym, ap, _∙_}
 use mathlib.Core.List.{List}
-use Prim.Native.Nat.{ℕ, zero, suc, _+_, _-_, _*_, _/_, _^_, _≤_, _<_}
+use Prim.Native.Nat.{ℕ, zero, suc, _+_, _-_, _*_, _/_, _%_, _^_, _≤_, _<_}
 use native.Mathlib.Decide.{decLe, ℕ-discrete}
-use native.Mathlib.Nat.{pow-suc, div-one, div-eq-of-lt}
+use native.Mathlib.Nat.{pow-suc, add-zero, add-suc, mul-assoc, div-one, div-eq-of-lt}
 use native.Mathlib.Omega.{arith}
 use borrow.Author.Tests.{le-leb, lt-leb}
 use lib.Dec.{leb}
-use lib.Pow.{pow-mono, shr-shr}
+use lib.ListN.{getD}
+use lib.Pow.{pow-mono, shr-shr, high, low}
 use Rattle.bits.specs.Bits.{num, bitOf, bitAt, field}
 
 -- a number of w bits is below 2 ^ w
@@ -71,3 +72,44 @@ num-of w x (suc k) l h =
 -- a byte is its eight bits
 pub byte-num : (x : ℕ) → x < 256 → num (bitOf 8 x) 0 8 ≡ x
 byte-num x l = num-of 8 x 8 l (omega arith) ∙ div-one x
+
+-- the bits of a and then those of b
+pub num-append : (f : ℕ → ℕ) (at a b : ℕ) → num f at (a + b) ≡ num f at a * 2 ^ b + num f (at + a) b
+unfolding num
+num-append f at a zero = rw (add-zero a) (omega arith)
+num-append f at a (suc b) =
+    let e : num f at (a + b) ≡ num f at a * 2 ^ b + num f (at + a) b = num-append f at a b in
+    let d : at + (a + b) ≡ at + a + b = omega arith in
+    let m : num f at a * (2 ^ b * 2) ≡ num f at a * 2 ^ b * 2 = sym (mul-assoc (num f at a) (2 ^ b) 2) in
+    rw (add-suc, pow-suc, m, e, d) (omega arith)
+
+-- w bits out of the middle of a number
+pub num-middle : (f : ℕ → ℕ) → ((i : ℕ) → f i < 2) → (at a w r : ℕ) → num f at (a + w + r) / 2 ^ r % 2 ^ w ≡ num f (at + a) w
+num-middle f b at a w r =
+    rw (num-append f at (a + w) r, high (num f at (a + w)) r (num-lt f b (at + (a + w)) r), num-append f at a w)
+    (low (num f at a) w (num-lt f b (at + a) w))
+
+-- bytes one after the other
+module _ (s : List ℕ) (y : (i : ℕ) → getD s i 0 < 256) where
+  pub field-byte : (i : ℕ) → field s (8 * i) 8 ≡ getD s i 0
+  field-byte i = num-shift (bitAt s) (bitOf 8 (getD s i 0)) (8 * i) 0 8 bit ∙ byte-num (getD s i 0) (y i)
+    where
+      bit : (k : ℕ) → k < 8 → bitAt s (8 * i + k) ≡ bitOf 8 (getD s i 0) (0 + k)
+      bit k l =
+          let d : (8 * i + k) / 8 ≡ i = omega arith in
+          let r : (8 * i + k) % 8 ≡ 0 + k = omega arith in
+          rw (d, r)
+
+  pub field-bytes : (i k : ℕ) → field s (8 * i) (8 * (k + 1)) ≡ field s (8 * i) (8 * k) * 256 + getD s (i + k) 0
+  field-bytes i k =
+      let e : 8 * (k + 1) ≡ 8 * k + 8 = omega arith in
+      let d : 8 * i + 8 * k ≡ 8 * (i + k) = omega arith in
+      rw (e, num-append (bitAt s) (8 * i) (8 * k) 8, d, field-byte (i + k))
+
+-- a field is the middle of the bytes that it touches
+pub field-touched : (s : List ℕ) (at w n : ℕ) → at % 8 + w ≤ 8 * n → field s (8 * (at / 8)) (8 * n) / 2 ^ (8 * n - (at % 8 + w)) % 2 ^ w ≡ field s at w
+field-touched s at w n h =
+    let e : 8 * n ≡ at % 8 + w + (8 * n - (at % 8 + w)) = omega arith in
+    let d : 8 * (at / 8) + at % 8 ≡ at = omega arith in
+    ap (λ (m : ℕ). num (bitAt s) (8 * (at / 8)) m / 2 ^ (8 * n - (at % 8 + w)) % 2 ^ w) e
+    ∙ num-middle (bitAt s) (λ i. omega arith) (8 * (at / 8)) (at % 8) w (8 * n - (at % 8 + w)) ∙ rw d

@@ -3,10 +3,10 @@ mod widths;
 
 use widths::WIDTHS;
 ghost use mathlib.Core.Path.{_≡_};
-ghost use Prim.Native.Nat.{_+_, _*_, _^_, _≤_, _<_};
+ghost use Prim.Native.Nat.{_+_, _*_, _%_, _^_, _≤_, _<_, min};
 ghost use lib.Dec.{leb};
 ghost use lib.ListN.{length};
-ghost use Rattle.bits.specs.Bits.{bitAt, field, putBit, put, ended};
+ghost use Rattle.bits.specs.Bits.{field, put, ended};
 ghost use Rattle.bits.specs.Width.{widthOf};
 
 // Whether the bytes have the `width` bits from bit `at`.
@@ -17,13 +17,27 @@ pub fn has_field(s: &[u8], at: usize, width: usize) -> bool
     (at + width + 7) / 8 <= s.len()
 }
 
-// Bit p of the bytes.
-fn bit_at(s: &[u8], p: usize) -> u32
-    requires { ⌜ p < 8 * length (now s) ⌝ }
-    ensures { λ r. ⌜ r ≡ bitAt (now (s .entry)) p ⌝ }
+// The lower `width` bits of a number.
+fn lower(value: u32, width: usize) -> u32
+    requires { ⌜ width ≤ 24 ⌝ }
+    ensures { λ r. ⌜ r ≡ value % 2 ^ width ⌝ }
 {
-    let b = s[p / 8];
-    ((b >> (7 - p % 8)) % 2) as u32
+    value % (1 << width)
+}
+
+// The number in `count` bytes from byte `first`.
+fn bytes_from(s: &[u8], first: usize, count: usize) -> u32
+    requires { ⌜ (count ≤ 4) × (first + count ≤ length (now s)) ⌝ }
+    ensures { λ r. ⌜ r ≡ field (now (s .entry)) (8 * first) (8 * count) ⌝ }
+{
+    let mut v: u32 = 0;
+    let mut k: usize = 0;
+    while k < count {
+        let x = s[first + k];
+        v = v * 256 + x as u32;
+        k += 1;
+    }
+    v
 }
 
 // The number in the `width` bits from bit `at`.
@@ -31,24 +45,29 @@ pub fn read_field(s: &[u8], at: usize, width: usize) -> u32
     requires { ⌜ (at < 2 ^ 32) × (width ≤ 24) × (at + width ≤ 8 * length (now s)) ⌝ }
     ensures { λ r. ⌜ r ≡ field (now (s .entry)) at width ⌝ }
 {
-    let mut v: u32 = 0;
-    let mut k: usize = 0;
-    while k < width {
-        v = v * 2 + bit_at(s, at + k);
-        k += 1;
-    }
-    v
+    let end = at % 8 + width;
+    let count = (end + 7) / 8;
+    let v = bytes_from(s, at / 8, count);
+    lower(v >> (8 * count - end), width)
 }
 
-// Bit p becomes b, and the rest of its byte zero.
-fn put_bit(out: &mut [u8], p: usize, b: u8)
-    requires { ⌜ (p < 8 * length (now out)) × (b < 2) ⌝ }
-    ensures { λ _. ⌜ now (out .exit) ≡ putBit (now (out .entry)) p b ⌝ }
+// A field within one byte; the rest of the byte becomes zero.
+fn write_part(out: &mut [u8], at: usize, width: usize, value: u32)
+    requires { ⌜ (0 < width) × (at % 8 + width ≤ 8) × (at < 8 * length (now out)) ⌝ }
+    ensures { λ _. ⌜ now (out .exit) ≡ put (now (out .entry)) at width value ⌝ }
 {
-    let i = p / 8;
-    let k = 7 - p % 8;
-    let x = out[i];
-    out[i] = ((x >> k) / 2 * 2 + b) << k;
+    let room = 8 - at % 8;
+    let x = out[at / 8];
+    let kept = ((x as u32) >> room) << width;
+    let y = (kept + lower(value, width)) << (room - width);
+    out[at / 8] = y as u8;
+}
+
+// The lesser of two numbers.
+fn least(a: usize, b: usize) -> usize
+    ensures { λ r. ⌜ r ≡ min a b ⌝ }
+{
+    if a < b { a } else { b }
 }
 
 // The `width` bits of `value`, from bit `at`; the rest of the last byte becomes zero.
@@ -56,11 +75,13 @@ pub fn write_field(out: &mut [u8], at: usize, width: usize, value: u32)
     requires { ⌜ (at < 2 ^ 32) × (width ≤ 24) × (at + width ≤ 8 * length (now out)) ⌝ }
     ensures { λ _. ⌜ now (out .exit) ≡ put (now (out .entry)) at width value ⌝ }
 {
-    let mut k: usize = 0;
-    while k < width {
-        let b = ((value >> (width - 1 - k)) % 2) as u8;
-        put_bit(out, at + k, b);
-        k += 1;
+    let mut done: usize = 0;
+    while done < width {
+        let p = at + done;
+        let left = width - done;
+        let part = least(left, 8 - p % 8);
+        write_part(out, p, part, value >> (left - part));
+        done += part;
     }
 }
 

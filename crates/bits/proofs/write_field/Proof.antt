@@ -1,60 +1,70 @@
-use Rattle.bits.proofs.Put.{put-more, put-all}
-use Rattle.bits.specs.Bits.{put}
-use lib.ListN.{length}
-use Prim.Native.Nat.{_≤_, _-_, _/_, _^_}
+-- After each turn the bits put are the upper ones of the value, and each part is put within one byte.
 use mathlib.Core.Path.{_≡_, refl}
+use Prim.Native.Nat.{_≤_, _-_, _/_, _^_}
 use native.Mathlib.Omega.{arith}
+use borrow.Author.Needs.{needs}
+use lib.ListN.{length}
+use Rattle.bits.specs.Bits.{put}
+use Rattle.bits.proofs.Put.{put-more, put-all}
 use Rattle.bits.proofs.write_field.Statement.{statement}
 use Rattle.bits.proofs.write_field.Tie as tie
 
 abbrev Inv-loop : tie.InvT-loop
-Inv-loop out₀ at width value k₀ out k = (k ≤ width) × (length out ≡ length out₀) × (out ≡ put out₀ at k (value / 2 ^ (width - k)))
+Inv-loop out₀ at width value done₀ out done = (done ≤ width) × (length out ≡ length out₀) × (out ≡ put out₀ at done (value / 2 ^ (width - done)))
 
 abbrev μ-loop : tie.MeasureT-loop
-μ-loop out₀ at width value k₀ out k = width - k
+μ-loop out₀ at width value done₀ out done = width - done
 
 loop-holds : tie.Need-loop-holds Inv-loop μ-loop
 unfolding put
 loop-holds c = (omega arith, refl, refl)
 
-sub-b : tie.Need-sub-b Inv-loop μ-loop
-sub-b c = omega arith
+add-p : tie.Need-add-p Inv-loop μ-loop
+add-p c = search needs
 
-sub-b-2 : tie.Need-sub-b-2 Inv-loop μ-loop
-sub-b-2 c = omega arith
+sub-left : tie.Need-sub-left Inv-loop μ-loop
+sub-left c = search needs
 
-cast-b : tie.Need-cast-b Inv-loop μ-loop
-cast-b c = omega arith
+sub-least : tie.Need-sub-least Inv-loop μ-loop
+sub-least c = search needs
 
-shr-b : tie.Need-shr-b Inv-loop μ-loop
-shr-b c = omega arith
+least-requires : tie.Need-least-requires Inv-loop μ-loop
+least-requires c κs = search needs
 
-cast-b-2 : tie.Need-cast-b-2 Inv-loop μ-loop
-cast-b-2 c = omega arith
+sub-write-part : tie.Need-sub-write-part Inv-loop μ-loop
+sub-write-part c = search needs
 
-add-put-bit : tie.Need-add-put-bit Inv-loop μ-loop
-add-put-bit c = omega arith
+cast-write-part : tie.Need-cast-write-part Inv-loop μ-loop
+cast-write-part c = search needs
 
-put-bit-requires : tie.Need-put-bit-requires Inv-loop μ-loop
-put-bit-requires c κs = omega arith
+shr-write-part : tie.Need-shr-write-part Inv-loop μ-loop
+shr-write-part c = search needs
 
-add-k : tie.Need-add-k Inv-loop μ-loop
-add-k c = omega arith
+write-part-requires : tie.Need-write-part-requires Inv-loop μ-loop
+write-part-requires c κs = search needs
+
+add-done : tie.Need-add-done Inv-loop μ-loop
+add-done c = search needs
 
 loop-less : tie.Need-loop-less Inv-loop μ-loop
-loop-less c = omega arith
+loop-less c = search needs
 
 loop-again : tie.Need-loop-again Inv-loop μ-loop
 loop-again c =
     let b = c .before .before in
-    let l = b .before .before .before .loop in
-    (omega arith, omega arith, put-more _ _ _ _ (l .k) (omega arith) (l .inv .2) (b .put-bit .ensures))
+    let n = b .before .before in
+    let l = n .before .before .loop in
+    let a = n .before .before .before .before .args in (
+      omega arith,
+      omega arith,
+      put-more (a .out .now) (a .at) (a .width) (a .value) (l .done) (n .least .result) (omega arith) (l .inv .2) (b .write-part .ensures),
+    )
 
 same-length : tie.Need-same-length Inv-loop μ-loop
-same-length c = omega arith
+same-length c = search needs
 
 returns : tie.Need-returns Inv-loop μ-loop
-returns c = let a = c .before .before .before .args in put-all (a .out .now) (a .at) (a .width) (a .value) (c .before .loop .k) (omega arith) (c .before .loop .inv .2)
+returns c = let a = c .before .before .before .args in put-all (a .out .now) (a .at) (a .width) (a .value) (c .before .loop .done) (omega arith) (c .before .loop .inv .2)
 
 pub write-field-spec : {M : Type 1} → statement M
 write-field-spec =
@@ -63,14 +73,15 @@ write-field-spec =
     Inv-loop
     μ-loop
     loop-holds
-    sub-b
-    sub-b-2
-    cast-b
-    shr-b
-    cast-b-2
-    add-put-bit
-    put-bit-requires
-    add-k
+    add-p
+    sub-left
+    sub-least
+    least-requires
+    sub-write-part
+    cast-write-part
+    shr-write-part
+    write-part-requires
+    add-done
     loop-less
     loop-again
     same-length
