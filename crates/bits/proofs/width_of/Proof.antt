@@ -1,12 +1,15 @@
-use mathlib.Core.List.{List, [], _∷_}
+-- One computed test says of each entry that it is the width of its place; a place below 256 has a width of at most 8.
+use mathlib.Core.Path.{_≡_}
 use mathlib.Core.Bool.{Bool}
-use Prim.Native.Nat.{ℕ}
+use mathlib.Core.List.{List, [], _∷_}
+use Prim.Native.Nat.{ℕ, _<_}
 use native.Mathlib.Omega.{arith}
-use lib.Dec.{eqb, eqb→eq, ltb, ltb→lt}
+use borrow.Author.Needs.{needs}
+use lib.Dec.{eqb, eqb→eq}
 use lib.ListN.{getD}
 use Rattle.bits.specs.Width.{widthOf, widthFrom}
 use Rattle.bits.proofs.Table.{at}
-use borrow.Author.Needs.{needs}
+use Rattle.bits.proofs.Width.{width-le}
 use Rattle.bits.proofs.width_of.Statement.{statement}
 use Rattle.bits.proofs.width_of.Tie as tie
 
@@ -16,22 +19,22 @@ table = 1 ∷ 1 ∷ 2 ∷ 2 ∷ 3 ∷ 3 ∷ 3 ∷ 3 ∷ 4 ∷ 4 ∷ 4 ∷ 4 ∷ 
 right : ℕ → ℕ → Bool
 right k x = eqb x (widthOf k)
 
-small : ℕ → ℕ → Bool
-small k x = ltb x 9
+entry : (k : ℕ) → k < 256 → getD table k 0 ≡ widthOf k
+unfolding table right widthOf widthFrom
+entry k h = eqb→eq (getD table k 0) (widthOf k) (at right table tt k h)
 
 array-read-w : tie.Need-array-read-w
 array-read-w c = search needs
 
 cast-result : tie.Need-cast-result
-unfolding table small
-cast-result c = omega (arith, ltb→lt (getD table (c .args .x) 0) 9 (at small table tt (c .args .x) (search needs)))
+unfolding table
+cast-result c = omega (arith, entry (c .args .x) (omega arith), width-le (c .args .x) 8 (omega arith) (omega arith))
 
 returns : tie.Need-returns
-unfolding table right small widthOf widthFrom
-returns c = (
-  eqb→eq (getD table (c .args .x) 0) (widthOf (c .args .x)) (at right table tt (c .args .x) (search needs)),
-  omega (arith, ltb→lt (getD table (c .args .x) 0) 9 (at small table tt (c .args .x) (search needs))),
-)
+unfolding table
+returns c =
+    let e = entry (c .args .x) (omega arith) in
+    (e, omega (arith, width-le (c .args .x) 8 (omega arith) (omega arith)))
 
 pub width-of-spec : {M : Type 1} → statement M
 width-of-spec = tie.close (tie.spec array-read-w cast-result returns)
