@@ -3,3 +3,4 @@ pub mod Entries
 pub mod Taking
 pub mod Bounds
 pub mod Flat
+pub mod Refusals
