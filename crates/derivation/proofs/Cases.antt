@@ -7,7 +7,7 @@ use Rattle.packing.specs.declared.Rule as R
 use Rattle.packing.specs.declared.Rule.the-variants.{Pair, Word}
 use Rattle.packing.specs.Meaning.{sym, word, Grammar, Utterance, Candidate, candidate, Reading}
 use Rattle.derivation.specs.List.{listing}
-use Rattle.derivation.specs.Ranges.{All}
+use Rattle.derivation.proofs.Ranges.{All}
 
 -- a row says what a service answers to what
 pub data Case : Type 0 where

@@ -45,11 +45,11 @@ row-same (row w r j p q) (row w′ r′ j′ p′ q′) h =
     rw (compare-same w w′ (h₁ .0), compare-same r r′ (h₂ .0), compare-same j j′ (h₃ .0), compare-same p p′ (h₄ .0), compare-same q q′ (h₄ .1))
 
 module _ (g : Grammar) (es : List Edge) where
-  leaf-weight : {A : Sym} {x : W.Word} {i k w c : ℕ} (r e : ℕ) → At (g .rules) r (Word A x w) → At es e (edge i k x c) → weight g es (leaf r e) ≡ w + c
+  pub leaf-weight : {A : Sym} {x : W.Word} {i k w c : ℕ} (r e : ℕ) → At (g .rules) r (Word A x w) → At es e (edge i k x c) → weight g es (leaf r e) ≡ w + c
   unfolding weight ruleWeight edgeCost
   leaf-weight r e p q = rw (p, q)
 
-  node-weight : {A B C : Sym} {w : ℕ} (r j : ℕ) (s t : Tree) → At (g .rules) r (Pair A B C w) → weight g es (node r j s t) ≡ w + weight g es s + weight g es t
+  pub node-weight : {A B C : Sym} {w : ℕ} (r j : ℕ) (s t : Tree) → At (g .rules) r (Pair A B C w) → weight g es (node r j s t) ≡ w + weight g es s + weight g es t
   unfolding weight ruleWeight
   node-weight r j s t e = rw e
 

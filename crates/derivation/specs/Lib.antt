@@ -1,4 +1,3 @@
 pub mod Derivation
 pub mod Order
 pub mod List
-pub mod Ranges

@@ -1,0 +1,94 @@
+-- The list of demand 3 is what document 01 says of it, "The list of demand 3" and "Grammars and derivations": each theorem below renders a sentence.
+-- The terms are those of specs/Derivation, Order and List; `ValidGrammar` and `ValidUtterance` are packing's, of accepted blocks.
+use mathlib.Core.Path.{_≡_, refl, sym, ap, _∙_}
+use mathlib.Core.Logic.{_⊎_, inl, inr, _↔_}
+use mathlib.Core.List.{List, map}
+use Prim.Native.Nat.{ℕ, suc, _+_, _-_, _*_, _≤_, _<_, min, Ordering, Ordering·lt, Ordering·eq, Ordering·gt}
+use native.Mathlib.Omega.{arith}
+use lib.ListN.{length, take, length-map, length-take}
+use Rattle.packing.specs.Meaning.{sym as symbol, Grammar, Utterance, edges, Reading}
+use Rattle.packing.specs.Valid.{ValidGrammar, ValidUtterance}
+use Rattle.derivation.specs.Derivation.{At, Tree, weight, walk, Derivation, reading}
+use Rattle.derivation.specs.Order.{order, Before}
+use Rattle.derivation.specs.List.{Number, Rank, ranked, listing}
+use Rattle.derivation.proofs.Comparison.{Lawful, lt≢eq, turn-gt}
+use Rattle.derivation.proofs.Order.{order-lawful}
+use Rattle.derivation.proofs.Lists.{at-take, at-map, map-at}
+use Rattle.derivation.proofs.Sorted.{number-one}
+use Rattle.derivation.proofs.Cell.{derives-place}
+use Rattle.derivation.proofs.Ranks.{number-all, number-before, place-number}
+use Rattle.derivation.proofs.Ranges.{valid-light, valid-ascending, valid-cheap, valid-slots}
+use Rattle.derivation.proofs.Slots.{edges-apart, edges-short, edges-cheap}
+use Rattle.derivation.proofs.Walks.{walk-one, walk-length, weight-bound}
+
+module _ (g : Grammar) (u : Utterance) where
+  law : Lawful (order (weight g (edges u)))
+  law = order-lawful (weight g (edges u))
+
+  abbrev least-first : List Tree
+  least-first = ranked g (edges u) (symbol 0) 0 (length u)
+
+  -- "There are finitely many."
+  pub finitely-many : (m : ℕ) × Number (Derivation g u) m
+  finitely-many = (length least-first, number-all g (edges u) (symbol 0) 0 (length u))
+
+  -- "of two different ones, one always comes before the other in the order", never itself, and no circle is possible
+  pub one-comes-before : (s t : Tree) → (s ≡ t) ⊎ (Before g (edges u) s t ⊎ Before g (edges u) t s)
+  one-comes-before s t = go (order (weight g (edges u)) s t) refl
+    where
+      go : (o : Ordering) → order (weight g (edges u)) s t ≡ o → (s ≡ t) ⊎ (Before g (edges u) s t ⊎ Before g (edges u) t s)
+      go Ordering·lt e = inr (inl e)
+      go Ordering·eq e = inl (law .same s t e)
+      go Ordering·gt e = inr (inr (turn-gt law s t e))
+
+  pub never-before-itself : (t : Tree) → Before g (edges u) t t → ⊥
+  never-before-itself t e = lt≢eq (sym e ∙ law .self t)
+
+  pub before-chains : (s t v : Tree) → Before g (edges u) s t → Before g (edges u) t v → Before g (edges u) s v
+  before-chains s t v = law .chain s t v
+
+  -- "A derivation's rank is 1 plus the number of derivations that come before it": it has one
+  pub has-rank : (t : Tree) → Derivation g u t → (k : ℕ) × Rank g u t k
+  has-rank t d = let (x, e) = derives-place g (edges u) (symbol 0) 0 (length u) d in (1 + x, (x, number-before g (edges u) (symbol 0) 0 (length u) t x e, refl))
+
+  pub one-rank : (t : Tree) (k l : ℕ) → Rank g u t k → Rank g u t l → k ≡ l
+  one-rank t k l (m, a, p) (n, b, q) = let same : m ≡ n = number-one law a b in omega arith
+
+  -- "m is the lesser of N and the number of all derivations"
+  pub list-length : (N m : ℕ) → Number (Derivation g u) m → length (listing g u N) ≡ min N m
+  unfolding listing
+  list-length N m all =
+      length-map (take N least-first) (reading g u) ∙ length-take N least-first
+      ∙ ap (min N) (number-one law (number-all g (edges u) (symbol 0) 0 (length u)) all)
+
+  -- "for every k from 1 to m the kth L bytes of the output hold the reading of the derivation with rank k"
+  pub list-element : (N k : ℕ) (v : Reading) → At (listing g u N) k v ↔ ((t : Tree) × Derivation g u t × Rank g u t (1 + k) × (k < N) × (v ≡ reading g u t))
+  unfolding listing
+  list-element N k v = (to, from)
+    where
+      to : At (listing g u N) k v → (t : Tree) × Derivation g u t × Rank g u t (1 + k) × (k < N) × (v ≡ reading g u t)
+      to e =
+          let (t, f, p) = map-at (reading g u) (take N least-first) k e in
+          let (h, b) = at-take N least-first k t .0 f in
+          let (d, n) = place-number g (edges u) (symbol 0) 0 (length u) t k .0 h in
+          (t, d, (k, n, refl), b, p)
+
+      from : (t : Tree) × Derivation g u t × Rank g u t (1 + k) × (k < N) × (v ≡ reading g u t) → At (listing g u N) k v
+      from (t, d, (x, n, q), b, p) =
+          let same : x ≡ k = omega arith in
+          let h = place-number g (edges u) (symbol 0) 0 (length u) t k .1 (d, rw same at n) in
+          rw p (at-map (reading g u) (take N least-first) k (at-take N least-first k t .1 (h, b)))
+
+  -- "Two derivations are different if their readings differ": and only then
+  pub readings-differ : ValidUtterance (g .words) u → (s t : Tree) → Derivation g u s → Derivation g u t → (reading g u s ≡ reading g u t) ↔ (s ≡ t)
+  unfolding reading
+  readings-differ ok s t a b = (λ e. walk-one g (edges u) (edges-apart 0 u (valid-ascending (g .words) u ok)) a b (ap (λ (v : Reading). v .walk) e), ap (reading g u))
+
+  -- "It has 2n − 1 nodes."
+  pub nodes : (t : Tree) → Derivation g u t → length (walk t) ≡ 2 * length u - 1
+  nodes t d = omega (arith, walk-length g (edges u) (edges-short u) d)
+
+  -- "The greatest weight is 47 × 65,535 + 24 × 65,535 = 4,652,985."
+  pub greatest-weight : ValidGrammar g → ValidUtterance (g .words) u → (t : Tree) → Derivation g u t → weight g (edges u) t ≤ 4652985
+  greatest-weight ok ok′ t d =
+      omega (arith, weight-bound g (edges u) (edges-short u) (valid-light g ok) (edges-cheap u (valid-cheap (g .words) u ok′)) d, valid-slots (g .words) u ok′)
