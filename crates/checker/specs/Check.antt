@@ -1,0 +1,55 @@
+-- The check of a reading: document 01, "The services" and the rows grammar block, utterance block and reading block of
+-- "Where each check stands". Stands on packing's and derivation's definitions.
+use mathlib.Core.Bool.{Bool, true, false}
+use mathlib.Core.List.{List, [], _∷_}
+use mathlib.Core.Option.{Option, none, some}
+use Prim.Native.Nat.{ℕ}
+use lib.Dec.{eqb}
+use lib.ListN.{length}
+use Rattle.bits.specs.Bits.{pick, ended}
+use Rattle.packing.specs.Meaning.{Grammar, Utterance, Reading, edges, sym}
+use Rattle.packing.specs.Parse.{Parse, parsed, failed, Verdict, accepted, refused, _then_}
+use Rattle.packing.specs.Grammar.{grammarBlock}
+use Rattle.packing.specs.Utterance.{utteranceBlock}
+use Rattle.packing.specs.Reading.{readingFrom}
+use Rattle.derivation.specs.Derivation.{Tree, walk, weight}
+use Rattle.derivation.specs.List.{trees}
+use Rattle.checker.specs.declared.Checked.{Checked}
+use Rattle.checker.specs.declared.Checked.the-variants.{Passes, Refused}
+
+-- two lists of numbers are equal
+abbrev pub same : List ℕ → List ℕ → Bool
+same [] [] = true
+same [] (y ∷ ys) = false
+same (x ∷ xs) [] = false
+same (x ∷ xs) (y ∷ ys) = pick (eqb x y) (same xs ys) false
+
+-- the tree of a list that has the walk rs
+unfoldable pub withWalk : List ℕ → List Tree → Option Tree
+withWalk rs [] = none
+withWalk rs (t ∷ ts) = pick (same (walk t) rs) (some t) (withWalk rs ts)
+
+-- the derivation that has the walk rs
+unfoldable pub derivationOf : Grammar → Utterance → List ℕ → Option Tree
+derivationOf g u rs = withWalk rs (trees g (edges u) (sym 0) 0 (length u))
+
+-- 34, 35 and 36, in this order, of the fields that were read and the place behind them
+abbrev pub judged : Grammar → Utterance → List ℕ → Reading → ℕ → Option Tree → Verdict Reading
+judged g u block d at none = refused 34
+judged g u block d at (some t) =
+    pick (eqb (weight g (edges u) t) (d .weight)) (pick (ended block at) (accepted d) (refused 36)) (refused 35)
+
+abbrev pub afterFields : Grammar → Utterance → List ℕ → Parse Reading → Verdict Reading
+afterFields g u block (failed n) = refused n
+afterFields g u block (parsed d at) = judged g u block d at (derivationOf g u (d .walk))
+
+-- the reading that passes, or the refusal
+unfoldable pub check : List ℕ → List ℕ → List ℕ → Verdict Reading
+check grammar utterance reading =
+    grammarBlock grammar then λ g. utteranceBlock (g .words) utterance then λ u.
+    afterFields g u reading (readingFrom (length u) (length (g .rules)) reading)
+
+-- the code's answer
+abbrev pub answerOf : Verdict Reading → Checked
+answerOf (accepted d) = Passes
+answerOf (refused n) = Refused n

@@ -1,0 +1,37 @@
+-- The specimen: document 01, "The services", the row specimen of "Where each check stands" and the paragraph under it.
+-- Stands on packing's and derivation's definitions.
+use mathlib.Core.Path.{_≡_}
+use mathlib.Core.List.{List, [], _∷_, _++_, map}
+use Prim.Native.Nat.{ℕ}
+use lib.Dec.{ltb}
+use lib.ListN.{length, drop}
+use Rattle.bits.specs.Bits.{pick}
+use Rattle.packing.specs.Meaning.{Grammar, Utterance, candidate, word}
+use Rattle.packing.specs.Parse.{Verdict, accepted, refused, _then_}
+use Rattle.packing.specs.Grammar.{grammarBlock}
+use Rattle.derivation.specs.Derivation.{Tree, Derivation}
+use Rattle.specimen.specs.declared.Specimen as S
+use Rattle.specimen.specs.declared.Specimen.the-variants.{Written, Nothing, Refused}
+
+-- the utterance that offers just one word in each slot, at no cost
+unfoldable pub plain : List ℕ → Utterance
+plain ws = map (λ w. candidate (word w) 0 ∷ []) ws
+
+-- the grammar derives the word string ws
+abbrev pub Says : Grammar → List ℕ → Type 0
+Says g ws = (t : Tree) × Derivation g (plain ws) t
+
+-- the grammar, or the refusal
+unfoldable pub asked : List ℕ → ℕ → ℕ → Verdict Grammar
+asked grammar n out =
+    grammarBlock grammar then λ g.
+    pick (ltb n 1) (refused 25) (pick (ltb 24 n) (refused 25) (pick (ltb out n) (refused 26) (accepted g)))
+
+-- what holds of the answer and of the output afterwards; the string is free but for its length and that it is derived
+abbrev pub Answers : Verdict Grammar → ℕ → List ℕ → S.Specimen → List ℕ → Type 0
+Answers (refused m) n out Written exit = ⊥
+Answers (refused m) n out Nothing exit = ⊥
+Answers (refused m) n out (Refused k) exit = (k ≡ m) × (exit ≡ out)
+Answers (accepted g) n out Written exit = (ws : List ℕ) × (length ws ≡ n) × Says g ws × (exit ≡ ws ++ drop n out)
+Answers (accepted g) n out Nothing exit = ((ws : List ℕ) → length ws ≡ n → Says g ws → ⊥) × (exit ≡ out)
+Answers (accepted g) n out (Refused k) exit = ⊥
