@@ -85,88 +85,92 @@ edgeBase = 80
 abbrev pub members : {A : Type 0} → List ℕ → ℕ → ℕ → (A → ℕ → A) → A → A
 members index base c g b = over (λ x y. g x (getD index y 0)) b (getD index (base + c) 0) (getD index (base + c + 1) 0)
 
-module _ (t rules edges index : List ℕ) (d : Dims) where
+module _ (t : List ℕ) (d : Dims) where
   unfoldable pub pairKey : Sym → Sym → ℕ → ℕ → ℕ → ℕ → ℕ → ℕ → ℕ → ℕ
   pairKey b c w r i j k p q = joinKey w (weightAt t d (cellOf d b i j) p) (weightAt t d (cellOf d c j k) q) (tieOf r j p q)
 
-  -- leaves: the edges that leave i and reach k, with the word rules of the head that have their word
-  unfoldable pub wordLeaf : ℕ → ℕ → ℕ → ℕ → Rule → ℕ
-  wordLeaf e floor best r (Pair h b c w) = best
-  wordLeaf e floor best r (Word h x w) =
-      pick (eqb (x .0) (getD edges (4 * e + 2) 0)) (lesser floor best (keyOf (w + getD edges (4 * e + 3) 0 + 1) (tieOf r 0 e 0))) best
+-- leaves: the edges that leave i and reach k, with the word rules of the head that have their word
+unfoldable pub wordLeaf : List ℕ → ℕ → ℕ → ℕ → ℕ → Rule → ℕ
+wordLeaf edges e floor best r (Pair h b c w) = best
+wordLeaf edges e floor best r (Word h x w) =
+    pick (eqb (x .0) (getD edges (4 * e + 2) 0)) (lesser floor best (keyOf (w + getD edges (4 * e + 3) 0 + 1) (tieOf r 0 e 0))) best
 
+module _ (rules edges index : List ℕ) where
   unfoldable pub edgeLeaves : Sym → ℕ → ℕ → ℕ → ℕ → ℕ
   edgeLeaves a k floor best e =
-      pick (eqb (getD edges (4 * e + 1) 0) k) (members index wordBase (a .0) (λ x r. wordLeaf e floor x r (ruleAt rules r)) best) best
+      pick (eqb (getD edges (4 * e + 1) 0) k) (members index wordBase (a .0) (λ x r. wordLeaf edges e floor x r (ruleAt rules r)) best) best
 
   unfoldable pub leavesOf : Sym → ℕ → ℕ → ℕ → ℕ → ℕ
   leavesOf a i k floor best = members index edgeBase i (edgeLeaves a k floor) best
 
-  -- seeds: first with first, for each pair rule of the head and each split
+-- seeds: first with first, for each pair rule of the head and each split
+module _ (t : List ℕ) (d : Dims) where
   unfoldable pub splitSeeds : Sym → Sym → ℕ → ℕ → ℕ → ℕ → ℕ → ℕ → ℕ
-  splitSeeds b c w r i k floor best = over (λ x j. lesser floor x (pairKey b c w r i j k 0 0)) best (i + 1) k
+  splitSeeds b c w r i k floor best = over (λ x j. lesser floor x (pairKey t d b c w r i j k 0 0)) best (i + 1) k
 
   unfoldable pub ruleSeeds : ℕ → ℕ → ℕ → ℕ → ℕ → Rule → ℕ
   ruleSeeds i k floor best r (Pair h b c w) = splitSeeds b c w r i k floor best
   ruleSeeds i k floor best r (Word h x w) = best
 
-  unfoldable pub seedsOf : Sym → ℕ → ℕ → ℕ → ℕ → ℕ
-  seedsOf a i k floor best = members index pairBase (a .0) (λ x r. ruleSeeds i k floor x r (ruleAt rules r)) best
+  unfoldable pub seedsOf : List ℕ → List ℕ → Sym → ℕ → ℕ → ℕ → ℕ → ℕ
+  seedsOf rules index a i k floor best = members index pairBase (a .0) (λ x r. ruleSeeds i k floor x r (ruleAt rules r)) best
 
-  -- followers of a found pairing: the next of its right part, and where that was the first, the next of its left part
+-- followers of a found pairing: the next of its right part, and where that was the first, the next of its left part
+module _ (t : List ℕ) (d : Dims) where
   unfoldable pub pairFollowers : ℕ → ℕ → ℕ → ℕ → ℕ → ℕ → ℕ → ℕ → Rule → ℕ
   pairFollowers i k r j p q floor best (Pair h b c w) =
       pick (eqb q 0)
-      (lesser floor (lesser floor best (pairKey b c w r i j k p (q + 1))) (pairKey b c w r i j k (p + 1) 0))
-      (lesser floor best (pairKey b c w r i j k p (q + 1)))
+      (lesser floor (lesser floor best (pairKey t d b c w r i j k p (q + 1))) (pairKey t d b c w r i j k (p + 1) 0))
+      (lesser floor best (pairKey t d b c w r i j k p (q + 1)))
   pairFollowers i k r j p q floor best (Word h x w) = best
 
-  unfoldable pub followers : ℕ → ℕ → ℕ → ℕ → ℕ → ℕ
-  followers i k floor best tie =
+  unfoldable pub followers : List ℕ → ℕ → ℕ → ℕ → ℕ → ℕ → ℕ
+  followers rules i k floor best tie =
       pick (eqb (splitIn tie) 0) best
       (pairFollowers i k (ruleIn tie) (splitIn tie) (leftIn tie) (rightIn tie) floor best (ruleAt rules (ruleIn tie)))
 
-  unfoldable pub followersOf : Sym → ℕ → ℕ → ℕ → ℕ → ℕ → ℕ
-  followersOf a i k c floor best = iter (λ x y. followers i k floor x (tieAt t d (cellOf d a i k) y)) best c
-
-  -- the least key above the floor among all candidates of a cell of which c ranks are found
-  unfoldable pub leastOf : Sym → ℕ → ℕ → ℕ → ℕ → ℕ
-  leastOf a i k c floor = followersOf a i k c floor (seedsOf a i k floor (leavesOf a i k floor none))
+  unfoldable pub followersOf : List ℕ → Sym → ℕ → ℕ → ℕ → ℕ → ℕ → ℕ
+  followersOf rules a i k c floor best = iter (λ x y. followers rules i k floor x (tieAt t d (cellOf d a i k) y)) best c
 
   -- the key of the last rank found, or 0
   unfoldable pub floorOf : Sym → ℕ → ℕ → ℕ → ℕ
   floorOf a i k c = pick (eqb c 0) 0 (keyOf (weightAt t d (cellOf d a i k) (c - 1)) (tieAt t d (cellOf d a i k) (c - 1)))
 
+  -- the least key above the floor among all candidates of a cell of which c ranks are found
+  unfoldable pub leastOf : List ℕ → List ℕ → List ℕ → Sym → ℕ → ℕ → ℕ → ℕ → ℕ
+  leastOf rules edges index a i k c floor =
+      followersOf rules a i k c floor (seedsOf t d rules index a i k floor (leavesOf rules edges index a i k floor none))
+
 unfoldable pub putKey : List ℕ → Dims → ℕ → ℕ → ℕ → List ℕ
 putKey t d cell rank key =
     pick (ltb key none) (set (set t (entryOf d cell rank) (key / 536870912)) (entryOf d cell rank + 2) (key % 536870912)) t
 
+-- `go` finds a rank of a cell; where that rank is kept and not found, it is gone for
+unfoldable pub extended : Dims → (List ℕ → Sym → ℕ → ℕ → ℕ → List ℕ) → List ℕ → Sym → ℕ → ℕ → ℕ → List ℕ
+extended d go t a i k rank = pick (ltb rank (d .cap)) (pick (eqb (weightAt t d (cellOf d a i k) rank) 0) (go t a i k rank) t) t
+
+unfoldable pub partsExtended : Dims → (List ℕ → Sym → ℕ → ℕ → ℕ → List ℕ) → List ℕ → ℕ → ℕ → ℕ → ℕ → ℕ → Rule → List ℕ
+partsExtended d go t i j k p q (Pair h b c w) =
+    pick (eqb q 0) (extended d go (extended d go t c j k (q + 1)) b i j (p + 1)) (extended d go t c j k (q + 1))
+partsExtended d go t i j k p q (Word h x w) = t
+
+-- what may follow a found pairing stands in the table
+unfoldable pub advanced : List ℕ → Dims → (List ℕ → Sym → ℕ → ℕ → ℕ → List ℕ) → List ℕ → ℕ → ℕ → ℕ → List ℕ
+advanced rules d go t i k tie =
+    pick (ltb i (splitIn tie))
+    (pick (ltb (splitIn tie) k) (partsExtended d go t i (splitIn tie) k (leftIn tie) (rightIn tie) (ruleAt rules (ruleIn tie))) t)
+    t
+
 module _ (rules edges index : List ℕ) (d : Dims) where
   -- the least candidate written at rank c
   unfoldable pub placed : Sym → ℕ → ℕ → ℕ → List ℕ → List ℕ
-  placed a i k c t = putKey t d (cellOf d a i k) c (leastOf t rules edges index d a i k c (floorOf t rules edges index d a i k c))
-
-  -- `go` finds a rank of a cell; where that rank is kept and not found, it is gone for
-  unfoldable pub extended : (List ℕ → Sym → ℕ → ℕ → ℕ → List ℕ) → List ℕ → Sym → ℕ → ℕ → ℕ → List ℕ
-  extended go t a i k rank = pick (ltb rank (d .cap)) (pick (eqb (weightAt t d (cellOf d a i k) rank) 0) (go t a i k rank) t) t
-
-  unfoldable pub partsExtended : (List ℕ → Sym → ℕ → ℕ → ℕ → List ℕ) → List ℕ → ℕ → ℕ → ℕ → ℕ → ℕ → Rule → List ℕ
-  partsExtended go t i j k p q (Pair h b c w) =
-      pick (eqb q 0) (extended go (extended go t c j k (q + 1)) b i j (p + 1)) (extended go t c j k (q + 1))
-  partsExtended go t i j k p q (Word h x w) = t
-
-  -- what may follow a found pairing stands in the table
-  unfoldable pub advanced : (List ℕ → Sym → ℕ → ℕ → ℕ → List ℕ) → List ℕ → ℕ → ℕ → ℕ → List ℕ
-  advanced go t i k tie =
-      pick (ltb i (splitIn tie))
-      (pick (ltb (splitIn tie) k) (partsExtended go t i (splitIn tie) k (leftIn tie) (rightIn tie) (ruleAt rules (ruleIn tie))) t)
-      t
+  placed a i k c t = putKey t d (cellOf d a i k) c (leastOf t d rules edges index a i k c (floorOf t d a i k c))
 
   -- the table with rank c of a cell, where the ranks below c are found; any fuel of at least the span's length serves
   unfoldable pub next : ℕ → List ℕ → Sym → ℕ → ℕ → ℕ → List ℕ
   next zero t a i k c = t
   next (suc fuel) t a i k c =
-      placed a i k c (pick (ltb 0 c) (advanced (next fuel) t i k (tieAt t d (cellOf d a i k) (c - 1))) t)
+      placed a i k c (pick (ltb 0 c) (advanced rules d (next fuel) t i k (tieAt t d (cellOf d a i k) (c - 1))) t)
 
   -- the first rank of every head over a span, over every span of a length, and over every span, shorter ones first
   unfoldable pub headsOf : List ℕ → ℕ → ℕ → List ℕ
