@@ -4,3 +4,9 @@ pub mod Taking
 pub mod Bounds
 pub mod Flat
 pub mod Refusals
+pub mod Taken
+pub mod Alike
+pub mod Grammar
+pub mod Utterance
+pub mod Reading
+pub mod Widths

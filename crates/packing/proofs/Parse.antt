@@ -27,11 +27,17 @@ number-out x e = same-parse x ∙ ap parseOf e
 pub refused-out : (x : Parse ℕ) {n : ℕ} → readOf x ≡ Refused n → x ≡ failed n
 refused-out x e = same-parse x ∙ ap parseOf e
 
--- both halves of a parse that succeeded
-pub both-parsed : {A B : Type 0} (x : Parse A) (k : A → ℕ → Parse B) {b : B} {next : ℕ} → (x ⟫ k) ≡ parsed b next
-    → (a : A) × (mid : ℕ) × (x ≡ parsed a mid) × (k a mid ≡ parsed b next)
-both-parsed (parsed a mid) k e = (a, mid, refl, e)
-both-parsed (failed n) k e = let z : _≡_ {A = ℕ} 0 1 = cc in absurd (omega arith)
+-- a parse that succeeded went through its first half: whatever follows from that
+pub through : {A B : Type 0} (x : Parse A) (k : A → ℕ → Parse B) {b : B} {next : ℕ} {P : Type 0} → (x ⟫ k) ≡ parsed b next
+    → ((a : A) (mid : ℕ) → x ≡ parsed a mid → k a mid ≡ parsed b next → P) → P
+through (parsed a mid) k e f = f a mid refl e
+through (failed n) k e f = let z : _≡_ {A = ℕ} 0 1 = cc in absurd (omega arith)
+
+parsed-is : {A : Type 0} {a b : A} {m n : ℕ} → parsed a m ≡ parsed b n → (a ≡ b) × (m ≡ n)
+parsed-is e = (cc, cc)
+
+pub same-parsed : {A : Type 0} (P : A → ℕ → Type 0) {a b : A} {m n : ℕ} → parsed a m ≡ parsed b n → P a m → P b n
+same-parsed P e h = rw (parsed-is e .0, parsed-is e .1) at h
 
 -- a test that would have failed it
 pub parsed-else : {A : Type 0} (t : Bool) (n : ℕ) (x : Parse A) {a : A} {next : ℕ} → pick t (failed n) x ≡ parsed a next

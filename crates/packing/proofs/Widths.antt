@@ -1,0 +1,115 @@
+-- The widths in use: every value in its range can be written in its field's width, and blocks have at most 1,028, 515 and 52
+-- bytes, since symbols take at most 5 bits, and words and rule numbers at most 8.
+-- Assumes nothing.
+use mathlib.Core.Path.{_≡_}
+use mathlib.Core.List.{List, [], _∷_, _++_, map-append}
+use Prim.Native.Nat.{ℕ, suc, _+_, _-_, _*_, _^_, _≤_, _<_}
+use native.Mathlib.Nat.{lt-of-le-of-lt}
+use native.Mathlib.Omega.{arith}
+use lib.ListN.{length}
+use Rattle.bits.specs.Width.{widthOf}
+use Rattle.bits.specs.Fields.{widths}
+use Rattle.bits.proofs.Fields.{widths-append, length-block}
+use Rattle.bits.proofs.Width.{width-le, width-room}
+use Rattle.packing.specs.Meaning.{Grammar, Candidate, candidate, Utterance, Reading}
+use Rattle.packing.specs.Source.{Entry, entry, fldOf, flds}
+use Rattle.packing.specs.Grammar.{ruleEntries, rulesEntries, grammarEntries, blockOfGrammar, symbol, ruleWord}
+use Rattle.packing.specs.Utterance.{candidatesEntries, slotsEntries, utteranceEntries, blockOfUtterance, offered}
+use Rattle.packing.specs.Reading.{walkEntries, readingEntries, blockOfReading}
+use Rattle.packing.specs.Valid.{InRange, InWidth, Each, Fits, ValidGrammar, ValidUtterance, ValidReading}
+use Rattle.packing.specs.declared.Field.{Field}
+use Rattle.packing.specs.declared.Rule as R
+use Rattle.packing.specs.declared.Rule.the-variants.{Pair, Word}
+use Rattle.packing.proofs.Entries.{each-left, each-right, each-join}
+
+-- symbols, words and rule numbers
+pub symbol-width : (S : ℕ) → S ≤ 32 → widthOf (S - 1) ≤ 5
+symbol-width S h = width-le (S - 1) 5 (omega arith) (omega arith)
+
+-- up to 256 of them
+pub byte-width : (n : ℕ) → n ≤ 256 → widthOf (n - 1) ≤ 8
+byte-width n h = width-le (n - 1) 8 (omega arith) (omega arith)
+
+-- a number below n, written in the width of n - 1
+number-room : (v n : ℕ) → 1 ≤ n → n ≤ 256 → v ≤ n - 1 → v < 2 ^ widthOf (n - 1)
+number-room v n l h r = width-room v n (omega arith) (omega arith)
+
+module _ (S W : ℕ) (s : 1 ≤ S) (S≤ : S ≤ 32) (w : 1 ≤ W) (W≤ : W ≤ 200) where
+  rule-room : (r : R.Rule) → Fits (ruleEntries S W r) → Each InWidth (ruleEntries S W r)
+  rule-room (Pair h x y v) (a, (b, (c, (d, (e, f))))) =
+      let symbol-room : (v : ℕ) → v ≤ S - 1 → v < 2 ^ widthOf (S - 1) = λ v. number-room v S s (omega arith) in
+      (omega arith, (symbol-room (h .0) (b .1), (omega arith, (symbol-room (x .0) (d .1), (symbol-room (y .0) (e .1), tt)))))
+  rule-room (Word h x v) (a, (b, (c, (d, (e, f))))) =
+      (omega arith, (number-room (h .0) S s (omega arith) (b .1), (omega arith, (number-room (x .0) W w (omega arith) (d .1), (omega arith, tt)))))
+
+  rules-room : (rs : List R.Rule) → Fits (rulesEntries S W rs) → Each InWidth (rulesEntries S W rs)
+  unfolding rulesEntries
+  rules-room [] h = tt
+  rules-room (r ∷ rs) h =
+      let es = ruleEntries S W r in
+      let fs = rulesEntries S W rs in
+      each-join InWidth es fs (rule-room r (each-left InRange es fs h)) (rules-room rs (each-right InRange es fs h))
+
+  rule-bits : (r : R.Rule) → widths (flds (ruleEntries S W r)) ≤ 32
+  unfolding widths
+  rule-bits (Pair h x y v) = omega (arith, symbol-width S S≤)
+  rule-bits (Word h x v) = omega (arith, symbol-width S S≤, byte-width W (omega arith))
+
+  rules-bits : (rs : List R.Rule) → widths (flds (rulesEntries S W rs)) ≤ 32 * length rs
+  unfolding rulesEntries widths
+  rules-bits [] = omega arith
+  rules-bits (r ∷ rs) = rw (map-append fldOf (ruleEntries S W r) (rulesEntries S W rs), widths-append) (omega (arith, rule-bits r, rules-bits rs))
+
+pub grammar-room : (g : Grammar) → Fits (grammarEntries g) → Each InWidth (grammarEntries g)
+unfolding grammarEntries
+grammar-room g (a, (b, (c, h))) =
+    (omega arith, (omega arith, (omega arith, rules-room (g .symbols) (g .words) (a .0) (a .1) (b .0) (b .1) (g .rules) h)))
+
+pub grammar-length : (g : Grammar) → ValidGrammar g → length (blockOfGrammar g) ≤ 1028
+unfolding blockOfGrammar grammarEntries widths
+grammar-length g ((a, (b, (c, h))), u) =
+    rw length-block (omega (arith, rules-bits (g .symbols) (g .words) (a .0) (a .1) (b .0) (b .1) (g .rules)))
+
+module _ (W : ℕ) (w : 1 ≤ W) (W≤ : W ≤ 200) where
+  candidates-room : (least : ℕ) (cs : List Candidate) → Fits (candidatesEntries W least cs) → Each InWidth (candidatesEntries W least cs)
+  unfolding candidatesEntries
+  candidates-room least [] h = tt
+  candidates-room least (candidate v c ∷ cs) (a, (b, h)) = (number-room (v .0) W w (omega arith) (a .1), (omega arith, candidates-room (suc (v .0)) cs h))
+
+  candidates-bits : (least : ℕ) (cs : List Candidate) → widths (flds (candidatesEntries W least cs)) ≤ 24 * length cs
+  unfolding candidatesEntries widths
+  candidates-bits least [] = omega arith
+  candidates-bits least (candidate v c ∷ cs) = omega (arith, byte-width W (omega arith), candidates-bits (suc (v .0)) cs)
+
+  slots-room : (u : Utterance) → Fits (slotsEntries W u) → Each InWidth (slotsEntries W u)
+  unfolding slotsEntries
+  slots-room [] h = tt
+  slots-room (cs ∷ u) (a, h) =
+      let es = candidatesEntries W 0 cs in
+      let fs = slotsEntries W u in
+      (omega arith, each-join InWidth es fs (candidates-room 0 cs (each-left InRange es fs h)) (slots-room u (each-right InRange es fs h)))
+
+  slots-bits : (u : Utterance) → Fits (slotsEntries W u) → widths (flds (slotsEntries W u)) ≤ 171 * length u
+  unfolding slotsEntries widths
+  slots-bits [] h = omega arith
+  slots-bits (cs ∷ u) (a, h) =
+      let es = candidatesEntries W 0 cs in
+      let fs = slotsEntries W u in
+      rw (map-append fldOf es fs, widths-append) (omega (arith, candidates-bits 0 cs, slots-bits u (each-right InRange es fs h)))
+
+  pub utterance-room : (u : Utterance) → Fits (utteranceEntries W u) → Each InWidth (utteranceEntries W u)
+  unfolding utteranceEntries
+  utterance-room u (a, h) = (omega arith, slots-room u h)
+
+  pub utterance-length : (u : Utterance) → ValidUtterance W u → length (blockOfUtterance W u) ≤ 515
+  unfolding blockOfUtterance utteranceEntries widths
+  utterance-length u (a, h) = rw length-block (omega (arith, slots-bits u h))
+
+walk-bits : (R : ℕ) → R ≤ 256 → (rs : List ℕ) → widths (flds (walkEntries R rs)) ≤ 8 * length rs
+unfolding walkEntries widths
+walk-bits R h [] = omega arith
+walk-bits R h (r ∷ rs) = omega (arith, byte-width R h, walk-bits R h rs)
+
+pub reading-length : (R : ℕ) (d : Reading) → R ≤ 256 → d .slots ≤ 24 → ValidReading R d → length (blockOfReading R d) ≤ 52
+unfolding blockOfReading readingEntries widths
+reading-length R d h n v = rw length-block (omega (arith, walk-bits R h (d .walk), v .2))
