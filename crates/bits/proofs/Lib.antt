@@ -1,5 +1,6 @@
 pub mod Num
 pub mod Put
+pub mod Part
 pub mod Holds
 pub mod End
 pub mod Pack

@@ -9,8 +9,8 @@ use native.Mathlib.Nat.{zero-add, zero-div}
 use native.Mathlib.Omega.{arith}
 use lib.ListN.{length, getD, drop, List·getD-eq-default}
 use lib.Seq.{getD-drop, ext-getD}
-use Rattle.bits.specs.Bits.{num, bitOf, bitAt, field, pack, ended}
-use Rattle.bits.proofs.Num.{num-lt, num-shift, num-zero, num-bit, byte-num}
+use Rattle.bits.specs.Bits.{num, bitAt, field, pack, ended}
+use Rattle.bits.proofs.Num.{num-lt, num-shift, num-zero, num-bit, field-byte}
 use Rattle.bits.proofs.End.{end-field, ended-out}
 use Rattle.bits.proofs.Holds.{Holds}
 
@@ -68,13 +68,9 @@ holds-pack bs b = (omega (arith, length-pack bs), λ k l. rw zero-add (pack-bit 
 -- bytes with the same bits are the same
 pub bits-ext : (s t : List ℕ) → length s ≡ length t → ((i : ℕ) → getD s i 0 < 256) → ((i : ℕ) → getD t i 0 < 256)
     → ((i : ℕ) → i < 8 * length s → bitAt s i ≡ bitAt t i) → s ≡ t
-bits-ext s t n bs bt h = ext-getD 0 s t n (λ i l. sym (byte-num _ (bs i)) ∙ num-shift (bitOf 8 (getD s i 0)) (bitOf 8 (getD t i 0)) 0 0 8 (λ k m. bit i l k m) ∙ byte-num _ (bt i))
-  where
-    bit : (i : ℕ) → i < length s → (k : ℕ) → k < 8 → bitOf 8 (getD s i 0) (0 + k) ≡ bitOf 8 (getD t i 0) (0 + k)
-    bit i l k m =
-        let d : (8 * i + k) / 8 ≡ i = omega arith in
-        let r : (8 * i + k) % 8 ≡ k = omega arith in
-        rw zero-add (rw (d, r) at (h (8 * i + k) (omega arith)))
+bits-ext s t n bs bt h =
+    ext-getD 0 s t n (λ i l.
+    sym (field-byte s bs i) ∙ num-shift (bitAt s) (bitAt t) (8 * i) (8 * i) 8 (λ k m. h (8 * i + k) (omega arith)) ∙ field-byte t bt i)
 
 pub pack-lt : (bs : List ℕ) → ((i : ℕ) → getD bs i 0 < 2) → (i : ℕ) → getD (pack bs) i 0 < 256
 pack-lt bs b i = rw (pack-byte i bs) (num-lt (λ k. getD bs k 0) b (8 * i) 8)
@@ -83,8 +79,9 @@ pack-lt bs b i = rw (pack-byte i bs) (num-lt (λ k. getD bs k 0) b (8 * i) 8)
 pub pack-ended : (bs : List ℕ) → ((i : ℕ) → getD bs i 0 < 2) → ended (pack bs) (length bs) ≡ true
 pack-ended bs b =
     let n = length-pack bs in
-    let z : field (pack bs) (length bs) (8 * length (pack bs) - length bs) ≡ 0 =
-    num-zero (bitAt (pack bs)) (length bs) (8 * length (pack bs) - length bs) (λ k l. pack-bit bs b (length bs + k) ∙ List·getD-eq-default bs 0 (omega arith)) in
+    let w : ℕ = 8 * length (pack bs) - length bs in
+    let z : field (pack bs) (length bs) w ≡ 0 =
+    num-zero (bitAt (pack bs)) (length bs) w (λ k l. pack-bit bs b (length bs + k) ∙ List·getD-eq-default bs 0 (omega arith)) in
     sym (end-field (pack bs) (length bs) (omega arith) (omega arith)) ∙ rw z
 
 zero-bits : (s : List ℕ) (at w : ℕ) → field s at w ≡ 0 → (k : ℕ) → k < w → bitAt s (at + k) ≡ 0
@@ -94,10 +91,10 @@ zero-bits s at w e k l = sym (num-bit (bitAt s) (λ i. omega arith) at w k l) �
 pub packed-is : (s bs : List ℕ) → ((i : ℕ) → getD s i 0 < 256) → ((i : ℕ) → getD bs i 0 < 2) → Holds s 0 bs → ended s (length bs) ≡ true → s ≡ pack bs
 packed-is s bs y b h e =
     let f = ended-out s (length bs) e in
-    bits-ext s (pack bs) (omega (arith, length-pack bs, f .0, f .1)) y (pack-lt bs b) (λ i l. go f i l (decLt i (length bs)) ∙ sym (pack-bit bs b i))
+    bits-ext s (pack bs) (omega (arith, length-pack bs, f .0, f .1)) y (pack-lt bs b) (λ i l. go (f .2) i l (decLt i (length bs)) ∙ sym (pack-bit bs b i))
   where
-    go : (length bs ≤ 8 * length s) × (8 * length s ≤ length bs + 7) × (field s (length bs) (8 * length s - length bs) ≡ 0) → (i : ℕ) → i < 8 * length s → Dec (i < length bs) → bitAt s i ≡ getD bs i 0
-    go f i l (yes m) = rw zero-add at (h .1 i m)
-    go f i l (no m) =
+    go : field s (length bs) (8 * length s - length bs) ≡ 0 → (i : ℕ) → i < 8 * length s → Dec (i < length bs) → bitAt s i ≡ getD bs i 0
+    go z i l (yes m) = rw zero-add at (h .1 i m)
+    go z i l (no m) =
         let d : length bs + (i - length bs) ≡ i = omega arith in
-        rw d at (zero-bits s (length bs) (8 * length s - length bs) (f .2) (i - length bs) (omega arith)) ∙ sym (List·getD-eq-default bs 0 (omega arith))
+        rw d at (zero-bits s (length bs) (8 * length s - length bs) z (i - length bs) (omega arith)) ∙ sym (List·getD-eq-default bs 0 (omega arith))

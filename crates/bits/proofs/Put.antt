@@ -4,12 +4,11 @@ use mathlib.Core.Path.{_≡_, refl, sym, ap, _∙_}
 use mathlib.Core.List.{List, [], _∷_, _++_, append-assoc, append-nil}
 use Prim.Native.Nat.{ℕ, zero, suc, _+_, _-_, _*_, _/_, _%_, _^_, _≤_, _<_}
 use native.Mathlib.Decide.{ℕ-discrete}
-use native.Mathlib.Numerals.{add-one}
-use native.Mathlib.Nat.{pow-suc, add-zero, add-suc, suc-mul, mul-assoc, mul-le-mul-right, div-one, mod-lt}
+use native.Mathlib.Nat.{pow-suc, add-zero, add-suc, div-one}
 use native.Mathlib.Omega.{arith}
-use lib.ListN.{length, getD, set, length-set, length-append}
-use lib.Seq.{getD-set-same, getD-set-other, set-set}
-use lib.Pow.{pow-pos, pow-mono, pow-add, shr-shr, shl-shr, shr-lt, shl-lt, shl-exact, mod-pow-add}
+use lib.ListN.{length, getD, length-set, length-append}
+use lib.Seq.{getD-set-same, getD-set-other}
+use lib.Pow.{shr-shr, shl-shr}
 use Rattle.bits.specs.Bits.{num, bitAt, field, bitsOf, pack, laid, lastBit, putBit, put}
 use Rattle.bits.proofs.Num.{num-shift}
 
@@ -42,62 +41,6 @@ put-all o at w v k e h =
     let d : w - k ≡ 0 = omega arith in
     let q : v / 2 ^ (w - k) ≡ v = rw d (div-one v) in
     rw (q, e) at h
-
--- a field within one byte x, from its bit 8 - room
-abbrev pub part : ℕ → ℕ → ℕ → ℕ → ℕ
-part x room w v = (x / 2 ^ room * 2 ^ w + v % 2 ^ w) * 2 ^ (room - w)
-
-part-one : (x k v : ℕ) → lastBit x k (v % 2) ≡ part x (k + 1) 1 v
-part-one x k v = let e : k + 1 - 1 ≡ k = omega arith in rw (e, ← shr-shr x k 1)
-
-part-more : (x w k v : ℕ) → lastBit (part x (k + suc w) w (v / 2)) k (v % 2) ≡ part x (k + suc w) (suc w) v
-part-more x w k v =
-    let e : k + suc w - w ≡ k + 1 = omega arith in
-    let d : k + suc w - suc w ≡ k = omega arith in
-    let h : part x (k + suc w) w (v / 2) / 2 ^ k / 2 ≡ x / 2 ^ (k + suc w) * 2 ^ w + v / 2 % 2 ^ w =
-    shr-shr (part x (k + suc w) w (v / 2)) k 1 ∙ rw (e, shl-shr) in
-    let m : v % 2 ^ suc w ≡ v / 2 % 2 ^ w * 2 + v % 2 = rw (add-one) at (mod-pow-add v w 1) in
-    let q : x / 2 ^ (k + suc w) * (2 ^ w * 2) ≡ x / 2 ^ (k + suc w) * 2 ^ w * 2 = sym (mul-assoc (x / 2 ^ (k + suc w)) (2 ^ w) 2) in
-    rw (d, h, m, pow-suc, q) (ap (λ (n : ℕ). n * 2 ^ k) (omega arith))
-
--- and as 32 bits compute it, from the lower bits u of the value
-module _ (x room w v u : ℕ) (hx : x < 256) (hr : room ≤ 8) (hw : w ≤ room) (hu : u ≡ v % 2 ^ w) where
-  upper-lt : x / 2 ^ room < 2 ^ (8 - room)
-  upper-lt = let e : 8 - room + room ≡ 8 = omega arith in shr-lt (8 - room) room (rw e hx)
-
-  upper-shl : x / 2 ^ room * 2 ^ w % 2 ^ 32 ≡ x / 2 ^ room * 2 ^ w
-  upper-shl = shl-exact (8 - room) w 32 upper-lt (omega arith)
-
-  joined-lt : x / 2 ^ room * 2 ^ w % 2 ^ 32 + u < 2 ^ (8 - room + w)
-  joined-lt =
-      let m : x / 2 ^ room * 2 ^ w + 2 ^ w ≤ 2 ^ (8 - room) * 2 ^ w = rw suc-mul at (mul-le-mul-right (2 ^ w) upper-lt) in
-      rw (upper-shl, pow-add) (omega (arith, mod-lt v (pow-pos w)))
-
-  pub joined-fits : x / 2 ^ room * 2 ^ w % 2 ^ 32 + u < 2 ^ 32
-  joined-fits = omega (arith, joined-lt, pow-mono {i = 8 - room + w} {j = 8} (omega arith))
-
-  pub joined-shl : (x / 2 ^ room * 2 ^ w % 2 ^ 32 + u) * 2 ^ (room - w) % 2 ^ 32 ≡ part x room w v
-  joined-shl = shl-exact (8 - room + w) (room - w) 32 joined-lt (omega arith) ∙ rw (upper-shl, hu)
-
-  pub part-lt : (x / 2 ^ room * 2 ^ w % 2 ^ 32 + u) * 2 ^ (room - w) % 2 ^ 32 < 256
-  part-lt =
-      let e : 8 - room + w + (room - w) ≡ 8 = omega arith in
-      rw (shl-exact (8 - room + w) (room - w) 32 joined-lt (omega arith)) (rw e at (shl-lt (8 - room + w) (room - w) joined-lt))
-
--- put stores that one byte
-pub put-part : (o : List ℕ) (at w v : ℕ) → 0 < w → at % 8 + w ≤ 8 → at < 8 * length o
-    → put o at w v ≡ set o (at / 8) (part (getD o (at / 8) 0) (8 - at % 8) w v)
-unfolding put putBit
-put-part o at zero v z h l = absurd (omega arith)
-put-part o at (suc zero) v z h l =
-    let e : at + 0 ≡ at = omega arith in
-    let d : 8 - at % 8 ≡ 7 - at % 8 + 1 = omega arith in
-    rw (e, d, part-one (getD o (at / 8) 0) (7 - at % 8) v)
-put-part o at (suc (suc w)) v z h l =
-    let e : (at + suc w) / 8 ≡ at / 8 = omega arith in
-    let d : 8 - at % 8 ≡ 7 - (at + suc w) % 8 + suc (suc w) = omega arith in
-    let b : at / 8 < length o = omega arith in
-    rw (put-part o at (suc w) (v / 2) (omega arith) (omega arith) l, e, getD-set-same o (at / 8), set-set, d, part-more (getD o (at / 8) 0) (suc w) (7 - (at + suc w) % 8) v)
 
 -- the bits above the last one are as they were
 last-upper : (x k b n : ℕ) → b < 2 → lastBit x k b / 2 ^ (k + (1 + n)) ≡ x / 2 ^ (k + (1 + n))
@@ -139,7 +82,8 @@ read-put o at zero v h l = omega arith
 read-put o at (suc w) v h l =
     let r : at + w < 8 * length (put o at w (v / 2)) = rw length-put (omega arith) in
     let e : field (put o at (suc w) v) at w ≡ v / 2 =
-    num-shift (bitAt (put o at (suc w) v)) (bitAt (put o at w (v / 2))) at at w (λ k q. putBit-before (put o at w (v / 2)) (at + w) (v % 2) (at + k) r (omega arith) (omega arith))
+    num-shift (bitAt (put o at (suc w) v)) (bitAt (put o at w (v / 2))) at at w
+    (λ k q. putBit-before (put o at w (v / 2)) (at + w) (v % 2) (at + k) r (omega arith) (omega arith))
     ∙ read-put o at w (v / 2) (omega arith) (omega (arith, rw pow-suc at l)) in
     let b : bitAt (put o at (suc w) v) (at + w) ≡ v % 2 = putBit-at (put o at w (v / 2)) (at + w) (v % 2) r (omega arith) in
     omega (arith, e, b)
