@@ -10,3 +10,6 @@ pub mod Grammar
 pub mod Utterance
 pub mod Reading
 pub mod Widths
+pub mod Whole
+pub mod Theorems
+pub mod Cases

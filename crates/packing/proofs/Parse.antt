@@ -51,16 +51,20 @@ pub parsed-then : {A : Type 0} (t : Bool) (n : ℕ) (x : Parse A) {a : A} {next 
 parsed-then true n x e = (refl, e)
 parsed-then false n x e = let z : _≡_ {A = ℕ} 0 1 = cc in absurd (omega arith)
 
--- both halves of a verdict that accepts
-pub both-accepted : {A B : Type 0} (x : Verdict A) (k : A → Verdict B) {b : B} → (x then k) ≡ accepted b
-    → (a : A) × (x ≡ accepted a) × (k a ≡ accepted b)
-both-accepted (accepted a) k e = (a, refl, e)
-both-accepted (refused n) k e = let z : _≡_ {A = ℕ} 0 1 = cc in absurd (omega arith)
+-- a verdict that accepts accepted its first half
+pub granted : {A B : Type 0} (x : Verdict A) (k : A → Verdict B) {b : B} {P : Type 0} → (x then k) ≡ accepted b
+    → ((a : A) → x ≡ accepted a → k a ≡ accepted b → P) → P
+granted (accepted a) k e f = f a refl e
+granted (refused n) k e f = let z : _≡_ {A = ℕ} 0 1 = cc in absurd (omega arith)
 
--- the test that an accepting verdict passed, and what it accepts
+-- the test that an accepting verdict passed, or did not meet
 pub accepted-then : {A : Type 0} (t : Bool) (n : ℕ) (x : Verdict A) {a : A} → pick t x (refused n) ≡ accepted a → (t ≡ true) × (x ≡ accepted a)
 accepted-then true n x e = (refl, e)
 accepted-then false n x e = let z : _≡_ {A = ℕ} 0 1 = cc in absurd (omega arith)
+
+pub accepted-else : {A : Type 0} (t : Bool) (n : ℕ) (x : Verdict A) {a : A} → pick t (refused n) x ≡ accepted a → (t ≡ false) × (x ≡ accepted a)
+accepted-else true n x e = let z : _≡_ {A = ℕ} 0 1 = cc in absurd (omega arith)
+accepted-else false n x e = (refl, e)
 
 pub accepted-is : {A : Type 0} {a b : A} → accepted a ≡ accepted b → a ≡ b
 accepted-is e = cc

@@ -65,6 +65,10 @@ unfolding grammarEntries
 grammar-room g (a, (b, (c, h))) =
     (omega arith, (omega arith, (omega arith, rules-room (g .symbols) (g .words) (a .0) (a .1) (b .0) (b .1) (g .rules) h)))
 
+pub valid-words : (g : Grammar) → ValidGrammar g → (1 ≤ g .words) × (g .words ≤ 200)
+unfolding grammarEntries
+valid-words g v = v .0 .1 .0
+
 pub grammar-length : (g : Grammar) → ValidGrammar g → length (blockOfGrammar g) ≤ 1028
 unfolding blockOfGrammar grammarEntries widths
 grammar-length g ((a, (b, (c, h))), u) =

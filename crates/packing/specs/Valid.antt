@@ -4,7 +4,7 @@ use mathlib.Core.Path.{_≡_}
 use mathlib.Core.Bool.{false}
 use mathlib.Core.List.{List, [], _∷_}
 use Prim.Native.Nat.{ℕ, _-_, _*_, _^_, _≤_, _<_}
-use lib.ListN.{length}
+use lib.ListN.{length, getD}
 use Rattle.packing.specs.Meaning.{Grammar, Utterance, Reading}
 use Rattle.packing.specs.Source.{Entry, entry}
 use Rattle.packing.specs.Grammar.{anyAlike, grammarEntries}
@@ -12,6 +12,10 @@ use Rattle.packing.specs.Utterance.{utteranceEntries}
 use Rattle.packing.specs.Reading.{readingEntries}
 use Rattle.packing.specs.declared.Field.{Field}
 use Rattle.packing.specs.declared.Rule as R
+
+-- a list of bytes
+abbrev pub Bytes : List ℕ → Type 0
+Bytes s = (i : ℕ) → getD s i 0 < 256
 
 -- a value within its field's least and most, and one that can be written in its width
 abbrev pub InRange : Field → ℕ → Type 0

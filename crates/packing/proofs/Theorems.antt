@@ -1,0 +1,98 @@
+-- The theorems of blocks and sheets. In them a meaning is valid (specs/Valid.antt) if no condition of its row in document 01's
+-- "Where each check stands" holds of it, and a list of bytes is one of numbers below 256. They hold since a meaning's entries
+-- are taken from a source exactly where its bits, or its values, stand.
+-- Assumes nothing.
+use mathlib.Core.Path.{_≡_, refl, sym, ap, _∙_}
+use mathlib.Core.Bool.{true}
+use mathlib.Core.Logic.{_↔_}
+use mathlib.Core.List.{List}
+use Prim.Native.Nat.{ℕ, _≤_}
+use lib.ListN.{length}
+use Rattle.bits.specs.Bits.{ended}
+use Rattle.bits.specs.Fields.{widths}
+use Rattle.packing.specs.Meaning.{Grammar, Utterance, Reading}
+use Rattle.packing.specs.Parse.{parsed, accepted}
+use Rattle.packing.specs.Source.{flds}
+use Rattle.packing.specs.Grammar.{grammarBlock, grammarSheet, blockOfGrammar, sheetOfGrammar}
+use Rattle.packing.specs.Utterance.{utteranceBlock, utteranceSheet, blockOfUtterance, sheetOfUtterance}
+use Rattle.packing.specs.Reading.{readingFrom, readingEntries, blockOfReading}
+use Rattle.packing.specs.Conversion.{grammarToBlock, grammarToSheet, utteranceToBlock, utteranceToSheet}
+use Rattle.packing.specs.Valid.{Bytes, ValidGrammar, ValidUtterance, ValidReading}
+use Rattle.packing.proofs.Parse.{granted, accepted-is}
+use Rattle.packing.proofs.Widths.{grammar-length, utterance-length, reading-length, valid-words}
+use Rattle.packing.proofs.Whole.{grammar-block-out, grammar-block-back, grammar-sheet-out, grammar-sheet-back, utterance-block-out, utterance-block-back, utterance-sheet-out, utterance-sheet-back, reading-block-out, reading-block-back}
+
+-- "A block is accepted if no condition of its row below holds." A block, or a sheet, is accepted with the meaning g exactly if
+-- g is valid and the block, or the sheet, is the one of g: refusals are exact, and nothing else has this meaning.
+pub grammar-block-accepted : (s : List ℕ) (g : Grammar) → Bytes s → (grammarBlock s ≡ accepted g) ↔ (ValidGrammar g × (s ≡ blockOfGrammar g))
+grammar-block-accepted s g y =
+    (λ e. let (v, p) = grammar-block-out s g e in (v, p y), λ (v, p). ap grammarBlock p ∙ grammar-block-back g v)
+
+pub grammar-sheet-accepted : (t : List ℕ) (g : Grammar) → (grammarSheet t ≡ accepted g) ↔ (ValidGrammar g × (t ≡ sheetOfGrammar g))
+grammar-sheet-accepted t g = (grammar-sheet-out t g, λ (v, p). ap grammarSheet p ∙ grammar-sheet-back g v)
+
+-- The same of utterances, under a grammar of W words.
+module _ (W : ℕ) where
+  pub utterance-block-accepted : (s : List ℕ) (u : Utterance) → 1 ≤ W → W ≤ 200 → Bytes s
+      → (utteranceBlock W s ≡ accepted u) ↔ (ValidUtterance W u × (s ≡ blockOfUtterance W u))
+  utterance-block-accepted s u l h y =
+      (λ e. let (v, p) = utterance-block-out W s u e in (v, p y), λ (v, p). ap (utteranceBlock W) p ∙ utterance-block-back W u l h v)
+
+  pub utterance-sheet-accepted : (t : List ℕ) (u : Utterance) → (utteranceSheet W t ≡ accepted u) ↔ (ValidUtterance W u × (t ≡ sheetOfUtterance W u))
+  utterance-sheet-accepted t u = (utterance-sheet-out W t u, λ (v, p). ap (utteranceSheet W) p ∙ utterance-sheet-back W u v)
+
+-- A reading block of n slots under a grammar of R rules, whose fields are read to the end of the block, is the packing of its
+-- meaning, and the other way round.
+pub reading-block-accepted : (n R : ℕ) (s : List ℕ) (d : Reading) → Bytes s
+    → ((at : ℕ) × (readingFrom n R s ≡ parsed d at) × (ended s at ≡ true)) ↔ (ValidReading R d × (d .slots ≡ n) × (s ≡ blockOfReading R d))
+reading-block-accepted n R s d y = (λ (at, e, end). let (v, m, p) = reading-block-out R n s d at e end in (v, m, p y), back)
+  where
+    back : ValidReading R d × (d .slots ≡ n) × (s ≡ blockOfReading R d) → (at : ℕ) × (readingFrom n R s ≡ parsed d at) × (ended s at ≡ true)
+    back (v, m, p) = let (e, end) = reading-block-back R d v in (widths (flds (readingEntries R d)), rw (← m, p) e, rw p end)
+
+-- Demand 2. The block of an accepted sheet is accepted, and turned back it is that sheet.
+pub grammar-sheet-and-back : (sheet block : List ℕ) → grammarToBlock sheet ≡ accepted block → grammarToSheet block ≡ accepted sheet
+unfolding grammarToBlock grammarToSheet
+grammar-sheet-and-back sheet block e =
+    granted (grammarSheet sheet) _ e λ g p q.
+    let (v, s) = grammar-sheet-out sheet g p in
+    rw (← accepted-is q, grammar-block-back g v, s)
+
+-- The sheet of an accepted block is accepted, and packed again it is that block.
+pub grammar-block-and-back : (block sheet : List ℕ) → Bytes block → grammarToSheet block ≡ accepted sheet → grammarToBlock sheet ≡ accepted block
+unfolding grammarToBlock grammarToSheet
+grammar-block-and-back block sheet y e =
+    granted (grammarBlock block) _ e λ g p q.
+    let (v, s) = grammar-block-out block g p in
+    rw (← accepted-is q, grammar-sheet-back g v, s y)
+
+-- The same of utterances under a grammar block.
+pub utterance-sheet-and-back : (grammar sheet block : List ℕ) → utteranceToBlock grammar sheet ≡ accepted block → utteranceToSheet grammar block ≡ accepted sheet
+unfolding utteranceToBlock utteranceToSheet
+utterance-sheet-and-back grammar sheet block e =
+    granted (grammarBlock grammar) _ e λ g a f.
+    granted (utteranceSheet (g .words) sheet) _ f λ u p q.
+    let (l, h) = valid-words g (grammar-block-out grammar g a .0) in
+    let (v, s) = utterance-sheet-out (g .words) sheet u p in
+    rw (a, ← accepted-is q, utterance-block-back (g .words) u l h v, s)
+
+pub utterance-block-and-back : (grammar block sheet : List ℕ) → Bytes block → utteranceToSheet grammar block ≡ accepted sheet
+    → utteranceToBlock grammar sheet ≡ accepted block
+unfolding utteranceToBlock utteranceToSheet
+utterance-block-and-back grammar block sheet y e =
+    granted (grammarBlock grammar) _ e λ g a f.
+    granted (utteranceBlock (g .words) block) _ f λ u p q.
+    let (v, s) = utterance-block-out (g .words) block u p in
+    rw (a, ← accepted-is q, utterance-sheet-back (g .words) u v, s y)
+
+-- "Longest: grammar 1,028 bytes, utterance 515, reading 52."
+pub longest-grammar : (s : List ℕ) (g : Grammar) → Bytes s → grammarBlock s ≡ accepted g → length s ≤ 1028
+longest-grammar s g y e = let (v, p) = grammar-block-out s g e in rw (p y) (grammar-length g v)
+
+pub longest-utterance : (W : ℕ) (s : List ℕ) (u : Utterance) → 1 ≤ W → W ≤ 200 → Bytes s → utteranceBlock W s ≡ accepted u → length s ≤ 515
+longest-utterance W s u l h y e = let (v, p) = utterance-block-out W s u e in rw (p y) (utterance-length W l h u v)
+
+pub longest-reading : (n R : ℕ) (s : List ℕ) (d : Reading) (at : ℕ) → n ≤ 24 → R ≤ 256 → Bytes s → readingFrom n R s ≡ parsed d at → ended s at ≡ true → length s ≤ 52
+longest-reading n R s d at h r y e end =
+    let (v, m, p) = reading-block-out R n s d at e end in
+    rw (p y) (reading-length R d r (rw m h) v)
