@@ -14,7 +14,7 @@ use Rattle.packing.specs.Meaning.{Grammar, Edge, edge}
 use Rattle.derivation.specs.Derivation.{At, Tree, leaf, node, Derives, weight}
 use Rattle.derivation.specs.Order.{order, Before}
 use Rattle.derivation.specs.List.{ranked}
-use Rattle.derivation.proofs.Comparison.{Lawful, compare-self, compare-lt, compare-below, ▸-le, ▸-first, ▸-second}
+use Rattle.derivation.proofs.Comparison.{compare-self, compare-lt, compare-below, ▸-le, ▸-first, ▸-second}
 use Rattle.derivation.proofs.Order.{order-lawful, order-weight}
 use Rattle.derivation.proofs.Lists.{at-length, length-at}
 use Rattle.derivation.proofs.Cell.{ranked-order, derives-place}

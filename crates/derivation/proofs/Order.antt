@@ -1,6 +1,6 @@
 -- The order of trees is a strict total order, and what comes before weighs no more: by recursion on the trees, each comparison in turn.
 use mathlib.Core.Path.{_≡_, refl, sym}
-use Prim.Native.Nat.{ℕ, _≤_, compare, Ordering, Ordering·lt, Ordering·eq, Ordering·gt}
+use Prim.Native.Nat.{ℕ, _≤_, Ordering·lt, Ordering·eq}
 use Rattle.derivation.specs.Derivation.{Tree, leaf, node}
 use Rattle.derivation.specs.Order.{_▸_, order}
 use Rattle.derivation.proofs.Comparison.{Lawful, turned, lt≢eq, lt≢gt, eq≢gt, compare-self, compare-same, compare-turn, compare-lawful, ▸-turn, ▸-eq, ▸-chain, number-turn, number-chain, weigh}

@@ -1,7 +1,7 @@
 -- What a valid grammar and utterance keep to: each follows from the ranges of packing's fields.
 use mathlib.Core.Path.{_≡_}
 use mathlib.Core.Option.{some}
-use mathlib.Core.List.{List, [], _∷_, _++_}
+use mathlib.Core.List.{List, [], _∷_}
 use Prim.Native.Nat.{ℕ, zero, suc, _≤_}
 use lib.ListN.{length}
 use Rattle.packing.specs.declared.Rule as R

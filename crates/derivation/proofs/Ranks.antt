@@ -1,5 +1,5 @@
 -- Place x of a cell's ranked list holds the tree with x trees before it: the first x places hold exactly these, each once.
-use mathlib.Core.Path.{_≡_, refl, sym, _∙_}
+use mathlib.Core.Path.{_≡_, refl}
 use mathlib.Core.Logic.{_↔_}
 use mathlib.Core.List.{List}
 use Prim.Native.Nat.{ℕ}
@@ -10,7 +10,7 @@ use Rattle.packing.specs.declared.Sym.{Sym}
 use Rattle.packing.specs.Meaning.{Grammar, Edge}
 use Rattle.derivation.specs.Derivation.{At, Tree, Derives, weight}
 use Rattle.derivation.specs.Order.{order, Before}
-use Rattle.derivation.specs.List.{_∈_, Number, ranked}
+use Rattle.derivation.specs.List.{Number, ranked}
 use Rattle.derivation.proofs.Comparison.{Lawful}
 use Rattle.derivation.proofs.Order.{order-lawful}
 use Rattle.derivation.proofs.Lists.{at-length}

@@ -1,7 +1,7 @@
 -- Trees of a cell compare by five numbers: weight, rule, split, and the places, from 0, of the two parts in their own cells' lists.
 -- For where rules and splits agree, the parts are trees of the same two cells, and these compare as their places do.
-use mathlib.Core.Path.{_≡_, refl, sym, _∙_}
-use mathlib.Core.List.{List, [], _∷_}
+use mathlib.Core.Path.{_≡_, sym, _∙_}
+use mathlib.Core.List.{List}
 use Prim.Native.Nat.{ℕ, _+_, _<_, compare, Ordering, Ordering·lt, Ordering·eq}
 use native.Mathlib.Omega.{arith}
 use lib.ListN.{length}
@@ -12,7 +12,7 @@ use Rattle.packing.specs.Meaning.{Grammar, Edge, edge}
 use Rattle.derivation.specs.Derivation.{At, Tree, leaf, node, Derives, by-word, by-pair, ruleWeight, edgeCost, weight}
 use Rattle.derivation.specs.Order.{_▸_, order}
 use Rattle.derivation.specs.List.{ranked}
-use Rattle.derivation.proofs.Comparison.{Lawful, lt≢eq, compare-self, compare-same, compare-lt, compare-gt, compare-lawful, ▸-eq, ▸-cong, ▸-first, ▸-gt, ▸-between, number-chain}
+use Rattle.derivation.proofs.Comparison.{lt≢eq, compare-self, compare-same, compare-lt, compare-gt, compare-lawful, ▸-eq, ▸-cong, ▸-first, ▸-gt, ▸-between, number-chain}
 use Rattle.derivation.proofs.Order.{order-lawful}
 use Rattle.derivation.proofs.Lists.{at-length}
 use Rattle.derivation.proofs.Cell.{ranked-order, place-derives, derives-place}
@@ -26,14 +26,6 @@ rowWeight (row w r j p q) = w
 
 unfoldable pub rowOrder : Row → Row → Ordering
 rowOrder (row w r j p q) (row w′ r′ j′ p′ q′) = compare w w′ ▸ compare r r′ ▸ compare j j′ ▸ compare p p′ ▸ compare q q′
-
-pub row-chain : (x y z : Row) → rowOrder x y ≡ Ordering·lt → rowOrder y z ≡ Ordering·lt → rowOrder x z ≡ Ordering·lt
-unfolding rowOrder
-row-chain (row w r j p q) (row w′ r′ j′ p′ q′) (row w″ r″ j″ p″ q″) = number-chain w w′ w″ (number-chain r r′ r″ (number-chain j j′ j″ (number-chain p p′ p″ (compare-lawful .chain q q′ q″))))
-
-pub row-never : (x : Row) → rowOrder x x ≡ Ordering·lt → ⊥
-unfolding rowOrder _▸_
-row-never (row w r j p q) e = lt≢eq (sym (simp compare-self at e))
 
 row-same : (x y : Row) → rowOrder x y ≡ Ordering·eq → x ≡ y
 unfolding rowOrder

@@ -1,5 +1,5 @@
 -- The edges of an utterance: each is a candidate of the slot that it leaves from, and where words ascend in each slot no two edges from one place carry one word.
-use mathlib.Core.Path.{_≡_, refl, sym, ap}
+use mathlib.Core.Path.{_≡_, refl, ap, subst}
 use mathlib.Core.Logic.{⊎-elim}
 use mathlib.Core.List.{List, [], _∷_, _++_, List·Memᴰ·head, List·Memᴰ·tail, List·Memᴰ·append-cases, List·Memᴰ·cases-cons, List·Memᴰ·not-nil, Memᴰ·append-left, Memᴰ·append-right}
 use Prim.Native.Nat.{ℕ, zero, suc, _+_, _≤_, _<_}
@@ -53,6 +53,13 @@ edges-in i (first ∷ u) (suc n) e m =
     let q : i + suc n ≡ suc i + n = omega arith in
     rw q (Memᴰ·append-right (slotEdges i first) (edges-in (suc i) u n e m))
 
+-- an edge of an utterance is a candidate of the slot that it leaves from
+pub edge-slot : (u : Utterance) (e : ℕ) {i k c : ℕ} {x : W.Word} → At (edges u) e (edge i k x c) → (slot : List Candidate) × At u i slot × (candidate x c ∈ slot) × (k ≡ suc i)
+edge-slot u e {i} p =
+    let o = edges-out 0 u (at-mem (edges u) e p) in
+    let z : o .number ≡ i = omega (arith, o .start) in
+    (o .slot, subst (λ n. At u n (o .slot)) z (o .there), o .offers, o .end)
+
 -- no two edges from one place carry one word
 abbrev pub Apart : List Edge → Type 0
 Apart es = (e f i k l c d : ℕ) (x : W.Word) → At es e (edge i k x c) → At es f (edge i l x d) → e ≡ f
@@ -62,7 +69,7 @@ abbrev pub Short : List Edge → Type 0
 Short es = (e i k c : ℕ) (x : W.Word) → At es e (edge i k x c) → k ≡ suc i
 
 pub edges-short : (u : Utterance) → Short (edges u)
-edges-short u e i k c x p = edges-out 0 u (at-mem (edges u) e p) .end
+edges-short u e i k c x p = edge-slot u e p .3
 
 apart-cons : (a b d : ℕ) (y : W.Word) (es : List Edge) → Apart es → ((k c : ℕ) → edge a k y c ∈ es → ⊥) → Apart (edge a b y d ∷ es)
 apart-cons a b d y es h n zero zero i k l c c′ x p q = refl
@@ -70,7 +77,7 @@ apart-cons a b d y es h n zero (suc f) i k l c c′ x p q = let hi : i ≡ a = c
 apart-cons a b d y es h n (suc e) zero i k l c c′ x p q = let hi : i ≡ a = cc in let hx : x ≡ y = cc in absurd (n k c (rw (hi, hx) at (at-mem es e p)))
 apart-cons a b d y es h n (suc e) (suc f) i k l c c′ x p q = ap suc (h e f i k l c c′ x p q)
 
-ascending-least : (b : ℕ) (slot : List Candidate) {c : ℕ} {x : W.Word} → AscendingFrom b slot → candidate x c ∈ slot → b ≤ x .0
+pub ascending-least : (b : ℕ) (slot : List Candidate) {c : ℕ} {x : W.Word} → AscendingFrom b slot → candidate x c ∈ slot → b ≤ x .0
 ascending-least b [] a m = absurd (List·Memᴰ·not-nil m)
 ascending-least b (candidate y d ∷ slot) {c} {x} (h, a) m =
     ⊎-elim (λ e. let p : x ≡ y = cc in rw p h) (λ n. omega (arith, ascending-least (suc (y .0)) slot a n)) (List·Memᴰ·cases-cons m)
@@ -92,6 +99,6 @@ CheapEdges es = (e i k c : ℕ) (x : W.Word) → At es e (edge i k x c) → c �
 
 pub edges-cheap : (u : Utterance) → All (All Cheap) u → CheapEdges (edges u)
 edges-cheap u a e i k c x p =
-    let o = edges-out 0 u (at-mem (edges u) e p) in
-    let (n, q) = mem-at (o .offers) in
-    all-at Cheap (o .slot) n (all-at (All Cheap) u (o .number) a (o .there)) q
+    let (slot, there, offers, end) = edge-slot u e p in
+    let (n, q) = mem-at offers in
+    all-at Cheap slot n (all-at (All Cheap) u i a there) q

@@ -2,24 +2,28 @@
 -- The terms are those of specs/Derivation, Order and List; `ValidGrammar` and `ValidUtterance` are packing's, of accepted blocks.
 use mathlib.Core.Path.{_≡_, refl, sym, ap, _∙_}
 use mathlib.Core.Logic.{_⊎_, inl, inr, _↔_}
-use mathlib.Core.List.{List, map}
-use Prim.Native.Nat.{ℕ, suc, _+_, _-_, _*_, _≤_, _<_, min, Ordering, Ordering·lt, Ordering·eq, Ordering·gt}
+use mathlib.Core.Option.{some}
+use mathlib.Core.List.{List}
+use Prim.Native.Nat.{ℕ, _+_, _-_, _*_, _≤_, _<_, min, Ordering, Ordering·lt, Ordering·eq, Ordering·gt}
 use native.Mathlib.Omega.{arith}
 use lib.ListN.{length, take, length-map, length-take}
 use Rattle.packing.specs.Meaning.{sym as symbol, Grammar, Utterance, edges, Reading}
 use Rattle.packing.specs.Valid.{ValidGrammar, ValidUtterance}
 use Rattle.derivation.specs.Derivation.{At, Tree, weight, walk, Derivation, reading}
 use Rattle.derivation.specs.Order.{order, Before}
-use Rattle.derivation.specs.List.{Number, Rank, ranked, listing}
+use Rattle.derivation.specs.List.{Number, Rank, trees, ranked, listing}
+use Rattle.derivation.specs.Walk.{walkWeight}
 use Rattle.derivation.proofs.Comparison.{Lawful, lt≢eq, turn-gt}
 use Rattle.derivation.proofs.Order.{order-lawful}
 use Rattle.derivation.proofs.Lists.{at-take, at-map, map-at}
 use Rattle.derivation.proofs.Sorted.{number-one}
+use Rattle.derivation.proofs.Trees.{trees-derive, trees-once}
 use Rattle.derivation.proofs.Cell.{derives-place}
 use Rattle.derivation.proofs.Ranks.{number-all, number-before, place-number}
 use Rattle.derivation.proofs.Ranges.{valid-light, valid-ascending, valid-cheap, valid-slots}
 use Rattle.derivation.proofs.Slots.{edges-apart, edges-short, edges-cheap}
-use Rattle.derivation.proofs.Walks.{walk-one, walk-length, weight-bound}
+use Rattle.derivation.proofs.Walk.{walk-weight}
+use Rattle.derivation.proofs.Readings.{walk-one, walk-length, weight-bound}
 
 module _ (g : Grammar) (u : Utterance) where
   law : Lawful (order (weight g (edges u)))
@@ -28,9 +32,14 @@ module _ (g : Grammar) (u : Utterance) where
   abbrev least-first : List Tree
   least-first = ranked g (edges u) (symbol 0) 0 (length u)
 
-  -- "There are finitely many."
-  pub finitely-many : (m : ℕ) × Number (Derivation g u) m
-  finitely-many = (length least-first, number-all g (edges u) (symbol 0) 0 (length u))
+  -- "There are finitely many": the enumeration has each once and nothing else
+  pub finitely-many : Number (Derivation g u) (length (trees g (edges u) (symbol 0) 0 (length u)))
+  finitely-many = record {
+    list = trees g (edges u) (symbol 0) 0 (length u);
+    once = trees-once g (edges u) (symbol 0) 0 (length u);
+    those = trees-derive g (edges u) (symbol 0) 0 (length u);
+    count = refl;
+  }
 
   -- "of two different ones, one always comes before the other in the order", never itself, and no circle is possible
   pub one-comes-before : (s t : Tree) → (s ≡ t) ⊎ (Before g (edges u) s t ⊎ Before g (edges u) t s)
@@ -92,3 +101,14 @@ module _ (g : Grammar) (u : Utterance) where
   pub greatest-weight : ValidGrammar g → ValidUtterance (g .words) u → (t : Tree) → Derivation g u t → weight g (edges u) t ≤ 4652985
   greatest-weight ok ok′ t d =
       omega (arith, weight-bound g (edges u) (edges-short u) (valid-light g ok) (edges-cheap u (valid-cheap (g .words) u ok′)) d, valid-slots (g .words) u ok′)
+
+  -- 34 and 35, "the 2n−1 numbers are not the walk of a derivation", "weight not its own": a reading passes exactly if it is some derivation's
+  pub reading-passes : ValidUtterance (g .words) u → (v : Reading) → ((v .slots ≡ length u) × (walkWeight g u (v .walk) ≡ some (v .weight))) ↔ ((t : Tree) × Derivation g u t × (v ≡ reading g u t))
+  unfolding reading
+  reading-passes ok v = (
+    (λ p. let (t, d, n, w) = runs (v .walk) (v .weight) .0 (p .1) in (t, d, λ i. record { slots = p .0 i; weight = sym w i; walk = sym n i })),
+    (λ p. let (t, d, e) = p in (ap (λ (r : Reading). r .slots) e, runs (v .walk) (v .weight) .1 (t, d, sym (ap (λ (r : Reading). r .walk) e), sym (ap (λ (r : Reading). r .weight) e)))),
+  )
+    where
+      runs : (numbers : List ℕ) (w : ℕ) → (walkWeight g u numbers ≡ some w) ↔ ((t : Tree) × Derivation g u t × (walk t ≡ numbers) × (weight g (edges u) t ≡ w))
+      runs = walk-weight g u (valid-ascending (g .words) u ok)

@@ -1,7 +1,7 @@
 -- The enumeration has exactly the trees that `Derives`, each once: soundness by recursion on the depth, completeness by recursion on the derivation.
 use mathlib.Core.Path.{_≡_, refl, sym, ap, _∙_, subst}
 use mathlib.Core.Logic.{⊎-elim, _↔_}
-use mathlib.Core.List.{List, [], _∷_, _++_, List·Memᴰ·head, List·Memᴰ·not-nil, Memᴰ·append-left, Memᴰ·append-right, List·Memᴰ·append-cases, List·Memᴰ·eq-of-singleton}
+use mathlib.Core.List.{List, _++_, List·Memᴰ·head, List·Memᴰ·not-nil, Memᴰ·append-left, Memᴰ·append-right, List·Memᴰ·append-cases, List·Memᴰ·eq-of-singleton}
 use Prim.Native.Nat.{ℕ, zero, suc, _+_, _-_, _≤_, _<_}
 use native.Mathlib.Nat.{le-refl}
 use native.Mathlib.Omega.{arith}
@@ -16,10 +16,10 @@ use Rattle.derivation.proofs.Lists.{distinct-append}
 use Rattle.derivation.proofs.Joined.{each-out, each-in, each-distinct, below-out, below-in, below-distinct, only-out, only-in, only-distinct, single, joined-out, joined-in, joined-distinct}
 
 -- a symbol and a word are their numbers
-same-sym : (A B : Sym) → A .0 ≡ B .0 → A ≡ B
+pub same-sym : (A B : Sym) → A .0 ≡ B .0 → A ≡ B
 same-sym A B e = ap symbol e
 
-same-word : (x y : W.Word) → x .0 ≡ y .0 → x ≡ y
+pub same-word : (x y : W.Word) → x .0 ≡ y .0 → x ≡ y
 same-word x y e = ap word e
 
 -- what is enumerated derives

@@ -1,3 +1,4 @@
 pub mod Derivation
 pub mod Order
 pub mod List
+pub mod Walk

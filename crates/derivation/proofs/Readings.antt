@@ -1,15 +1,13 @@
 -- A derivation is decided by its walk, where no two edges from one place carry one word: the next rule number decides between leaf and node, and a leaf's word its edge.
 -- Over slots it has one node less than twice its slots; so its weight is bounded.
-use mathlib.Core.Path.{_≡_, refl, sym, ap, _∙_}
-use mathlib.Core.List.{List, [], _∷_, _++_, append-assoc}
+use mathlib.Core.Path.{_≡_, sym, ap, _∙_}
+use mathlib.Core.List.{List, [], _++_, append-assoc}
 use Prim.Native.Nat.{ℕ, suc, _+_, _-_, _*_, _≤_, _<_}
 use native.Mathlib.Omega.{arith}
 use lib.ListN.{length, length-append}
 use Rattle.packing.specs.declared.Sym.{Sym}
-use Rattle.packing.specs.declared.Word as W
-use Rattle.packing.specs.declared.Rule.the-variants.{Pair, Word}
-use Rattle.packing.specs.Meaning.{Grammar, Edge, edge}
-use Rattle.derivation.specs.Derivation.{At, Tree, leaf, node, Derives, by-word, by-pair, ruleWeight, weight, walk}
+use Rattle.packing.specs.Meaning.{Grammar, Edge}
+use Rattle.derivation.specs.Derivation.{Tree, Derives, by-word, by-pair, ruleWeight, weight, walk}
 use Rattle.derivation.proofs.Ranges.{All, all-at, Light}
 use Rattle.derivation.proofs.Rows.{leaf-weight, node-weight}
 use Rattle.derivation.proofs.Slots.{Apart, Short, CheapEdges}

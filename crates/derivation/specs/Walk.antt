@@ -1,0 +1,59 @@
+-- When rule numbers are the walk of a derivation, and its weight, found number by number: document 01, "Where each check stands", 34 and 35.
+-- Stands on packing's Meaning alone; proofs/Walk says that it agrees with Derivation.
+use mathlib.Core.Option.{Option, none, some}
+use mathlib.Core.List.{List, [], _∷_}
+use Prim.Native.Nat.{ℕ, suc, _+_}
+use lib.Dec.{eqb, ltb}
+use lib.ListN.{length, getElem?}
+use Rattle.bits.specs.Bits.{pick}
+use Rattle.packing.specs.declared.Sym.{Sym}
+use Rattle.packing.specs.declared.Word as W
+use Rattle.packing.specs.declared.Rule as R
+use Rattle.packing.specs.declared.Rule.the-variants.{Pair, Word}
+use Rattle.packing.specs.Meaning.{sym, Grammar, Utterance, Candidate, candidate}
+
+-- how far a walk has come: the slots that are left, the heads of the parts that are to come, next first, and the weight so far; or astray
+pub data State : Type 0 where
+  onward : (slots : Utterance) (heads : List Sym) (weight : ℕ) → State
+  astray : State
+
+-- the cost of a word in a slot that offers it
+unfoldable pub costOf : W.Word → List Candidate → Option ℕ
+costOf x [] = none
+costOf x (candidate y c ∷ slot) = pick (eqb (y .0) (x .0)) (some c) (costOf x slot)
+
+unfoldable pub leafStep : Utterance → List Sym → ℕ → Option ℕ → State
+leafStep slots heads w none = astray
+leafStep slots heads w (some c) = onward slots heads (w + c)
+
+-- the next part, with head A, has a given rule: a pair rule brings two parts in its place, and each part needs a slot of its own; a word rule takes a slot
+unfoldable pub ruleStep : Utterance → Sym → List Sym → ℕ → Option R.Rule → State
+unfolding costOf leafStep
+ruleStep slots A heads w none = astray
+ruleStep slots A heads w (some (Pair H B C v)) = pick (eqb (H .0) (A .0)) (pick (ltb (suc (length heads)) (length slots)) (onward slots (B ∷ C ∷ heads) (w + v)) astray) astray
+ruleStep [] A heads w (some (Word H x v)) = astray
+ruleStep (slot ∷ slots) A heads w (some (Word H x v)) = pick (eqb (H .0) (A .0)) (leafStep slots heads (w + v) (costOf x slot)) astray
+
+-- one number of the walk
+unfoldable pub step : Grammar → State → ℕ → State
+unfolding ruleStep
+step g astray r = astray
+step g (onward slots [] w) r = astray
+step g (onward slots (A ∷ heads) w) r = ruleStep slots A heads w (getElem? (g .rules) r)
+
+unfoldable pub run : Grammar → State → List ℕ → State
+unfolding step
+run g s [] = s
+run g s (r ∷ numbers) = run g (step g s r) numbers
+
+-- a walk ends where no slot is left and no part is to come
+unfoldable pub ended : State → Option ℕ
+ended astray = none
+ended (onward [] [] w) = some w
+ended (onward [] (A ∷ heads) w) = none
+ended (onward (slot ∷ slots) heads w) = none
+
+-- the weight of the derivation whose walk these numbers are, if they are one's
+unfoldable pub walkWeight : Grammar → Utterance → List ℕ → Option ℕ
+unfolding run ended
+walkWeight g u numbers = ended (run g (onward u (sym 0 ∷ []) 0) numbers)
