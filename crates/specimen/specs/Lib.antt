@@ -1,1 +1,2 @@
 pub mod Specimen
+pub mod Choice
