@@ -1,14 +1,14 @@
 -- How far reading goes and how many numbers meanings have: bounds for the code that reads and writes them.
 -- Assumes nothing.
-use mathlib.Core.Path.{_≡_, refl, sym, ap, _∙_}
-use mathlib.Core.List.{List, [], _∷_, _++_, map}
-use Prim.Native.Nat.{ℕ, zero, suc, _+_, _*_, _≤_, _<_}
+use mathlib.Core.Path.{_≡_, refl}
+use mathlib.Core.List.{List, [], _∷_}
+use Prim.Native.Nat.{ℕ, suc, _+_, _*_, _≤_}
 use native.Mathlib.Omega.{arith}
-use lib.ListN.{length, getD, length-append, length-map}
-use Rattle.packing.specs.Meaning.{Grammar, Candidate, candidate, Utterance}
-use Rattle.packing.specs.Parse.{Parse, parsed, failed}
-use Rattle.packing.specs.Source.{Source, bytes, numbers, take, Entry, entry, values, valueOf}
-use Rattle.packing.specs.Grammar.{ruleEntries, rulesEntries}
+use lib.ListN.{length, length-append, length-map}
+use Rattle.packing.specs.Meaning.{Candidate, candidate, Utterance}
+use Rattle.packing.specs.Parse.{parsed}
+use Rattle.packing.specs.Source.{Source, bytes, numbers, take, values}
+use Rattle.packing.specs.Grammar.{rulesEntries}
 use Rattle.packing.specs.Utterance.{candidatesEntries, slotsEntries}
 use Rattle.packing.specs.Valid.{InRange, Fits}
 use Rattle.packing.specs.declared.Field.{Field}

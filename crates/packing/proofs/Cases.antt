@@ -9,7 +9,7 @@ use Rattle.bits.specs.Bits.{num, bitsOf, pack, ended}
 use Rattle.bits.specs.Width.{widthOf, widthFrom}
 use Rattle.bits.specs.Fields.{bitsOfAll}
 use Rattle.packing.specs.Meaning.{Grammar, candidate, Utterance, Reading, sym, word}
-use Rattle.packing.specs.Parse.{parsed, Verdict, accepted, refused}
+use Rattle.packing.specs.Parse.{parsed, accepted, refused}
 use Rattle.packing.specs.Source.{inRange, take}
 use Rattle.packing.specs.Grammar.{ruleFrom, anyAlike, rulesFrom, grammarFrom, grammarBlock, grammarSheet, rulesEntries, grammarEntries, blockOfGrammar, sheetOfGrammar}
 use Rattle.packing.specs.Utterance.{candidatesFrom, slotFrom, slotsFrom, utteranceFrom, utteranceBlock, utteranceSheet, candidatesEntries, slotsEntries, utteranceEntries, blockOfUtterance, sheetOfUtterance}

@@ -1,15 +1,15 @@
 -- Rule r of a grammar stands in five numbers of an array that begins with the grammar's, from 5 r on.
 -- Assumes nothing.
 use mathlib.Core.Path.{_≡_, refl, sym, ap, _∙_}
-use mathlib.Core.List.{List, [], _∷_, _++_}
+use mathlib.Core.List.{List, [], _∷_}
 use mathlib.Core.Option.{some}
-use Prim.Native.Nat.{ℕ, zero, suc, _+_, _*_, _≤_, _<_}
+use Prim.Native.Nat.{ℕ, zero, suc, _+_, _*_, _<_}
 use native.Mathlib.Omega.{arith}
 use lib.ListN.{length, getD, getElem?}
 use lib.Seq.{getD-take}
 use Rattle.packing.specs.Meaning.{Grammar}
 use Rattle.packing.specs.Source.{values}
-use Rattle.packing.specs.Grammar.{rulesEntries, ruleOf}
+use Rattle.packing.specs.Grammar.{rulesEntries}
 use Rattle.packing.specs.Flat.{Begins, ruleNumbers, ruleAt}
 use Rattle.packing.specs.declared.Rule as R
 use Rattle.packing.specs.declared.Rule.the-variants.{Pair, Word}

@@ -1,15 +1,15 @@
 -- A grammar is read from a source exactly if its entries are taken there and no two of its rules are alike.
 -- Assumes nothing.
-use mathlib.Core.Path.{_≡_, refl, sym, ap, _∙_}
-use mathlib.Core.Bool.{Bool, true, false}
+use mathlib.Core.Path.{_≡_, refl, sym, ap}
+use mathlib.Core.Bool.{false}
 use mathlib.Core.List.{List, [], _∷_, _++_, append-assoc, append-nil}
-use Prim.Native.Nat.{ℕ, zero, suc, _+_, _-_, _*_, _^_, _≤_, _<_}
+use Prim.Native.Nat.{ℕ, zero, suc}
 use native.Mathlib.Omega.{arith}
 use lib.ListN.{length}
 use Rattle.packing.specs.Meaning.{Grammar}
-use Rattle.packing.specs.Parse.{Parse, parsed, failed, _⟫_}
-use Rattle.packing.specs.Source.{Source, take, Entry, entry}
-use Rattle.packing.specs.Grammar.{ruleKind, symbol, ruleWord, weight, nothing, firstOf, secondOf, ruleOf, size, ruleFrom, anyAlike, rulesFrom, unfit, grammarFrom, ruleEntries, rulesEntries, grammarEntries}
+use Rattle.packing.specs.Parse.{parsed}
+use Rattle.packing.specs.Source.{Source, take}
+use Rattle.packing.specs.Grammar.{ruleKind, symbol, weight, nothing, firstOf, secondOf, ruleOf, size, ruleFrom, anyAlike, rulesFrom, unfit, grammarFrom, ruleEntries, rulesEntries, grammarEntries}
 use Rattle.packing.specs.Valid.{Unlike}
 use Rattle.packing.specs.declared.Rule as R
 use Rattle.packing.specs.declared.Rule.the-variants.{Pair, Word}

@@ -1,7 +1,7 @@
 -- Inversions: the code's answer tells the parse that it stands for, a parse that succeeded went through both its halves, and
 -- an accepted verdict passed its test.
 -- Assumes nothing.
-use mathlib.Core.Path.{_≡_, refl, sym, ap, _∙_}
+use mathlib.Core.Path.{_≡_, refl, ap, _∙_}
 use mathlib.Core.Bool.{Bool, true, false}
 use Prim.Native.Nat.{ℕ}
 use native.Mathlib.Omega.{arith}

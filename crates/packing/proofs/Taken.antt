@@ -3,20 +3,19 @@
 -- Assumes nothing.
 use mathlib.Core.Path.{_≡_, refl, sym, ap, _∙_}
 use mathlib.Core.List.{List, [], _∷_, _++_}
-use Prim.Native.Nat.{ℕ, suc, _+_, _-_, _*_, _^_, _≤_, _<_}
+use Prim.Native.Nat.{ℕ, suc, _+_, _*_, _≤_, _<_}
 use native.Mathlib.Nat.{add-zero, add-assoc}
 use native.Mathlib.Numerals.{add-one}
 use native.Mathlib.Omega.{arith}
-use lib.ListN.{length, getD, drop, length-append, length-drop}
+use lib.ListN.{length, getD, drop, length-drop}
 use lib.Seq.{drop-cons}
-use Rattle.bits.specs.Bits.{field}
 use Rattle.bits.specs.Fields.{fld, widths, bitsOfAll}
 use Rattle.bits.proofs.Num.{field-lt}
 use Rattle.bits.proofs.Holds.{Holds}
 use Rattle.bits.proofs.Fields.{first-field, cons-field}
 use Rattle.packing.specs.Parse.{parsed}
 use Rattle.packing.specs.Source.{Source, bytes, numbers, take, Entry, entry, values, flds}
-use Rattle.packing.specs.Valid.{InWidth, InRange, Each, Fits}
+use Rattle.packing.specs.Valid.{InWidth, Each, Fits}
 use Rattle.packing.specs.declared.Field.{Field}
 use Rattle.packing.proofs.Taking.{take-bytes, take-bytes-out, take-numbers, take-numbers-out}
 use Rattle.packing.proofs.Bounds.{take-range}

@@ -1,17 +1,15 @@
 -- A field that was taken: it stands in its source, its value is in its range, and the next place is the one behind it; and
 -- the other way round.
 -- Assumes nothing.
-use mathlib.Core.Path.{_≡_, refl, sym, ap, _∙_}
-use mathlib.Core.Bool.{Bool, true, false}
+use mathlib.Core.Path.{_≡_}
 use mathlib.Core.List.{List}
 use Prim.Native.Nat.{ℕ, _+_, _*_, _≤_, _<_}
-use native.Mathlib.Omega.{arith}
 use borrow.Author.Tests.{ltb-true, ltb-false, lt-ltb, le-ltb, leb-true, le-leb}
 use lib.Dec.{ltb, leb}
 use lib.ListN.{length, getD}
-use Rattle.bits.specs.Bits.{pick, field}
-use Rattle.packing.specs.Parse.{Parse, parsed, failed}
-use Rattle.packing.specs.Source.{Source, bytes, numbers, inRange, take}
+use Rattle.bits.specs.Bits.{field}
+use Rattle.packing.specs.Parse.{parsed}
+use Rattle.packing.specs.Source.{bytes, numbers, inRange, take}
 use Rattle.packing.specs.Valid.{InRange}
 use Rattle.packing.specs.declared.Field.{Field}
 use Rattle.packing.proofs.Parse.{parsed-else, parsed-then}

@@ -2,7 +2,7 @@
 -- "Where each check stands" holds of it, and a list of bytes is one of numbers below 256. They hold since a meaning's entries
 -- are taken from a source exactly where its bits, or its values, stand.
 -- Assumes nothing.
-use mathlib.Core.Path.{_≡_, refl, sym, ap, _∙_}
+use mathlib.Core.Path.{_≡_, ap, _∙_}
 use mathlib.Core.Bool.{true}
 use mathlib.Core.Logic.{_↔_}
 use mathlib.Core.List.{List}

@@ -1,21 +1,21 @@
 -- Whole blocks and sheets: entries taken up to the end are all that the block or sheet has.
 -- Assumes nothing.
-use mathlib.Core.Path.{_≡_, refl, sym, ap, _∙_}
+use mathlib.Core.Path.{_≡_, refl, sym, _∙_}
 use mathlib.Core.Bool.{Bool, true, false, false≢true}
-use mathlib.Core.List.{List, [], _∷_, _++_, append-nil}
-use Prim.Native.Nat.{ℕ, _+_, _*_, _≤_, _<_}
+use mathlib.Core.List.{List, [], _∷_, append-nil}
+use Prim.Native.Nat.{ℕ, _+_, _*_, _≤_}
 use native.Mathlib.Nat.{zero-add}
 use native.Mathlib.Omega.{arith}
-use borrow.Author.Tests.{eqb-true, eq-eqb, ltb-false, le-ltb}
+use borrow.Author.Tests.{eqb-true, eq-eqb, le-ltb}
 use lib.Dec.{ltb, eqb}
-use lib.ListN.{length, getD, drop, length-map, drop-of-length-le}
+use lib.ListN.{length, length-map, drop-of-length-le}
 use Rattle.bits.specs.Bits.{pick, pack, ended}
 use Rattle.bits.specs.Fields.{widths, bitsOfAll}
 use Rattle.bits.proofs.Fields.{holds-block, block-ended, block-is}
 use Rattle.packing.specs.Meaning.{Grammar, Utterance, Reading}
 use Rattle.packing.specs.Parse.{Parse, parsed, _⟫_, accepted}
-use Rattle.packing.specs.Source.{Source, bytes, numbers, take, Entry, entry, values, flds, valueOf}
-use Rattle.packing.specs.Grammar.{blockKind, grammarFrom, grammarBlock, grammarSheet, grammarEntries, rulesEntries, blockOfGrammar, sheetOfGrammar}
+use Rattle.packing.specs.Source.{bytes, numbers, take, Entry, entry, values, flds, valueOf}
+use Rattle.packing.specs.Grammar.{blockKind, grammarFrom, grammarBlock, grammarSheet, grammarEntries, blockOfGrammar, sheetOfGrammar}
 use Rattle.packing.specs.Utterance.{utteranceFrom, utteranceBlock, utteranceSheet, utteranceEntries, blockOfUtterance, sheetOfUtterance}
 use Rattle.packing.specs.Reading.{readingFrom, readingEntries, blockOfReading}
 use Rattle.packing.specs.Valid.{Bytes, Each, InWidth, Fits, ValidGrammar, ValidUtterance, ValidReading}

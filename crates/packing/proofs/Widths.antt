@@ -1,10 +1,8 @@
 -- The widths in use: every value in its range can be written in its field's width, and blocks have at most 1,028, 515 and 52
 -- bytes, since symbols take at most 5 bits, and words and rule numbers at most 8.
 -- Assumes nothing.
-use mathlib.Core.Path.{_≡_}
-use mathlib.Core.List.{List, [], _∷_, _++_, map-append}
-use Prim.Native.Nat.{ℕ, suc, _+_, _-_, _*_, _^_, _≤_, _<_}
-use native.Mathlib.Nat.{lt-of-le-of-lt}
+use mathlib.Core.List.{List, [], _∷_, map-append}
+use Prim.Native.Nat.{ℕ, suc, _-_, _*_, _^_, _≤_, _<_}
 use native.Mathlib.Omega.{arith}
 use lib.ListN.{length}
 use Rattle.bits.specs.Width.{widthOf}
@@ -12,12 +10,11 @@ use Rattle.bits.specs.Fields.{widths}
 use Rattle.bits.proofs.Fields.{widths-append, length-block}
 use Rattle.bits.proofs.Width.{width-le, width-room}
 use Rattle.packing.specs.Meaning.{Grammar, Candidate, candidate, Utterance, Reading}
-use Rattle.packing.specs.Source.{Entry, entry, fldOf, flds}
-use Rattle.packing.specs.Grammar.{ruleEntries, rulesEntries, grammarEntries, blockOfGrammar, symbol, ruleWord}
-use Rattle.packing.specs.Utterance.{candidatesEntries, slotsEntries, utteranceEntries, blockOfUtterance, offered}
+use Rattle.packing.specs.Source.{fldOf, flds}
+use Rattle.packing.specs.Grammar.{ruleEntries, rulesEntries, grammarEntries, blockOfGrammar}
+use Rattle.packing.specs.Utterance.{candidatesEntries, slotsEntries, utteranceEntries, blockOfUtterance}
 use Rattle.packing.specs.Reading.{walkEntries, readingEntries, blockOfReading}
 use Rattle.packing.specs.Valid.{InRange, InWidth, Each, Fits, ValidGrammar, ValidUtterance, ValidReading}
-use Rattle.packing.specs.declared.Field.{Field}
 use Rattle.packing.specs.declared.Rule as R
 use Rattle.packing.specs.declared.Rule.the-variants.{Pair, Word}
 use Rattle.packing.proofs.Entries.{each-left, each-right, each-join}
