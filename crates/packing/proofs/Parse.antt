@@ -27,11 +27,16 @@ number-out x e = same-parse x ∙ ap parseOf e
 pub refused-out : (x : Parse ℕ) {n : ℕ} → readOf x ≡ Refused n → x ≡ failed n
 refused-out x e = same-parse x ∙ ap parseOf e
 
--- a parse that succeeded went through its first half: whatever follows from that
+-- both halves of a parse that succeeded
+pub both-parsed : {A B : Type 0} (x : Parse A) (k : A → ℕ → Parse B) {b : B} {next : ℕ} → (x ⟫ k) ≡ parsed b next
+    → (a : A) × (mid : ℕ) × (x ≡ parsed a mid) × (k a mid ≡ parsed b next)
+both-parsed (parsed a mid) k e = (a, mid, refl, e)
+both-parsed (failed n) k e = let z : _≡_ {A = ℕ} 0 1 = cc in absurd (omega arith)
+
+-- and what follows from them, with names for them that stay short in a chain
 pub through : {A B : Type 0} (x : Parse A) (k : A → ℕ → Parse B) {b : B} {next : ℕ} {P : Type 0} → (x ⟫ k) ≡ parsed b next
     → ((a : A) (mid : ℕ) → x ≡ parsed a mid → k a mid ≡ parsed b next → P) → P
-through (parsed a mid) k e f = f a mid refl e
-through (failed n) k e f = let z : _≡_ {A = ℕ} 0 1 = cc in absurd (omega arith)
+through x k e f = let (a, mid, p, q) = both-parsed x k e in f a mid p q
 
 parsed-is : {A : Type 0} {a b : A} {m n : ℕ} → parsed a m ≡ parsed b n → (a ≡ b) × (m ≡ n)
 parsed-is e = (cc, cc)
