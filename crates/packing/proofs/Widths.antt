@@ -1,10 +1,13 @@
 -- The widths in use: every value in its range can be written in its field's width, and blocks have at most 1,028, 515 and 52
 -- bytes, since symbols take at most 5 bits, and words and rule numbers at most 8.
 -- Assumes nothing.
+use mathlib.Core.Path.{_≡_, refl}
+use mathlib.Core.Option.{some}
 use mathlib.Core.List.{List, [], _∷_, map-append}
-use Prim.Native.Nat.{ℕ, suc, _-_, _*_, _^_, _≤_, _<_}
+use Prim.Native.Nat.{ℕ, suc, _+_, _-_, _*_, _/_, _^_, _≤_, _<_}
+use native.Mathlib.Nat.{mul-le-mul, zero-mul, suc-mul}
 use native.Mathlib.Omega.{arith}
-use lib.ListN.{length}
+use lib.ListN.{length, getElem?}
 use Rattle.bits.specs.Width.{widthOf}
 use Rattle.bits.specs.Fields.{widths}
 use Rattle.bits.proofs.Fields.{widths-append, length-block}
@@ -106,11 +109,33 @@ module _ (W : ℕ) (w : 1 ≤ W) (W≤ : W ≤ 200) where
   unfolding blockOfUtterance utteranceEntries widths
   utterance-length u (a, h) = rw length-block (omega (arith, slots-bits u h))
 
-walk-bits : (R : ℕ) → R ≤ 256 → (rs : List ℕ) → widths (flds (walkEntries R rs)) ≤ 8 * length rs
+walk-bits : (R : ℕ) (rs : List ℕ) → widths (flds (walkEntries R rs)) ≡ length rs * widthOf (R - 1)
 unfolding walkEntries widths
-walk-bits R h [] = omega arith
-walk-bits R h (r ∷ rs) = omega (arith, byte-width R h, walk-bits R h rs)
+walk-bits R [] = simp zero-mul
+walk-bits R (r ∷ rs) = rw (walk-bits R rs, suc-mul) (omega arith)
+
+pub length-reading : (R : ℕ) (d : Reading) → length (blockOfReading R d) ≡ (34 + length (d .walk) * widthOf (R - 1) + 7) / 8
+unfolding blockOfReading readingEntries widths
+length-reading R d = rw (length-block, walk-bits) (omega arith)
 
 pub reading-length : (R : ℕ) (d : Reading) → R ≤ 256 → d .slots ≤ 24 → ValidReading R d → length (blockOfReading R d) ≤ 52
-unfolding blockOfReading readingEntries widths
-reading-length R d h n v = rw length-block (omega (arith, walk-bits R h (d .walk), v .2))
+reading-length R d h n v =
+    let m : length (d .walk) * widthOf (R - 1) ≤ 47 * 8 = mul-le-mul {n₂ = 47} {m₂ = 8} (omega arith) (byte-width R h) in
+    omega (arith, length-reading R d)
+
+-- rule numbers below R can be written
+module _ (R : ℕ) (h : R ≤ 256) where
+  walk-fits : (rs : List ℕ) → ((k r : ℕ) → getElem? rs k ≡ some r → r < R) → Fits (walkEntries R rs) × Each InWidth (walkEntries R rs)
+  unfolding walkEntries
+  walk-fits [] f = (tt, tt)
+  walk-fits (r ∷ rs) f =
+      let l = f 0 r refl in
+      let (a, b) = walk-fits rs (λ k. f (suc k)) in
+      (((omega arith, omega arith), a), (number-room r R (omega arith) h (omega arith), b))
+
+  pub reading-valid : (d : Reading) → d .slots < 2 ^ 6 → d .weight < 2 ^ 24 → length (d .walk) ≡ 2 * d .slots - 1
+      → ((k r : ℕ) → getElem? (d .walk) k ≡ some r → r < R) → ValidReading R d
+  unfolding readingEntries
+  reading-valid d n w l f =
+      let (a, b) = walk-fits (d .walk) f in
+      (((omega arith, omega arith), ((omega arith, omega arith), ((omega arith, omega arith), a))), (omega arith, (n, (w, b))), l)
