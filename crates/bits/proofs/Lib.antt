@@ -7,3 +7,4 @@ pub mod Pack
 pub mod Fields
 pub mod Width
 pub mod Table
+pub mod Remaining

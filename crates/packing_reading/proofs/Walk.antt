@@ -1,0 +1,57 @@
+-- The rule numbers of a reading all have one width, and so its block's length is known from n and R.
+-- Assumes nothing.
+use mathlib.Core.Path.{_≡_, ap, _∙_}
+use mathlib.Core.List.{List, [], _∷_}
+use Prim.Native.Nat.{ℕ, suc, _+_, _-_, _*_, _/_, _≤_, _<_}
+use native.Mathlib.Nat.{zero-mul, suc-mul, mul-le-mul}
+use native.Mathlib.Numerals.{add-one}
+use native.Mathlib.Omega.{arith}
+use lib.ListN.{length, take, drop, getD}
+use lib.Seq.{drop-cons, length-take-le}
+use Rattle.bits.specs.Bits.{put, laid}
+use Rattle.bits.specs.Width.{widthOf}
+use Rattle.bits.specs.Fields.{Fld, fld, puts, widths, bitsOfAll}
+use Rattle.bits.proofs.Fields.{length-block, puts-block}
+use Rattle.packing.specs.Meaning.{Reading}
+use Rattle.packing.specs.Source.{flds}
+use Rattle.packing.specs.Reading.{walkEntries, readingEntries, blockOfReading}
+use Rattle.packing_reading.specs.Answer.{readingLength, readingOf}
+
+pub walk-small : {m w : ℕ} → m ≤ 47 → w ≤ 8 → m * w ≤ 376
+walk-small h k = mul-le-mul h k
+
+module _ (R : ℕ) where
+  pub widths-walk : (l : List ℕ) → widths (flds (walkEntries R l)) ≡ length l * widthOf (R - 1)
+  unfolding walkEntries widths
+  widths-walk [] = rw zero-mul
+  widths-walk (r ∷ l) = rw (widths-walk l, suc-mul) (omega arith)
+
+  pub length-reading : (d : Reading) → length (d .walk) ≡ 2 * d .slots - 1 → length (blockOfReading R d) ≡ readingLength (d .slots) R
+  unfolding blockOfReading readingEntries widths
+  length-reading d e = rw (length-block (flds (readingEntries R d)), widths-walk (d .walk), e) (ap (λ (k : ℕ). k / 8) (omega arith))
+
+  -- what a block's length leaves room for, and the block from its fields
+  module _ (n w : ℕ) (walk o : List ℕ) (h : 2 * n - 1 ≤ length walk) (l : readingLength n R ≤ length o) where
+    pub walk-room : 34 + widths (flds (walkEntries R (take (2 * n - 1) walk))) ≤ 8 * length o
+    walk-room = rw (widths-walk (take (2 * n - 1) walk), length-take-le (2 * n - 1) walk h) (omega arith)
+
+    pub reading-written : ((i : ℕ) → getD o i 0 < 256) → {out : List ℕ}
+        → out ≡ puts (put (put (put o 0 4 3) 4 6 n) 10 24 w) 34 (flds (walkEntries R (take (2 * n - 1) walk)))
+        → out ≡ laid o (bitsOfAll (flds (readingEntries R (readingOf n w walk))))
+    unfolding readingEntries puts widths
+    reading-written y e = e ∙ puts-block o (flds (readingEntries R (readingOf n w walk))) y (omega (arith, walk-room))
+
+  -- what is left to write of a walk of n numbers behind the first i
+  abbrev pub rest : List ℕ → ℕ → ℕ → List Fld
+  rest walk n i = flds (walkEntries R (take (n - i) (drop i walk)))
+
+  module _ (walk : List ℕ) (n i : ℕ) where
+    pub rest-more : {w : ℕ} → w ≡ widthOf (R - 1) → i < n → n ≤ length walk → rest walk n i ≡ fld w (getD walk i 0) ∷ rest walk n (i + 1)
+    unfolding walkEntries
+    rest-more e l h =
+        let z : n - i ≡ suc (n - (i + 1)) = omega arith in
+        rw (e, z, drop-cons walk i 0 (omega arith), add-one i)
+
+    pub rest-end : n ≤ i → rest walk n i ≡ []
+    unfolding walkEntries
+    rest-end l = let z : n - i ≡ 0 = omega arith in rw z
