@@ -1,8 +1,7 @@
-//! The library's times beside those of Rust on the same inputs: medians of alternating runs in one process.
-
-mod conversions;
-mod measure;
+//! Prints one table: medians of alternating runs in one process, and their ratios.
 
 fn main() {
-    conversions::print_rows();
+    spireyerba_bench::conversions::print_rows();
+    #[cfg(feature = "listing")]
+    spireyerba_bench::listing::print_rows();
 }

@@ -22,6 +22,32 @@ extern "C" {
         out: *mut u32,
         out_len: usize,
     ) -> i32;
+
+    #[cfg(feature = "check")]
+    fn spireyerba_check(
+        grammar: *const u8,
+        grammar_len: usize,
+        utterance: *const u8,
+        utterance_len: usize,
+        reading: *const u8,
+        reading_len: usize,
+    ) -> i32;
+
+    #[cfg(feature = "listing")]
+    fn spireyerba_listing(
+        grammar: *const u8,
+        grammar_len: usize,
+        utterance: *const u8,
+        utterance_len: usize,
+        wanted: u32,
+        work: *mut u32,
+        work_len: usize,
+        out: *mut u8,
+        out_len: usize,
+    ) -> i32;
+
+    #[cfg(feature = "specimen")]
+    fn spireyerba_specimen(grammar: *const u8, grammar_len: usize, length: u32, out: *mut u8, out_len: usize) -> i32;
 }
 
 // Each pointer and length below comes from a slice that is borrowed until the call returns.
@@ -58,4 +84,40 @@ pub fn utterance_to_sheet(grammar: &[u8], block: &[u8], out: &mut [u32]) -> i32 
             out.len(),
         )
     }
+}
+
+#[cfg(feature = "check")]
+pub fn check(grammar: &[u8], utterance: &[u8], reading: &[u8]) -> i32 {
+    unsafe {
+        spireyerba_check(
+            grammar.as_ptr(),
+            grammar.len(),
+            utterance.as_ptr(),
+            utterance.len(),
+            reading.as_ptr(),
+            reading.len(),
+        )
+    }
+}
+
+#[cfg(feature = "listing")]
+pub fn listing(grammar: &[u8], utterance: &[u8], wanted: u32, work: &mut [u32], out: &mut [u8]) -> i32 {
+    unsafe {
+        spireyerba_listing(
+            grammar.as_ptr(),
+            grammar.len(),
+            utterance.as_ptr(),
+            utterance.len(),
+            wanted,
+            work.as_mut_ptr(),
+            work.len(),
+            out.as_mut_ptr(),
+            out.len(),
+        )
+    }
+}
+
+#[cfg(feature = "specimen")]
+pub fn specimen(grammar: &[u8], length: u32, out: &mut [u8]) -> i32 {
+    unsafe { spireyerba_specimen(grammar.as_ptr(), grammar.len(), length, out.as_mut_ptr(), out.len()) }
 }

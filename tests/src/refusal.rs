@@ -61,6 +61,27 @@ pub enum Refusal {
     OutputShort = 43,
 }
 
+/// The refusals of the grammar block's row.
+pub const GRAMMAR_BLOCK: [Refusal; 7] = [
+    Refusal::GrammarEnd,
+    Refusal::GrammarKind,
+    Refusal::GrammarRange,
+    Refusal::GrammarSymbol,
+    Refusal::GrammarWord,
+    Refusal::GrammarRepeat,
+    Refusal::GrammarFill,
+];
+
+/// The refusals of the utterance block's row.
+pub const UTTERANCE_BLOCK: [Refusal; 6] = [
+    Refusal::UtteranceEnd,
+    Refusal::UtteranceKind,
+    Refusal::UtteranceRange,
+    Refusal::UtteranceWord,
+    Refusal::UtteranceOrder,
+    Refusal::UtteranceFill,
+];
+
 /// What a service answers: a number, or a refusal.
 pub type Answer = Result<usize, Refusal>;
 

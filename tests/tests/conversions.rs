@@ -1,9 +1,10 @@
 //! The four conversions of the library beside the second implementation, on seeded inputs, valid and damaged.
 
-use spireyerba_tests::compare::{over_seeds, Conversion, Tally};
-use spireyerba_tests::grammar::Grammar;
-use spireyerba_tests::refusal::Refusal::{self, *};
-use spireyerba_tests::seeded::damage::{blocks, repeated_rule, sheets};
+use spireyerba_tests::compare::conversions::Conversion;
+use spireyerba_tests::compare::{over_seeds, Tally};
+use spireyerba_tests::refusal::Refusal::*;
+use spireyerba_tests::refusal::{GRAMMAR_BLOCK, UTTERANCE_BLOCK};
+use spireyerba_tests::seeded::damage::{blocks, repeated_rule, sheets, some_grammar_blocks};
 use spireyerba_tests::seeded::grammars::{grammar, Size};
 use spireyerba_tests::seeded::raw;
 use spireyerba_tests::seeded::rng::Rng;
@@ -27,9 +28,6 @@ const UTTERANCE_TO_SHEET: Conversion<u8, u32> = Conversion {
     second: conversions::utterance_to_sheet,
     longest: 1 + 24 * (1 + 2 * 7),
 };
-
-const GRAMMAR_BLOCK: [Refusal; 7] =
-    [GrammarEnd, GrammarKind, GrammarRange, GrammarSymbol, GrammarWord, GrammarRepeat, GrammarFill];
 
 /// Mostly small, so that there is time for every way to damage it.
 fn size(rng: &mut Rng) -> Size {
@@ -76,15 +74,6 @@ fn grammar_blocks_to_sheets() {
     tally.demand(20_000, &[GRAMMAR_BLOCK.as_slice(), &[OutputShort]].concat());
 }
 
-/// Damaged blocks of a grammar, some of each kind of damage.
-fn damaged_grammars(rng: &mut Rng, grammar: &Grammar) -> Vec<Vec<u8>> {
-    let damaged = blocks(rng, &grammar.to_block(), 60);
-    let mut some: Vec<_> = (0..10).map(|_| damaged[rng.below(damaged.len())].clone()).collect();
-    some.push(repeated_rule(rng, grammar).to_block());
-    some.push(raw::grammar_block(rng));
-    some
-}
-
 #[test]
 fn utterance_sheets_to_blocks() {
     let mut tally = Tally::default();
@@ -95,7 +84,7 @@ fn utterance_sheets_to_blocks() {
         let sheet = utterance(rng, size, grammar.words).to_sheet();
         let mut inputs = sheets(rng, &sheet, 60);
         inputs.extend((0..50).map(|_| raw::utterance_sheet(rng, grammar.words)));
-        for damaged in damaged_grammars(rng, &grammar) {
+        for damaged in some_grammar_blocks(rng, &grammar, 10) {
             UTTERANCE_TO_BLOCK.compare(rng, &mut tally, &damaged, &sheet);
             let other = rng.below(inputs.len());
             UTTERANCE_TO_BLOCK.compare(rng, &mut tally, &damaged, &inputs[other]);
@@ -119,7 +108,7 @@ fn utterance_blocks_to_sheets() {
         let mut inputs = blocks(rng, &utterance, 300);
         inputs.extend((0..50).map(|_| raw::utterance_block(rng, grammar.words)));
         inputs.extend((0..10).map(|length| rng.noise(length)));
-        for damaged in damaged_grammars(rng, &grammar) {
+        for damaged in some_grammar_blocks(rng, &grammar, 10) {
             UTTERANCE_TO_SHEET.compare(rng, &mut tally, &damaged, &utterance);
             let other = rng.below(inputs.len());
             UTTERANCE_TO_SHEET.compare(rng, &mut tally, &damaged, &inputs[other]);
@@ -128,6 +117,5 @@ fn utterance_blocks_to_sheets() {
             UTTERANCE_TO_SHEET.compare(rng, &mut tally, &grammar_block, &block);
         }
     });
-    let row = [UtteranceEnd, UtteranceKind, UtteranceRange, UtteranceWord, UtteranceOrder, UtteranceFill];
-    tally.demand(20_000, &[GRAMMAR_BLOCK.as_slice(), &row, &[OutputShort]].concat());
+    tally.demand(20_000, &[GRAMMAR_BLOCK.as_slice(), &UTTERANCE_BLOCK, &[OutputShort]].concat());
 }

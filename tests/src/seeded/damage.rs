@@ -1,7 +1,9 @@
 //! Ways to damage a block or a sheet.
 
+use super::raw;
 use super::rng::{Noise, Rng};
 use crate::grammar::Grammar;
+use crate::utterance::Utterance;
 
 /// Every proper prefix.
 pub fn truncations<T: Clone>(whole: &[T]) -> impl Iterator<Item = Vec<T>> + '_ {
@@ -77,4 +79,24 @@ pub fn repeated_rule(rng: &mut Rng, grammar: &Grammar) -> Grammar {
     damaged.rules[to] = damaged.rules[from];
     damaged.rules[to].weight = weight;
     damaged
+}
+
+/// Some damaged blocks of a grammar, of each kind of damage.
+pub fn some_grammar_blocks(rng: &mut Rng, grammar: &Grammar, count: usize) -> Vec<Vec<u8>> {
+    let mut some = some_blocks(rng, &grammar.to_block(), count);
+    some.push(repeated_rule(rng, grammar).to_block());
+    some.push(raw::grammar_block(rng));
+    some
+}
+
+/// Some damaged blocks of an utterance, of each kind of damage.
+pub fn some_utterance_blocks(rng: &mut Rng, grammar: &Grammar, utterance: &Utterance, count: usize) -> Vec<Vec<u8>> {
+    let mut some = some_blocks(rng, &utterance.to_block(grammar), count);
+    some.push(raw::utterance_block(rng, grammar.words));
+    some
+}
+
+fn some_blocks(rng: &mut Rng, block: &[u8], count: usize) -> Vec<Vec<u8>> {
+    let damaged = blocks(rng, block, 60);
+    (0..count).map(|_| damaged[rng.below(damaged.len())].clone()).collect()
 }

@@ -48,27 +48,29 @@ pub fn grammar(rng: &mut Rng, size: Size) -> Grammar {
         ),
         Size::Greatest => (32, 200, 256),
     };
-    let pairs_in_ten = rng.pick(&[0, 5, 7, 10]);
-    let rules = distinct_rules(rng, symbols, words, rules as usize, pairs_in_ten);
-    Grammar { symbols, words, rules }
+    let pairs = rules * rng.pick(&[0, 1, 1, 2]) / 2;
+    with_rules(rng, symbols, words, pairs, rules - pairs)
 }
 
-/// Up to `count` rules, at least one, no two of one kind, head and body.
-pub fn distinct_rules(rng: &mut Rng, symbols: u32, words: u32, count: usize, pairs_in_ten: usize) -> Vec<Rule> {
-    let weights = Weights::any(rng);
-    let mut seen = HashSet::new();
-    let mut rules = Vec::new();
-    for _ in 0..4 * count {
-        let symbol = |rng: &mut Rng| rng.within(0..=symbols - 1);
-        let head = symbol(rng);
-        let body = if rng.below(10) < pairs_in_ten {
-            Body::Pair(symbol(rng), symbol(rng))
-        } else {
-            Body::Word(rng.within(0..=words - 1))
-        };
-        if rules.len() < count && seen.insert((head, body)) {
-            rules.push(Rule { head, weight: weights.draw(rng), body });
+/// A grammar with up to so many pair rules and word rules, no two of one kind, head and body.
+pub fn with_rules(rng: &mut Rng, symbols: u32, words: u32, pairs: u32, word_rules: u32) -> Grammar {
+    let mut bodies = HashSet::new();
+    let mut drawn = Vec::new();
+    for (is_word, count) in [(false, pairs), (true, word_rules)] {
+        for _ in 0..count {
+            // a body that is there already is drawn again, but not for ever: there may be no other
+            let fresh = (0..20).map(|_| headed_body(rng, symbols, words, is_word)).find(|&new| bodies.insert(new));
+            drawn.extend(fresh);
         }
     }
-    rules
+    rng.shuffle(&mut drawn);
+    let weights = Weights::any(rng);
+    let rule = |(head, body)| Rule { head, weight: weights.draw(rng), body };
+    Grammar { symbols, words, rules: drawn.into_iter().map(rule).collect() }
+}
+
+fn headed_body(rng: &mut Rng, symbols: u32, words: u32, is_word: bool) -> (u32, Body) {
+    let mut symbol = || rng.within(0..=symbols - 1);
+    let (head, first, second) = (symbol(), symbol(), symbol());
+    (head, if is_word { Body::Word(rng.within(0..=words - 1)) } else { Body::Pair(first, second) })
 }

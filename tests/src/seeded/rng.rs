@@ -35,6 +35,12 @@ impl Rng {
         self.below(times) == 0
     }
 
+    pub fn shuffle<T>(&mut self, list: &mut [T]) {
+        for last in (1..list.len()).rev() {
+            list.swap(last, self.below(last + 1));
+        }
+    }
+
     pub fn noise<T: Noise>(&mut self, length: usize) -> Vec<T> {
         (0..length).map(|_| T::cut(self.next())).collect()
     }

@@ -1,0 +1,252 @@
+//! The listing written freely, with heaps and vectors: the first tree of every cell bottom up, further trees of a cell
+//! only when they are asked for (Jiménez and Marzal 2000; Huang and Chiang 2005, algorithm 3).
+
+use spireyerba_tests::grammar::{Body, Grammar};
+use spireyerba_tests::reading::Reading;
+use spireyerba_tests::refusal::Answer;
+use spireyerba_tests::utterance::Utterance;
+use std::cmp::Reverse;
+use std::collections::BinaryHeap;
+
+/// Writes the readings one after another and answers their number.
+pub fn listing(grammar: &[u8], utterance: &[u8], wanted: usize, out: &mut [u8]) -> Answer {
+    let grammar = Grammar::from_block(grammar)?;
+    let utterance = Utterance::from_block(&grammar, utterance)?;
+    let readings = least(&grammar, &utterance, wanted);
+    let length = Reading::block_length(&grammar, utterance.slots.len());
+    for (place, reading) in out.chunks_exact_mut(length).zip(&readings) {
+        place.copy_from_slice(&reading.to_block(&grammar));
+    }
+    Ok(readings.len())
+}
+
+/// The readings of the `wanted` least derivations, in the order.
+pub fn least(grammar: &Grammar, utterance: &Utterance, wanted: usize) -> Vec<Reading> {
+    let mut chart = Chart::new(grammar, utterance);
+    chart.find_first_trees();
+    let root = Span { head: 0, from: 0, to: chart.slots };
+    let mut readings = Vec::new();
+    while readings.len() < wanted && chart.find(root, readings.len()) {
+        let mut walk = Vec::with_capacity(2 * chart.slots);
+        chart.spell(root, readings.len(), &mut walk);
+        readings.push(Reading { weight: chart.cell(root).found[readings.len()].weight, walk });
+    }
+    readings
+}
+
+/// A head over the slots from `from` up to and without `to`.
+#[derive(Clone, Copy)]
+struct Span {
+    head: usize,
+    from: usize,
+    to: usize,
+}
+
+/// A tree of a cell, by the ranks of its parts. The derived order is that of document 01. A leaf has split 0.
+#[derive(Clone, Copy, PartialEq, Eq, PartialOrd, Ord)]
+struct Candidate {
+    weight: u32,
+    rule: u16,
+    split: u16,
+    left: u16,
+    right: u16,
+}
+
+struct PairRule {
+    number: u16,
+    weight: u32,
+    first: usize,
+    second: usize,
+}
+
+struct WordRule {
+    number: u16,
+    weight: u32,
+    word: usize,
+}
+
+/// The trees found in order, and those that come next in question once a second one was asked for.
+#[derive(Clone, Default)]
+struct Cell {
+    found: Vec<Candidate>,
+    waiting: Option<BinaryHeap<Reverse<Candidate>>>,
+}
+
+struct Chart {
+    symbols: usize,
+    slots: usize,
+    pairs: Vec<Vec<PairRule>>,
+    words: Vec<Vec<WordRule>>,
+    parts: Vec<(usize, usize)>,
+    costs: Vec<Vec<Option<u32>>>,
+    cells: Vec<Cell>,
+}
+
+impl Chart {
+    fn new(grammar: &Grammar, utterance: &Utterance) -> Self {
+        let (symbols, slots) = (grammar.symbols as usize, utterance.slots.len());
+        let mut chart = Self {
+            symbols,
+            slots,
+            pairs: (0..symbols).map(|_| Vec::new()).collect(),
+            words: (0..symbols).map(|_| Vec::new()).collect(),
+            parts: Vec::new(),
+            costs: vec![vec![None; grammar.words as usize]; slots],
+            cells: vec![Cell::default(); symbols * slots * (slots + 1) / 2],
+        };
+        for (number, rule) in grammar.rules.iter().enumerate() {
+            let (number, head, weight) = (number as u16, rule.head as usize, rule.weight);
+            match rule.body {
+                Body::Pair(first, second) => {
+                    let (first, second) = (first as usize, second as usize);
+                    chart.parts.push((first, second));
+                    chart.pairs[head].push(PairRule { number, weight, first, second });
+                }
+                Body::Word(word) => {
+                    chart.parts.push((0, 0));
+                    chart.words[head].push(WordRule { number, weight, word: word as usize });
+                }
+            }
+        }
+        for (costs, slot) in chart.costs.iter_mut().zip(&utterance.slots) {
+            for candidate in slot {
+                costs[candidate.word as usize] = Some(candidate.cost);
+            }
+        }
+        chart
+    }
+
+    fn index(&self, span: Span) -> usize {
+        (span.to * (span.to - 1) / 2 + span.from) * self.symbols + span.head
+    }
+
+    fn cell(&self, span: Span) -> &Cell {
+        &self.cells[self.index(span)]
+    }
+
+    fn parts(&self, span: Span, candidate: Candidate) -> (Span, Span) {
+        let (first, second) = self.parts[candidate.rule as usize];
+        let split = candidate.split as usize;
+        (Span { head: first, from: span.from, to: split }, Span { head: second, from: split, to: span.to })
+    }
+
+    fn find_first_trees(&mut self) {
+        for length in 1..=self.slots {
+            for from in 0..=self.slots - length {
+                for head in 0..self.symbols {
+                    let span = Span { head, from, to: from + length };
+                    let mut first: Option<Candidate> = None;
+                    self.each_seed(span, |seed| {
+                        if first.is_none_or(|first| seed < first) {
+                            first = Some(seed);
+                        }
+                    });
+                    let index = self.index(span);
+                    self.cells[index].found.extend(first);
+                }
+            }
+        }
+    }
+
+    /// The leaves of a cell, and for each pair rule and split the join of the first trees of both parts.
+    fn each_seed(&self, span: Span, mut visit: impl FnMut(Candidate)) {
+        let Span { head, from, to } = span;
+        if to == from + 1 {
+            for rule in &self.words[head] {
+                if let Some(cost) = self.costs[from][rule.word] {
+                    let weight = rule.weight + cost;
+                    visit(Candidate { weight, rule: rule.number, split: 0, left: 0, right: 0 });
+                }
+            }
+        }
+        for rule in &self.pairs[head] {
+            for split in from + 1..to {
+                let left = self.cell(Span { head: rule.first, from, to: split });
+                let right = self.cell(Span { head: rule.second, from: split, to });
+                if let (Some(left), Some(right)) = (left.found.first(), right.found.first()) {
+                    let weight = rule.weight + left.weight + right.weight;
+                    visit(Candidate { weight, rule: rule.number, split: split as u16, left: 0, right: 0 });
+                }
+            }
+        }
+    }
+
+    /// Finds the trees of a cell up to a rank, counted from 0; whether there are so many.
+    fn find(&mut self, span: Span, rank: usize) -> bool {
+        let index = self.index(span);
+        while self.cells[index].found.len() <= rank {
+            let Some(&last) = self.cells[index].found.last() else { return false };
+            if self.cells[index].waiting.is_none() {
+                let mut seeds = Vec::new();
+                self.each_seed(span, |seed| seeds.push(Reverse(seed)));
+                seeds.retain(|&Reverse(seed)| seed != last);
+                self.cells[index].waiting = Some(seeds.into());
+            }
+            if last.split != 0 {
+                self.add_followers(span, index, last);
+            }
+            let waiting = self.cells[index].waiting.as_mut().expect("the cell was opened above");
+            let Some(Reverse(next)) = waiting.pop() else { return false };
+            self.cells[index].found.push(next);
+        }
+        true
+    }
+
+    /// The next right part and, after the first right part only, the next left part: no tree comes twice.
+    fn add_followers(&mut self, span: Span, index: usize, last: Candidate) {
+        let (left, right) = self.parts(span, last);
+        let mut followers = [None, None];
+        if self.find(right, last.right as usize + 1) {
+            followers[0] = Some(Candidate { right: last.right + 1, ..last });
+        }
+        if last.right == 0 && self.find(left, last.left as usize + 1) {
+            followers[1] = Some(Candidate { left: last.left + 1, ..last });
+        }
+        for follower in followers.into_iter().flatten() {
+            let of_parts = |candidate: Candidate| {
+                let (lefts, rights) = (&self.cell(left).found, &self.cell(right).found);
+                lefts[candidate.left as usize].weight + rights[candidate.right as usize].weight
+            };
+            let weight = last.weight - of_parts(last) + of_parts(follower);
+            let waiting = self.cells[index].waiting.as_mut().expect("the cell was opened before");
+            waiting.push(Reverse(Candidate { weight, ..follower }));
+        }
+    }
+
+    /// Appends the walk of a found tree.
+    fn spell(&self, span: Span, rank: usize, walk: &mut Vec<u32>) {
+        let candidate = self.cell(span).found[rank];
+        walk.push(u32::from(candidate.rule));
+        if candidate.split != 0 {
+            let (left, right) = self.parts(span, candidate);
+            self.spell(left, candidate.left as usize, walk);
+            self.spell(right, candidate.right as usize, walk);
+        }
+    }
+}
+
+#[cfg(test)]
+mod tests {
+    use super::*;
+    use spireyerba_tests::compare::over_seeds;
+    use spireyerba_tests::nbest;
+    use spireyerba_tests::seeded::parsable::{case, AMBIGUOUS, LONG, MANY_SYMBOLS, SPARSE, TINY};
+
+    #[test]
+    fn lists_what_the_second_implementation_lists() {
+        let mut found = 0;
+        over_seeds(0..3_000, |rng| {
+            let shape = if rng.once_in(20) {
+                rng.pick(&[&LONG, &MANY_SYMBOLS])
+            } else {
+                rng.pick(&[&TINY, &AMBIGUOUS, &SPARSE])
+            };
+            let (grammar, utterance) = case(rng, shape);
+            let wanted = rng.pick(&[1, 2, 5, 30, 256]);
+            let readings = least(&grammar, &utterance, wanted);
+            assert_eq!(readings, nbest::least(&grammar, &utterance, wanted), "{grammar:?} {utterance:?}");
+            found += readings.len();
+        });
+        assert!(found > 10_000, "{found} readings");
+    }
+}

@@ -1,0 +1,117 @@
+//! The grammars and utterances that the listing is measured on.
+
+use spireyerba_tests::grammar::{Body, Grammar, Rule};
+use spireyerba_tests::seeded::rng::Rng;
+use spireyerba_tests::utterance::{Candidate, Utterance};
+use std::collections::HashSet;
+
+pub struct Input {
+    pub name: &'static str,
+    pub grammar: Grammar,
+    pub utterance: Utterance,
+}
+
+const WEIGHT: u32 = 1_000;
+
+/// 32 symbols and 256 rules.
+pub fn greatest(slots: usize) -> Input {
+    // a seed with which six slots have 256 readings too
+    let grammar = random_grammar(&mut Rng::new(8), 32, 150, 106, WEIGHT);
+    let utterance = utterance(&mut Rng::new(2), &grammar, slots, WEIGHT);
+    Input { name: "32 symbols, 256 rules", grammar, utterance }
+}
+
+/// The other shapes, each over 24 slots.
+pub fn shapes() -> Vec<Input> {
+    let with = |name, grammar: Grammar, weight| {
+        let utterance = utterance(&mut Rng::new(3), &grammar, 24, weight);
+        Input { name, grammar, utterance }
+    };
+    let rng = &mut Rng::new(4);
+    vec![
+        with("4 symbols, 64 rules", random_grammar(rng, 4, 32, 32, WEIGHT), WEIGHT),
+        with("4 symbols, 64 rules, all weights 0", random_grammar(rng, 4, 32, 32, 0), 0),
+        with("200 pair rules on head 0", one_head(rng), WEIGHT),
+        with("one symbol", random_grammar(rng, 1, 1, 20, WEIGHT), WEIGHT),
+        with("chain 0 to 1 0", chain(1, 0), WEIGHT),
+        with("chain 0 to 0 1", chain(0, 1), WEIGHT),
+    ]
+}
+
+fn random_grammar(rng: &mut Rng, symbols: u32, pairs: u32, word_rules: u32, weight: u32) -> Grammar {
+    let words = word_rules.min(200);
+    let mut bodies = HashSet::new();
+    let mut rules = Vec::new();
+    while rules.len() < (pairs + word_rules) as usize {
+        let mut symbol = || rng.within(0..=symbols - 1);
+        let (head, first, second) = (symbol(), symbol(), symbol());
+        let is_pair = rules.len() < pairs as usize;
+        let body = if is_pair { Body::Pair(first, second) } else { Body::Word(rng.within(0..=words - 1)) };
+        if bodies.insert((head, body)) {
+            rules.push(Rule { head, weight: rng.within(0..=weight), body });
+        }
+    }
+    rng.shuffle(&mut rules);
+    Grammar { symbols, words, rules }
+}
+
+/// Head 0 joins 200 of the pairs of 16 symbols; each symbol has words.
+fn one_head(rng: &mut Rng) -> Grammar {
+    let mut bodies: Vec<Body> = (0..256).map(|pair| Body::Pair(pair / 16, pair % 16)).collect();
+    rng.shuffle(&mut bodies);
+    bodies.truncate(200);
+    let mut heads = vec![0; 200];
+    bodies.extend((0..48).map(Body::Word));
+    heads.extend((0..48).map(|word| word % 16));
+    let rule = |(head, body)| Rule { head, weight: rng.within(0..=WEIGHT), body };
+    Grammar { symbols: 16, words: 48, rules: heads.into_iter().zip(bodies).map(rule).collect() }
+}
+
+/// Head 0 joins one word with the rest of the utterance, which stands on one side.
+fn chain(first: u32, second: u32) -> Grammar {
+    let mut rules = vec![Rule { head: 0, weight: 1, body: Body::Pair(first, second) }];
+    for word in 0..20 {
+        rules.push(Rule { head: word % 2, weight: 7 * word, body: Body::Word(word / 2) });
+    }
+    Grammar { symbols: 2, words: 10, rules }
+}
+
+/// Each slot offers seven words that some rule has.
+fn utterance(rng: &mut Rng, grammar: &Grammar, slots: usize, cost: u32) -> Utterance {
+    let mut known: Vec<u32> = grammar.rules.iter().filter_map(|rule| word_of(rule.body)).collect();
+    known.sort_unstable();
+    known.dedup();
+    let slot = |_| {
+        rng.shuffle(&mut known);
+        let mut words = known[..7].to_vec();
+        words.sort_unstable();
+        words.into_iter().map(|word| Candidate { word, cost: rng.within(0..=cost) }).collect()
+    };
+    Utterance { slots: (0..slots).map(slot).collect() }
+}
+
+fn word_of(body: Body) -> Option<u32> {
+    match body {
+        Body::Word(word) => Some(word),
+        Body::Pair(..) => None,
+    }
+}
+
+#[cfg(test)]
+mod tests {
+    use super::*;
+    use crate::free;
+    use spireyerba_tests::nbest;
+
+    #[test]
+    fn each_shape_is_accepted_and_has_256_readings() {
+        for input in [6, 12, 24].map(greatest).into_iter().chain(shapes()) {
+            let grammar = Grammar::from_block(&input.grammar.to_block()).expect(input.name);
+            let block = input.utterance.to_block(&grammar);
+            let utterance = Utterance::from_block(&grammar, &block).expect(input.name);
+            let readings = free::least(&grammar, &utterance, 256);
+            assert_eq!(readings.len(), 256, "{}", input.name);
+            assert_eq!(readings, nbest::least(&grammar, &utterance, 256), "{}", input.name);
+        }
+    }
+}

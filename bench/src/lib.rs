@@ -1,0 +1,8 @@
+//! The library's times beside those of Rust on the same inputs.
+
+pub mod conversions;
+pub mod free;
+pub mod inputs;
+#[cfg(feature = "listing")]
+pub mod listing;
+pub mod measure;

@@ -1,0 +1,54 @@
+//! The check of a reading (document 01, "Where each check stands").
+
+use crate::grammar::{Body, Grammar};
+use crate::reading::Reading;
+use crate::refusal::{Answer, Refusal};
+use crate::utterance::Utterance;
+
+/// Answers 0 if the reading passes.
+pub fn check(grammar: &[u8], utterance: &[u8], reading: &[u8]) -> Answer {
+    let grammar = Grammar::from_block(grammar)?;
+    let utterance = Utterance::from_block(&grammar, utterance)?;
+    let (reading, only_fill_left) = Reading::from_block(&grammar, utterance.slots.len(), reading)?;
+    let weight = weight_of_walk(&grammar, &utterance, &reading.walk).ok_or(Refusal::ReadingWalk)?;
+    if reading.weight != weight {
+        return Err(Refusal::ReadingWeight);
+    }
+    if !only_fill_left {
+        return Err(Refusal::ReadingFill);
+    }
+    Ok(0)
+}
+
+/// The weight of the derivation whose walk the numbers are, if they are one's.
+pub fn weight_of_walk(grammar: &Grammar, utterance: &Utterance, walk: &[u32]) -> Option<u32> {
+    let mut walker = Walker { grammar, utterance, walk, slot: 0 };
+    let weight = walker.part(0)?;
+    let whole = walker.walk.is_empty() && walker.slot == utterance.slots.len();
+    whole.then_some(weight)
+}
+
+/// What is left of a walk, and the first slot that is not yet spanned.
+struct Walker<'a> {
+    grammar: &'a Grammar,
+    utterance: &'a Utterance,
+    walk: &'a [u32],
+    slot: usize,
+}
+
+impl Walker<'_> {
+    /// Takes the numbers of one tree with this head, and gives its weight.
+    fn part(&mut self, head: u32) -> Option<u32> {
+        let (&number, rest) = self.walk.split_first()?;
+        self.walk = rest;
+        let rule = self.grammar.rules.get(number as usize).filter(|rule| rule.head == head)?;
+        match rule.body {
+            Body::Word(word) => {
+                let cost = self.utterance.cost(self.slot, word)?;
+                self.slot += 1;
+                Some(rule.weight + cost)
+            }
+            Body::Pair(first, second) => Some(rule.weight + self.part(first)? + self.part(second)?),
+        }
+    }
+}

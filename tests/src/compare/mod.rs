@@ -1,0 +1,88 @@
+//! One call of the library and of the second implementation on the same slices, held to each other.
+
+#[cfg(feature = "check")]
+pub mod check;
+pub mod conversions;
+#[cfg(feature = "listing")]
+pub mod listing;
+#[cfg(feature = "specimen")]
+pub mod specimen;
+
+use crate::refusal::Refusal;
+use crate::seeded::rng::{Noise, Rng};
+use std::collections::BTreeMap;
+use std::ops::Range;
+
+/// Numbers on each side of a lent slice that no service may touch.
+const GUARD: usize = 8;
+
+/// A slice as it is lent to a service, with guards on both sides.
+#[derive(Clone, PartialEq)]
+pub struct Lent<T> {
+    cells: Vec<T>,
+}
+
+impl<T: Noise> Lent<T> {
+    pub fn holding(rng: &mut Rng, content: &[T]) -> Self {
+        Self { cells: [rng.noise(GUARD).as_slice(), content, rng.noise(GUARD).as_slice()].concat() }
+    }
+
+    pub fn noise(rng: &mut Rng, length: usize) -> Self {
+        Self { cells: rng.noise(length + 2 * GUARD) }
+    }
+
+    pub fn slice(&self) -> &[T] {
+        &self.cells[GUARD..self.cells.len() - GUARD]
+    }
+
+    pub fn slice_mut(&mut self) -> &mut [T] {
+        let end = self.cells.len() - GUARD;
+        &mut self.cells[GUARD..end]
+    }
+}
+
+/// What was compared so far.
+#[derive(Default)]
+pub struct Tally {
+    pub calls: usize,
+    refusals: BTreeMap<u32, usize>,
+}
+
+impl Tally {
+    pub fn record(&mut self, answer: i32) {
+        self.calls += 1;
+        if answer < 0 {
+            *self.refusals.entry(answer.unsigned_abs()).or_default() += 1;
+        }
+    }
+
+    pub fn accepted(&self) -> usize {
+        self.calls - self.refusals.values().sum::<usize>()
+    }
+
+    /// Exactly these refusals were met, over at least so many calls.
+    pub fn demand(&self, calls: usize, refusals: &[Refusal]) {
+        let demanded: Vec<u32> = refusals.iter().map(|&refusal| refusal as u32).collect();
+        let met: Vec<u32> = self.refusals.keys().copied().collect();
+        assert_eq!(met, demanded, "refusals met, refusals demanded");
+        assert!(self.calls >= calls, "{} calls, {calls} demanded", self.calls);
+    }
+}
+
+/// Runs a case for each seed; a failure says which.
+pub fn over_seeds(seeds: Range<u64>, mut case: impl FnMut(&mut Rng)) {
+    for seed in seeds {
+        let _on_failure = SayOnFailure(seed);
+        case(&mut Rng::new(seed));
+    }
+}
+
+struct SayOnFailure(u64);
+
+impl Drop for SayOnFailure {
+    fn drop(&mut self) {
+        if std::thread::panicking() {
+            eprintln!("the case with seed {} failed", self.0);
+        }
+    }
+}

@@ -1,0 +1,132 @@
+//! The N best trees of each cell of a chart, from short spans to long ones.
+//!
+//! A cell is a head and a span. Its trees are kept as the rule, the split and the ranks of both parts in their own
+//! cells, which hold at least as many ranks as any tree among the N best can need.
+
+use crate::grammar::{Body, Grammar};
+use crate::reading::Reading;
+use crate::utterance::Utterance;
+use std::collections::BinaryHeap;
+
+/// The readings of the `wanted` least derivations, in the order.
+pub fn least(grammar: &Grammar, utterance: &Utterance, wanted: usize) -> Vec<Reading> {
+    let chart = Chart::fill(grammar, utterance, wanted);
+    let cell = chart.cell(0, 0, utterance.slots.len());
+    let reading = |rank: usize| {
+        let mut walk = Vec::new();
+        chart.spell(0, 0, utterance.slots.len(), rank, &mut walk);
+        Reading { weight: cell[rank].weight, walk }
+    };
+    (0..cell.len()).map(reading).collect()
+}
+
+/// A tree of a cell; the derived order, field by field, is that of document 01. A leaf has split, left and right 0.
+#[derive(Clone, Copy, PartialEq, Eq, PartialOrd, Ord)]
+struct Entry {
+    weight: u32,
+    rule: usize,
+    split: usize,
+    left: usize,
+    right: usize,
+}
+
+struct Chart<'a> {
+    grammar: &'a Grammar,
+    slots: usize,
+    cells: Vec<Vec<Entry>>,
+}
+
+impl<'a> Chart<'a> {
+    fn fill(grammar: &'a Grammar, utterance: &Utterance, wanted: usize) -> Self {
+        let slots = utterance.slots.len();
+        let mut chart = Self { grammar, slots, cells: Vec::new() };
+        chart.cells = vec![Vec::new(); chart.index(grammar.symbols - 1, slots - 1, slots) + 1];
+        for length in 1..=slots {
+            for from in 0..=slots - length {
+                for head in 0..grammar.symbols {
+                    let best = chart.best_of(utterance, head, from, from + length, wanted);
+                    let index = chart.index(head, from, from + length);
+                    chart.cells[index] = best;
+                }
+            }
+        }
+        chart
+    }
+
+    fn index(&self, head: u32, from: usize, to: usize) -> usize {
+        (from * (self.slots + 1) + to) * self.grammar.symbols as usize + head as usize
+    }
+
+    fn cell(&self, head: u32, from: usize, to: usize) -> &[Entry] {
+        &self.cells[self.index(head, from, to)]
+    }
+
+    fn best_of(&self, utterance: &Utterance, head: u32, from: usize, to: usize, wanted: usize) -> Vec<Entry> {
+        let mut best = Best { kept: BinaryHeap::new(), wanted };
+        for (rule, of_rule) in self.grammar.rules.iter().enumerate().filter(|(_, rule)| rule.head == head) {
+            match of_rule.body {
+                Body::Word(word) => {
+                    if let Some(cost) = utterance.cost(from, word).filter(|_| to == from + 1) {
+                        best.offer(Entry { weight: of_rule.weight + cost, rule, split: 0, left: 0, right: 0 });
+                    }
+                }
+                Body::Pair(first, second) => {
+                    for split in from + 1..to {
+                        let (lefts, rights) = (self.cell(first, from, split), self.cell(second, split, to));
+                        best.offer_pairs(
+                            Entry { weight: of_rule.weight, rule, split, left: 0, right: 0 },
+                            lefts,
+                            rights,
+                        );
+                    }
+                }
+            }
+        }
+        best.kept.into_sorted_vec()
+    }
+
+    /// Appends the walk of the tree of a rank.
+    fn spell(&self, head: u32, from: usize, to: usize, rank: usize, walk: &mut Vec<u32>) {
+        let entry = self.cell(head, from, to)[rank];
+        walk.push(entry.rule as u32);
+        if let Body::Pair(first, second) = self.grammar.rules[entry.rule].body {
+            self.spell(first, from, entry.split, entry.left, walk);
+            self.spell(second, entry.split, to, entry.right, walk);
+        }
+    }
+}
+
+/// The least entries offered so far, the greatest of them on top.
+struct Best {
+    kept: BinaryHeap<Entry>,
+    wanted: usize,
+}
+
+impl Best {
+    /// Keeps an entry if it is among the least; says whether it did.
+    fn offer(&mut self, entry: Entry) -> bool {
+        if self.kept.len() == self.wanted {
+            if self.kept.peek().is_some_and(|greatest| entry > *greatest) {
+                return false;
+            }
+            self.kept.pop();
+        }
+        self.kept.push(entry);
+        true
+    }
+
+    /// Offers the pairings of both cells' trees. Once one is not kept, none with later parts is.
+    fn offer_pairs(&mut self, rule: Entry, lefts: &[Entry], rights: &[Entry]) {
+        for (left, of_left) in lefts.iter().enumerate() {
+            for (right, of_right) in rights.iter().enumerate() {
+                let weight = rule.weight + of_left.weight + of_right.weight;
+                if !self.offer(Entry { weight, left, right, ..rule }) {
+                    if right == 0 {
+                        return;
+                    }
+                    break;
+                }
+            }
+        }
+    }
+}

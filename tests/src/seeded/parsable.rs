@@ -1,0 +1,77 @@
+//! Seeded grammars with utterances that they are likely to derive, in the shapes that matter to a chart.
+
+use super::grammars::{with_rules, Weights};
+use super::rng::Rng;
+use super::utterances::slot;
+use crate::grammar::{Body, Grammar};
+use crate::utterance::Utterance;
+use std::ops::RangeInclusive;
+
+/// From where to where the numbers of a case are drawn.
+#[derive(Clone, Debug)]
+pub struct Shape {
+    pub symbols: RangeInclusive<u32>,
+    pub words: RangeInclusive<u32>,
+    pub pair_rules: RangeInclusive<u32>,
+    pub word_rules: RangeInclusive<u32>,
+    pub slots: RangeInclusive<u32>,
+    pub candidates: RangeInclusive<u32>,
+}
+
+/// Few symbols and few slots, so that all derivations can be enumerated.
+pub const TINY: Shape =
+    Shape { symbols: 1..=3, words: 1..=3, pair_rules: 1..=4, word_rules: 1..=5, slots: 1..=5, candidates: 1..=3 };
+/// Few symbols with many rules: each span has many trees.
+pub const AMBIGUOUS: Shape =
+    Shape { symbols: 1..=4, words: 1..=5, pair_rules: 1..=12, word_rules: 2..=10, slots: 1..=9, candidates: 1..=4 };
+/// Few pair rules: often there is no derivation, or the list ends early.
+pub const SPARSE: Shape =
+    Shape { symbols: 2..=6, words: 2..=8, pair_rules: 1..=5, word_rules: 1..=8, slots: 1..=8, candidates: 1..=7 };
+pub const LONG: Shape =
+    Shape { symbols: 1..=4, words: 1..=8, pair_rules: 1..=10, word_rules: 2..=12, slots: 10..=24, candidates: 1..=7 };
+pub const MANY_SYMBOLS: Shape = Shape {
+    symbols: 8..=32,
+    words: 10..=200,
+    pair_rules: 30..=128,
+    word_rules: 40..=128,
+    slots: 2..=8,
+    candidates: 1..=7,
+};
+pub const GREATEST: Shape = Shape {
+    symbols: 32..=32,
+    words: 200..=200,
+    pair_rules: 150..=150,
+    word_rules: 106..=106,
+    slots: 24..=24,
+    candidates: 7..=7,
+};
+
+/// A grammar, and an utterance whose slots offer mostly words that some rule has.
+pub fn case(rng: &mut Rng, shape: &Shape) -> (Grammar, Utterance) {
+    let mut draw = |range: &RangeInclusive<u32>| rng.within(range.clone());
+    let (symbols, words) = (draw(&shape.symbols), draw(&shape.words));
+    let (pairs, word_rules) = (draw(&shape.pair_rules), draw(&shape.word_rules));
+    let grammar = with_rules(rng, symbols, words, pairs, word_rules);
+    let utterance = utterance_of(rng, &grammar, shape);
+    (grammar, utterance)
+}
+
+/// Another utterance for a grammar.
+pub fn utterance_of(rng: &mut Rng, grammar: &Grammar, shape: &Shape) -> Utterance {
+    let mut offered: Vec<u32> = grammar.rules.iter().filter_map(|rule| word_of(rule.body)).collect();
+    offered.push(rng.within(0..=grammar.words - 1));
+    let costs = Weights::any(rng);
+    let slots = rng.within(shape.slots.clone());
+    let slots = (0..slots).map(|_| {
+        let candidates = rng.within(shape.candidates.clone());
+        slot(rng, &offered, candidates as usize, costs)
+    });
+    Utterance { slots: slots.collect() }
+}
+
+fn word_of(body: Body) -> Option<u32> {
+    match body {
+        Body::Word(word) => Some(word),
+        Body::Pair(..) => None,
+    }
+}
