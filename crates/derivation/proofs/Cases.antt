@@ -1,4 +1,5 @@
--- The cases of document 01 that are marked P, "Checked examples": one table and one theorem about it, which holds since the definitions compute.
+-- The cases of document 01 that are marked P, "Checked examples": one table and one theorem about it, which holds since the
+-- definitions compute.
 use mathlib.Core.Path.{_≡_, refl}
 use mathlib.Core.List.{List, [], _∷_}
 use Prim.Native.Nat.{ℕ}

@@ -29,7 +29,8 @@ module _ (g : Grammar) (es : List Edge) (A : Sym) (i k : ℕ) where
   unfolding ranked
   ranked-ascending = sort-ascending law (trees g es A i k)
 
-  pub ranked-order : (m n : ℕ) {s t : Tree} → At (ranked g es A i k) m s → At (ranked g es A i k) n t → order (weight g es) s t ≡ compare m n
+  pub ranked-order : (m n : ℕ) {s t : Tree} → At (ranked g es A i k) m s → At (ranked g es A i k) n t
+      → order (weight g es) s t ≡ compare m n
   ranked-order m n {s} {t} e f = at-order law (ranked g es A i k) m n s t ranked-ascending e f
 
   -- a place holds a tree, and a tree has a place

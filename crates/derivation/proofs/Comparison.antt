@@ -69,7 +69,8 @@ compare-lawful = record {
   chain = λ x y z p q. compare-lt x z (omega (arith, compare-below x y p, compare-below y z q));
 }
 
-pub turn-gt : {A : Type 0} {cmp : A → A → Ordering} (law : Lawful cmp) (x y : A) → cmp x y ≡ Ordering·gt → cmp y x ≡ Ordering·lt
+pub turn-gt : {A : Type 0} {cmp : A → A → Ordering} (law : Lawful cmp) (x y : A) → cmp x y ≡ Ordering·gt
+    → cmp y x ≡ Ordering·lt
 unfolding turned
 turn-gt law x y e = law .turn x y ∙ ap turned e
 
@@ -119,23 +120,28 @@ unfolding _▸_
 
 -- transitivity of one comparison after another: the first tells different things apart, and is transitive here
 module _ {A : Type 0} (cmp : A → A → Ordering) (same : (x y : A) → cmp x y ≡ Ordering·eq → x ≡ y) where
-  pub ▸-chain : (x y z : A) → (cmp x y ≡ Ordering·lt → cmp y z ≡ Ordering·lt → cmp x z ≡ Ordering·lt) → {b b′ b″ : Ordering} → (b ≡ Ordering·lt → b′ ≡ Ordering·lt → b″ ≡ Ordering·lt) → cmp x y ▸ b ≡ Ordering·lt → cmp y z ▸ b′ ≡ Ordering·lt → cmp x z ▸ b″ ≡ Ordering·lt
+  pub ▸-chain : (x y z : A) → (cmp x y ≡ Ordering·lt → cmp y z ≡ Ordering·lt → cmp x z ≡ Ordering·lt) → {b b′ b″ : Ordering}
+      → (b ≡ Ordering·lt → b′ ≡ Ordering·lt → b″ ≡ Ordering·lt) → cmp x y ▸ b ≡ Ordering·lt → cmp y z ▸ b′ ≡ Ordering·lt
+      → cmp x z ▸ b″ ≡ Ordering·lt
   ▸-chain x y z chain {b} {b′} {b″} f p q = go (▸-lt (cmp x y) b p) (▸-lt (cmp y z) b′ q)
     where
-      go : (cmp x y ≡ Ordering·lt) ⊎ ((cmp x y ≡ Ordering·eq) × (b ≡ Ordering·lt)) → (cmp y z ≡ Ordering·lt) ⊎ ((cmp y z ≡ Ordering·eq) × (b′ ≡ Ordering·lt)) → cmp x z ▸ b″ ≡ Ordering·lt
+      go : (cmp x y ≡ Ordering·lt) ⊎ ((cmp x y ≡ Ordering·eq) × (b ≡ Ordering·lt))
+          → (cmp y z ≡ Ordering·lt) ⊎ ((cmp y z ≡ Ordering·eq) × (b′ ≡ Ordering·lt)) → cmp x z ▸ b″ ≡ Ordering·lt
       go (inl h) (inl k) = ▸-first (cmp x z) b″ (chain h k)
       go (inl h) (inr k) = ▸-first (cmp x z) b″ (rw (← same y z (k .0)) h)
       go (inr h) (inl k) = ▸-first (cmp x z) b″ (rw (same x y (h .0)) k)
       go (inr h) (inr k) = ▸-second (cmp x z) b″ (rw (same x y (h .0)) (k .0)) (f (h .1) (k .1))
 
-pub number-chain : (x y z : ℕ) {b b′ b″ : Ordering} → (b ≡ Ordering·lt → b′ ≡ Ordering·lt → b″ ≡ Ordering·lt) → compare x y ▸ b ≡ Ordering·lt → compare y z ▸ b′ ≡ Ordering·lt → compare x z ▸ b″ ≡ Ordering·lt
+pub number-chain : (x y z : ℕ) {b b′ b″ : Ordering} → (b ≡ Ordering·lt → b′ ≡ Ordering·lt → b″ ≡ Ordering·lt)
+    → compare x y ▸ b ≡ Ordering·lt → compare y z ▸ b′ ≡ Ordering·lt → compare x z ▸ b″ ≡ Ordering·lt
 number-chain x y z = ▸-chain compare compare-same x y z (compare-lawful .chain x y z)
 
 pub number-turn : (m n : ℕ) (b : Ordering) {b′ : Ordering} → b′ ≡ turned b → compare n m ▸ b′ ≡ turned (compare m n ▸ b)
 number-turn m n b e = rw (compare-turn m n, e, ▸-turn)
 
 pub weigh : (m n : ℕ) (o : Ordering) → compare m n ▸ o ≡ Ordering·lt → m ≤ n
-weigh m n o h = ⊎-elim (λ e. omega (arith, compare-below m n e)) (λ e. omega (arith, compare-same m n (e .0))) (▸-lt (compare m n) o h)
+weigh m n o h =
+    ⊎-elim (λ e. omega (arith, compare-below m n e)) (λ e. omega (arith, compare-same m n (e .0))) (▸-lt (compare m n) o h)
 
 pub ▸-le : (m n : ℕ) (o : Ordering) → m ≤ n → o ≡ Ordering·lt → compare m n ▸ o ≡ Ordering·lt
 ▸-le m n o h e = go (compare m n) refl

@@ -1,4 +1,5 @@
--- The members of the lists that an enumeration is joined from, and why nothing is in them twice: each holds by recursion on the list.
+-- The members of the lists that an enumeration is joined from, and why nothing is in them twice: each holds by recursion on
+-- the list.
 use mathlib.Core.Path.{_≡_, refl}
 use mathlib.Core.Logic.{⊎-elim}
 use mathlib.Core.Bool.{Bool, true, false}
@@ -11,10 +12,13 @@ use Rattle.derivation.specs.Derivation.{At, Tree, node}
 use Rattle.derivation.specs.List.{_∈_, Distinct, each, below, when, only, joined}
 use Rattle.derivation.proofs.Lists.{none≢some, mem-at, at-mem, distinct-append, distinct-at}
 
-pub each-out : {A B : Type 0} (f : ℕ → A → List B) (l : List A) {b : B} → b ∈ each f l → (n : ℕ) × (x : A) × At l n x × b ∈ f n x
+pub each-out : {A B : Type 0} (f : ℕ → A → List B) (l : List A) {b : B} → b ∈ each f l
+    → (n : ℕ) × (x : A) × At l n x × b ∈ f n x
 unfolding each
 each-out f [] m = absurd (List·Memᴰ·not-nil m)
-each-out f (x ∷ l) m = ⊎-elim (λ h. (0, x, refl, h)) (λ h. let r = each-out (λ n. f (suc n)) l h in (suc (r .0), r .1, r .2, r .3)) (List·Memᴰ·append-cases (f 0 x) m)
+each-out f (x ∷ l) m =
+    ⊎-elim (λ h. (0, x, refl, h)) (λ h. let r = each-out (λ n. f (suc n)) l h in (suc (r .0), r .1, r .2, r .3))
+    (List·Memᴰ·append-cases (f 0 x) m)
 
 pub each-in : {A B : Type 0} (f : ℕ → A → List B) (l : List A) (n : ℕ) {x : A} {b : B} → At l n x → b ∈ f n x → b ∈ each f l
 unfolding each
@@ -28,13 +32,16 @@ unfolding each
 each-distinct f [] h k = tt
 each-distinct f (x ∷ l) h k =
     distinct-append (f 0 x) (each (λ n. f (suc n)) l) (h 0 x refl)
-    (each-distinct (λ n. f (suc n)) l (λ n y e. h (suc n) y e) (λ n m y y′ z e e′ p q. omega (arith, k (suc n) (suc m) y y′ z e e′ p q)))
+    (each-distinct (λ n. f (suc n)) l (λ n y e. h (suc n) y e)
+    (λ n m y y′ z e e′ p q. omega (arith, k (suc n) (suc m) y y′ z e e′ p q)))
     (λ z p q. let (n, y, e, q′) = each-out (λ n. f (suc n)) l q in omega (arith, k 0 (suc n) x y z refl e p q′))
 
 pub below-out : {B : Type 0} (f : ℕ → List B) (n : ℕ) {b : B} → b ∈ below f n → (m : ℕ) × (m < n) × b ∈ f m
 unfolding below
 below-out f zero m = absurd (List·Memᴰ·not-nil m)
-below-out f (suc n) m = ⊎-elim (λ h. (0, suc-le-suc zero-le, h)) (λ h. let r = below-out (λ n. f (suc n)) n h in (suc (r .0), suc-le-suc (r .1), r .2)) (List·Memᴰ·append-cases (f 0) m)
+below-out f (suc n) m =
+    ⊎-elim (λ h. (0, suc-le-suc zero-le, h)) (λ h. let r = below-out (λ n. f (suc n)) n h in
+    (suc (r .0), suc-le-suc (r .1), r .2)) (List·Memᴰ·append-cases (f 0) m)
 
 pub below-in : {B : Type 0} (f : ℕ → List B) (n m : ℕ) {b : B} → m < n → b ∈ f m → b ∈ below f n
 unfolding below
@@ -42,11 +49,13 @@ below-in f zero m h k = absurd (not-suc-le-zero h)
 below-in f (suc n) zero h k = Memᴰ·append-left _ k
 below-in f (suc n) (suc m) h k = Memᴰ·append-right (f 0) (below-in (λ n. f (suc n)) n m (le-of-suc-le-suc h) k)
 
-pub below-distinct : {B : Type 0} (f : ℕ → List B) (n : ℕ) → ((m : ℕ) → Distinct (f m)) → ((m m′ : ℕ) (z : B) → z ∈ f m → z ∈ f m′ → m ≡ m′) → Distinct (below f n)
+pub below-distinct : {B : Type 0} (f : ℕ → List B) (n : ℕ) → ((m : ℕ) → Distinct (f m))
+    → ((m m′ : ℕ) (z : B) → z ∈ f m → z ∈ f m′ → m ≡ m′) → Distinct (below f n)
 unfolding below
 below-distinct f zero h k = tt
 below-distinct f (suc n) h k =
-    distinct-append (f 0) (below (λ m. f (suc m)) n) (h 0) (below-distinct (λ m. f (suc m)) n (λ m. h (suc m)) (λ m m′ z p q. omega (arith, k (suc m) (suc m′) z p q)))
+    distinct-append (f 0) (below (λ m. f (suc m)) n) (h 0)
+    (below-distinct (λ m. f (suc m)) n (λ m. h (suc m)) (λ m m′ z p q. omega (arith, k (suc m) (suc m′) z p q)))
     (λ z p q. let (m, b, q′) = below-out (λ m. f (suc m)) n q in omega (arith, k 0 (suc m) z p q′))
 
 when-out : {B : Type 0} (t : Bool) {l : List B} {b : B} → b ∈ when t l → T t × b ∈ l
@@ -79,7 +88,8 @@ only-distinct m n l d = when-distinct (eqb m n) l d
 pub single : {B : Type 0} (x : B) → Distinct (x ∷ [])
 single x = ((λ m. List·Memᴰ·not-nil m), tt)
 
-pub joined-out : (r j : ℕ) (ls rs : List Tree) {t : Tree} → t ∈ joined r j ls rs → (a : Tree) × (b : Tree) × a ∈ ls × b ∈ rs × (t ≡ node r j a b)
+pub joined-out : (r j : ℕ) (ls rs : List Tree) {t : Tree} → t ∈ joined r j ls rs
+    → (a : Tree) × (b : Tree) × a ∈ ls × b ∈ rs × (t ≡ node r j a b)
 unfolding joined
 joined-out r j ls rs m =
     let (p, a, e, m₁) = each-out _ ls m in
@@ -88,7 +98,8 @@ joined-out r j ls rs m =
 
 pub joined-in : (r j : ℕ) (ls rs : List Tree) {a b : Tree} → a ∈ ls → b ∈ rs → node r j a b ∈ joined r j ls rs
 unfolding joined
-joined-in r j ls rs m n = let (p, e) = mem-at m in let (q, e′) = mem-at n in each-in _ ls p e (each-in _ rs q e′ (List·Memᴰ·head refl))
+joined-in r j ls rs m n =
+    let (p, e) = mem-at m in let (q, e′) = mem-at n in each-in _ ls p e (each-in _ rs q e′ (List·Memᴰ·head refl))
 
 pub joined-distinct : (r j : ℕ) (ls rs : List Tree) → Distinct ls → Distinct rs → Distinct (joined r j ls rs)
 unfolding joined

@@ -39,7 +39,8 @@ pub at-take : {A : Type 0} (N : ℕ) (l : List A) (n : ℕ) (x : A) → At (take
 at-take zero l n x = ((λ e. absurd (none≢some e)), (λ p. absurd (omega arith)))
 at-take (suc N) [] n x = ((λ e. absurd (none≢some e)), (λ p. p .0))
 at-take (suc N) (y ∷ l) zero x = ((λ e. (e, omega arith)), (λ p. p .0))
-at-take (suc N) (y ∷ l) (suc n) x = let r = at-take N l n x in ((λ e. (r .0 e .0, omega (arith, r .0 e .1))), (λ p. r .1 (p .0, omega arith)))
+at-take (suc N) (y ∷ l) (suc n) x =
+    let r = at-take N l n x in ((λ e. (r .0 e .0, omega (arith, r .0 e .1))), (λ p. r .1 (p .0, omega arith)))
 
 pub mem-of-take : {A : Type 0} {z : A} (n : ℕ) (l : List A) → z ∈ take n l → z ∈ l
 mem-of-take zero l m = absurd (List·Memᴰ·not-nil m)
@@ -57,9 +58,13 @@ map-at f (y ∷ l) zero {b} e = let h : b ≡ f y = cc in (y, refl, h)
 map-at f (y ∷ l) (suc n) e = map-at f l n e
 
 -- lists without repetitions
-pub distinct-append : {A : Type 0} (l m : List A) → Distinct l → Distinct m → ((z : A) → z ∈ l → z ∈ m → ⊥) → Distinct (l ++ m)
+pub distinct-append : {A : Type 0} (l m : List A) → Distinct l → Distinct m → ((z : A) → z ∈ l → z ∈ m → ⊥)
+    → Distinct (l ++ m)
 distinct-append [] m a b h = b
-distinct-append (x ∷ l) m (n, a) b h = ((λ k. ⊎-elim n (h x (List·Memᴰ·head refl)) (List·Memᴰ·append-cases l k)), distinct-append l m a b (λ z p q. h z (List·Memᴰ·tail p) q))
+distinct-append (x ∷ l) m (n, a) b h = (
+  (λ k. ⊎-elim n (h x (List·Memᴰ·head refl)) (List·Memᴰ·append-cases l k)),
+  distinct-append l m a b (λ z p q. h z (List·Memᴰ·tail p) q),
+)
 
 pub distinct-at : {A : Type 0} (l : List A) (x : A) (n m : ℕ) → Distinct l → At l n x → At l m x → n ≡ m
 distinct-at [] x n m d e f = absurd (none≢some e)

@@ -1,4 +1,5 @@
--- The order of trees is a strict total order, and what comes before weighs no more: by recursion on the trees, each comparison in turn.
+-- The order of trees is a strict total order, and what comes before weighs no more: by recursion on the trees, each
+-- comparison in turn.
 use mathlib.Core.Path.{_≡_, refl, sym}
 use Prim.Native.Nat.{ℕ, _≤_, Ordering·lt, Ordering·eq}
 use Rattle.derivation.specs.Derivation.{Tree, leaf, node}
@@ -16,7 +17,8 @@ module _ (price : Tree → ℕ) where
   order-turn (leaf r e) (leaf s f) = number-turn _ _ _ (number-turn r s _ (compare-turn e f))
   order-turn (leaf r e) (node s k c d) = number-turn _ _ _ (number-turn r s _ refl)
   order-turn (node r j a b) (leaf s f) = number-turn _ _ _ (number-turn r s _ refl)
-  order-turn (node r j a b) (node s k c d) = number-turn _ _ _ (number-turn r s _ (number-turn j k _ (rw (order-turn a c, order-turn b d, ▸-turn))))
+  order-turn (node r j a b) (node s k c d) =
+      number-turn _ _ _ (number-turn r s _ (number-turn j k _ (rw (order-turn a c, order-turn b d, ▸-turn))))
 
   order-same : (s t : Tree) → order price s t ≡ Ordering·eq → s ≡ t
   unfolding order
@@ -38,9 +40,13 @@ module _ (price : Tree → ℕ) where
   order-chain (leaf r e) (node s k c d) (leaf t h) = number-chain _ _ _ (number-chain r s t (λ p q. absurd (lt≢gt (sym q))))
   order-chain (leaf r e) (node s k c d) (node t l i j) = number-chain _ _ _ (number-chain r s t (λ p q. refl))
   order-chain (node r m a b) (leaf s f) (leaf t h) = number-chain _ _ _ (number-chain r s t (λ p q. absurd (lt≢gt (sym p))))
-  order-chain (node r m a b) (leaf s f) (node t l i j) = number-chain _ _ _ (number-chain r s t (λ p q. absurd (lt≢gt (sym p))))
-  order-chain (node r m a b) (node s k c d) (leaf t h) = number-chain _ _ _ (number-chain r s t (λ p q. absurd (lt≢gt (sym q))))
-  order-chain (node r m a b) (node s k c d) (node t l i j) = number-chain _ _ _ (number-chain r s t (number-chain m k l (▸-chain (order price) order-same a c i (order-chain a c i) (order-chain b d j))))
+  order-chain (node r m a b) (leaf s f) (node t l i j) =
+      number-chain _ _ _ (number-chain r s t (λ p q. absurd (lt≢gt (sym p))))
+  order-chain (node r m a b) (node s k c d) (leaf t h) =
+      number-chain _ _ _ (number-chain r s t (λ p q. absurd (lt≢gt (sym q))))
+  order-chain (node r m a b) (node s k c d) (node t l i j) =
+      number-chain _ _ _ (number-chain r s t (number-chain m k l
+      (▸-chain (order price) order-same a c i (order-chain a c i) (order-chain b d j))))
 
   pub order-lawful : Lawful (order price)
   order-lawful = record { self = order-self; same = order-same; turn = order-turn; chain = order-chain }

@@ -41,8 +41,10 @@ Ascending u = All (AscendingFrom 0) u
 rules-light : (S W : ℕ) (rs : List R.Rule) → Fits (rulesEntries S W rs) → All Light rs
 unfolding rulesEntries ruleWeight
 rules-light S W [] h = tt
-rules-light S W (Pair a b c w ∷ rs) h = (h .1 .1 .0 .1, rules-light S W rs (each-right InRange (ruleEntries S W (Pair a b c w)) (rulesEntries S W rs) h))
-rules-light S W (Word a x w ∷ rs) h = (h .1 .1 .0 .1, rules-light S W rs (each-right InRange (ruleEntries S W (Word a x w)) (rulesEntries S W rs) h))
+rules-light S W (Pair a b c w ∷ rs) h =
+    (h .1 .1 .0 .1, rules-light S W rs (each-right InRange (ruleEntries S W (Pair a b c w)) (rulesEntries S W rs) h))
+rules-light S W (Word a x w ∷ rs) h =
+    (h .1 .1 .0 .1, rules-light S W rs (each-right InRange (ruleEntries S W (Word a x w)) (rulesEntries S W rs) h))
 
 candidates-cheap : (W least : ℕ) (slot : List Candidate) → Fits (candidatesEntries W least slot) → All Cheap slot
 unfolding candidatesEntries
@@ -55,10 +57,14 @@ candidates-ascend W least [] h = tt
 candidates-ascend W least (candidate x c ∷ slot) h = (h .0 .0, candidates-ascend W (suc (x .0)) slot (h .1 .1))
 
 -- each slot's candidates fit, so what follows from that holds of each slot
-slots-all : (P : List Candidate → Type 0) (W : ℕ) → ((slot : List Candidate) → Fits (candidatesEntries W 0 slot) → P slot) → (u : Utterance) → Fits (slotsEntries W u) → All P u
+slots-all : (P : List Candidate → Type 0) (W : ℕ) → ((slot : List Candidate) → Fits (candidatesEntries W 0 slot) → P slot)
+    → (u : Utterance) → Fits (slotsEntries W u) → All P u
 unfolding slotsEntries
 slots-all P W f [] h = tt
-slots-all P W f (slot ∷ u) (count, h) = (f slot (each-left InRange (candidatesEntries W 0 slot) (slotsEntries W u) h), slots-all P W f u (each-right InRange (candidatesEntries W 0 slot) (slotsEntries W u) h))
+slots-all P W f (slot ∷ u) (count, h) = (
+  f slot (each-left InRange (candidatesEntries W 0 slot) (slotsEntries W u) h),
+  slots-all P W f u (each-right InRange (candidatesEntries W 0 slot) (slotsEntries W u) h),
+)
 
 pub valid-light : (g : Grammar) → ValidGrammar g → All Light (g .rules)
 unfolding grammarEntries

@@ -30,7 +30,8 @@ module _ (g : Grammar) (es : List Edge) (A : Sym) (i k : ℕ) where
 
   pub number-all : Number (Derives g es A i k) (length (ranked g es A i k))
   unfolding all
-  number-all = record { list = all; once = ascending-distinct law all ascending; those = ranked-derives g es A i k; count = refl }
+  number-all =
+      record { list = all; once = ascending-distinct law all ascending; those = ranked-derives g es A i k; count = refl }
 
   pub number-before : (t : Tree) (x : ℕ) → At (ranked g es A i k) x t → Number (λ s. Derives g es A i k s × Before g es s t) x
   unfolding all
@@ -45,8 +46,10 @@ module _ (g : Grammar) (es : List Edge) (A : Sym) (i k : ℕ) where
   }
 
   -- a tree has one place: the number of trees before it
-  pub place-number : (t : Tree) (x : ℕ) → At (ranked g es A i k) x t ↔ (Derives g es A i k t × Number (λ s. Derives g es A i k s × Before g es s t) x)
+  pub place-number : (t : Tree) (x : ℕ) → At (ranked g es A i k) x t
+      ↔ (Derives g es A i k t × Number (λ s. Derives g es A i k s × Before g es s t) x)
   place-number t x = (
     (λ e. (place-derives g es A i k x e, number-before t x e)),
-    (λ p. let (y, e) = derives-place g es A i k (p .0) in let same : y ≡ x = number-one law (number-before t y e) (p .1) in rw same at e),
+    (λ p. let (y, e) = derives-place g es A i k (p .0) in let same : y ≡ x = number-one law (number-before t y e) (p .1) in
+        rw same at e),
   )

@@ -1,4 +1,5 @@
--- A derivation is decided by its walk, where no two edges from one place carry one word: the next rule number decides between leaf and node, and a leaf's word its edge.
+-- A derivation is decided by its walk, where no two edges from one place carry one word: the next rule number decides between
+-- leaf and node, and a leaf's word its edge.
 -- Over slots it has one node less than twice its slots; so its weight is bounded.
 use mathlib.Core.Path.{_≡_, sym, ap, _∙_}
 use mathlib.Core.List.{List, [], _++_, append-assoc}
@@ -18,21 +19,27 @@ record Same (s t : Tree) (k l : ℕ) (a b : List ℕ) : Type 0 where
   rest : a ≡ b
 
 module _ (g : Grammar) (es : List Edge) (apart : Apart es) where
-  walk-decides : {A : Sym} {i k l : ℕ} {s t : Tree} → Derives g es A i k s → Derives g es A i l t → (a b : List ℕ) → walk s ++ a ≡ walk t ++ b → Same s t k l a b
+  walk-decides : {A : Sym} {i k l : ℕ} {s t : Tree} → Derives g es A i k s → Derives g es A i l t → (a b : List ℕ)
+      → walk s ++ a ≡ walk t ++ b → Same s t k l a b
   unfolding walk
-  walk-decides {A} {i} {k} {l} (by-word {x = x} {r = r} {e = e} {c = c} p q) (by-word {x = x′} {r = r′} {e = e′} {c = c′} p′ q′) a b h =
+  walk-decides {A} {i} {k} {l} (by-word {x = x} {r = r} {e = e} {c = c} p q)
+      (by-word {x = x′} {r = r′} {e = e′} {c = c′} p′ q′) a b h =
       let hr : r ≡ r′ = cc in
       let hx : x′ ≡ x = cc in
       let he : e ≡ e′ = apart e e′ i k l c c′ x q (rw hx at q′) in
       record { tree = rw (hr, he); end = cc; rest = cc }
-  walk-decides (by-word {r = r} p q) (by-pair {r = r′} p′ h₁ h₂ d₁ d₂) a b h = let hr : r ≡ r′ = cc in let z : _≡_ {A = ℕ} 0 1 = cc in absurd (omega arith)
-  walk-decides (by-pair {r = r} p h₁ h₂ d₁ d₂) (by-word {r = r′} p′ q′) a b h = let hr : r ≡ r′ = cc in let z : _≡_ {A = ℕ} 0 1 = cc in absurd (omega arith)
-  walk-decides (by-pair {A} {B} {C} {r} {w} {i} {j} {k} {s} {t} p h₁ h₂ d₁ d₂) (by-pair {B = B′} {C = C′} {r = r′} {j = j′} {s = s′} {t = t′} p′ h₁′ h₂′ d₁′ d₂′) a b h =
+  walk-decides (by-word {r = r} p q) (by-pair {r = r′} p′ h₁ h₂ d₁ d₂) a b h =
+      let hr : r ≡ r′ = cc in let z : _≡_ {A = ℕ} 0 1 = cc in absurd (omega arith)
+  walk-decides (by-pair {r = r} p h₁ h₂ d₁ d₂) (by-word {r = r′} p′ q′) a b h =
+      let hr : r ≡ r′ = cc in let z : _≡_ {A = ℕ} 0 1 = cc in absurd (omega arith)
+  walk-decides (by-pair {A} {B} {C} {r} {w} {i} {j} {k} {s} {t} p h₁ h₂ d₁ d₂)
+      (by-pair {B = B′} {C = C′} {r = r′} {j = j′} {s = s′} {t = t′} p′ h₁′ h₂′ d₁′ d₂′) a b h =
       let hr : r ≡ r′ = cc in
       let hB : B′ ≡ B = cc in
       let hC : C′ ≡ C = cc in
       let hw : (walk s ++ walk t) ++ a ≡ (walk s′ ++ walk t′) ++ b = cc in
-      let one = walk-decides d₁ (rw hB at d₁′) (walk t ++ a) (walk t′ ++ b) (sym (append-assoc (walk s) (walk t) a) ∙ hw ∙ append-assoc (walk s′) (walk t′) b) in
+      let one = walk-decides d₁ (rw hB at d₁′) (walk t ++ a) (walk t′ ++ b)
+      (sym (append-assoc (walk s) (walk t) a) ∙ hw ∙ append-assoc (walk s′) (walk t′) b) in
       let hj : j′ ≡ j = sym (one .end) in
       let two = walk-decides d₂ (rw (hC, hj) at d₂′) a b (one .rest) in
       record { tree = rw (hr, one .end, one .tree, two .tree); end = two .end; rest = two .rest }
@@ -49,7 +56,8 @@ module _ (g : Grammar) (es : List Edge) (short : Short es) where
   pub walk-length : {A : Sym} {i k : ℕ} {t : Tree} → Derives g es A i k t → suc (length (walk t)) ≡ 2 * (k - i)
   unfolding walk
   walk-length (by-word {x = x} {e = e} {c = c} {i = i} {k = k} p q) = omega (arith, short e i k c x q)
-  walk-length (by-pair {i = i} {j = j} {k = k} {s = s} {t = t} p h₁ h₂ d₁ d₂) = omega (arith, walk-length d₁, walk-length d₂, length-append (walk s) (walk t))
+  walk-length (by-pair {i = i} {j = j} {k = k} {s = s} {t = t} p h₁ h₂ d₁ d₂) =
+      omega (arith, walk-length d₁, walk-length d₂, length-append (walk s) (walk t))
 
   -- 65,535 for each node and each slot
   module _ (light : All Light (g .rules)) (cheap : CheapEdges es) where

@@ -1,4 +1,5 @@
--- Trees of a cell compare by five numbers: weight, rule, split, and the places, from 0, of the two parts in their own cells' lists.
+-- Trees of a cell compare by five numbers: weight, rule, split, and the places, from 0, of the two parts in their own cells'
+-- lists.
 -- For where rules and splits agree, the parts are trees of the same two cells, and these compare as their places do.
 use mathlib.Core.Path.{_≡_, sym, _∙_}
 use mathlib.Core.List.{List}
@@ -34,21 +35,31 @@ row-same (row w r j p q) (row w′ r′ j′ p′ q′) h =
     let h₂ = ▸-eq _ _ (h₁ .1) in
     let h₃ = ▸-eq _ _ (h₂ .1) in
     let h₄ = ▸-eq _ _ (h₃ .1) in
-    rw (compare-same w w′ (h₁ .0), compare-same r r′ (h₂ .0), compare-same j j′ (h₃ .0), compare-same p p′ (h₄ .0), compare-same q q′ (h₄ .1))
+    rw (
+      compare-same w w′ (h₁ .0),
+      compare-same r r′ (h₂ .0),
+      compare-same j j′ (h₃ .0),
+      compare-same p p′ (h₄ .0),
+      compare-same q q′ (h₄ .1),
+    )
 
 module _ (g : Grammar) (es : List Edge) where
-  pub leaf-weight : {A : Sym} {x : W.Word} {i k w c : ℕ} (r e : ℕ) → At (g .rules) r (Word A x w) → At es e (edge i k x c) → weight g es (leaf r e) ≡ w + c
+  pub leaf-weight : {A : Sym} {x : W.Word} {i k w c : ℕ} (r e : ℕ) → At (g .rules) r (Word A x w) → At es e (edge i k x c)
+      → weight g es (leaf r e) ≡ w + c
   unfolding weight ruleWeight edgeCost
   leaf-weight r e p q = rw (p, q)
 
-  pub node-weight : {A B C : Sym} {w : ℕ} (r j : ℕ) (s t : Tree) → At (g .rules) r (Pair A B C w) → weight g es (node r j s t) ≡ w + weight g es s + weight g es t
+  pub node-weight : {A B C : Sym} {w : ℕ} (r j : ℕ) (s t : Tree) → At (g .rules) r (Pair A B C w)
+      → weight g es (node r j s t) ≡ w + weight g es s + weight g es t
   unfolding weight ruleWeight
   node-weight r j s t e = rw e
 
   -- RowOf A i k v t: v is the row of the tree t in the cell
   pub data RowOf (A : Sym) (i k : ℕ) : Row → Tree → Type 0 where
-    leaf-row : {x : W.Word} {r e w c : ℕ} → At (g .rules) r (Word A x w) → At es e (edge i k x c) → RowOf A i k (row (w + c) r 0 e 0) (leaf r e)
-    node-row : {B C : Sym} {r w j p q : ℕ} {s t : Tree} → At (g .rules) r (Pair A B C w) → i < j → j < k → At (ranked g es B i j) p s → At (ranked g es C j k) q t
+    leaf-row : {x : W.Word} {r e w c : ℕ} → At (g .rules) r (Word A x w) → At es e (edge i k x c)
+        → RowOf A i k (row (w + c) r 0 e 0) (leaf r e)
+    node-row : {B C : Sym} {r w j p q : ℕ} {s t : Tree} → At (g .rules) r (Pair A B C w) → i < j → j < k
+        → At (ranked g es B i j) p s → At (ranked g es C j k) q t
         → RowOf A i k (row (w + weight g es s + weight g es t) r j p q) (node r j s t)
 
   pub row-weight : {A : Sym} {i k : ℕ} {v : Row} {t : Tree} → RowOf A i k v t → rowWeight v ≡ weight g es t
@@ -57,7 +68,8 @@ module _ (g : Grammar) (es : List Edge) where
 
   pub row-derives : {A : Sym} {i k : ℕ} {v : Row} {t : Tree} → RowOf A i k v t → Derives g es A i k t
   row-derives (leaf-row p q) = by-word p q
-  row-derives {i = i} {k = k} (node-row {B} {C} {j = j} {p = a} {q = b} p h₁ h₂ l m) = by-pair p h₁ h₂ (place-derives g es B i j a l) (place-derives g es C j k b m)
+  row-derives {i = i} {k = k} (node-row {B} {C} {j = j} {p = a} {q = b} p h₁ h₂ l m) =
+      by-pair p h₁ h₂ (place-derives g es B i j a l) (place-derives g es C j k b m)
 
   pub derives-row : {A : Sym} {i k : ℕ} {t : Tree} → Derives g es A i k t → (v : Row) × RowOf A i k v t
   derives-row (by-word {r = r} {e = e} {w = w} {c = c} p q) = (row (w + c) r 0 e 0, leaf-row p q)
@@ -66,8 +78,10 @@ module _ (g : Grammar) (es : List Edge) where
       let (b, m) = derives-place g es C j k d₂ in
       (row (w + weight g es s + weight g es t) r j a b, node-row p h₁ h₂ l m)
 
-  parts-order : (i k p p′ q q′ : ℕ) {A B B′ C C′ : Sym} {r r′ w w′ j j′ : ℕ} {s s′ t t′ : Tree} → At (g .rules) r (Pair A B C w) → At (g .rules) r′ (Pair A B′ C′ w′) → r′ ≡ r → j′ ≡ j
-      → At (ranked g es B i j) p s → At (ranked g es C j k) q t → At (ranked g es B′ i j′) p′ s′ → At (ranked g es C′ j′ k) q′ t′
+  parts-order : (i k p p′ q q′ : ℕ) {A B B′ C C′ : Sym} {r r′ w w′ j j′ : ℕ} {s s′ t t′ : Tree}
+      → At (g .rules) r (Pair A B C w) → At (g .rules) r′ (Pair A B′ C′ w′) → r′ ≡ r → j′ ≡ j
+      → At (ranked g es B i j) p s → At (ranked g es C j k) q t → At (ranked g es B′ i j′) p′ s′
+      → At (ranked g es C′ j′ k) q′ t′
       → order (weight g es) s s′ ▸ order (weight g es) t t′ ≡ compare p p′ ▸ compare q q′
   parts-order i k p p′ q q′ {A} {B} {B′} {C} {C′} {r} {r′} {w} {w′} {j} {j′} e e′ er ej l m l′ m′ =
       let eB : B′ ≡ B = cc in
@@ -75,16 +89,22 @@ module _ (g : Grammar) (es : List Edge) where
       rw (ranked-order g es B i j p p′ l (rw (eB, ej) at l′), ranked-order g es C j k q q′ m (rw (eC, ej) at m′))
 
   -- the central lemma
-  pub row-order : {A : Sym} {i k : ℕ} {v v′ : Row} {t t′ : Tree} → RowOf A i k v t → RowOf A i k v′ t′ → order (weight g es) t t′ ≡ rowOrder v v′
+  pub row-order : {A : Sym} {i k : ℕ} {v v′ : Row} {t t′ : Tree} → RowOf A i k v t → RowOf A i k v′ t′
+      → order (weight g es) t t′ ≡ rowOrder v v′
   unfolding order rowOrder
-  row-order (leaf-row {r = r} {e = e} p q) (leaf-row {r = r′} {e = e′} p′ q′) = rw (leaf-weight r e p q, leaf-weight r′ e′ p′ q′) (▸-cong _ (λ _. ▸-cong _ (λ _. ▸-between (compare e e′))))
+  row-order (leaf-row {r = r} {e = e} p q) (leaf-row {r = r′} {e = e′} p′ q′) =
+      rw (leaf-weight r e p q, leaf-weight r′ e′ p′ q′) (▸-cong _ (λ _. ▸-cong _ (λ _. ▸-between (compare e e′))))
   row-order (leaf-row {r = r} {e = e} p q) (node-row {r = r′} {j = j} {s = s} {t = t} p′ h₁ h₂ l m) =
-      rw (leaf-weight r e p q, node-weight r′ j s t p′) (▸-cong _ (λ _. ▸-cong _ (λ _. sym (▸-first (compare 0 j) _ (compare-lt 0 j (omega arith))))))
+      rw (leaf-weight r e p q, node-weight r′ j s t p′)
+      (▸-cong _ (λ _. ▸-cong _ (λ _. sym (▸-first (compare 0 j) _ (compare-lt 0 j (omega arith))))))
   row-order (node-row {r = r} {j = j} {s = s} {t = t} p h₁ h₂ l m) (leaf-row {r = r′} {e = e} p′ q′) =
-      rw (leaf-weight r′ e p′ q′, node-weight r j s t p) (▸-cong _ (λ _. ▸-cong _ (λ _. sym (▸-gt (compare j 0) _ (compare-gt j 0 (omega arith))))))
-  row-order {i = i} {k = k} (node-row {r = r} {j = j} {p = p} {q = q} {s} {t} e h₁ h₂ l m) (node-row {r = r′} {j = j′} {p = p′} {q = q′} {s = s′} {t = t′} e′ h₁′ h₂′ l′ m′) =
+      rw (leaf-weight r′ e p′ q′, node-weight r j s t p)
+      (▸-cong _ (λ _. ▸-cong _ (λ _. sym (▸-gt (compare j 0) _ (compare-gt j 0 (omega arith))))))
+  row-order {i = i} {k = k} (node-row {r = r} {j = j} {p = p} {q = q} {s} {t} e h₁ h₂ l m)
+      (node-row {r = r′} {j = j′} {p = p′} {q = q′} {s = s′} {t = t′} e′ h₁′ h₂′ l′ m′) =
       rw (node-weight r j s t e, node-weight r′ j′ s′ t′ e′)
-      (▸-cong _ (λ _. ▸-cong _ (λ er. ▸-cong _ (λ ej. parts-order i k p p′ q q′ e e′ (sym (compare-same r r′ er)) (sym (compare-same j j′ ej)) l m l′ m′))))
+      (▸-cong _ (λ _. ▸-cong _ (λ er. ▸-cong _ (λ ej.
+      parts-order i k p p′ q q′ e e′ (sym (compare-same r r′ er)) (sym (compare-same j j′ ej)) l m l′ m′))))
 
   -- place x of the cell's list has the row v
   abbrev pub RowAt : Sym → ℕ → ℕ → ℕ → Row → Type 0

@@ -1,4 +1,5 @@
--- The edges of an utterance: each is a candidate of the slot that it leaves from, and where words ascend in each slot no two edges from one place carry one word.
+-- The edges of an utterance: each is a candidate of the slot that it leaves from, and where words ascend in each slot no two
+-- edges from one place carry one word.
 use mathlib.Core.Path.{_≡_, refl, ap, subst}
 use mathlib.Core.Logic.{⊎-elim}
 use mathlib.Core.List.{List, [], _∷_, _++_, List·Memᴰ·head, List·Memᴰ·tail, List·Memᴰ·append-cases, List·Memᴰ·cases-cons, List·Memᴰ·not-nil, Memᴰ·append-left, Memᴰ·append-right}
@@ -12,18 +13,24 @@ use Rattle.derivation.proofs.Lists.{none≢some, at-mem, mem-at}
 use Rattle.derivation.proofs.Ranges.{All, all-at, Cheap, AscendingFrom, Ascending}
 
 -- an edge of a slot is a candidate of it
-slot-out : (i : ℕ) (slot : List Candidate) {from upto c : ℕ} {x : W.Word} → edge from upto x c ∈ slotEdges i slot → (from ≡ i) × (upto ≡ suc i) × (candidate x c ∈ slot)
+slot-out : (i : ℕ) (slot : List Candidate) {from upto c : ℕ} {x : W.Word} → edge from upto x c ∈ slotEdges i slot
+    → (from ≡ i) × (upto ≡ suc i) × (candidate x c ∈ slot)
 unfolding slotEdges
 slot-out i [] m = absurd (List·Memᴰ·not-nil m)
 slot-out i (candidate y d ∷ slot) {from} {upto} {c} {x} m =
-    ⊎-elim (λ e. let h₁ : from ≡ i = cc in let h₂ : upto ≡ suc i = cc in let h₃ : candidate x c ≡ candidate y d = cc in (h₁, h₂, List·Memᴰ·head h₃))
-    (λ n. let r = slot-out i slot n in (r .0, r .1, List·Memᴰ·tail (r .2))) (List·Memᴰ·cases-cons m)
+    ⊎-elim here (λ n. let r = slot-out i slot n in (r .0, r .1, List·Memᴰ·tail (r .2))) (List·Memᴰ·cases-cons m)
+  where
+    here : edge from upto x c ≡ edge i (suc i) y d → (from ≡ i) × (upto ≡ suc i) × (candidate x c ∈ (candidate y d ∷ slot))
+    here e =
+        let p : candidate x c ≡ candidate y d = cc in
+        (cc, cc, List·Memᴰ·head p)
 
 slot-in : (i : ℕ) (slot : List Candidate) {c : ℕ} {x : W.Word} → candidate x c ∈ slot → edge i (suc i) x c ∈ slotEdges i slot
 unfolding slotEdges
 slot-in i [] m = absurd (List·Memᴰ·not-nil m)
 slot-in i (candidate y d ∷ slot) {c} {x} m =
-    ⊎-elim (λ e. let h : edge i (suc i) x c ≡ edge i (suc i) y d = cc in List·Memᴰ·head h) (λ n. List·Memᴰ·tail (slot-in i slot n)) (List·Memᴰ·cases-cons m)
+    ⊎-elim (λ e. let h : edge i (suc i) x c ≡ edge i (suc i) y d = cc in List·Memᴰ·head h)
+    (λ n. List·Memᴰ·tail (slot-in i slot n)) (List·Memᴰ·cases-cons m)
 
 -- an edge of slots that are numbered from i on is a candidate of one of them
 pub record Offered (i : ℕ) (u : Utterance) (from upto : ℕ) (x : W.Word) (c : ℕ) : Type 0 where
@@ -34,15 +41,25 @@ pub record Offered (i : ℕ) (u : Utterance) (from upto : ℕ) (x : W.Word) (c :
   pub there : At u number slot
   pub offers : candidate x c ∈ slot
 
-pub edges-out : (i : ℕ) (u : Utterance) {from upto c : ℕ} {x : W.Word} → edge from upto x c ∈ edgesFrom i u → Offered i u from upto x c
+pub edges-out : (i : ℕ) (u : Utterance) {from upto c : ℕ} {x : W.Word} → edge from upto x c ∈ edgesFrom i u
+    → Offered i u from upto x c
 unfolding edgesFrom
 edges-out i [] m = absurd (List·Memᴰ·not-nil m)
 edges-out i (slot ∷ u) {from} {upto} {c} {x} m =
-    ⊎-elim (λ n. let (p, q, o) = slot-out i slot n in record { number = 0; slot = slot; start = omega arith; end = omega arith; there = refl; offers = o })
-    (λ n. let o = edges-out (suc i) u n in record { number = suc (o .number); slot = o .slot; start = omega (arith, o .start); end = o .end; there = o .there; offers = o .offers })
-    (List·Memᴰ·append-cases (slotEdges i slot) m)
+    ⊎-elim here (λ n. later (edges-out (suc i) u n)) (List·Memᴰ·append-cases (slotEdges i slot) m)
+  where
+    here : edge from upto x c ∈ slotEdges i slot → Offered i (slot ∷ u) from upto x c
+    here n =
+        let (p, q, o) = slot-out i slot n in
+        record { number = 0; slot = slot; start = omega arith; end = omega arith; there = refl; offers = o }
 
-pub edges-in : (i : ℕ) (u : Utterance) (n : ℕ) {slot : List Candidate} {c : ℕ} {x : W.Word} → At u n slot → candidate x c ∈ slot → edge (i + n) (suc (i + n)) x c ∈ edgesFrom i u
+    later : Offered (suc i) u from upto x c → Offered i (slot ∷ u) from upto x c
+    later o =
+        let s : from ≡ i + suc (o .number) = omega (arith, o .start) in
+        record { number = suc (o .number); slot = o .slot; start = s; end = o .end; there = o .there; offers = o .offers }
+
+pub edges-in : (i : ℕ) (u : Utterance) (n : ℕ) {slot : List Candidate} {c : ℕ} {x : W.Word} → At u n slot
+    → candidate x c ∈ slot → edge (i + n) (suc (i + n)) x c ∈ edgesFrom i u
 unfolding edgesFrom
 edges-in i [] n e m = absurd (none≢some e)
 edges-in i (first ∷ u) zero {slot} {c} {x} e m =
@@ -54,7 +71,8 @@ edges-in i (first ∷ u) (suc n) e m =
     rw q (Memᴰ·append-right (slotEdges i first) (edges-in (suc i) u n e m))
 
 -- an edge of an utterance is a candidate of the slot that it leaves from
-pub edge-slot : (u : Utterance) (e : ℕ) {i k c : ℕ} {x : W.Word} → At (edges u) e (edge i k x c) → (slot : List Candidate) × At u i slot × (candidate x c ∈ slot) × (k ≡ suc i)
+pub edge-slot : (u : Utterance) (e : ℕ) {i k c : ℕ} {x : W.Word} → At (edges u) e (edge i k x c)
+    → (slot : List Candidate) × At u i slot × (candidate x c ∈ slot) × (k ≡ suc i)
 edge-slot u e {i} p =
     let o = edges-out 0 u (at-mem (edges u) e p) in
     let z : o .number ≡ i = omega (arith, o .start) in
@@ -71,28 +89,37 @@ Short es = (e i k c : ℕ) (x : W.Word) → At es e (edge i k x c) → k ≡ suc
 pub edges-short : (u : Utterance) → Short (edges u)
 edges-short u e i k c x p = edge-slot u e p .3
 
-apart-cons : (a b d : ℕ) (y : W.Word) (es : List Edge) → Apart es → ((k c : ℕ) → edge a k y c ∈ es → ⊥) → Apart (edge a b y d ∷ es)
+apart-cons : (a b d : ℕ) (y : W.Word) (es : List Edge) → Apart es → ((k c : ℕ) → edge a k y c ∈ es → ⊥)
+    → Apart (edge a b y d ∷ es)
 apart-cons a b d y es h n zero zero i k l c c′ x p q = refl
-apart-cons a b d y es h n zero (suc f) i k l c c′ x p q = let hi : i ≡ a = cc in let hx : x ≡ y = cc in absurd (n l c′ (rw (hi, hx) at (at-mem es f q)))
-apart-cons a b d y es h n (suc e) zero i k l c c′ x p q = let hi : i ≡ a = cc in let hx : x ≡ y = cc in absurd (n k c (rw (hi, hx) at (at-mem es e p)))
+apart-cons a b d y es h n zero (suc f) i k l c c′ x p q =
+    let hi : i ≡ a = cc in let hx : x ≡ y = cc in absurd (n l c′ (rw (hi, hx) at (at-mem es f q)))
+apart-cons a b d y es h n (suc e) zero i k l c c′ x p q =
+    let hi : i ≡ a = cc in let hx : x ≡ y = cc in absurd (n k c (rw (hi, hx) at (at-mem es e p)))
 apart-cons a b d y es h n (suc e) (suc f) i k l c c′ x p q = ap suc (h e f i k l c c′ x p q)
 
-pub ascending-least : (b : ℕ) (slot : List Candidate) {c : ℕ} {x : W.Word} → AscendingFrom b slot → candidate x c ∈ slot → b ≤ x .0
+pub ascending-least : (b : ℕ) (slot : List Candidate) {c : ℕ} {x : W.Word} → AscendingFrom b slot → candidate x c ∈ slot
+    → b ≤ x .0
 ascending-least b [] a m = absurd (List·Memᴰ·not-nil m)
 ascending-least b (candidate y d ∷ slot) {c} {x} (h, a) m =
-    ⊎-elim (λ e. let p : x ≡ y = cc in rw p h) (λ n. omega (arith, ascending-least (suc (y .0)) slot a n)) (List·Memᴰ·cases-cons m)
+    ⊎-elim (λ e. let p : x ≡ y = cc in rw p h) (λ n. omega (arith, ascending-least (suc (y .0)) slot a n))
+    (List·Memᴰ·cases-cons m)
 
-slot-apart : (i b : ℕ) (slot : List Candidate) (rest : List Edge) → AscendingFrom b slot → ((f k c : ℕ) (x : W.Word) → edge f k x c ∈ rest → i < f) → Apart rest → Apart (slotEdges i slot ++ rest)
+slot-apart : (i b : ℕ) (slot : List Candidate) (rest : List Edge) → AscendingFrom b slot
+    → ((f k c : ℕ) (x : W.Word) → edge f k x c ∈ rest → i < f) → Apart rest → Apart (slotEdges i slot ++ rest)
 unfolding slotEdges
 slot-apart i b [] rest a later h = h
 slot-apart i b (candidate y d ∷ slot) rest (_, a) later h =
     apart-cons i (suc i) d y (slotEdges i slot ++ rest) (slot-apart i (suc (y .0)) slot rest a later h)
-    (λ k c m. ⊎-elim (λ n. omega (arith, ascending-least (suc (y .0)) slot a (slot-out i slot n .2))) (λ n. omega (arith, later i k c y n)) (List·Memᴰ·append-cases (slotEdges i slot) m))
+    (λ k c m. ⊎-elim (λ n. omega (arith, ascending-least (suc (y .0)) slot a (slot-out i slot n .2)))
+    (λ n. omega (arith, later i k c y n)) (List·Memᴰ·append-cases (slotEdges i slot) m))
 
 pub edges-apart : (i : ℕ) (u : Utterance) → Ascending u → Apart (edgesFrom i u)
 unfolding edgesFrom
 edges-apart i [] a = λ e f j k l c d x p q. absurd (none≢some p)
-edges-apart i (slot ∷ u) (a, more) = slot-apart i 0 slot (edgesFrom (suc i) u) a (λ f k c x m. let o = edges-out (suc i) u m in omega (arith, o .start)) (edges-apart (suc i) u more)
+edges-apart i (slot ∷ u) (a, more) =
+    slot-apart i 0 slot (edgesFrom (suc i) u) a (λ f k c x m. let o = edges-out (suc i) u m in omega (arith, o .start))
+    (edges-apart (suc i) u more)
 
 abbrev pub CheapEdges : List Edge → Type 0
 CheapEdges es = (e i k c : ℕ) (x : W.Word) → At es e (edge i k x c) → c ≤ 65535

@@ -1,4 +1,5 @@
--- Lists that ascend under a lawful comparison: `sort` makes one of the same members, its members decide it, and its elements compare as their numbers do.
+-- Lists that ascend under a lawful comparison: `sort` makes one of the same members, its members decide it, and its elements
+-- compare as their numbers do.
 -- So two lists without repetitions and of the same members have one length: sorted, they are one list.
 use mathlib.Core.Path.{_≡_, refl, sym, ap, _∙_}
 use mathlib.Core.Logic.{_⊎_, inl, inr, ⊎-elim, _↔_}
@@ -36,12 +37,15 @@ module _ {A : Type 0} {cmp : A → A → Ordering} (law : Lawful cmp) where
   place-mem x [] z = (List·Memᴰ·cases-cons, λ m. elim m [ inl e ↦ List·Memᴰ·head e | inr n ↦ absurd (List·Memᴰ·not-nil n) ])
   place-mem x (y ∷ l) z = go (place-mem x l z) (cmp x y) refl
     where
-      go : z ∈ place cmp x l ↔ ((z ≡ x) ⊎ (z ∈ l)) → (o : Ordering) → cmp x y ≡ o → z ∈ put o x y l (place cmp x l) ↔ ((z ≡ x) ⊎ (z ∈ (y ∷ l)))
+      go : z ∈ place cmp x l ↔ ((z ≡ x) ⊎ (z ∈ l)) → (o : Ordering) → cmp x y ≡ o → z ∈ put o x y l (place cmp x l)
+          ↔ ((z ≡ x) ⊎ (z ∈ (y ∷ l)))
       go r Ordering·lt e = (List·Memᴰ·cases-cons, ⊎-elim List·Memᴰ·head List·Memᴰ·tail)
       go r Ordering·eq e = (inr, ⊎-elim (λ p. List·Memᴰ·head (p ∙ law .same x y e)) (λ m. m))
       go r Ordering·gt e = (
-        (λ m. ⊎-elim (λ p. inr (List·Memᴰ·head p)) (λ n. ⊎-elim inl (λ k. inr (List·Memᴰ·tail k)) (r .0 n)) (List·Memᴰ·cases-cons m)),
-        ⊎-elim (λ p. List·Memᴰ·tail (r .1 (inl p))) (λ m. ⊎-elim List·Memᴰ·head (λ n. List·Memᴰ·tail (r .1 (inr n))) (List·Memᴰ·cases-cons m)),
+        (λ m. ⊎-elim (λ p. inr (List·Memᴰ·head p)) (λ n. ⊎-elim inl (λ k. inr (List·Memᴰ·tail k)) (r .0 n))
+            (List·Memᴰ·cases-cons m)),
+        ⊎-elim (λ p. List·Memᴰ·tail (r .1 (inl p))) (λ m. ⊎-elim List·Memᴰ·head (λ n. List·Memᴰ·tail (r .1 (inr n)))
+            (List·Memᴰ·cases-cons m)),
       )
 
   pub sort-mem : (l : List A) (z : A) → z ∈ sort cmp l ↔ z ∈ l
@@ -77,7 +81,8 @@ module _ {A : Type 0} {cmp : A → A → Ordering} (law : Lawful cmp) where
   at-order [] i j x y a e f = absurd (none≢some e)
   at-order (z ∷ l) zero zero x y a e f = let p : x ≡ y = cc in rw (p, compare·zero-zero) (law .self y)
   at-order (z ∷ l) zero (suc j) x y a e f = let p : x ≡ z = cc in rw (p, compare·zero-suc) (a .0 y (at-mem l j f))
-  at-order (z ∷ l) (suc i) zero x y a e f = let p : y ≡ z = cc in rw (p, compare·suc-zero) (turn-lt z x (a .0 x (at-mem l i e)))
+  at-order (z ∷ l) (suc i) zero x y a e f =
+      let p : y ≡ z = cc in rw (p, compare·suc-zero) (turn-lt z x (a .0 x (at-mem l i e)))
   at-order (z ∷ l) (suc i) (suc j) x y a e f = at-order l i j x y (a .1) e f ∙ sym (compare·suc-suc i j)
 
   -- the first k elements are those that come before element k
@@ -86,28 +91,35 @@ module _ {A : Type 0} {cmp : A → A → Ordering} (law : Lawful cmp) where
   take-ascending (suc n) [] a = tt
   take-ascending (suc n) (x ∷ l) a = ((λ y m. a .0 y (mem-of-take n l m)), take-ascending n l (a .1))
 
-  pub take-before : (l : List A) (k : ℕ) (y : A) → Ascending cmp l → At l k y → (z : A) → z ∈ take k l ↔ (z ∈ l × (cmp z y ≡ Ordering·lt))
+  pub take-before : (l : List A) (k : ℕ) (y : A) → Ascending cmp l → At l k y → (z : A) → z ∈ take k l
+      ↔ (z ∈ l × (cmp z y ≡ Ordering·lt))
   take-before [] k y a e z = absurd (none≢some e)
   take-before (x ∷ l) zero y a e z =
       let p : x ≡ y = cc in (
         (λ m. absurd (List·Memᴰ·not-nil m)),
-        (λ m. absurd (⊎-elim (λ q. apart z y (m .1) (sym (q ∙ p))) (λ n. not-both x z (a .0 z n) (rw p (m .1))) (List·Memᴰ·cases-cons (m .0)))),
+        (λ m. absurd (⊎-elim (λ q. apart z y (m .1) (sym (q ∙ p))) (λ n. not-both x z (a .0 z n) (rw p (m .1)))
+            (List·Memᴰ·cases-cons (m .0)))),
       )
   take-before (x ∷ l) (suc k) y a e z =
       let r = take-before l k y (a .1) e z in (
-        (λ m. ⊎-elim (λ p. (List·Memᴰ·head p, rw p (a .0 y (at-mem l k e)))) (λ n. (List·Memᴰ·tail (r .0 n .0), r .0 n .1)) (List·Memᴰ·cases-cons m)),
+        (λ m. ⊎-elim (λ p. (List·Memᴰ·head p, rw p (a .0 y (at-mem l k e)))) (λ n. (List·Memᴰ·tail (r .0 n .0), r .0 n .1))
+            (List·Memᴰ·cases-cons m)),
         (λ m. ⊎-elim List·Memᴰ·head (λ n. List·Memᴰ·tail (r .1 (n, m .1))) (List·Memᴰ·cases-cons (m .0))),
       )
 
   -- the members decide an ascending list
-  members-decide : (l m : List A) → Ascending cmp l → Ascending cmp m → ((z : A) → z ∈ l → z ∈ m) → ((z : A) → z ∈ m → z ∈ l) → l ≡ m
+  members-decide : (l m : List A) → Ascending cmp l → Ascending cmp m → ((z : A) → z ∈ l → z ∈ m) → ((z : A) → z ∈ m → z ∈ l)
+      → l ≡ m
   members-decide [] [] a b f g = refl
   members-decide [] (y ∷ m) a b f g = absurd (List·Memᴰ·not-nil (g y (List·Memᴰ·head refl)))
   members-decide (x ∷ l) [] a b f g = absurd (List·Memᴰ·not-nil (f x (List·Memᴰ·head refl)))
   members-decide (x ∷ l) (y ∷ m) a b f g =
-      let e : x ≡ y = ⊎-elim (λ p. p) (λ n. ⊎-elim (λ q. sym q) (λ k. absurd (not-both x y (a .0 y k) (b .0 x n))) (List·Memᴰ·cases-cons (g y (List·Memᴰ·head refl)))) (List·Memᴰ·cases-cons (f x (List·Memᴰ·head refl))) in
-      let down : (z : A) → z ∈ l → z ∈ m = λ z n. ⊎-elim (λ q. absurd (apart x z (a .0 z n) (q ∙ sym e))) (λ k. k) (List·Memᴰ·cases-cons (f z (List·Memᴰ·tail n))) in
-      let up : (z : A) → z ∈ m → z ∈ l = λ z n. ⊎-elim (λ q. absurd (apart y z (b .0 z n) (q ∙ e))) (λ k. k) (List·Memᴰ·cases-cons (g z (List·Memᴰ·tail n))) in
+      let e : x ≡ y = ⊎-elim (λ p. p) (λ n. ⊎-elim (λ q. sym q) (λ k. absurd (not-both x y (a .0 y k) (b .0 x n)))
+      (List·Memᴰ·cases-cons (g y (List·Memᴰ·head refl)))) (List·Memᴰ·cases-cons (f x (List·Memᴰ·head refl))) in
+      let down : (z : A) → z ∈ l → z ∈ m = λ z n. ⊎-elim (λ q. absurd (apart x z (a .0 z n) (q ∙ sym e))) (λ k. k)
+      (List·Memᴰ·cases-cons (f z (List·Memᴰ·tail n))) in
+      let up : (z : A) → z ∈ m → z ∈ l = λ z n. ⊎-elim (λ q. absurd (apart y z (b .0 z n) (q ∙ e))) (λ k. k)
+      (List·Memᴰ·cases-cons (g z (List·Memᴰ·tail n))) in
       rw (e, members-decide l m (a .1) (b .1) down up)
 
   -- sorting a list without repetitions keeps its length
@@ -116,7 +128,8 @@ module _ {A : Type 0} {cmp : A → A → Ordering} (law : Lawful cmp) where
   place-length x [] h = refl
   place-length x (y ∷ l) h = go (place-length x l (λ m. h (List·Memᴰ·tail m))) (cmp x y) refl
     where
-      go : length (place cmp x l) ≡ suc (length l) → (o : Ordering) → cmp x y ≡ o → length (put o x y l (place cmp x l)) ≡ suc (suc (length l))
+      go : length (place cmp x l) ≡ suc (length l) → (o : Ordering) → cmp x y ≡ o
+          → length (put o x y l (place cmp x l)) ≡ suc (suc (length l))
       go r Ordering·lt e = refl
       go r Ordering·eq e = absurd (h (List·Memᴰ·head (law .same x y e)))
       go r Ordering·gt e = ap suc r
@@ -135,4 +148,6 @@ module _ {A : Type 0} {cmp : A → A → Ordering} (law : Lawful cmp) where
 
   -- so a property has one number
   pub number-one : {P : A → Type 0} {m n : ℕ} → Number P m → Number P n → m ≡ n
-  number-one a b = sym (a .count) ∙ same-length (a .list) (b .list) (a .once) (b .once) (λ z. ((λ k. b .those z .1 (a .those z .0 k)), (λ k. a .those z .1 (b .those z .0 k)))) ∙ b .count
+  number-one a b =
+      sym (a .count) ∙ same-length (a .list) (b .list) (a .once) (b .once)
+      (λ z. ((λ k. b .those z .1 (a .those z .0 k)), (λ k. a .those z .1 (b .those z .0 k)))) ∙ b .count

@@ -1,5 +1,7 @@
--- The list of demand 3 is what document 01 says of it, "The list of demand 3" and "Grammars and derivations": each theorem below renders a sentence.
--- The terms are those of specs/Derivation, Order and List; `ValidGrammar` and `ValidUtterance` are packing's, of accepted blocks.
+-- The list of demand 3 is what document 01 says of it, "The list of demand 3" and "Grammars and derivations": each theorem
+-- below renders a sentence.
+-- The terms are those of specs/Derivation, Order and List; `ValidGrammar` and `ValidUtterance` are packing's, of accepted
+-- blocks.
 use mathlib.Core.Path.{_≡_, refl, sym, ap, _∙_}
 use mathlib.Core.Logic.{_⊎_, inl, inr, _↔_}
 use mathlib.Core.Option.{some}
@@ -58,7 +60,9 @@ module _ (g : Grammar) (u : Utterance) where
 
   -- "A derivation's rank is 1 plus the number of derivations that come before it": it has one
   pub has-rank : (t : Tree) → Derivation g u t → (k : ℕ) × Rank g u t k
-  has-rank t d = let (x, e) = derives-place g (edges u) (symbol 0) 0 (length u) d in (1 + x, (x, number-before g (edges u) (symbol 0) 0 (length u) t x e, refl))
+  has-rank t d =
+      let (x, e) = derives-place g (edges u) (symbol 0) 0 (length u) d in
+      (1 + x, (x, number-before g (edges u) (symbol 0) 0 (length u) t x e, refl))
 
   pub one-rank : (t : Tree) (k l : ℕ) → Rank g u t k → Rank g u t l → k ≡ l
   one-rank t k l (m, a, p) (n, b, q) = let same : m ≡ n = number-one law a b in omega arith
@@ -71,7 +75,8 @@ module _ (g : Grammar) (u : Utterance) where
       ∙ ap (min N) (number-one law (number-all g (edges u) (symbol 0) 0 (length u)) all)
 
   -- "for every k from 1 to m the kth L bytes of the output hold the reading of the derivation with rank k"
-  pub list-element : (N k : ℕ) (v : Reading) → At (listing g u N) k v ↔ ((t : Tree) × Derivation g u t × Rank g u t (1 + k) × (k < N) × (v ≡ reading g u t))
+  pub list-element : (N k : ℕ) (v : Reading) → At (listing g u N) k v
+      ↔ ((t : Tree) × Derivation g u t × Rank g u t (1 + k) × (k < N) × (v ≡ reading g u t))
   unfolding listing
   list-element N k v = (to, from)
     where
@@ -89,26 +94,47 @@ module _ (g : Grammar) (u : Utterance) where
           rw p (at-map (reading g u) (take N least-first) k (at-take N least-first k t .1 (h, b)))
 
   -- "Two derivations are different if their readings differ": and only then
-  pub readings-differ : ValidUtterance (g .words) u → (s t : Tree) → Derivation g u s → Derivation g u t → (reading g u s ≡ reading g u t) ↔ (s ≡ t)
+  pub readings-differ : ValidUtterance (g .words) u → (s t : Tree) → Derivation g u s → Derivation g u t
+      → (reading g u s ≡ reading g u t) ↔ (s ≡ t)
   unfolding reading
-  readings-differ ok s t a b = (λ e. walk-one g (edges u) (edges-apart 0 u (valid-ascending (g .words) u ok)) a b (ap (λ (v : Reading). v .walk) e), ap (reading g u))
+  readings-differ ok s t a b =
+      let apart = edges-apart 0 u (valid-ascending (g .words) u ok) in
+      (λ e. walk-one g (edges u) apart a b (ap (λ (v : Reading). v .walk) e), ap (reading g u))
 
   -- "It has 2n − 1 nodes."
   pub nodes : (t : Tree) → Derivation g u t → length (walk t) ≡ 2 * length u - 1
   nodes t d = omega (arith, walk-length g (edges u) (edges-short u) d)
 
   -- "The greatest weight is 47 × 65,535 + 24 × 65,535 = 4,652,985."
-  pub greatest-weight : ValidGrammar g → ValidUtterance (g .words) u → (t : Tree) → Derivation g u t → weight g (edges u) t ≤ 4652985
+  pub greatest-weight : ValidGrammar g → ValidUtterance (g .words) u → (t : Tree) → Derivation g u t
+      → weight g (edges u) t ≤ 4652985
   greatest-weight ok ok′ t d =
-      omega (arith, weight-bound g (edges u) (edges-short u) (valid-light g ok) (edges-cheap u (valid-cheap (g .words) u ok′)) d, valid-slots (g .words) u ok′)
+      let cheap = edges-cheap u (valid-cheap (g .words) u ok′) in
+      let bound = weight-bound g (edges u) (edges-short u) (valid-light g ok) cheap d in
+      let n = valid-slots (g .words) u ok′ in
+      omega arith
 
-  -- 34 and 35, "the 2n−1 numbers are not the walk of a derivation", "weight not its own": a reading passes exactly if it is some derivation's
-  pub reading-passes : ValidUtterance (g .words) u → (v : Reading) → ((v .slots ≡ length u) × (walkWeight g u (v .walk) ≡ some (v .weight))) ↔ ((t : Tree) × Derivation g u t × (v ≡ reading g u t))
+  -- 34 and 35, "the 2n−1 numbers are not the walk of a derivation", "weight not its own": a reading passes exactly if it is
+  -- some derivation's
+  pub reading-passes : ValidUtterance (g .words) u → (v : Reading)
+      → ((v .slots ≡ length u) × (walkWeight g u (v .walk) ≡ some (v .weight)))
+      ↔ ((t : Tree) × Derivation g u t × (v ≡ reading g u t))
   unfolding reading
-  reading-passes ok v = (
-    (λ p. let (t, d, n, w) = runs (v .walk) (v .weight) .0 (p .1) in (t, d, λ i. record { slots = p .0 i; weight = sym w i; walk = sym n i })),
-    (λ p. let (t, d, e) = p in (ap (λ (r : Reading). r .slots) e, runs (v .walk) (v .weight) .1 (t, d, sym (ap (λ (r : Reading). r .walk) e), sym (ap (λ (r : Reading). r .weight) e)))),
-  )
+  reading-passes ok v = (to, from)
     where
-      runs : (numbers : List ℕ) (w : ℕ) → (walkWeight g u numbers ≡ some w) ↔ ((t : Tree) × Derivation g u t × (walk t ≡ numbers) × (weight g (edges u) t ≡ w))
-      runs = walk-weight g u (valid-ascending (g .words) u ok)
+      runs : (walkWeight g u (v .walk) ≡ some (v .weight))
+          ↔ ((t : Tree) × Derivation g u t × (walk t ≡ v .walk) × (weight g (edges u) t ≡ v .weight))
+      runs = walk-weight g u (valid-ascending (g .words) u ok) (v .walk) (v .weight)
+
+      to : (v .slots ≡ length u) × (walkWeight g u (v .walk) ≡ some (v .weight))
+          → (t : Tree) × Derivation g u t × (v ≡ reading g u t)
+      to (n, p) =
+          let (t, d, e, w) = runs .0 p in
+          (t, d, λ i. record { slots = n i; weight = sym w i; walk = sym e i })
+
+      from : (t : Tree) × Derivation g u t × (v ≡ reading g u t)
+          → (v .slots ≡ length u) × (walkWeight g u (v .walk) ≡ some (v .weight))
+      from (t, d, e) =
+          let numbers = sym (ap (λ (r : Reading). r .walk) e) in
+          let w = sym (ap (λ (r : Reading). r .weight) e) in
+          (ap (λ (r : Reading). r .slots) e, runs .1 (t, d, numbers, w))

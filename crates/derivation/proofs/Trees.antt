@@ -1,4 +1,5 @@
--- The enumeration has exactly the trees that `Derives`, each once: soundness by recursion on the depth, completeness by recursion on the derivation.
+-- The enumeration has exactly the trees that `Derives`, each once: soundness by recursion on the depth, completeness by
+-- recursion on the derivation.
 use mathlib.Core.Path.{_≡_, refl, sym, ap, _∙_, subst}
 use mathlib.Core.Logic.{⊎-elim, _↔_}
 use mathlib.Core.List.{List, _++_, List·Memᴰ·head, List·Memᴰ·not-nil, Memᴰ·append-left, Memᴰ·append-right, List·Memᴰ·append-cases, List·Memᴰ·eq-of-singleton}
@@ -24,7 +25,8 @@ same-word x y e = ap word e
 
 -- what is enumerated derives
 module _ (g : Grammar) (es : List Edge) where
-  leaf-sound : (A : Sym) (i k r : ℕ) (rule : R.Rule) (e : ℕ) (a : Edge) {t : Tree} → At (g .rules) r rule → At es e a → t ∈ leafOf A i k r rule e a → Derives g es A i k t
+  leaf-sound : (A : Sym) (i k r : ℕ) (rule : R.Rule) (e : ℕ) (a : Edge) {t : Tree} → At (g .rules) r rule → At es e a
+      → t ∈ leafOf A i k r rule e a → Derives g es A i k t
   unfolding leafOf
   leaf-sound A i k r (Pair H B C w) e a p q m = absurd (List·Memᴰ·not-nil m)
   leaf-sound A i k r (Word H x w) e (edge f h y c) {t} p q m =
@@ -36,71 +38,90 @@ module _ (g : Grammar) (es : List Edge) where
       let q′ : At es e (edge f h x c) = rw (same-word x y (m₄ .0)) q in
       rw (z, ← same-sym H A (m₁ .0), ← m₂ .0, ← m₃ .0) (by-word p q′)
 
-  leaves-sound : (A : Sym) (i k r : ℕ) (rule : R.Rule) {t : Tree} → At (g .rules) r rule → t ∈ leavesOf es A i k r rule → Derives g es A i k t
+  leaves-sound : (A : Sym) (i k r : ℕ) (rule : R.Rule) {t : Tree} → At (g .rules) r rule → t ∈ leavesOf es A i k r rule
+      → Derives g es A i k t
   unfolding leavesOf
-  leaves-sound A i k r rule p m = let (e, a, q, m₂) = each-out (leafOf A i k r rule) es m in leaf-sound A i k r rule e a p q m₂
+  leaves-sound A i k r rule p m =
+      let (e, a, q, m₂) = each-out (leafOf A i k r rule) es m in leaf-sound A i k r rule e a p q m₂
 
   nodes-sound : (parts : Sym → ℕ → ℕ → List Tree) → ((B : Sym) (i j : ℕ) (t : Tree) → t ∈ parts B i j → Derives g es B i j t)
-      → (A : Sym) (i k r : ℕ) (rule : R.Rule) {t : Tree} → At (g .rules) r rule → t ∈ nodesOf parts A i k r rule → Derives g es A i k t
+      → (A : Sym) (i k r : ℕ) (rule : R.Rule) {t : Tree} → At (g .rules) r rule → t ∈ nodesOf parts A i k r rule
+      → Derives g es A i k t
   unfolding nodesOf
   nodes-sound parts below A i k r (Word H x w) p m = absurd (List·Memᴰ·not-nil m)
   nodes-sound parts below A i k r (Pair H B C w) {t} p m =
       let m₁ = only-out (H .0) (A .0) m in
       let (d, h, m₂) = below-out _ (k - suc i) (m₁ .1) in
       let (s, s′, l, l′, z) = joined-out r (suc (i + d)) (parts B i (suc (i + d))) (parts C (suc (i + d)) k) m₂ in
-      subst (Derives g es A i k) (sym z) (by-pair (rw (same-sym H A (m₁ .0)) at p) (omega arith) (omega arith) (below B i (suc (i + d)) s l) (below C (suc (i + d)) k s′ l′))
+      subst (Derives g es A i k) (sym z) (by-pair (rw (same-sym H A (m₁ .0)) at p) (omega arith) (omega arith)
+      (below B i (suc (i + d)) s l) (below C (suc (i + d)) k s′ l′))
 
   sound : (n : ℕ) (A : Sym) (i k : ℕ) {t : Tree} → t ∈ treesWithin g es n A i k → Derives g es A i k t
   unfolding treesWithin
   sound zero A i k m = let (r, rule, p, m₁) = each-out _ (g .rules) m in leaves-sound A i k r rule p m₁
   sound (suc n) A i k m =
       let (r, rule, p, m₁) = each-out _ (g .rules) m in
-      ⊎-elim (leaves-sound A i k r rule p) (nodes-sound (treesWithin g es n) (λ B i j t. sound n B i j) A i k r rule p) (List·Memᴰ·append-cases (leavesOf es A i k r rule) m₁)
+      ⊎-elim (leaves-sound A i k r rule p) (nodes-sound (treesWithin g es n) (λ B i j t. sound n B i j) A i k r rule p)
+      (List·Memᴰ·append-cases (leavesOf es A i k r rule) m₁)
 
 -- what derives is enumerated
 module _ (g : Grammar) (es : List Edge) where
-  leaf-complete : {A : Sym} {x : W.Word} {i k w c : ℕ} (r e n : ℕ) → At (g .rules) r (Word A x w) → At es e (edge i k x c) → leaf r e ∈ treesWithin g es n A i k
+  leaf-complete : {A : Sym} {x : W.Word} {i k w c : ℕ} (r e n : ℕ) → At (g .rules) r (Word A x w) → At es e (edge i k x c)
+      → leaf r e ∈ treesWithin g es n A i k
   unfolding treesWithin leavesOf leafOf
   leaf-complete {A} {x} {i} {k} {w} {c} r e n p q = go n
     where
       here : leaf r e ∈ leavesOf es A i k r (Word A x w)
-      here = each-in (leafOf A i k r (Word A x w)) es e q (only-in (A .0) (only-in i (only-in k (only-in (x .0) (List·Memᴰ·head refl)))))
+      here =
+          each-in (leafOf A i k r (Word A x w)) es e q (only-in (A .0)
+          (only-in i (only-in k (only-in (x .0) (List·Memᴰ·head refl)))))
 
       go : (n : ℕ) → leaf r e ∈ treesWithin g es n A i k
       go zero = each-in (leavesOf es A i k) (g .rules) r p here
-      go (suc n) = each-in (λ r rule. leavesOf es A i k r rule ++ nodesOf (treesWithin g es n) A i k r rule) (g .rules) r p (Memᴰ·append-left _ here)
+      go (suc n) =
+          each-in (λ r rule. leavesOf es A i k r rule ++ nodesOf (treesWithin g es n) A i k r rule) (g .rules) r p
+          (Memᴰ·append-left _ here)
 
-  nodes-complete : (parts : Sym → ℕ → ℕ → List Tree) (A B C : Sym) (w i j k r : ℕ) {s t : Tree} → i < j → j < k → s ∈ parts B i j → t ∈ parts C j k → node r j s t ∈ nodesOf parts A i k r (Pair A B C w)
+  nodes-complete : (parts : Sym → ℕ → ℕ → List Tree) (A B C : Sym) (w i j k r : ℕ) {s t : Tree} → i < j → j < k
+      → s ∈ parts B i j → t ∈ parts C j k → node r j s t ∈ nodesOf parts A i k r (Pair A B C w)
   unfolding nodesOf
   nodes-complete parts A B C w i j k r {s} {t} h₁ h₂ m₁ m₂ = rw e at (go (j - suc i) (omega arith) (rw e m₁) (rw e m₂))
     where
       e : suc (i + (j - suc i)) ≡ j
       e = omega arith
 
-      go : (d : ℕ) → d < k - suc i → s ∈ parts B i (suc (i + d)) → t ∈ parts C (suc (i + d)) k → node r (suc (i + d)) s t ∈ nodesOf parts A i k r (Pair A B C w)
-      go d h n₁ n₂ = only-in (A .0) (below-in (λ d. joined r (suc (i + d)) (parts B i (suc (i + d))) (parts C (suc (i + d)) k)) (k - suc i) d h (joined-in r (suc (i + d)) _ _ n₁ n₂))
+      go : (d : ℕ) → d < k - suc i → s ∈ parts B i (suc (i + d)) → t ∈ parts C (suc (i + d)) k
+          → node r (suc (i + d)) s t ∈ nodesOf parts A i k r (Pair A B C w)
+      go d h n₁ n₂ =
+          only-in (A .0) (below-in (λ d. joined r (suc (i + d)) (parts B i (suc (i + d))) (parts C (suc (i + d)) k))
+          (k - suc i) d h (joined-in r (suc (i + d)) _ _ n₁ n₂))
 
   complete : {A : Sym} {i k : ℕ} {t : Tree} → Derives g es A i k t → (n : ℕ) → k - i ≤ n → t ∈ treesWithin g es n A i k
   unfolding treesWithin
   complete (by-word {r = r} {e = e} p q) n b = leaf-complete r e n p q
   complete (by-pair {A} {B} {C} {r} {w} {i} {j} {k} {s} {t} p h₁ h₂ d₁ d₂) n b = go n b (complete d₁) (complete d₂)
     where
-      go : (n : ℕ) → k - i ≤ n → ((m : ℕ) → j - i ≤ m → s ∈ treesWithin g es m B i j) → ((m : ℕ) → k - j ≤ m → t ∈ treesWithin g es m C j k) → node r j s t ∈ treesWithin g es n A i k
+      go : (n : ℕ) → k - i ≤ n → ((m : ℕ) → j - i ≤ m → s ∈ treesWithin g es m B i j)
+          → ((m : ℕ) → k - j ≤ m → t ∈ treesWithin g es m C j k) → node r j s t ∈ treesWithin g es n A i k
       go zero b f₁ f₂ = absurd (omega arith)
       go (suc n) b f₁ f₂ =
           each-in (λ r rule. leavesOf es A i k r rule ++ nodesOf (treesWithin g es n) A i k r rule) (g .rules) r p
-          (Memᴰ·append-right (leavesOf es A i k r (Pair A B C w)) (nodes-complete (treesWithin g es n) A B C w i j k r h₁ h₂ (f₁ n (omega arith)) (f₂ n (omega arith))))
+          (Memᴰ·append-right (leavesOf es A i k r (Pair A B C w))
+          (nodes-complete (treesWithin g es n) A B C w i j k r h₁ h₂ (f₁ n (omega arith)) (f₂ n (omega arith))))
 
 -- nothing is enumerated twice: a tree shows its rule, its edge or its split, and its parts
 leafOf-is : (A : Sym) (i k r : ℕ) (rule : R.Rule) (e : ℕ) (a : Edge) {z : Tree} → z ∈ leafOf A i k r rule e a → z ≡ leaf r e
 unfolding leafOf
 leafOf-is A i k r (Pair H B C w) e a m = absurd (List·Memᴰ·not-nil m)
-leafOf-is A i k r (Word H x w) e (edge f h y c) m = List·Memᴰ·eq-of-singleton (only-out (x .0) (y .0) (only-out h k (only-out f i (only-out (H .0) (A .0) m .1) .1) .1) .1)
+leafOf-is A i k r (Word H x w) e (edge f h y c) m =
+    List·Memᴰ·eq-of-singleton (only-out (x .0) (y .0) (only-out h k (only-out f i (only-out (H .0) (A .0) m .1) .1) .1) .1)
 
 leafOf-distinct : (A : Sym) (i k r : ℕ) (rule : R.Rule) (e : ℕ) (a : Edge) → Distinct (leafOf A i k r rule e a)
 unfolding leafOf
 leafOf-distinct A i k r (Pair H B C w) e a = tt
-leafOf-distinct A i k r (Word H x w) e (edge f h y c) = only-distinct (H .0) (A .0) _ (only-distinct f i _ (only-distinct h k _ (only-distinct (x .0) (y .0) _ (single (leaf r e)))))
+leafOf-distinct A i k r (Word H x w) e (edge f h y c) =
+    only-distinct (H .0) (A .0) _ (only-distinct f i _
+    (only-distinct h k _ (only-distinct (x .0) (y .0) _ (single (leaf r e)))))
 
 module _ (es : List Edge) (A : Sym) (i k r : ℕ) (rule : R.Rule) where
   leaves-is : {z : Tree} → z ∈ leavesOf es A i k r rule → (e : ℕ) × (z ≡ leaf r e)
@@ -120,9 +141,11 @@ module _ (parts : Sym → ℕ → ℕ → List Tree) (A : Sym) (i k r : ℕ) whe
 
   split-is : (B C : Sym) (d : ℕ) {z : Tree} → z ∈ split B C d → (s : Tree) × (t : Tree) × (z ≡ node r (suc (i + d)) s t)
   unfolding split
-  split-is B C d m = let (s, t, p, q, e) = joined-out r (suc (i + d)) (parts B i (suc (i + d))) (parts C (suc (i + d)) k) m in (s, t, e)
+  split-is B C d m =
+      let (s, t, p, q, e) = joined-out r (suc (i + d)) (parts B i (suc (i + d))) (parts C (suc (i + d)) k) m in (s, t, e)
 
-  nodes-is : (rule : R.Rule) {z : Tree} → z ∈ nodesOf parts A i k r rule → (j : ℕ) × (s : Tree) × (t : Tree) × (z ≡ node r j s t)
+  nodes-is : (rule : R.Rule) {z : Tree} → z ∈ nodesOf parts A i k r rule
+      → (j : ℕ) × (s : Tree) × (t : Tree) × (z ≡ node r j s t)
   unfolding nodesOf split
   nodes-is (Word H x w) m = absurd (List·Memᴰ·not-nil m)
   nodes-is (Pair H B C w) m =
@@ -135,7 +158,8 @@ module _ (parts : Sym → ℕ → ℕ → List Tree) (A : Sym) (i k r : ℕ) whe
   nodes-distinct h (Word H x w) = tt
   nodes-distinct h (Pair H B C w) =
       only-distinct (H .0) (A .0) _
-      (below-distinct (split B C) (k - suc i) (λ d. joined-distinct r (suc (i + d)) (parts B i (suc (i + d))) (parts C (suc (i + d)) k) (h B i (suc (i + d))) (h C (suc (i + d)) k)) (λ d d′ z p q.
+      (below-distinct (split B C) (k - suc i) (λ d. joined-distinct r (suc (i + d)) (parts B i (suc (i + d)))
+      (parts C (suc (i + d)) k) (h B i (suc (i + d))) (h C (suc (i + d)) k)) (λ d d′ z p q.
       let (s, t, e) = split-is B C d p in
       let (s′, t′, f) = split-is B C d′ q in
       let n : suc (i + d) ≡ suc (i + d′) = cc in
@@ -143,12 +167,15 @@ module _ (parts : Sym → ℕ → ℕ → List Tree) (A : Sym) (i k r : ℕ) whe
 
 once : (g : Grammar) (es : List Edge) (n : ℕ) (A : Sym) (i k : ℕ) → Distinct (treesWithin g es n A i k)
 unfolding treesWithin
-once g es zero A i k = each-distinct (leavesOf es A i k) (g .rules) (λ r rule e. leaves-distinct es A i k r rule) (λ r r′ x y z e f p q.
+once g es zero A i k =
+    each-distinct (leavesOf es A i k) (g .rules) (λ r rule e. leaves-distinct es A i k r rule) (λ r r′ x y z e f p q.
     let (a, h) = leaves-is es A i k r x p in
     let (b, h′) = leaves-is es A i k r′ y q in
     cc)
-once g es (suc n) A i k = each-distinct (λ r rule. leavesOf es A i k r rule ++ nodesOf (treesWithin g es n) A i k r rule) (g .rules)
-    (λ r rule e. distinct-append (leavesOf es A i k r rule) _ (leaves-distinct es A i k r rule) (nodes-distinct (treesWithin g es n) A i k r (once g es n) rule) (λ z p q.
+once g es (suc n) A i k =
+    each-distinct (λ r rule. leavesOf es A i k r rule ++ nodesOf (treesWithin g es n) A i k r rule) (g .rules)
+    (λ r rule e. distinct-append (leavesOf es A i k r rule) _ (leaves-distinct es A i k r rule)
+    (nodes-distinct (treesWithin g es n) A i k r (once g es n) rule) (λ z p q.
     let (a, h) = leaves-is es A i k r rule p in
     let (j, s, t, h′) = nodes-is (treesWithin g es n) A i k r rule q in
     let o : _≡_ {A = ℕ} 0 1 = cc in
@@ -159,8 +186,11 @@ once g es (suc n) A i k = each-distinct (λ r rule. leavesOf es A i k r rule ++ 
     root (leaf r e) = r
     root (node r j s t) = r
 
-    root-is : (r : ℕ) (rule : R.Rule) (z : Tree) → z ∈ (leavesOf es A i k r rule ++ nodesOf (treesWithin g es n) A i k r rule) → root z ≡ r
-    root-is r rule z m = ⊎-elim (λ p. ap root (leaves-is es A i k r rule p .1)) (λ p. ap root (nodes-is (treesWithin g es n) A i k r rule p .3)) (List·Memᴰ·append-cases (leavesOf es A i k r rule) m)
+    root-is : (r : ℕ) (rule : R.Rule) (z : Tree) → z ∈ (leavesOf es A i k r rule ++ nodesOf (treesWithin g es n) A i k r rule)
+        → root z ≡ r
+    root-is r rule z m =
+        ⊎-elim (λ p. ap root (leaves-is es A i k r rule p .1))
+        (λ p. ap root (nodes-is (treesWithin g es n) A i k r rule p .3)) (List·Memᴰ·append-cases (leavesOf es A i k r rule) m)
 
 module _ (g : Grammar) (es : List Edge) (A : Sym) (i k : ℕ) where
   pub trees-derive : (t : Tree) → t ∈ trees g es A i k ↔ Derives g es A i k t

@@ -1,5 +1,7 @@
--- The run over rule numbers accepts exactly the walks of derivations, with their weight: a state's heads are covered, from its place on, by one tree each.
--- No tree is shorter than a slot, so the test for room never turns a walk away, and no more heads are kept than slots are left.
+-- The run over rule numbers accepts exactly the walks of derivations, with their weight: a state's heads are covered, from
+-- its place on, by one tree each.
+-- No tree is shorter than a slot, so the test for room never turns a walk away, and no more heads are kept than slots are
+-- left.
 use mathlib.Core.Path.{_≡_, refl, sym, ap, _∙_, subst}
 use mathlib.Core.Logic.{_↔_, ⊎-elim}
 use mathlib.Core.Bool.{Bool, true, false}
@@ -34,16 +36,29 @@ unfolding costOf
 cost-out x [] e = absurd (none≢some e)
 cost-out x (candidate y d ∷ slot) {c} e = go (eqb (y .0) (x .0)) refl (cost-out x slot) e
   where
-    go : (t : Bool) → eqb (y .0) (x .0) ≡ t → (costOf x slot ≡ some c → candidate x c ∈ slot) → pick t (some d) (costOf x slot) ≡ some c → candidate x c ∈ (candidate y d ∷ slot)
-    go true h more f = let p : x ≡ y = sym (same-word y x (eqb-true (y .0) (x .0) h)) in let q : candidate x c ≡ candidate y d = cc in List·Memᴰ·head q
+    go : (t : Bool) → eqb (y .0) (x .0) ≡ t → (costOf x slot ≡ some c → candidate x c ∈ slot)
+        → pick t (some d) (costOf x slot) ≡ some c → candidate x c ∈ (candidate y d ∷ slot)
+    go true h more f =
+        let p : x ≡ y = sym (same-word y x (eqb-true (y .0) (x .0) h)) in
+        let q : candidate x c ≡ candidate y d = cc in
+        List·Memᴰ·head q
     go false h more f = List·Memᴰ·tail (more f)
 
-cost-in : (b : ℕ) (x : W.Word) (slot : List Candidate) {c : ℕ} → AscendingFrom b slot → candidate x c ∈ slot → costOf x slot ≡ some c
+cost-in : (b : ℕ) (x : W.Word) (slot : List Candidate) {c : ℕ} → AscendingFrom b slot → candidate x c ∈ slot
+    → costOf x slot ≡ some c
 unfolding costOf
 cost-in b x [] a m = absurd (List·Memᴰ·not-nil m)
-cost-in b x (candidate y d ∷ slot) {c} (h, a) m =
-    ⊎-elim (λ e. let p : x ≡ y = cc in let q : d ≡ c = cc in rw (eq-eqb (y .0) (x .0) (ap (λ (z : W.Word). z .0) (sym p)), q))
-    (λ n. rw (ne-eqb (y .0) (x .0) (λ e. omega (arith, ascending-least (suc (y .0)) slot a n))) (cost-in (suc (y .0)) x slot a n)) (List·Memᴰ·cases-cons m)
+cost-in b x (candidate y d ∷ slot) {c} (h, a) m = ⊎-elim here (later (cost-in (suc (y .0)) x slot a)) (List·Memᴰ·cases-cons m)
+  where
+    here : candidate x c ≡ candidate y d → pick (eqb (y .0) (x .0)) (some d) (costOf x slot) ≡ some c
+    here e =
+        let p : y ≡ x = cc in
+        let q : d ≡ c = cc in
+        rw (eq-eqb (y .0) (x .0) (ap (λ (z : W.Word). z .0) p), q)
+
+    later : (candidate x c ∈ slot → costOf x slot ≡ some c) → candidate x c ∈ slot
+        → pick (eqb (y .0) (x .0)) (some d) (costOf x slot) ≡ some c
+    later more n = rw (ne-eqb (y .0) (x .0) (λ e. omega (arith, ascending-least (suc (y .0)) slot a n))) (more n)
 
 some-is : {m n : ℕ} → some m ≡ some n → m ≡ n
 some-is e = cc
@@ -54,7 +69,8 @@ drop-cons-at [] i e = absurd (none≢some e)
 drop-cons-at (s ∷ u) zero e = cc
 drop-cons-at (s ∷ u) (suc i) e = drop-cons-at u i e
 
-drop-out : (u : Utterance) (i : ℕ) {slot : List Candidate} {more : Utterance} → drop i u ≡ slot ∷ more → At u i slot × (drop (suc i) u ≡ more)
+drop-out : (u : Utterance) (i : ℕ) {slot : List Candidate} {more : Utterance} → drop i u ≡ slot ∷ more
+    → At u i slot × (drop (suc i) u ≡ more)
 drop-out [] zero e = let z : _≡_ {A = ℕ} 0 1 = cc in absurd (omega arith)
 drop-out [] (suc i) e = let z : _≡_ {A = ℕ} 0 1 = cc in absurd (omega arith)
 drop-out (s ∷ u) zero e = (cc, cc)
@@ -75,50 +91,65 @@ module _ (g : Grammar) where
   module _ (slots : Utterance) (A : Sym) (heads : List Sym) (w r : ℕ) where
     pub data Stepped : State → Type 0 where
       lost : Stepped astray
-      paired : {B C : Sym} {v : ℕ} → At (g .rules) r (Pair A B C v) → suc (length heads) < length slots → Stepped (onward slots (B ∷ C ∷ heads) (w + v))
-      worded : {x : W.Word} {v c : ℕ} {slot : List Candidate} {more : Utterance} → At (g .rules) r (Word A x v) → slots ≡ slot ∷ more → candidate x c ∈ slot → Stepped (onward more heads (w + v + c))
+      paired : {B C : Sym} {v : ℕ} → At (g .rules) r (Pair A B C v) → suc (length heads) < length slots
+          → Stepped (onward slots (B ∷ C ∷ heads) (w + v))
+      worded : {x : W.Word} {v c : ℕ} {slot : List Candidate} {more : Utterance} → At (g .rules) r (Word A x v)
+          → slots ≡ slot ∷ more → candidate x c ∈ slot → Stepped (onward more heads (w + v + c))
 
-    pair-stepped : (H B C : Sym) (v : ℕ) → At (g .rules) r (Pair H B C v) → Stepped (ruleStep slots A heads w (some (Pair H B C v)))
+    pair-stepped : (H B C : Sym) (v : ℕ) → At (g .rules) r (Pair H B C v)
+        → Stepped (ruleStep slots A heads w (some (Pair H B C v)))
     unfolding ruleStep
     pair-stepped H B C v p = go (eqb (H .0) (A .0)) refl (ltb (suc (length heads)) (length slots)) refl
       where
-        go : (t : Bool) → eqb (H .0) (A .0) ≡ t → (t′ : Bool) → ltb (suc (length heads)) (length slots) ≡ t′ → Stepped (pick t (pick t′ (onward slots (B ∷ C ∷ heads) (w + v)) astray) astray)
+        go : (t : Bool) → eqb (H .0) (A .0) ≡ t → (t′ : Bool) → ltb (suc (length heads)) (length slots) ≡ t′
+            → Stepped (pick t (pick t′ (onward slots (B ∷ C ∷ heads) (w + v)) astray) astray)
         go false e t′ f = lost
         go true e false f = lost
-        go true e true f = paired (rw (same-sym H A (eqb-true (H .0) (A .0) e)) at p) (ltb-true (suc (length heads)) (length slots) f)
+        go true e true f =
+            paired (rw (same-sym H A (eqb-true (H .0) (A .0) e)) at p) (ltb-true (suc (length heads)) (length slots) f)
 
-    word-stepped : (slot : List Candidate) (more : Utterance) (H : Sym) (x : W.Word) (v : ℕ) → slots ≡ slot ∷ more → At (g .rules) r (Word H x v) → Stepped (ruleStep (slot ∷ more) A heads w (some (Word H x v)))
+    word-stepped : (slot : List Candidate) (more : Utterance) (H : Sym) (x : W.Word) (v : ℕ) → slots ≡ slot ∷ more
+        → At (g .rules) r (Word H x v) → Stepped (ruleStep (slot ∷ more) A heads w (some (Word H x v)))
     unfolding ruleStep leafStep
     word-stepped slot more H x v h p = go (eqb (H .0) (A .0)) refl (costOf x slot) refl
       where
-        go : (t : Bool) → eqb (H .0) (A .0) ≡ t → (o : Option ℕ) → costOf x slot ≡ o → Stepped (pick t (leafStep more heads (w + v) o) astray)
+        go : (t : Bool) → eqb (H .0) (A .0) ≡ t → (o : Option ℕ) → costOf x slot ≡ o
+            → Stepped (pick t (leafStep more heads (w + v) o) astray)
         go false e o f = lost
         go true e none f = lost
         go true e (some c) f = worded (rw (same-sym H A (eqb-true (H .0) (A .0) e)) at p) h (cost-out x slot f)
 
-  stepped : (slots : Utterance) (A : Sym) (heads : List Sym) (w r : ℕ) → Stepped slots A heads w r (step g (onward slots (A ∷ heads) w) r)
+  stepped : (slots : Utterance) (A : Sym) (heads : List Sym) (w r : ℕ)
+      → Stepped slots A heads w r (step g (onward slots (A ∷ heads) w) r)
   unfolding step ruleStep
   stepped slots A heads w r = go slots refl (getElem? (g .rules) r) refl
     where
-      go : (s : Utterance) → slots ≡ s → (o : Option R.Rule) → getElem? (g .rules) r ≡ o → Stepped slots A heads w r (ruleStep s A heads w o)
+      go : (s : Utterance) → slots ≡ s → (o : Option R.Rule) → getElem? (g .rules) r ≡ o
+          → Stepped slots A heads w r (ruleStep s A heads w o)
       go s h none e = lost
-      go s h (some (Pair H B C v)) e = subst (λ s. Stepped slots A heads w r (ruleStep s A heads w (some (Pair H B C v)))) h (pair-stepped slots A heads w r H B C v e)
+      go s h (some (Pair H B C v)) e =
+          subst (λ s. Stepped slots A heads w r (ruleStep s A heads w (some (Pair H B C v)))) h
+          (pair-stepped slots A heads w r H B C v e)
       go [] h (some (Word H x v)) e = lost
       go (slot ∷ more) h (some (Word H x v)) e = word-stepped slots A heads w r slot more H x v h e
 
--- what a state of the run keeps to, of n slots and after m numbers: never more heads than slots are left, so a stack of n symbols suffices
+-- what a state of the run keeps to, of n slots and after m numbers: never more heads than slots are left, so a stack of n
+-- symbols suffices
 abbrev pub Kept : ℕ → ℕ → State → Type 0
 Kept n m astray = Unit {0}
-Kept n m (onward slots heads w) = (length heads ≤ length slots) × (length slots ≤ n) × All (All Cheap) slots × (w ≤ 131070 * m)
+Kept n m (onward slots heads w) =
+    (length heads ≤ length slots) × (length slots ≤ n) × All (All Cheap) slots × (w ≤ 131070 * m)
 
 pub start-kept : (u : Utterance) → 1 ≤ length u → All (All Cheap) u → Kept (length u) 0 (onward u (symbol 0 ∷ []) 0)
 start-kept u h c = (h, le-refl (length u), c, omega arith)
 
 module _ (g : Grammar) (light : All Light (g .rules)) where
-  stepped-kept : (n m : ℕ) (slots : Utterance) (A : Sym) (heads : List Sym) (w r : ℕ) (s : State) → Stepped g slots A heads w r s → Kept n m (onward slots (A ∷ heads) w) → Kept n (suc m) s
+  stepped-kept : (n m : ℕ) (slots : Utterance) (A : Sym) (heads : List Sym) (w r : ℕ) (s : State)
+      → Stepped g slots A heads w r s → Kept n m (onward slots (A ∷ heads) w) → Kept n (suc m) s
   unfolding ruleWeight
   stepped-kept n m slots A heads w r _ lost k = tt
-  stepped-kept n m slots A heads w r _ (paired p room) (h, b, c, d) = (room, b, c, omega (arith, all-at Light (g .rules) r light p))
+  stepped-kept n m slots A heads w r _ (paired p room) (h, b, c, d) =
+      (room, b, c, omega (arith, all-at Light (g .rules) r light p))
   stepped-kept n m slots A heads w r _ (worded {slot = slot} {more = more} p e o) (h, b, c, d) =
       let l = ap length e in
       let (first, rest) = rw e at c in
@@ -135,17 +166,21 @@ module _ (g : Grammar) (u : Utterance) where
   -- one tree for each head, one after the other up to the last place, with their walks and their weights put together
   data Covers : List Sym → ℕ → List ℕ → ℕ → Type 0 where
     done : Covers [] (length u) [] 0
-    also : {A : Sym} {heads : List Sym} {i j w : ℕ} {t : Tree} {numbers : List ℕ} → Derives g (edges u) A i j t → Covers heads j numbers w → Covers (A ∷ heads) i (walk t ++ numbers) (weight g (edges u) t + w)
+    also : {A : Sym} {heads : List Sym} {i j w : ℕ} {t : Tree} {numbers : List ℕ} → Derives g (edges u) A i j t
+        → Covers heads j numbers w → Covers (A ∷ heads) i (walk t ++ numbers) (weight g (edges u) t + w)
 
-  cover-pair : {A B C : Sym} {heads : List Sym} {i v w : ℕ} {numbers : List ℕ} (r : ℕ) → At (g .rules) r (Pair A B C v) → Covers (B ∷ C ∷ heads) i numbers w → Covers (A ∷ heads) i (r ∷ numbers) (v + w)
+  cover-pair : {A B C : Sym} {heads : List Sym} {i v w : ℕ} {numbers : List ℕ} (r : ℕ) → At (g .rules) r (Pair A B C v)
+      → Covers (B ∷ C ∷ heads) i numbers w → Covers (A ∷ heads) i (r ∷ numbers) (v + w)
   unfolding walk
   cover-pair {v = v} r p (also {j = j} {t = s} d₁ (also {w = w} {t = t} {numbers = numbers} d₂ c)) =
       let whole = also (by-pair p (span (edges-short u) d₁) (span (edges-short u) d₂) d₁ d₂) c in
       let n : walk s ++ walk t ++ numbers ≡ walk s ++ (walk t ++ numbers) = append-assoc (walk s) (walk t) numbers in
-      let m : weight g (edges u) (node r j s t) + w ≡ v + (weight g (edges u) s + (weight g (edges u) t + w)) = rw (node-weight g (edges u) r j s t p) (omega arith) in
+      let m : weight g (edges u) (node r j s t) + w ≡ v + (weight g (edges u) s + (weight g (edges u) t + w)) =
+      rw (node-weight g (edges u) r j s t p) (omega arith) in
       rw (n, m) at whole
 
-  cover-word : {A : Sym} {x : W.Word} {heads : List Sym} {i v c w : ℕ} {numbers : List ℕ} {slot : List Candidate} (r : ℕ) → At (g .rules) r (Word A x v) → At u i slot → candidate x c ∈ slot → Covers heads (suc i) numbers w
+  cover-word : {A : Sym} {x : W.Word} {heads : List Sym} {i v c w : ℕ} {numbers : List ℕ} {slot : List Candidate} (r : ℕ)
+      → At (g .rules) r (Word A x v) → At u i slot → candidate x c ∈ slot → Covers heads (suc i) numbers w
       → Covers (A ∷ heads) i (r ∷ numbers) (v + c + w)
   unfolding walk
   cover-word {i = i} {v} {c} {w} r p h m rest =
@@ -156,9 +191,12 @@ module _ (g : Grammar) (u : Utterance) where
 
   -- what the run accepts is covered
   abbrev Sound : List ℕ → Type 0
-  Sound numbers = (slots : Utterance) (heads : List Sym) (w w′ i : ℕ) → drop i u ≡ slots → i ≤ length u → ended (run g (onward slots heads w) numbers) ≡ some w′ → (v : ℕ) × Covers heads i numbers v × (w + v ≡ w′)
+  Sound numbers =
+      (slots : Utterance) (heads : List Sym) (w w′ i : ℕ) → drop i u ≡ slots → i ≤ length u
+      → ended (run g (onward slots heads w) numbers) ≡ some w′ → (v : ℕ) × Covers heads i numbers v × (w + v ≡ w′)
 
-  sound-step : (slots : Utterance) (A : Sym) (heads : List Sym) (w w′ i r : ℕ) (numbers : List ℕ) → Sound numbers → drop i u ≡ slots → i ≤ length u → (s : State) → Stepped g slots A heads w r s
+  sound-step : (slots : Utterance) (A : Sym) (heads : List Sym) (w w′ i r : ℕ) (numbers : List ℕ) → Sound numbers
+      → drop i u ≡ slots → i ≤ length u → (s : State) → Stepped g slots A heads w r s
       → ended (run g s numbers) ≡ some w′ → (v : ℕ) × Covers (A ∷ heads) i (r ∷ numbers) v × (w + v ≡ w′)
   unfolding ended
   sound-step slots A heads w w′ i r numbers below e b _ lost h = absurd (none≢some (rw (run-astray g numbers) at h))
@@ -179,49 +217,61 @@ module _ (g : Grammar) (u : Utterance) where
   sound [] [] (A ∷ heads) w w′ i e b h = absurd (none≢some h)
   sound [] (slot ∷ slots) heads w w′ i e b h = absurd (none≢some h)
   sound (r ∷ numbers) slots [] w w′ i e b h = absurd (none≢some (rw (run-astray g numbers) at h))
-  sound (r ∷ numbers) slots (A ∷ heads) w w′ i e b h = sound-step slots A heads w w′ i r numbers (sound numbers) e b _ (stepped g slots A heads w r) h
+  sound (r ∷ numbers) slots (A ∷ heads) w w′ i e b h =
+      sound-step slots A heads w w′ i r numbers (sound numbers) e b _ (stepped g slots A heads w r) h
 
   -- where words ascend, a derivation's walk takes the run over it
-  word-step : {A : Sym} {x : W.Word} {v c : ℕ} (slot : List Candidate) (slots : Utterance) (heads : List Sym) (w r : ℕ) → At (g .rules) r (Word A x v) → costOf x slot ≡ some c
+  word-step : {A : Sym} {x : W.Word} {v c : ℕ} (slot : List Candidate) (slots : Utterance) (heads : List Sym) (w r : ℕ)
+      → At (g .rules) r (Word A x v) → costOf x slot ≡ some c
       → step g (onward (slot ∷ slots) (A ∷ heads) w) r ≡ onward slots heads (w + v + c)
   unfolding step ruleStep leafStep
   word-step {A} slot slots heads w r p q = rw (p, eq-eqb (A .0) (A .0) refl, q)
 
-  pair-step : {A B C : Sym} {v : ℕ} (slots : Utterance) (heads : List Sym) (w r : ℕ) → At (g .rules) r (Pair A B C v) → suc (length heads) < length slots
+  pair-step : {A B C : Sym} {v : ℕ} (slots : Utterance) (heads : List Sym) (w r : ℕ) → At (g .rules) r (Pair A B C v)
+      → suc (length heads) < length slots
       → step g (onward slots (A ∷ heads) w) r ≡ onward slots (B ∷ C ∷ heads) (w + v)
   unfolding step ruleStep
   pair-step {A} slots heads w r p room = rw (p, eq-eqb (A .0) (A .0) refl, lt-ltb (suc (length heads)) (length slots) room)
 
   module _ (ascending : Ascending u) where
-    complete : {A : Sym} {i k : ℕ} {t : Tree} → Derives g (edges u) A i k t → (heads : List Sym) (w : ℕ) (numbers : List ℕ) → k + length heads ≤ length u
-        → run g (onward (drop i u) (A ∷ heads) w) (walk t ++ numbers) ≡ run g (onward (drop k u) heads (w + weight g (edges u) t)) numbers
+    complete : {A : Sym} {i k : ℕ} {t : Tree} → Derives g (edges u) A i k t → (heads : List Sym) (w : ℕ) (numbers : List ℕ)
+        → k + length heads ≤ length u
+        → run g (onward (drop i u) (A ∷ heads) w) (walk t ++ numbers)
+        ≡ run g (onward (drop k u) heads (w + weight g (edges u) t)) numbers
     unfolding walk run
     complete (by-word {x = x} {r = r} {e = e} {w = v} {c = c} {i = i} {k = k} p q) heads w numbers b =
         let (slot, there, offers, end) = edge-slot u e q in
         let cost = cost-in 0 x slot (all-at (AscendingFrom 0) u i ascending there) offers in
         let sum : w + (v + c) ≡ w + v + c = omega arith in
-        rw (drop-cons-at u i there, word-step slot (drop (suc i) u) heads w r p cost, leaf-weight g (edges u) r e p q, end, sum)
+        let leaves = leaf-weight g (edges u) r e p q in
+        rw (drop-cons-at u i there, word-step slot (drop (suc i) u) heads w r p cost, leaves, end, sum)
     complete (by-pair {A} {B} {C} {r} {w = v} {i} {j} {k} {s} {t} p h₁ h₂ d₁ d₂) heads w numbers b =
         let room : suc (length heads) < length (drop i u) = rw (length-drop i u) (omega arith) in
-        let sum : w + v + weight g (edges u) s + weight g (edges u) t ≡ w + weight g (edges u) (node r j s t) = rw (node-weight g (edges u) r j s t p) (omega arith) in
+        let sum : w + v + weight g (edges u) s + weight g (edges u) t ≡ w + weight g (edges u) (node r j s t) =
+        rw (node-weight g (edges u) r j s t p) (omega arith) in
         ap (λ (z : State). run g z (walk s ++ walk t ++ numbers)) (pair-step (drop i u) heads w r p room)
         ∙ ap (run g (onward (drop i u) (B ∷ C ∷ heads) (w + v))) (append-assoc (walk s) (walk t) numbers)
         ∙ complete d₁ (C ∷ heads) (w + v) (walk t ++ numbers) (omega arith)
         ∙ complete d₂ heads (w + v + weight g (edges u) s) numbers b
         ∙ ap (λ (m : ℕ). run g (onward (drop k u) heads m) numbers) sum
 
-    whole : {numbers : List ℕ} {v : ℕ} → Covers (symbol 0 ∷ []) 0 numbers v → (t : Tree) × Derivation g u t × (walk t ≡ numbers) × (weight g (edges u) t ≡ v)
+    whole : {numbers : List ℕ} {v : ℕ} → Covers (symbol 0 ∷ []) 0 numbers v
+        → (t : Tree) × Derivation g u t × (walk t ≡ numbers) × (weight g (edges u) t ≡ v)
     whole (also {t = t} d done) = (t, d, sym (append-nil (walk t)), omega arith)
 
     -- the run accepts exactly the walks of derivations, with their weight
-    pub walk-weight : (numbers : List ℕ) (w : ℕ) → (walkWeight g u numbers ≡ some w) ↔ ((t : Tree) × Derivation g u t × (walk t ≡ numbers) × (weight g (edges u) t ≡ w))
+    pub walk-weight : (numbers : List ℕ) (w : ℕ) → (walkWeight g u numbers ≡ some w)
+        ↔ ((t : Tree) × Derivation g u t × (walk t ≡ numbers) × (weight g (edges u) t ≡ w))
     unfolding walkWeight
     walk-weight numbers w = (to, from)
       where
         to : walkWeight g u numbers ≡ some w → (t : Tree) × Derivation g u t × (walk t ≡ numbers) × (weight g (edges u) t ≡ w)
-        to h = let (v, c, n) = sound numbers u (symbol 0 ∷ []) 0 w 0 refl (omega arith) h in let (t, d, n′, e) = whole c in (t, d, n′, omega arith)
+        to h =
+            let (v, c, n) = sound numbers u (symbol 0 ∷ []) 0 w 0 refl (omega arith) h in let (t, d, n′, e) = whole c in
+            (t, d, n′, omega arith)
 
-        from : (t : Tree) × Derivation g u t × (walk t ≡ numbers) × (weight g (edges u) t ≡ w) → walkWeight g u numbers ≡ some w
+        from : (t : Tree) × Derivation g u t × (walk t ≡ numbers) × (weight g (edges u) t ≡ w)
+            → walkWeight g u numbers ≡ some w
         from (t, d, n, e) =
             let at-end : drop (length u) u ≡ [] = drop-length u in
             let w′ : 0 + weight g (edges u) t ≡ w = omega arith in

@@ -10,7 +10,8 @@ use Rattle.packing.specs.declared.Rule as R
 use Rattle.packing.specs.declared.Rule.the-variants.{Pair, Word}
 use Rattle.packing.specs.Meaning.{sym, Grammar, Utterance, Edge, edge, edges, Reading}
 
--- a leaf is a word rule and an edge; a node is a pair rule, the place where its parts meet, and its parts; rules and edges by number
+-- rules and edges are named by number: a leaf is a word rule and an edge; a node is a pair rule, the place where its parts
+-- meet, and its parts
 pub data Tree : Type 0 where
   leaf : (rule edge : ℕ) → Tree
   node : (rule split : ℕ) → Tree → Tree → Tree
@@ -21,9 +22,12 @@ At l n x = getElem? l n ≡ some x
 
 -- Derives g es A i k t: t is a tree with head A over the span from place i to place k
 pub data Derives (g : Grammar) (es : List Edge) : Sym → ℕ → ℕ → Tree → Type 0 where
-  by-word : {A : Sym} {x : W.Word} {r e w c i k : ℕ} → At (g .rules) r (Word A x w) → At es e (edge i k x c) → Derives g es A i k (leaf r e)
-  by-pair : {A B C : Sym} {r w i j k : ℕ} {s t : Tree} → At (g .rules) r (Pair A B C w) → i < j → j < k → Derives g es B i j s → Derives g es C j k t → Derives g es A i k (node r j s t)
+  by-word : {A : Sym} {x : W.Word} {r e w c i k : ℕ} → At (g .rules) r (Word A x w) → At es e (edge i k x c)
+      → Derives g es A i k (leaf r e)
+  by-pair : {A B C : Sym} {r w i j k : ℕ} {s t : Tree} → At (g .rules) r (Pair A B C w) → i < j → j < k → Derives g es B i j s
+      → Derives g es C j k t → Derives g es A i k (node r j s t)
 
+-- what is missing weighs nothing
 unfoldable pub ruleWeight : Option R.Rule → ℕ
 ruleWeight none = 0
 ruleWeight (some (Pair A B C w)) = w

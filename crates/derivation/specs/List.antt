@@ -37,7 +37,8 @@ only m n l = when (eqb m n) l
 unfoldable pub leafOf : Sym → ℕ → ℕ → ℕ → R.Rule → ℕ → Edge → List Tree
 unfolding only
 leafOf A i k r (Pair H B C w) e a = []
-leafOf A i k r (Word H x w) e (edge from upto y c) = only (H .0) (A .0) (only from i (only upto k (only (x .0) (y .0) (leaf r e ∷ []))))
+leafOf A i k r (Word H x w) e (edge from upto y c) =
+    only (H .0) (A .0) (only from i (only upto k (only (x .0) (y .0) (leaf r e ∷ []))))
 
 unfoldable pub leavesOf : List Edge → Sym → ℕ → ℕ → ℕ → R.Rule → List Tree
 unfolding each leafOf
@@ -52,13 +53,15 @@ joined r j lefts rights = each (λ p s. each (λ q t. node r j s t ∷ []) right
 unfoldable pub nodesOf : (Sym → ℕ → ℕ → List Tree) → Sym → ℕ → ℕ → ℕ → R.Rule → List Tree
 unfolding only below joined
 nodesOf parts A i k r (Word H x w) = []
-nodesOf parts A i k r (Pair H B C w) = only (H .0) (A .0) (below (λ d. joined r (suc (i + d)) (parts B i (suc (i + d))) (parts C (suc (i + d)) k)) (k - suc i))
+nodesOf parts A i k r (Pair H B C w) =
+    only (H .0) (A .0) (below (λ d. joined r (suc (i + d)) (parts B i (suc (i + d))) (parts C (suc (i + d)) k)) (k - suc i))
 
 -- the trees with head A from i to k that are at most `depth` nodes above their deepest leaf
 unfoldable pub treesWithin : Grammar → List Edge → ℕ → Sym → ℕ → ℕ → List Tree
 unfolding each leavesOf nodesOf
 treesWithin g es zero A i k = each (leavesOf es A i k) (g .rules)
-treesWithin g es (suc depth) A i k = each (λ r rule. leavesOf es A i k r rule ++ nodesOf (treesWithin g es depth) A i k r rule) (g .rules)
+treesWithin g es (suc depth) A i k =
+    each (λ r rule. leavesOf es A i k r rule ++ nodesOf (treesWithin g es depth) A i k r rule) (g .rules)
 
 -- all trees of a cell (head, from, to): none is deeper than its span is long
 unfoldable pub trees : Grammar → List Edge → Sym → ℕ → ℕ → List Tree

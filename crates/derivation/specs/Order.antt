@@ -12,14 +12,16 @@ Ordering·lt ▸ o = Ordering·lt
 Ordering·eq ▸ o = o
 Ordering·gt ▸ o = Ordering·gt
 
--- by the price of a tree, then the rule number, then the split (over one span: fewer slots in the left part), then the left parts, then the right parts
--- (a rule has leaves or nodes, never both; its leaves over one span compare by edge number, which differs only where two edges have one word)
+-- lower price; then lower rule number; then lower split, which over one span is fewer slots in the left part; then the left
+-- parts by this same order, price included; then the right parts likewise.
+-- A rule has leaves or nodes, never both. Two leaves of a rule over one span have one word, so in slots they have one edge
 unfoldable pub order : (Tree → ℕ) → Tree → Tree → Ordering
 order price (leaf r e) (leaf s f) = compare (price (leaf r e)) (price (leaf s f)) ▸ compare r s ▸ compare e f
 order price (leaf r e) (node s k c d) = compare (price (leaf r e)) (price (node s k c d)) ▸ compare r s ▸ Ordering·lt
 order price (node r j a b) (leaf s f) = compare (price (node r j a b)) (price (leaf s f)) ▸ compare r s ▸ Ordering·gt
-order price (node r j a b) (node s k c d) = compare (price (node r j a b)) (price (node s k c d)) ▸ compare r s ▸ compare j k ▸ order price a c ▸ order price b d
+order price (node r j a b) (node s k c d) =
+    compare (price (node r j a b)) (price (node s k c d)) ▸ compare r s ▸ compare j k ▸ order price a c ▸ order price b d
 
--- s comes before t: the price is the weight
+-- s comes before t: lower weight first
 abbrev pub Before : Grammar → List Edge → Tree → Tree → Type 0
 Before g es s t = order (weight g es) s t ≡ Ordering·lt

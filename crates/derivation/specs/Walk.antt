@@ -1,4 +1,5 @@
--- When rule numbers are the walk of a derivation, and its weight, found number by number: document 01, "Where each check stands", 34 and 35.
+-- When rule numbers are the walk of a derivation, and its weight, found number by number: document 01, "Where each check
+-- stands", 34 and 35.
 -- Stands on packing's Meaning alone; proofs/Walk says that it agrees with Derivation.
 use mathlib.Core.Option.{Option, none, some}
 use mathlib.Core.List.{List, [], _∷_}
@@ -12,7 +13,8 @@ use Rattle.packing.specs.declared.Rule as R
 use Rattle.packing.specs.declared.Rule.the-variants.{Pair, Word}
 use Rattle.packing.specs.Meaning.{sym, Grammar, Utterance, Candidate, candidate}
 
--- how far a walk has come: the slots that are left, the heads of the parts that are to come, next first, and the weight so far; or astray
+-- how far a walk has come: the slots that are left, the heads of the parts that are to come, the next first, and the weight
+-- so far; or that it is none
 pub data State : Type 0 where
   onward : (slots : Utterance) (heads : List Sym) (weight : ℕ) → State
   astray : State
@@ -26,13 +28,17 @@ unfoldable pub leafStep : Utterance → List Sym → ℕ → Option ℕ → Stat
 leafStep slots heads w none = astray
 leafStep slots heads w (some c) = onward slots heads (w + c)
 
--- the next part, with head A, has a given rule: a pair rule brings two parts in its place, and each part needs a slot of its own; a word rule takes a slot
+-- the next part has head A, and the rule is given: a pair rule puts two parts in its place, where each part to come still has
+-- a slot of its own; a word rule takes a slot that offers its word
 unfoldable pub ruleStep : Utterance → Sym → List Sym → ℕ → Option R.Rule → State
 unfolding costOf leafStep
 ruleStep slots A heads w none = astray
-ruleStep slots A heads w (some (Pair H B C v)) = pick (eqb (H .0) (A .0)) (pick (ltb (suc (length heads)) (length slots)) (onward slots (B ∷ C ∷ heads) (w + v)) astray) astray
+ruleStep slots A heads w (some (Pair H B C v)) =
+    pick (eqb (H .0) (A .0)) (pick (ltb (suc (length heads)) (length slots)) (onward slots (B ∷ C ∷ heads) (w + v)) astray)
+    astray
 ruleStep [] A heads w (some (Word H x v)) = astray
-ruleStep (slot ∷ slots) A heads w (some (Word H x v)) = pick (eqb (H .0) (A .0)) (leafStep slots heads (w + v) (costOf x slot)) astray
+ruleStep (slot ∷ slots) A heads w (some (Word H x v)) =
+    pick (eqb (H .0) (A .0)) (leafStep slots heads (w + v) (costOf x slot)) astray
 
 -- one number of the walk
 unfoldable pub step : Grammar → State → ℕ → State
