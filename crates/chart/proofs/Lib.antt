@@ -1,0 +1,3 @@
+pub mod Entries
+pub mod Keys
+pub mod Select
