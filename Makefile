@@ -3,6 +3,9 @@
 # make bench   the library's times beside those of Rust on the same inputs
 # make clean   removes all that was built
 
+# The services that the library exports beside the four conversions, as in .ci/run.
+features =
+
 .PHONY: all test bench clean
 
 all:
@@ -14,7 +17,7 @@ test:
 
 bench:
 	rt staticlib spireyerba
-	cargo run --release --locked --manifest-path bench/Cargo.toml
+	cargo run --release --locked --manifest-path bench/Cargo.toml --features "$(features)"
 
 clean:
 	rm -rf target

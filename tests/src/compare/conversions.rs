@@ -14,13 +14,13 @@ pub struct Conversion<I, O> {
 }
 
 impl<I: Noise + PartialEq + Debug, O: Noise + PartialEq + Debug> Conversion<I, O> {
-    /// Compares on one input with outputs of several lengths: one short, exact and one more where the input is
+    /// Compares on one input with outputs of several lengths: none, one short, exact and one more where the input is
     /// accepted.
     pub fn compare(&self, rng: &mut Rng, tally: &mut Tally, grammar: &[u8], input: &[I]) {
         let mut longest: Vec<O> = rng.noise(self.longest);
         match (self.second)(grammar, input, &mut longest) {
             Ok(length) => {
-                for length in [length - 1, length, length + 1] {
+                for length in [0, length - 1, length, length + 1] {
                     self.compare_at(rng, tally, grammar, input, length);
                 }
             }

@@ -10,9 +10,10 @@ pub fn truncations<T: Clone>(whole: &[T]) -> impl Iterator<Item = Vec<T>> + '_ {
     (0..whole.len()).map(|length| whole[..length].to_vec())
 }
 
-/// The whole with one or more numbers after it, zero and other.
+/// The whole with one or more numbers after it, zero and other, at times very many.
 pub fn surplus<T: Noise>(rng: &mut Rng, whole: &[T]) -> Vec<Vec<T>> {
-    let more = [vec![T::cut(0)], vec![T::cut(1)], vec![T::cut(0); 5], rng.noise(1), rng.noise(9)];
+    let many = if rng.once_in(20) { 70_000 } else { 5 };
+    let more = [vec![T::cut(0)], vec![T::cut(1)], vec![T::cut(0); many], rng.noise(1), rng.noise(9)];
     more.into_iter().map(|more| [whole, more.as_slice()].concat()).collect()
 }
 
