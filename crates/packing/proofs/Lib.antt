@@ -13,3 +13,5 @@ pub mod Widths
 pub mod Whole
 pub mod Theorems
 pub mod Cases
+pub mod Loop
+pub mod Store

@@ -7,3 +7,5 @@ pub mod Reading
 pub mod Conversion
 pub mod Flat
 pub mod Valid
+pub mod Loop
+pub mod Store

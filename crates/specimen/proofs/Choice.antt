@@ -7,20 +7,23 @@ use mathlib.Core.Option.{Option, none, some}
 use mathlib.Core.List.{List, [], _∷_, _++_}
 use Prim.Native.Nat.{ℕ, zero, suc, _+_, _-_, _*_, _/_, _%_, _≤_, _<_}
 use native.Mathlib.Decide.{decLt, ℕ-discrete}
+use native.Mathlib.Nat.{mod-eq-of-lt}
 use native.Mathlib.Numerals.{add-one}
 use native.Mathlib.Omega.{arith}
-use borrow.Author.Tests.{eq-eqb, ne-eqb, eqb-true, eqb-false}
+use borrow.Author.Tests.{eq-eqb, ne-eqb, lt-ltb}
 use lib.Dec.{eqb}
 use lib.ListN.{length, getD, set, getElem?, length-append, length-set}
 use lib.Seq.{getD-set-same, getD-set-other}
 use Rattle.bits.specs.Bits.{pick}
 use Rattle.packing.specs.Meaning.{Grammar, word, sym as symbol}
 use Rattle.packing.specs.Flat.{ruleAt}
+use Rattle.packing.specs.Loop.{iter}
+use Rattle.packing.proofs.Loop.{iter-keeps}
 use Rattle.packing.specs.declared.Sym.{Sym}
 use Rattle.packing.specs.declared.Rule.{Rule}
 use Rattle.packing.specs.declared.Rule.the-variants.{Pair, Word}
 use Rattle.derivation.specs.Derivation.{At}
-use Rattle.specimen.specs.Choice.{iter, choiceAt, orElse, splitChoice, pairChoice, ruleChoice, cellChoice, lengthFilled, filled, wordsOf, chosen}
+use Rattle.specimen.specs.Choice.{choiceAt, orElse, splitChoice, pairChoice, ruleChoice, cellChoice, lengthFilled, filled, wordsOf, chosen}
 use Rattle.specimen.proofs.Yields.{Yields, one, two}
 
 -- a fold that keeps the first choice: what it ends with was there before or is found at some turn, and it ends with 0 only
@@ -63,12 +66,6 @@ module _ (find : ℕ → ℕ) where
   kept-none best zero e = (e, λ y l. absurd (omega arith))
   kept-none best (suc n) e = empty-more best n (iter keep best n) (kept-none best n) e
 
--- what holds at the start of a loop and is kept by each turn holds at its end
-iter-keeps : {A : Type 0} (P : ℕ → A → Type 0) (f : A → ℕ → A) (b : A) (n : ℕ) → P 0 b → ((x : ℕ) (u : A) → x < n → P x u → P (suc x) (f u x)) → P n (iter f b n)
-unfolding iter
-iter-keeps P f b zero h s = h
-iter-keeps P f b (suc n) h s = s n (iter f b n) (omega arith) (iter-keeps P f b n h (λ x u l. s x u (omega arith)))
-
 -- a rule's choice is kept or found
 or-else-zero : (x : ℕ) → x ≡ orElse x 0
 or-else-zero x = go (ℕ-discrete x 0)
@@ -106,7 +103,8 @@ rule-or-else t a len best r (Word h x w) = go (eqb (h .0) (a .0)) (eqb len 1)
 -- a grammar in an array of R rules, with fewer than 32 symbols
 module _ (g : Grammar) (rules : List ℕ) (S : ℕ) (few : S ≤ 32)
     (stored : (r : ℕ) → r < length (g .rules) → At (g .rules) r (ruleAt rules r))
-    (parts : (A B C : Sym) (r w : ℕ) → At (g .rules) r (Pair A B C w) → (B .0 < S) × (C .0 < S)) where
+    (parts : (A B C : Sym) (r w : ℕ) → At (g .rules) r (Pair A B C w) → (B .0 < S) × (C .0 < S))
+  (words : (A : Sym) (x r w : ℕ) → At (g .rules) r (Word A (word x) w) → x < 256) where
   -- what a choice says: a word rule, or a pair rule and two parts that have choices
   pub data Choice (t : List ℕ) (a : Sym) (len : ℕ) : ℕ → Type 0 where
     by-word : {x : ℕ} (r w : ℕ) → At (g .rules) r (Word a (word x) w) → len ≡ 1 → Choice t a len (1 + r * 32)
@@ -224,7 +222,7 @@ module _ (g : Grammar) (rules : List ℕ) (S : ℕ) (few : S ≤ 32)
   -- the row of a length is filled
   module _ (n : ℕ) (len : ℕ) (pos : 0 < len) (within : len ≤ n) where
     abbrev Row : ℕ → List ℕ → Type 0
-    Row x t = (length t ≡ 32 * (n + 1)) × Good t (len - 1) × ((a : Sym) → a .0 < x → Right t a len (choiceAt t a len))
+    Row x t = (32 * (n + 1) ≤ length t) × Good t (len - 1) × ((a : Sym) → a .0 < x → Right t a len (choiceAt t a len))
 
     row-step : (x : ℕ) (t : List ℕ) → x < S → Row x t → Row (suc x) (set t (len * 32 + x) (cellChoice t rules (length (g .rules)) (symbol x) len))
     row-step x t l (size, good, row) = (
@@ -248,7 +246,7 @@ module _ (g : Grammar) (rules : List ℕ) (S : ℕ) (few : S ≤ 32)
             let other = cell-other t a b len len v (omega arith) (omega arith) (λ p q. e q) in
             rw other (right-keeps t a len v l b len _ (omega arith) (row b (omega arith)))
 
-    row-filled : (t : List ℕ) → length t ≡ 32 * (n + 1) → Good t (len - 1) → (length (lengthFilled rules (length (g .rules)) S len t) ≡ 32 * (n + 1)) × Good (lengthFilled rules (length (g .rules)) S len t) len
+    row-filled : (t : List ℕ) → 32 * (n + 1) ≤ length t → Good t (len - 1) → (32 * (n + 1) ≤ length (lengthFilled rules (length (g .rules)) S len t)) × Good (lengthFilled rules (length (g .rules)) S len t) len
     unfolding lengthFilled
     row-filled t size good =
         let (p, q, r) = iter-keeps Row (λ t a. set t (len * 32 + a) (cellChoice t rules (length (g .rules)) (symbol a) len)) t S (size, good, λ a l. absurd (omega arith)) row-step in
@@ -259,10 +257,10 @@ module _ (g : Grammar) (rules : List ℕ) (S : ℕ) (few : S ≤ 32)
         go a m ha pm le q r (no e) = q a m ha pm (omega arith)
 
   -- the whole table is right
-  pub filled-good : (n : ℕ) (t : List ℕ) → length t ≡ 32 * (n + 1) → Good (filled rules (length (g .rules)) S n t) n
+  pub filled-good : (n : ℕ) (t : List ℕ) → 32 * (n + 1) ≤ length t → Good (filled rules (length (g .rules)) S n t) n
   unfolding filled
   filled-good n t size =
-      iter-keeps (λ x t. (length t ≡ 32 * (n + 1)) × Good t x) (λ t y. lengthFilled rules (length (g .rules)) S (y + 1) t) t n
+      iter-keeps (λ x t. (32 * (n + 1) ≤ length t) × Good t x) (λ t y. lengthFilled rules (length (g .rules)) S (y + 1) t) t n
       (size, λ a m ha pm le. absurd (omega arith))
       (λ x t l w. let e : x + 1 - 1 ≡ x = omega arith in rw (← add-one x) (row-filled n (x + 1) (omega arith) (omega arith) t (w .0) (rw e (w .1)))) .1
 
@@ -276,13 +274,14 @@ module _ (g : Grammar) (rules : List ℕ) (S : ℕ) (few : S ≤ 32)
       go : {v : ℕ} → Choice t a len v → choiceAt t a len ≡ v
           → ((a : Sym) (len : ℕ) → len ≤ fuel → a .0 < S → 0 < len → len ≤ n → (choiceAt t a len ≡ 0 → ⊥) → (length (chosen t rules fuel a len) ≡ len) × Yields g a (chosen t rules fuel a len))
           → (length (chosen t rules (suc fuel) a len) ≡ len) × Yields g a (chosen t rules (suc fuel) a len)
-      go (by-word r w h e) v rec =
+      go (by-word {x = x} r w h e) v rec =
           let d : (choiceAt t a len - 1) / 32 ≡ r = omega arith in
-          rw (d, rule-is r h) (sym e, one r w h)
+          let m : x % 256 ≡ x = mod-eq-of-lt (words a x r w h) in
+          rw (d, rule-is r h, m) (sym e, one r w h)
       go (by-split {b = b} {c = c} r w j h p q e f) v rec =
           let s = parts a b c r w h in
           let d : (choiceAt t a len - 1) / 32 ≡ r = omega arith in
           let m : (choiceAt t a len - 1) % 32 ≡ j = omega arith in
           let x = rec b j (omega arith) (s .0) p (omega arith) e in
           let y = rec c (len - j) (omega arith) (s .1) (omega arith) (omega arith) f in
-          rw (d, m, rule-is r h) (simp length-append (omega (arith, x .0, y .0)), two r w h (x .1) (y .1))
+          rw (d, m, rule-is r h, lt-ltb 0 j p, lt-ltb j len q) (simp length-append (omega (arith, x .0, y .0)), two r w h (x .1) (y .1))

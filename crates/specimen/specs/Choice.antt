@@ -2,19 +2,15 @@
 -- long. Nobody need believe this page: the theorems of proofs/ join it to what the grammar derives. Assumes nothing.
 use mathlib.Core.List.{List, [], _∷_, _++_}
 use Prim.Native.Nat.{ℕ, zero, suc, _+_, _-_, _*_, _/_, _%_}
-use lib.Dec.{eqb}
+use lib.Dec.{ltb, eqb}
 use lib.ListN.{getD, set}
 use Rattle.bits.specs.Bits.{pick}
 use Rattle.packing.specs.Flat.{ruleAt}
+use Rattle.packing.specs.Loop.{iter}
 use Rattle.packing.specs.Meaning.{sym}
 use Rattle.packing.specs.declared.Sym.{Sym}
 use Rattle.packing.specs.declared.Rule.{Rule}
 use Rattle.packing.specs.declared.Rule.the-variants.{Pair, Word}
-
--- g, n times from b, with the turn's number: the meaning of a loop over 0..n
-unfoldable pub iter : {A : Type 0} → (A → ℕ → A) → A → ℕ → A
-iter g b zero = b
-iter g b (suc n) = g (iter g b n) n
 
 -- the choice for a symbol and a length: 0 where no string was found, else 1 + 32 r + j for rule r and a left part of
 -- length j, which is 0 of a word rule
@@ -45,10 +41,10 @@ lengthFilled rules R S len t = iter (λ t a. set t (len * 32 + a) (cellChoice t 
 unfoldable pub filled : List ℕ → ℕ → ℕ → ℕ → List ℕ → List ℕ
 filled rules R S n t = iter (λ t y. lengthFilled rules R S (y + 1) t) t n
 
--- the words chosen for a symbol and a length; any fuel of at least the length serves
+-- the words chosen for a symbol and a length, as bytes; any fuel of at least the length serves
 abbrev pub wordsOf : (Sym → ℕ → List ℕ) → ℕ → ℕ → Rule → List ℕ
-wordsOf go len j (Pair h b c w) = go b j ++ go c (len - j)
-wordsOf go len j (Word h x w) = x .0 ∷ []
+wordsOf go len j (Pair h b c w) = pick (ltb 0 j) (pick (ltb j len) (go b j ++ go c (len - j)) []) []
+wordsOf go len j (Word h x w) = x .0 % 256 ∷ []
 
 unfoldable pub chosen : List ℕ → List ℕ → ℕ → Sym → ℕ → List ℕ
 chosen t rules zero a len = []
