@@ -276,3 +276,11 @@ module _ (g : Grammar) (u : Utterance) where
             let at-end : drop (length u) u ≡ [] = drop-length u in
             let w′ : 0 + weight g (edges u) t ≡ w = omega arith in
             rw (← n, ← append-nil (walk t)) (ap ended (complete d [] 0 [] (omega arith)) ∙ rw (at-end, w′))
+
+    -- and nothing else
+    pub walk-none : (numbers : List ℕ) → ((t : Tree) → Derivation g u t → walk t ≡ numbers → ⊥) → walkWeight g u numbers ≡ none
+    walk-none numbers h = go (walkWeight g u numbers) refl
+      where
+        go : (o : Option ℕ) → walkWeight g u numbers ≡ o → walkWeight g u numbers ≡ none
+        go none e = e
+        go (some w) e = let (t, d, n, p) = walk-weight numbers w .0 e in absurd (h t d n)
