@@ -3,7 +3,7 @@
 -- For where rules and splits agree, the parts are trees of the same two cells, and these compare as their places do.
 use mathlib.Core.Path.{_≡_, sym, _∙_}
 use mathlib.Core.List.{List}
-use Prim.Native.Nat.{ℕ, _+_, _<_, compare, Ordering, Ordering·lt, Ordering·eq}
+use Prim.Native.Nat.{ℕ, _+_, _<_, compare, Ordering, Ordering·eq}
 use native.Mathlib.Omega.{arith}
 use lib.ListN.{length}
 use Rattle.packing.specs.declared.Sym.{Sym}
@@ -13,7 +13,7 @@ use Rattle.packing.specs.Meaning.{Grammar, Edge, edge}
 use Rattle.derivation.specs.Derivation.{At, Tree, leaf, node, Derives, by-word, by-pair, ruleWeight, edgeCost, weight}
 use Rattle.derivation.specs.Order.{_▸_, order}
 use Rattle.derivation.specs.List.{ranked}
-use Rattle.derivation.proofs.Comparison.{lt≢eq, compare-self, compare-same, compare-lt, compare-gt, compare-lawful, ▸-eq, ▸-cong, ▸-first, ▸-gt, ▸-between, number-chain}
+use Rattle.derivation.proofs.Comparison.{compare-same, compare-lt, compare-gt, ▸-eq, ▸-cong, ▸-first, ▸-gt, ▸-between}
 use Rattle.derivation.proofs.Order.{order-lawful}
 use Rattle.derivation.proofs.Lists.{at-length}
 use Rattle.derivation.proofs.Cell.{ranked-order, place-derives, derives-place}

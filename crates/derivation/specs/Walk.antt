@@ -1,6 +1,6 @@
 -- When rule numbers are the walk of a derivation, and its weight, found number by number: document 01, "Where each check
 -- stands", 34 and 35.
--- Stands on packing's Meaning alone; proofs/Walk says that it agrees with Derivation.
+-- Stands on packing's Meaning alone. Nobody need believe this page: proofs/Walk says that it agrees with Derivation.
 use mathlib.Core.Option.{Option, none, some}
 use mathlib.Core.List.{List, [], _∷_}
 use Prim.Native.Nat.{ℕ, suc, _+_}
