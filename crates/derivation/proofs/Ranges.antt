@@ -66,6 +66,10 @@ slots-all P W f (slot ∷ u) (count, h) = (
   slots-all P W f u (each-right InRange (candidatesEntries W 0 slot) (slotsEntries W u) h),
 )
 
+pub valid-rules : (g : Grammar) → ValidGrammar g → length (g .rules) ≤ 256
+unfolding grammarEntries
+valid-rules g v = v .0 .1 .1 .0 .1
+
 pub valid-light : (g : Grammar) → ValidGrammar g → All Light (g .rules)
 unfolding grammarEntries
 valid-light g v = rules-light (g .symbols) (g .words) (g .rules) (v .0 .1 .1 .1)

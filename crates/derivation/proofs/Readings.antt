@@ -2,13 +2,16 @@
 -- leaf and node, and a leaf's word its edge.
 -- Over slots it has one node less than twice its slots; so its weight is bounded.
 use mathlib.Core.Path.{_≡_, sym, ap, _∙_}
-use mathlib.Core.List.{List, [], _++_, append-assoc}
+use mathlib.Core.Logic.{⊎-elim}
+use mathlib.Core.List.{List, [], _++_, append-assoc, List·Memᴰ·append-cases, List·Memᴰ·cases-cons, List·Memᴰ·eq-of-singleton}
 use Prim.Native.Nat.{ℕ, suc, _+_, _-_, _*_, _≤_, _<_}
 use native.Mathlib.Omega.{arith}
 use lib.ListN.{length, length-append}
 use Rattle.packing.specs.declared.Sym.{Sym}
 use Rattle.packing.specs.Meaning.{Grammar, Edge}
 use Rattle.derivation.specs.Derivation.{Tree, Derives, by-word, by-pair, ruleWeight, weight, walk}
+use Rattle.derivation.specs.List.{_∈_}
+use Rattle.derivation.proofs.Lists.{at-length}
 use Rattle.derivation.proofs.Ranges.{All, all-at, Light}
 use Rattle.derivation.proofs.Rows.{leaf-weight, node-weight}
 use Rattle.derivation.proofs.Slots.{Apart, Short, CheapEdges}
@@ -46,6 +49,15 @@ module _ (g : Grammar) (es : List Edge) (apart : Apart es) where
 
   pub walk-one : {A : Sym} {i k l : ℕ} {s t : Tree} → Derives g es A i k s → Derives g es A i l t → walk s ≡ walk t → s ≡ t
   walk-one d e h = walk-decides d e [] [] (ap (λ l. l ++ []) h) .tree
+
+-- each number of a walk is a rule's
+pub walk-rules : {g : Grammar} {es : List Edge} {A : Sym} {i k r : ℕ} {t : Tree} → Derives g es A i k t → r ∈ walk t
+    → r < length (g .rules)
+unfolding walk
+walk-rules {g = g} (by-word {r = r} p q) m = rw (List·Memᴰ·eq-of-singleton m) (at-length (g .rules) r p)
+walk-rules {g = g} (by-pair {r = r} {s = s} p h₁ h₂ d₁ d₂) m =
+    ⊎-elim (λ e. rw e (at-length (g .rules) r p)) (λ n. ⊎-elim (walk-rules d₁) (walk-rules d₂) (List·Memᴰ·append-cases (walk s) n))
+    (List·Memᴰ·cases-cons m)
 
 -- a tree spans something, and over slots its nodes are counted by its span
 pub span : {g : Grammar} {es : List Edge} {A : Sym} {i k : ℕ} {t : Tree} → Short es → Derives g es A i k t → i < k

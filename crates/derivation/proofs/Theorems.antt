@@ -10,22 +10,23 @@ use Prim.Native.Nat.{ℕ, _+_, _-_, _*_, _≤_, _<_, min, Ordering, Ordering·lt
 use native.Mathlib.Omega.{arith}
 use lib.ListN.{length, take, length-map, length-take}
 use Rattle.packing.specs.Meaning.{sym as symbol, Grammar, Utterance, edges, Reading}
-use Rattle.packing.specs.Valid.{ValidGrammar, ValidUtterance}
+use Rattle.packing.specs.Valid.{ValidGrammar, ValidUtterance, ValidReading}
+use Rattle.packing.proofs.Widths.{reading-valid}
 use Rattle.derivation.specs.Derivation.{At, Tree, weight, walk, Derivation, reading}
 use Rattle.derivation.specs.Order.{order, Before}
 use Rattle.derivation.specs.List.{Number, Rank, trees, ranked, listing}
 use Rattle.derivation.specs.Walk.{walkWeight}
 use Rattle.derivation.proofs.Comparison.{Lawful, lt≢eq, turn-gt}
 use Rattle.derivation.proofs.Order.{order-lawful}
-use Rattle.derivation.proofs.Lists.{at-take, at-map, map-at}
+use Rattle.derivation.proofs.Lists.{at-mem, at-take, at-map, map-at}
 use Rattle.derivation.proofs.Sorted.{number-one}
 use Rattle.derivation.proofs.Trees.{trees-derive, trees-once}
 use Rattle.derivation.proofs.Cell.{derives-place}
 use Rattle.derivation.proofs.Ranks.{number-all, number-before, place-number}
-use Rattle.derivation.proofs.Ranges.{valid-light, valid-ascending, valid-cheap, valid-slots}
+use Rattle.derivation.proofs.Ranges.{valid-rules, valid-light, valid-ascending, valid-cheap, valid-slots}
 use Rattle.derivation.proofs.Slots.{edges-apart, edges-short, edges-cheap}
 use Rattle.derivation.proofs.Walk.{walk-weight}
-use Rattle.derivation.proofs.Readings.{walk-one, walk-length, weight-bound}
+use Rattle.derivation.proofs.Readings.{walk-one, walk-rules, walk-length, weight-bound}
 
 module _ (g : Grammar) (u : Utterance) where
   law : Lawful (order (weight g (edges u)))
@@ -113,6 +114,16 @@ module _ (g : Grammar) (u : Utterance) where
       let bound = weight-bound g (edges u) (edges-short u) (valid-light g ok) cheap d in
       let n = valid-slots (g .words) u ok′ in
       omega arith
+
+  -- "A derivation's reading is its packed block": it can be packed
+  pub reading-packs : ValidGrammar g → ValidUtterance (g .words) u → (t : Tree) → Derivation g u t
+      → ValidReading (length (g .rules)) (reading g u t)
+  unfolding reading
+  reading-packs ok ok′ t d =
+      let n = valid-slots (g .words) u ok′ in
+      let w = greatest-weight ok ok′ t d in
+      reading-valid (length (g .rules)) (valid-rules g ok) (reading g u t) (omega arith) (omega arith) (nodes t d)
+      (λ k r e. walk-rules d (at-mem (walk t) k e))
 
   -- 34 and 35, "the 2n−1 numbers are not the walk of a derivation", "weight not its own": a reading passes exactly if it is
   -- some derivation's

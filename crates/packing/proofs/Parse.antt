@@ -30,15 +30,15 @@ refused-out x e = same-parse x ∙ ap parseOf e
 failed≢parsed : {A : Type 0} {n next : ℕ} {a : A} → failed n ≡ parsed a next → ⊥
 failed≢parsed e = let z : _≡_ {A = ℕ} 0 1 = cc in omega arith
 
-refused≢accepted : {A : Type 0} {n : ℕ} {a : A} → refused n ≡ accepted a → ⊥
+pub refused≢accepted : {A : Type 0} {n : ℕ} {a : A} → refused n ≡ accepted a → ⊥
 refused≢accepted e = let z : _≡_ {A = ℕ} 0 1 = cc in omega arith
 
 -- what a test chose, where the other choice is not it
-picked-first : {A : Type 0} (t : Bool) (x y : A) {z : A} → (y ≡ z → ⊥) → pick t x y ≡ z → (t ≡ true) × (x ≡ z)
+pub picked-first : {A : Type 0} (t : Bool) (x y : A) {z : A} → (y ≡ z → ⊥) → pick t x y ≡ z → (t ≡ true) × (x ≡ z)
 picked-first true x y n e = (refl, e)
 picked-first false x y n e = absurd (n e)
 
-picked-second : {A : Type 0} (t : Bool) (x y : A) {z : A} → (x ≡ z → ⊥) → pick t x y ≡ z → (t ≡ false) × (y ≡ z)
+pub picked-second : {A : Type 0} (t : Bool) (x y : A) {z : A} → (x ≡ z → ⊥) → pick t x y ≡ z → (t ≡ false) × (y ≡ z)
 picked-second true x y n e = absurd (n e)
 picked-second false x y n e = (refl, e)
 
