@@ -104,7 +104,7 @@ rule-or-else t a len best r (Word h x w) = go (eqb (h .0) (a .0)) (eqb len 1)
 module _ (g : Grammar) (rules : List ℕ) (S : ℕ) (few : S ≤ 32)
     (stored : (r : ℕ) → r < length (g .rules) → At (g .rules) r (ruleAt rules r))
     (parts : (A B C : Sym) (r w : ℕ) → At (g .rules) r (Pair A B C w) → (B .0 < S) × (C .0 < S))
-  (words : (A : Sym) (x r w : ℕ) → At (g .rules) r (Word A (word x) w) → x < 256) where
+    (words : (A : Sym) (x r w : ℕ) → At (g .rules) r (Word A (word x) w) → x < 256) where
   -- what a choice says: a word rule, or a pair rule and two parts that have choices
   pub data Choice (t : List ℕ) (a : Sym) (len : ℕ) : ℕ → Type 0 where
     by-word : {x : ℕ} (r w : ℕ) → At (g .rules) r (Word a (word x) w) → len ≡ 1 → Choice t a len (1 + r * 32)

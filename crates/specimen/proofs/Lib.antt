@@ -1,2 +1,3 @@
 pub mod Yields
 pub mod Choice
+pub mod Spelling

@@ -8,6 +8,7 @@ ghost use mathlib.Core.List.{_++_};
 ghost use Prim.Native.Nat.{ℕ, _+_, _-_, _*_, _≤_, _<_};
 ghost use lib.ListN.{length, take, drop, set};
 ghost use Rattle.packing.specs.Flat.{ruleAt};
+ghost use Rattle.packing.specs.Store.{storeAll};
 ghost use Rattle.specimen.specs.Choice.{choiceAt, orElse, splitChoice, pairChoice, ruleChoice, cellChoice, lengthFilled, filled, chosen};
 
 // What the specimen answers: that the string was written, that there is none, or the refusal.
@@ -112,5 +113,48 @@ fn fill(table: &mut [u32], rules: &[u32], count: usize, symbols: usize, n: usize
 {
     for y in 0..n {
         fill_length(table, rules, count, symbols, y + 1);
+    }
+}
+
+// Stores a byte, and nothing past the end.
+fn store_byte(out: &mut [u8], at: usize, x: u8)
+    ensures { λ _. ⌜ now (out .exit) ≡ set (now (out .entry)) at x ⌝ }
+{
+    if at < out.len() {
+        out[at] = x;
+    }
+}
+
+// One less, and 0 of 0.
+fn less_one(x: usize) -> usize
+    ensures { λ r. ⌜ (r ≡ x - 1) × (r ≤ x) ⌝ }
+{
+    if x == 0 { 0 } else { x - 1 }
+}
+
+// Writes the words chosen for a symbol and a length, and answers the place behind them.
+fn spell(table: &[u32], rules: &[u32], a: Sym, len: usize, out: &mut [u8], at: usize) -> usize
+    requires { ⌜ (0 < len) × (at + len ≤ 24) ⌝ }
+    ensures { λ r. ⌜ r ≤ at + len ⌝ }
+    ensures { λ r. ⌜ ((f : ℕ) → len ≤ f → (now (out .exit) ≡ storeAll (now (out .entry)) at (chosen (now (table .entry)) (now (rules .entry)) f a len)) × (r ≡ at + length (chosen (now (table .entry)) (now (rules .entry)) f a len))) ⌝ }
+{
+    let choice = less_one(choice_at(table, a, len));
+    let j = choice % 32;
+    let rule = rule_at(rules, choice / 32);
+    match rule {
+        Rule::Word(_, word, _) => {
+            store_byte(out, at, (word.0 % 256) as u8);
+            at + 1
+        }
+        Rule::Pair(_, b, c, _) => {
+            if 0 < j {
+                if j < len {
+                    let middle = spell(table, rules, b, j, out, at);
+                    return spell(table, rules, c, len - j, out, middle);
+                }
+                return at;
+            }
+            at
+        }
     }
 }
