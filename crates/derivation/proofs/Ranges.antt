@@ -2,7 +2,8 @@
 use mathlib.Core.Path.{_≡_}
 use mathlib.Core.Option.{some}
 use mathlib.Core.List.{List, [], _∷_}
-use Prim.Native.Nat.{ℕ, zero, suc, _≤_}
+use Prim.Native.Nat.{ℕ, zero, suc, _≤_, _<_}
+use native.Mathlib.Omega.{arith}
 use lib.ListN.{length}
 use Rattle.packing.specs.declared.Rule as R
 use Rattle.packing.specs.declared.Rule.the-variants.{Pair, Word}
@@ -46,6 +47,19 @@ rules-light S W (Pair a b c w ∷ rs) h =
 rules-light S W (Word a x w ∷ rs) h =
     (h .1 .1 .0 .1, rules-light S W rs (each-right InRange (ruleEntries S W (Word a x w)) (rulesEntries S W rs) h))
 
+-- symbols below S, words below W
+abbrev pub Within : ℕ → ℕ → R.Rule → Type 0
+Within S W (Pair a b c w) = (a .0 < S) × (b .0 < S) × (c .0 < S)
+Within S W (Word a x w) = (a .0 < S) × (x .0 < W)
+
+rules-within : (S W : ℕ) → 1 ≤ S → 1 ≤ W → (rs : List R.Rule) → Fits (rulesEntries S W rs) → All (Within S W) rs
+unfolding rulesEntries
+rules-within S W hs hw [] h = tt
+rules-within S W hs hw (Pair a b c w ∷ rs) h =
+    ((omega (arith, h .1 .0 .1), omega (arith, h .1 .1 .1 .0 .1), omega (arith, h .1 .1 .1 .1 .0 .1)), rules-within S W hs hw rs (each-right InRange (ruleEntries S W (Pair a b c w)) (rulesEntries S W rs) h))
+rules-within S W hs hw (Word a x w ∷ rs) h =
+    ((omega (arith, h .1 .0 .1), omega (arith, h .1 .1 .1 .0 .1)), rules-within S W hs hw rs (each-right InRange (ruleEntries S W (Word a x w)) (rulesEntries S W rs) h))
+
 candidates-cheap : (W least : ℕ) (slot : List Candidate) → Fits (candidatesEntries W least slot) → All Cheap slot
 unfolding candidatesEntries
 candidates-cheap W least [] h = tt
@@ -69,6 +83,15 @@ slots-all P W f (slot ∷ u) (count, h) = (
 pub valid-rules : (g : Grammar) → ValidGrammar g → length (g .rules) ≤ 256
 unfolding grammarEntries
 valid-rules g v = v .0 .1 .1 .0 .1
+
+-- S from 1 to 32, W from 1 to 200, and the rules within them
+pub valid-sizes : (g : Grammar) → ValidGrammar g → (1 ≤ g .symbols) × (g .symbols ≤ 32) × (1 ≤ g .words) × (g .words ≤ 200)
+unfolding grammarEntries
+valid-sizes g v = (v .0 .0 .0, v .0 .0 .1, v .0 .1 .0 .0, v .0 .1 .0 .1)
+
+pub valid-within : (g : Grammar) → ValidGrammar g → All (Within (g .symbols) (g .words)) (g .rules)
+unfolding grammarEntries
+valid-within g v = let s = valid-sizes g v in rules-within (g .symbols) (g .words) (s .0) (s .2) (g .rules) (v .0 .1 .1 .1)
 
 pub valid-light : (g : Grammar) → ValidGrammar g → All Light (g .rules)
 unfolding grammarEntries
