@@ -1,3 +1,4 @@
 pub mod Yields
 pub mod Choice
 pub mod Spelling
+pub mod Answer

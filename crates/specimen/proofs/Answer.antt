@@ -1,0 +1,57 @@
+-- The table of choices answers what is asked: no string of the length, or one that the grammar says. Assumes nothing.
+use mathlib.Core.Path.{_≡_, refl, sym, ap, _∙_}
+use mathlib.Core.List.{List, [], _∷_, _++_}
+use Prim.Native.Nat.{ℕ, zero, suc, _+_, _*_, _≤_, _<_}
+use native.Mathlib.Omega.{arith}
+use lib.ListN.{length, drop, take}
+use Rattle.packing.specs.Meaning.{Grammar, word, sym as symbol}
+use Rattle.packing.specs.Flat.{Begins, ruleNumbers, ruleAt}
+use Rattle.packing.specs.Store.{storeAll}
+use Rattle.packing.specs.Valid.{ValidGrammar}
+use Rattle.packing.proofs.Flat.{rule-at}
+use Rattle.packing.proofs.Store.{store-at}
+use Rattle.packing.specs.declared.Sym.{Sym}
+use Rattle.packing.specs.declared.Rule.the-variants.{Pair, Word}
+use Rattle.derivation.specs.Derivation.{At}
+use Rattle.derivation.proofs.Ranges.{Within, all-at, valid-sizes, valid-within}
+use Rattle.specimen.specs.Specimen.{Says}
+use Rattle.specimen.specs.Choice.{choiceAt, filled, chosen}
+use Rattle.specimen.proofs.Yields.{Yields, says-yields, yields-says}
+use Rattle.specimen.proofs.Choice.{Good, filled-good, chosen-yields}
+
+module _ (g : Grammar) (v : ValidGrammar g) (rules : List ℕ) (b : Begins (ruleNumbers g) rules) where
+  few : g .symbols ≤ 32
+  few = valid-sizes g v .1
+
+  stored : (r : ℕ) → r < length (g .rules) → At (g .rules) r (ruleAt rules r)
+  stored r h = rule-at g rules r b h
+
+  parts : (A B C : Sym) (r w : ℕ) → At (g .rules) r (Pair A B C w) → (B .0 < g .symbols) × (C .0 < g .symbols)
+  parts A B C r w h = let s = all-at (Within (g .symbols) (g .words)) (g .rules) r (valid-within g v) h in (s .1, s .2)
+
+  words : (A : Sym) (x r w : ℕ) → At (g .rules) r (Word A (word x) w) → x < 256
+  words A x r w h = let s = all-at (Within (g .symbols) (g .words)) (g .rules) r (valid-within g v) h in omega (arith, s .1, valid-sizes g v .3)
+
+  module _ (n : ℕ) (pos : 0 < n) (most : n ≤ 24) (table : List ℕ) (room : 32 * (n + 1) ≤ length table) where
+    abbrev full : List ℕ
+    full = filled rules (length (g .rules)) (g .symbols) n table
+
+    good : Good g rules (g .symbols) few stored parts words full n
+    good = filled-good g rules (g .symbols) few stored parts words n table room
+
+    start : symbol 0 .0 < g .symbols
+    start = omega (arith, valid-sizes g v .0)
+
+    pub none-said : choiceAt full (symbol 0) n ≡ 0 → (ws : List ℕ) → length ws ≡ n → Says g ws → ⊥
+    none-said e ws h s = good (symbol 0) n start pos (omega arith) .nothing e ws h (says-yields g ws s)
+
+    pub one-said : (choiceAt full (symbol 0) n ≡ 0 → ⊥) → (length (chosen full rules n (symbol 0) n) ≡ n) × Says g (chosen full rules n (symbol 0) n)
+    one-said ne =
+        let c = chosen-yields g rules (g .symbols) few stored parts words full n (omega arith) good n (symbol 0) n (omega arith) start pos (omega arith) ne in
+        (c .0, yields-says g _ (c .1))
+
+-- the string at the front of the output, and what stood beyond it
+pub at-front : (out ws : List ℕ) (n : ℕ) → length ws ≡ n → n ≤ length out → storeAll out 0 ws ≡ ws ++ drop n out
+at-front out ws n e h =
+    let m : 0 + length ws ≡ n = omega arith in
+    store-at out 0 ws (omega arith) ∙ rw m
