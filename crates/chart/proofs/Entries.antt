@@ -124,6 +124,11 @@ under-cap t d c x h = go (decLe (d .cap) x)
     go (yes l) = absurd (omega (arith, past-cap t d c x l))
     go (no l) = omega arith
 
+pub same-entry : (t : List ℕ) (d : Dims) (c x c′ x′ : ℕ) → x < d .cap → x′ < d .cap → entryOf d c x ≡ entryOf d c′ x′
+    → weightAt t d c x ≡ weightAt t d c′ x′
+unfolding weightAt
+same-entry t d c x c′ x′ l l′ e = rw (lt-ltb x (d .cap) l, lt-ltb x′ (d .cap) l′, e)
+
 -- the store of a key that is none
 pub put-none : (t : List ℕ) (d : Dims) (c x key : ℕ) → none ≤ key → putKey t d c x key ≡ t
 unfolding putKey

@@ -69,12 +69,12 @@ module _ {r j p q : ℕ} (fits : Fits r j p q) where
   pub right-in : rightIn (tieOf r j p q) ≡ q
   right-in = omega arith
 
-  -- the weight and the tie of a key
-  pub weight-in : (w : ℕ) → keyOf w (tieOf r j p q) / 536870912 ≡ w
-  weight-in w = omega (arith, tie-below)
+-- the weight and the tie of a key
+pub key-weight : (v : Row) → RowFits v → rowKey v / 536870912 ≡ rowWeight v + 1
+key-weight (row w r j p q) fits = omega (arith, tie-below fits)
 
-  pub tie-in : (w : ℕ) → keyOf w (tieOf r j p q) % 536870912 ≡ tieOf r j p q
-  tie-in w = omega (arith, tie-below)
+pub key-tie : (v : Row) → RowFits v → rowKey v % 536870912 ≡ rowTie v
+key-tie (row w r j p q) fits = omega (arith, tie-below fits)
 
 -- the central fact
 pub key-order : (v v′ : Row) → RowFits v → RowFits v′ → compare (rowKey v) (rowKey v′) ≡ rowOrder v v′

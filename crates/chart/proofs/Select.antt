@@ -62,11 +62,16 @@ module _ (floor : ℕ) where
     least = λ b key c h. ⊎-elim (λ x. le-trans (r .below (f b)) (s .least b key x h)) (λ x. r .least (f b) key x h) c;
   }
 
-  -- one step or another, by a test
-  pub selects-pick : {C D : ℕ → Type 0} {f g : ℕ → ℕ} (t : Bool) → Selects floor C f → Selects floor D g
-      → Selects floor (λ key. ((t ≡ true) × C key) ⊎ ((t ≡ false) × D key)) (λ b. pick t (f b) (g b))
-  selects-pick true s r = selects-same (λ key. ((λ c. inl (refl, c)), ⊎-elim (λ w. w .1) (λ w. absurd (false≢true (sym (w .0)))))) s
-  selects-pick false s r = selects-same (λ key. ((λ c. inr (refl, c)), ⊎-elim (λ w. absurd (false≢true (w .0))) (λ w. w .1))) r
+  -- a step where a test holds, and where it does not
+  pub selects-when : {C : ℕ → Type 0} {f : ℕ → ℕ} (t : Bool) → Selects floor C f
+      → Selects floor (λ key. (t ≡ true) × C key) (λ b. pick t (f b) b)
+  selects-when true s = selects-same (λ key. ((λ c. (refl, c)), λ w. w .1)) s
+  selects-when false s = selects-none (λ key w. false≢true (w .0))
+
+  pub selects-unless : {C : ℕ → Type 0} {f : ℕ → ℕ} (t : Bool) → Selects floor C f
+      → Selects floor (λ key. (t ≡ false) × C key) (λ b. pick t b (f b))
+  selects-unless true s = selects-none (λ key w. false≢true (sym (w .0)))
+  selects-unless false s = selects-same (λ key. ((λ c. (refl, c)), λ w. w .1)) s
 
   -- a loop
   module _ {C : ℕ → ℕ → Type 0} {g : ℕ → ℕ → ℕ} where

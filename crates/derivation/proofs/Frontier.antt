@@ -99,7 +99,7 @@ module _ (g : Grammar) (es : List Edge) where
     paired {r = r} {j = j} e h₁ h₂ (s, l, o) (t, n, o′) =
         (node r j s t, rw (row-weight g es o, row-weight g es o′) (node-row e h₁ h₂ l n))
 
-    frontier-row : (N m : ℕ) {v : Row} → Frontier N m v → (t : Tree) × RowOf g es A i k v t
+    pub frontier-row : (N m : ℕ) {v : Row} → Frontier N m v → (t : Tree) × RowOf g es A i k v t
     frontier-row N m (a-leaf {r = r} {e = e} p q) = (leaf r e, leaf-row p q)
     frontier-row N m (a-seed p h₁ h₂ l n) = paired p h₁ h₂ l n
     frontier-row N m (right-follower p h₁ h₂ x f a b l n) = paired p h₁ h₂ l n
