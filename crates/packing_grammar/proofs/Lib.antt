@@ -1,0 +1,6 @@
+pub mod Taken
+pub mod Fields
+pub mod Rows
+pub mod Keys
+pub mod Turns
+pub mod Grammars

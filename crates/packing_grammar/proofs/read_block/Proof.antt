@@ -1,0 +1,127 @@
+-- `packing_grammar::read_block` meets its contract: the kind, the grammar and the end, as the definition has them. Assumes nothing.
+use mathlib.Core.Path.{_≡_, refl, sym, subst, _∙_}
+use mathlib.Core.List.{List}
+use Prim.Native.Nat.{ℕ, _+_, _*_, _≤_}
+use native.Mathlib.Omega.{arith}
+use borrow.Author.Needs.{needs}
+use Rattle.bits.specs.Bits.{ended}
+use Rattle.packing.specs.Parse.{parsed, failed, refused, finish}
+use Rattle.packing.specs.Source.{bytes, take}
+use Rattle.packing.specs.Grammar.{blockKind, grammarFrom, grammarBlock}
+use Rattle.packing_grammar.specs.Answer.{Bounded}
+use Rattle.packing_grammar.specs.Parts.{SizesNear}
+use Rattle.packing_grammar.proofs.Taken.{got, missed, taken}
+use Rattle.packing_grammar.proofs.Grammars.{end-refused, end-passed, end-failed}
+use Rattle.packing_grammar.proofs.read_block.Statement.{statement}
+use Rattle.packing_grammar.proofs.read_block.Tie as tie
+
+slice-aggregate-take : tie.Need-slice-aggregate-take
+slice-aggregate-take c = search needs
+
+-- after the kind, or without it
+module _ (s : List ℕ) where
+  no-kind : {n : ℕ} → take (bytes 1 s) 0 (blockKind 1 2) ≡ failed n → grammarBlock s ≡ refused n
+  unfolding grammarBlock
+  no-kind e = rw e
+
+  after-kind : {v at : ℕ} → take (bytes 1 s) 0 (blockKind 1 2) ≡ parsed v at → grammarBlock s ≡ finish (ended s) 7 (grammarFrom (bytes 1 s) at)
+  unfolding grammarBlock
+  after-kind e = rw e
+
+within-requires : tie.Need-within-requires
+within-requires c κs = search needs
+
+take-requires : tie.Need-take-requires
+take-requires c κs = search needs
+
+enum-known-kind : tie.Need-enum-known-kind
+enum-known-kind c = search needs
+
+enum-told : tie.Need-enum-told
+enum-told c = search needs
+
+refusal-requires : tie.Need-refusal-requires
+refusal-requires c κs = search needs
+
+returns : tie.Need-returns
+returns c =
+    rw (no-kind _ (missed (bytes 1 (c .before .before .before .before .before .before .before .before .args .block .now)) 0 (c .before .before .before .before .within .ensures .0) (c .before .before .before .take .ensures) (c .before .enum-told .given .1) (c .refusal .ensures))) (refl, tt, tt)
+
+abbrev to-start : tie.After-known-told → tie.Start
+to-start c = c .before .before .before .before .before .before .before .before
+
+kind-read : (c : tie.After-known-told) → take (bytes 1 (to-start c .args .block .now)) 0 (blockKind 1 2) ≡ parsed (c .before .kind .given .0 .0) (c .before .kind .given .0 .1 .0 .at)
+kind-read c = got (bytes 1 (to-start c .args .block .now)) 0 (c .before .before .before .before .within .ensures .0) (c .before .before .before .take .ensures) (c .before .kind .given .1)
+
+kind-near : (c : tie.After-known-told) → c .before .kind .given .0 .1 .0 .at ≤ 4
+kind-near c = omega (arith, taken _ 4 (bytes 1 (to-start c .args .block .now)) 0 (omega arith) (omega arith) (kind-read c))
+
+slice-aggregate-read-grammar : tie.Need-slice-aggregate-read-grammar
+slice-aggregate-read-grammar c = search needs
+
+read-grammar-requires : tie.Need-read-grammar-requires
+read-grammar-requires c κs = (omega (arith, kind-near (c .before .before)), c .before .before .before .before .before .before .before .before .before .before .pre)
+
+enum-known-read : tie.Need-enum-known-read
+enum-known-read c = search needs
+
+enum-known-read-2 : tie.Need-enum-known-read-2
+enum-known-read-2 c = search needs
+
+abbrev to-kind : tie.After-known-told3 → tie.After-known-told
+to-kind c = c .before .before .before .before .before .before .before .before
+
+near : (c : tie.After-known-told3) → Bounded (c .before .read2 .given .0 .0) × (c .before .read2 .given .0 .1 .0 .at ≤ to-kind c .before .kind .given .0 .1 .0 .at + 23 + 41 * 256)
+near c = subst (SizesNear (to-kind c .before .kind .given .0 .1 .0 .at + 23 + 41 * 256)) (c .before .read2 .given .1) (c .before .before .before .before .before .read-grammar .ensures .near)
+
+zero-from-requires : tie.Need-zero-from-requires
+zero-from-requires c κs = omega (arith, near c, kind-near (to-kind c))
+
+same-length : tie.Need-same-length
+same-length c = search needs
+
+returns-2 : tie.Need-returns-2
+returns-2 c =
+    let g = c .before .before in
+    let (a, b) = end-passed (c .before .before .before .before .before .before .before .read-grammar .ensures) (ended _) 7 (c .before .before .before .read2 .given .1) (sym (c .before .zero-from .ensures) ∙ c .if1 .taken) in
+    rw (after-kind _ (kind-read (to-kind g))) (a, b, near g .0)
+
+same-length-2 : tie.Need-same-length-2
+same-length-2 c = search needs
+
+returns-3 : tie.Need-returns-3
+returns-3 c =
+    let (a, b) = end-refused (c .before .before .before .before .before .read-grammar .ensures) (ended _) 7 (c .before .read .given .1) in
+    rw (after-kind _ (kind-read (c .before .before .before .before .before .before .before .before))) (a, b, tt)
+
+same-length-3 : tie.Need-same-length-3
+same-length-3 c = search needs
+
+returns-4 : tie.Need-returns-4
+returns-4 c =
+    let g = c .before .before in
+    let (a, b) = end-failed (c .before .before .before .before .before .before .before .read-grammar .ensures) (ended _) 7 (c .before .before .before .read2 .given .1) (sym (c .before .zero-from .ensures) ∙ c .if1 .left) in
+    rw (after-kind _ (kind-read (to-kind g))) (a, b, tt)
+
+pub read-block-spec : {M : Type 1} → statement M
+read-block-spec =
+    tie.close
+    (tie.spec
+    slice-aggregate-take
+    within-requires
+    take-requires
+    enum-known-kind
+    enum-told
+    refusal-requires
+    returns
+    slice-aggregate-read-grammar
+    read-grammar-requires
+    enum-known-read
+    enum-known-read-2
+    zero-from-requires
+    same-length
+    returns-2
+    same-length-2
+    returns-3
+    same-length-3
+    returns-4)

@@ -1,0 +1,234 @@
+-- `packing_grammar::read_rule` meets its contract: each field is taken as the definition takes it, in its range. Assumes nothing.
+use mathlib.Core.Path.{_≡_}
+use native.Mathlib.Omega.{arith}
+use Prim.Native.Nat.{_+_, _-_, _*_, _≤_}
+use borrow.Author.Needs.{needs}
+use Rattle.packing.specs.Parse.{parsed}
+use Rattle.packing.specs.Source.{Source, take, sourceOf}
+use Rattle.packing.specs.Grammar.{ruleFrom, ruleKind, symbol, weight, firstOf, secondOf}
+use Rattle.packing_grammar.proofs.Taken.{got, missed, taken}
+use Rattle.packing_grammar.proofs.Fields.{symbol-taken, first-taken, second-taken}
+use Rattle.packing_grammar.proofs.read_rule.Statement.{statement}
+use Rattle.packing_grammar.proofs.read_rule.Tie as tie
+
+abbrev source : tie.Start → Source
+source s = sourceOf (s .args .src) (s .args .block .now) (s .args .sheet .now)
+
+within-requires : tie.Need-within-requires
+within-requires c κs = search needs
+
+take-requires : tie.Need-take-requires
+take-requires c κs = search needs
+
+enum-known-read : tie.Need-enum-known-read
+enum-known-read c = search needs
+
+enum-told : tie.Need-enum-told
+enum-told c = search needs
+
+refusal-requires : tie.Need-refusal-requires
+refusal-requires c κs = search needs
+
+returns : tie.Need-returns
+unfolding ruleFrom
+returns c = (rw (missed (source (c .before .before .before .before .before .before .before)) _ (c .before .before .before .before .within .ensures .0) (c .before .before .before .take .ensures) (c .before .enum-told .given .1) (c .refusal .ensures)), tt)
+
+-- the kind that was read, in its range
+abbrev to-start : tie.After-known-told → tie.Start
+to-start c = c .before .before .before .before .before .before .before
+
+kind-read : (c : tie.After-known-told) → take (source (to-start c)) (to-start c .args .at) ruleKind ≡ parsed (c .before .read .given .0 .0) (c .before .read .given .0 .1 .0 .at)
+kind-read c = got (source (to-start c)) _ (c .before .before .before .before .within .ensures .0) (c .before .before .before .take .ensures) (c .before .read .given .1)
+
+kind-near : (c : tie.After-known-told) → (c .before .read .given .0 .0 ≤ 1) × (c .before .read .given .0 .1 .0 .at ≤ to-start c .args .at + 1)
+kind-near c = omega (arith, taken _ 1 (source (to-start c)) _ (omega arith) (omega arith) (kind-read c))
+
+below-requires : tie.Need-below-requires
+below-requires c κs = search needs
+
+take-requires-2 : tie.Need-take-requires-2
+take-requires-2 c κs = omega (arith, kind-near (c .before))
+
+enum-known-read-2 : tie.Need-enum-known-read-2
+enum-known-read-2 c = search needs
+
+enum-told-2 : tie.Need-enum-told-2
+enum-told-2 c = search needs
+
+refusal-requires-2 : tie.Need-refusal-requires-2
+refusal-requires-2 c κs = search needs
+
+returns-2 : tie.Need-returns-2
+unfolding ruleFrom
+returns-2 c =
+    let k = c .before .before .before .before .before in
+    (rw (kind-read k, missed (source (to-start k)) _ (c .before .before .before .before .below .ensures .0) (c .before .before .before .take2 .ensures) (c .before .enum-told2 .given .1) (c .refusal2 .ensures)), tt)
+
+-- the head that was read, in its range
+abbrev to-kind : tie.After-known-told2 → tie.After-known-told
+to-kind c = c .before .before .before .before .before
+
+head-read : (c : tie.After-known-told2) → let s = to-start (to-kind c) in take (source s) (to-kind c .before .read .given .0 .1 .0 .at) (symbol (s .args .sizes .symbols)) ≡ parsed (c .before .read2 .given .0 .0) (c .before .read2 .given .0 .1 .0 .at)
+head-read c = got (source (to-start (to-kind c))) _ (c .before .before .before .before .below .ensures .0) (c .before .before .before .take2 .ensures) (c .before .read2 .given .1)
+
+head-near : (c : tie.After-known-told2) → (c .before .read2 .given .0 .0 ≤ 31) × (c .before .read2 .given .0 .1 .0 .at ≤ to-start (to-kind c) .args .at + 9)
+head-near c = omega (arith, kind-near (to-kind c), symbol-taken (to-start (to-kind c) .pre .1) (source (to-start (to-kind c))) _ (head-read c))
+
+within-requires-2 : tie.Need-within-requires-2
+within-requires-2 c κs = search needs
+
+take-requires-3 : tie.Need-take-requires-3
+take-requires-3 c κs = omega (arith, head-near (c .before), c .before .before .before .before .before .before .before .before .before .before .before .before .before .pre)
+
+enum-known-read-3 : tie.Need-enum-known-read-3
+enum-known-read-3 c = search needs
+
+enum-told-3 : tie.Need-enum-told-3
+enum-told-3 c = search needs
+
+refusal-requires-3 : tie.Need-refusal-requires-3
+refusal-requires-3 c κs = search needs
+
+returns-3 : tie.Need-returns-3
+unfolding ruleFrom
+returns-3 c =
+    let h = c .before .before .before .before .before in (
+      rw (kind-read (to-kind h), head-read h, missed (source (c .before .before .before .before .before .before .before .before .before .before .before .before .before .before .before .before .before)) _ (c .before .before .before .before .within2 .ensures .0) (c .before .before .before .take3 .ensures) (c .before .enum-told3 .given .1) (c .refusal3 .ensures)),
+      tt,
+    )
+
+-- the weight that was read
+abbrev to-head : tie.After-known-told3 → tie.After-known-told2
+to-head c = c .before .before .before .before .before
+
+weight-read : (c : tie.After-known-told3) → take (source (to-start (to-kind (to-head c)))) (to-head c .before .read2 .given .0 .1 .0 .at) weight ≡ parsed (c .before .read3 .given .0 .0) (c .before .read3 .given .0 .1 .0 .at)
+weight-read c = got (source (to-start (to-kind (to-head c)))) _ (c .before .before .before .before .within2 .ensures .0) (c .before .before .before .take3 .ensures) (c .before .read3 .given .1)
+
+weight-near : (c : tie.After-known-told3) → c .before .read3 .given .0 .1 .0 .at ≤ to-start (to-kind (to-head c)) .args .at + 25
+weight-near c = omega (arith, head-near (to-head c), taken _ 16 (source (to-start (to-kind (to-head c)))) _ (omega arith) (omega arith) (weight-read c))
+
+first-of-requires : tie.Need-first-of-requires
+first-of-requires c κs = to-start (to-kind (to-head c)) .pre .1
+
+take-requires-4 : tie.Need-take-requires-4
+take-requires-4 c κs = omega (arith, weight-near (c .before), c .before .before .before .before .before .before .before .before .before .before .before .before .before .before .before .before .before .before .pre)
+
+enum-known-read-4 : tie.Need-enum-known-read-4
+enum-known-read-4 c = search needs
+
+enum-told-4 : tie.Need-enum-told-4
+enum-told-4 c = search needs
+
+refusal-requires-4 : tie.Need-refusal-requires-4
+refusal-requires-4 c κs = search needs
+
+returns-4 : tie.Need-returns-4
+unfolding ruleFrom
+returns-4 c =
+    let w = c .before .before .before .before .before in
+    let h = to-head w in (
+      rw (kind-read (to-kind h), head-read h, weight-read w, missed (source (c .before .before .before .before .before .before .before .before .before .before .before .before .before .before .before .before .before .before .before .before .before .before)) _ (c .before .before .before .before .first-of .ensures .0) (c .before .before .before .take4 .ensures) (c .before .enum-told4 .given .1) (c .refusal4 .ensures)),
+      tt,
+    )
+
+-- the first number of the body that was read, in its range
+abbrev to-weight : tie.After-known-told4 → tie.After-known-told3
+to-weight c = c .before .before .before .before .before
+
+first-read : (c : tie.After-known-told4) →
+    let k = to-kind (to-head (to-weight c)) in let s = to-start k in
+    take (source s) (to-weight c .before .read3 .given .0 .1 .0 .at) (firstOf (s .args .sizes .symbols) (s .args .sizes .words) (k .before .read .given .0 .0)) ≡ parsed (c .before .read4 .given .0 .0) (c .before .read4 .given .0 .1 .0 .at)
+first-read c = got (source (to-start (to-kind (to-head (to-weight c))))) _ (c .before .before .before .before .first-of .ensures .0) (c .before .before .before .take4 .ensures) (c .before .read4 .given .1)
+
+first-near : (c : tie.After-known-told4) → (c .before .read4 .given .0 .0 ≤ 199) × (c .before .read4 .given .0 .1 .0 .at ≤ to-start (to-kind (to-head (to-weight c))) .args .at + 33)
+first-near c =
+    let k = to-kind (to-head (to-weight c)) in
+    omega (arith, weight-near (to-weight c), first-taken (to-start k .pre .1) (source (to-start k)) _ (k .before .read .given .0 .0) (first-read c))
+
+second-of-requires : tie.Need-second-of-requires
+second-of-requires c κs = to-start (to-kind (to-head (to-weight c))) .pre .1
+
+take-requires-5 : tie.Need-take-requires-5
+take-requires-5 c κs = omega (arith, first-near (c .before), c .before .before .before .before .before .before .before .before .before .before .before .before .before .before .before .before .before .before .before .before .before .before .before .pre)
+
+enum-known-read-5 : tie.Need-enum-known-read-5
+enum-known-read-5 c = search needs
+
+enum-told-5 : tie.Need-enum-told-5
+enum-told-5 c = search needs
+
+refusal-requires-5 : tie.Need-refusal-requires-5
+refusal-requires-5 c κs = search needs
+
+returns-5 : tie.Need-returns-5
+unfolding ruleFrom
+returns-5 c =
+    let f = c .before .before .before .before .before in
+    let w = to-weight f in
+    let h = to-head w in (
+      rw (kind-read (to-kind h), head-read h, weight-read w, first-read f, missed (source (c .before .before .before .before .before .before .before .before .before .before .before .before .before .before .before .before .before .before .before .before .before .before .before .before .before .before .before)) _ (c .before .before .before .before .second-of .ensures .0) (c .before .before .before .take5 .ensures) (c .before .enum-told5 .given .1) (c .refusal5 .ensures)),
+      tt,
+    )
+
+-- the second number of the body that was read, in its range
+abbrev to-first : tie.After-known-told5 → tie.After-known-told4
+to-first c = c .before .before .before .before .before
+
+second-read : (c : tie.After-known-told5) →
+    let k = to-kind (to-head (to-weight (to-first c))) in let s = to-start k in
+    take (source s) (to-first c .before .read4 .given .0 .1 .0 .at) (secondOf (s .args .sizes .symbols) (k .before .read .given .0 .0)) ≡ parsed (c .before .read5 .given .0 .0) (c .before .read5 .given .0 .1 .0 .at)
+second-read c = got (source (to-start (to-kind (to-head (to-weight (to-first c)))))) _ (c .before .before .before .before .second-of .ensures .0) (c .before .before .before .take5 .ensures) (c .before .read5 .given .1)
+
+second-near : (c : tie.After-known-told5) →
+    let k = to-kind (to-head (to-weight (to-first c))) in
+    (c .before .read5 .given .0 .0 ≤ 31 * (1 - k .before .read .given .0 .0)) × (c .before .read5 .given .0 .1 .0 .at ≤ to-start k .args .at + 41)
+second-near c =
+    let k = to-kind (to-head (to-weight (to-first c))) in
+    omega (arith, first-near (to-first c), second-taken (to-start k .pre .1) (source (to-start k)) _ (k .before .read .given .0 .0) (kind-near k .0) (second-read c))
+
+returns-6 : tie.Need-returns-6
+unfolding ruleFrom
+returns-6 c =
+    let f = to-first c in
+    let w = to-weight f in
+    let h = to-head w in
+    let k = to-kind h in (
+      rw (kind-read k, head-read h, weight-read w, first-read f, second-read c),
+      (record { kind = kind-near k .0; head = head-near h .0; first = first-near f .0; second = second-near c .0 }, second-near c .1),
+    )
+
+pub read-rule-spec : {M : Type 1} → statement M
+read-rule-spec =
+    tie.close
+    (tie.spec
+    within-requires
+    take-requires
+    enum-known-read
+    enum-told
+    refusal-requires
+    returns
+    below-requires
+    take-requires-2
+    enum-known-read-2
+    enum-told-2
+    refusal-requires-2
+    returns-2
+    within-requires-2
+    take-requires-3
+    enum-known-read-3
+    enum-told-3
+    refusal-requires-3
+    returns-3
+    first-of-requires
+    take-requires-4
+    enum-known-read-4
+    enum-told-4
+    refusal-requires-4
+    returns-4
+    second-of-requires
+    take-requires-5
+    enum-known-read-5
+    enum-told-5
+    refusal-requires-5
+    returns-5
+    returns-6)
