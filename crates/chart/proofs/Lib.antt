@@ -1,3 +1,8 @@
+-- What the proofs of several functions use.
+pub mod Loops
+pub mod Places
+pub mod Zeros
+-- What a good table holds.
 pub mod Candidates
 pub mod Entries
 pub mod Good

@@ -210,11 +210,15 @@ spelled t rules d (suc fuel) a i k rank =
     []
 
 -- what the layout's numbers are bounded by
-pub record Small (d : Dims) (i k : ℕ) : Type 0 where
+pub record Sized (d : Dims) : Type 0 where
   pub symbols : d .symbols ≤ 32
   pub cap : d .cap ≤ 256
   pub kept : 0 < d .cap
   pub cells : d .cells ≤ 16384
+
+-- a span that it has room for
+pub record Small (d : Dims) (i k : ℕ) : Type 0 where
+  pub sized : Sized d
   pub order : i < k
   pub last : k ≤ 31
 

@@ -1,4 +1,6 @@
 // The chart: the ranked trees of every cell (head, from, to), found one after another in a lent work table.
+mod candidates;
+pub mod table;
 
 // The work table's layout: the number of symbols, the ranks kept for each cell, and the number of cells.
 pub struct Dims {

@@ -1,0 +1,67 @@
+-- By the tests of the split and of the right part's rank, and by the rule's variant.
+use borrow.Author.Tests.{eq-eqb, ne-eqb}
+use Rattle.chart.specs.Model.{followers, pairFollowers}
+use borrow.Author.Needs.{needs}
+use Rattle.chart.proofs.candidates.followers.Statement.{statement}
+use Rattle.chart.proofs.candidates.followers.Tie as tie
+
+returns : tie.Need-returns
+unfolding followers
+returns c = simp (eq-eqb _ _ (c .if1 .taken))
+
+rule-at-requires : tie.Need-rule-at-requires
+rule-at-requires c κs = search needs
+
+enum-known-rule : tie.Need-enum-known-rule
+enum-known-rule c = search needs
+
+add-pair-key : tie.Need-add-pair-key
+add-pair-key c = search needs
+
+pair-key-requires : tie.Need-pair-key-requires
+pair-key-requires c κs = search needs
+
+lesser-requires : tie.Need-lesser-requires
+lesser-requires c κs = search needs
+
+add-pair-key-2 : tie.Need-add-pair-key-2
+add-pair-key-2 c = search needs
+
+pair-key-requires-2 : tie.Need-pair-key-requires-2
+pair-key-requires-2 c κs = search needs
+
+lesser-requires-2 : tie.Need-lesser-requires-2
+lesser-requires-2 c κs = search needs
+
+enum-told : tie.Need-enum-told
+enum-told c = search needs
+
+returns-2 : tie.Need-returns-2
+unfolding followers pairFollowers
+returns-2 c = simp (ne-eqb _ _ (c .before .before .before .before .before .before .before .before .before .if1 .left), ← c .before .before .before .before .before .before .before .before .rule-at .ensures, c .before .before .before .before .before .before .rule .given .1, eq-eqb _ _ (c .before .before .if2 .taken)) (rw (c .lesser2 .ensures, c .before .pair-key2 .ensures, c .before .before .before .lesser .ensures, c .before .before .before .before .pair-key .ensures))
+
+returns-3 : tie.Need-returns-3
+unfolding followers pairFollowers
+returns-3 c = simp (ne-eqb _ _ (c .before .before .before .before .before .before .before .if1 .left), ← c .before .before .before .before .before .before .rule-at .ensures, c .before .before .before .before .rule .given .1, ne-eqb _ _ (c .if2 .left)) (rw (c .before .lesser .ensures, c .before .before .pair-key .ensures))
+
+returns-4 : tie.Need-returns-4
+unfolding followers pairFollowers
+returns-4 c = simp (ne-eqb _ _ (c .before .before .before .if1 .left), ← c .before .before .rule-at .ensures, c .enum-told .given .1)
+
+pub followers-spec : {M : Type 1} → statement M
+followers-spec =
+    tie.close
+    (tie.spec
+    returns
+    rule-at-requires
+    enum-known-rule
+    add-pair-key
+    pair-key-requires
+    lesser-requires
+    add-pair-key-2
+    pair-key-requires-2
+    lesser-requires-2
+    enum-told
+    returns-2
+    returns-3
+    returns-4)

@@ -1,0 +1,43 @@
+-- The sum of three weights below 2 ^ 32 and 1 is below 2 ^ 34.
+use Rattle.chart.specs.Model.{joinKey}
+use borrow.Author.Needs.{needs}
+use Rattle.chart.proofs.candidates.join_key.Statement.{statement}
+use Rattle.chart.proofs.candidates.join_key.Tie as tie
+
+wide-requires : tie.Need-wide-requires
+wide-requires c κs = search needs
+
+less-one-requires : tie.Need-less-one-requires
+less-one-requires c κs = search needs
+
+add-key-of : tie.Need-add-key-of
+add-key-of c = search needs
+
+less-one-requires-2 : tie.Need-less-one-requires-2
+less-one-requires-2 c κs = search needs
+
+add-key-of-2 : tie.Need-add-key-of-2
+add-key-of-2 c = search needs
+
+add-key-of-3 : tie.Need-add-key-of-3
+add-key-of-3 c = search needs
+
+key-of-requires : tie.Need-key-of-requires
+key-of-requires c κs = search needs
+
+returns : tie.Need-returns
+unfolding joinKey
+returns c = (cc)
+
+pub join-key-spec : {M : Type 1} → statement M
+join-key-spec =
+    tie.close
+    (tie.spec
+    wide-requires
+    less-one-requires
+    add-key-of
+    less-one-requires-2
+    add-key-of-2
+    add-key-of-3
+    key-of-requires
+    returns)

@@ -1,0 +1,55 @@
+-- The loop is the iteration over the splits.
+use Prim.Native.Nat.{_≤_, _-_, _+_}
+use mathlib.Core.Path.{_≡_, sym, _∙_}
+use native.Mathlib.Omega.{arith}
+use borrow.Author.Needs.{needs}
+use Rattle.chart.specs.Model.{over, lesser, pairKey, splitSeeds}
+use Rattle.chart.proofs.Loops.{from-none, from-more, from-turn, iter-end}
+use Rattle.chart.proofs.candidates.split_seeds.Statement.{statement}
+use Rattle.chart.proofs.candidates.split_seeds.Tie as tie
+
+abbrev Inv-loop : tie.InvT-loop
+Inv-loop t d b c w r i k floor best so-far₀ j₀ so-far j = (i + 1 ≤ j) × (j - (i + 1) ≤ k - (i + 1)) × (so-far ≡ over (λ x j. lesser floor x (pairKey t d b c w r i j k 0 0)) best (i + 1) j)
+
+abbrev μ-loop : tie.MeasureT-loop
+μ-loop t d b c w r i k floor best so-far₀ j₀ so-far j = k - j
+
+add-j : tie.Need-add-j Inv-loop μ-loop
+add-j c = search needs
+
+loop-holds : tie.Need-loop-holds Inv-loop μ-loop
+loop-holds c = (search needs, search needs, sym (from-none _ _ _))
+
+pair-key-requires : tie.Need-pair-key-requires Inv-loop μ-loop
+pair-key-requires c κs = search needs
+
+lesser-requires : tie.Need-lesser-requires Inv-loop μ-loop
+lesser-requires c κs = search needs
+
+add-j-2 : tie.Need-add-j-2 Inv-loop μ-loop
+add-j-2 c = search needs
+
+loop-less : tie.Need-loop-less Inv-loop μ-loop
+loop-less c = search needs
+
+loop-again : tie.Need-loop-again Inv-loop μ-loop
+loop-again c = let h = c .before .before .before .loop .inv .0 in (search needs, search needs, rw (from-more, from-turn) (cc))
+
+returns : tie.Need-returns Inv-loop μ-loop
+unfolding splitSeeds
+returns c = c .before .loop .inv .2 ∙ iter-end _ _ _ _ (c .before .loop .inv .1) (omega arith)
+
+pub split-seeds-spec : {M : Type 1} → statement M
+split-seeds-spec =
+    tie.close
+    (tie.spec
+    Inv-loop
+    μ-loop
+    add-j
+    loop-holds
+    pair-key-requires
+    lesser-requires
+    add-j-2
+    loop-less
+    loop-again
+    returns)

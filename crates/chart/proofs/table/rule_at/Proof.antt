@@ -1,0 +1,58 @@
+-- The kind decides the variant, and each field is read where `ruleAt` reads it.
+use borrow.Author.Tests.{eq-eqb, ne-eqb}
+use borrow.Author.Needs.{needs}
+use Rattle.chart.proofs.table.rule_at.Statement.{statement}
+use Rattle.chart.proofs.table.rule_at.Tie as tie
+
+mul-at : tie.Need-mul-at
+mul-at c = search needs
+
+add-narrow-at : tie.Need-add-narrow-at
+add-narrow-at c = search needs
+
+narrow-at-requires : tie.Need-narrow-at-requires
+narrow-at-requires c κs = search needs
+
+add-narrow-at-2 : tie.Need-add-narrow-at-2
+add-narrow-at-2 c = search needs
+
+narrow-at-requires-2 : tie.Need-narrow-at-requires-2
+narrow-at-requires-2 c κs = search needs
+
+add-narrow-at-3 : tie.Need-add-narrow-at-3
+add-narrow-at-3 c = search needs
+
+narrow-at-requires-3 : tie.Need-narrow-at-requires-3
+narrow-at-requires-3 c κs = search needs
+
+number-at-requires : tie.Need-number-at-requires
+number-at-requires c κs = search needs
+
+add-narrow-at-4 : tie.Need-add-narrow-at-4
+add-narrow-at-4 c = search needs
+
+narrow-at-requires-4 : tie.Need-narrow-at-requires-4
+narrow-at-requires-4 c κs = search needs
+
+returns : tie.Need-returns
+returns c = simp (← c .before .before .number-at .ensures .0, eq-eqb _ _ (c .before .if1 .taken)) (cc)
+
+returns-2 : tie.Need-returns-2
+returns-2 c = simp (← c .before .number-at .ensures .0, ne-eqb _ _ (c .if1 .left)) (cc)
+
+pub rule-at-spec : {M : Type 1} → statement M
+rule-at-spec =
+    tie.close
+    (tie.spec
+    mul-at
+    add-narrow-at
+    narrow-at-requires
+    add-narrow-at-2
+    narrow-at-requires-2
+    add-narrow-at-3
+    narrow-at-requires-3
+    number-at-requires
+    add-narrow-at-4
+    narrow-at-requires-4
+    returns
+    returns-2)

@@ -1,0 +1,321 @@
+// The candidates for the next rank of a cell, and the least of them above a floor.
+use crate::Dims;
+use crate::table::NONE;
+use crate::table::cell_of;
+use crate::table::narrow_at;
+use crate::table::number_at;
+use crate::table::rule_at;
+use crate::table::tie_at;
+use crate::table::weight_at;
+use crate::table::wide;
+use packing::Rule;
+use packing::Sym;
+ghost use mathlib.Core.Path.{_≡_};
+ghost use Prim.Native.Nat.{_+_, _-_, _*_, _<_, _≤_};
+ghost use Rattle.packing.specs.Flat.{ruleAt};
+ghost use Rattle.chart.specs.Model.{Sized, Small, tieOf, keyOf, lessOne, joinKey, lesser, pairKey, wordLeaf, edgeLeaves, leavesOf, splitSeeds, ruleSeeds, seedsOf, followers, followersOf, leastOf, floorOf};
+
+// A tie: rule, split, and the ranks of the parts; of a leaf the rule, 0, the edge, 0.
+fn tie_of(r: usize, j: usize, p: usize, q: usize) -> usize
+    requires { ⌜ (r < 4294967296) × (j ≤ 31) × (p < 4294967296) × (q ≤ 256) ⌝ }
+    ensures { λ x. ⌜ (x ≡ tieOf r j p q) × (x < 18014398509481984) ⌝ }
+{
+    ((r * 32 + j) * 256 + p) * 256 + q
+}
+
+// A key: the weight plus 1, then the tie.
+fn key_of(w: usize, tie: usize) -> usize
+    requires { ⌜ (w < 17179869184) × (tie < 18014398509481984) ⌝ }
+    ensures { λ x. ⌜ x ≡ keyOf w tie ⌝ }
+{
+    w * 536870912 + tie
+}
+
+// The weight of a part from its weight plus 1; one that is missing weighs 2 ^ 32 - 1.
+fn less_one(x: usize) -> usize
+    requires { ⌜ x < 4294967296 ⌝ }
+    ensures { λ r. ⌜ (r ≡ lessOne x) × (r < 4294967296) ⌝ }
+{
+    if x == 0 { 4294967295 } else { x - 1 }
+}
+
+// The key of a tree joined from two parts, given by their weights plus 1.
+fn join_key(w: u32, left: usize, right: usize, tie: usize) -> usize
+    requires { ⌜ (left < 4294967296) × (right < 4294967296) × (tie < 18014398509481984) ⌝ }
+    ensures { λ x. ⌜ x ≡ joinKey w left right tie ⌝ }
+{
+    key_of(wide(w) + less_one(left) + less_one(right) + 1, tie)
+}
+
+// The lesser of the best and a key above the floor.
+fn lesser(floor: usize, best: usize, key: usize) -> usize
+    ensures { λ x. ⌜ x ≡ lesser floor best key ⌝ }
+{
+    if floor < key {
+        if key < best { key } else { best }
+    } else {
+        best
+    }
+}
+
+// The key of the tree joined from rank p of the left part and rank q of the right.
+fn pair_key(
+    t: &[u32],
+    d: Dims,
+    b: Sym,
+    c: Sym,
+    w: u32,
+    r: usize,
+    i: usize,
+    j: usize,
+    k: usize,
+    p: usize,
+    q: usize,
+) -> usize
+    requires { ⌜ (Sized d) × (i ≤ 31) × (0 < j) × (j ≤ 31) × (0 < k) × (k ≤ 31) ⌝ }
+    requires { ⌜ (r < 4294967296) × (p ≤ 256) × (q ≤ 256) ⌝ }
+    ensures { λ x. ⌜ x ≡ pairKey (now (t .entry)) d b c w r i j k p q ⌝ }
+{
+    let left = weight_at(t, d, cell_of(d, b, i, j), p);
+    let right = weight_at(t, d, cell_of(d, c, j, k), q);
+    join_key(w, left, right, tie_of(r, j, p, q))
+}
+
+// The best so far and the leaf of an edge by a rule, if that is a rule of the edge's word.
+fn word_leaf(rules: &[u32], edges: &[u32], e: usize, r: usize, floor: usize, best: usize) -> usize
+    requires { ⌜ (e < 4294967296) × (r < 4294967296) ⌝ }
+    ensures { λ x. ⌜ x ≡ wordLeaf (now (edges .entry)) e floor best r (ruleAt (now (rules .entry)) r) ⌝ }
+{
+    let rule = rule_at(rules, r);
+    match rule {
+        Rule::Pair(_, _, _, _) => best,
+        Rule::Word(_, word, w) => {
+            if word.0 == narrow_at(edges, 4 * e + 2) {
+                let cost = number_at(edges, 4 * e + 3);
+                lesser(floor, best, key_of(wide(w) + cost + 1, tie_of(r, 0, e, 0)))
+            } else {
+                best
+            }
+        }
+    }
+}
+
+// The best so far and the leaves of an edge, if it reaches k.
+fn edge_leaves(
+    rules: &[u32],
+    edges: &[u32],
+    index: &[u32],
+    a: Sym,
+    k: usize,
+    e: usize,
+    floor: usize,
+    best: usize,
+) -> usize
+    requires { ⌜ e < 4294967296 ⌝ }
+    ensures { λ x. ⌜ x ≡ edgeLeaves (now (rules .entry)) (now (edges .entry)) (now (index .entry)) a k floor best e ⌝ }
+{
+    if number_at(edges, 4 * e + 1) != k {
+        return best;
+    }
+    let head = wide(a.0);
+    let from = number_at(index, 40 + head);
+    let upto = number_at(index, 40 + head + 1);
+    let mut so_far = best;
+    for y in from..upto {
+        so_far = word_leaf(rules, edges, e, number_at(index, y), floor, so_far);
+    }
+    so_far
+}
+
+// The best so far and the leaves of a cell.
+fn leaves(
+    rules: &[u32],
+    edges: &[u32],
+    index: &[u32],
+    a: Sym,
+    i: usize,
+    k: usize,
+    floor: usize,
+    best: usize,
+) -> usize
+    requires { ⌜ i ≤ 31 ⌝ }
+    ensures { λ x. ⌜ x ≡ leavesOf (now (rules .entry)) (now (edges .entry)) (now (index .entry)) a i k floor best ⌝ }
+{
+    let from = number_at(index, 80 + i);
+    let upto = number_at(index, 80 + i + 1);
+    let mut so_far = best;
+    for y in from..upto {
+        so_far = edge_leaves(
+            rules,
+            edges,
+            index,
+            a,
+            k,
+            number_at(index, y),
+            floor,
+            so_far,
+        );
+    }
+    so_far
+}
+
+// The best so far and the first with the first of a pair rule's parts, for each split.
+fn split_seeds(
+    t: &[u32],
+    d: Dims,
+    b: Sym,
+    c: Sym,
+    w: u32,
+    r: usize,
+    i: usize,
+    k: usize,
+    floor: usize,
+    best: usize,
+) -> usize
+    requires { ⌜ (Small d i k) × (r < 4294967296) ⌝ }
+    ensures { λ x. ⌜ x ≡ splitSeeds (now (t .entry)) d b c w r i k floor best ⌝ }
+{
+    let mut so_far = best;
+    for j in i + 1..k {
+        so_far = lesser(floor, so_far, pair_key(t, d, b, c, w, r, i, j, k, 0, 0));
+    }
+    so_far
+}
+
+// The same for rule r, if it is a pair rule.
+fn rule_seeds(
+    t: &[u32],
+    d: Dims,
+    rules: &[u32],
+    i: usize,
+    k: usize,
+    r: usize,
+    floor: usize,
+    best: usize,
+) -> usize
+    requires { ⌜ (Small d i k) × (r < 4294967296) ⌝ }
+    ensures { λ x. ⌜ x ≡ ruleSeeds (now (t .entry)) d i k floor best r (ruleAt (now (rules .entry)) r) ⌝ }
+{
+    let rule = rule_at(rules, r);
+    match rule {
+        Rule::Pair(_, b, c, w) => split_seeds(t, d, b, c, w, r, i, k, floor, best),
+        Rule::Word(_, _, _) => best,
+    }
+}
+
+// The best so far and the seeds of a cell.
+fn seeds(
+    t: &[u32],
+    d: Dims,
+    rules: &[u32],
+    index: &[u32],
+    a: Sym,
+    i: usize,
+    k: usize,
+    floor: usize,
+    best: usize,
+) -> usize
+    requires { ⌜ Small d i k ⌝ }
+    ensures { λ x. ⌜ x ≡ seedsOf (now (t .entry)) d (now (rules .entry)) (now (index .entry)) a i k floor best ⌝ }
+{
+    let head = wide(a.0);
+    let from = number_at(index, head);
+    let upto = number_at(index, head + 1);
+    let mut so_far = best;
+    for y in from..upto {
+        so_far = rule_seeds(t, d, rules, i, k, number_at(index, y), floor, so_far);
+    }
+    so_far
+}
+
+// The best so far and what follows a found pairing: the next of its right part, and where that was the first, the next
+// of its left part. A leaf has no split and no followers.
+fn followers(
+    t: &[u32],
+    d: Dims,
+    rules: &[u32],
+    i: usize,
+    k: usize,
+    floor: usize,
+    best: usize,
+    tie: usize,
+) -> usize
+    requires { ⌜ (Small d i k) × (tie < 4294967296) ⌝ }
+    ensures { λ x. ⌜ x ≡ followers (now (t .entry)) d (now (rules .entry)) i k floor best tie ⌝ }
+{
+    let r = tie / 2097152;
+    let j = tie / 65536 % 32;
+    let p = tie / 256 % 256;
+    let q = tie % 256;
+    if j == 0 {
+        return best;
+    }
+    let rule = rule_at(rules, r);
+    match rule {
+        Rule::Pair(_, b, c, w) => {
+            let right = lesser(floor, best, pair_key(t, d, b, c, w, r, i, j, k, p, q + 1));
+            if q == 0 {
+                lesser(floor, right, pair_key(t, d, b, c, w, r, i, j, k, p + 1, 0))
+            } else {
+                right
+            }
+        }
+        Rule::Word(_, _, _) => best,
+    }
+}
+
+// The best so far and the followers of the c ranks found of a cell.
+fn all_followers(
+    t: &[u32],
+    d: Dims,
+    rules: &[u32],
+    a: Sym,
+    i: usize,
+    k: usize,
+    c: usize,
+    floor: usize,
+    best: usize,
+) -> usize
+    requires { ⌜ (Small d i k) × (c ≤ 256) ⌝ }
+    ensures { λ x. ⌜ x ≡ followersOf (now (t .entry)) d (now (rules .entry)) a i k c floor best ⌝ }
+{
+    let cell = cell_of(d, a, i, k);
+    let mut so_far = best;
+    for y in 0..c {
+        so_far = followers(t, d, rules, i, k, floor, so_far, tie_at(t, d, cell, y));
+    }
+    so_far
+}
+
+// The least key above the floor among all candidates of a cell of which c ranks are found.
+pub fn least(
+    t: &[u32],
+    d: Dims,
+    rules: &[u32],
+    edges: &[u32],
+    index: &[u32],
+    a: Sym,
+    i: usize,
+    k: usize,
+    c: usize,
+    floor: usize,
+) -> usize
+    requires { ⌜ (Small d i k) × (c ≤ 256) ⌝ }
+    ensures { λ x. ⌜ x ≡ leastOf (now (t .entry)) d (now (rules .entry)) (now (edges .entry)) (now (index .entry)) a i k c floor ⌝ }
+{
+    let leaf = leaves(rules, edges, index, a, i, k, floor, NONE);
+    let seed = seeds(t, d, rules, index, a, i, k, floor, leaf);
+    all_followers(t, d, rules, a, i, k, c, floor, seed)
+}
+
+// The key of the last rank found, or 0.
+pub fn floor_of(t: &[u32], d: Dims, a: Sym, i: usize, k: usize, c: usize) -> usize
+    requires { ⌜ (Small d i k) × (c ≤ 256) ⌝ }
+    ensures { λ x. ⌜ x ≡ floorOf (now (t .entry)) d a i k c ⌝ }
+{
+    if c == 0 {
+        return 0;
+    }
+    let cell = cell_of(d, a, i, k);
+    key_of(weight_at(t, d, cell, c - 1), tie_at(t, d, cell, c - 1))
+}

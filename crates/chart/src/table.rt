@@ -1,0 +1,122 @@
+// The arrays that the chart works on: reads that give 0 past the end, stores that do nothing there, rules, and the
+// entries of the work table.
+use crate::Dims;
+use packing::Rule;
+use packing::Sym;
+use packing::Word;
+ghost use mathlib.Core.Path.{_≡_};
+ghost use Prim.Native.Nat.{_+_, _-_, _*_, _<_, _≤_};
+ghost use lib.ListN.{length, getD, set, replicate};
+ghost use Rattle.packing.specs.Flat.{ruleAt};
+ghost use Rattle.chart.specs.Model.{cellOf, entryOf, weightAt, tieAt, putKey, Sized};
+
+// The key of no tree: weight 2 ^ 32 - 2, which the sum of two parts of which one is missing reaches.
+pub const NONE: usize = 2305843008676823040;
+
+// A number in the width of an index.
+pub fn wide(x: u32) -> usize
+    ensures { λ r. ⌜ (r ≡ x) × (r < 4294967296) ⌝ }
+{
+    x as usize
+}
+
+// The number at an index, and 0 past the end.
+pub fn number_at(s: &[u32], at: usize) -> usize
+    ensures { λ r. ⌜ (r ≡ getD (now (s .entry)) at 0) × (r < 4294967296) ⌝ }
+{
+    if at < s.len() { wide(s[at]) } else { 0 }
+}
+
+// The same in its own width.
+pub fn narrow_at(s: &[u32], at: usize) -> u32
+    ensures { λ r. ⌜ r ≡ getD (now (s .entry)) at 0 ⌝ }
+{
+    if at < s.len() { s[at] } else { 0 }
+}
+
+// Stores a number, and nothing past the end.
+pub fn store(t: &mut [u32], at: usize, x: u32)
+    ensures { λ _. ⌜ now (t .exit) ≡ set (now (t .entry)) at x ⌝ }
+{
+    if at < t.len() {
+        t[at] = x;
+    }
+}
+
+// Rule r of an array of five numbers a rule.
+pub fn rule_at(rules: &[u32], r: usize) -> Rule
+    requires { ⌜ r < 4294967296 ⌝ }
+    ensures { λ x. ⌜ x ≡ ruleAt (now (rules .entry)) r ⌝ }
+{
+    let at = 5 * r;
+    let head = Sym(narrow_at(rules, at + 1));
+    let weight = narrow_at(rules, at + 2);
+    let first = narrow_at(rules, at + 3);
+    if number_at(rules, at) == 0 {
+        Rule::Pair(head, Sym(first), Sym(narrow_at(rules, at + 4)), weight)
+    } else {
+        Rule::Word(head, Word(first), weight)
+    }
+}
+
+// The cell of a head over a span.
+pub fn cell_of(d: Dims, a: Sym, i: usize, k: usize) -> usize
+    requires { ⌜ (Sized d) × (i ≤ 31) × (0 < k) × (k ≤ 31) ⌝ }
+    ensures { λ r. ⌜ (r ≡ cellOf d a i k) × (r < 8589934592) ⌝ }
+{
+    (k * (k - 1) / 2 + i) * d.symbols + wide(a.0)
+}
+
+// Where the entry of a rank of a cell starts.
+fn entry_of(d: Dims, cell: usize, rank: usize) -> usize
+    requires { ⌜ (Sized d) × (cell < 8589934592) × (rank ≤ 256) ⌝ }
+    ensures { λ r. ⌜ (r ≡ entryOf d cell rank) × (r < 17592186044416) ⌝ }
+{
+    if rank == 0 {
+        cell * 4
+    } else {
+        (d.cells + cell * (d.cap - 1) + (rank - 1)) * 4
+    }
+}
+
+// The weight plus 1 of a rank of a cell, or 0 where it is not found or not kept.
+pub fn weight_at(t: &[u32], d: Dims, cell: usize, rank: usize) -> usize
+    requires { ⌜ (Sized d) × (cell < 8589934592) ⌝ }
+    ensures { λ r. ⌜ (r ≡ weightAt (now (t .entry)) d cell rank) × (r < 4294967296) ⌝ }
+{
+    if rank < d.cap {
+        number_at(t, entry_of(d, cell, rank))
+    } else {
+        0
+    }
+}
+
+// The tie of a rank of a cell.
+pub fn tie_at(t: &[u32], d: Dims, cell: usize, rank: usize) -> usize
+    requires { ⌜ (Sized d) × (cell < 8589934592) × (rank ≤ 256) ⌝ }
+    ensures { λ r. ⌜ (r ≡ tieAt (now (t .entry)) d cell rank) × (r < 4294967296) ⌝ }
+{
+    number_at(t, entry_of(d, cell, rank) + 2)
+}
+
+// Writes a key at a rank of a cell; NONE and what is above it change nothing.
+pub fn put_key(t: &mut [u32], d: Dims, cell: usize, rank: usize, key: usize)
+    requires { ⌜ (Sized d) × (cell < 8589934592) × (rank ≤ 256) ⌝ }
+    ensures { λ _. ⌜ now (t .exit) ≡ putKey (now (t .entry)) d cell rank key ⌝ }
+{
+    if key < NONE {
+        let at = entry_of(d, cell, rank);
+        store(t, at, (key / 536870912) as u32);
+        store(t, at + 2, (key % 536870912) as u32);
+    }
+}
+
+// Makes every number 0.
+pub fn zero(t: &mut [u32])
+    ensures { λ _. ⌜ now (t .exit) ≡ replicate (length (now (t .entry))) 0 ⌝ }
+{
+    let n = t.len();
+    for x in 0..n {
+        t[x] = 0;
+    }
+}
