@@ -1,16 +1,9 @@
--- Loops as iterations, from 0 and from a number on: no turn, one turn more, and the end.
-use mathlib.Core.Path.{_≡_, ap}
-use Prim.Native.Nat.{ℕ, suc, _+_, _-_, _≤_}
-use native.Mathlib.Numerals.{add-one}
+-- Loops from a number on: no turn, one turn more, and which turn that is.
+use mathlib.Core.Path.{_≡_}
+use Prim.Native.Nat.{ℕ, _+_, _-_, _≤_}
 use native.Mathlib.Omega.{arith}
-use Rattle.chart.specs.Model.{iter}
-
-pub iter-more : {A : Type 0} (g : A → ℕ → A) (b : A) (n : ℕ) → iter g b (n + 1) ≡ g (iter g b n) n
-unfolding iter
-iter-more g b n = rw add-one
-
-pub iter-end : {A : Type 0} (g : A → ℕ → A) (b : A) (m n : ℕ) → m ≤ n → n ≤ m → iter g b m ≡ iter g b n
-iter-end g b m n le ge = ap (iter g b) (omega arith)
+use Rattle.packing.specs.Loop.{iter}
+use Rattle.packing.proofs.Loop.{iter-more}
 
 pub from-none : {A : Type 0} (g : A → ℕ → A) (b : A) (n : ℕ) → iter g b (n - n) ≡ b
 unfolding iter

@@ -9,20 +9,14 @@ use Prim.Native.Nat.{ℕ, zero, suc, _+_, _-_, _*_, _/_, _%_, _≤_, _<_}
 use lib.Dec.{ltb, eqb}
 use lib.ListN.{length, getD, set}
 use Rattle.bits.specs.Bits.{pick}
+pub use Rattle.packing.specs.Loop.{over}
+unfoldable pub use Rattle.packing.specs.Loop.{iter}
 use Rattle.packing.specs.Meaning.{sym}
 use Rattle.packing.specs.Flat.{ruleAt}
 use Rattle.packing.specs.declared.Sym.{Sym}
 use Rattle.packing.specs.declared.Rule.{Rule}
 use Rattle.packing.specs.declared.Rule.the-variants.{Pair, Word}
 use Rattle.chart.specs.declared.Dims.{Dims}
-
--- g, n times from b, with the turn's number: the meaning of a loop over 0..n, and of one over from..upto
-unfoldable pub iter : {A : Type 0} → (A → ℕ → A) → A → ℕ → A
-iter g b zero = b
-iter g b (suc n) = g (iter g b n) n
-
-abbrev pub over : {A : Type 0} → (A → ℕ → A) → A → ℕ → ℕ → A
-over g b from upto = iter (λ x y. g x (from + y)) b (upto - from)
 
 -- the cell of a head over a span, and the entry of a rank of a cell: rank 0 of all cells stands first, cell by cell, then for
 -- each cell its further ranks. An entry is four numbers: the weight plus 1 (0: not found), 0, the tie, 0

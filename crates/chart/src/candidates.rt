@@ -2,14 +2,14 @@
 use crate::Dims;
 use crate::table::NONE;
 use crate::table::cell_of;
-use crate::table::narrow_at;
-use crate::table::number_at;
-use crate::table::rule_at;
 use crate::table::tie_at;
 use crate::table::weight_at;
-use crate::table::wide;
 use packing::Rule;
 use packing::Sym;
+use packing::arrays::narrow_at;
+use packing::arrays::number_at;
+use packing::arrays::rule_at;
+use packing::arrays::wide;
 ghost use mathlib.Core.Path.{_≡_};
 ghost use Prim.Native.Nat.{_+_, _-_, _*_, _<_, _≤_};
 ghost use Rattle.packing.specs.Flat.{ruleAt};

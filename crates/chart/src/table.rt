@@ -1,63 +1,16 @@
-// The arrays that the chart works on: reads that give 0 past the end, stores that do nothing there, rules, and the
-// entries of the work table.
+// The work table's cells and entries. Reads past its end give 0, and stores there do nothing.
 use crate::Dims;
-use packing::Rule;
 use packing::Sym;
-use packing::Word;
+use packing::arrays::number_at;
+use packing::arrays::store;
+use packing::arrays::wide;
 ghost use mathlib.Core.Path.{_≡_};
 ghost use Prim.Native.Nat.{_+_, _-_, _*_, _<_, _≤_};
-ghost use lib.ListN.{length, getD, set, replicate};
-ghost use Rattle.packing.specs.Flat.{ruleAt};
+ghost use lib.ListN.{length, replicate};
 ghost use Rattle.chart.specs.Model.{cellOf, entryOf, weightAt, tieAt, putKey, Sized};
 
 // The key of no tree: weight 2 ^ 32 - 2, which the sum of two parts of which one is missing reaches.
 pub const NONE: usize = 2305843008676823040;
-
-// A number in the width of an index.
-pub fn wide(x: u32) -> usize
-    ensures { λ r. ⌜ (r ≡ x) × (r < 4294967296) ⌝ }
-{
-    x as usize
-}
-
-// The number at an index, and 0 past the end.
-pub fn number_at(s: &[u32], at: usize) -> usize
-    ensures { λ r. ⌜ (r ≡ getD (now (s .entry)) at 0) × (r < 4294967296) ⌝ }
-{
-    if at < s.len() { wide(s[at]) } else { 0 }
-}
-
-// The same in its own width.
-pub fn narrow_at(s: &[u32], at: usize) -> u32
-    ensures { λ r. ⌜ r ≡ getD (now (s .entry)) at 0 ⌝ }
-{
-    if at < s.len() { s[at] } else { 0 }
-}
-
-// Stores a number, and nothing past the end.
-pub fn store(t: &mut [u32], at: usize, x: u32)
-    ensures { λ _. ⌜ now (t .exit) ≡ set (now (t .entry)) at x ⌝ }
-{
-    if at < t.len() {
-        t[at] = x;
-    }
-}
-
-// Rule r of an array of five numbers a rule.
-pub fn rule_at(rules: &[u32], r: usize) -> Rule
-    requires { ⌜ r < 4294967296 ⌝ }
-    ensures { λ x. ⌜ x ≡ ruleAt (now (rules .entry)) r ⌝ }
-{
-    let at = 5 * r;
-    let head = Sym(narrow_at(rules, at + 1));
-    let weight = narrow_at(rules, at + 2);
-    let first = narrow_at(rules, at + 3);
-    if number_at(rules, at) == 0 {
-        Rule::Pair(head, Sym(first), Sym(narrow_at(rules, at + 4)), weight)
-    } else {
-        Rule::Word(head, Word(first), weight)
-    }
-}
 
 // The cell of a head over a span.
 pub fn cell_of(d: Dims, a: Sym, i: usize, k: usize) -> usize

@@ -3,7 +3,7 @@ use Prim.Native.Nat.{_≤_, _-_}
 use mathlib.Core.Path.{_≡_, refl, _∙_}
 use borrow.Author.Needs.{needs}
 use Rattle.chart.specs.Model.{iter, tieAt, followers, followersOf}
-use Rattle.chart.proofs.Loops.{iter-more, iter-end}
+use Rattle.packing.proofs.Loop.{iter-more, iter-end}
 use Rattle.chart.proofs.candidates.all_followers.Statement.{statement}
 use Rattle.chart.proofs.candidates.all_followers.Tie as tie
 

@@ -7,7 +7,8 @@ use borrow.Author.Tests.{eq-eqb, ne-eqb}
 use borrow.Author.Needs.{needs}
 use Rattle.packing.specs.Flat.{ruleAt}
 use Rattle.chart.specs.Model.{over, wordLeaf, edgeLeaves}
-use Rattle.chart.proofs.Loops.{from-none, from-more, from-turn, iter-end}
+use Rattle.packing.proofs.Loop.{iter-end}
+use Rattle.chart.proofs.Loops.{from-none, from-more, from-turn}
 use Rattle.chart.proofs.candidates.edge_leaves.Statement.{statement}
 use Rattle.chart.proofs.candidates.edge_leaves.Tie as tie
 

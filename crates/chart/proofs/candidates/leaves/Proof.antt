@@ -5,7 +5,8 @@ use native.Mathlib.Omega.{arith}
 use lib.ListN.{getD}
 use borrow.Author.Needs.{needs}
 use Rattle.chart.specs.Model.{over, edgeLeaves, leavesOf}
-use Rattle.chart.proofs.Loops.{from-none, from-more, from-turn, iter-end}
+use Rattle.packing.proofs.Loop.{iter-end}
+use Rattle.chart.proofs.Loops.{from-none, from-more, from-turn}
 use Rattle.chart.proofs.candidates.leaves.Statement.{statement}
 use Rattle.chart.proofs.candidates.leaves.Tie as tie
 

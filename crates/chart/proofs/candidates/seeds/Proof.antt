@@ -7,7 +7,8 @@ use lib.ListN.{getD}
 use borrow.Author.Needs.{needs}
 use Rattle.packing.specs.Flat.{ruleAt}
 use Rattle.chart.specs.Model.{over, ruleSeeds, seedsOf}
-use Rattle.chart.proofs.Loops.{from-none, from-more, from-turn, iter-end}
+use Rattle.packing.proofs.Loop.{iter-end}
+use Rattle.chart.proofs.Loops.{from-none, from-more, from-turn}
 use Rattle.chart.proofs.candidates.seeds.Statement.{statement}
 use Rattle.chart.proofs.candidates.seeds.Tie as tie
 

@@ -4,7 +4,8 @@ use mathlib.Core.Path.{_≡_, sym, _∙_}
 use native.Mathlib.Omega.{arith}
 use borrow.Author.Needs.{needs}
 use Rattle.chart.specs.Model.{over, lesser, pairKey, splitSeeds}
-use Rattle.chart.proofs.Loops.{from-none, from-more, from-turn, iter-end}
+use Rattle.packing.proofs.Loop.{iter-end}
+use Rattle.chart.proofs.Loops.{from-none, from-more, from-turn}
 use Rattle.chart.proofs.candidates.split_seeds.Statement.{statement}
 use Rattle.chart.proofs.candidates.split_seeds.Tie as tie
 
