@@ -9,8 +9,8 @@ use Rattle.packing.specs.Flat.{ruleAt}
 use Rattle.chart.specs.Model.{over, wordLeaf, edgeLeaves}
 use Rattle.packing.proofs.Loop.{iter-end}
 use Rattle.chart.proofs.Loops.{from-none, from-more, from-turn}
-use Rattle.chart.proofs.candidates.edge_leaves.Statement.{statement}
-use Rattle.chart.proofs.candidates.edge_leaves.Tie as tie
+use Rattle.chart.proofs.selection.edge_leaves.Statement.{statement}
+use Rattle.chart.proofs.selection.edge_leaves.Tie as tie
 
 abbrev Inv-loop : tie.InvT-loop
 Inv-loop rules edges index k e floor best head from upto so-far₀ y₀ so-far y = (from ≤ y) × (y - from ≤ upto - from) × (so-far ≡ over (λ x y. wordLeaf edges e floor x (getD index y 0) (ruleAt rules (getD index y 0))) best from y)

@@ -2,8 +2,8 @@
 use borrow.Author.Tests.{eq-eqb, ne-eqb}
 use Rattle.chart.specs.Model.{followers, pairFollowers}
 use borrow.Author.Needs.{needs}
-use Rattle.chart.proofs.candidates.followers.Statement.{statement}
-use Rattle.chart.proofs.candidates.followers.Tie as tie
+use Rattle.chart.proofs.selection.followers.Statement.{statement}
+use Rattle.chart.proofs.selection.followers.Tie as tie
 
 returns : tie.Need-returns
 unfolding followers

@@ -1,8 +1,8 @@
 -- Each call has the meaning of its part of the definition.
 use Rattle.chart.specs.Model.{pairKey}
 use borrow.Author.Needs.{needs}
-use Rattle.chart.proofs.candidates.pair_key.Statement.{statement}
-use Rattle.chart.proofs.candidates.pair_key.Tie as tie
+use Rattle.chart.proofs.selection.pair_key.Statement.{statement}
+use Rattle.chart.proofs.selection.pair_key.Tie as tie
 
 cell-of-requires : tie.Need-cell-of-requires
 cell-of-requires c κs = search needs

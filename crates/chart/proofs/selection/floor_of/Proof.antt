@@ -2,8 +2,8 @@
 use borrow.Author.Tests.{eq-eqb, ne-eqb}
 use Rattle.chart.specs.Model.{floorOf}
 use borrow.Author.Needs.{needs}
-use Rattle.chart.proofs.candidates.floor_of.Statement.{statement}
-use Rattle.chart.proofs.candidates.floor_of.Tie as tie
+use Rattle.chart.proofs.selection.floor_of.Statement.{statement}
+use Rattle.chart.proofs.selection.floor_of.Tie as tie
 
 returns : tie.Need-returns
 unfolding floorOf

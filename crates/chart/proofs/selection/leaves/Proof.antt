@@ -7,8 +7,8 @@ use borrow.Author.Needs.{needs}
 use Rattle.chart.specs.Model.{over, edgeLeaves, leavesOf}
 use Rattle.packing.proofs.Loop.{iter-end}
 use Rattle.chart.proofs.Loops.{from-none, from-more, from-turn}
-use Rattle.chart.proofs.candidates.leaves.Statement.{statement}
-use Rattle.chart.proofs.candidates.leaves.Tie as tie
+use Rattle.chart.proofs.selection.leaves.Statement.{statement}
+use Rattle.chart.proofs.selection.leaves.Tie as tie
 
 abbrev Inv-loop : tie.InvT-loop
 Inv-loop rules edges index a i k floor best from upto so-far₀ y₀ so-far y = (from ≤ y) × (y - from ≤ upto - from) × (so-far ≡ over (λ x y. edgeLeaves rules edges index a k floor x (getD index y 0)) best from y)

@@ -1,8 +1,8 @@
 -- The sum of three weights below 2 ^ 32 and 1 is below 2 ^ 34.
 use Rattle.chart.specs.Model.{joinKey}
 use borrow.Author.Needs.{needs}
-use Rattle.chart.proofs.candidates.join_key.Statement.{statement}
-use Rattle.chart.proofs.candidates.join_key.Tie as tie
+use Rattle.chart.proofs.selection.join_key.Statement.{statement}
+use Rattle.chart.proofs.selection.join_key.Tie as tie
 
 wide-requires : tie.Need-wide-requires
 wide-requires c κs = search needs

@@ -1,8 +1,8 @@
 -- By the rule's variant.
 use Rattle.chart.specs.Model.{ruleSeeds}
 use borrow.Author.Needs.{needs}
-use Rattle.chart.proofs.candidates.rule_seeds.Statement.{statement}
-use Rattle.chart.proofs.candidates.rule_seeds.Tie as tie
+use Rattle.chart.proofs.selection.rule_seeds.Statement.{statement}
+use Rattle.chart.proofs.selection.rule_seeds.Tie as tie
 
 rule-at-requires : tie.Need-rule-at-requires
 rule-at-requires c κs = search needs

@@ -1,8 +1,8 @@
 -- By the tests, as in the definition.
 use borrow.Author.Tests.{lt-ltb, le-ltb}
 use Rattle.chart.specs.Model.{lesser}
-use Rattle.chart.proofs.candidates.lesser.Statement.{statement}
-use Rattle.chart.proofs.candidates.lesser.Tie as tie
+use Rattle.chart.proofs.selection.lesser.Statement.{statement}
+use Rattle.chart.proofs.selection.lesser.Tie as tie
 
 returns : tie.Need-returns
 unfolding lesser

@@ -6,8 +6,8 @@ use borrow.Author.Needs.{needs}
 use Rattle.chart.specs.Model.{over, lesser, pairKey, splitSeeds}
 use Rattle.packing.proofs.Loop.{iter-end}
 use Rattle.chart.proofs.Loops.{from-none, from-more, from-turn}
-use Rattle.chart.proofs.candidates.split_seeds.Statement.{statement}
-use Rattle.chart.proofs.candidates.split_seeds.Tie as tie
+use Rattle.chart.proofs.selection.split_seeds.Statement.{statement}
+use Rattle.chart.proofs.selection.split_seeds.Tie as tie
 
 abbrev Inv-loop : tie.InvT-loop
 Inv-loop t d b c w r i k floor best so-far₀ j₀ so-far j = (i + 1 ≤ j) × (j - (i + 1) ≤ k - (i + 1)) × (so-far ≡ over (λ x j. lesser floor x (pairKey t d b c w r i j k 0 0)) best (i + 1) j)

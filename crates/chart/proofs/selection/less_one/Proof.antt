@@ -2,8 +2,8 @@
 use borrow.Author.Tests.{eq-eqb, ne-eqb}
 use Rattle.chart.specs.Model.{lessOne}
 use borrow.Author.Needs.{needs}
-use Rattle.chart.proofs.candidates.less_one.Statement.{statement}
-use Rattle.chart.proofs.candidates.less_one.Tie as tie
+use Rattle.chart.proofs.selection.less_one.Statement.{statement}
+use Rattle.chart.proofs.selection.less_one.Tie as tie
 
 sub-result : tie.Need-sub-result
 sub-result c = search needs

@@ -1,8 +1,8 @@
 -- Each call has the meaning of its part of the definition.
 use Rattle.chart.specs.Model.{leastOf}
 use borrow.Author.Needs.{needs}
-use Rattle.chart.proofs.candidates.least.Statement.{statement}
-use Rattle.chart.proofs.candidates.least.Tie as tie
+use Rattle.chart.proofs.selection.least.Statement.{statement}
+use Rattle.chart.proofs.selection.least.Tie as tie
 
 leaves-requires : tie.Need-leaves-requires
 leaves-requires c κs = search needs

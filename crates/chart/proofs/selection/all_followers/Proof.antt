@@ -4,8 +4,8 @@ use mathlib.Core.Path.{_≡_, refl, _∙_}
 use borrow.Author.Needs.{needs}
 use Rattle.chart.specs.Model.{iter, tieAt, followers, followersOf}
 use Rattle.packing.proofs.Loop.{iter-more, iter-end}
-use Rattle.chart.proofs.candidates.all_followers.Statement.{statement}
-use Rattle.chart.proofs.candidates.all_followers.Tie as tie
+use Rattle.chart.proofs.selection.all_followers.Statement.{statement}
+use Rattle.chart.proofs.selection.all_followers.Tie as tie
 
 abbrev Inv-loop : tie.InvT-loop
 Inv-loop t d rules i k c floor best cell so-far₀ y₀ so-far y = (y ≤ c) × (so-far ≡ iter (λ x y. followers t d rules i k floor x (tieAt t d cell y)) best y)

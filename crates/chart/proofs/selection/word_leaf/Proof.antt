@@ -2,8 +2,8 @@
 use borrow.Author.Tests.{eq-eqb, ne-eqb}
 use Rattle.chart.specs.Model.{wordLeaf}
 use borrow.Author.Needs.{needs}
-use Rattle.chart.proofs.candidates.word_leaf.Statement.{statement}
-use Rattle.chart.proofs.candidates.word_leaf.Tie as tie
+use Rattle.chart.proofs.selection.word_leaf.Statement.{statement}
+use Rattle.chart.proofs.selection.word_leaf.Tie as tie
 
 rule-at-requires : tie.Need-rule-at-requires
 rule-at-requires c κs = search needs
