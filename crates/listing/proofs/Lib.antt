@@ -1,0 +1,3 @@
+pub mod Joined
+pub mod Accepted
+pub mod Demand3
