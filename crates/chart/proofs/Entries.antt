@@ -14,7 +14,7 @@ use lib.ListN.{length, getD, set, length-set}
 use lib.Seq.{getD-set-same, getD-set-other}
 use lib.Arith.{digits-div, digits-mod, digits-lt}
 use lib.Dec.{ltb, eqb, eqb·suc-zero}
-use borrow.Author.Tests.{lt-ltb, le-ltb}
+use borrow.Author.Tests.{eqb-false, lt-ltb, le-ltb}
 use Rattle.bits.specs.Bits.{pick}
 use Rattle.packing.specs.Meaning.{sym as symbol}
 use Rattle.packing.specs.declared.Sym.{Sym}
@@ -123,6 +123,10 @@ under-cap t d c x h = go (decLe (d .cap) x)
     go : Dec (d .cap ≤ x) → x < d .cap
     go (yes l) = absurd (omega (arith, past-cap t d c x l))
     go (no l) = omega arith
+
+-- a rank is found where the test for 0 fails
+pub found-test : (w : ℕ) → eqb w 0 ≡ false → 0 < w
+found-test w e = omega (arith, eqb-false w 0 e)
 
 pub same-entry : (t : List ℕ) (d : Dims) (c x c′ x′ : ℕ) → x < d .cap → x′ < d .cap → entryOf d c x ≡ entryOf d c′ x′
     → weightAt t d c x ≡ weightAt t d c′ x′

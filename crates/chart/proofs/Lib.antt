@@ -4,10 +4,13 @@ pub mod Places
 pub mod Zeros
 -- What a good table holds.
 pub mod Candidates
+pub mod Chart
 pub mod Entries
 pub mod Good
 pub mod Keys
 pub mod Least
+pub mod Listing
 pub mod Next
 pub mod Placed
 pub mod Select
+pub mod Spell

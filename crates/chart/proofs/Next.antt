@@ -9,7 +9,7 @@ use Prim.Native.Nat.{ℕ, zero, suc, _+_, _-_, _*_, _≤_, _<_}
 use native.Mathlib.Numerals.{add-one}
 use native.Mathlib.Omega.{arith}
 use lib.Dec.{ltb, eqb, eqb·suc-zero}
-use borrow.Author.Tests.{ltb-true, ltb-false, eqb-false, lt-ltb, le-ltb, eq-eqb, ne-eqb}
+use borrow.Author.Tests.{ltb-true, ltb-false, lt-ltb, le-ltb, eq-eqb, ne-eqb}
 use Rattle.bits.specs.Bits.{pick}
 use Rattle.packing.specs.declared.Sym.{Sym}
 use Rattle.packing.specs.declared.Rule.the-variants.{Pair, Word}
@@ -20,7 +20,7 @@ use Rattle.derivation.proofs.Rows.{Row, row, RowOf, leaf-row, node-row, RowAt, 
 use Rattle.chart.specs.declared.Dims.{Dims}
 use Rattle.chart.specs.Model.{tieOf, cellOf, weightAt, tieAt, extended, partsExtended, advanced, placed, next}
 use Rattle.chart.proofs.Keys.{Fits, RowFits, rowTie, rule-in, split-in, left-in, right-in}
-use Rattle.chart.proofs.Entries.{Cell}
+use Rattle.chart.proofs.Entries.{Cell, found-test}
 use Rattle.chart.proofs.Good.{Setting, Found, Known, Parts, Ahead, Stands, Good, Grows, known-grows, all-below}
 use Rattle.chart.proofs.Candidates.{rule-is}
 use Rattle.chart.proofs.Least.{Ready, part-cells}
@@ -46,10 +46,7 @@ module _ {g : Grammar} {es : List Edge} {rules edges index : List ℕ} {d : Dims
 
         by-found : (b : Bool) → eqb (weightAt t d (cellOf d a i k) (suc x)) 0 ≡ b → suc x < d .cap → Done s m t (pick b (go t a i k (suc x)) t) a i k (suc x)
         by-found true e l = by-go .finds t a i k (suc x) good cell short due l below
-        by-found false e l = same-done t a i k (suc x) good (λ _ _. positive (eqb-false _ _ e))
-          where
-            positive : {y : ℕ} → (y ≡ 0 → ⊥) → 0 < y
-            positive h = omega arith
+        by-found false e l = same-done t a i k (suc x) good (λ _ _. found-test _ e)
 
         by-kept : (b : Bool) → ltb (suc x) (d .cap) ≡ b
             → Done s m t (pick b (pick (eqb (weightAt t d (cellOf d a i k) (suc x)) 0) (go t a i k (suc x)) t) t) a i k (suc x)
