@@ -1,0 +1,44 @@
+-- `packing_utterance::store_candidate` meets its contract: two numbers stored in a row. Assumes nothing.
+use mathlib.Core.List.{[], _∷_}
+use native.Mathlib.Omega.{arith}
+use lib.ListN.{set, length-set}
+use Rattle.packing_utterance.proofs.Stored.{stored-one, stored-next}
+use borrow.Author.Needs.{needs}
+use Rattle.packing_utterance.proofs.store_candidate.Statement.{statement}
+use Rattle.packing_utterance.proofs.store_candidate.Tie as tie
+
+mul-slots : tie.Need-mul-slots
+mul-slots c = search needs
+
+slice-write-slots : tie.Need-slice-write-slots
+slice-write-slots c = search needs
+
+add-slots : tie.Need-add-slots
+add-slots c = search needs
+
+mul-slots-2 : tie.Need-mul-slots-2
+mul-slots-2 c = search needs
+
+slice-write-slots-2 : tie.Need-slice-write-slots-2
+slice-write-slots-2 c = simp length-set (omega arith)
+
+same-length : tie.Need-same-length
+same-length c = search needs
+
+returns : tie.Need-returns
+returns c =
+    let a = c .args in
+    let s = a .slots .now in
+    stored-next s (set s (a .p) (a .word)) (a .p) (a .word ∷ []) (a .cost) (stored-one s (a .p) (a .word) (omega arith)) (simp length-set (omega arith))
+
+pub store-candidate-spec : {M : Type 1} → statement M
+store-candidate-spec =
+    tie.close
+    (tie.spec
+    mul-slots
+    slice-write-slots
+    add-slots
+    mul-slots-2
+    slice-write-slots-2
+    same-length
+    returns)
