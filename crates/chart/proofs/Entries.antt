@@ -3,19 +3,18 @@
 -- leaves all others.
 use mathlib.Core.Path.{_≡_, refl, sym, ap, _∙_, subst}
 use mathlib.Core.Logic.{⊎-elim, _≢_}
-use mathlib.Core.Bool.{Bool, true, false}
+use mathlib.Core.Bool.{false}
 use mathlib.Core.List.{List}
 use Prim.Native.Nat.{ℕ, zero, suc, _+_, _-_, _*_, _/_, _%_, _≤_, _<_}
 use native.Mathlib.Nat.{eq-or-lt-of-le, suc-mul, mul-suc, mul-comm, mul-le-mul-right}
 use native.Mathlib.Numerals.{add-one}
 use native.Mathlib.Decide.{decLe}
 use native.Mathlib.Omega.{arith}
-use lib.ListN.{length, getD, set, length-set}
+use lib.ListN.{length, set, length-set}
 use lib.Seq.{getD-set-same, getD-set-other}
 use lib.Arith.{digits-div, digits-mod, digits-lt}
-use lib.Dec.{ltb, eqb, eqb·suc-zero}
+use lib.Dec.{eqb, eqb·suc-zero}
 use borrow.Author.Tests.{eqb-false, lt-ltb, le-ltb}
-use Rattle.bits.specs.Bits.{pick}
 use Rattle.packing.specs.Meaning.{sym as symbol}
 use Rattle.packing.specs.declared.Sym.{Sym}
 use Rattle.chart.specs.declared.Dims.{Dims}
@@ -38,8 +37,10 @@ spans k = k * (k - 1) / 2
 spans-suc : (k : ℕ) → spans (suc k) ≡ spans k + k
 spans-suc zero = refl
 spans-suc (suc m) =
-    let e : suc (suc m) * (suc (suc m) - 1) ≡ m * m + 3 * m + 2 = rw (let g : suc (suc m) - 1 ≡ suc m = omega arith in g) (simp (suc-mul, mul-suc) (omega arith)) in
-    let e′ : suc m * (suc m - 1) ≡ m * m + m = rw (let g : suc m - 1 ≡ m = omega arith in g) (simp (suc-mul) (omega arith)) in
+    let one : suc (suc m) - 1 ≡ suc m = omega arith in
+    let two : suc m - 1 ≡ m = omega arith in
+    let e : suc (suc m) * (suc (suc m) - 1) ≡ m * m + 3 * m + 2 = rw one (simp (suc-mul, mul-suc) (omega arith)) in
+    let e′ : suc m * (suc m - 1) ≡ m * m + m = rw two (simp (suc-mul) (omega arith)) in
     omega arith
 
 spans-before : (k m : ℕ) → k < m → spans k + k ≤ spans m
@@ -74,7 +75,8 @@ module _ (d : Dims) (n : ℕ) where
       let low : (spans k + i) * d .symbols + a .0 < spans (suc n) * d .symbols = digits-lt within (c .symbol) in
       omega arith
 
-  pub cell-one : {a b : Sym} {i k x y : ℕ} → Cell d n a i k → Cell d n b x y → cellOf d a i k ≡ cellOf d b x y → (a ≡ b) × (i ≡ x) × (k ≡ y)
+  pub cell-one : {a b : Sym} {i k x y : ℕ} → Cell d n a i k → Cell d n b x y → cellOf d a i k ≡ cellOf d b x y
+      → (a ≡ b) × (i ≡ x) × (k ≡ y)
   unfolding cellOf
   cell-one {a} {b} {i} {k} {x} {y} c c′ e =
       let (q, h) = digits-one (spans k + i) (a .0) (spans y + x) (b .0) (d .symbols) (c .symbol) (c′ .symbol) e in
@@ -83,7 +85,8 @@ module _ (d : Dims) (n : ℕ) where
 
 -- entries
 module _ (d : Dims) where
-  pub entry-one : (c x c′ x′ : ℕ) → c < d .cells → c′ < d .cells → x < d .cap → x′ < d .cap → entryOf d c x ≡ entryOf d c′ x′ → (c ≡ c′) × (x ≡ x′)
+  pub entry-one : (c x c′ x′ : ℕ) → c < d .cells → c′ < d .cells → x < d .cap → x′ < d .cap
+      → entryOf d c x ≡ entryOf d c′ x′ → (c ≡ c′) × (x ≡ x′)
   unfolding entryOf
   entry-one c zero c′ zero h h′ l l′ e = (omega arith, refl)
   entry-one c zero c′ (suc x′) h h′ l l′ e = absurd (omega (arith, rw (eqb·suc-zero x′) at e))
@@ -98,19 +101,18 @@ module _ (d : Dims) where
   entry-within c zero h l = omega (arith, mul-le-mul-right (d .cells) l, mul-comm (d .cells) (d .cap))
   entry-within c (suc x) h l =
       let low : c * (d .cap - 1) + x < d .cells * (d .cap - 1) = digits-lt h (omega arith) in
-      let whole : d .cells * (d .cap - 1) + d .cells ≡ d .cells * d .cap = sym (mul-suc (d .cells) (d .cap - 1)) ∙ ap (λ (m : ℕ). d .cells * m) (omega arith) in
+      let last : suc (d .cap - 1) ≡ d .cap = omega arith in
+      let whole : d .cells * (d .cap - 1) + d .cells ≡ d .cells * d .cap = rw last at (sym (mul-suc (d .cells) (d .cap - 1))) in
       rw (eqb·suc-zero x) (omega arith)
 
-  -- the first number of an entry is never the third of one
-  entry-apart : (c x c′ x′ : ℕ) → entryOf d c x ≢ entryOf d c′ x′ + 2
+  -- the first number of an entry is never the third of one, since entries begin at multiples of 4
+  entry-four : (c x : ℕ) → entryOf d c x % 4 ≡ 0
   unfolding entryOf
-  entry-apart c x c′ x′ = go (eqb x 0) (eqb x′ 0)
-    where
-      go : (s s′ : Bool) → pick s (c * 4) ((d .cells + c * (d .cap - 1) + (x - 1)) * 4) ≢ pick s′ (c′ * 4) ((d .cells + c′ * (d .cap - 1) + (x′ - 1)) * 4) + 2
-      go true true e = omega arith
-      go true false e = omega arith
-      go false true e = omega arith
-      go false false e = omega arith
+  entry-four c zero = omega arith
+  entry-four c (suc x) = rw (eqb·suc-zero x) (omega arith)
+
+  entry-apart : (c x c′ x′ : ℕ) → entryOf d c x ≢ entryOf d c′ x′ + 2
+  entry-apart c x c′ x′ e = omega (arith, entry-four c x, entry-four c′ x′)
 
 -- ranks past the cap are not kept
 pub past-cap : (t : List ℕ) (d : Dims) (c x : ℕ) → d .cap ≤ x → weightAt t d c x ≡ 0
@@ -140,7 +142,13 @@ put-none t d c x key h = rw (le-ltb key none h)
 
 -- what the store of a key changes, and what it leaves
 module _ (t : List ℕ) (d : Dims) (c x key : ℕ) (some : key < none) where
-  put-is : putKey t d c x key ≡ set (set t (entryOf d c x) (key / 536870912)) (entryOf d c x + 2) (key % 536870912)
+  abbrev at : ℕ
+  at = entryOf d c x
+
+  abbrev weighed : List ℕ
+  weighed = set t at (key / 536870912)
+
+  put-is : putKey t d c x key ≡ set weighed (at + 2) (key % 536870912)
   unfolding putKey
   put-is = rw (lt-ltb key none some)
 
@@ -151,21 +159,24 @@ module _ (t : List ℕ) (d : Dims) (c x key : ℕ) (some : key < none) where
     pub put-weight : x < d .cap → weightAt (putKey t d c x key) d c x ≡ key / 536870912
     unfolding weightAt
     put-weight h =
-        rw (put-is, lt-ltb x (d .cap) h, getD-set-other (set t (entryOf d c x) (key / 536870912)) (entryOf d c x + 2) (entryOf d c x) (key % 536870912) 0 (λ e. omega arith))
-        (getD-set-same t (entryOf d c x) (key / 536870912) 0 (omega arith))
+        rw (put-is, lt-ltb x (d .cap) h, getD-set-other weighed (at + 2) at (key % 536870912) 0 (λ e. omega arith))
+        (getD-set-same t at (key / 536870912) 0 (omega arith))
 
     pub put-tie : tieAt (putKey t d c x key) d c x ≡ key % 536870912
     unfolding tieAt
-    put-tie = rw put-is (getD-set-same (set t (entryOf d c x) (key / 536870912)) (entryOf d c x + 2) (key % 536870912) 0 (simp length-set (omega arith)))
+    put-tie = rw put-is (getD-set-same weighed (at + 2) (key % 536870912) 0 (simp length-set (omega arith)))
 
   module _ (c′ x′ : ℕ) (other : entryOf d c′ x′ ≢ entryOf d c x) where
+    abbrev there : ℕ
+    there = entryOf d c′ x′
+
     pub put-weight-other : weightAt (putKey t d c x key) d c′ x′ ≡ weightAt t d c′ x′
     unfolding weightAt
     put-weight-other =
         rw (
           put-is,
-          getD-set-other (set t (entryOf d c x) (key / 536870912)) (entryOf d c x + 2) (entryOf d c′ x′) (key % 536870912) 0 (entry-apart d c′ x′ c x),
-          getD-set-other t (entryOf d c x) (entryOf d c′ x′) (key / 536870912) 0 other,
+          getD-set-other weighed (at + 2) there (key % 536870912) 0 (entry-apart d c′ x′ c x),
+          getD-set-other t at there (key / 536870912) 0 other,
         )
 
     pub put-tie-other : tieAt (putKey t d c x key) d c′ x′ ≡ tieAt t d c′ x′
@@ -173,6 +184,6 @@ module _ (t : List ℕ) (d : Dims) (c x key : ℕ) (some : key < none) where
     put-tie-other =
         rw (
           put-is,
-          getD-set-other (set t (entryOf d c x) (key / 536870912)) (entryOf d c x + 2) (entryOf d c′ x′ + 2) (key % 536870912) 0 (λ e. other (omega arith)),
-          getD-set-other t (entryOf d c x) (entryOf d c′ x′ + 2) (key / 536870912) 0 (λ e. entry-apart d c x c′ x′ (sym e)),
+          getD-set-other weighed (at + 2) (there + 2) (key % 536870912) 0 (λ e. other (omega arith)),
+          getD-set-other t at (there + 2) (key / 536870912) 0 (λ e. entry-apart d c x c′ x′ (sym e)),
         )

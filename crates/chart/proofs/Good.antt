@@ -1,8 +1,10 @@
 -- What the chart's theory assumes of its arrays and its layout, and what a good table holds of the ranked lists of its cells.
 -- A good table keeps what it knows as it grows, since all of that is said of entries that are found.
 use mathlib.Core.Path.{_≡_}
+use mathlib.Core.Logic.{⊎-elim}
 use mathlib.Core.List.{List}
 use Prim.Native.Nat.{ℕ, zero, suc, _+_, _-_, _*_, _≤_, _<_}
+use native.Mathlib.Nat.{eq-or-lt-of-le}
 use native.Mathlib.Omega.{arith}
 use lib.ListN.{length, getD}
 use Rattle.packing.specs.declared.Sym.{Sym}
@@ -27,7 +29,8 @@ pub record Setting (g : Grammar) (es : List Edge) (rules edges index : List ℕ)
   pub few-edges : length es ≤ 256
   pub rule-at : (r : ℕ) → r < length (g .rules) → At (g .rules) r (ruleAt rules r)
   pub edge-at : (e : ℕ) → e < length es
-      → At es e (edge (getD edges (4 * e) 0) (getD edges (4 * e + 1) 0) (word (getD edges (4 * e + 2) 0)) (getD edges (4 * e + 3) 0))
+      → At es e
+      (edge (getD edges (4 * e) 0) (getD edges (4 * e + 1) 0) (word (getD edges (4 * e + 2) 0)) (getD edges (4 * e + 3) 0))
   pub indexed : Indexed rules edges index (d .symbols) (length (g .rules)) (length es) n
   pub parts : (A B C : Sym) (r w : ℕ) → At (g .rules) r (Pair A B C w) → (B .0 < d .symbols) × (C .0 < d .symbols)
   pub light : (A : Sym) (i k : ℕ) (t : Tree) → k ≤ n → Derives g es A i k t → weight g es t < 16777216
@@ -84,9 +87,21 @@ module _ (g : Grammar) (es : List Edge) (d : Dims) (t u : List ℕ) (grows : Gro
   ahead-grows a i k (row w r j p q) ahead = λ B C v rule.
       let (l, m) = ahead B C v rule in (known-grows C j k (suc q) l, λ e. known-grows B i j (suc p) (m e))
 
--- all ranks below one that is found are found
-pub all-below : {g : Grammar} {es : List Edge} {d : Dims} {n m : ℕ} {t : List ℕ} → Good g es d n m t → (a : Sym) (i k x y : ℕ) → Cell d n a i k
-    → Found d t a i k (x + y) → Found d t a i k x
-all-below good a i k x zero cell h = rw (let e : x + 0 ≡ x = omega arith in e) at h
-all-below good a i k x (suc y) cell h =
-    all-below good a i k x y cell (good .down a i k (x + y) cell (rw (let e : x + suc y ≡ suc (x + y) = omega arith in e) at h))
+-- a good table that has found what t has
+pub record Grown (g : Grammar) (es : List Edge) (d : Dims) (n m : ℕ) (t u : List ℕ) : Type 0 where
+  pub good : Good g es d n m u
+  pub keeps : Grows d t u
+
+module _ {g : Grammar} {es : List Edge} {d : Dims} {n m : ℕ} where
+  pub grown-none : {t : List ℕ} → Good g es d n m t → Grown g es d n m t t
+  grown-none good = record { good = good; keeps = λ c x h. h }
+
+  pub grown-then : {t u v : List ℕ} → Grown g es d n m t u → Grown g es d n m u v → Grown g es d n m t v
+  grown-then p q = record { good = q .good; keeps = λ c x h. q .keeps c x (p .keeps c x h) }
+
+-- all ranks up to one that is found are found
+pub all-below : {g : Grammar} {es : List Edge} {d : Dims} {n m : ℕ} {t : List ℕ} → Good g es d n m t → (a : Sym)
+    (i k x y : ℕ) → Cell d n a i k → y ≤ x → Found d t a i k x → Found d t a i k y
+all-below good a i k zero y cell l h = let e : y ≡ 0 = omega arith in rw e h
+all-below good a i k (suc x) y cell l h =
+    ⊎-elim (λ e. rw e h) (λ less. all-below good a i k x y cell (omega arith) (good .down a i k x cell h)) (eq-or-lt-of-le l)

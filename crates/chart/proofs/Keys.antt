@@ -1,6 +1,6 @@
 -- A key is one number that compares as its row does: the weight plus 1 and the four numbers of the tie are its digits.
-use mathlib.Core.Path.{_≡_, refl, sym, ap, _∙_}
-use Prim.Native.Nat.{ℕ, zero, suc, _+_, _*_, _/_, _%_, _≤_, _<_, compare, Ordering, Ordering·lt, Ordering·eq, Ordering·gt, compare·suc-suc}
+use mathlib.Core.Path.{_≡_, refl, sym, _∙_}
+use Prim.Native.Nat.{ℕ, _+_, _*_, _/_, _%_, _<_, compare, Ordering, Ordering·lt, Ordering·eq, Ordering·gt, compare·suc-suc}
 use native.Mathlib.Nat.{mul-le-mul-right}
 use native.Mathlib.Numerals.{add-one}
 use native.Mathlib.Omega.{arith}
@@ -50,7 +50,8 @@ compare-digits m x y x′ y′ h h′ = go (compare x x′) refl
     go : (o : Ordering) → compare x x′ ≡ o → compare (x * m + y) (x′ * m + y′) ≡ compare x x′ ▸ compare y y′
     go Ordering·lt e = rw e (compare-lt (x * m + y) (x′ * m + y′) (less x x′ y y′ h (compare-below x x′ e)))
     go Ordering·eq e = rw (compare-same x x′ e, compare-self x′) (compare-shift (x′ * m) y y′)
-    go Ordering·gt e = rw e (compare-gt (x * m + y) (x′ * m + y′) (less x′ x y′ y h′ (compare-below x′ x (turn-gt compare-lawful x x′ e))))
+    go Ordering·gt e =
+        rw e (compare-gt (x * m + y) (x′ * m + y′) (less x′ x y′ y h′ (compare-below x′ x (turn-gt compare-lawful x x′ e))))
 
 module _ {r j p q : ℕ} (fits : Fits r j p q) where
   pub tie-below : tieOf r j p q < 536870912

@@ -1,43 +1,43 @@
 -- The least candidate key above the last found is that of the next row, or there is no further row: the candidates are the
 -- frontier's rows, whose parts are found, and keys compare as rows do. This is the frontier theorem at work on a table.
-use mathlib.Core.Path.{_≡_, refl, sym, ap, _∙_, subst}
+use mathlib.Core.Path.{_≡_, refl, subst}
 use mathlib.Core.Logic.{_⊎_, inl, inr, ⊎-elim, _↔_}
-use mathlib.Core.Bool.{Bool, true, false}
 use mathlib.Core.List.{List}
-use Prim.Native.Nat.{ℕ, zero, suc, _+_, _-_, _*_, _≤_, _<_, Ordering·lt}
+use Prim.Native.Nat.{ℕ, zero, suc, _+_, _-_, _≤_, _<_}
 use native.Mathlib.Nat.{eq-or-lt-of-le}
 use native.Mathlib.Numerals.{add-one}
 use native.Mathlib.Decide.{decLt}
 use native.Mathlib.Omega.{arith}
 use lib.ListN.{length}
-use lib.Dec.{eqb, eqb·suc-zero}
+use lib.Dec.{eqb·suc-zero}
 use Rattle.packing.specs.declared.Sym.{Sym}
-use Rattle.packing.specs.declared.Rule.the-variants.{Pair, Word}
+use Rattle.packing.specs.declared.Rule.the-variants.{Pair}
 use Rattle.packing.specs.Meaning.{Grammar, Edge}
 use Rattle.derivation.specs.Derivation.{At}
 use Rattle.derivation.specs.List.{ranked}
 use Rattle.derivation.proofs.Lists.{at-length}
-use Rattle.derivation.proofs.Rows.{Row, row, rowWeight, rowOrder, row-weight, row-derives, RowAt, row-below, row-one}
+use Rattle.derivation.proofs.Rows.{Row, row, rowWeight, row-weight, row-derives, RowAt, row-below, row-one}
 use Rattle.derivation.proofs.Frontier.{Frontier, a-leaf, a-seed, right-follower, left-follower, frontier-row, Beyond, step-row, stop-row}
 use Rattle.chart.specs.declared.Dims.{Dims}
-use Rattle.chart.specs.Model.{keyOf, tieOf, none, lessOne, joinKey, pairKey, cellOf, weightAt, tieAt, floorOf, leavesOf, seedsOf, followersOf, leastOf}
-use Rattle.chart.proofs.Keys.{Fits, RowFits, rowKey, rowTie, key-positive, key-some, key-lt, order-key}
+use Rattle.chart.specs.Model.{none, lessOne, joinKey, pairKey, cellOf, weightAt, floorOf, leavesOf, seedsOf, followersOf, leastOf}
+use Rattle.chart.proofs.Keys.{RowFits, rowKey, key-positive, key-some, key-lt, order-key}
 use Rattle.chart.proofs.Entries.{Cell, under-cap}
 use Rattle.chart.proofs.Select.{Selects}
-use Rattle.chart.proofs.Good.{Setting, Found, Known, Parts, Ahead, Stands, Good}
+use Rattle.chart.proofs.Good.{Setting, Found, Parts, Ahead, Stands, Good}
 use Rattle.chart.proofs.Candidates.{Reached, first, right, left, Candidate, leaf-key, pair-key, least-selects}
 
 less-one : (x : ℕ) → lessOne (x + 1) ≡ x
 unfolding lessOne
 less-one x = rw (add-one x, eqb·suc-zero x) (omega arith)
 
-less-zero : (x : ℕ) → (x ≡ 0) ⊎ (0 < x)
-less-zero zero = inl refl
-less-zero (suc x) = inr (omega arith)
+zero-or-more : (x : ℕ) → (x ≡ 0) ⊎ (0 < x)
+zero-or-more zero = inl refl
+zero-or-more (suc x) = inr (omega arith)
 
 module _ (t : List ℕ) (d : Dims) (B C : Sym) (w r i j k p q : ℕ) where
   -- the key of a pairing whose parts are found
-  pair-value : (vl vr : Row) → weightAt t d (cellOf d B i j) p ≡ rowWeight vl + 1 → weightAt t d (cellOf d C j k) q ≡ rowWeight vr + 1
+  pair-value : (vl vr : Row) → weightAt t d (cellOf d B i j) p ≡ rowWeight vl + 1
+      → weightAt t d (cellOf d C j k) q ≡ rowWeight vr + 1
       → pairKey t d B C w r i j k p q ≡ rowKey (row (w + rowWeight vl + rowWeight vr) r j p q)
   unfolding pairKey joinKey
   pair-value vl vr e e′ = rw (e, e′, less-one (rowWeight vl), less-one (rowWeight vr))
@@ -45,14 +45,19 @@ module _ (t : List ℕ) (d : Dims) (B C : Sym) (w r i j k p q : ℕ) where
   -- a key that is one is of a pairing whose parts are found
   pair-found : pairKey t d B C w r i j k p q < none → Found d t B i j p × Found d t C j k q
   unfolding pairKey joinKey lessOne
-  pair-found h =
-      (⊎-elim (λ e. absurd (omega (arith, rw e at h))) (λ l. l) (less-zero _), ⊎-elim (λ e. absurd (omega (arith, rw e at h))) (λ l. l) (less-zero _))
+  pair-found h = (
+    ⊎-elim (λ e. absurd (omega (arith, rw e at h))) (λ l. l) (zero-or-more _),
+    ⊎-elim (λ e. absurd (omega (arith, rw e at h))) (λ l. l) (zero-or-more _),
+  )
 
-module _ {g : Grammar} {es : List Edge} {rules edges index : List ℕ} {d : Dims} {n : ℕ} (s : Setting g es rules edges index d n) where
-  pub part-cells : {a B C : Sym} {i j k w : ℕ} (r : ℕ) → Cell d n a i k → At (g .rules) r (Pair a B C w) → i < j → j < k → Cell d n B i j × Cell d n C j k
+module _ {g : Grammar} {es : List Edge} {rules edges index : List ℕ} {d : Dims} {n : ℕ}
+    (s : Setting g es rules edges index d n) where
+  pub part-cells : {a B C : Sym} {i j k w : ℕ} (r : ℕ) → Cell d n a i k → At (g .rules) r (Pair a B C w) → i < j → j < k
+      → Cell d n B i j × Cell d n C j k
   part-cells {a} {B} {C} {w = w} r cell rule h₁ h₂ =
       let (b, c) = s .parts a B C r w rule in
-      (record { symbol = b; order = h₁; within = omega (arith, cell .within) }, record { symbol = c; order = h₂; within = cell .within })
+      let left : Cell d n B _ _ = record { symbol = b; order = h₁; within = omega (arith, cell .within) } in
+      (left, record { symbol = c; order = h₂; within = cell .within })
 
   -- a good table of which the first c ranks of a cell are found, and what may follow the last of them is known
   pub record Ready (m : ℕ) (t : List ℕ) (a : Sym) (i k c : ℕ) : Type 0 where
@@ -65,7 +70,8 @@ module _ {g : Grammar} {es : List Edge} {rules edges index : List ℕ} {d : Dims
 
   -- what the least key of a cell's candidates says
   pub data Chosen (t : List ℕ) (a : Sym) (i k c : ℕ) : ℕ → Type 0 where
-    next-row : {v : Row} → RowAt g es a i k c v → RowFits v → rowWeight v < 16777216 → Parts g es d t a i k v → Chosen t a i k c (rowKey v)
+    next-row : {v : Row} → RowAt g es a i k c v → RowFits v → rowWeight v < 16777216 → Parts g es d t a i k v
+        → Chosen t a i k c (rowKey v)
     no-row : {key : ℕ} → none ≤ key → length (ranked g es a i k) ≡ c → Chosen t a i k c key
 
   module _ {m : ℕ} {t : List ℕ} {a : Sym} {i k c : ℕ} (ready : Ready m t a i k c) where
@@ -86,12 +92,13 @@ module _ {g : Grammar} {es : List Edge} {rules edges index : List ℕ} {d : Dims
         let (v, st) = ready .good .holds B x y p cell h in rw (row-one g es B x y p (st .place) at) at (st .weighs)
 
     -- a pairing of the frontier whose parts are found is a candidate
-    pairing : {B C : Sym} {w r j p q : ℕ} {vl vr : Row} → At (g .rules) r (Pair a B C w) → i < j → j < k → Reached g es a i k c r j p q
-        → Found d t B i j p → Found d t C j k q → RowAt g es B i j p vl → RowAt g es C j k q vr
+    pairing : {B C : Sym} {w r j p q : ℕ} {vl vr : Row} → At (g .rules) r (Pair a B C w) → i < j → j < k
+        → Reached g es a i k c r j p q → Found d t B i j p → Found d t C j k q → RowAt g es B i j p vl → RowAt g es C j k q vr
         → Candidate g es a i k c d t (rowKey (row (w + rowWeight vl + rowWeight vr) r j p q))
     pairing {B} {C} {w} {r} {j} {p} {q} {vl} {vr} rule h₁ h₂ reached fl fr l m =
         let (cl, cr) = part-cells r (ready .cell) rule h₁ h₂ in
-        subst (Candidate g es a i k c d t) (pair-value t d B C w r i j k p q vl vr (found-weight B i j p cl fl l) (found-weight C j k q cr fr m))
+        subst (Candidate g es a i k c d t)
+        (pair-value t d B C w r i j k p q vl vr (found-weight B i j p cl fl l) (found-weight C j k q cr fr m))
         (pair-key rule h₁ h₂ reached)
 
     frontier-candidate : {v : Row} → Frontier g es a i k (d .cap) c v → Candidate g es a i k c d t (rowKey v)
@@ -109,8 +116,8 @@ module _ {g : Grammar} {es : List Edge} {rules edges index : List ℕ} {d : Dims
         (stands x h at .parts B C w rule .1) l m
 
     -- a candidate whose key is one is of the frontier
-    reached-frontier : {B C : Sym} {w r j p q : ℕ} {vl vr : Row} → At (g .rules) r (Pair a B C w) → i < j → j < k → Reached g es a i k c r j p q
-        → p < d .cap → q < d .cap → RowAt g es B i j p vl → RowAt g es C j k q vr
+    reached-frontier : {B C : Sym} {w r j p q : ℕ} {vl vr : Row} → At (g .rules) r (Pair a B C w) → i < j → j < k
+        → Reached g es a i k c r j p q → p < d .cap → q < d .cap → RowAt g es B i j p vl → RowAt g es C j k q vr
         → Frontier g es a i k (d .cap) c (row (w + rowWeight vl + rowWeight vr) r j p q)
     reached-frontier rule h₁ h₂ first hp hq l m = a-seed rule h₁ h₂ l m
     reached-frontier rule h₁ h₂ (right h at) hp hq l m = right-follower rule h₁ h₂ h at hp hq l m
@@ -192,7 +199,9 @@ module _ {g : Grammar} {es : List Edge} {rules edges index : List ℕ} {d : Dims
         floor : ℕ
         floor = floorOf t d a i k c
 
-        picks : Selects floor (Candidate g es a i k c d t) (λ b. followersOf t d rules a i k c floor (seedsOf t d rules index a i k floor (leavesOf rules edges index a i k floor b)))
+        picks : Selects floor (Candidate g es a i k c d t)
+            (λ b.
+            followersOf t d rules a i k c floor (seedsOf t d rules index a i k floor (leavesOf rules edges index a i k floor b)))
         picks = least-selects s t (ready .cell) held floor
 
         least : ℕ
@@ -211,9 +220,9 @@ module _ {g : Grammar} {es : List Edge} {rules edges index : List ℕ} {d : Dims
             let (v, is, on, parts) = candidate-frontier candidate some in
             let fits = frontier-fits on in
             let beyond = floor-beyond v fits .0 (rw is at above) in
-            let least-row : (v′ : Row) → Frontier g es a i k (d .cap) c v′ → Beyond g es a i k c v′ → rowOrder v′ v ≡ Ordering·lt → ⊥ =
-            λ v′ on′ above′ before. omega (arith, bound v′ on′ above′, is, order-key v′ v (frontier-fits on′) fits before) in
-            rw is (next-row (step-row g es a i k (d .cap) c (ready .kept) (begun c refl) on beyond least-row) fits (frontier-light on) parts)
+            let at = step-row g es a i k (d .cap) c (ready .kept) (begun c refl) on beyond (λ v′ on′ above′ before.
+            omega (arith, bound v′ on′ above′, is, order-key v′ v (frontier-fits on′) fits before)) in
+            rw is (next-row at fits (frontier-light on) parts)
         go (no none-left) _ =
             no-row {key = least} (omega arith) (stop-row g es a i k (d .cap) c (ready .kept) (begun c refl) (λ v on above.
             omega (arith, bound v on above, key-some v (frontier-fits on) (frontier-light on))))
