@@ -1,5 +1,6 @@
 -- What the proofs of several functions use.
 pub mod Loops
+pub mod Extended
 pub mod Places
 pub mod Zeros
 -- What a good table holds.

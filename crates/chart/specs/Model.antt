@@ -139,7 +139,11 @@ unfoldable pub putKey : List ℕ → Dims → ℕ → ℕ → ℕ → List ℕ
 putKey t d cell rank key =
     pick (ltb key none) (set (set t (entryOf d cell rank) (key / 536870912)) (entryOf d cell rank + 2) (key % 536870912)) t
 
--- `go` finds a rank of a cell; where that rank is kept and not found, it is gone for
+-- a rank of a cell is kept, and not found
+abbrev pub missing : List ℕ → Dims → Sym → ℕ → ℕ → ℕ → Bool
+missing t d a i k rank = pick (ltb rank (d .cap)) (eqb (weightAt t d (cellOf d a i k) rank) 0) false
+
+-- `go` finds a rank of a cell; where that rank is missing, it is gone for
 unfoldable pub extended : Dims → (List ℕ → Sym → ℕ → ℕ → ℕ → List ℕ) → List ℕ → Sym → ℕ → ℕ → ℕ → List ℕ
 extended d go t a i k rank = pick (ltb rank (d .cap)) (pick (eqb (weightAt t d (cellOf d a i k) rank) 0) (go t a i k rank) t) t
 

@@ -2,9 +2,116 @@
 mod selection;
 pub mod table;
 
+use packing::Sym;
+use selection::floor_of;
+use selection::least;
+use table::cell_of;
+use table::put_key;
+use table::tie_at;
+use table::weight_at;
+ghost use mathlib.Core.Path.{_≡_};
+ghost use Prim.Native.Nat.{ℕ, suc, _+_, _-_, _*_, _<_, _≤_};
+ghost use Rattle.chart.specs.Model.{Small, missing, placed, advanced, next};
+use packing::Rule;
+use packing::arrays::rule_at;
+
 // The work table's layout: the number of symbols, the ranks kept for each cell, and the number of cells.
 pub struct Dims {
     pub symbols: usize,
     pub cap: usize,
     pub cells: usize,
+}
+
+// Whether a rank of a cell is kept and not found.
+fn missing(t: &[u32], d: Dims, a: Sym, i: usize, k: usize, rank: usize) -> bool
+    requires { ⌜ Small d i k ⌝ }
+    ensures { λ r. ⌜ r ≡ missing (now (t .entry)) d a i k rank ⌝ }
+{
+    if rank < d.cap {
+        return weight_at(t, d, cell_of(d, a, i, k), rank) == 0;
+    }
+    false
+}
+
+// Writes the least candidate of a cell at rank c, where the ranks below are found.
+fn place(
+    t: &mut [u32],
+    rules: &[u32],
+    edges: &[u32],
+    index: &[u32],
+    d: Dims,
+    a: Sym,
+    i: usize,
+    k: usize,
+    c: usize,
+)
+    requires { ⌜ (Small d i k) × (c < d .cap) ⌝ }
+    ensures { λ _. ⌜ now (t .exit) ≡ placed (now (rules .entry)) (now (edges .entry)) (now (index .entry)) d a i k c (now (t .entry)) ⌝ }
+{
+    let floor = floor_of(&t[..], d, a, i, k, c);
+    let key = least(&t[..], d, rules, edges, index, a, i, k, c, floor);
+    put_key(t, d, cell_of(d, a, i, k), c, key);
+}
+
+// Finds rank c of a cell, where the ranks below are found, with what it needs of the parts.
+pub fn next_of_span(
+    t: &mut [u32],
+    rules: &[u32],
+    edges: &[u32],
+    index: &[u32],
+    d: Dims,
+    a: Sym,
+    i: usize,
+    k: usize,
+    c: usize,
+)
+    requires { ⌜ (Small d i k) × (c < d .cap) ⌝ }
+    ensures { λ _. ⌜ ((f : ℕ) → k - i ≤ f → now (t .exit) ≡ next (now (rules .entry)) (now (edges .entry)) (now (index .entry)) d f (now (t .entry)) a i k c) ⌝ }
+{
+    if c == 0 {
+        place(t, rules, edges, index, d, a, i, k, c);
+        return;
+    }
+    let tie = tie_at(&t[..], d, cell_of(d, a, i, k), c - 1);
+    advance_pairing(t, rules, edges, index, d, i, k, tie);
+    place(t, rules, edges, index, d, a, i, k, c);
+}
+
+// Sees that what may follow a found pairing stands in the table: the next of its right part, and of its left where the
+// right is first. The split is tested, since a table may hold anything.
+fn advance_pairing(
+    t: &mut [u32],
+    rules: &[u32],
+    edges: &[u32],
+    index: &[u32],
+    d: Dims,
+    i: usize,
+    k: usize,
+    tie: usize,
+)
+    requires { ⌜ (Small d i k) × (tie < 4294967296) ⌝ }
+    ensures { λ _. ⌜ ((f : ℕ) → k - i ≤ suc f → now (t .exit) ≡ advanced (now (rules .entry)) d (next (now (rules .entry)) (now (edges .entry)) (now (index .entry)) d f) (now (t .entry)) i k tie) ⌝ }
+{
+    let r = tie / 2097152;
+    let j = tie / 65536 % 32;
+    let p = tie / 256 % 256;
+    let q = tie % 256;
+    if i < j {
+        if j < k {
+            let rule = rule_at(rules, r);
+            match rule {
+                Rule::Pair(_, b, c, _) => {
+                    if missing(&t[..], d, c, j, k, q + 1) {
+                        next_of_span(t, rules, edges, index, d, c, j, k, q + 1);
+                    }
+                    if q == 0 {
+                        if missing(&t[..], d, b, i, j, p + 1) {
+                            next_of_span(t, rules, edges, index, d, b, i, j, p + 1);
+                        }
+                    }
+                }
+                Rule::Word(_, _, _) => {}
+            }
+        }
+    }
 }
