@@ -79,6 +79,8 @@ struct Chart {
     words: Vec<Vec<WordRule>>,
     parts: Vec<(usize, usize)>,
     costs: Vec<Vec<Option<u32>>>,
+    /// The weight of each cell's first tree, side by side for the first pass.
+    first: Vec<Option<u32>>,
     cells: Vec<Cell>,
 }
 
@@ -92,6 +94,7 @@ impl Chart {
             words: (0..symbols).map(|_| Vec::new()).collect(),
             parts: Vec::new(),
             costs: vec![vec![None; grammar.words as usize]; slots],
+            first: vec![None; symbols * slots * (slots + 1) / 2],
             cells: vec![Cell::default(); symbols * slots * (slots + 1) / 2],
         };
         for (number, rule) in grammar.rules.iter().enumerate() {
@@ -142,6 +145,7 @@ impl Chart {
                         }
                     });
                     let index = self.index(span);
+                    self.first[index] = first.map(|first| first.weight);
                     self.cells[index].found.extend(first);
                 }
             }
@@ -161,10 +165,10 @@ impl Chart {
         }
         for rule in &self.pairs[head] {
             for split in from + 1..to {
-                let left = self.cell(Span { head: rule.first, from, to: split });
-                let right = self.cell(Span { head: rule.second, from: split, to });
-                if let (Some(left), Some(right)) = (left.found.first(), right.found.first()) {
-                    let weight = rule.weight + left.weight + right.weight;
+                let left = self.first[self.index(Span { head: rule.first, from, to: split })];
+                let right = self.first[self.index(Span { head: rule.second, from: split, to })];
+                if let (Some(left), Some(right)) = (left, right) {
+                    let weight = rule.weight + left + right;
                     visit(Candidate { weight, rule: rule.number, split: split as u16, left: 0, right: 0 });
                 }
             }

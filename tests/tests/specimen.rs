@@ -52,7 +52,7 @@ fn specimens_of_every_length() {
             }
         }
     });
-    tally.demand(6_000, &[]);
+    tally.demand(5_000, &[]);
     assert!(some > 1_000 && none > 1_000, "{some} specimens, {none} times none");
 }
 

@@ -11,7 +11,7 @@ pub fn compare(rng: &mut Rng, tally: &mut Tally, blocks: [&[u8]; 3]) {
     let lent = blocks.map(|block| Lent::holding(rng, block));
     let before = lent.clone();
     let answer = library::check(lent[0].slice(), lent[1].slice(), lent[2].slice());
-    tally.record(answer);
+    tally.record(blocks, answer);
     let expected = as_c_answer(check(blocks[0], blocks[1], blocks[2]));
     assert_eq!(answer, expected, "answers of the library and of the second implementation\n{blocks:02x?}");
     assert!(lent == before, "a block was changed\n{blocks:02x?}");

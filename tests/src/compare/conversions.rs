@@ -4,6 +4,7 @@ use super::{Lent, Tally};
 use crate::refusal::{as_c_answer, Answer};
 use crate::seeded::rng::{Noise, Rng};
 use std::fmt::Debug;
+use std::hash::Hash;
 
 /// A conversion in both implementations. Those of grammars make nothing of the grammar block.
 pub struct Conversion<I, O> {
@@ -13,7 +14,7 @@ pub struct Conversion<I, O> {
     pub longest: usize,
 }
 
-impl<I: Noise + PartialEq + Debug, O: Noise + PartialEq + Debug> Conversion<I, O> {
+impl<I: Noise + PartialEq + Debug + Hash, O: Noise + PartialEq + Debug> Conversion<I, O> {
     /// Compares on one input with outputs of several lengths: none, one short, exact and one more where the input is
     /// accepted.
     pub fn compare(&self, rng: &mut Rng, tally: &mut Tally, grammar: &[u8], input: &[I]) {
@@ -39,7 +40,7 @@ impl<I: Noise + PartialEq + Debug, O: Noise + PartialEq + Debug> Conversion<I, O
         let (grammar_before, input_before, mut expected) = (lent_grammar.clone(), lent_input.clone(), out.clone());
         let expected_answer = as_c_answer((self.second)(grammar, input, expected.slice_mut()));
         let answer = (self.library)(lent_grammar.slice(), lent_input.slice(), out.slice_mut());
-        tally.record(answer);
+        tally.record((grammar, input), answer);
         let context = || format!("grammar {grammar:02x?}\ninput {input:?}\noutput length {length}");
         assert_eq!(answer, expected_answer, "answers of the library and of the second implementation\n{}", context());
         assert!(out == expected, "output {:?}, expected {:?}\n{}", out.slice(), expected.slice(), context());

@@ -23,7 +23,7 @@ pub fn compare(rng: &mut Rng, tally: &mut Tally, call: &Call) -> i32 {
     let (blocks_before, mut expected_work, mut expected_out) = (blocks.clone(), work.clone(), out.clone());
     let [grammar, utterance] = &blocks;
     let answer = library::listing(grammar.slice(), utterance.slice(), call.wanted, work.slice_mut(), out.slice_mut());
-    tally.record(answer);
+    tally.record((call.grammar, call.utterance, call.wanted), answer);
     let expected =
         listing(call.grammar, call.utterance, call.wanted, expected_work.slice_mut(), expected_out.slice_mut());
     assert_eq!(answer, as_c_answer(expected), "answers of the library and of the second implementation\n{call:02x?}");

@@ -10,7 +10,8 @@ pub mod specimen;
 
 use crate::refusal::Refusal;
 use crate::seeded::rng::{Noise, Rng};
-use std::collections::BTreeMap;
+use std::collections::{BTreeMap, HashSet};
+use std::hash::{DefaultHasher, Hash, Hasher};
 use std::ops::Range;
 
 /// Numbers on each side of a lent slice that no service may touch.
@@ -44,12 +45,17 @@ impl<T: Noise> Lent<T> {
 /// What was compared so far.
 #[derive(Default)]
 pub struct Tally {
-    pub calls: usize,
+    /// Different inputs, by their hashes: one may be tried with slices of several lengths.
+    inputs: HashSet<u64>,
+    calls: usize,
     refusals: BTreeMap<u32, usize>,
 }
 
 impl Tally {
-    pub fn record(&mut self, answer: i32) {
+    pub fn record(&mut self, input: impl Hash, answer: i32) {
+        let mut hasher = DefaultHasher::new();
+        input.hash(&mut hasher);
+        self.inputs.insert(hasher.finish());
         self.calls += 1;
         if answer < 0 {
             *self.refusals.entry(answer.unsigned_abs()).or_default() += 1;
@@ -60,12 +66,13 @@ impl Tally {
         self.calls - self.refusals.values().sum::<usize>()
     }
 
-    /// Exactly these refusals were met, over at least so many calls.
-    pub fn demand(&self, calls: usize, refusals: &[Refusal]) {
+    /// Exactly these refusals were met, over at least so many different inputs.
+    pub fn demand(&self, inputs: usize, refusals: &[Refusal]) {
         let demanded: Vec<u32> = refusals.iter().map(|&refusal| refusal as u32).collect();
         let met: Vec<u32> = self.refusals.keys().copied().collect();
         assert_eq!(met, demanded, "refusals met, refusals demanded");
-        assert!(self.calls >= calls, "{} calls, {calls} demanded", self.calls);
+        println!("{} different inputs, {} calls", self.inputs.len(), self.calls);
+        assert!(self.inputs.len() >= inputs, "{} different inputs, {inputs} demanded", self.inputs.len());
     }
 }
 

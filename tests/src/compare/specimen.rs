@@ -12,7 +12,7 @@ pub fn compare(rng: &mut Rng, tally: &mut Tally, grammar: &[u8], length: u32, ou
     let mut out = Lent::noise(rng, out_len);
     let (lent_before, mut expected) = (lent.clone(), out.clone());
     let answer = library::specimen(lent.slice(), length, out.slice_mut());
-    tally.record(answer);
+    tally.record((grammar, length), answer);
     let context = || format!("grammar {grammar:02x?}\nlength {length}, output length {out_len}");
     let expected_answer = match exists(grammar, length, out_len) {
         Err(refusal) => -(refusal as i32),
