@@ -19,7 +19,7 @@ use Rattle.derivation.specs.List.{_∈_, trees}
 use Rattle.derivation.specs.Walk.{walkWeight}
 use Rattle.derivation.proofs.Ranges.{Ascending}
 use Rattle.derivation.proofs.Trees.{trees-derive}
-use Rattle.derivation.proofs.Walk.{walk-weight}
+use Rattle.derivation.proofs.Walk.{walk-weight, walk-none}
 use Rattle.checker.specs.Check.{same, withWalk, derivationOf, judged, afterFields}
 use Rattle.checker.specs.Run.{weighed, byRun}
 
@@ -65,14 +65,10 @@ module _ (g : Grammar) (u : Utterance) where
 
   module _ (ascending : Ascending u) where
     judged-weighed : (block : List ℕ) (d : Reading) (at : ℕ) (o : Option Tree) → Found (d .walk) (Derivation g u) o
-        → judged g u block d at o ≡ weighed block d at (walkWeight g u (d .walk))
+        → judged g u block d at o ≡ weighed block d at (walkWeight (g .rules) u (d .walk))
     judged-weighed block d at (some t) (c, w) = rw (walk-weight g u ascending (d .walk) (weight g (edges u) t) .1 (t, c, w, refl))
-    judged-weighed block d at none f = go (walkWeight g u (d .walk)) refl
-      where
-        go : (o : Option ℕ) → walkWeight g u (d .walk) ≡ o → judged g u block d at none ≡ weighed block d at o
-        go none e = refl
-        go (some w) e = let (t, c, n, v) = walk-weight g u ascending (d .walk) w .0 e in absurd (f t c n)
+    judged-weighed block d at none f = rw (walk-none g u ascending (d .walk) f)
 
-    pub by-run : (block : List ℕ) (p : Parse Reading) → afterFields g u block p ≡ byRun g u block p
+    pub by-run : (block : List ℕ) (p : Parse Reading) → afterFields g u block p ≡ byRun (g .rules) u block p
     by-run block (failed n) = refl
     by-run block (parsed d at) = judged-weighed block d at (derivationOf g u (d .walk)) (derivation-found (d .walk))

@@ -1,3 +1,5 @@
 pub mod Judged
 pub mod Passed
 pub mod Theorems
+pub mod Arrays
+pub mod Steps

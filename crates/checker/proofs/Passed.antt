@@ -32,11 +32,11 @@ weighed-out block d e at (some w) h =
     let (end, q) = picked-first (ended block at) (accepted d) (refused 36) refused≢accepted f in
     (accepted-is q, ap some (eqb-true w (d .weight) p), end)
 
-by-run-out : (g : Grammar) (u : Utterance) (block : List ℕ) (p : Parse Reading) {d : Reading} → byRun g u block p ≡ accepted d
-    → (at : ℕ) × (p ≡ parsed d at) × (walkWeight g u (d .walk) ≡ some (d .weight)) × (ended block at ≡ true)
+by-run-out : (g : Grammar) (u : Utterance) (block : List ℕ) (p : Parse Reading) {d : Reading} → byRun (g .rules) u block p ≡ accepted d
+    → (at : ℕ) × (p ≡ parsed d at) × (walkWeight (g .rules) u (d .walk) ≡ some (d .weight)) × (ended block at ≡ true)
 by-run-out g u block (failed n) h = absurd (refused≢accepted h)
 by-run-out g u block (parsed c at) {d} h =
-    let (e, w, end) = weighed-out block c d at (walkWeight g u (c .walk)) h in
+    let (e, w, end) = weighed-out block c d at (walkWeight (g .rules) u (c .walk)) h in
     (at, rw e, rw (← e) w, end)
 
 module _ (g : Grammar) (u : Utterance) (block : List ℕ) (okg : ValidGrammar g) (oku : ValidUtterance (g .words) u) (bytes : Bytes block) where
@@ -46,7 +46,7 @@ module _ (g : Grammar) (u : Utterance) (block : List ℕ) (okg : ValidGrammar g)
   abbrev verdict : Verdict Reading
   verdict = afterFields g u block (readingFrom (length u) R block)
 
-  run : verdict ≡ byRun g u block (readingFrom (length u) R block)
+  run : verdict ≡ byRun (g .rules) u block (readingFrom (length u) R block)
   run = by-run g u (valid-ascending (g .words) u oku) block (readingFrom (length u) R block)
 
   pub passed-out : {d : Reading} → verdict ≡ accepted d

@@ -128,23 +128,23 @@ module _ (g : Grammar) (u : Utterance) where
   -- 34 and 35, "the 2n−1 numbers are not the walk of a derivation", "weight not its own": a reading passes exactly if it is
   -- some derivation's
   pub reading-passes : ValidUtterance (g .words) u → (v : Reading)
-      → ((v .slots ≡ length u) × (walkWeight g u (v .walk) ≡ some (v .weight)))
+      → ((v .slots ≡ length u) × (walkWeight (g .rules) u (v .walk) ≡ some (v .weight)))
       ↔ ((t : Tree) × Derivation g u t × (v ≡ reading g u t))
   unfolding reading
   reading-passes ok v = (to, from)
     where
-      runs : (walkWeight g u (v .walk) ≡ some (v .weight))
+      runs : (walkWeight (g .rules) u (v .walk) ≡ some (v .weight))
           ↔ ((t : Tree) × Derivation g u t × (walk t ≡ v .walk) × (weight g (edges u) t ≡ v .weight))
       runs = walk-weight g u (valid-ascending (g .words) u ok) (v .walk) (v .weight)
 
-      to : (v .slots ≡ length u) × (walkWeight g u (v .walk) ≡ some (v .weight))
+      to : (v .slots ≡ length u) × (walkWeight (g .rules) u (v .walk) ≡ some (v .weight))
           → (t : Tree) × Derivation g u t × (v ≡ reading g u t)
       to (n, p) =
           let (t, d, e, w) = runs .0 p in
           (t, d, λ i. record { slots = n i; weight = sym w i; walk = sym e i })
 
       from : (t : Tree) × Derivation g u t × (v ≡ reading g u t)
-          → (v .slots ≡ length u) × (walkWeight g u (v .walk) ≡ some (v .weight))
+          → (v .slots ≡ length u) × (walkWeight (g .rules) u (v .walk) ≡ some (v .weight))
       from (t, d, e) =
           let numbers = sym (ap (λ (r : Reading). r .walk) e) in
           let w = sym (ap (λ (r : Reading). r .weight) e) in

@@ -7,8 +7,7 @@ use mathlib.Core.Logic.{_↔_, ⊎-elim}
 use mathlib.Core.Bool.{Bool, true, false}
 use mathlib.Core.Option.{Option, none, some}
 use mathlib.Core.List.{List, [], _∷_, _++_, append-nil, append-assoc, List·Memᴰ·head, List·Memᴰ·tail, List·Memᴰ·cases-cons, List·Memᴰ·not-nil}
-use Prim.Native.Nat.{ℕ, zero, suc, _+_, _*_, _≤_, _<_}
-use native.Mathlib.Nat.{le-refl}
+use Prim.Native.Nat.{ℕ, zero, suc, _+_, _≤_, _<_}
 use native.Mathlib.Omega.{arith}
 use borrow.Author.Tests.{eqb-true, ltb-true, eq-eqb, ne-eqb, lt-ltb}
 use lib.Dec.{eqb, ltb}
@@ -20,11 +19,11 @@ use Rattle.packing.specs.declared.Word as W
 use Rattle.packing.specs.declared.Rule as R
 use Rattle.packing.specs.declared.Rule.the-variants.{Pair, Word}
 use Rattle.packing.specs.Meaning.{sym as symbol, Grammar, Utterance, Candidate, candidate, edges}
-use Rattle.derivation.specs.Derivation.{At, Tree, node, Derives, by-word, by-pair, ruleWeight, weight, walk, Derivation}
+use Rattle.derivation.specs.Derivation.{At, Tree, node, Derives, by-word, by-pair, weight, walk, Derivation}
 use Rattle.derivation.specs.List.{_∈_}
 use Rattle.derivation.specs.Walk.{State, onward, astray, costOf, leafStep, ruleStep, step, run, ended, walkWeight}
 use Rattle.derivation.proofs.Lists.{none≢some, mem-at, at-length}
-use Rattle.derivation.proofs.Ranges.{All, all-at, Light, Cheap, AscendingFrom, Ascending}
+use Rattle.derivation.proofs.Ranges.{all-at, AscendingFrom, Ascending}
 use Rattle.derivation.proofs.Readings.{span}
 use Rattle.derivation.proofs.Rows.{leaf-weight, node-weight}
 use Rattle.derivation.proofs.Slots.{ascending-least, edges-in, edge-slot, edges-short}
@@ -76,17 +75,12 @@ drop-out [] (suc i) e = let z : _≡_ {A = ℕ} 0 1 = cc in absurd (omega arith)
 drop-out (s ∷ u) zero e = (cc, cc)
 drop-out (s ∷ u) (suc i) e = drop-out u i e
 
+pub run-astray : (rules : List R.Rule) (numbers : List ℕ) → run rules astray numbers ≡ astray
+unfolding run
+run-astray rules [] = refl
+run-astray rules (r ∷ numbers) = run-astray rules numbers
+
 module _ (g : Grammar) where
-  run-astray : (numbers : List ℕ) → run g astray numbers ≡ astray
-  unfolding run
-  run-astray [] = refl
-  run-astray (r ∷ numbers) = run-astray numbers
-
-  pub run-append : (s : State) (a b : List ℕ) → run g s (a ++ b) ≡ run g (run g s a) b
-  unfolding run
-  run-append s [] b = refl
-  run-append s (r ∷ a) b = run-append (step g s r) a b
-
   -- what one number does
   module _ (slots : Utterance) (A : Sym) (heads : List Sym) (w r : ℕ) where
     pub data Stepped : State → Type 0 where
@@ -120,7 +114,7 @@ module _ (g : Grammar) where
         go true e (some c) f = worded (rw (same-sym H A (eqb-true (H .0) (A .0) e)) at p) h (cost-out x slot f)
 
   stepped : (slots : Utterance) (A : Sym) (heads : List Sym) (w r : ℕ)
-      → Stepped slots A heads w r (step g (onward slots (A ∷ heads) w) r)
+      → Stepped slots A heads w r (step (g .rules) (onward slots (A ∷ heads) w) r)
   unfolding step ruleStep
   stepped slots A heads w r = go slots refl (getElem? (g .rules) r) refl
     where
@@ -132,35 +126,6 @@ module _ (g : Grammar) where
           (pair-stepped slots A heads w r H B C v e)
       go [] h (some (Word H x v)) e = lost
       go (slot ∷ more) h (some (Word H x v)) e = word-stepped slots A heads w r slot more H x v h e
-
--- what a state of the run keeps to, of n slots and after m numbers: never more heads than slots are left, so a stack of n
--- symbols suffices
-abbrev pub Kept : ℕ → ℕ → State → Type 0
-Kept n m astray = Unit {0}
-Kept n m (onward slots heads w) =
-    (length heads ≤ length slots) × (length slots ≤ n) × All (All Cheap) slots × (w ≤ 131070 * m)
-
-pub start-kept : (u : Utterance) → 1 ≤ length u → All (All Cheap) u → Kept (length u) 0 (onward u (symbol 0 ∷ []) 0)
-start-kept u h c = (h, le-refl (length u), c, omega arith)
-
-module _ (g : Grammar) (light : All Light (g .rules)) where
-  stepped-kept : (n m : ℕ) (slots : Utterance) (A : Sym) (heads : List Sym) (w r : ℕ) (s : State)
-      → Stepped g slots A heads w r s → Kept n m (onward slots (A ∷ heads) w) → Kept n (suc m) s
-  unfolding ruleWeight
-  stepped-kept n m slots A heads w r _ lost k = tt
-  stepped-kept n m slots A heads w r _ (paired p room) (h, b, c, d) =
-      (room, b, c, omega (arith, all-at Light (g .rules) r light p))
-  stepped-kept n m slots A heads w r _ (worded {slot = slot} {more = more} p e o) (h, b, c, d) =
-      let l = ap length e in
-      let (first, rest) = rw e at c in
-      let (x, q) = mem-at o in
-      (omega arith, omega arith, rest, omega (arith, all-at Light (g .rules) r light p, all-at Cheap slot x first q))
-
-  pub step-kept : (n m : ℕ) (s : State) (r : ℕ) → Kept n m s → Kept n (suc m) (step g s r)
-  unfolding step
-  step-kept n m astray r k = tt
-  step-kept n m (onward slots [] w) r k = tt
-  step-kept n m (onward slots (A ∷ heads) w) r k = stepped-kept n m slots A heads w r _ (stepped g slots A heads w r) k
 
 module _ (g : Grammar) (u : Utterance) where
   -- one tree for each head, one after the other up to the last place, with their walks and their weights put together
@@ -193,13 +158,13 @@ module _ (g : Grammar) (u : Utterance) where
   abbrev Sound : List ℕ → Type 0
   Sound numbers =
       (slots : Utterance) (heads : List Sym) (w w′ i : ℕ) → drop i u ≡ slots → i ≤ length u
-      → ended (run g (onward slots heads w) numbers) ≡ some w′ → (v : ℕ) × Covers heads i numbers v × (w + v ≡ w′)
+      → ended (run (g .rules) (onward slots heads w) numbers) ≡ some w′ → (v : ℕ) × Covers heads i numbers v × (w + v ≡ w′)
 
   sound-step : (slots : Utterance) (A : Sym) (heads : List Sym) (w w′ i r : ℕ) (numbers : List ℕ) → Sound numbers
       → drop i u ≡ slots → i ≤ length u → (s : State) → Stepped g slots A heads w r s
-      → ended (run g s numbers) ≡ some w′ → (v : ℕ) × Covers (A ∷ heads) i (r ∷ numbers) v × (w + v ≡ w′)
+      → ended (run (g .rules) s numbers) ≡ some w′ → (v : ℕ) × Covers (A ∷ heads) i (r ∷ numbers) v × (w + v ≡ w′)
   unfolding ended
-  sound-step slots A heads w w′ i r numbers below e b _ lost h = absurd (none≢some (rw (run-astray g numbers) at h))
+  sound-step slots A heads w w′ i r numbers below e b _ lost h = absurd (none≢some (rw (run-astray (g .rules) numbers) at h))
   sound-step slots A heads w w′ i r numbers below e b _ (paired {B} {C} {v} p room) h =
       let (v′, c, n) = below slots (B ∷ C ∷ heads) (w + v) w′ i e b h in
       (v + v′, cover-pair r p c, omega arith)
@@ -216,28 +181,28 @@ module _ (g : Grammar) (u : Utterance) where
       (0, subst (λ j. Covers [] j [] 0) z done, n)
   sound [] [] (A ∷ heads) w w′ i e b h = absurd (none≢some h)
   sound [] (slot ∷ slots) heads w w′ i e b h = absurd (none≢some h)
-  sound (r ∷ numbers) slots [] w w′ i e b h = absurd (none≢some (rw (run-astray g numbers) at h))
+  sound (r ∷ numbers) slots [] w w′ i e b h = absurd (none≢some (rw (run-astray (g .rules) numbers) at h))
   sound (r ∷ numbers) slots (A ∷ heads) w w′ i e b h =
       sound-step slots A heads w w′ i r numbers (sound numbers) e b _ (stepped g slots A heads w r) h
 
   -- where words ascend, a derivation's walk takes the run over it
   word-step : {A : Sym} {x : W.Word} {v c : ℕ} (slot : List Candidate) (slots : Utterance) (heads : List Sym) (w r : ℕ)
       → At (g .rules) r (Word A x v) → costOf x slot ≡ some c
-      → step g (onward (slot ∷ slots) (A ∷ heads) w) r ≡ onward slots heads (w + v + c)
+      → step (g .rules) (onward (slot ∷ slots) (A ∷ heads) w) r ≡ onward slots heads (w + v + c)
   unfolding step ruleStep leafStep
   word-step {A} slot slots heads w r p q = rw (p, eq-eqb (A .0) (A .0) refl, q)
 
   pair-step : {A B C : Sym} {v : ℕ} (slots : Utterance) (heads : List Sym) (w r : ℕ) → At (g .rules) r (Pair A B C v)
       → suc (length heads) < length slots
-      → step g (onward slots (A ∷ heads) w) r ≡ onward slots (B ∷ C ∷ heads) (w + v)
+      → step (g .rules) (onward slots (A ∷ heads) w) r ≡ onward slots (B ∷ C ∷ heads) (w + v)
   unfolding step ruleStep
   pair-step {A} slots heads w r p room = rw (p, eq-eqb (A .0) (A .0) refl, lt-ltb (suc (length heads)) (length slots) room)
 
   module _ (ascending : Ascending u) where
     complete : {A : Sym} {i k : ℕ} {t : Tree} → Derives g (edges u) A i k t → (heads : List Sym) (w : ℕ) (numbers : List ℕ)
         → k + length heads ≤ length u
-        → run g (onward (drop i u) (A ∷ heads) w) (walk t ++ numbers)
-        ≡ run g (onward (drop k u) heads (w + weight g (edges u) t)) numbers
+        → run (g .rules) (onward (drop i u) (A ∷ heads) w) (walk t ++ numbers)
+        ≡ run (g .rules) (onward (drop k u) heads (w + weight g (edges u) t)) numbers
     unfolding walk run
     complete (by-word {x = x} {r = r} {e = e} {w = v} {c = c} {i = i} {k = k} p q) heads w numbers b =
         let (slot, there, offers, end) = edge-slot u e q in
@@ -249,38 +214,38 @@ module _ (g : Grammar) (u : Utterance) where
         let room : suc (length heads) < length (drop i u) = rw (length-drop i u) (omega arith) in
         let sum : w + v + weight g (edges u) s + weight g (edges u) t ≡ w + weight g (edges u) (node r j s t) =
         rw (node-weight g (edges u) r j s t p) (omega arith) in
-        ap (λ (z : State). run g z (walk s ++ walk t ++ numbers)) (pair-step (drop i u) heads w r p room)
-        ∙ ap (run g (onward (drop i u) (B ∷ C ∷ heads) (w + v))) (append-assoc (walk s) (walk t) numbers)
+        ap (λ (z : State). run (g .rules) z (walk s ++ walk t ++ numbers)) (pair-step (drop i u) heads w r p room)
+        ∙ ap (run (g .rules) (onward (drop i u) (B ∷ C ∷ heads) (w + v))) (append-assoc (walk s) (walk t) numbers)
         ∙ complete d₁ (C ∷ heads) (w + v) (walk t ++ numbers) (omega arith)
         ∙ complete d₂ heads (w + v + weight g (edges u) s) numbers b
-        ∙ ap (λ (m : ℕ). run g (onward (drop k u) heads m) numbers) sum
+        ∙ ap (λ (m : ℕ). run (g .rules) (onward (drop k u) heads m) numbers) sum
 
     whole : {numbers : List ℕ} {v : ℕ} → Covers (symbol 0 ∷ []) 0 numbers v
         → (t : Tree) × Derivation g u t × (walk t ≡ numbers) × (weight g (edges u) t ≡ v)
     whole (also {t = t} d done) = (t, d, sym (append-nil (walk t)), omega arith)
 
     -- the run accepts exactly the walks of derivations, with their weight
-    pub walk-weight : (numbers : List ℕ) (w : ℕ) → (walkWeight g u numbers ≡ some w)
+    pub walk-weight : (numbers : List ℕ) (w : ℕ) → (walkWeight (g .rules) u numbers ≡ some w)
         ↔ ((t : Tree) × Derivation g u t × (walk t ≡ numbers) × (weight g (edges u) t ≡ w))
     unfolding walkWeight
     walk-weight numbers w = (to, from)
       where
-        to : walkWeight g u numbers ≡ some w → (t : Tree) × Derivation g u t × (walk t ≡ numbers) × (weight g (edges u) t ≡ w)
+        to : walkWeight (g .rules) u numbers ≡ some w → (t : Tree) × Derivation g u t × (walk t ≡ numbers) × (weight g (edges u) t ≡ w)
         to h =
             let (v, c, n) = sound numbers u (symbol 0 ∷ []) 0 w 0 refl (omega arith) h in let (t, d, n′, e) = whole c in
             (t, d, n′, omega arith)
 
         from : (t : Tree) × Derivation g u t × (walk t ≡ numbers) × (weight g (edges u) t ≡ w)
-            → walkWeight g u numbers ≡ some w
+            → walkWeight (g .rules) u numbers ≡ some w
         from (t, d, n, e) =
             let at-end : drop (length u) u ≡ [] = drop-length u in
             let w′ : 0 + weight g (edges u) t ≡ w = omega arith in
             rw (← n, ← append-nil (walk t)) (ap ended (complete d [] 0 [] (omega arith)) ∙ rw (at-end, w′))
 
     -- and nothing else
-    pub walk-none : (numbers : List ℕ) → ((t : Tree) → Derivation g u t → walk t ≡ numbers → ⊥) → walkWeight g u numbers ≡ none
-    walk-none numbers h = go (walkWeight g u numbers) refl
+    pub walk-none : (numbers : List ℕ) → ((t : Tree) → Derivation g u t → walk t ≡ numbers → ⊥) → walkWeight (g .rules) u numbers ≡ none
+    walk-none numbers h = go (walkWeight (g .rules) u numbers) refl
       where
-        go : (o : Option ℕ) → walkWeight g u numbers ≡ o → walkWeight g u numbers ≡ none
+        go : (o : Option ℕ) → walkWeight (g .rules) u numbers ≡ o → walkWeight (g .rules) u numbers ≡ none
         go none e = e
         go (some w) e = let (t, d, n, p) = walk-weight numbers w .0 e in absurd (h t d n)

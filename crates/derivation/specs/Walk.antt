@@ -11,7 +11,7 @@ use Rattle.packing.specs.declared.Sym.{Sym}
 use Rattle.packing.specs.declared.Word as W
 use Rattle.packing.specs.declared.Rule as R
 use Rattle.packing.specs.declared.Rule.the-variants.{Pair, Word}
-use Rattle.packing.specs.Meaning.{sym, Grammar, Utterance, Candidate, candidate}
+use Rattle.packing.specs.Meaning.{sym, Utterance, Candidate, candidate}
 
 -- how far a walk has come: the slots that are left, the heads of the parts that are to come, the next first, and the weight
 -- so far; or that it is none
@@ -41,16 +41,16 @@ ruleStep (slot ∷ slots) A heads w (some (Word H x v)) =
     pick (eqb (H .0) (A .0)) (leafStep slots heads (w + v) (costOf x slot)) astray
 
 -- one number of the walk
-unfoldable pub step : Grammar → State → ℕ → State
+unfoldable pub step : List R.Rule → State → ℕ → State
 unfolding ruleStep
-step g astray r = astray
-step g (onward slots [] w) r = astray
-step g (onward slots (A ∷ heads) w) r = ruleStep slots A heads w (getElem? (g .rules) r)
+step rules astray r = astray
+step rules (onward slots [] w) r = astray
+step rules (onward slots (A ∷ heads) w) r = ruleStep slots A heads w (getElem? rules r)
 
-unfoldable pub run : Grammar → State → List ℕ → State
+unfoldable pub run : List R.Rule → State → List ℕ → State
 unfolding step
-run g s [] = s
-run g s (r ∷ numbers) = run g (step g s r) numbers
+run rules s [] = s
+run rules s (r ∷ numbers) = run rules (step rules s r) numbers
 
 -- a walk ends where no slot is left and no part is to come
 unfoldable pub ended : State → Option ℕ
@@ -60,6 +60,6 @@ ended (onward [] (A ∷ heads) w) = none
 ended (onward (slot ∷ slots) heads w) = none
 
 -- the weight of the derivation whose walk these numbers are, if they are one's
-unfoldable pub walkWeight : Grammar → Utterance → List ℕ → Option ℕ
+unfoldable pub walkWeight : List R.Rule → Utterance → List ℕ → Option ℕ
 unfolding run ended
-walkWeight g u numbers = ended (run g (onward u (sym 0 ∷ []) 0) numbers)
+walkWeight rules u numbers = ended (run rules (onward u (sym 0 ∷ []) 0) numbers)

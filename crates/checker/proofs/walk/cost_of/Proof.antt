@@ -1,0 +1,89 @@
+-- What is left of the candidates after k turns costs the word what all of them do.
+use mathlib.Core.Path.{_≡_, refl, sym, ap, _∙_}
+use mathlib.Core.Option.{some}
+use Prim.Native.Nat.{_+_, _-_, _*_, _≤_}
+use native.Mathlib.Nat.{sub-zero, add-zero}
+use native.Mathlib.Omega.{arith}
+use borrow.Author.Needs.{needs}
+use Rattle.packing.specs.Meaning.{word}
+use Rattle.derivation.specs.Walk.{costOf}
+use Rattle.checker.specs.Run.{candidatesOf}
+use Rattle.checker.proofs.Arrays.{cost-end, cost-here, cost-next}
+use Rattle.checker.proofs.walk.cost_of.Statement.{statement}
+use Rattle.checker.proofs.walk.cost_of.Tie as tie
+
+abbrev Inv-loop : tie.InvT-loop
+Inv-loop slots start count wanted k₀ k =
+    (k ≤ count) × (costOf (word wanted) (candidatesOf slots (count - k) (start + 2 * k)) ≡ costOf (word wanted) (candidatesOf slots count start))
+
+abbrev μ-loop : tie.MeasureT-loop
+μ-loop slots start count wanted k₀ k = count - k
+
+wide-requires : tie.Need-wide-requires Inv-loop μ-loop
+wide-requires c κs = search needs
+
+loop-holds : tie.Need-loop-holds Inv-loop μ-loop
+loop-holds c = (omega arith, rw (sub-zero, add-zero))
+
+mul-at : tie.Need-mul-at Inv-loop μ-loop
+mul-at c = omega arith
+
+add-at : tie.Need-add-at Inv-loop μ-loop
+add-at c = omega arith
+
+number-at-requires : tie.Need-number-at-requires Inv-loop μ-loop
+number-at-requires c κs = search needs
+
+add-number-at : tie.Need-add-number-at Inv-loop μ-loop
+add-number-at c = omega arith
+
+number-at-requires-2 : tie.Need-number-at-requires-2 Inv-loop μ-loop
+number-at-requires-2 c κs = search needs
+
+returns : tie.Need-returns Inv-loop μ-loop
+returns c =
+    let a = c .before .before .before .before .before .before .before .args in
+    let l = c .before .before .before .before .loop in
+    let same : word (c .before .before .before .before .before .wide .result) ≡ a .word = ap word (c .before .before .before .before .before .wide .ensures .0) in
+    let here = cost-here (word (c .before .before .before .before .before .wide .result)) (a .slots .now) (a .start) (a .count) (l .k) (c .before .before .before .loop-test .taken) (sym (c .before .before .number-at .ensures .0) ∙ c .before .if1 .taken) in
+    rw (← same) (ap some (c .number-at2 .ensures .0) ∙ sym here ∙ l .inv .1, c .number-at2 .ensures .1)
+
+add-k : tie.Need-add-k Inv-loop μ-loop
+add-k c = omega arith
+
+loop-less : tie.Need-loop-less Inv-loop μ-loop
+loop-less c = omega arith
+
+loop-again : tie.Need-loop-again Inv-loop μ-loop
+loop-again c =
+    let a = c .before .before .before .before .before .before .args in
+    let l = c .before .before .before .loop in
+    let next = cost-next (word (c .before .before .before .before .wide .result)) (a .slots .now) (a .start) (a .count) (l .k) (c .before .before .loop-test .taken) (λ e. c .if1 .left (c .before .number-at .ensures .0 ∙ e)) in
+    (omega arith, next ∙ l .inv .1)
+
+returns-2 : tie.Need-returns-2 Inv-loop μ-loop
+returns-2 c =
+    let a = c .before .before .before .before .args in
+    let l = c .before .loop in
+    let same : word (c .before .before .wide .result) ≡ a .word = ap word (c .before .before .wide .ensures .0) in
+    let end = cost-end (word (c .before .before .wide .result)) (a .slots .now) (a .start) (a .count) (l .k) (c .loop-test .left) in
+    rw (← same) (sym end ∙ l .inv .1, tt)
+
+pub cost-of-spec : {M : Type 1} → statement M
+cost-of-spec =
+    tie.close
+    (tie.spec
+    Inv-loop
+    μ-loop
+    wide-requires
+    loop-holds
+    mul-at
+    add-at
+    number-at-requires
+    add-number-at
+    number-at-requires-2
+    returns
+    add-k
+    loop-less
+    loop-again
+    returns-2)

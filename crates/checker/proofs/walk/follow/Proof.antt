@@ -1,0 +1,104 @@
+-- Each way out is one of the run's: no part to come, no such rule, another head, a pair rule, a word rule.
+use mathlib.Core.Path.{_≡_, sym, ap, _∙_}
+use mathlib.Core.Option.{some}
+use Prim.Native.Nat.{_-_}
+use native.Mathlib.Omega.{arith}
+use borrow.Author.Needs.{needs}
+use borrow.Author.Tests.{eq-eqb, ne-eqb}
+use lib.ListN.{getD}
+use Rattle.packing.specs.Flat.{ruleAt}
+use Rattle.checker.specs.Run.{rulesOf}
+use Rattle.checker.proofs.Arrays.{table-at, table-past}
+use Rattle.checker.proofs.Steps.{no-part, no-rule, pair-rule, word-rule}
+use Rattle.checker.proofs.walk.follow.Statement.{statement}
+use Rattle.checker.proofs.walk.follow.Tie as tie
+
+returns : tie.Need-returns
+returns c =
+    let a = c .before .before .before .before .args in
+    (no-part (rulesOf (a .rules .now) (a .count)) (a .slots .now) (a .stack .now) (a .at) (a .r) (c .if1 .taken), tt)
+
+returns-2 : tie.Need-returns-2
+returns-2 c =
+    let a = c .before .before .before .before .before .args in
+    let none-there = table-past (ruleAt (a .rules .now)) (a .count) (a .r) (c .if2 .taken) in
+    (no-rule (rulesOf (a .rules .now) (a .count)) (a .slots .now) (a .stack .now) (a .at) (a .r) none-there, tt)
+
+sub-top : tie.Need-sub-top
+sub-top c = search needs
+
+mul-top : tie.Need-mul-top
+mul-top c = search needs
+
+slice-read-top : tie.Need-slice-read-top
+slice-read-top c = search needs
+
+rule-at-requires : tie.Need-rule-at-requires
+rule-at-requires c κs = search needs
+
+enum-known-head : tie.Need-enum-known-head
+enum-known-head c = search needs
+
+pair-step-requires : tie.Need-pair-step-requires
+pair-step-requires c κs = search needs
+
+same-length : tie.Need-same-length
+same-length c = search needs
+
+returns-3 : tie.Need-returns-3
+returns-3 c =
+    let a = c .before .before .before .before .before .before .before .before .before .before .before .before .before .before .before .before .args in
+    let there = table-at (ruleAt (a .rules .now)) (a .count) (a .r) (c .before .before .before .before .before .before .before .before .before .before .before .if2 .left) ∙ ap some (sym (c .before .before .before .before .before .before .before .before .before .rule-at .ensures) ∙ c .before .before .before .before .before .before .before .head .given .1) in
+    let rule = pair-rule (rulesOf (a .rules .now) (a .count)) (a .slots .now) (a .stack .now) (a .at) (a .r) (omega arith) there in
+    let same = eq-eqb (c .before .before .before .before .before .before .before .head .given .0 .0 .0) (getD (a .stack .now) (a .at .height - 1) 0) (c .before .before .before .before .if3 .taken) in
+    (c .before .before .pair-step .ensures .0 (a .slots .now) ∙ sym (rw same at rule), c .before .before .pair-step .ensures .1)
+
+enum-known-head-2 : tie.Need-enum-known-head-2
+enum-known-head-2 c = search needs
+
+word-step-requires : tie.Need-word-step-requires
+word-step-requires c κs = search needs
+
+returns-4 : tie.Need-returns-4
+returns-4 c =
+    let a = c .before .before .before .before .before .before .before .before .before .before .before .before .before .args in
+    let there = table-at (ruleAt (a .rules .now)) (a .count) (a .r) (c .before .before .before .before .before .before .before .before .if2 .left) ∙ ap some (sym (c .before .before .before .before .before .before .rule-at .ensures) ∙ c .before .before .before .before .head2 .given .1) in
+    let rule = word-rule (rulesOf (a .rules .now) (a .count)) (a .slots .now) (a .stack .now) (a .at) (a .r) (omega arith) (omega arith) there in
+    let same = eq-eqb (c .before .before .before .before .head2 .given .0 .0 .0) (getD (a .stack .now) (a .at .height - 1) 0) (c .before .if4 .taken) in
+    (c .word-step .ensures .0 (a .stack .now) ∙ sym (rw same at rule), c .word-step .ensures .1)
+
+returns-5 : tie.Need-returns-5
+returns-5 c =
+    let a = c .before .before .before .before .before .before .before .before .before .before .before .before .args in
+    let there = table-at (ruleAt (a .rules .now)) (a .count) (a .r) (c .before .before .before .before .before .before .before .if2 .left) ∙ ap some (sym (c .before .before .before .before .before .rule-at .ensures) ∙ c .before .before .before .head .given .1) in
+    let rule = pair-rule (rulesOf (a .rules .now) (a .count)) (a .slots .now) (a .stack .now) (a .at) (a .r) (omega arith) there in
+    let other = ne-eqb (c .before .before .before .head .given .0 .0 .0) (getD (a .stack .now) (a .at .height - 1) 0) (c .if3 .left) in
+    (sym (rw other at rule), tt)
+
+returns-6 : tie.Need-returns-6
+returns-6 c =
+    let a = c .before .before .before .before .before .before .before .before .before .before .before .before .args in
+    let there = table-at (ruleAt (a .rules .now)) (a .count) (a .r) (c .before .before .before .before .before .before .before .if2 .left) ∙ ap some (sym (c .before .before .before .before .before .rule-at .ensures) ∙ c .before .before .before .head2 .given .1) in
+    let rule = word-rule (rulesOf (a .rules .now) (a .count)) (a .slots .now) (a .stack .now) (a .at) (a .r) (omega arith) (omega arith) there in
+    let other = ne-eqb (c .before .before .before .head2 .given .0 .0 .0) (getD (a .stack .now) (a .at .height - 1) 0) (c .if4 .left) in
+    (sym (rw other at rule), tt)
+
+pub follow-spec : {M : Type 1} → statement M
+follow-spec =
+    tie.close
+    (tie.spec
+    returns
+    returns-2
+    sub-top
+    mul-top
+    slice-read-top
+    rule-at-requires
+    enum-known-head
+    pair-step-requires
+    same-length
+    returns-3
+    enum-known-head-2
+    word-step-requires
+    returns-4
+    returns-5
+    returns-6)

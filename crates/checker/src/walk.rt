@@ -1,0 +1,164 @@
+// The weight of the derivation that has a walk: one number after the other, with a stack of the symbols that are to come.
+use packing::Rule;
+use packing::Sym;
+use packing::Word;
+ghost use mathlib.Core.Path.{_≡_};
+ghost use mathlib.Core.List.{List, _∷_};
+ghost use Prim.Native.Nat.{ℕ, _+_, _-_, _*_, _≤_, _<_};
+ghost use lib.Dec.{ltb};
+ghost use lib.ListN.{length, take};
+ghost use Rattle.bits.specs.Bits.{pick};
+ghost use Rattle.derivation.specs.Walk.{onward, astray, costOf, leafStep, step, walkWeight};
+ghost use Rattle.checker.specs.Run.{rulesOf, candidatesOf, slotAt, behind, slotsOf, headsOf, numberOf, stateOf, Small, Further};
+
+// A number, where there is one.
+pub enum Found {
+    Number(usize),
+    Nothing,
+}
+
+// How far a walk has come: the place of the next slot in the array of slots, the slots that are left, the parts that are to
+// come, whose symbols are on the stack, and the weight so far.
+pub struct Progress {
+    pub place: usize,
+    pub left: usize,
+    pub height: usize,
+    pub weight: usize,
+}
+
+// What a number of the walk leads to.
+pub enum Step {
+    Onward(Progress),
+    Astray,
+}
+
+// The cost of a word among `count` candidates, from place `start` on.
+fn cost_of(slots: &[u32], start: usize, count: usize, word: Word) -> Found
+    requires { ⌜ (start < 1099511627776) × (count < 4294967296) ⌝ }
+    ensures { λ r. ⌜ (numberOf r ≡ costOf word (candidatesOf (now (slots .entry)) count start)) × Small r ⌝ }
+{
+    let wanted = packing::arrays::wide(word.0);
+    let mut k: usize = 0;
+    while k < count {
+        let at = start + 2 * k;
+        if packing::arrays::number_at(slots, at) == wanted {
+            return Found::Number(packing::arrays::number_at(slots, at + 1));
+        }
+        k += 1;
+    }
+    Found::Nothing
+}
+
+// A word rule: the next slot is taken, if it offers the word.
+fn word_step(slots: &[u32], at: Progress, word: Word, weight: u32) -> Step
+    requires { ⌜ (1 ≤ at .height) × (at .height ≤ at .left) × (at .place < 549755813888) × (at .weight < 549755813888) ⌝ }
+    ensures { λ r. ⌜ ((stack : List ℕ) → stateOf (now (slots .entry)) stack r
+        ≡ leafStep (slotsOf (now (slots .entry)) (at .left - 1) (behind (now (slots .entry)) (at .place))) (headsOf stack (at .height - 1))
+        (at .weight + weight) (costOf word (slotAt (now (slots .entry)) (at .place)))) × Further at r ⌝ }
+{
+    let place = at.place;
+    let count = packing::arrays::number_at(slots, place);
+    let Found::Number(cost) = cost_of(slots, place + 1, count, word) else {
+        return Step::Astray;
+    };
+    Step::Onward(Progress {
+        place: place + 1 + 2 * count,
+        left: at.left - 1,
+        height: at.height - 1,
+        weight: at.weight + packing::arrays::wide(weight) + cost,
+    })
+}
+
+// A pair rule: its two symbols take the place of its head, if each part to come has a slot of its own.
+fn pair_step(stack: &mut [u32], at: Progress, first: Sym, second: Sym, weight: u32) -> Step
+    requires { ⌜ (1 ≤ at .height) × (at .left ≤ length (now stack)) × (at .left ≤ 24) × (at .weight < 549755813888) ⌝ }
+    ensures { λ r. ⌜ ((slots : List ℕ) → stateOf slots (now (stack .exit)) r
+        ≡ pick (ltb (at .height) (at .left))
+        (onward (slotsOf slots (at .left) (at .place)) (first ∷ second ∷ headsOf (now (stack .entry)) (at .height - 1)) (at .weight + weight))
+        astray) × Further at r ⌝ }
+{
+    let height = at.height;
+    if height < at.left {
+        stack[height - 1] = second.0;
+        stack[height] = first.0;
+        return Step::Onward(Progress {
+            place: at.place,
+            left: at.left,
+            height: height + 1,
+            weight: at.weight + packing::arrays::wide(weight),
+        });
+    }
+    Step::Astray
+}
+
+// One number of the walk.
+fn follow(
+    rules: &[u32],
+    count: usize,
+    slots: &[u32],
+    stack: &mut [u32],
+    at: Progress,
+    r: usize,
+) -> Step
+    requires { ⌜ (r < 4294967296) × (at .height ≤ at .left) × (at .left ≤ 24) × (24 ≤ length (now stack)) × (at .place < 549755813888) × (at .weight < 549755813888) ⌝ }
+    ensures { λ s. ⌜ (stateOf (now (slots .entry)) (now (stack .exit)) s
+        ≡ step (rulesOf (now (rules .entry)) count) (stateOf (now (slots .entry)) (now (stack .entry)) (Step.Onward at)) r) × Further at s ⌝ }
+{
+    let height = at.height;
+    if height == 0 {
+        return Step::Astray;
+    }
+    if count <= r {
+        return Step::Astray;
+    }
+    let top = stack[height - 1];
+    match packing::arrays::rule_at(rules, r) {
+        Rule::Pair(head, first, second, weight) => {
+            if head.0 == top {
+                return pair_step(stack, at, first, second, weight);
+            }
+            Step::Astray
+        }
+        Rule::Word(head, word, weight) => {
+            if head.0 == top {
+                return word_step(slots, at, word, weight);
+            }
+            Step::Astray
+        }
+    }
+}
+
+// The weight of the derivation of n slots whose walk the first 2n - 1 numbers are. A part to come never has fewer slots than
+// one, so the walk ends where no slot is left.
+pub fn weight_of(rules: &[u32], count: usize, slots: &[u32], n: usize, walk: &[u32]) -> Found
+    requires { ⌜ (1 ≤ n) × (n ≤ 24) × (2 * n - 1 ≤ length (now walk)) ⌝ }
+    ensures { λ r. ⌜ numberOf r ≡ walkWeight (rulesOf (now (rules .entry)) count) (slotsOf (now (slots .entry)) n 0) (take (2 * n - 1) (now (walk .entry))) ⌝ }
+{
+    let mut stack = [0u32; 24];
+    let mut at = Progress {
+        place: 0,
+        left: n,
+        height: 1,
+        weight: 0,
+    };
+    let numbers = 2 * n - 1;
+    let mut i: usize = 0;
+    while i < numbers {
+        let Step::Onward(next) = follow(
+            rules,
+            count,
+            slots,
+            &mut stack,
+            at,
+            packing::arrays::number_at(walk, i),
+        ) else {
+            return Found::Nothing;
+        };
+        at = next;
+        i += 1;
+    }
+    if at.left == 0 {
+        return Found::Number(at.weight);
+    }
+    Found::Nothing
+}
