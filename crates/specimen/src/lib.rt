@@ -1,4 +1,6 @@
 // The specimen: some word string of a wanted length that a grammar derives.
+use packing_grammar::GrammarRead;
+use packing_grammar::Sizes;
 use packing::Rule;
 use packing::Sym;
 use packing::arrays::number_at;
@@ -7,7 +9,12 @@ ghost use mathlib.Core.Path.{_≡_};
 ghost use mathlib.Core.List.{_++_};
 ghost use Prim.Native.Nat.{ℕ, _+_, _-_, _*_, _≤_, _<_};
 ghost use lib.ListN.{length, take, drop, set};
-ghost use Rattle.packing.specs.Flat.{ruleAt};
+ghost use Rattle.packing.specs.Flat.{Begins, ruleNumbers, ruleAt};
+ghost use Rattle.packing.specs.Meaning.{Grammar};
+ghost use Rattle.packing.specs.Parse.{accepted};
+ghost use Rattle.packing.specs.Valid.{ValidGrammar};
+ghost use Rattle.packing_grammar.specs.Answer.{Bounded, sizes as sizesOf};
+ghost use Rattle.specimen.specs.Specimen.{asked, Answers};
 ghost use Rattle.packing.specs.Store.{storeAll};
 ghost use Rattle.specimen.specs.Choice.{choiceAt, orElse, splitChoice, pairChoice, ruleChoice, cellChoice, lengthFilled, filled, chosen};
 
@@ -155,6 +162,46 @@ fn spell(table: &[u32], rules: &[u32], a: Sym, len: usize, out: &mut [u8], at: u
                 return at;
             }
             at
+        }
+    }
+}
+
+// The answer for a grammar that was accepted and a length that there is room for.
+fn answer(rules: &[u32], sizes: Sizes, n: usize, out: &mut [u8]) -> Specimen
+    requires { ⌜ Bounded sizes × (0 < n) × (n ≤ 24) × (n ≤ length (now out)) ⌝ }
+    ensures { λ r. ⌜ ((g : Grammar) → sizes ≡ sizesOf g → ValidGrammar g → Begins (ruleNumbers g) (now (rules .entry)) → Answers (accepted g) n (now (out .entry)) r (now (out .exit))) ⌝ }
+{
+    let mut table = [0u32; 800];
+    let symbols = sizes.symbols as usize;
+    let count = sizes.rules as usize;
+    fill(&mut table, rules, count, symbols, n);
+    if choice_at(&table, Sym(0), n) == 0 {
+        return Specimen::Nothing;
+    }
+    spell(&table, rules, Sym(0), n, out, 0);
+    Specimen::Written
+}
+
+// Some word string of the wanted length that the grammar derives, one word number a byte, at the front of the output.
+pub fn specimen(grammar: &[u8], wanted: u32, out: &mut [u8]) -> Specimen
+    ensures { λ r. ⌜ Answers (asked (now (grammar .entry)) wanted (length (now (out .entry)))) wanted (now (out .entry)) r (now (out .exit)) ⌝ }
+{
+    let mut rules = [0u32; 1280];
+    let read = packing_grammar::read_block(grammar, &mut rules);
+    match read {
+        GrammarRead::Refused(n) => Specimen::Refused(n),
+        GrammarRead::Grammar(sizes) => {
+            if wanted < 1 {
+                return Specimen::Refused(25);
+            }
+            if 24 < wanted {
+                return Specimen::Refused(25);
+            }
+            let n = wanted as usize;
+            if out.len() < n {
+                return Specimen::Refused(26);
+            }
+            answer(&rules, sizes, n, out)
         }
     }
 }
