@@ -4,3 +4,4 @@ pub mod Rows
 pub mod Keys
 pub mod Turns
 pub mod Grammars
+pub mod Outcome

@@ -1,4 +1,5 @@
 pub mod Yields
 pub mod Choice
 pub mod Spelling
-pub mod Answer
+pub mod Said
+pub mod Asked

@@ -10,8 +10,8 @@ use Rattle.packing.specs.Meaning.{Grammar, Utterance, candidate, word}
 use Rattle.packing.specs.Parse.{Verdict, accepted, refused, _then_}
 use Rattle.packing.specs.Grammar.{grammarBlock}
 use Rattle.derivation.specs.Derivation.{Tree, Derivation}
-use Rattle.specimen.specs.declared.Specimen as S
-use Rattle.specimen.specs.declared.Specimen.the-variants.{Written, Nothing, Refused}
+use Rattle.specimen.specs.declared.Answered as A
+use Rattle.specimen.specs.declared.Answered.the-variants.{Written, Nothing, Refused}
 
 -- the utterance that offers just one word in each slot, at no cost
 unfoldable pub plain : List ℕ → Utterance
@@ -28,7 +28,7 @@ asked grammar n out =
     pick (ltb n 1) (refused 25) (pick (ltb 24 n) (refused 25) (pick (ltb out n) (refused 26) (accepted g)))
 
 -- what holds of the answer and of the output afterwards; the string is free but for its length and that it is derived
-abbrev pub Answers : Verdict Grammar → ℕ → List ℕ → S.Specimen → List ℕ → Type 0
+abbrev pub Answers : Verdict Grammar → ℕ → List ℕ → A.Answered → List ℕ → Type 0
 Answers (refused m) n out Written exit = ⊥
 Answers (refused m) n out Nothing exit = ⊥
 Answers (refused m) n out (Refused k) exit = (k ≡ m) × (exit ≡ out)

@@ -1,10 +1,10 @@
 // The specimen: some word string of a wanted length that a grammar derives.
-use packing_grammar::GrammarRead;
-use packing_grammar::Sizes;
 use packing::Rule;
 use packing::Sym;
 use packing::arrays::number_at;
 use packing::arrays::rule_at;
+use packing_grammar::GrammarRead;
+use packing_grammar::Sizes;
 ghost use mathlib.Core.Path.{_≡_};
 ghost use mathlib.Core.List.{_++_};
 ghost use Prim.Native.Nat.{ℕ, _+_, _-_, _*_, _≤_, _<_};
@@ -19,7 +19,7 @@ ghost use Rattle.packing.specs.Store.{storeAll};
 ghost use Rattle.specimen.specs.Choice.{choiceAt, orElse, splitChoice, pairChoice, ruleChoice, cellChoice, lengthFilled, filled, chosen};
 
 // What the specimen answers: that the string was written, that there is none, or the refusal.
-pub enum Specimen {
+pub enum Answered {
     Written,
     Nothing,
     Refused(u32),
@@ -167,7 +167,7 @@ fn spell(table: &[u32], rules: &[u32], a: Sym, len: usize, out: &mut [u8], at: u
 }
 
 // The answer for a grammar that was accepted and a length that there is room for.
-fn answer(rules: &[u32], sizes: Sizes, n: usize, out: &mut [u8]) -> Specimen
+fn answer(rules: &[u32], sizes: Sizes, n: usize, out: &mut [u8]) -> Answered
     requires { ⌜ Bounded sizes × (0 < n) × (n ≤ 24) × (n ≤ length (now out)) ⌝ }
     ensures { λ r. ⌜ ((g : Grammar) → sizes ≡ sizesOf g → ValidGrammar g → Begins (ruleNumbers g) (now (rules .entry)) → Answers (accepted g) n (now (out .entry)) r (now (out .exit))) ⌝ }
 {
@@ -176,30 +176,30 @@ fn answer(rules: &[u32], sizes: Sizes, n: usize, out: &mut [u8]) -> Specimen
     let count = sizes.rules as usize;
     fill(&mut table, rules, count, symbols, n);
     if choice_at(&table, Sym(0), n) == 0 {
-        return Specimen::Nothing;
+        return Answered::Nothing;
     }
     spell(&table, rules, Sym(0), n, out, 0);
-    Specimen::Written
+    Answered::Written
 }
 
 // Some word string of the wanted length that the grammar derives, one word number a byte, at the front of the output.
-pub fn specimen(grammar: &[u8], wanted: u32, out: &mut [u8]) -> Specimen
+pub fn specimen(grammar: &[u8], wanted: u32, out: &mut [u8]) -> Answered
     ensures { λ r. ⌜ Answers (asked (now (grammar .entry)) wanted (length (now (out .entry)))) wanted (now (out .entry)) r (now (out .exit)) ⌝ }
 {
     let mut rules = [0u32; 1280];
     let read = packing_grammar::read_block(grammar, &mut rules);
     match read {
-        GrammarRead::Refused(n) => Specimen::Refused(n),
+        GrammarRead::Refused(n) => Answered::Refused(n),
         GrammarRead::Grammar(sizes) => {
             if wanted < 1 {
-                return Specimen::Refused(25);
+                return Answered::Refused(25);
             }
             if 24 < wanted {
-                return Specimen::Refused(25);
+                return Answered::Refused(25);
             }
             let n = wanted as usize;
             if out.len() < n {
-                return Specimen::Refused(26);
+                return Answered::Refused(26);
             }
             answer(&rules, sizes, n, out)
         }

@@ -5,6 +5,10 @@ use Prim.Native.Nat.{ℕ, zero, suc, _+_, _*_, _≤_, _<_}
 use native.Mathlib.Omega.{arith}
 use lib.ListN.{length, drop, take}
 use Rattle.packing.specs.Meaning.{Grammar, word, sym as symbol}
+use Rattle.packing.specs.Parse.{accepted}
+use Rattle.packing_grammar.specs.declared.Sizes.{Sizes}
+use Rattle.packing_grammar.specs.Answer.{sizes}
+use Rattle.specimen.specs.declared.Answered.the-variants.{Written, Nothing}
 use Rattle.packing.specs.Flat.{Begins, ruleNumbers, ruleAt}
 use Rattle.packing.specs.Store.{storeAll}
 use Rattle.packing.specs.Valid.{ValidGrammar}
@@ -14,10 +18,16 @@ use Rattle.packing.specs.declared.Sym.{Sym}
 use Rattle.packing.specs.declared.Rule.the-variants.{Pair, Word}
 use Rattle.derivation.specs.Derivation.{At}
 use Rattle.derivation.proofs.Ranges.{Within, all-at, valid-sizes, valid-within}
-use Rattle.specimen.specs.Specimen.{Says}
+use Rattle.specimen.specs.Specimen.{Says, Answers}
 use Rattle.specimen.specs.Choice.{choiceAt, filled, chosen}
 use Rattle.specimen.proofs.Yields.{Yields, says-yields, yields-says}
 use Rattle.specimen.proofs.Choice.{Good, filled-good, chosen-yields}
+
+-- the string at the front of the output, and what stood beyond it
+at-front : (out ws : List ℕ) (n : ℕ) → length ws ≡ n → n ≤ length out → storeAll out 0 ws ≡ ws ++ drop n out
+at-front out ws n e h =
+    let m : 0 + length ws ≡ n = omega arith in
+    store-at out 0 ws (omega arith) ∙ rw m
 
 module _ (g : Grammar) (v : ValidGrammar g) (rules : List ℕ) (b : Begins (ruleNumbers g) rules) where
   few : g .symbols ≤ 32
@@ -50,8 +60,15 @@ module _ (g : Grammar) (v : ValidGrammar g) (rules : List ℕ) (b : Begins (rule
         let c = chosen-yields g rules (g .symbols) few stored parts words full n (omega arith) good n (symbol 0) n (omega arith) start pos (omega arith) ne in
         (c .0, yields-says g _ (c .1))
 
--- the string at the front of the output, and what stood beyond it
-pub at-front : (out ws : List ℕ) (n : ℕ) → length ws ≡ n → n ≤ length out → storeAll out 0 ws ≡ ws ++ drop n out
-at-front out ws n e h =
-    let m : 0 + length ws ≡ n = omega arith in
-    store-at out 0 ws (omega arith) ∙ rw m
+    -- the answers, from what the code knows: the table, and its choice for the start
+    module _ (z : Sizes) (e : z ≡ sizes g) (t : List ℕ) (p : t ≡ filled rules (z .rules) (z .symbols) n table) {x : ℕ} (q : x ≡ choiceAt t (symbol 0) n) where
+      is-full : t ≡ full
+      is-full = p ∙ ap (λ (y : Sizes). filled rules (y .rules) (y .symbols) n table) e
+
+      pub answers-nothing : (out : List ℕ) → x ≡ 0 → Answers (accepted g) n out Nothing out
+      answers-nothing out h = (none-said (sym (ap (λ (l : List ℕ). choiceAt l (symbol 0) n) is-full) ∙ sym q ∙ h), refl)
+
+      pub answers-written : (out exit : List ℕ) → (x ≡ 0 → ⊥) → n ≤ length out → exit ≡ storeAll out 0 (chosen t rules n (symbol 0) n) → Answers (accepted g) n out Written exit
+      answers-written out exit h l r =
+          let c = one-said (λ y. h (q ∙ ap (λ (l : List ℕ). choiceAt l (symbol 0) n) is-full ∙ y)) in
+          (chosen full rules n (symbol 0) n, c .0, c .1, r ∙ ap (λ (l : List ℕ). storeAll out 0 (chosen l rules n (symbol 0) n)) is-full ∙ at-front out _ n (c .0) l)

@@ -1,0 +1,36 @@
+-- What is asked of the specimen, by what the tests found. Assumes nothing.
+use mathlib.Core.Path.{_≡_, refl, sym, _∙_, subst}
+use mathlib.Core.List.{List}
+use Prim.Native.Nat.{ℕ, _≤_, _<_}
+use borrow.Author.Tests.{lt-ltb, le-ltb}
+use Rattle.packing.specs.Meaning.{Grammar}
+use Rattle.packing.specs.Parse.{Verdict, accepted, refused}
+use Rattle.packing.specs.Grammar.{grammarBlock}
+use Rattle.specimen.specs.Specimen.{asked, Answers}
+use Rattle.specimen.specs.declared.Answered.the-variants.{Refused}
+
+module _ (s : List ℕ) (n out : ℕ) where
+  pub asked-block : {m : ℕ} → grammarBlock s ≡ refused m → asked s n out ≡ refused m
+  unfolding asked
+  asked-block e = rw e
+
+  module _ {g : Grammar} (e : grammarBlock s ≡ accepted g) where
+    pub asked-none : n < 1 → asked s n out ≡ refused 25
+    unfolding asked
+    asked-none h = rw (e, lt-ltb _ _ h)
+
+    pub asked-many : 1 ≤ n → 24 < n → asked s n out ≡ refused 25
+    unfolding asked
+    asked-many h k = rw (e, le-ltb n 1 h, lt-ltb _ _ k)
+
+    pub asked-short : 1 ≤ n → n ≤ 24 → out < n → asked s n out ≡ refused 26
+    unfolding asked
+    asked-short h k l = rw (e, le-ltb n 1 h, le-ltb 24 n k, lt-ltb _ _ l)
+
+    pub asked-well : 1 ≤ n → n ≤ 24 → n ≤ out → asked s n out ≡ accepted g
+    unfolding asked
+    asked-well h k l = rw (e, le-ltb n 1 h, le-ltb 24 n k, le-ltb out n l)
+
+-- a refusal changes nothing
+pub answers-refused : {v : Verdict Grammar} (n : ℕ) (out : List ℕ) {m : ℕ} → v ≡ refused m → Answers v n out (Refused m) out
+answers-refused n out e = rw e (refl, refl)

@@ -1,0 +1,56 @@
+-- The table is filled as the definition fills it, and its choice for the start says which answer holds. Assumes nothing.
+use native.Mathlib.Omega.{arith}
+use native.Mathlib.Nat.{le-refl}
+use Rattle.specimen.proofs.Said.{answers-nothing, answers-written}
+use borrow.Author.Needs.{needs}
+use Rattle.specimen.proofs.answer.Statement.{statement}
+use Rattle.specimen.proofs.answer.Tie as tie
+
+cast-symbols : tie.Need-cast-symbols
+cast-symbols c = search needs
+
+cast-count : tie.Need-cast-count
+cast-count c = search needs
+
+slice-aggregate-fill : tie.Need-slice-aggregate-fill
+slice-aggregate-fill c = search needs
+
+fill-requires : tie.Need-fill-requires
+fill-requires c κs = search needs
+
+slice-aggregate-choice-at : tie.Need-slice-aggregate-choice-at
+slice-aggregate-choice-at c = search needs
+
+choice-at-requires : tie.Need-choice-at-requires
+choice-at-requires c κs = search needs
+
+returns : tie.Need-returns
+returns c = λ g e v b. answers-nothing g v (c .before .before .before .before .before .before .before .before .before .before .args .rules .now) b (c .before .before .before .before .before .before .before .before .before .before .args .n) (search needs) (search needs) _ (omega arith) (c .before .before .before .before .before .before .before .before .before .before .args .sizes) e _ (c .before .before .before .before .fill .ensures) (c .before .choice-at .ensures .0) _ (c .if1 .taken)
+
+slice-aggregate-spell : tie.Need-slice-aggregate-spell
+slice-aggregate-spell c = search needs
+
+spell-requires : tie.Need-spell-requires
+spell-requires c κs = search needs
+
+same-length : tie.Need-same-length
+same-length c = search needs
+
+returns-2 : tie.Need-returns-2
+returns-2 c = λ g e v b. answers-written g v (c .before .before .before .before .before .before .before .before .before .before .before .before .before .before .before .args .rules .now) b (c .before .before .before .before .before .before .before .before .before .before .before .before .before .before .before .args .n) (search needs) (search needs) _ (omega arith) (c .before .before .before .before .before .before .before .before .before .before .before .before .before .before .before .args .sizes) e _ (c .before .before .before .before .before .before .before .before .before .fill .ensures) (c .before .before .before .before .before .before .choice-at .ensures .0) _ _ (c .before .before .before .before .before .if1 .left) (search needs) (c .before .before .spell .ensures .1 (c .before .before .before .before .before .before .before .before .before .before .before .before .before .before .before .args .n) (le-refl _) .0)
+
+pub answer-spec : {M : Type 1} → statement M
+answer-spec =
+    tie.close
+    (tie.spec
+    cast-symbols
+    cast-count
+    slice-aggregate-fill
+    fill-requires
+    slice-aggregate-choice-at
+    choice-at-requires
+    returns
+    slice-aggregate-spell
+    spell-requires
+    same-length
+    returns-2)

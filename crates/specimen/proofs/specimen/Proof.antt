@@ -1,0 +1,68 @@
+-- Each way out is one of the definition's conditions; what is left is the answer for an accepted grammar. Assumes nothing.
+use mathlib.Core.Path.{_≡_, sym, ap, _∙_, subst}
+use native.Mathlib.Omega.{arith}
+use lib.ListN.{length}
+use Rattle.packing.specs.Grammar.{grammarBlock}
+use Rattle.packing.proofs.Whole.{grammar-block-out}
+use Rattle.packing_grammar.specs.Answer.{InBounds}
+use Rattle.packing_grammar.proofs.Outcome.{accepted-told, refused-told}
+use Rattle.specimen.proofs.Asked.{asked-block, asked-none, asked-many, asked-short, asked-well, answers-refused}
+use borrow.Author.Needs.{needs}
+use Rattle.specimen.proofs.specimen.Statement.{statement}
+use Rattle.specimen.proofs.specimen.Tie as tie
+
+slice-aggregate-read-block : tie.Need-slice-aggregate-read-block
+slice-aggregate-read-block c = search needs
+
+read-block-requires : tie.Need-read-block-requires
+read-block-requires c κs = search needs
+
+enum-known-read : tie.Need-enum-known-read
+enum-known-read c = search needs
+
+enum-known-read-2 : tie.Need-enum-known-read-2
+enum-known-read-2 c = search needs
+
+returns : tie.Need-returns
+returns c = answers-refused _ _ (asked-none _ _ _ (accepted-told (grammarBlock (c .before .before .before .before .before .before .before .before .before .args .grammar .now)) (c .before .before .before .before .before .read-block .ensures .0) (c .before .before .read2 .given .1) .1) (c .if1 .taken))
+
+returns-2 : tie.Need-returns-2
+returns-2 c = answers-refused _ _ (asked-many _ _ _ (accepted-told (grammarBlock (c .before .before .before .before .before .before .before .before .before .before .args .grammar .now)) (c .before .before .before .before .before .before .read-block .ensures .0) (c .before .before .before .read2 .given .1) .1) (c .before .if1 .left) (c .if2 .taken))
+
+returns-3 : tie.Need-returns-3
+returns-3 c = answers-refused _ _ (asked-short _ _ _ (accepted-told (grammarBlock (c .before .before .before .before .before .before .before .before .before .before .before .args .grammar .now)) (c .before .before .before .before .before .before .before .read-block .ensures .0) (c .before .before .before .before .read2 .given .1) .1) (c .before .before .if1 .left) (c .before .if2 .left) (c .if3 .taken))
+
+slice-aggregate-answer : tie.Need-slice-aggregate-answer
+slice-aggregate-answer c = search needs
+
+answer-requires : tie.Need-answer-requires
+answer-requires c κs = (subst InBounds (c .before .before .before .before .before .before .read2 .given .1) (c .before .before .before .before .before .before .before .before .before .read-block .ensures .2), c .before .before .before .before .if1 .left, c .before .before .before .if2 .left, c .before .before .if3 .left)
+
+returns-4 : tie.Need-returns-4
+returns-4 c = answers-refused _ _ (asked-block _ _ _ (refused-told (grammarBlock (c .before .before .before .before .before .before .before .before .args .grammar .now)) (c .before .before .before .before .read-block .ensures .0) (c .before .read .given .1)))
+
+same-length : tie.Need-same-length
+same-length c = search needs
+
+returns-5 : tie.Need-returns-5
+returns-5 c =
+    let (g, e, z) = accepted-told (grammarBlock (c .before .before .before .before .before .before .before .before .before .before .before .before .before .before .before .before .args .grammar .now)) (c .before .before .before .before .before .before .before .before .before .before .before .before .read-block .ensures .0) (c .before .before .before .before .before .before .before .before .before .read2 .given .1) in
+    let b = rw e at (c .before .before .before .before .before .before .before .before .before .before .before .before .read-block .ensures .1) in
+    rw (asked-well _ _ _ e (c .before .before .before .before .before .before .before .if1 .left) (c .before .before .before .before .before .before .if2 .left) (c .before .before .before .before .before .if3 .left)) (c .before .before .answer .ensures g z (grammar-block-out _ g e .0) b)
+
+pub specimen-spec : {M : Type 1} → statement M
+specimen-spec =
+    tie.close
+    (tie.spec
+    slice-aggregate-read-block
+    read-block-requires
+    enum-known-read
+    enum-known-read-2
+    returns
+    returns-2
+    returns-3
+    slice-aggregate-answer
+    answer-requires
+    returns-4
+    same-length
+    returns-5)
