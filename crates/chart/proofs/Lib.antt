@@ -4,6 +4,7 @@ pub mod Extended
 pub mod Places
 pub mod Zeros
 -- What a good table holds.
+pub mod Accepted
 pub mod Candidates
 pub mod Chart
 pub mod Entries
