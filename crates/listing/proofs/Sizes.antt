@@ -1,0 +1,73 @@
+-- The sizes that the listing computes with are small, and what is short decides between a refusal and acceptance.
+use mathlib.Core.Path.{_≡_, refl}
+use mathlib.Core.Bool.{Bool, true, false}
+use Prim.Native.Nat.{ℕ, _+_, _-_, _*_, _/_, _≤_, _<_}
+use native.Mathlib.Nat.{mul-le-mul, mul-assoc}
+use native.Mathlib.Omega.{arith}
+use lib.Dec.{ltb}
+use lib.ListN.{length}
+use borrow.Author.Tests.{ltb-false}
+use Rattle.bits.specs.Bits.{pick}
+use Rattle.bits.specs.Width.{widthOf}
+use Rattle.packing.specs.Meaning.{Grammar, Utterance}
+use Rattle.packing.specs.Parse.{refused}
+use Rattle.packing.proofs.Widths.{byte-width}
+use Rattle.listing.specs.Listing.{tableSize, readingLength, listed}
+use Rattle.listing.specs.Model.{firstOf, shortage}
+
+pub places-small : {n : ℕ} → n ≤ 24 → n * (n + 1) ≤ 600
+places-small {n} h = mul-le-mul {n₂ = 24} {m₂ = 25} h (omega arith)
+
+pub cells-small : {S n : ℕ} → S ≤ 32 → n ≤ 24 → S * (n * (n + 1) / 2) ≤ 9600
+cells-small {S} {n} h h′ = mul-le-mul {n₂ = 32} {m₂ = 300} h (omega (arith, places-small h′))
+
+-- four numbers for each rank of each cell
+pub table-is : (S n N : ℕ) {cells : ℕ} → cells ≡ S * (n * (n + 1) / 2) → 4 * cells * N ≡ tableSize S n N
+unfolding tableSize
+table-is S n N e = rw (e, mul-assoc 4 S (n * (n + 1) / 2))
+
+pub table-small : {cells N : ℕ} → cells ≤ 9600 → N ≤ 256 → 4 * cells * N ≤ 9830400
+table-small h h′ = mul-le-mul {n₂ = 38400} {m₂ = 256} (omega arith) h′
+
+pub length-small : {n R : ℕ} → n ≤ 24 → R ≤ 256 → readingLength n R ≤ 52
+unfolding readingLength
+length-small {n} {R} h h′ =
+    let bits : (2 * n - 1) * widthOf (R - 1) ≤ 376 = mul-le-mul {n₂ = 47} {m₂ = 8} (omega arith) (byte-width R h′) in
+    omega arith
+
+pub output-small : {n R N : ℕ} → n ≤ 24 → R ≤ 256 → N ≤ 256 → N * readingLength n R ≤ 13312
+output-small h h′ h″ = mul-le-mul {n₂ = 256} {m₂ = 52} h″ (length-small h h′)
+
+-- where nothing is short
+pub record Met (S R n N work out : ℕ) : Type 0 where
+  pub positive : 1 ≤ N
+  pub few : N ≤ 256
+  pub table : tableSize S n N ≤ work
+  pub room : N * readingLength n R ≤ out
+
+pub all-met : (S R n N work out : ℕ) → shortage S R n N work out ≡ 0 → Met S R n N work out
+unfolding shortage
+all-met S R n N work out = go (ltb N 1) (ltb 256 N) (ltb work (tableSize S n N)) (ltb out (N * readingLength n R)) refl refl refl refl
+  where
+    go : (a b c d : Bool) → ltb N 1 ≡ a → ltb 256 N ≡ b → ltb work (tableSize S n N) ≡ c → ltb out (N * readingLength n R) ≡ d
+        → firstOf a b c d ≡ 0 → Met S R n N work out
+    go true b c d p q r s e = absurd (omega arith)
+    go false true c d p q r s e = absurd (omega arith)
+    go false false true d p q r s e = absurd (omega arith)
+    go false false false true p q r s e = absurd (omega arith)
+    go false false false false p q r s e = record { positive = ltb-false N 1 p; few = ltb-false 256 N q; table = ltb-false _ _ r; room = ltb-false _ _ s }
+
+-- where something is
+picks : {A : Type 0} (f : ℕ → A) (a b c d : Bool) (rest : A) → (firstOf a b c d ≡ 0 → ⊥)
+    → pick a (f 21) (pick b (f 21) (pick c (f 22) (pick d (f 23) rest))) ≡ f (firstOf a b c d)
+picks f true b c d rest h = refl
+picks f false true c d rest h = refl
+picks f false false true d rest h = refl
+picks f false false false true rest h = refl
+picks f false false false false rest h = absurd (h refl)
+
+pub short : (g : Grammar) (u : Utterance) (N work out : ℕ) → (shortage (g .symbols) (length (g .rules)) (length u) N work out ≡ 0 → ⊥)
+    → listed g u N work out ≡ refused (shortage (g .symbols) (length (g .rules)) (length u) N work out)
+unfolding shortage listed
+short g u N work out = picks refused (ltb N 1) (ltb 256 N) (ltb work (tableSize (g .symbols) (length u) N))
+    (ltb out (N * readingLength (length u) (length (g .rules)))) _
