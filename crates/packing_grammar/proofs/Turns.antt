@@ -34,7 +34,13 @@ row-values S W n s = go (ℕ-discrete (n .kind) 0)
 values-snoc : (S W : ℕ) (rs : List Rule) (r : Rule) → values (rulesEntries S W (rs ++ (r ∷ []))) ≡ values (rulesEntries S W rs) ++ values (ruleEntries S W r)
 unfolding rulesEntries
 values-snoc S W [] r = rw append-nil
-values-snoc S W (x ∷ rs) r = rw (map-append valueOf (ruleEntries S W x), map-append valueOf (ruleEntries S W x), values-snoc S W rs r, append-assoc)
+values-snoc S W (x ∷ rs) r =
+    rw (
+      map-append valueOf (ruleEntries S W x) (rulesEntries S W (rs ++ (r ∷ []))),
+      map-append valueOf (ruleEntries S W x) (rulesEntries S W rs),
+      values-snoc S W rs r,
+      append-assoc,
+    )
 
 module _ (src : Source) (z : Sizes) (start : ℕ) where
   -- all that is read

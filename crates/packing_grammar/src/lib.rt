@@ -10,8 +10,7 @@ ghost use mathlib.Core.Path.{_≡_};
 ghost use mathlib.Core.List.{List, _++_};
 ghost use Prim.Native.Nat.{ℕ, _+_, _-_, _*_, _^_, _≤_, _<_};
 ghost use lib.ListN.{length, take};
-ghost use Rattle.packing.specs.Source.{sourceOf};
-ghost use Rattle.packing.specs.Source as source;
+ghost use Rattle.packing.specs.Source.{within, sourceOf};
 ghost use Rattle.bits.specs.Width.{widthOf};
 ghost use Rattle.packing.specs.Grammar.{firstOf, secondOf, ruleFrom, grammarBlock, grammarSheet};
 ghost use Rattle.packing.specs.Grammar as grammar;
@@ -54,26 +53,77 @@ enum RuleRead {
     Refused(u32),
 }
 
-// A field of one range with one refusal.
-fn within(width: usize, least: u32, most: u32, n: u32) -> Field
-    ensures { λ f. ⌜ (f ≡ source.within width least most n) × (f .width ≡ width) ⌝ }
-{
-    Field {
-        width: width,
-        least: least,
-        most: most,
-        below: n,
-        above: n,
-    }
-}
+// The fields of document 01's grammar block and sheet that are the same for every grammar: the block's kind, S, W and R; a
+// rule's kind and weight, and the last number of a word rule.
+const KIND: Field = Field {
+    width: 4,
+    least: 1,
+    most: 1,
+    below: 2,
+    above: 2,
+};
+
+const SYMBOLS: Field = Field {
+    width: 6,
+    least: 1,
+    most: 32,
+    below: 3,
+    above: 3,
+};
+
+const WORDS: Field = Field {
+    width: 8,
+    least: 1,
+    most: 200,
+    below: 3,
+    above: 3,
+};
+
+const RULES: Field = Field {
+    width: 9,
+    least: 1,
+    most: 256,
+    below: 3,
+    above: 3,
+};
+
+const RULE_KIND: Field = Field {
+    width: 1,
+    least: 0,
+    most: 1,
+    below: 42,
+    above: 42,
+};
+
+const WEIGHT: Field = Field {
+    width: 16,
+    least: 0,
+    most: 65535,
+    below: 42,
+    above: 42,
+};
+
+const NOTHING: Field = Field {
+    width: 0,
+    least: 0,
+    most: 0,
+    below: 42,
+    above: 42,
+};
 
 // The field of a number below n.
 fn below(n: u32, refusal: u32) -> Field
     requires { ⌜ (1 ≤ n) × (n ≤ 256) ⌝ }
-    ensures { λ f. ⌜ (f ≡ source.within (widthOf (n - 1)) 0 (n - 1) refusal) × (f .width ≤ 8) ⌝ }
+    ensures { λ f. ⌜ (f ≡ within (widthOf (n - 1)) 0 (n - 1) refusal) × (f .width ≤ 8) ⌝ }
 {
     let most = n - 1;
-    within(bits::width_of(most as usize), 0, most, refusal)
+    Field {
+        width: bits::width_of(most as usize),
+        least: 0,
+        most: most,
+        below: refusal,
+        above: refusal,
+    }
 }
 
 // The field of the first number of a rule's body.
@@ -95,7 +145,7 @@ fn second_of(sizes: Sizes, kind: u32) -> Field
     if kind == 0 {
         return below(sizes.symbols, 4);
     }
-    within(0, 0, 0, 42)
+    NOTHING
 }
 
 // S, W and R, from a place of the source.
@@ -103,17 +153,17 @@ fn read_sizes(src: Source, block: &[u8], sheet: &[u32], at: usize) -> SizesRead
     requires { ⌜ at < 2 ^ 16 ⌝ }
     ensures { λ r. ⌜ (r ≡ sizesOf (sizesFrom (sourceOf src (now (block .entry)) (now (sheet .entry))) at)) × SizesNear (at + 23) r ⌝ }
 {
-    let read = packing::take(src, block, sheet, at, within(6, 1, 32, 3));
+    let read = packing::take(src, block, sheet, at, SYMBOLS);
     let Read::Number(symbols, c) = read else {
         return SizesRead::Refused(packing::refusal(read));
     };
     let at = c.at;
-    let read = packing::take(src, block, sheet, at, within(8, 1, 200, 3));
+    let read = packing::take(src, block, sheet, at, WORDS);
     let Read::Number(words, c) = read else {
         return SizesRead::Refused(packing::refusal(read));
     };
     let at = c.at;
-    let read = packing::take(src, block, sheet, at, within(9, 1, 256, 3));
+    let read = packing::take(src, block, sheet, at, RULES);
     let Read::Number(rules, c) = read else {
         return SizesRead::Refused(packing::refusal(read));
     };
@@ -130,7 +180,7 @@ fn read_rule(src: Source, block: &[u8], sheet: &[u32], at: usize, sizes: Sizes) 
     requires { ⌜ (at < 2 ^ 16) × Bounded sizes ⌝ }
     ensures { λ r. ⌜ (ruleRead r ≡ ruleFrom (sourceOf src (now (block .entry)) (now (sheet .entry))) (sizes .symbols) (sizes .words) at) × RuleNear (at + 41) r ⌝ }
 {
-    let read = packing::take(src, block, sheet, at, within(1, 0, 1, 42));
+    let read = packing::take(src, block, sheet, at, RULE_KIND);
     let Read::Number(kind, c) = read else {
         return RuleRead::Refused(packing::refusal(read));
     };
@@ -140,7 +190,7 @@ fn read_rule(src: Source, block: &[u8], sheet: &[u32], at: usize, sizes: Sizes) 
         return RuleRead::Refused(packing::refusal(read));
     };
     let at = c.at;
-    let read = packing::take(src, block, sheet, at, within(16, 0, 65535, 42));
+    let read = packing::take(src, block, sheet, at, WEIGHT);
     let Read::Number(weight, c) = read else {
         return RuleRead::Refused(packing::refusal(read));
     };
@@ -276,7 +326,7 @@ pub fn read_block(block: &[u8], rules: &mut [u32]) -> GrammarRead
 {
     let no_sheet = [0u32; 1];
     let src = Source::Block(1);
-    let kind = packing::take(src, block, &no_sheet, 0, within(4, 1, 1, 2));
+    let kind = packing::take(src, block, &no_sheet, 0, KIND);
     let Read::Number(_, c) = kind else {
         return GrammarRead::Refused(packing::refusal(kind));
     };

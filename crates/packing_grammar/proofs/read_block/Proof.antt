@@ -28,9 +28,6 @@ module _ (s : List ℕ) where
   unfolding grammarBlock
   after-kind e = rw e
 
-within-requires : tie.Need-within-requires
-within-requires c κs = search needs
-
 take-requires : tie.Need-take-requires
 take-requires c κs = search needs
 
@@ -45,22 +42,25 @@ refusal-requires c κs = search needs
 
 returns : tie.Need-returns
 returns c =
-    rw (no-kind _ (missed (bytes 1 (c .before .before .before .before .before .before .before .before .args .block .now)) 0 (c .before .before .before .before .within .ensures .0) (c .before .before .before .take .ensures) (c .before .enum-told .given .1) (c .refusal .ensures))) (refl, tt, tt)
+    let t = c .before .before .before in
+    let block = t .before .before .before .before .args .block .now in
+    rw (no-kind block (missed (bytes 1 block) 0 refl (t .take .ensures) (c .before .enum-told .given .1) (c .refusal .ensures))) (refl, tt, tt)
 
-abbrev to-start : tie.After-known-told → tie.Start
-to-start c = c .before .before .before .before .before .before .before .before
+-- the kind that was read
+abbrev start : tie.After-known-told → tie.Start
+start c = c .before .before .before .before .before .before .before
 
-kind-read : (c : tie.After-known-told) → take (bytes 1 (to-start c .args .block .now)) 0 (blockKind 1 2) ≡ parsed (c .before .kind .given .0 .0) (c .before .kind .given .0 .1 .0 .at)
-kind-read c = got (bytes 1 (to-start c .args .block .now)) 0 (c .before .before .before .before .within .ensures .0) (c .before .before .before .take .ensures) (c .before .kind .given .1)
+kind-read : (c : tie.After-known-told) → take (bytes 1 (start c .args .block .now)) 0 (blockKind 1 2) ≡ parsed (c .before .kind .given .0 .0) (c .before .kind .given .0 .1 .0 .at)
+kind-read c = got (bytes 1 (start c .args .block .now)) 0 refl (c .before .before .before .take .ensures) (c .before .kind .given .1)
 
 kind-near : (c : tie.After-known-told) → c .before .kind .given .0 .1 .0 .at ≤ 4
-kind-near c = omega (arith, taken _ 4 (bytes 1 (to-start c .args .block .now)) 0 (omega arith) (omega arith) (kind-read c))
+kind-near c = omega (arith, taken _ 4 (bytes 1 (start c .args .block .now)) 0 (omega arith) (omega arith) (kind-read c))
 
 slice-aggregate-read-grammar : tie.Need-slice-aggregate-read-grammar
 slice-aggregate-read-grammar c = search needs
 
 read-grammar-requires : tie.Need-read-grammar-requires
-read-grammar-requires c κs = (omega (arith, kind-near (c .before .before)), c .before .before .before .before .before .before .before .before .before .before .pre)
+read-grammar-requires c κs = (omega (arith, kind-near (c .before .before)), start (c .before .before) .pre)
 
 enum-known-read : tie.Need-enum-known-read
 enum-known-read c = search needs
@@ -68,14 +68,15 @@ enum-known-read c = search needs
 enum-known-read-2 : tie.Need-enum-known-read-2
 enum-known-read-2 c = search needs
 
-abbrev to-kind : tie.After-known-told3 → tie.After-known-told
-to-kind c = c .before .before .before .before .before .before .before .before
+-- the grammar that was read, with its sizes in their ranges
+abbrev kind-before : tie.After-known-told3 → tie.After-known-told
+kind-before c = c .before .before .before .before .before .before .before .before
 
-near : (c : tie.After-known-told3) → Bounded (c .before .read2 .given .0 .0) × (c .before .read2 .given .0 .1 .0 .at ≤ to-kind c .before .kind .given .0 .1 .0 .at + 23 + 41 * 256)
-near c = subst (SizesNear (to-kind c .before .kind .given .0 .1 .0 .at + 23 + 41 * 256)) (c .before .read2 .given .1) (c .before .before .before .before .before .read-grammar .ensures .near)
+near : (c : tie.After-known-told3) → Bounded (c .before .read2 .given .0 .0) × (c .before .read2 .given .0 .1 .0 .at ≤ kind-before c .before .kind .given .0 .1 .0 .at + 23 + 41 * 256)
+near c = subst (SizesNear (kind-before c .before .kind .given .0 .1 .0 .at + 23 + 41 * 256)) (c .before .read2 .given .1) (c .before .before .before .before .before .read-grammar .ensures .near)
 
 zero-from-requires : tie.Need-zero-from-requires
-zero-from-requires c κs = omega (arith, near c, kind-near (to-kind c))
+zero-from-requires c κs = omega (arith, near c, kind-near (kind-before c))
 
 same-length : tie.Need-same-length
 same-length c = search needs
@@ -83,16 +84,19 @@ same-length c = search needs
 returns-2 : tie.Need-returns-2
 returns-2 c =
     let g = c .before .before in
-    let (a, b) = end-passed (c .before .before .before .before .before .before .before .read-grammar .ensures) (ended _) 7 (c .before .before .before .read2 .given .1) (sym (c .before .zero-from .ensures) ∙ c .if1 .taken) in
-    rw (after-kind _ (kind-read (to-kind g))) (a, b, near g .0)
+    let block = start (kind-before g) .args .block .now in
+    let (a, b) = end-passed {src = bytes 1 block} (g .before .before .before .before .before .read-grammar .ensures) (ended block) 7 (g .before .read2 .given .1) (sym (c .before .zero-from .ensures) ∙ c .if1 .taken) in
+    rw (after-kind block (kind-read (kind-before g))) (a, b, near g .0)
 
 same-length-2 : tie.Need-same-length-2
 same-length-2 c = search needs
 
 returns-3 : tie.Need-returns-3
 returns-3 c =
-    let (a, b) = end-refused (c .before .before .before .before .before .read-grammar .ensures) (ended _) 7 (c .before .read .given .1) in
-    rw (after-kind _ (kind-read (c .before .before .before .before .before .before .before .before))) (a, b, tt)
+    let k = c .before .before .before .before .before .before .before .before in
+    let block = start k .args .block .now in
+    let (a, b) = end-refused {src = bytes 1 block} (c .before .before .before .before .before .read-grammar .ensures) (ended block) 7 (c .before .read .given .1) in
+    rw (after-kind block (kind-read k)) (a, b, tt)
 
 same-length-3 : tie.Need-same-length-3
 same-length-3 c = search needs
@@ -100,15 +104,15 @@ same-length-3 c = search needs
 returns-4 : tie.Need-returns-4
 returns-4 c =
     let g = c .before .before in
-    let (a, b) = end-failed (c .before .before .before .before .before .before .before .read-grammar .ensures) (ended _) 7 (c .before .before .before .read2 .given .1) (sym (c .before .zero-from .ensures) ∙ c .if1 .left) in
-    rw (after-kind _ (kind-read (to-kind g))) (a, b, tt)
+    let block = start (kind-before g) .args .block .now in
+    let (a, b) = end-failed {src = bytes 1 block} (g .before .before .before .before .before .read-grammar .ensures) (ended block) 7 (g .before .read2 .given .1) (sym (c .before .zero-from .ensures) ∙ c .if1 .left) in
+    rw (after-kind block (kind-read (kind-before g))) (a, b, tt)
 
 pub read-block-spec : {M : Type 1} → statement M
 read-block-spec =
     tie.close
     (tie.spec
     slice-aggregate-take
-    within-requires
     take-requires
     enum-known-kind
     enum-told

@@ -1,6 +1,7 @@
 -- `packing_grammar::second_of` meets its contract: its test is the definition's. Assumes nothing.
-use borrow.Author.Tests.{eq-eqb, ne-eqb}
+use native.Mathlib.Omega.{arith}
 use borrow.Author.Needs.{needs}
+use borrow.Author.Tests.{eq-eqb, ne-eqb}
 use Rattle.packing_grammar.proofs.second_of.Statement.{statement}
 use Rattle.packing_grammar.proofs.second_of.Tie as tie
 
@@ -10,11 +11,8 @@ below-requires c κs = search needs
 returns : tie.Need-returns
 returns c = rw (eq-eqb _ _ (c .before .if1 .taken)) (c .below .ensures)
 
-within-requires : tie.Need-within-requires
-within-requires c κs = search needs
-
 returns-2 : tie.Need-returns-2
-returns-2 c = (rw (ne-eqb _ _ (c .before .if1 .left)) (c .within .ensures .0), search needs)
+returns-2 c = (rw (ne-eqb _ _ (c .if1 .left)), omega arith)
 
 pub second-of-spec : {M : Type 1} → statement M
-second-of-spec = tie.close (tie.spec below-requires returns within-requires returns-2)
+second-of-spec = tie.close (tie.spec below-requires returns returns-2)
