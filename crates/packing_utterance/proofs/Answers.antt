@@ -10,14 +10,14 @@ use Rattle.packing.specs.Meaning.{Utterance}
 use Rattle.packing.specs.Parse.{parsed, failed, Verdict, accepted, refused}
 use Rattle.packing.specs.Source.{bytes, numbers, take}
 use Rattle.packing.specs.Grammar.{blockKind}
-use Rattle.packing.specs.Utterance.{utteranceFrom, utteranceBlock, utteranceSheet, utteranceEntries}
+use Rattle.packing.specs.Utterance.{utteranceFrom, utteranceBlock, utteranceSheet}
 use Rattle.packing.specs.Flat.{slotNumbers, Begins, SlotsIn}
 use Rattle.packing.specs.Valid.{ValidUtterance}
-use Rattle.packing.proofs.Bounds.{length-slots}
 use Rattle.packing.proofs.Whole.{utterance-block-out, utterance-sheet-out}
 use Rattle.packing_utterance.specs.Answer.{answerOf, Sized}
 use Rattle.packing_utterance.specs.declared.Slots.{Slots}
 use Rattle.packing_utterance.specs.declared.UtteranceRead as R
+use Rattle.packing_utterance.proofs.Numbers.{valid-size}
 
 -- what both readers promise, of a verdict, the array and the answer
 abbrev pub Promised : ℕ → Verdict Utterance → List ℕ → R.UtteranceRead → Type 0
@@ -28,8 +28,7 @@ promised-refusal W after e = rw e (refl, tt, tt)
 
 pub promised-slots : (W : ℕ) {v : Verdict Utterance} (after : List ℕ) {u : Utterance} {found : Slots} → v ≡ accepted u → ValidUtterance W u
     → found ≡ record { count = length u; numbers = length (slotNumbers W u) } → Begins (slotNumbers W u) after → Promised W v after (R.the-variants.Utterance found)
-unfolding utteranceEntries
-promised-slots W after {u} e valid f h = rw (e, f) (refl, h, (valid .0 .0, valid .0 .1, length-slots W u (valid .1)))
+promised-slots W after {u} e valid f h = rw (e, f) (refl, h, valid-size W u valid)
 
 -- the ways out of a block's reader
 module _ (W : ℕ) (s : List ℕ) where

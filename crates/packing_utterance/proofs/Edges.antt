@@ -13,11 +13,12 @@ use Rattle.packing.specs.Parse.{accepted}
 use Rattle.packing.specs.Source.{values}
 use Rattle.packing.specs.Utterance.{candidatesEntries, slotsEntries, utteranceEntries, utteranceBlock}
 use Rattle.packing.specs.Flat.{slotNumbers, edgeNumbers, Begins}
+use Rattle.packing.specs.Store.{storeAll}
 use Rattle.packing.specs.Valid.{InRange, Fits, ValidUtterance}
 use Rattle.packing.proofs.Entries.{each-right}
 use Rattle.packing.proofs.Flat.{length-edges}
 use Rattle.packing.proofs.Whole.{utterance-block-out}
-use Rattle.packing_utterance.specs.Placed.{Stored, candidateNumbers}
+use Rattle.packing_utterance.specs.Placed.{candidateNumbers}
 use Rattle.packing_utterance.specs.Edges.{candidateEdges, candidatesAt, slotsEdges, edgesIn}
 use Rattle.packing_utterance.proofs.Stored.{stored-more}
 use Rattle.packing_utterance.proofs.Numbers.{slot-first}
@@ -28,10 +29,10 @@ unfolding edgeNumbers
 numbers-append [] fs = refl
 numbers-append (edge i k w c ∷ es) fs = ap (λ (l : List ℕ). i ∷ k ∷ w .0 ∷ c ∷ l) (numbers-append es fs)
 
-pub edges-stored : (before between after : List ℕ) (to p : ℕ) (es fs : List Edge) → Stored before to (edgeNumbers es) between
-    → p ≡ to + 4 * length es → Stored between p (edgeNumbers fs) after → Stored before to (edgeNumbers (es ++ fs)) after
-edges-stored before between after to p es fs h e k =
-    rw (numbers-append es fs) (stored-more before between after to p (edgeNumbers es) (edgeNumbers fs) h (omega (arith, length-edges es)) k)
+pub edges-stored : (before : List ℕ) (to : ℕ) {between after : List ℕ} {p : ℕ} (es fs : List Edge) → between ≡ storeAll before to (edgeNumbers es)
+    → p ≡ to + 4 * length es → after ≡ storeAll between p (edgeNumbers fs) → after ≡ storeAll before to (edgeNumbers (es ++ fs))
+edges-stored before to es fs h e k =
+    rw (numbers-append es fs) (stored-more before to (edgeNumbers es) (edgeNumbers fs) h (omega (arith, length-edges es)) k)
 
 module _ (l : List ℕ) (i : ℕ) where
   pub length-candidate-edges : (n p : ℕ) → length (candidateEdges l i n p) ≡ n

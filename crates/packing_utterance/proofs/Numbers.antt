@@ -1,16 +1,18 @@
 -- The numbers of candidates and slots: those of the earlier ones, then those of the last. Assumes nothing.
 use mathlib.Core.Path.{_≡_, refl, sym, ap, _∙_}
 use mathlib.Core.List.{List, [], _∷_, _++_, append-assoc, append-nil}
-use Prim.Native.Nat.{ℕ, suc, _+_, _*_}
+use Prim.Native.Nat.{ℕ, suc, _+_, _*_, _≤_}
 use native.Mathlib.Omega.{arith}
 use lib.ListN.{length, length-map}
 use Rattle.packing.specs.Meaning.{Candidate, candidate, Utterance, word}
 use Rattle.packing.specs.Source.{Entry, values, valueOf}
-use Rattle.packing.specs.Utterance.{candidatesEntries, slotsEntries}
+use Rattle.packing.specs.Utterance.{candidatesEntries, slotsEntries, utteranceEntries}
 use Rattle.packing.specs.Flat.{slotNumbers}
+use Rattle.packing.specs.Store.{storeAll}
+use Rattle.packing.specs.Valid.{ValidUtterance}
 use Rattle.packing.specs.declared.Word.{Word}
-use Rattle.packing.proofs.Bounds.{length-candidates}
-use Rattle.packing_utterance.specs.Placed.{Stored, candidateNumbers, oneSlotNumbers}
+use Rattle.packing.proofs.Bounds.{length-candidates, length-slots}
+use Rattle.packing_utterance.specs.Placed.{candidateNumbers, oneSlotNumbers}
 use Rattle.packing_utterance.proofs.Stored.{stored-more}
 
 values-append : (es fs : List Entry) → values (es ++ fs) ≡ values es ++ values fs
@@ -32,12 +34,11 @@ pub length-numbers : (W : ℕ) (cs : List Candidate) → length (candidateNumber
 length-numbers W cs = rw length-map (length-candidates W 0 cs)
 
 -- a candidate stored behind the earlier ones
-pub candidate-stored : (before between after : List ℕ) (to W i w c : ℕ) (cs : List Candidate) → length cs ≡ i
-    → Stored before to (candidateNumbers W cs) between → Stored between (to + 2 * i) (w ∷ c ∷ []) after
-    → Stored before to (candidateNumbers W (cs ++ (candidate (word w) c ∷ []))) after
-candidate-stored before between after to W i w c cs e h k =
-    rw (candidate-more W cs (word w) c)
-    (stored-more before between after to (to + 2 * i) (candidateNumbers W cs) (w ∷ c ∷ []) h (omega (arith, length-numbers W cs)) k)
+pub candidate-stored : (before : List ℕ) (to W i w c : ℕ) {between after : List ℕ} (cs : List Candidate) → length cs ≡ i
+    → between ≡ storeAll before to (candidateNumbers W cs) → after ≡ storeAll between (to + 2 * i) (w ∷ c ∷ [])
+    → after ≡ storeAll before to (candidateNumbers W (cs ++ (candidate (word w) c ∷ [])))
+candidate-stored before to W i w c cs e h k =
+    rw (candidate-more W cs (word w) c) (stored-more before to (candidateNumbers W cs) (w ∷ c ∷ []) h (omega (arith, length-numbers W cs)) k)
 
 -- a slot before others
 pub slot-first : (W : ℕ) (cs : List Candidate) (u : Utterance) → slotNumbers W (cs ∷ u) ≡ oneSlotNumbers W cs ++ slotNumbers W u
@@ -53,7 +54,12 @@ slot-more W (ds ∷ u) cs =
     ∙ ap (λ (l : List ℕ). l ++ oneSlotNumbers W cs) (sym (slot-first W ds u))
 
 -- a slot stored behind the earlier ones
-pub slot-stored : (before between after : List ℕ) (to W : ℕ) (u : Utterance) (cs : List Candidate) → to ≡ 0 + length (slotNumbers W u)
-    → Stored before 0 (slotNumbers W u) between → Stored between to (oneSlotNumbers W cs) after → Stored before 0 (slotNumbers W (u ++ (cs ∷ []))) after
-slot-stored before between after to W u cs e h k =
-    rw (slot-more W u cs) (stored-more before between after 0 to (slotNumbers W u) (oneSlotNumbers W cs) h e k)
+pub slot-stored : (before : List ℕ) {between after : List ℕ} {to : ℕ} (W : ℕ) (u : Utterance) (cs : List Candidate) → to ≡ 0 + length (slotNumbers W u)
+    → between ≡ storeAll before 0 (slotNumbers W u) → after ≡ storeAll between to (oneSlotNumbers W cs)
+    → after ≡ storeAll before 0 (slotNumbers W (u ++ (cs ∷ [])))
+slot-stored before W u cs e h k = rw (slot-more W u cs) (stored-more before 0 (slotNumbers W u) (oneSlotNumbers W cs) h e k)
+
+-- from 1 to 24 slots of at most 15 numbers each
+pub valid-size : (W : ℕ) (u : Utterance) → ValidUtterance W u → (1 ≤ length u) × (length u ≤ 24) × (length (slotNumbers W u) ≤ 15 * length u)
+unfolding utteranceEntries
+valid-size W u ((least, most), slots) = (least, most, length-slots W u slots)

@@ -8,11 +8,12 @@ use Rattle.packing.specs.Meaning.{Candidate, candidate, word, Utterance}
 use Rattle.packing.specs.Parse.{Parse, parsed, failed}
 use Rattle.packing.specs.Source.{readOf, refusalOf}
 use Rattle.packing.specs.Flat.{slotNumbers, Begins}
+use Rattle.packing.specs.Store.{storeAll}
 use Rattle.packing.specs.declared.Cursor.{Cursor}
 use Rattle.packing.specs.declared.Read.{Read}
 use Rattle.packing.specs.declared.Read.the-variants.{Number, Refused}
 use Rattle.packing.proofs.Parse.{number-out, refused-out}
-use Rattle.packing_utterance.specs.Placed.{candidateOf, Stored, PlacedAs, placed, not-placed, SlotsAs, slots, no-slots}
+use Rattle.packing_utterance.specs.Placed.{candidateOf, PlacedAs, placed, not-placed, SlotsAs, slots, no-slots}
 use Rattle.packing_utterance.specs.declared.CandidateRead as C
 use Rattle.packing_utterance.specs.declared.Placed as P
 use Rattle.packing_utterance.specs.declared.Slots.{Slots}
@@ -40,7 +41,7 @@ candidate-told x e h = same-parse x ∙ ap parseOf (sym e ∙ h)
 -- of what was placed
 pub placed-told : {A : Type 0} {f : A → List ℕ} {before after : List ℕ} {to : ℕ} {x : Parse A} {r : P.Placed} {c : Cursor} {end : ℕ}
     → PlacedAs f before to after x r → r ≡ P.the-variants.Upto c end
-    → (a : A) × (x ≡ parsed a (c .at)) × (end ≡ to + length (f a)) × Stored before to (f a) after
+    → (a : A) × (x ≡ parsed a (c .at)) × (end ≡ to + length (f a)) × (after ≡ storeAll before to (f a))
 placed-told {c = c} (placed a next h) e =
     let same : _≡_ {A = Cursor} (record { at = next }) c = cc in
     (a, ap (λ (d : Cursor). parsed a (d .at)) same, cc, h)

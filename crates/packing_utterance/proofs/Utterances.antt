@@ -2,6 +2,7 @@
 use mathlib.Core.Path.{_≡_, refl}
 use mathlib.Core.List.{List, [], _∷_, _++_}
 use Prim.Native.Nat.{ℕ, zero, suc, _+_, _-_, _*_, _≤_, _<_}
+use native.Mathlib.Nat.{zero-add}
 use native.Mathlib.Omega.{arith}
 use lib.ListN.{length, set, length-append}
 use Rattle.packing.specs.Meaning.{Candidate, Utterance}
@@ -9,38 +10,39 @@ use Rattle.packing.specs.Parse.{Parse, parsed, failed}
 use Rattle.packing.specs.Source.{Source, take}
 use Rattle.packing.specs.Utterance.{candidateCount, slotCount, candidatesFrom, slotFrom, slotsFrom, utteranceFrom}
 use Rattle.packing.specs.Flat.{slotNumbers}
+use Rattle.packing.specs.Store.{storeAll}
 use Rattle.packing.specs.declared.Cursor.{Cursor}
 use Rattle.packing.proofs.Parse.{through, same-parsed}
 use Rattle.packing.proofs.Bounds.{take-range, take-next}
-use Rattle.packing_utterance.specs.Placed.{Stored, candidateNumbers, oneSlotNumbers, PlacedAs, placed, not-placed, SlotsAs, slots}
+use Rattle.packing_utterance.specs.Placed.{candidateNumbers, oneSlotNumbers, PlacedAs, placed, not-placed, SlotsAs, slots}
 use Rattle.packing_utterance.specs.declared.Placed as P
 use Rattle.packing_utterance.specs.declared.SlotsRead as L
 use Rattle.packing_utterance.proofs.Told.{placed-told}
-use Rattle.packing_utterance.proofs.Stored.{stored-one, stored-more}
+use Rattle.packing_utterance.proofs.Stored.{stored-begins}
 use Rattle.packing_utterance.proofs.Candidates.{candidates-near}
 
 -- candidates that are placed behind their number are a slot
 pub slot-placed : (W : ℕ) {before after : List ℕ} {to n : ℕ} {x : Parse (List Candidate)} {r : P.Placed}
-    → PlacedAs (candidateNumbers W) (set before to n) (to + 1) after x r → to < length before
-    → ((cs : List Candidate) (next : ℕ) → x ≡ parsed cs next → length cs ≡ n) → PlacedAs (oneSlotNumbers W) before to after x r
-slot-placed W {before} {after} {to} {n} (placed cs next h) l size =
+    → PlacedAs (candidateNumbers W) (set before to n) (to + 1) after x r → ((cs : List Candidate) (next : ℕ) → x ≡ parsed cs next → length cs ≡ n)
+    → PlacedAs (oneSlotNumbers W) before to after x r
+unfolding storeAll
+slot-placed W {to = to} (placed cs next h) size =
     let z : to + 1 + length (candidateNumbers W cs) ≡ to + suc (length (candidateNumbers W cs)) = omega arith in
-    let s = stored-more before (set before to n) after to (to + 1) (n ∷ []) (candidateNumbers W cs) (stored-one before to n l) refl h in
-    rw z (placed cs next (rw (size cs next refl) s))
-slot-placed W (not-placed n) l size = not-placed n
+    rw z (placed cs next (rw (size cs next refl) h))
+slot-placed W (not-placed n) size = not-placed n
 
--- n slots that are placed at the front are the slots of the answer
+-- n slots that are placed at the front, with room for them, are the slots of the answer
 pub slots-placed : (W n : ℕ) {before after : List ℕ} {x : Parse Utterance} {r : P.Placed} {c : Cursor} {numbers : ℕ}
     → PlacedAs (slotNumbers W) before 0 after x r → r ≡ P.the-variants.Upto c numbers
-    → ((u : Utterance) (next : ℕ) → x ≡ parsed u next → length u ≡ n)
+    → ((u : Utterance) (next : ℕ) → x ≡ parsed u next → (length u ≡ n) × (length (slotNumbers W u) ≤ length before))
     → SlotsAs W after x (L.the-variants.Read (record { count = n; numbers = numbers }) c)
-slots-placed W n {after = after} {x = x} {c = c} {numbers = numbers} h e size = let (u, p, k, s) = placed-told h e in go u p k s (size u _ p)
+slots-placed W n {before} {after} {x} {c = c} {numbers = numbers} h e size =
+    let (u, p, k, s) = placed-told h e in
+    go u p k s (size u (c .at) p)
   where
-    go : (u : Utterance) → x ≡ parsed u (c .at) → numbers ≡ 0 + length (slotNumbers W u) → Stored [] 0 (slotNumbers W u) after → length u ≡ n
-        → SlotsAs W after x (L.the-variants.Read (record { count = n; numbers = numbers }) c)
-    go u p k s m =
-        let z : 0 + length (slotNumbers W u) ≡ length (slotNumbers W u) = omega arith in
-        rw (p, k, z, ← m) (slots u (c .at) (rw z at s))
+    go : (u : Utterance) → x ≡ parsed u (c .at) → numbers ≡ 0 + length (slotNumbers W u) → after ≡ storeAll before 0 (slotNumbers W u)
+        → (length u ≡ n) × (length (slotNumbers W u) ≤ length before) → SlotsAs W after x (L.the-variants.Read (record { count = n; numbers = numbers }) c)
+    go u p k s (m, room) = rw (p, k, zero-add, ← m, s) (slots u (c .at) (stored-begins before (slotNumbers W u) room))
 
 module _ (src : Source) (W : ℕ) where
   -- a slot is its count, then its candidates; an utterance is n, then its slots

@@ -3,15 +3,17 @@ use packing::Cursor;
 use packing::Field;
 use packing::Read;
 use packing::Source;
+use packing::arrays;
 ghost use mathlib.Core.Path.{_≡_};
 ghost use Prim.Native.Nat.{_+_, _*_, _^_, _≤_, _<_};
-ghost use lib.ListN.{length, getD};
+ghost use lib.ListN.{length};
 ghost use mathlib.Core.List.{[], _∷_};
 ghost use Rattle.packing.specs.Source.{sourceOf};
 ghost use Rattle.packing.specs.Utterance.{offered, candidatesFrom, slotFrom, slotsFrom, utteranceFrom, utteranceBlock, utteranceSheet};
 ghost use Rattle.packing.specs.Flat.{slotNumbers, SlotsIn, Begins, edgeNumbers};
+ghost use Rattle.packing.specs.Store.{storeAll};
 ghost use Rattle.packing_utterance.specs.Answer.{answerOf, Sized};
-ghost use Rattle.packing_utterance.specs.Placed.{candidateFrom, candidateOf, Stored, candidateNumbers, oneSlotNumbers, PlacedAs, SlotsAs};
+ghost use Rattle.packing_utterance.specs.Placed.{candidateFrom, candidateOf, candidateNumbers, oneSlotNumbers, PlacedAs, SlotsAs};
 ghost use Rattle.packing_utterance.specs.Edges.{candidateEdges, candidatesAt, edgesIn};
 
 // n, and how many numbers of the array the slots take.
@@ -119,7 +121,7 @@ fn read_candidate(
 // A word and its cost, from place p on.
 fn store_candidate(slots: &mut [u32], p: usize, word: u32, cost: u32)
     requires { ⌜ p + 2 ≤ length (now slots) ⌝ }
-    ensures { λ _. ⌜ Stored (now (slots .entry)) p (word ∷ cost ∷ []) (now (slots .exit)) ⌝ }
+    ensures { λ _. ⌜ now (slots .exit) ≡ storeAll (now (slots .entry)) p (word ∷ cost ∷ []) ⌝ }
 {
     slots[p] = word;
     slots[p + 1] = cost;
@@ -283,23 +285,13 @@ pub fn read_sheet(sheet: &[u32], words: u32, slots: &mut [u32]) -> UtteranceRead
     }
 }
 
-// Number i of the array, and 0 past its end.
-fn number_at(slots: &[u32], i: usize) -> u32
-    ensures { λ r. ⌜ r ≡ getD (now (slots .entry)) i 0 ⌝ }
-{
-    if i < slots.len() {
-        return slots[i];
-    }
-    0
-}
-
 // The number of candidates that the slot at place p has, 7 where it says more.
 fn candidates_at(slots: &[u32], p: usize) -> usize
     ensures { λ r. ⌜ r ≡ candidatesAt (now (slots .entry)) p ⌝ }
 {
-    let n = number_at(slots, p);
+    let n = arrays::number_at(slots, p);
     if n < 7 {
-        return n as usize;
+        return n;
     }
     7
 }
@@ -307,7 +299,7 @@ fn candidates_at(slots: &[u32], p: usize) -> usize
 // An edge, from place p on.
 fn store_edge(edges: &mut [u32], p: usize, from: u32, upto: u32, word: u32, cost: u32)
     requires { ⌜ p + 4 ≤ length (now edges) ⌝ }
-    ensures { λ _. ⌜ Stored (now (edges .entry)) p (from ∷ upto ∷ word ∷ cost ∷ []) (now (edges .exit)) ⌝ }
+    ensures { λ _. ⌜ now (edges .exit) ≡ storeAll (now (edges .entry)) p (from ∷ upto ∷ word ∷ cost ∷ []) ⌝ }
 {
     edges[p] = from;
     edges[p + 1] = upto;
@@ -318,12 +310,12 @@ fn store_edge(edges: &mut [u32], p: usize, from: u32, upto: u32, word: u32, cost
 // The edges of slot `slot`, whose `count` words and costs stand from place p on, into the array from place `to` on.
 fn slot_edges(slots: &[u32], slot: u32, count: usize, p: usize, edges: &mut [u32], to: usize)
     requires { ⌜ (slot < 24) × (count ≤ 7) × (p < 2 ^ 32) × (to + 4 * count ≤ length (now edges)) ⌝ }
-    ensures { λ _. ⌜ Stored (now (edges .entry)) to (edgeNumbers (candidateEdges (now (slots .entry)) slot count p)) (now (edges .exit)) ⌝ }
+    ensures { λ _. ⌜ now (edges .exit) ≡ storeAll (now (edges .entry)) to (edgeNumbers (candidateEdges (now (slots .entry)) slot count p)) ⌝ }
 {
     let mut k: usize = 0;
     while k < count {
-        let word = number_at(slots, p + 2 * k);
-        let cost = number_at(slots, p + 2 * k + 1);
+        let word = arrays::narrow_at(slots, p + 2 * k);
+        let cost = arrays::narrow_at(slots, p + 2 * k + 1);
         store_edge(edges, to + 4 * k, slot, slot + 1, word, cost);
         k += 1;
     }

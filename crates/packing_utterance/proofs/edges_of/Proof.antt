@@ -8,9 +8,10 @@ use borrow.Author.Needs.{needs}
 use lib.ListN.{length, length-append}
 use Rattle.packing.specs.Meaning.{Edge}
 use Rattle.packing.specs.Flat.{edgeNumbers}
-use Rattle.packing_utterance.specs.Placed.{Stored}
+use Rattle.packing.specs.Store.{storeAll}
+use Rattle.packing.proofs.Flat.{length-edges}
 use Rattle.packing_utterance.specs.Edges.{candidateEdges, slotsEdges}
-use Rattle.packing_utterance.proofs.Stored.{stored-none}
+use Rattle.packing_utterance.proofs.Stored.{stored-begins}
 use Rattle.packing_utterance.proofs.Edges.{edges-stored, length-candidate-edges, slot-edges-more, slot-edges-end}
 use Rattle.packing_utterance.proofs.edges_of.Statement.{statement}
 use Rattle.packing_utterance.proofs.edges_of.Tie as tie
@@ -18,18 +19,18 @@ use Rattle.packing_utterance.proofs.edges_of.Tie as tie
 abbrev Inv-loop : tie.InvT-loop
 Inv-loop slots count edges₀ found₀ p₀ i₀ edges found p i =
     (i ≤ count) × (p ≤ 15 * i) × (found ≤ 7 * i) × (length edges ≡ length edges₀)
-    × ((es : List Edge) × (length es ≡ found) × Stored edges₀ 0 (edgeNumbers es) edges
+    × ((es : List Edge) × (length es ≡ found) × (edges ≡ storeAll edges₀ 0 (edgeNumbers es))
     × (es ++ slotsEdges slots (count - i) i p ≡ slotsEdges slots count 0 0))
 
 abbrev μ-loop : tie.MeasureT-loop
 μ-loop slots count edges₀ found₀ p₀ i₀ edges found p i = count - i
 
 loop-holds : tie.Need-loop-holds Inv-loop μ-loop
-unfolding edgeNumbers
+unfolding storeAll edgeNumbers
 loop-holds c =
     let a = c .before .before .args in
     let z : a .count - 0 ≡ a .count = omega arith in
-    (omega arith, omega arith, omega arith, refl, ([], refl, stored-none (a .edges .now) 0, rw z))
+    (omega arith, omega arith, omega arith, refl, ([], refl, refl, rw z))
 
 candidates-at-requires : tie.Need-candidates-at-requires Inv-loop μ-loop
 candidates-at-requires c κs = search needs
@@ -79,7 +80,7 @@ loop-again c =
       (
         es ++ fs,
         simp length-append (omega arith),
-        edges-stored (a .edges .now) (l .edges) _ 0 (4 * l .found) es fs (l .inv .4 .2) (omega arith) (c .before .before .slot-edges .ensures),
+        edges-stored (a .edges .now) 0 es fs (l .inv .4 .2) (omega arith) (c .before .before .slot-edges .ensures),
         sym (slot-edges-more (a .slots .now) (a .count) (l .i) (l .p) es (c .before .before .before .before .before .loop-test .taken) (c .before .before .before .before .candidates-at .ensures)) ∙ l .inv .4 .3,
       ),
     )
@@ -92,9 +93,9 @@ returns c =
     let l = c .before .loop in
     let a = c .before .before .before .before .args in
     let es = l .inv .4 .0 in
-    let z : 0 + length (edgeNumbers es) ≡ length (edgeNumbers es) = omega arith in
+    let room = stored-begins (a .edges .now) (edgeNumbers es) (omega (arith, length-edges es)) in
     rw (sym (l .inv .4 .3) ∙ slot-edges-end (a .slots .now) (a .count) (l .i) (l .p) es (omega arith))
-    (sym (l .inv .4 .1), rw z at (l .inv .4 .2))
+    (sym (l .inv .4 .1), rw (l .inv .4 .2) room)
 
 pub edges-of-spec : {M : Type 1} → statement M
 edges-of-spec =

@@ -10,8 +10,8 @@ use Rattle.packing.specs.Meaning.{Candidate, candidate, word}
 use Rattle.packing.specs.Parse.{parsed}
 use Rattle.packing.specs.Source.{Source, sourceOf}
 use Rattle.packing.specs.Utterance.{candidatesFrom, candidatesEntries}
-use Rattle.packing_utterance.specs.Placed.{candidateFrom, Stored, candidateNumbers, placed, not-placed}
-use Rattle.packing_utterance.proofs.Stored.{stored-none}
+use Rattle.packing.specs.Store.{storeAll}
+use Rattle.packing_utterance.specs.Placed.{candidateFrom, candidateNumbers, placed, not-placed}
 use Rattle.packing_utterance.proofs.Numbers.{length-numbers, candidate-stored}
 use Rattle.packing_utterance.proofs.Told.{candidate-told}
 use Rattle.packing_utterance.proofs.Candidates.{candidate-near, candidates-stop, candidates-go-on, candidates-end}
@@ -21,7 +21,7 @@ use Rattle.packing_utterance.proofs.read_candidates.Tie as tie
 abbrev Inv-loop : tie.InvT-loop
 Inv-loop src block sheet start words count slots₀ to at₀ least₀ i₀ slots at least i =
     (i ≤ count) × (at ≤ start + 24 * i) × (length slots ≡ length slots₀)
-    × ((cs : List Candidate) × (length cs ≡ i) × Stored slots₀ to (candidateNumbers words cs) slots
+    × ((cs : List Candidate) × (length cs ≡ i) × (slots ≡ storeAll slots₀ to (candidateNumbers words cs))
     × (candidatesFrom (sourceOf src block sheet) words (count - i) least at cs ≡ candidatesFrom (sourceOf src block sheet) words count 0 start []))
 
 abbrev μ-loop : tie.MeasureT-loop
@@ -48,11 +48,11 @@ bounds c =
     (omega arith, b .1)
 
 loop-holds : tie.Need-loop-holds Inv-loop μ-loop
-unfolding candidatesEntries
+unfolding storeAll candidatesEntries
 loop-holds c =
     let a = c .before .before .before .args in
     let z : a .count - 0 ≡ a .count = omega arith in
-    (omega arith, omega arith, refl, ([], refl, stored-none (a .slots .now) (a .to), rw z))
+    (omega arith, omega arith, refl, ([], refl, refl, rw z))
 
 read-candidate-requires : tie.Need-read-candidate-requires Inv-loop μ-loop
 read-candidate-requires c κs = omega arith
@@ -103,7 +103,7 @@ loop-again c =
       (
         cs ++ (candidate (word (x .0)) (x .1 .0) ∷ []),
         simp length-append (omega arith),
-        candidate-stored (a .slots .now) (l .slots) _ (a .to) (a .words) (l .i) (x .0) (x .1 .0) cs (l .inv .3 .1) (l .inv .3 .2) (c .before .before .store-candidate .ensures),
+        candidate-stored (a .slots .now) (a .to) (a .words) (l .i) (x .0) (x .1 .0) cs (l .inv .3 .1) (l .inv .3 .2) (c .before .before .store-candidate .ensures),
         sym (candidates-go-on (source (c .before .before .before .before .before .before .before .before .before .before .before .before .before)) _ _ (l .i) (l .least) (l .at) cs (c .before .before .before .before .before .before .before .before .loop-test .taken) (read k)) ∙ l .inv .3 .3,
       ),
     )

@@ -66,7 +66,7 @@ returns-2 c =
     let s = c .before .before .before .before .before .before .before .before .before .before .before in
     let n = c .before .before .before .before .before .counted .given .0 in
     rw (slot-goes-on (source s) _ _ (count (c .before .before .before .before)))
-    (slot-placed (s .args .words) (c .before .before .read-candidates .ensures) (omega arith)
+    (slot-placed (s .args .words) (c .before .before .read-candidates .ensures)
     (λ cs next e. omega (arith, candidates-near (source s) (s .args .words) (omega arith) (n .0) 0 (n .1 .0 .at) [] e)))
 
 pub read-slot-spec : {M : Type 1} → statement M

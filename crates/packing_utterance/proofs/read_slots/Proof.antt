@@ -10,9 +10,9 @@ use Rattle.packing.specs.Meaning.{Utterance}
 use Rattle.packing.specs.Source.{Source, sourceOf}
 use Rattle.packing.specs.Utterance.{slotsFrom, slotsEntries}
 use Rattle.packing.specs.Flat.{slotNumbers}
-use Rattle.packing_utterance.specs.Placed.{Stored, placed, not-placed}
+use Rattle.packing.specs.Store.{storeAll}
+use Rattle.packing_utterance.specs.Placed.{placed, not-placed}
 use Rattle.packing_utterance.proofs.Told.{placed-told, not-placed-told}
-use Rattle.packing_utterance.proofs.Stored.{stored-none}
 use Rattle.packing_utterance.proofs.Numbers.{length-numbers, slot-more, slot-stored}
 use Rattle.packing_utterance.proofs.Utterances.{slots-stop, slots-go-on, slots-end, slot-near}
 use Rattle.packing_utterance.proofs.read_slots.Statement.{statement}
@@ -21,7 +21,7 @@ use Rattle.packing_utterance.proofs.read_slots.Tie as tie
 abbrev Inv-loop : tie.InvT-loop
 Inv-loop src block sheet start words count slots₀ at₀ to₀ i₀ slots at to i =
     (i ≤ count) × (at ≤ start + 171 * i) × (to ≤ 15 * i) × (length slots ≡ length slots₀)
-    × ((u : Utterance) × (length u ≡ i) × (to ≡ 0 + length (slotNumbers words u)) × Stored slots₀ 0 (slotNumbers words u) slots
+    × ((u : Utterance) × (length u ≡ i) × (to ≡ 0 + length (slotNumbers words u)) × (slots ≡ storeAll slots₀ 0 (slotNumbers words u))
     × (slotsFrom (sourceOf src block sheet) words (count - i) at u ≡ slotsFrom (sourceOf src block sheet) words count start []))
 
 abbrev μ-loop : tie.MeasureT-loop
@@ -31,11 +31,11 @@ abbrev source : tie.Start Inv-loop μ-loop → Source
 source c = sourceOf (c .args .src) (c .args .block .now) (c .args .sheet .now)
 
 loop-holds : tie.Need-loop-holds Inv-loop μ-loop
-unfolding slotsEntries
+unfolding storeAll slotsEntries
 loop-holds c =
     let a = c .before .before .before .args in
     let z : a .count - 0 ≡ a .count = omega arith in
-    (omega arith, omega arith, omega arith, refl, ([], refl, refl, stored-none (a .slots .now) 0, rw z))
+    (omega arith, omega arith, omega arith, refl, ([], refl, refl, refl, rw z))
 
 read-slot-requires : tie.Need-read-slot-requires Inv-loop μ-loop
 read-slot-requires c κs = omega arith
@@ -77,7 +77,7 @@ loop-again c =
         u ++ (r .0 ∷ []),
         simp length-append (omega arith),
         rw (slot-more (a .words) u (r .0), length-append) (omega arith),
-        slot-stored (a .slots .now) (l .slots) _ (l .to) (a .words) u (r .0) (l .inv .4 .2) (l .inv .4 .3) (r .3),
+        slot-stored (a .slots .now) (a .words) u (r .0) (l .inv .4 .2) (l .inv .4 .3) (r .3),
         sym (slots-go-on (source (c .before .before .before .before .before .before .before .before .before .before .before .before)) _ _ (l .i) (l .at) u (c .before .before .before .before .before .before .before .loop-test .taken) (r .1)) ∙ l .inv .4 .4,
       ),
     )

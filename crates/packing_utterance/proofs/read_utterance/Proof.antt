@@ -6,8 +6,11 @@ use Rattle.packing.specs.Parse.{parsed}
 use Rattle.packing.specs.Source.{Source, take, sourceOf}
 use Rattle.packing.specs.Utterance.{slotCount}
 use Rattle.packing.proofs.Bounds.{take-range, take-next}
+use Rattle.packing.proofs.Taken.{taken-fits}
+use Rattle.packing.proofs.Utterance.{utterance-out}
 use Rattle.packing_utterance.specs.Placed.{no-slots}
 use Rattle.packing_utterance.proofs.Told.{number-told, refusal-told, not-placed-told}
+use Rattle.packing_utterance.proofs.Numbers.{valid-size}
 use Rattle.packing_utterance.proofs.Utterances.{utterance-stops, utterance-goes-on, slots-near, slots-placed}
 use borrow.Author.Needs.{needs}
 use Rattle.packing_utterance.proofs.read_utterance.Statement.{statement}
@@ -70,7 +73,11 @@ returns-3 c =
     let k = c .before .before .before .before .before .before .before in
     rw (utterance-goes-on (source s) _ _ (count k))
     (slots-placed (s .args .words) (n .0) (c .before .before .before .before .before .read-slots .ensures) (c .before .d .given .1)
-    (λ u next e. omega (arith, slots-near (source s) (s .args .words) (omega arith) (n .0) (n .1 .0 .at) [] e)))
+    (λ u next e.
+    let at = utterance-goes-on (source s) (s .args .words) (s .args .at) (count k) ∙ e in
+    let size = valid-size (s .args .words) u (taken-fits (utterance-out (source s) (s .args .words) (s .args .at) at)) in
+    let near = slots-near (source s) (s .args .words) (omega arith) (n .0) (n .1 .0 .at) [] e in
+    (omega arith, omega arith)))
 
 pub read-utterance-spec : {M : Type 1} → statement M
 read-utterance-spec =

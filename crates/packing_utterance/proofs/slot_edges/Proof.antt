@@ -10,9 +10,8 @@ use borrow.Author.Needs.{needs}
 use lib.ListN.{length, length-append}
 use Rattle.packing.specs.Meaning.{Edge, edge, word}
 use Rattle.packing.specs.Flat.{edgeNumbers}
-use Rattle.packing_utterance.specs.Placed.{Stored}
+use Rattle.packing.specs.Store.{storeAll}
 use Rattle.packing_utterance.specs.Edges.{candidateEdges}
-use Rattle.packing_utterance.proofs.Stored.{stored-none}
 use Rattle.packing_utterance.proofs.Edges.{edges-stored, candidate-edge, candidate-edges-end}
 use Rattle.packing_utterance.proofs.slot_edges.Statement.{statement}
 use Rattle.packing_utterance.proofs.slot_edges.Tie as tie
@@ -20,39 +19,39 @@ use Rattle.packing_utterance.proofs.slot_edges.Tie as tie
 abbrev Inv-loop : tie.InvT-loop
 Inv-loop slots slot count p edges₀ to k₀ edges k =
     (k ≤ count) × (length edges ≡ length edges₀)
-    × ((es : List Edge) × (length es ≡ k) × Stored edges₀ to (edgeNumbers es) edges
+    × ((es : List Edge) × (length es ≡ k) × (edges ≡ storeAll edges₀ to (edgeNumbers es))
     × (es ++ candidateEdges slots slot (count - k) (p + 2 * k) ≡ candidateEdges slots slot count p))
 
 abbrev μ-loop : tie.MeasureT-loop
 μ-loop slots slot count p edges₀ to k₀ edges k = count - k
 
 loop-holds : tie.Need-loop-holds Inv-loop μ-loop
-unfolding edgeNumbers
+unfolding storeAll edgeNumbers
 loop-holds c =
     let a = c .before .before .args in
     let z : a .count - 0 ≡ a .count = omega arith in
-    (omega arith, refl, ([], refl, stored-none (a .edges .now) (a .to), rw (z, add-zero)))
+    (omega arith, refl, ([], refl, refl, rw (z, add-zero)))
 
-mul-number-at : tie.Need-mul-number-at Inv-loop μ-loop
-mul-number-at c = omega arith
+mul-narrow-at : tie.Need-mul-narrow-at Inv-loop μ-loop
+mul-narrow-at c = omega arith
 
-add-number-at : tie.Need-add-number-at Inv-loop μ-loop
-add-number-at c = omega arith
+add-narrow-at : tie.Need-add-narrow-at Inv-loop μ-loop
+add-narrow-at c = omega arith
 
-number-at-requires : tie.Need-number-at-requires Inv-loop μ-loop
-number-at-requires c κs = search needs
+narrow-at-requires : tie.Need-narrow-at-requires Inv-loop μ-loop
+narrow-at-requires c κs = search needs
 
-mul-number-at-2 : tie.Need-mul-number-at-2 Inv-loop μ-loop
-mul-number-at-2 c = omega arith
+mul-narrow-at-2 : tie.Need-mul-narrow-at-2 Inv-loop μ-loop
+mul-narrow-at-2 c = omega arith
 
-add-number-at-2 : tie.Need-add-number-at-2 Inv-loop μ-loop
-add-number-at-2 c = omega arith
+add-narrow-at-2 : tie.Need-add-narrow-at-2 Inv-loop μ-loop
+add-narrow-at-2 c = omega arith
 
-add-number-at-3 : tie.Need-add-number-at-3 Inv-loop μ-loop
-add-number-at-3 c = omega arith
+add-narrow-at-3 : tie.Need-add-narrow-at-3 Inv-loop μ-loop
+add-narrow-at-3 c = omega arith
 
-number-at-requires-2 : tie.Need-number-at-requires-2 Inv-loop μ-loop
-number-at-requires-2 c κs = search needs
+narrow-at-requires-2 : tie.Need-narrow-at-requires-2 Inv-loop μ-loop
+narrow-at-requires-2 c κs = search needs
 
 mul-store-edge : tie.Need-mul-store-edge Inv-loop μ-loop
 mul-store-edge c = omega arith
@@ -78,14 +77,14 @@ loop-again c =
     let l = c .before .before .before .before .before .before .before .loop in
     let a = c .before .before .before .before .before .before .before .before .before .before .args in
     let es = l .inv .2 .0 in
-    let e = edge (a .slot) (suc (a .slot)) (word (c .before .before .before .before .before .number-at .result)) (c .before .before .before .before .number-at2 .result) in (
+    let e = edge (a .slot) (suc (a .slot)) (word (c .before .before .before .before .before .narrow-at .result)) (c .before .before .before .before .narrow-at2 .result) in (
       omega arith,
       c .before .before .store-edge .kept .0 ∙ l .inv .1,
       (
         es ++ (e ∷ []),
         simp length-append (omega arith),
-        edges-stored (a .edges .now) (l .edges) _ (a .to) (a .to + 4 * l .k) es (e ∷ []) (l .inv .2 .2) (omega arith) (rw (add-one (a .slot)) at (c .before .before .store-edge .ensures)),
-        sym (candidate-edge (a .slots .now) (a .slot) (a .count) (l .k) (a .p) es (c .before .before .before .before .before .before .loop-test .taken) (c .before .before .before .before .before .number-at .ensures) (c .before .before .before .before .number-at2 .ensures)) ∙ l .inv .2 .3,
+        edges-stored (a .edges .now) (a .to) es (e ∷ []) (l .inv .2 .2) (omega arith) (rw (add-one (a .slot)) at (c .before .before .store-edge .ensures)),
+        sym (candidate-edge (a .slots .now) (a .slot) (a .count) (l .k) (a .p) es (c .before .before .before .before .before .before .loop-test .taken) (c .before .before .before .before .before .narrow-at .ensures) (c .before .before .before .before .narrow-at2 .ensures)) ∙ l .inv .2 .3,
       ),
     )
 
@@ -105,13 +104,13 @@ slot-edges-spec =
     Inv-loop
     μ-loop
     loop-holds
-    mul-number-at
-    add-number-at
-    number-at-requires
-    mul-number-at-2
-    add-number-at-2
-    add-number-at-3
-    number-at-requires-2
+    mul-narrow-at
+    add-narrow-at
+    narrow-at-requires
+    mul-narrow-at-2
+    add-narrow-at-2
+    add-narrow-at-3
+    narrow-at-requires-2
     mul-store-edge
     add-store-edge
     add-store-edge-2

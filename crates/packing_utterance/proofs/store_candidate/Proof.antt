@@ -1,8 +1,8 @@
 -- `packing_utterance::store_candidate` meets its contract: two numbers stored in a row. Assumes nothing.
-use mathlib.Core.List.{[], _∷_}
+use mathlib.Core.Path.{refl}
 use native.Mathlib.Omega.{arith}
-use lib.ListN.{set, length-set}
-use Rattle.packing_utterance.proofs.Stored.{stored-one, stored-next}
+use lib.ListN.{length-set}
+use Rattle.packing.specs.Store.{storeAll}
 use borrow.Author.Needs.{needs}
 use Rattle.packing_utterance.proofs.store_candidate.Statement.{statement}
 use Rattle.packing_utterance.proofs.store_candidate.Tie as tie
@@ -26,10 +26,8 @@ same-length : tie.Need-same-length
 same-length c = search needs
 
 returns : tie.Need-returns
-returns c =
-    let a = c .args in
-    let s = a .slots .now in
-    stored-next s (set s (a .p) (a .word)) (a .p) (a .word ∷ []) (a .cost) (stored-one s (a .p) (a .word) (omega arith)) (simp length-set (omega arith))
+unfolding storeAll
+returns c = refl
 
 pub store-candidate-spec : {M : Type 1} → statement M
 store-candidate-spec =

@@ -1,9 +1,9 @@
 -- `packing_utterance::store_edge` meets its contract: four numbers stored in a row. Assumes nothing.
-use mathlib.Core.List.{[], _∷_}
+use mathlib.Core.Path.{_≡_}
 use Prim.Native.Nat.{_+_}
 use native.Mathlib.Omega.{arith}
-use lib.ListN.{set, length-set}
-use Rattle.packing_utterance.proofs.Stored.{stored-one, stored-next}
+use lib.ListN.{length-set}
+use Rattle.packing.specs.Store.{storeAll}
 use borrow.Author.Needs.{needs}
 use Rattle.packing_utterance.proofs.store_edge.Statement.{statement}
 use Rattle.packing_utterance.proofs.store_edge.Tie as tie
@@ -45,17 +45,12 @@ same-length : tie.Need-same-length
 same-length c = search needs
 
 returns : tie.Need-returns
+unfolding storeAll
 returns c =
-    let a = c .args in
-    let e = a .edges .now in
-    let one = set e (a .p) (a .from) in
-    let two = set one (a .p + 1) (a .upto) in
-    let three = set two (a .p + 2) (a .word) in
-    stored-next e three (a .p) (a .from ∷ a .upto ∷ a .word ∷ []) (a .cost)
-    (stored-next e two (a .p) (a .from ∷ a .upto ∷ []) (a .word)
-    (stored-next e one (a .p) (a .from ∷ []) (a .upto) (stored-one e (a .p) (a .from) (omega arith)) (simp length-set (omega arith)))
-    (simp length-set (omega arith)))
-    (simp length-set (omega arith))
+    let p = c .args .p in
+    let two : p + 1 + 1 ≡ p + 2 = omega arith in
+    let three : p + 2 + 1 ≡ p + 3 = omega arith in
+    rw (two, three)
 
 pub store-edge-spec : {M : Type 1} → statement M
 store-edge-spec =
