@@ -43,12 +43,12 @@ module _ (l : List ℕ) (i : ℕ) where
   -- the turns of the loop over a slot's candidates
   module _ (count k p : ℕ) (es : List Edge) where
     pub candidate-edge : k < count → {w c : ℕ} → w ≡ getD l (p + 2 * k) 0 → c ≡ getD l (p + 2 * k + 1) 0
-        → es ++ candidateEdges l i (count - k) (p + 2 * k) ≡ es ++ (edge i (suc i) (word w) c ∷ []) ++ candidateEdges l i (count - (k + 1)) (p + 2 * (k + 1))
+        → es ++ candidateEdges l i (count - k) (p + 2 * k) ≡ es ++ (edge i (i + 1) (word w) c ∷ []) ++ candidateEdges l i (count - (k + 1)) (p + 2 * (k + 1))
     unfolding candidateEdges
     candidate-edge h e f =
         let z : count - k ≡ suc (count - (k + 1)) = omega arith in
         let y : p + 2 * (k + 1) ≡ p + 2 * k + 2 = omega arith in
-        rw (z, y, e, f, append-assoc)
+        rw (z, y, e, f, add-one i, append-assoc)
 
     pub candidate-edges-end : k ≡ count → es ++ candidateEdges l i (count - k) (p + 2 * k) ≡ es
     unfolding candidateEdges

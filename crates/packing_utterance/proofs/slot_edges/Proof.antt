@@ -4,7 +4,6 @@ use mathlib.Core.Path.{_≡_, refl, sym, _∙_}
 use mathlib.Core.List.{List, [], _∷_, _++_}
 use Prim.Native.Nat.{suc, _+_, _-_, _*_, _≤_}
 use native.Mathlib.Nat.{add-zero}
-use native.Mathlib.Numerals.{add-one}
 use native.Mathlib.Omega.{arith}
 use borrow.Author.Needs.{needs}
 use lib.ListN.{length, length-append}
@@ -77,13 +76,13 @@ loop-again c =
     let l = c .before .before .before .before .before .before .before .loop in
     let a = c .before .before .before .before .before .before .before .before .before .before .args in
     let es = l .inv .2 .0 in
-    let e = edge (a .slot) (suc (a .slot)) (word (c .before .before .before .before .before .narrow-at .result)) (c .before .before .before .before .narrow-at2 .result) in (
+    let e = edge (a .slot) (a .slot + 1) (word (c .before .before .before .before .before .narrow-at .result)) (c .before .before .before .before .narrow-at2 .result) in (
       omega arith,
       c .before .before .store-edge .kept .0 ∙ l .inv .1,
       (
         es ++ (e ∷ []),
         simp length-append (omega arith),
-        edges-stored (a .edges .now) (a .to) es (e ∷ []) (l .inv .2 .2) (omega arith) (rw (add-one (a .slot)) at (c .before .before .store-edge .ensures)),
+        edges-stored (a .edges .now) (a .to) es (e ∷ []) (l .inv .2 .2) (omega arith) (c .before .before .store-edge .ensures),
         sym (candidate-edge (a .slots .now) (a .slot) (a .count) (l .k) (a .p) es (c .before .before .before .before .before .before .loop-test .taken) (c .before .before .before .before .before .narrow-at .ensures) (c .before .before .before .before .narrow-at2 .ensures)) ∙ l .inv .2 .3,
       ),
     )
