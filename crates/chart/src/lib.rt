@@ -1,8 +1,11 @@
 // The chart: the ranked trees of every cell (head, from, to), found one after another in a lent work table.
 mod selection;
 pub mod table;
+pub mod walk;
 
+use packing::Rule;
 use packing::Sym;
+use packing::arrays::rule_at;
 use selection::floor_of;
 use selection::least;
 use table::cell_of;
@@ -11,10 +14,7 @@ use table::tie_at;
 use table::weight_at;
 ghost use mathlib.Core.Path.{_≡_};
 ghost use Prim.Native.Nat.{ℕ, suc, _+_, _-_, _*_, _<_, _≤_};
-ghost use Rattle.chart.specs.Model.{Small, missing, placed, advanced, next};
-use packing::Rule;
-use packing::arrays::rule_at;
-
+ghost use Rattle.chart.specs.Model.{Sized, Small, missing, placed, advanced, next, headsOf, lengthOf, firstsOf, further, listOf, foundOf};
 // The work table's layout: the number of symbols, the ranks kept for each cell, and the number of cells.
 pub struct Dims {
     pub symbols: usize,
@@ -114,4 +114,90 @@ fn advance_pairing(
             }
         }
     }
+}
+
+// Finds the first rank of every head over a span.
+fn first_of_heads(
+    t: &mut [u32],
+    rules: &[u32],
+    edges: &[u32],
+    index: &[u32],
+    d: Dims,
+    i: usize,
+    k: usize,
+)
+    requires { ⌜ Small d i k ⌝ }
+    ensures { λ _. ⌜ now (t .exit) ≡ headsOf (now (rules .entry)) (now (edges .entry)) (now (index .entry)) d (now (t .entry)) i k ⌝ }
+{
+    let n = d.symbols;
+    for a in 0..n {
+        next_of_span(t, rules, edges, index, d, Sym(a as u32), i, k, 0);
+    }
+}
+
+// Finds the first rank of every head over every span of a length.
+fn first_of_length(
+    t: &mut [u32],
+    rules: &[u32],
+    edges: &[u32],
+    index: &[u32],
+    d: Dims,
+    n: usize,
+    len: usize,
+)
+    requires { ⌜ (Sized d) × (n ≤ 31) × (0 < len) × (len ≤ n) ⌝ }
+    ensures { λ _. ⌜ now (t .exit) ≡ lengthOf (now (rules .entry)) (now (edges .entry)) (now (index .entry)) d n (now (t .entry)) len ⌝ }
+{
+    let m = n + 1 - len;
+    for i in 0..m {
+        first_of_heads(t, rules, edges, index, d, i, i + len);
+    }
+}
+
+// Finds the first rank of every cell, over shorter spans first.
+pub fn firsts(t: &mut [u32], rules: &[u32], edges: &[u32], index: &[u32], d: Dims, n: usize)
+    requires { ⌜ (Sized d) × (n ≤ 31) ⌝ }
+    ensures { λ _. ⌜ now (t .exit) ≡ firstsOf (now (rules .entry)) (now (edges .entry)) (now (index .entry)) d n (now (t .entry)) ⌝ }
+{
+    for x in 0..n {
+        first_of_length(t, rules, edges, index, d, n, x + 1);
+    }
+}
+
+// Finds the rank behind rank x of the whole span, if rank x is found.
+fn further(t: &mut [u32], rules: &[u32], edges: &[u32], index: &[u32], d: Dims, n: usize, x: usize)
+    requires { ⌜ (Sized d) × (0 < n) × (n ≤ 31) × (x + 1 < d .cap) ⌝ }
+    ensures { λ _. ⌜ now (t .exit) ≡ further (now (rules .entry)) (now (edges .entry)) (now (index .entry)) d n (now (t .entry)) x ⌝ }
+{
+    if weight_at(&t[..], d, cell_of(d, Sym(0), 0, n), x) == 0 {
+        return;
+    }
+    next_of_span(t, rules, edges, index, d, Sym(0), 0, n, x + 1);
+}
+
+// Finds the ranks of the whole span, as many as are kept.
+pub fn list(t: &mut [u32], rules: &[u32], edges: &[u32], index: &[u32], d: Dims, n: usize)
+    requires { ⌜ (Sized d) × (0 < n) × (n ≤ 31) ⌝ }
+    ensures { λ _. ⌜ now (t .exit) ≡ listOf (now (rules .entry)) (now (edges .entry)) (now (index .entry)) d n (now (t .entry)) ⌝ }
+{
+    firsts(t, rules, edges, index, d, n);
+    let m = d.cap - 1;
+    for x in 0..m {
+        further(t, rules, edges, index, d, n, x);
+    }
+}
+
+// How many ranks of a cell are found.
+pub fn found(t: &[u32], d: Dims, cell: usize) -> usize
+    requires { ⌜ (Sized d) × (cell < 8589934592) ⌝ }
+    ensures { λ m. ⌜ (m ≡ foundOf (now (t .entry)) d cell) × (m ≤ d .cap) ⌝ }
+{
+    let cap = d.cap;
+    let mut m: usize = 0;
+    for x in 0..cap {
+        if weight_at(t, d, cell, x) != 0 {
+            m = m + 1;
+        }
+    }
+    m
 }
