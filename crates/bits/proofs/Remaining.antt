@@ -2,7 +2,7 @@
 -- Assumes nothing.
 use mathlib.Core.Path.{_≡_, refl, ap, _∙_}
 use mathlib.Core.List.{List, [], _∷_, _++_}
-use Prim.Native.Nat.{ℕ, _+_, _*_, _≤_}
+use Prim.Native.Nat.{ℕ, _+_, _≤_}
 use native.Mathlib.Omega.{arith}
 use lib.ListN.{length}
 use Rattle.bits.specs.Bits.{put}
@@ -29,10 +29,13 @@ module _ {o : List ℕ} {start : ℕ} {fs : List Fld} where
   unfolding puts widths
   none-remain r = (omega (arith, r .place), r .rest)
 
-  pub remaining-room : {out : List ℕ} {at : ℕ} {f : Fld} {gs : List Fld} → Remaining o start fs out at (f ∷ gs)
-      → start + widths fs ≤ 8 * length o → at + f .width ≤ 8 * length out
+  -- what is written next stays within the whole
+  pub one-within : {out : List ℕ} {at : ℕ} {f : Fld} {gs : List Fld} → Remaining o start fs out at (f ∷ gs) → at + f .width ≤ start + widths fs
   unfolding widths
-  remaining-room r h = omega (arith, r .size, r .place)
+  one-within r = omega (arith, r .place)
+
+  pub some-within : {out : List ℕ} {at : ℕ} (hs gs : List Fld) → Remaining o start fs out at (hs ++ gs) → at + widths hs ≤ start + widths fs
+  some-within hs gs r = omega (arith, rw (widths-append hs gs) at (r .place))
 
   pub one-written : {out out′ : List ℕ} {at w v : ℕ} {gs : List Fld} → Remaining o start fs out at (fld w v ∷ gs)
       → out′ ≡ put out at w v → Remaining o start fs out′ (at + w) gs

@@ -3,7 +3,7 @@ use Prim.Native.Nat.{_+_, _-_, _*_, _≤_}
 use native.Mathlib.Nat.{sub-zero}
 use native.Mathlib.Omega.{arith}
 use lib.ListN.{take}
-use Rattle.bits.proofs.Remaining.{Remaining, all-remain, none-remain, remaining-room, one-written}
+use Rattle.bits.proofs.Remaining.{Remaining, all-remain, none-remain, one-within, one-written}
 use Rattle.packing.specs.Source.{flds}
 use Rattle.packing.specs.Reading.{walkEntries}
 use Rattle.packing_reading.proofs.Walk.{rest, rest-more, rest-end}
@@ -38,7 +38,7 @@ write-field-requires c κs =
     let at-start = at-width-of .before .before .before in
     let a = at-start .args in
     let l = c .before .before .before .loop in
-    omega (arith, remaining-room (rw (rest-more (a .rules) (a .walk .now) (a .n) (l .i) (at-width-of .width-of .ensures .0) (omega arith) (omega arith)) at (l .inv .2)) (omega arith))
+    omega (arith, one-within (rw (rest-more (a .rules) (a .walk .now) (a .n) (l .i) (at-width-of .width-of .ensures .0) (omega arith)) at (l .inv .2)) (omega arith))
 
 add-at : tie.Need-add-at Inv-loop μ-loop
 add-at c = omega arith

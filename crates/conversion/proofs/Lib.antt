@@ -1,0 +1,4 @@
+pub mod Fit
+pub mod Rules
+pub mod Slots
+pub mod Copied
