@@ -2,13 +2,13 @@
 -- Assumes nothing.
 use mathlib.Core.Path.{_≡_, refl, sym, ap, _∙_}
 use mathlib.Core.List.{List, _++_}
-use Prim.Native.Nat.{ℕ, _+_, _*_, _/_, _≤_, _<_}
+use Prim.Native.Nat.{ℕ, _+_, _/_, _≤_, _<_}
 use native.Mathlib.Omega.{arith}
 use borrow.Author.Tests.{lt-ltb, le-ltb}
 use lib.ListN.{length, getD, drop}
 use Rattle.bits.specs.Fields.{Fld, puts, widths}
 use Rattle.bits.proofs.Fields.{length-block, puts-block}
-use Rattle.packing.specs.Parse.{accepted}
+use Rattle.packing.specs.Parse.{Verdict, accepted, refused}
 use Rattle.packing.specs.Conversion.{fitting}
 use Rattle.conversion.specs.Answer.{Writes}
 use Rattle.conversion.specs.Arrays.{blockOf}
@@ -31,3 +31,8 @@ module _ (fs : List Fld) (out : List ℕ) {n : ℕ} (e : n ≡ (widths fs + 7) /
   pub block-whole : {after : List ℕ} → n ≤ length out → ((i : ℕ) → getD out i 0 < 256) → after ≡ puts out 0 fs
       → Writes (accepted (blockOf fs)) out (Length n) after
   block-whole h y w = written-whole (blockOf fs) out (e ∙ sym (length-block fs)) h (w ∙ puts-block out fs y (omega arith))
+
+-- a refusal met on the way is handed up, and the output stays as it was
+pub handed-up : {v : Verdict (List ℕ)} {n : ℕ} (out : List ℕ) → v ≡ refused n → Writes v out (Refused n) out
+unfolding fitting
+handed-up out e = rw e (refl, refl)

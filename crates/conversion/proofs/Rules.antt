@@ -1,11 +1,11 @@
 -- The fields of an array's rules, one rule after the other.
 -- Assumes nothing.
-use mathlib.Core.Path.{_≡_, refl, sym, ap, _∙_}
-use mathlib.Core.List.{List, [], _∷_, _++_, map-append}
-use Prim.Native.Nat.{ℕ, suc, _+_, _-_, _*_, _≤_, _<_}
+use mathlib.Core.Path.{_≡_}
+use mathlib.Core.List.{List, [], _++_, map-append}
+use Prim.Native.Nat.{ℕ, suc, _+_, _-_, _≤_, _<_}
 use native.Mathlib.Numerals.{add-one}
 use native.Mathlib.Omega.{arith}
-use Rattle.bits.specs.Fields.{Fld, widths}
+use Rattle.bits.specs.Fields.{widths}
 use Rattle.bits.proofs.Fields.{widths-append}
 use Rattle.packing.specs.Source.{fldOf, flds}
 use Rattle.packing.specs.Grammar.{ruleEntries, rulesEntries}

@@ -4,48 +4,35 @@ use borrow.Author.Needs.{needs}
 use Rattle.bits.specs.Fields.{widths}
 use Rattle.conversion.proofs.grammar_block.rule_bits.Statement.{statement}
 use Rattle.conversion.proofs.grammar_block.rule_bits.Tie as tie
-use Rattle.conversion.proofs.grammar_block.rule_bits.Reads as reads
-use Rattle.conversion.proofs.grammar_block.rule_bits.Lts as lts
-use Rattle.conversion.proofs.grammar_block.width_below.Reads as width-below-reads
 
--- src/grammar_block.rt:30:9
 width-below-requires : tie.Need-width-below-requires
 width-below-requires c κs = search needs
 
--- src/grammar_block.rt:32:40
 enum-told : tie.Need-enum-told
 enum-told c = search needs
 
--- src/grammar_block.rt:32:40
 mul-result : tie.Need-mul-result
 mul-result c = search needs
 
--- src/grammar_block.rt:32:35
 add-result : tie.Need-add-result
 add-result c = search needs
 
--- src/grammar_block.rt:33:32
 enum-told-2 : tie.Need-enum-told-2
 enum-told-2 c = search needs
 
--- src/grammar_block.rt:33:32
 add-result-2 : tie.Need-add-result-2
 add-result-2 c = search needs
 
--- src/grammar_block.rt:33:45
 width-below-requires-2 : tie.Need-width-below-requires-2
 width-below-requires-2 c κs = search needs
 
--- src/grammar_block.rt:33:32
 add-result-3 : tie.Need-add-result-3
 add-result-3 c = search needs
 
--- src/grammar_block.rt:26:1
 returns : tie.Need-returns
 unfolding widths
 returns c = rw (c .enum-told .given .1) (omega arith, omega arith)
 
--- src/grammar_block.rt:26:1
 returns-2 : tie.Need-returns-2
 unfolding widths
 returns-2 c = rw (c .before .enum-told2 .given .1) (omega arith, omega arith)

@@ -1,20 +1,13 @@
 -- What was added up and what the rules behind the first i take is what all of them take.
 use mathlib.Core.Path.{_≡_}
-use mathlib.Core.List.{[]}
 use Prim.Native.Nat.{_+_, _-_, _*_, _≤_}
 use native.Mathlib.Nat.{sub-zero}
 use native.Mathlib.Omega.{arith}
 use Rattle.bits.specs.Fields.{widths}
-use Rattle.packing.specs.Source.{flds}
-use Rattle.packing.specs.Grammar.{ruleEntries}
 use Rattle.conversion.specs.Arrays.{rulesFields}
 use Rattle.conversion.proofs.Rules.{widths-more, rules-end}
 use Rattle.conversion.proofs.grammar_block.rules_bits.Statement.{statement}
 use Rattle.conversion.proofs.grammar_block.rules_bits.Tie as tie
-use Rattle.conversion.proofs.grammar_block.rules_bits.Reads as reads
-use Rattle.conversion.proofs.grammar_block.rules_bits.Lts as lts
-use Rattle.conversion.proofs.grammar_block.rule_bits.Reads as rule-bits-reads
-use Rattle.packing.proofs.arrays.rule_at.Reads as rule-at-reads
 
 abbrev Inv-loop : tie.InvT-loop
 Inv-loop rules n symbols words total₀ i₀ total i =
@@ -23,40 +16,33 @@ Inv-loop rules n symbols words total₀ i₀ total i =
 abbrev μ-loop : tie.MeasureT-loop
 μ-loop rules n symbols words total₀ i₀ total i = n - i
 
--- src/grammar_block.rt:44:5
 loop-holds : tie.Need-loop-holds Inv-loop μ-loop
 loop-holds c = (omega arith, omega arith, rw sub-zero (omega arith))
 
--- src/grammar_block.rt:45:28
 rule-at-requires : tie.Need-rule-at-requires Inv-loop μ-loop
 rule-at-requires c κs = omega arith
 
--- src/grammar_block.rt:45:18
 rule-bits-requires : tie.Need-rule-bits-requires Inv-loop μ-loop
 rule-bits-requires c κs = omega arith
 
--- src/grammar_block.rt:45:9
 add-total : tie.Need-add-total Inv-loop μ-loop
 add-total c = omega arith
 
--- src/grammar_block.rt:46:9
 add-i : tie.Need-add-i Inv-loop μ-loop
 add-i c = omega arith
 
--- src/grammar_block.rt:44:5
 loop-less : tie.Need-loop-less Inv-loop μ-loop
 loop-less c = omega arith
 
--- src/grammar_block.rt:44:5
 loop-again : tie.Need-loop-again Inv-loop μ-loop
 loop-again c =
-    let a = c .before .before .before .before .before .args in
+    let at-start = c .before .before .before .before .before in
+    let a = at-start .args in
     let l = c .before .before .before .loop in
     let e = rw (c .before .rule-at .ensures) at (c .rule-bits .ensures .0) in
     let m = widths-more (a .symbols) (a .words) (a .rules .now) (a .n) (l .i) (c .before .before .loop-test .taken) in
     (omega arith, omega arith, omega (arith, e, m))
 
--- src/grammar_block.rt:38:1
 returns : tie.Need-returns Inv-loop μ-loop
 unfolding widths
 returns c =

@@ -2,7 +2,6 @@
 use Prim.Native.Nat.{_+_, _-_, _*_, _≤_}
 use native.Mathlib.Nat.{sub-zero}
 use native.Mathlib.Omega.{arith}
-use Rattle.bits.specs.Fields.{widths}
 use Rattle.bits.proofs.Remaining.{Remaining, all-remain, none-remain, some-written, some-within}
 use Rattle.packing.specs.Source.{flds}
 use Rattle.packing.specs.Grammar.{ruleEntries}
@@ -11,10 +10,6 @@ use Rattle.conversion.specs.Arrays.{rulesFields}
 use Rattle.conversion.proofs.Rules.{rules-more, rules-end}
 use Rattle.conversion.proofs.grammar_block.write_rules.Statement.{statement}
 use Rattle.conversion.proofs.grammar_block.write_rules.Tie as tie
-use Rattle.conversion.proofs.grammar_block.write_rules.Reads as reads
-use Rattle.conversion.proofs.grammar_block.write_rules.Lts as lts
-use Rattle.conversion.proofs.grammar_block.write_rule.Reads as write-rule-reads
-use Rattle.packing.proofs.arrays.rule_at.Reads as rule-at-reads
 
 abbrev Inv-loop : tie.InvT-loop
 Inv-loop out₀ start rules n symbols words at₀ i₀ out at i =
@@ -23,51 +18,48 @@ Inv-loop out₀ start rules n symbols words at₀ i₀ out at i =
 abbrev μ-loop : tie.MeasureT-loop
 μ-loop out₀ start rules n symbols words at₀ i₀ out at i = n - i
 
--- src/grammar_block.rt:97:5
 loop-holds : tie.Need-loop-holds Inv-loop μ-loop
 loop-holds c = (omega arith, omega arith, rw sub-zero all-remain)
 
--- src/grammar_block.rt:98:34
 rule-at-requires : tie.Need-rule-at-requires Inv-loop μ-loop
 rule-at-requires c κs = omega arith
 
--- src/grammar_block.rt:98:9
 write-rule-requires : tie.Need-write-rule-requires Inv-loop μ-loop
 write-rule-requires c κs =
-    let a = c .before .before .before .before .before .before .args in
+    let at-start = c .before .before .before .before .before .before in
+    let a = at-start .args in
     let l = c .before .before .before .loop in
     let r = flds (ruleEntries (a .symbols) (a .words) (ruleAt (a .rules .now) (l .i))) in
     let s = rulesFields (a .symbols) (a .words) (a .rules .now) (l .i + 1) (a .n - (l .i + 1)) in
     let m = rw (rules-more (a .symbols) (a .words) (a .rules .now) (a .n) (l .i) (c .before .before .loop-test .taken)) at (l .inv .2) in
     rw (c .rule-at .ensures) (omega (arith, some-within r s m))
 
--- src/grammar_block.rt:99:9
 add-i : tie.Need-add-i Inv-loop μ-loop
 add-i c = omega arith
 
--- src/grammar_block.rt:97:5
 loop-less : tie.Need-loop-less Inv-loop μ-loop
 loop-less c = omega arith
 
--- src/grammar_block.rt:97:5
 loop-again : tie.Need-loop-again Inv-loop μ-loop
 loop-again c =
-    let a = c .before .before .before .before .before .before .before .before .before .args in
-    let l = c .before .before .before .before .before .before .loop in
+    let at-loop-test = c .before .before .before .before .before in
+    let at-loop = at-loop-test .before in
+    let at-start = at-loop .before .before .before in
+    let a = at-start .args in
+    let l = at-loop .loop in
     let r = flds (ruleEntries (a .symbols) (a .words) (ruleAt (a .rules .now) (l .i))) in
     let s = rulesFields (a .symbols) (a .words) (a .rules .now) (l .i + 1) (a .n - (l .i + 1)) in
-    let m = rw (rules-more (a .symbols) (a .words) (a .rules .now) (a .n) (l .i) (c .before .before .before .before .before .loop-test .taken)) at (l .inv .2) in
+    let m = rw (rules-more (a .symbols) (a .words) (a .rules .now) (a .n) (l .i) (at-loop-test .loop-test .taken)) at (l .inv .2) in
     let w = rw (c .before .before .before .rule-at .ensures) at (c .before .before .write-rule .ensures) in
     (omega arith, omega arith, some-written r s m (w .2) (w .0))
 
--- src/grammar_block.rt:90:1
 same-length : tie.Need-same-length Inv-loop μ-loop
 same-length c = omega arith
 
--- src/grammar_block.rt:90:1
 returns : tie.Need-returns Inv-loop μ-loop
 returns c =
-    let a = c .before .before .before .before .args in
+    let at-start = c .before .before .before .before in
+    let a = at-start .args in
     let l = c .before .loop in
     none-remain (rw (rules-end (a .symbols) (a .words) (a .rules .now) (a .n) (l .i) (omega arith)) at (l .inv .2)) .1
 

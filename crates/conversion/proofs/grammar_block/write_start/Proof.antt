@@ -4,39 +4,28 @@ use borrow.Author.Needs.{needs}
 use Rattle.bits.specs.Fields.{puts}
 use Rattle.conversion.proofs.grammar_block.write_start.Statement.{statement}
 use Rattle.conversion.proofs.grammar_block.write_start.Tie as tie
-use Rattle.conversion.proofs.grammar_block.write_start.Reads as reads
-use Rattle.conversion.proofs.grammar_block.write_start.Lts as lts
-use Rattle.bits.proofs.write_field.Reads as write-field-reads
 
--- src/grammar_block.rt:56:5
 write-field-requires : tie.Need-write-field-requires
 write-field-requires c κs = search needs
 
--- src/grammar_block.rt:57:14
 add-at : tie.Need-add-at
 add-at c = search needs
 
--- src/grammar_block.rt:58:5
 write-field-requires-2 : tie.Need-write-field-requires-2
 write-field-requires-2 c κs = search needs
 
--- src/grammar_block.rt:59:14
 add-at-2 : tie.Need-add-at-2
 add-at-2 c = search needs
 
--- src/grammar_block.rt:60:5
 write-field-requires-3 : tie.Need-write-field-requires-3
 write-field-requires-3 c κs = search needs
 
--- src/grammar_block.rt:61:5
 add-result : tie.Need-add-result
 add-result c = search needs
 
--- src/grammar_block.rt:52:1
 same-length : tie.Need-same-length
 same-length c = search needs
 
--- src/grammar_block.rt:52:1
 returns : tie.Need-returns
 unfolding puts
 returns c = (refl, cc)

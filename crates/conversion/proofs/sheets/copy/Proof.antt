@@ -7,8 +7,6 @@ use lib.ListN.{length, length-set}
 use lib.Seq.{paste, paste-zero, paste-suc}
 use Rattle.conversion.proofs.sheets.copy.Statement.{statement}
 use Rattle.conversion.proofs.sheets.copy.Tie as tie
-use Rattle.conversion.proofs.sheets.copy.Reads as reads
-use Rattle.conversion.proofs.sheets.copy.Lts as lts
 
 abbrev Inv-loop : tie.InvT-loop
 Inv-loop out₀ at numbers n i₀ out i = (i ≤ n) × (length out ≡ length out₀) × (out ≡ paste out₀ at numbers i)
@@ -16,39 +14,30 @@ Inv-loop out₀ at numbers n i₀ out i = (i ≤ n) × (length out ≡ length ou
 abbrev μ-loop : tie.MeasureT-loop
 μ-loop out₀ at numbers n i₀ out i = n - i
 
--- src/sheets.rt:17:5
 loop-holds : tie.Need-loop-holds Inv-loop μ-loop
 loop-holds c = let a = c .args in (omega arith, refl, paste-zero (a .out .now) (a .at) (a .numbers .now))
 
--- src/sheets.rt:18:23
 mul-out : tie.Need-mul-out Inv-loop μ-loop
 mul-out c = omega arith
 
--- src/sheets.rt:18:23
 shared-slice-read-out : tie.Need-shared-slice-read-out Inv-loop μ-loop
 shared-slice-read-out c = omega arith
 
--- src/sheets.rt:18:13
 add-out : tie.Need-add-out Inv-loop μ-loop
 add-out c = omega arith
 
--- src/sheets.rt:18:9
 mul-out-2 : tie.Need-mul-out-2 Inv-loop μ-loop
 mul-out-2 c = omega arith
 
--- src/sheets.rt:18:9
 slice-write-out : tie.Need-slice-write-out Inv-loop μ-loop
 slice-write-out c = omega arith
 
--- src/sheets.rt:19:9
 add-i : tie.Need-add-i Inv-loop μ-loop
 add-i c = omega arith
 
--- src/sheets.rt:17:5
 loop-less : tie.Need-loop-less Inv-loop μ-loop
 loop-less c = omega arith
 
--- src/sheets.rt:17:5
 loop-again : tie.Need-loop-again Inv-loop μ-loop
 loop-again c =
     let a = c .before .before .before .args in
@@ -56,11 +45,9 @@ loop-again c =
     let e = paste-suc (a .out .now) (a .at) (a .numbers .now) (l .i) 0 (omega arith) (omega arith) in
     (omega arith, simp length-set (l .inv .1), rw (l .inv .2, add-one (l .i)) e)
 
--- src/sheets.rt:12:1
 same-length : tie.Need-same-length Inv-loop μ-loop
 same-length c = omega arith
 
--- src/sheets.rt:12:1
 returns : tie.Need-returns Inv-loop μ-loop
 returns c =
     let e : c .before .loop .i ≡ c .before .before .args .n = omega arith in

@@ -5,41 +5,31 @@ use borrow.Author.Needs.{needs}
 use Rattle.conversion.proofs.Slots.{candidates-small}
 use Rattle.conversion.proofs.utterance_block.slots_bits.Statement.{statement}
 use Rattle.conversion.proofs.utterance_block.slots_bits.Tie as tie
-use Rattle.conversion.proofs.utterance_block.slots_bits.Reads as reads
-use Rattle.conversion.proofs.utterance_block.slots_bits.Lts as lts
-use Rattle.conversion.proofs.grammar_block.width_below.Reads as width-below-reads
 
--- src/utterance_block.rt:19:9
 width-below-requires : tie.Need-width-below-requires
 width-below-requires c κs = search needs
 
--- src/utterance_block.rt:20:5
 mul-result : tie.Need-mul-result
 mul-result c = search needs
 
--- src/utterance_block.rt:20:14
 sub-result : tie.Need-sub-result
 sub-result c = search needs
 
--- src/utterance_block.rt:20:34
 add-result : tie.Need-add-result
 add-result c = search needs
 
--- src/utterance_block.rt:20:13
 mul-result-2 : tie.Need-mul-result-2
 mul-result-2 c =
     let a = c .before .args in
     let m : (a .numbers - a .n) / 2 * (c .width-below .result + 16) ≤ 4320 = candidates-small (omega arith) (omega arith) in
     omega arith
 
--- src/utterance_block.rt:20:5
 add-result-2 : tie.Need-add-result-2
 add-result-2 c =
     let a = c .before .args in
     let m : (a .numbers - a .n) / 2 * (c .width-below .result + 16) ≤ 4320 = candidates-small (omega arith) (omega arith) in
     omega arith
 
--- src/utterance_block.rt:15:1
 returns : tie.Need-returns
 returns c =
     let a = c .before .args in

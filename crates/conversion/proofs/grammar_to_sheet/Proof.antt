@@ -1,0 +1,78 @@
+-- What the reader answers tells what is to be written, and the writer writes it.
+use mathlib.Core.Path.{sym, _∙_}
+use native.Mathlib.Omega.{arith}
+use borrow.Author.Needs.{needs}
+use Rattle.packing.specs.Parse.{accepted}
+use Rattle.packing.specs.Grammar.{grammarBlock, sheetOfGrammar}
+use Rattle.packing.specs.Conversion.{grammarToSheet}
+use Rattle.conversion.proofs.Fit.{handed-up}
+use Rattle.conversion.proofs.Grammars.{refusal-told, sheet-told}
+use Rattle.conversion.proofs.grammar_to_sheet.Statement.{statement}
+use Rattle.conversion.proofs.grammar_to_sheet.Tie as tie
+
+slice-aggregate-read-block : tie.Need-slice-aggregate-read-block
+slice-aggregate-read-block c = search needs
+
+read-block-requires : tie.Need-read-block-requires
+read-block-requires c κs = search needs
+
+enum-known-n : tie.Need-enum-known-n
+enum-known-n c = search needs
+
+enum-known-z : tie.Need-enum-known-z
+enum-known-z c = search needs
+
+slice-aggregate-write-sheet : tie.Need-slice-aggregate-write-sheet
+slice-aggregate-write-sheet c = search needs
+
+slice-aggregate-write-sheet-2 : tie.Need-slice-aggregate-write-sheet-2
+slice-aggregate-write-sheet-2 c = search needs
+
+cast-write-sheet : tie.Need-cast-write-sheet
+cast-write-sheet c = search needs
+
+mul-write-sheet : tie.Need-mul-write-sheet
+mul-write-sheet c = search needs
+
+write-sheet-requires : tie.Need-write-sheet-requires
+write-sheet-requires c κs =
+    let at-z = c .before .before .before .before .before in
+    let at-read-block = at-z .before .before .before in
+    omega (arith, rw (at-z .z .given .1) at (at-read-block .read-block .ensures .2))
+
+returns : tie.Need-returns
+unfolding grammarToSheet
+returns c =
+    let at-read-block = c .before .before .before .before in
+    let at-start = at-read-block .before .before .before .before in
+    let a = at-start .args in
+    handed-up (a .out .now) (refusal-told (grammarBlock (a .block .now)) (λ g. accepted (sheetOfGrammar g)) (sym (at-read-block .read-block .ensures .0) ∙ c .before .n .given .1))
+
+same-length : tie.Need-same-length
+same-length c = search needs
+
+returns-2 : tie.Need-returns-2
+unfolding grammarToSheet
+returns-2 c =
+    let at-z = c .before .before .before .before .before .before .before .before in
+    let at-read-block = at-z .before .before .before in
+    let at-start = at-read-block .before .before .before .before in
+    let a = at-start .args in
+    rw (sheet-told (grammarBlock (a .block .now)) (sym (at-read-block .read-block .ensures .0) ∙ at-z .z .given .1) _ (at-read-block .read-block .ensures .1)) (c .before .before .write-sheet .ensures)
+
+pub grammar-to-sheet-spec : {M : Type 1} → statement M
+grammar-to-sheet-spec =
+    tie.close
+    (tie.spec
+    slice-aggregate-read-block
+    read-block-requires
+    enum-known-n
+    enum-known-z
+    slice-aggregate-write-sheet
+    slice-aggregate-write-sheet-2
+    cast-write-sheet
+    mul-write-sheet
+    write-sheet-requires
+    returns
+    same-length
+    returns-2)
