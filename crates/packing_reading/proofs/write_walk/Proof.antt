@@ -38,7 +38,7 @@ write-field-requires c κs =
     let at-start = at-width-of .before .before .before in
     let a = at-start .args in
     let l = c .before .before .before .loop in
-    omega (arith, one-within (rw (rest-more (a .rules) (a .walk .now) (a .n) (l .i) (at-width-of .width-of .ensures .0) (omega arith)) at (l .inv .2)) (omega arith))
+    omega (arith, one-within (rw (rest-more (a .rules) (a .walk .now) (a .n) (l .i) (at-width-of .width-of .ensures .0) (omega arith) (omega arith)) at (l .inv .2)))
 
 add-at : tie.Need-add-at Inv-loop μ-loop
 add-at c = omega arith
