@@ -12,16 +12,20 @@ use lib.Dec.{eqb}
 use lib.ListN.{length}
 use Rattle.bits.specs.Bits.{pick}
 use Rattle.packing.specs.Meaning.{sym as symbol, Grammar, Utterance, Reading, edges}
-use Rattle.packing.specs.Parse.{Parse, parsed, failed}
+use Rattle.packing.specs.Parse.{Parse, parsed, failed, Verdict, accepted, refused, _then_}
+use Rattle.packing.specs.Grammar.{grammarBlock}
+use Rattle.packing.specs.Utterance.{utteranceBlock}
+use Rattle.packing.specs.Reading.{readingFrom}
 use Rattle.packing.proofs.Parse.{picked-first}
+use Rattle.packing.proofs.Whole.{utterance-block-out}
 use Rattle.derivation.specs.Derivation.{Tree, walk, weight, Derivation}
 use Rattle.derivation.specs.List.{_∈_, trees}
 use Rattle.derivation.specs.Walk.{walkWeight}
-use Rattle.derivation.proofs.Ranges.{Ascending}
+use Rattle.derivation.proofs.Ranges.{Ascending, valid-ascending}
 use Rattle.derivation.proofs.Trees.{trees-derive}
 use Rattle.derivation.proofs.Walk.{walk-weight, walk-none}
-use Rattle.checker.specs.Check.{same, withWalk, derivationOf, judged, afterFields}
-use Rattle.checker.specs.Run.{weighed, byRun}
+use Rattle.checker.specs.Check.{same, withWalk, derivationOf, judged, afterFields, check}
+use Rattle.checker.specs.Run.{weighed, byRun, underRules}
 
 false≢true : false ≡ true → ⊥
 false≢true e = let z : _≡_ {A = ℕ} 0 1 = cc in omega arith
@@ -72,3 +76,19 @@ module _ (g : Grammar) (u : Utterance) where
     pub by-run : (block : List ℕ) (p : Parse Reading) → afterFields g u block p ≡ byRun (g .rules) u block p
     by-run block (failed n) = refl
     by-run block (parsed d at) = judged-weighed block d at (derivationOf g u (d .walk)) (derivation-found (d .walk))
+
+-- so the check is what it is under the grammar's rules
+pub under-rules : (grammar utterance reading : List ℕ) (g : Grammar) → grammarBlock grammar ≡ accepted g
+    → check grammar utterance reading ≡ underRules (g .words) (g .rules) utterance reading
+unfolding check underRules
+under-rules grammar utterance reading g e = rw e (go (utteranceBlock (g .words) utterance) refl)
+  where
+    fields : Utterance → Parse Reading
+    fields u = readingFrom (length u) (length (g .rules)) reading
+
+    go : (v : Verdict Utterance) → utteranceBlock (g .words) utterance ≡ v
+        → (v then λ u. afterFields g u reading (fields u)) ≡ (v then λ u. byRun (g .rules) u reading (fields u))
+    go (refused n) f = refl
+    go (accepted u) f =
+        let (ok, _) = utterance-block-out (g .words) utterance u f in
+        by-run g u (valid-ascending (g .words) u ok) reading (fields u)

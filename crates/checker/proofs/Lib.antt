@@ -3,3 +3,4 @@ pub mod Passed
 pub mod Theorems
 pub mod Arrays
 pub mod Steps
+pub mod Answered

@@ -1,8 +1,99 @@
 // The check of a reading.
 pub mod walk; // walk.rt: the weight of the derivation that has a walk
 
+use crate::walk::Found;
+use packing_grammar::GrammarRead;
+use packing_reading::ReadingRead;
+use packing_utterance::UtteranceRead;
+ghost use mathlib.Core.Path.{_≡_};
+ghost use Prim.Native.Nat.{_^_, _≤_, _<_};
+ghost use Rattle.packing.specs.Meaning.{Reading};
+ghost use Rattle.packing.specs.Reading.{readingFrom};
+ghost use Rattle.checker.specs.Check as definition;
+ghost use Rattle.checker.specs.Check.{answerOf};
+ghost use Rattle.checker.specs.Run.{weighed, byRun, underRules, rulesOf, slotsOf, numberOf};
+
 // What the check answers.
 pub enum Checked {
     Passes,
     Refused(u32),
+}
+
+// 34, 35 and 36 of a reading of some weight, whose fields end at bit `at` of its block: `own` is the weight of the derivation
+// that has its walk.
+fn judge(block: &[u8], at: usize, weight: u32, own: Found) -> Checked
+    requires { ⌜ at < 2 ^ 32 ⌝ }
+    ensures { λ r. ⌜ ((d : Reading) → d .weight ≡ weight → r ≡ answerOf (weighed (now (block .entry)) d at (numberOf own))) ⌝ }
+{
+    let Found::Number(w) = own else {
+        return Checked::Refused(34);
+    };
+    if w == packing::arrays::wide(weight) {
+        if bits::zero_from(block, at) {
+            return Checked::Passes;
+        }
+        return Checked::Refused(36);
+    }
+    Checked::Refused(35)
+}
+
+// The check under `count` rules and n slots that stand in arrays.
+fn check_reading(rules: &[u32], count: usize, slots: &[u32], n: usize, reading: &[u8]) -> Checked
+    requires { ⌜ (1 ≤ count) × (count ≤ 256) × (1 ≤ n) × (n ≤ 24) ⌝ }
+    ensures { λ r. ⌜ r ≡ answerOf (byRun (rulesOf (now (rules .entry)) count) (slotsOf (now (slots .entry)) n 0) (now (reading .entry)) (readingFrom n count (now (reading .entry)))) ⌝ }
+{
+    let mut walk = [0u32; 47];
+    match packing_reading::read_reading(reading, n, count, &mut walk) {
+        ReadingRead::Refused(m) => Checked::Refused(m),
+        ReadingRead::Reading(weight, end) => {
+            let at = end.at;
+            judge(
+                reading,
+                at,
+                weight,
+                walk::weight_of(rules, count, slots, n, &walk),
+            )
+        }
+    }
+}
+
+// The check under a grammar of `words` words and `count` rules, which stand in an array.
+fn check_utterance(
+    rules: &[u32],
+    count: usize,
+    words: u32,
+    utterance: &[u8],
+    reading: &[u8],
+) -> Checked
+    requires { ⌜ (1 ≤ count) × (count ≤ 256) × (0 < words) × (words ≤ 200) ⌝ }
+    ensures { λ r. ⌜ r ≡ answerOf (underRules words (rulesOf (now (rules .entry)) count) (now (utterance .entry)) (now (reading .entry))) ⌝ }
+{
+    let mut slots = [0u32; 360];
+    match packing_utterance::read_block(utterance, words, &mut slots) {
+        UtteranceRead::Refused(m) => Checked::Refused(m),
+        UtteranceRead::Utterance(found) => check_reading(
+            rules,
+            count,
+            &slots,
+            found.count,
+            reading,
+        ),
+    }
+}
+
+// Whether a block is the reading of a derivation of the grammar and the utterance, with its weight.
+pub fn check(grammar: &[u8], utterance: &[u8], reading: &[u8]) -> Checked
+    ensures { λ r. ⌜ r ≡ answerOf (definition.check (now (grammar .entry)) (now (utterance .entry)) (now (reading .entry))) ⌝ }
+{
+    let mut rules = [0u32; 1280];
+    match packing_grammar::read_block(grammar, &mut rules) {
+        GrammarRead::Refused(m) => Checked::Refused(m),
+        GrammarRead::Grammar(sizes) => check_utterance(
+            &rules,
+            sizes.rules as usize,
+            sizes.words,
+            utterance,
+            reading,
+        ),
+    }
 }

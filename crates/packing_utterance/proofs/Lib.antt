@@ -5,3 +5,4 @@ pub mod Candidates
 pub mod Utterances
 pub mod Answers
 pub mod Edges
+pub mod Outcome

@@ -1,0 +1,62 @@
+-- The array's rules are those of the grammar that was accepted.
+use mathlib.Core.Path.{_≡_, sym, ap, _∙_}
+use borrow.Author.Needs.{needs}
+use native.Mathlib.Omega.{arith}
+use Rattle.packing.specs.Grammar.{grammarBlock}
+use Rattle.packing.specs.Flat.{RulesIn}
+use Rattle.packing_grammar.specs.Answer.{InBounds}
+use Rattle.packing_grammar.proofs.Outcome.{accepted-told, refused-told}
+use Rattle.checker.specs.Check.{check, answerOf}
+use Rattle.checker.proofs.Arrays.{rules-of}
+use Rattle.checker.proofs.Judged.{under-rules}
+use Rattle.checker.proofs.check.Statement.{statement}
+use Rattle.checker.proofs.check.Tie as tie
+
+slice-aggregate-read-block : tie.Need-slice-aggregate-read-block
+slice-aggregate-read-block c = search needs
+
+read-block-requires : tie.Need-read-block-requires
+read-block-requires c κs = search needs
+
+enum-known-m : tie.Need-enum-known-m
+enum-known-m c = search needs
+
+enum-known-sizes : tie.Need-enum-known-sizes
+enum-known-sizes c = search needs
+
+slice-aggregate-check-utterance : tie.Need-slice-aggregate-check-utterance
+slice-aggregate-check-utterance c = search needs
+
+cast-check-utterance : tie.Need-cast-check-utterance
+cast-check-utterance c = search needs
+
+check-utterance-requires : tie.Need-check-utterance-requires
+check-utterance-requires c κs =
+    let bounded = rw (c .before .before .before .sizes .given .1) at (c .before .before .before .before .before .before .read-block .ensures .2) in
+    omega arith
+
+returns : tie.Need-returns
+unfolding check
+returns c = rw (refused-told (grammarBlock (c .before .before .before .before .before .before .before .before .before .args .grammar .now)) (c .before .before .before .before .read-block .ensures .0) (c .before .m .given .1))
+
+returns-2 : tie.Need-returns-2
+returns-2 c =
+    let a = c .before .before .before .before .before .before .before .before .before .before .before .before .args in
+    let (g, p, z) = accepted-told (grammarBlock (a .grammar .now)) (c .before .before .before .before .before .before .before .read-block .ensures .0) (c .before .before .before .before .sizes .given .1) in
+    let begun = rw p at (c .before .before .before .before .before .before .before .read-block .ensures .1) in
+    let rules = rules-of g (c .before .before .before .before .before .before .before .read-block .last .1 .0) begun in
+    c .check-utterance .ensures ∙ rw (z, rules, under-rules (a .grammar .now) (a .utterance .now) (a .reading .now) g p)
+
+pub check-spec : {M : Type 1} → statement M
+check-spec =
+    tie.close
+    (tie.spec
+    slice-aggregate-read-block
+    read-block-requires
+    enum-known-m
+    enum-known-sizes
+    slice-aggregate-check-utterance
+    cast-check-utterance
+    check-utterance-requires
+    returns
+    returns-2)

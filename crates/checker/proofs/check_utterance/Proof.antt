@@ -1,0 +1,66 @@
+-- The array's slots are the utterance that was accepted.
+use mathlib.Core.Path.{_≡_, sym, ap, _∙_}
+use mathlib.Core.List.{List}
+use borrow.Author.Needs.{needs}
+use native.Mathlib.Omega.{arith}
+use Rattle.packing.specs.declared.Rule as R
+use Rattle.packing.specs.Utterance.{utteranceBlock}
+use Rattle.packing.specs.Flat.{ruleAt}
+use Rattle.packing_utterance.specs.Answer.{Sized}
+use Rattle.packing_utterance.proofs.Outcome.{accepted-told, refused-told}
+use Rattle.packing_utterance.specs.declared.Slots.{Slots}
+use Rattle.checker.specs.Check.{answerOf}
+use Rattle.checker.specs.Run.{underRules, rulesOf}
+use Rattle.checker.proofs.Arrays.{length-table}
+use Rattle.checker.proofs.Answered.{slots-judged}
+use Rattle.checker.proofs.check_utterance.Statement.{statement}
+use Rattle.checker.proofs.check_utterance.Tie as tie
+
+slice-aggregate-read-block : tie.Need-slice-aggregate-read-block
+slice-aggregate-read-block c = search needs
+
+read-block-requires : tie.Need-read-block-requires
+read-block-requires c κs = search needs
+
+enum-known-m : tie.Need-enum-known-m
+enum-known-m c = search needs
+
+enum-known-found : tie.Need-enum-known-found
+enum-known-found c = search needs
+
+slice-aggregate-check-reading : tie.Need-slice-aggregate-check-reading
+slice-aggregate-check-reading c = search needs
+
+check-reading-requires : tie.Need-check-reading-requires
+check-reading-requires c κs =
+    let sized = rw (c .before .before .found .given .1) at (c .before .before .before .before .before .read-block .ensures .2) in
+    omega (arith, c .before .before .before .before .before .before .before .before .before .before .pre)
+
+returns : tie.Need-returns
+unfolding underRules
+returns c =
+    let a = c .before .before .before .before .before .before .before .before .before .args in
+    rw (refused-told (a .words) (utteranceBlock (a .words) (a .utterance .now)) (c .before .before .before .before .read-block .ensures .0) (c .before .m .given .1))
+
+returns-2 : tie.Need-returns-2
+returns-2 c =
+    let a = c .before .before .before .before .before .before .before .before .before .before .before .args in
+    let read = c .before .before .before .before .before .before .read-block in
+    let rules : List R.Rule = rulesOf (a .rules .now) (a .count) in
+    let (u, e, z) = accepted-told (a .words) (utteranceBlock (a .words) (a .utterance .now)) (read .ensures .0) (c .before .before .before .found .given .1) in
+    let judged = slots-judged (a .words) rules (a .utterance .now) (a .reading .now) (read .last .1 .1 .0) e (read .ensures .1)
+    (ap (λ (s : Slots). s .count) z) (sym (length-table (ruleAt (a .rules .now)) (a .count))) in
+    c .check-reading .ensures ∙ ap answerOf judged
+
+pub check-utterance-spec : {M : Type 1} → statement M
+check-utterance-spec =
+    tie.close
+    (tie.spec
+    slice-aggregate-read-block
+    read-block-requires
+    enum-known-m
+    enum-known-found
+    slice-aggregate-check-reading
+    check-reading-requires
+    returns
+    returns-2)

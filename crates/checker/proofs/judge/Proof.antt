@@ -1,0 +1,49 @@
+-- Each way out is the one that the tests on the weight and on the end of the block choose.
+use mathlib.Core.Path.{_≡_, sym, _∙_}
+use borrow.Author.Needs.{needs}
+use borrow.Author.Tests.{eq-eqb, ne-eqb}
+use Rattle.checker.proofs.judge.Statement.{statement}
+use Rattle.checker.proofs.judge.Tie as tie
+
+enum-known-own : tie.Need-enum-known-own
+enum-known-own c = search needs
+
+enum-told : tie.Need-enum-told
+enum-told c = search needs
+
+returns : tie.Need-returns
+returns c d e = rw (c .enum-told .given .1)
+
+wide-requires : tie.Need-wide-requires
+wide-requires c κs = search needs
+
+zero-from-requires : tie.Need-zero-from-requires
+zero-from-requires c κs = search needs
+
+returns-2 : tie.Need-returns-2
+returns-2 c d e =
+    let same = eq-eqb (c .before .before .before .before .before .own .given .0 .0) (d .weight) (c .before .before .if1 .taken ∙ c .before .before .before .wide .ensures .0 ∙ sym e) in
+    rw (c .before .before .before .before .before .own .given .1, same, sym (c .before .zero-from .ensures) ∙ c .if2 .taken)
+
+returns-3 : tie.Need-returns-3
+returns-3 c d e =
+    let same = eq-eqb (c .before .before .before .before .before .own .given .0 .0) (d .weight) (c .before .before .if1 .taken ∙ c .before .before .before .wide .ensures .0 ∙ sym e) in
+    rw (c .before .before .before .before .before .own .given .1, same, sym (c .before .zero-from .ensures) ∙ c .if2 .left)
+
+returns-4 : tie.Need-returns-4
+returns-4 c d e =
+    let other = ne-eqb (c .before .before .before .own .given .0 .0) (d .weight) (λ f. c .if1 .left (f ∙ e ∙ sym (c .before .wide .ensures .0))) in
+    rw (c .before .before .before .own .given .1, other)
+
+pub judge-spec : {M : Type 1} → statement M
+judge-spec =
+    tie.close
+    (tie.spec
+    enum-known-own
+    enum-told
+    returns
+    wide-requires
+    zero-from-requires
+    returns-2
+    returns-3
+    returns-4)
