@@ -1,8 +1,11 @@
 -- `packing_grammar::read_sheet` meets its contract: the length and the grammar, as the definition has them. Assumes nothing.
-use mathlib.Core.Path.{refl, subst}
-use mathlib.Core.Bool.{true}
+use mathlib.Core.Path.{_≡_, refl, subst}
+use mathlib.Core.Bool.{true, false}
 use Prim.Native.Nat.{ℕ}
+use native.Mathlib.Omega.{arith}
 use borrow.Author.Needs.{needs}
+use lib.Dec.{ltb}
+use lib.ListN.{length}
 use borrow.Author.Tests.{lt-ltb, le-ltb}
 use Rattle.packing.specs.Grammar.{grammarSheet}
 use Rattle.packing_grammar.specs.Parts.{SizesNear}
@@ -12,7 +15,7 @@ use Rattle.packing_grammar.proofs.read_sheet.Tie as tie
 
 returns : tie.Need-returns
 unfolding grammarSheet
-returns c = rw (lt-ltb _ _ (c .if1 .taken)) (refl, tt, tt)
+returns c = rw (lt-ltb (length (c .before .before .before .args .sheet .now)) 3 (omega arith)) (refl, tt, tt)
 
 slice-aggregate-read-grammar : tie.Need-slice-aggregate-read-grammar
 slice-aggregate-read-grammar c = search needs
@@ -29,11 +32,15 @@ enum-known-read-2 c = search needs
 same-length : tie.Need-same-length
 same-length c = search needs
 
+-- a sheet that was read has its three numbers
+long : (c : tie.Else1) → ltb (length (c .before .before .before .args .sheet .now)) 3 ≡ false
+long c = le-ltb (length (c .before .before .before .args .sheet .now)) 3 (omega arith)
+
 returns-2 : tie.Need-returns-2
 unfolding grammarSheet
 returns-2 c =
     let (a, b) = end-refused (c .before .before .before .before .before .read-grammar .ensures) (λ (at : ℕ). true) 41 (c .before .read .given .1) in
-    rw (le-ltb _ _ (c .before .before .before .before .before .before .before .before .if1 .left)) (a, b, tt)
+    rw (long (c .before .before .before .before .before .before .before .before)) (a, b, tt)
 
 same-length-2 : tie.Need-same-length-2
 same-length-2 c = search needs
@@ -42,7 +49,7 @@ returns-3 : tie.Need-returns-3
 unfolding grammarSheet
 returns-3 c =
     let (a, b) = end-passed (c .before .before .before .before .before .read-grammar .ensures) (λ (at : ℕ). true) 41 (c .before .read2 .given .1) refl in
-    rw (le-ltb _ _ (c .before .before .before .before .before .before .before .before .if1 .left)) (a, b, subst (SizesNear _) (c .before .read2 .given .1) (c .before .before .before .before .before .read-grammar .ensures .near) .0)
+    rw (long (c .before .before .before .before .before .before .before .before)) (a, b, subst (SizesNear _) (c .before .read2 .given .1) (c .before .before .before .before .before .read-grammar .ensures .near) .0)
 
 pub read-sheet-spec : {M : Type 1} → statement M
 read-sheet-spec =
