@@ -2,10 +2,7 @@
 use packing::Cursor;
 use packing::Field;
 use packing::Read;
-use packing::Rule;
 use packing::Source;
-use packing::Sym;
-use packing::Word;
 ghost use mathlib.Core.Path.{_≡_};
 ghost use mathlib.Core.List.{List, _++_};
 ghost use Prim.Native.Nat.{ℕ, _+_, _-_, _*_, _^_, _≤_, _<_};
@@ -14,7 +11,7 @@ ghost use Rattle.packing.specs.Source.{within, sourceOf};
 ghost use Rattle.bits.specs.Width.{widthOf};
 ghost use Rattle.packing.specs.Grammar.{firstOf, secondOf, ruleFrom, grammarBlock, grammarSheet};
 ghost use Rattle.packing.specs.Grammar as grammar;
-ghost use Rattle.packing.specs.Flat.{RulesIn, ruleAt};
+ghost use Rattle.packing.specs.Flat.{RulesIn};
 ghost use Rattle.packing_grammar.specs.Answer.{answerOf, Bounded, InBounds};
 ghost use Rattle.packing_grammar.specs.Parts.{sizesFrom, sizesOf, SizesNear, ruleRead, RuleNear};
 ghost use Rattle.packing_grammar.specs.Parts.{Sound, row, keyOf, among, RulesTold, GrammarTold};
@@ -357,23 +354,5 @@ pub fn read_sheet(sheet: &[u32], rules: &mut [u32]) -> GrammarRead
     match read {
         SizesRead::Refused(n) => GrammarRead::Refused(n),
         SizesRead::Sizes(sizes, _) => GrammarRead::Grammar(sizes),
-    }
-}
-
-// Rule r of an array that has five numbers for each rule.
-pub fn rule_at(rules: &[u32], r: usize) -> Rule
-    requires { ⌜ 5 * r + 5 ≤ length (now rules) ⌝ }
-    ensures { λ x. ⌜ x ≡ ruleAt (now (rules .entry)) r ⌝ }
-{
-    let at = 5 * r;
-    let kind = rules[at];
-    let head = rules[at + 1];
-    let weight = rules[at + 2];
-    let first = rules[at + 3];
-    let second = rules[at + 4];
-    if kind == 0 {
-        Rule::Pair(Sym(head), Sym(first), Sym(second), weight)
-    } else {
-        Rule::Word(Sym(head), Word(first), weight)
     }
 }
