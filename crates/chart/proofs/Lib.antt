@@ -2,7 +2,7 @@
 pub mod Loops
 pub mod Extended
 pub mod Places
-pub mod Spelled
+pub mod Stores
 pub mod Zeros
 -- What a good table holds.
 pub mod Accepted

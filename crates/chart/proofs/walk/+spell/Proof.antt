@@ -8,7 +8,7 @@ use borrow.Author.Needs.{needs}
 use borrow.Author.Tests.{lt-ltb, le-ltb}
 use Rattle.packing.specs.Store.{storeAll}
 use Rattle.chart.specs.Model.{spelled}
-use Rattle.chart.proofs.Spelled.{parts-stored}
+use Rattle.chart.proofs.Stores.{node-stored}
 use Prim.Native.Nat.{ℕ, _<_}
 use borrow.Fn.Kinds.{In}
 use borrow.Fn.PlainCycle.{Measures, is, falls, and}
@@ -256,7 +256,7 @@ spell-returns-3 : (t : ℕ) → spell-lts.Need-returns-3 (
   spell.Post,
 ) (spell-at t) spell.Post
 unfolding spelled
-spell-returns-3 t c = (omega (arith, c .before .before .before .before .before .before .spell .ensures .0, c .before .before .spell2 .ensures .0, c .before .before .before .before .before .before .before .before .before .before .before .before .before .if1 .left, c .before .before .before .before .before .before .before .before .before .before .before .before .if2 .left), λ f. elim f [ zero ↦ λ h. absurd (omega (arith, c .before .before .before .before .before .before .before .before .before .before .before .before .before .before .before .before .before .before .before .before .before .before .before .pre .1 .0 .order)) | suc g ↦ λ h. simp (← c .before .before .before .before .before .before .before .before .before .before .before .before .before .before .before .before .before .before .before .cell-of .ensures .0, ← c .before .before .before .before .before .before .before .before .before .before .before .before .before .before .before .before .before .before .tie-at .ensures .0, lt-ltb _ _ (c .before .before .before .before .before .before .before .before .before .before .before .before .before .if1 .left), lt-ltb _ _ (c .before .before .before .before .before .before .before .before .before .before .before .before .if2 .left), ← c .before .before .before .before .before .before .before .before .before .before .before .rule-at .ensures, c .before .before .before .before .before .before .before .before .before .rule .given .1) (let left = c .before .before .before .before .before .before .spell .ensures .1 g (omega (arith, c .before .before .before .before .before .before .before .before .before .before .before .before .before .if1 .left, c .before .before .before .before .before .before .before .before .before .before .before .before .if2 .left)) in let right = c .before .before .spell2 .ensures .1 g (omega (arith, c .before .before .before .before .before .before .before .before .before .before .before .before .before .if1 .left, c .before .before .before .before .before .before .before .before .before .before .before .before .if2 .left)) in parts-stored (now (c .before .before .before .before .before .before .before .before .before .before .before .before .before .before .before .before .before .before .before .before .before .before .before .args .walk)) (c .before .before .before .before .before .before .before .before .before .before .before .before .before .before .before .before .before .before .before .before .before .before .before .args .at) (c .before .before .before .before .before .before .before .before .before .before .before .before .before .before .before .before .before .before .tie-at .result / 2097152) _ _ (rw (c .before .before .before .before .before .before .before .before .before .before .before .before .before .before .before .before .store .ensures) at (left .0)) (left .1) (right .0) (right .1)) ])
+spell-returns-3 t c = (omega (arith, c .before .before .before .before .before .before .spell .ensures .0, c .before .before .spell2 .ensures .0, c .before .before .before .before .before .before .before .before .before .before .before .before .before .if1 .left, c .before .before .before .before .before .before .before .before .before .before .before .before .if2 .left), λ f. elim f [ zero ↦ λ h. absurd (omega (arith, c .before .before .before .before .before .before .before .before .before .before .before .before .before .before .before .before .before .before .before .before .before .before .before .pre .1 .0 .order)) | suc g ↦ λ h. simp (← c .before .before .before .before .before .before .before .before .before .before .before .before .before .before .before .before .before .before .before .cell-of .ensures .0, ← c .before .before .before .before .before .before .before .before .before .before .before .before .before .before .before .before .before .before .tie-at .ensures .0, lt-ltb _ _ (c .before .before .before .before .before .before .before .before .before .before .before .before .before .if1 .left), lt-ltb _ _ (c .before .before .before .before .before .before .before .before .before .before .before .before .if2 .left), ← c .before .before .before .before .before .before .before .before .before .before .before .rule-at .ensures, c .before .before .before .before .before .before .before .before .before .rule .given .1) (let left = c .before .before .before .before .before .before .spell .ensures .1 g (omega (arith, c .before .before .before .before .before .before .before .before .before .before .before .before .before .if1 .left, c .before .before .before .before .before .before .before .before .before .before .before .before .if2 .left)) in let right = c .before .before .spell2 .ensures .1 g (omega (arith, c .before .before .before .before .before .before .before .before .before .before .before .before .before .if1 .left, c .before .before .before .before .before .before .before .before .before .before .before .before .if2 .left)) in node-stored (now (c .before .before .before .before .before .before .before .before .before .before .before .before .before .before .before .before .before .before .before .before .before .before .before .args .walk)) (c .before .before .before .before .before .before .before .before .before .before .before .before .before .before .before .before .before .before .before .before .before .before .before .args .at) (c .before .before .before .before .before .before .before .before .before .before .before .before .before .before .before .before .before .before .tie-at .result / 2097152) _ _ (rw (c .before .before .before .before .before .before .before .before .before .before .before .before .before .before .before .before .store .ensures) at (left .0)) (left .1) (right .0) (right .1)) ])
 
 spell-same-length-4 : (t : ℕ) → spell-lts.Need-same-length-4 (
   cell-of-reads.Asked,
