@@ -1,0 +1,81 @@
+-- Every answer of a conversion fits a C number: results are at most 1,283 long, and refusals below 64. Assumes nothing.
+use mathlib.Core.Bool.{Bool, true, false}
+use mathlib.Core.Path.{_≡_, refl, sym, ap, _∙_, subst}
+use mathlib.Core.List.{List, [], _∷_}
+use Prim.Native.Nat.{ℕ, _+_, _*_, _≤_, _<_}
+use native.Mathlib.Omega.{arith}
+use lib.Dec.{ltb}
+use lib.ListN.{length}
+use Rattle.bits.specs.Bits.{pick}
+use Rattle.packing.specs.Meaning.{Grammar, Utterance}
+use Rattle.packing.specs.Parse.{Verdict, accepted, refused, _then_}
+use Rattle.packing.specs.Source.{values}
+use Rattle.packing.specs.Grammar.{grammarBlock, grammarSheet, grammarEntries, blockOfGrammar, sheetOfGrammar}
+use Rattle.packing.specs.Utterance.{utteranceBlock, utteranceSheet, utteranceEntries, blockOfUtterance, sheetOfUtterance}
+use Rattle.packing.specs.Conversion.{grammarToBlock, grammarToSheet, utteranceToBlock, utteranceToSheet, fitting}
+use Rattle.packing.specs.Valid.{ValidGrammar, ValidUtterance}
+use Rattle.packing.proofs.Bounds.{length-rules, length-slots}
+use Rattle.packing.proofs.Widths.{grammar-length, utterance-length, valid-words}
+use Rattle.packing.proofs.Whole.{grammar-block-out, grammar-sheet-out, utterance-block-out, utterance-sheet-out}
+use Rattle.packing.proofs.Refusals.{LowRefusal, granted, low-refusal, grammar-to-block-low, grammar-to-sheet-low, utterance-to-block-low, utterance-to-sheet-low}
+use Rattle.conversion.specs.Answer.{writtenOf}
+use Rattle.conversion.specs.declared.Written as W
+use Rattle.spireyerba.specs.Code.{lengthCode, writtenCode, SmallWritten}
+
+-- a result of at most 1,283
+data Short : Verdict (List ℕ) → Type 0 where
+  short : {l : List ℕ} → length l ≤ 1283 → Short (accepted l)
+  none : {n : ℕ} → Short (refused n)
+
+fitting-short : {v : Verdict (List ℕ)} (out : List ℕ) → Short v → Short (fitting v out)
+unfolding fitting
+fitting-short out none = none
+fitting-short out (short {l} h) = go (ltb (length out) (length l))
+  where
+    go : (b : Bool) → Short (pick b (refused 43) (accepted l))
+    go true = none
+    go false = short h
+
+then-short : {A : Type 0} (v : Verdict A) (k : A → Verdict (List ℕ)) → ((a : A) → v ≡ accepted a → Short (k a)) → Short (v then k)
+then-short (accepted a) k h = h a refl
+then-short (refused n) k h = none
+
+sheet-short : (g : Grammar) → ValidGrammar g → length (sheetOfGrammar g) ≤ 1283
+unfolding sheetOfGrammar grammarEntries
+sheet-short g v = omega (arith, length-rules (g .symbols) (g .words) (g .rules), v .0 .1 .1 .0 .1)
+
+slots-short : (W : ℕ) (u : Utterance) → ValidUtterance W u → length (sheetOfUtterance W u) ≤ 1283
+unfolding sheetOfUtterance utteranceEntries
+slots-short W u v = omega (arith, length-slots W u (v .1), v .0 .1)
+
+-- what is short, with a low refusal, is a small answer, and its code is the verdict's
+small : {v : Verdict (List ℕ)} → Short v → LowRefusal v → SmallWritten (writtenOf v)
+small (short h) l = omega arith
+small none (low-refusal h) = omega arith
+
+pub code-is : (v : Verdict (List ℕ)) → writtenCode (writtenOf v) ≡ lengthCode v
+code-is (accepted l) = refl
+code-is (refused n) = refl
+
+pub small-grammar-block : (t out : List ℕ) → SmallWritten (writtenOf (fitting (grammarToBlock t) out))
+unfolding grammarToBlock
+small-grammar-block t out =
+    small (fitting-short out (then-short (grammarSheet t) _ (λ g e. short (omega (arith, grammar-length g (grammar-sheet-out t g e .0)))))) (grammar-to-block-low t out)
+
+pub small-grammar-sheet : (s out : List ℕ) → SmallWritten (writtenOf (fitting (grammarToSheet s) out))
+unfolding grammarToSheet
+small-grammar-sheet s out =
+    small (fitting-short out (then-short (grammarBlock s) _ (λ g e. short (sheet-short g (grammar-block-out s g e .0))))) (grammar-to-sheet-low s out)
+
+pub small-utterance-block : (s t out : List ℕ) → SmallWritten (writtenOf (fitting (utteranceToBlock s t) out))
+unfolding utteranceToBlock
+small-utterance-block s t out =
+    small (fitting-short out (then-short (grammarBlock s) _ (λ g e. then-short (utteranceSheet (g .words) t) _ (λ u f.
+    let w = valid-words g (grammar-block-out s g e .0) in
+    short (omega (arith, utterance-length (g .words) (w .0) (w .1) u (utterance-sheet-out (g .words) t u f .0))))))) (utterance-to-block-low s t out)
+
+pub small-utterance-sheet : (s t out : List ℕ) → SmallWritten (writtenOf (fitting (utteranceToSheet s t) out))
+unfolding utteranceToSheet
+small-utterance-sheet s t out =
+    small (fitting-short out (then-short (grammarBlock s) _ (λ g e. then-short (utteranceBlock (g .words) t) _ (λ u f.
+    short (slots-short (g .words) u (utterance-block-out (g .words) t u f .0)))))) (utterance-to-sheet-low s t out)

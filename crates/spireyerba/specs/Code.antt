@@ -1,0 +1,36 @@
+-- The answers of the services as C numbers: 0 or more is the answer, less than 0 is minus the refusal's number.
+-- Assumes nothing.
+use mathlib.Core.Path.{_≡_}
+use mathlib.Core.List.{List, _++_}
+use Prim.Native.Nat.{ℕ, _<_}
+use lib.IntN.{ℤ, pos, negℤ}
+use lib.ListN.{length, drop}
+use Rattle.packing.specs.Meaning.{Grammar}
+use Rattle.packing.specs.Parse.{Verdict, accepted, refused}
+use Rattle.conversion.specs.declared.Written as W
+use Rattle.specimen.specs.declared.Answered as A
+use Rattle.specimen.specs.Specimen.{Says, Answers}
+
+-- a conversion: the length written
+abbrev pub lengthCode : Verdict (List ℕ) → ℤ
+lengthCode (accepted l) = pos (length l)
+lengthCode (refused n) = negℤ (pos n)
+
+abbrev pub writtenCode : W.Written → ℤ
+writtenCode (W.the-variants.Length n) = pos n
+writtenCode (W.the-variants.Refused n) = negℤ (pos n)
+
+-- small enough for a C number
+abbrev pub SmallWritten : W.Written → Type 0
+SmallWritten (W.the-variants.Length n) = n < 2147483648
+SmallWritten (W.the-variants.Refused n) = n < 2147483648
+
+-- the specimen: the length where a string was written, 0 for none
+abbrev pub answerCode : ℕ → A.Answered → ℤ
+answerCode n A.the-variants.Written = pos n
+answerCode n A.the-variants.Nothing = pos 0
+answerCode n (A.the-variants.Refused m) = negℤ (pos m)
+
+-- the answer's code, with what holds of that answer and of the output
+abbrev pub AnswersCode : Verdict Grammar → ℕ → List ℕ → ℤ → List ℕ → Type 0
+AnswersCode v n out code exit = (a : A.Answered) × (code ≡ answerCode n a) × Answers v n out a exit

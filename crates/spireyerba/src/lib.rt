@@ -1,0 +1,87 @@
+// The library for C and Rust (include/spireyerba.h): each exported function is a call of a service, with the answer as one
+// number: 0 or more is the answer, less than 0 is minus the refusal's number.
+use conversion::Written;
+use specimen::Answered;
+ghost use mathlib.Core.Path.{_≡_};
+ghost use Prim.Native.Nat.{_<_};
+ghost use lib.IntN.{pos, negℤ};
+ghost use lib.ListN.{length};
+ghost use Rattle.packing.specs.Conversion.{grammarToBlock, grammarToSheet, utteranceToBlock, utteranceToSheet, fitting, written};
+ghost use Rattle.specimen.specs.Specimen.{asked};
+ghost use Rattle.spireyerba.specs.Code.{lengthCode, writtenCode, SmallWritten, AnswersCode};
+
+// A count as a C number.
+fn count(n: usize) -> i32
+    requires { ⌜ n < 2147483648 ⌝ }
+    ensures { λ r. ⌜ r ≡ pos n ⌝ }
+{
+    n as i32
+}
+
+// A refusal as a C number.
+fn refusal(n: u32) -> i32
+    requires { ⌜ n < 2147483648 ⌝ }
+    ensures { λ r. ⌜ r ≡ negℤ (pos n) ⌝ }
+{
+    0 - (n as i32)
+}
+
+// A conversion's answer as a C number.
+fn written_code(w: Written) -> i32
+    requires { ⌜ SmallWritten w ⌝ }
+    ensures { λ r. ⌜ r ≡ writtenCode w ⌝ }
+{
+    match w {
+        Written::Length(n) => count(n),
+        Written::Refused(n) => refusal(n),
+    }
+}
+
+// The block of a grammar sheet, at the front of the output.
+#[no_mangle]
+pub extern "C" fn spireyerba_grammar_to_block(sheet: &[u32], out: &mut [u8]) -> i32
+    ensures { λ r. ⌜ r ≡ lengthCode (fitting (grammarToBlock (now (sheet .entry))) (now (out .entry))) ⌝ }
+    ensures { λ r. ⌜ now (out .exit) ≡ written (fitting (grammarToBlock (now (sheet .entry))) (now (out .entry))) (now (out .entry)) ⌝ }
+{
+    written_code(conversion::grammar_to_block(sheet, out))
+}
+
+// The sheet of a grammar block.
+#[no_mangle]
+pub extern "C" fn spireyerba_grammar_to_sheet(block: &[u8], out: &mut [u32]) -> i32
+    ensures { λ r. ⌜ r ≡ lengthCode (fitting (grammarToSheet (now (block .entry))) (now (out .entry))) ⌝ }
+    ensures { λ r. ⌜ now (out .exit) ≡ written (fitting (grammarToSheet (now (block .entry))) (now (out .entry))) (now (out .entry)) ⌝ }
+{
+    written_code(conversion::grammar_to_sheet(block, out))
+}
+
+// The block of an utterance sheet under a grammar.
+#[no_mangle]
+pub extern "C" fn spireyerba_utterance_to_block(grammar: &[u8], sheet: &[u32], out: &mut [u8]) -> i32
+    ensures { λ r. ⌜ r ≡ lengthCode (fitting (utteranceToBlock (now (grammar .entry)) (now (sheet .entry))) (now (out .entry))) ⌝ }
+    ensures { λ r. ⌜ now (out .exit) ≡ written (fitting (utteranceToBlock (now (grammar .entry)) (now (sheet .entry))) (now (out .entry))) (now (out .entry)) ⌝ }
+{
+    written_code(conversion::utterance_to_block(grammar, sheet, out))
+}
+
+// The sheet of an utterance block under a grammar.
+#[no_mangle]
+pub extern "C" fn spireyerba_utterance_to_sheet(grammar: &[u8], block: &[u8], out: &mut [u32]) -> i32
+    ensures { λ r. ⌜ r ≡ lengthCode (fitting (utteranceToSheet (now (grammar .entry)) (now (block .entry))) (now (out .entry))) ⌝ }
+    ensures { λ r. ⌜ now (out .exit) ≡ written (fitting (utteranceToSheet (now (grammar .entry)) (now (block .entry))) (now (out .entry))) (now (out .entry)) ⌝ }
+{
+    written_code(conversion::utterance_to_sheet(grammar, block, out))
+}
+
+// Some word string of the wanted length that the grammar derives: the length, or 0 where there is none.
+#[no_mangle]
+pub extern "C" fn spireyerba_specimen(grammar: &[u8], wanted: u32, out: &mut [u8]) -> i32
+    ensures { λ r. ⌜ AnswersCode (asked (now (grammar .entry)) wanted (length (now (out .entry)))) wanted (now (out .entry)) r (now (out .exit)) ⌝ }
+{
+    let answer = specimen::specimen(grammar, wanted, out);
+    match answer {
+        Answered::Written => count(wanted as usize),
+        Answered::Nothing => 0,
+        Answered::Refused(n) => refusal(n),
+    }
+}
