@@ -1,9 +1,10 @@
--- Every answer of a conversion fits a C number: results are at most 1,283 long, and refusals below 64. Assumes nothing.
+-- Every answer fits a C number: results are at most 1,283 long, and refusals below 64. Assumes nothing.
 use mathlib.Core.Bool.{Bool, true, false}
 use mathlib.Core.Path.{_≡_, refl, sym, ap, _∙_, subst}
 use mathlib.Core.List.{List, [], _∷_}
 use Prim.Native.Nat.{ℕ, _+_, _*_, _≤_, _<_}
 use native.Mathlib.Omega.{arith}
+use borrow.Author.Tests.{ltb-false}
 use lib.Dec.{ltb}
 use lib.ListN.{length}
 use Rattle.bits.specs.Bits.{pick}
@@ -17,9 +18,11 @@ use Rattle.packing.specs.Valid.{ValidGrammar, ValidUtterance}
 use Rattle.packing.proofs.Bounds.{length-rules, length-slots}
 use Rattle.packing.proofs.Widths.{grammar-length, utterance-length, valid-words}
 use Rattle.packing.proofs.Whole.{grammar-block-out, grammar-sheet-out, utterance-block-out, utterance-sheet-out}
-use Rattle.packing.proofs.Refusals.{LowRefusal, granted, low-refusal, grammar-to-block-low, grammar-to-sheet-low, utterance-to-block-low, utterance-to-sheet-low}
+use Rattle.packing.proofs.Refusals.{LowRefusal, granted, low-refusal, then-low, choose-low, grammar-block-low, grammar-to-block-low, grammar-to-sheet-low, utterance-to-block-low, utterance-to-sheet-low}
 use Rattle.conversion.specs.Answer.{writtenOf}
 use Rattle.conversion.specs.declared.Written as W
+use Rattle.specimen.specs.declared.Answered as A
+use Rattle.specimen.specs.Specimen.{asked, Answers}
 use Rattle.spireyerba.specs.Code.{lengthCode, writtenCode, SmallWritten}
 
 -- a result of at most 1,283
@@ -79,3 +82,33 @@ unfolding utteranceToSheet
 small-utterance-sheet s t out =
     small (fitting-short out (then-short (grammarBlock s) _ (λ g e. then-short (utteranceBlock (g .words) t) _ (λ u f.
     short (slots-short (g .words) u (utterance-block-out (g .words) t u f .0)))))) (utterance-to-sheet-low s t out)
+
+-- the specimen: an accepted length is at most 24, and a refusal is low
+asked-low : (s : List ℕ) (n out : ℕ) → LowRefusal (asked s n out)
+unfolding asked
+asked-low s n out =
+    then-low (grammar-block-low s) (λ g. choose-low (ltb n 1) (low-refusal (omega arith)) (choose-low (ltb 24 n) (low-refusal (omega arith)) (choose-low (ltb out n) (low-refusal (omega arith)) granted)))
+
+asked-most : (s : List ℕ) (n out : ℕ) (g : Grammar) → asked s n out ≡ accepted g → n ≤ 24
+unfolding asked
+asked-most s n out g e = go (grammarBlock s) (ltb n 1) (ltb 24 n) (ltb out n) refl e
+  where
+    go : (v : Verdict Grammar) (a b c : Bool) → ltb 24 n ≡ b → (v then λ h. pick a (refused 25) (pick b (refused 25) (pick c (refused 26) (accepted h)))) ≡ accepted g → n ≤ 24
+    go (refused m) a b c p q = let z : _≡_ {A = ℕ} 0 1 = cc in absurd (omega arith)
+    go (accepted h) true b c p q = let z : _≡_ {A = ℕ} 0 1 = cc in absurd (omega arith)
+    go (accepted h) false true c p q = let z : _≡_ {A = ℕ} 0 1 = cc in absurd (omega arith)
+    go (accepted h) false false c p q = ltb-false _ _ p
+
+pub written-small : (s : List ℕ) (n size : ℕ) (out exit : List ℕ) → Answers (asked s n size) n out A.the-variants.Written exit → n < 2147483648
+written-small s n size out exit a = go (asked s n size) refl a
+  where
+    go : (v : Verdict Grammar) → asked s n size ≡ v → Answers v n out A.the-variants.Written exit → n < 2147483648
+    go (accepted g) e b = omega (arith, asked-most s n size g e)
+    go (refused m) e b = absurd b
+
+pub refused-small : (s : List ℕ) (n size m : ℕ) (out exit : List ℕ) → Answers (asked s n size) n out (A.the-variants.Refused m) exit → m < 2147483648
+refused-small s n size m out exit a = go (asked s n size) (asked-low s n size) a
+  where
+    go : (v : Verdict Grammar) → LowRefusal v → Answers v n out (A.the-variants.Refused m) exit → m < 2147483648
+    go (accepted g) l b = absurd b
+    go (refused k) (low-refusal l) b = omega (arith, b .0)

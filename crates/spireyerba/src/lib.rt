@@ -57,7 +57,11 @@ pub extern "C" fn spireyerba_grammar_to_sheet(block: &[u8], out: &mut [u32]) -> 
 
 // The block of an utterance sheet under a grammar.
 #[no_mangle]
-pub extern "C" fn spireyerba_utterance_to_block(grammar: &[u8], sheet: &[u32], out: &mut [u8]) -> i32
+pub extern "C" fn spireyerba_utterance_to_block(
+    grammar: &[u8],
+    sheet: &[u32],
+    out: &mut [u8],
+) -> i32
     ensures { λ r. ⌜ r ≡ lengthCode (fitting (utteranceToBlock (now (grammar .entry)) (now (sheet .entry))) (now (out .entry))) ⌝ }
     ensures { λ r. ⌜ now (out .exit) ≡ written (fitting (utteranceToBlock (now (grammar .entry)) (now (sheet .entry))) (now (out .entry))) (now (out .entry)) ⌝ }
 {
@@ -66,7 +70,11 @@ pub extern "C" fn spireyerba_utterance_to_block(grammar: &[u8], sheet: &[u32], o
 
 // The sheet of an utterance block under a grammar.
 #[no_mangle]
-pub extern "C" fn spireyerba_utterance_to_sheet(grammar: &[u8], block: &[u8], out: &mut [u32]) -> i32
+pub extern "C" fn spireyerba_utterance_to_sheet(
+    grammar: &[u8],
+    block: &[u8],
+    out: &mut [u32],
+) -> i32
     ensures { λ r. ⌜ r ≡ lengthCode (fitting (utteranceToSheet (now (grammar .entry)) (now (block .entry))) (now (out .entry))) ⌝ }
     ensures { λ r. ⌜ now (out .exit) ≡ written (fitting (utteranceToSheet (now (grammar .entry)) (now (block .entry))) (now (out .entry))) (now (out .entry)) ⌝ }
 {
