@@ -2,7 +2,7 @@
 use mathlib.Core.Bool.{Bool, true, false}
 use mathlib.Core.List.{List, [], _∷_, _++_}
 use mathlib.Core.Path.{_≡_}
-use Prim.Native.Nat.{ℕ, zero, suc, _+_, _*_, _<_}
+use Prim.Native.Nat.{ℕ, zero, suc, _+_, _-_, _*_, _<_}
 use native.Mathlib.Omega.{arith}
 use lib.Dec.{ltb, leb, eqb}
 use lib.ListN.{length, getD}
@@ -12,12 +12,13 @@ use Rattle.packing.specs.Parse.{Parse, parsed, failed, _⟫_, Verdict, a
 use Rattle.packing.specs.Source.{Source, bytes, numbers, inRange, take}
 use Rattle.packing.specs.Grammar.{ruleWord, nothing, symbol, firstOf, secondOf, ruleFrom, ruleOf, anyAlike, rulesFrom, unfit, grammarFrom, grammarBlock, grammarSheet}
 use Rattle.packing.specs.Utterance.{candidatesFrom, slotFrom, slotsFrom, utteranceFrom, utteranceBlock, utteranceSheet}
+use Rattle.packing.specs.Reading.{walkFrom, readingFrom}
 use Rattle.packing.specs.Conversion.{grammarToBlock, grammarToSheet, utteranceToBlock, utteranceToSheet, fitting}
 use Rattle.packing.specs.declared.Field.{Field}
 use Rattle.packing.specs.declared.Rule as R
 
 -- a refusal on the way, and a refusal at the end, is below 64
-data Low {A : Type 0} : Parse A → Type 0 where
+pub data Low {A : Type 0} : Parse A → Type 0 where
   going : {a : A} {at : ℕ} → Low (parsed a at)
   low : {n : ℕ} → n < 64 → Low (failed n)
 
@@ -116,6 +117,19 @@ module _ (src : Source) (from : LowSource src) where
   utterance-low : (W at : ℕ) → Low (utteranceFrom src W at)
   unfolding utteranceFrom
   utterance-low W at = bind (take-low src at _ from (omega arith, omega arith)) (λ n at. slots-low W n at [])
+
+  walk-low : (R m at : ℕ) (rs : List ℕ) → Low (walkFrom src R m at rs)
+  unfolding walkFrom
+  walk-low R zero at rs = going
+  walk-low R (suc m) at rs = bind (take-low src at _ from (omega arith, omega arith)) (λ r at. walk-low R m at (rs ++ (r ∷ [])))
+
+pub reading-low : (n R : ℕ) (s : List ℕ) → Low (readingFrom n R s)
+unfolding readingFrom
+reading-low n R s =
+    bind (take-low (bytes 31 s) 0 _ (omega arith) (omega arith, omega arith)) (λ kind at.
+    bind (take-low (bytes 31 s) at _ (omega arith) (omega arith, omega arith)) (λ m at.
+    bind (take-low (bytes 31 s) at _ (omega arith) (omega arith, omega arith)) (λ w at.
+    bind (walk-low (bytes 31 s) (omega arith) R (2 * n - 1) at []) (λ rs at. going))))
 
 pub grammar-block-low : (s : List ℕ) → LowRefusal (grammarBlock s)
 unfolding grammarBlock

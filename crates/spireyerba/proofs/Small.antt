@@ -5,11 +5,13 @@ use mathlib.Core.List.{List, [], _∷_}
 use Prim.Native.Nat.{ℕ, _+_, _*_, _≤_, _<_}
 use native.Mathlib.Omega.{arith}
 use borrow.Author.Tests.{ltb-false}
-use lib.Dec.{ltb}
+use lib.Dec.{ltb, eqb}
 use lib.ListN.{length}
-use Rattle.bits.specs.Bits.{pick}
-use Rattle.packing.specs.Meaning.{Grammar, Utterance}
-use Rattle.packing.specs.Parse.{Verdict, accepted, refused, _then_}
+use Rattle.bits.specs.Bits.{pick, ended}
+use mathlib.Core.Option.{Option, some}
+use mathlib.Core.Option as O
+use Rattle.packing.specs.Meaning.{Grammar, Utterance, Reading, edges}
+use Rattle.packing.specs.Parse.{Parse, Verdict, accepted, refused, _then_}
 use Rattle.packing.specs.Source.{values}
 use Rattle.packing.specs.Grammar.{grammarBlock, grammarSheet, grammarEntries, blockOfGrammar, sheetOfGrammar}
 use Rattle.packing.specs.Utterance.{utteranceBlock, utteranceSheet, utteranceEntries, blockOfUtterance, sheetOfUtterance}
@@ -18,12 +20,15 @@ use Rattle.packing.specs.Valid.{ValidGrammar, ValidUtterance}
 use Rattle.packing.proofs.Bounds.{length-rules, length-slots}
 use Rattle.packing.proofs.Widths.{grammar-length, utterance-length, valid-words}
 use Rattle.packing.proofs.Whole.{grammar-block-out, grammar-sheet-out, utterance-block-out, utterance-sheet-out}
-use Rattle.packing.proofs.Refusals.{LowRefusal, granted, low-refusal, then-low, choose-low, grammar-block-low, grammar-to-block-low, grammar-to-sheet-low, utterance-to-block-low, utterance-to-sheet-low}
+use Rattle.packing.proofs.Refusals.{LowRefusal, granted, low-refusal, Low, going, low, then-low, choose-low, grammar-block-low, utterance-block-low, reading-low, grammar-to-block-low, grammar-to-sheet-low, utterance-to-block-low, utterance-to-sheet-low}
 use Rattle.conversion.specs.Answer.{writtenOf}
 use Rattle.conversion.specs.declared.Written as W
+use Rattle.derivation.specs.Derivation.{Tree, weight}
+use Rattle.checker.specs.Check.{check, judged, afterFields, derivationOf, answerOf}
+use Rattle.checker.specs.declared.Checked.the-variants.{Refused}
 use Rattle.specimen.specs.declared.Answered as A
 use Rattle.specimen.specs.Specimen.{asked, Answers}
-use Rattle.spireyerba.specs.Code.{lengthCode, writtenCode, SmallWritten}
+use Rattle.spireyerba.specs.Code.{checkCode, checkedCode, lengthCode, writtenCode, SmallWritten}
 
 -- a result of at most 1,283
 data Short : Verdict (List ℕ) → Type 0 where
@@ -112,3 +117,30 @@ refused-small s n size m out exit a = go (asked s n size) (asked-low s n size) a
     go : (v : Verdict Grammar) → LowRefusal v → Answers v n out (A.the-variants.Refused m) exit → m < 2147483648
     go (accepted g) l b = absurd b
     go (refused k) (low-refusal l) b = omega (arith, b .0)
+
+-- the check: a refusal is low
+judged-low : (g : Grammar) (u : Utterance) (block : List ℕ) (d : Reading) (at : ℕ) (t : Option Tree) → LowRefusal (judged g u block d at t)
+judged-low g u block d at O.none = low-refusal {n = 34} (omega arith)
+judged-low g u block d at (some t) =
+    choose-low (eqb (weight g (edges u) t) (d .weight)) (choose-low (ended block at) granted (low-refusal {n = 36} (omega arith))) (low-refusal {n = 35} (omega arith))
+
+fields-low : (g : Grammar) (u : Utterance) (block : List ℕ) {p : Parse Reading} → Low p → LowRefusal (afterFields g u block p)
+fields-low g u block (low l) = low-refusal l
+fields-low g u block (going {a = d} {at = at}) = judged-low g u block d at (derivationOf g u (d .walk))
+
+check-low : (grammar utterance reading : List ℕ) → LowRefusal (check grammar utterance reading)
+unfolding check
+check-low grammar utterance reading =
+    then-low (grammar-block-low grammar) (λ g. then-low (utterance-block-low (g .words) utterance) (λ u.
+    fields-low g u reading (reading-low (length u) (length (g .rules)) reading)))
+
+pub check-small : (grammar utterance reading : List ℕ) (m : ℕ) → Refused m ≡ answerOf (check grammar utterance reading) → m < 2147483648
+check-small grammar utterance reading m e = go (check grammar utterance reading) (check-low grammar utterance reading) e
+  where
+    go : (v : Verdict Reading) → LowRefusal v → Refused m ≡ answerOf v → m < 2147483648
+    go (accepted d) l p = let z : _≡_ {A = ℕ} 0 1 = cc in absurd (omega arith)
+    go (refused k) (low-refusal l) p = let q : m ≡ k = cc in omega arith
+
+pub check-code : (v : Verdict Reading) → checkedCode (answerOf v) ≡ checkCode v
+check-code (accepted d) = refl
+check-code (refused n) = refl

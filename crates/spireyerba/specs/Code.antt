@@ -5,9 +5,10 @@ use mathlib.Core.List.{List, _++_}
 use Prim.Native.Nat.{ℕ, _<_}
 use lib.IntN.{ℤ, pos, negℤ}
 use lib.ListN.{length, drop}
-use Rattle.packing.specs.Meaning.{Grammar}
+use Rattle.packing.specs.Meaning.{Grammar, Reading}
 use Rattle.packing.specs.Parse.{Verdict, accepted, refused}
 use Rattle.conversion.specs.declared.Written as W
+use Rattle.checker.specs.declared.Checked as C
 use Rattle.specimen.specs.declared.Answered as A
 use Rattle.specimen.specs.Specimen.{Says, Answers}
 
@@ -24,6 +25,15 @@ writtenCode (W.the-variants.Refused n) = negℤ (pos n)
 abbrev pub SmallWritten : W.Written → Type 0
 SmallWritten (W.the-variants.Length n) = n < 2147483648
 SmallWritten (W.the-variants.Refused n) = n < 2147483648
+
+-- the check: 0 for a reading that passes
+abbrev pub checkCode : Verdict Reading → ℤ
+checkCode (accepted d) = pos 0
+checkCode (refused n) = negℤ (pos n)
+
+abbrev pub checkedCode : C.Checked → ℤ
+checkedCode C.the-variants.Passes = pos 0
+checkedCode (C.the-variants.Refused n) = negℤ (pos n)
 
 -- the specimen: the length where a string was written, 0 for none
 abbrev pub answerCode : ℕ → A.Answered → ℤ

@@ -1,5 +1,6 @@
 // The library for C and Rust (include/spireyerba.h): each exported function is a call of a service, with the answer as one
 // number: 0 or more is the answer, less than 0 is minus the refusal's number.
+use checker::Checked;
 use conversion::Written;
 use specimen::Answered;
 ghost use mathlib.Core.Path.{_≡_};
@@ -7,8 +8,9 @@ ghost use Prim.Native.Nat.{_<_};
 ghost use lib.IntN.{pos, negℤ};
 ghost use lib.ListN.{length};
 ghost use Rattle.packing.specs.Conversion.{grammarToBlock, grammarToSheet, utteranceToBlock, utteranceToSheet, fitting, written};
+ghost use Rattle.checker.specs.Check.{check};
 ghost use Rattle.specimen.specs.Specimen.{asked};
-ghost use Rattle.spireyerba.specs.Code.{lengthCode, writtenCode, SmallWritten, AnswersCode};
+ghost use Rattle.spireyerba.specs.Code.{checkCode, lengthCode, writtenCode, SmallWritten, AnswersCode};
 
 // A count as a C number.
 fn count(n: usize) -> i32
@@ -79,6 +81,18 @@ pub extern "C" fn spireyerba_utterance_to_sheet(
     ensures { λ r. ⌜ now (out .exit) ≡ written (fitting (utteranceToSheet (now (grammar .entry)) (now (block .entry))) (now (out .entry))) (now (out .entry)) ⌝ }
 {
     written_code(conversion::utterance_to_sheet(grammar, block, out))
+}
+
+// Whether a reading passes the check: 0 if it does.
+#[no_mangle]
+pub extern "C" fn spireyerba_check(grammar: &[u8], utterance: &[u8], reading: &[u8]) -> i32
+    ensures { λ r. ⌜ r ≡ checkCode (check (now (grammar .entry)) (now (utterance .entry)) (now (reading .entry))) ⌝ }
+{
+    let answer = checker::check(grammar, utterance, reading);
+    match answer {
+        Checked::Passes => 0,
+        Checked::Refused(n) => refusal(n),
+    }
 }
 
 // Some word string of the wanted length that the grammar derives: the length, or 0 where there is none.
