@@ -153,6 +153,50 @@ int32_t spireyerba_utterance_to_sheet(
     const uint8_t *block, size_t block_len,
     uint32_t *out, size_t out_len);
 
+/* Refusals of a reading. */
+enum {
+    SPIREYERBA_READING_END = 31,     /* a field passes the end of the block       */
+    SPIREYERBA_READING_KIND = 32,    /* the block's kind is not 3                 */
+    SPIREYERBA_READING_SLOTS = 33,   /* n is not the utterance's                  */
+    SPIREYERBA_READING_WALK = 34,    /* the rule numbers are not the walk of a derivation */
+    SPIREYERBA_READING_WEIGHT = 35,  /* the weight is not the derivation's        */
+    SPIREYERBA_READING_FILL = 36     /* nonzero fill in the last byte, or further bytes */
+};
+
+/*
+** CHECK. A reading block has the fields kind (4 bits, 3), n (6), weight (24),
+** then the rule number of each of the 2n - 1 nodes of a derivation: a node, its
+** left part, its right part. A rule number has as many bits as R - 1 needs, at
+** least 1. A derivation has symbol 0 as its head and spans all slots; its
+** weight is the sum of its rules' weights and of the costs of its words.
+**
+** Answers 0 if the block is the reading of a derivation of this utterance under
+** this grammar, with its true weight. Refuses with any of GRAMMAR_..., any of
+** UTTERANCE_..., any of READING_.... No slice is changed.
+*/
+int32_t spireyerba_check(
+    const uint8_t *grammar, size_t grammar_len,
+    const uint8_t *utterance, size_t utterance_len,
+    const uint8_t *reading, size_t reading_len);
+
+/* Refusals of the specimen. */
+enum {
+    SPIREYERBA_SPECIMEN_LENGTH = 25, /* the length is not 1 to 24                 */
+    SPIREYERBA_SPECIMEN_OUTPUT = 26  /* the output is shorter than the length     */
+};
+
+/*
+** SPECIMEN. Finds some word string of a wanted length that the grammar derives,
+** and writes it to out, one word number a byte. Answers the length, or 0 if no
+** string of that length is derived; then nothing is written. Which string of
+** several is written is not said.
+** Refuses with any of GRAMMAR_..., then SPECIMEN_LENGTH, SPECIMEN_OUTPUT.
+*/
+int32_t spireyerba_specimen(
+    const uint8_t *grammar, size_t grammar_len,
+    uint32_t length,
+    uint8_t *out, size_t out_len);
+
 #ifdef __cplusplus
 }
 #endif

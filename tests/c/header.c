@@ -14,6 +14,8 @@ static const uint8_t u_block[] = {0x21, 0x08, 0x00, 0x00, 0x80, 0x00, 0x08, 0x00
 
 static uint8_t block[SPIREYERBA_GRAMMAR_BLOCK_MAX];
 static uint32_t sheet[SPIREYERBA_GRAMMAR_SHEET_MAX];
+static const uint8_t reading[] = {0x31, 0x00, 0x00, 0x00, 0xd5, 0x80};
+static const uint8_t specimen[] = {0, 0, 0};
 static int failures;
 
 static void expect(int holds, const char *what) {
@@ -58,6 +60,17 @@ int main(void) {
     expect(answer == -SPIREYERBA_GRAMMAR_KIND && sheet[0] == 0xa5a5a5a5, "an utterance is no grammar");
     answer = spireyerba_grammar_to_block(g_sheet, LENGTH(g_sheet), block, LENGTH(g_block) - 1);
     expect(answer == -SPIREYERBA_OUTPUT_SHORT && block[0] == 0xa5, "an output that is one short is refused");
+
+    answer = spireyerba_check(g_block, LENGTH(g_block), u_block, LENGTH(u_block), reading, LENGTH(reading));
+    expect(answer == 0, "document 01's reading passes the check");
+    answer = spireyerba_check(g_block, LENGTH(g_block), u_block, LENGTH(u_block), reading, LENGTH(reading) - 1);
+    expect(answer == -SPIREYERBA_READING_END, "a reading that is cut is refused");
+
+    fill_outputs();
+    answer = spireyerba_specimen(g_block, LENGTH(g_block), 3, block, LENGTH(block));
+    expect_block(answer, specimen, LENGTH(specimen), "the specimen of G of length 3 is 0 0 0");
+    answer = spireyerba_specimen(g_block, LENGTH(g_block), 25, block, LENGTH(block));
+    expect(answer == -SPIREYERBA_SPECIMEN_LENGTH, "a specimen of length 25 is refused");
 
     return failures != 0;
 }
