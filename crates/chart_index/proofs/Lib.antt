@@ -1,1 +1,5 @@
+-- What the index's law and the proofs of its functions use.
+pub mod Behind
+pub mod Groups
+pub mod Index
 pub mod Members

@@ -1,6 +1,6 @@
 -- By the span's length, which falls: `next_of_span` goes to `advance_pairing` over the same span, and that to `next_of_span` over
 -- the parts. Each promise holds for any fuel of at least that length, so the part's promise is taken at one less.
-use mathlib.Core.Path.{_≡_, refl, sym, ap, _∙_}
+use mathlib.Core.Path.{_≡_, sym, ap, _∙_}
 use mathlib.Core.Logic.{⊎-elim}
 use Prim.Native.Nat.{zero, suc, _+_, _-_, _*_, _/_, _%_, _≤_}
 use native.Mathlib.Omega.{arith}

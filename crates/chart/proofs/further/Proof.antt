@@ -1,5 +1,4 @@
 -- By the test, as in the definition; n is fuel enough for a span of n places.
-use native.Mathlib.Nat.{le-refl}
 use native.Mathlib.Omega.{arith}
 use borrow.Author.Tests.{eq-eqb, ne-eqb}
 use Rattle.chart.specs.Model.{further}

@@ -1,5 +1,4 @@
 -- No product wraps, since a cell is below 2 ^ 33 and the ranks kept are at most 256.
-use mathlib.Core.Path.{refl}
 use native.Mathlib.Omega.{arith}
 use borrow.Author.Tests.{eq-eqb, ne-eqb}
 use Rattle.chart.specs.Model.{entryOf}

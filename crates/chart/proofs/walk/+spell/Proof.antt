@@ -1,7 +1,7 @@
 -- By the span's length, which falls. The promise holds for any fuel of at least that length, so a part's is taken at one less.
-use mathlib.Core.Path.{refl, sym, _∙_}
+use mathlib.Core.Path.{refl, _∙_}
 use mathlib.Core.Path.{refl}
-use Prim.Native.Nat.{zero, suc, _-_, _/_, _%_}
+use Prim.Native.Nat.{zero, suc, _-_, _/_}
 use native.Mathlib.Omega.{arith}
 use denote.Ref.{now}
 use borrow.Author.Needs.{needs}
