@@ -7,7 +7,7 @@ use Prim.Native.Nat.{ℕ, zero, suc, _+_, _-_, _*_, _≤_, _<_}
 use native.Mathlib.Numerals.{add-one}
 use native.Mathlib.Omega.{arith}
 use borrow.Author.Tests.{eq-eqb, ne-eqb}
-use lib.ListN.{length, getD, getElem?, set, take, drop, take-append-drop, length-set, length-map}
+use lib.ListN.{length, getD, getElem?, set, drop, take-append-drop, length-set}
 use lib.Seq.{getD-set-same, getD-set-other}
 use Rattle.packing.specs.declared.Word as W
 use Rattle.packing.specs.Meaning.{sym as symbol, Grammar, Utterance, Candidate, candidate}

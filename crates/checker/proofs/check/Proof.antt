@@ -1,12 +1,10 @@
 -- The array's rules are those of the grammar that was accepted.
-use mathlib.Core.Path.{_≡_, sym, ap, _∙_}
+use mathlib.Core.Path.{_∙_}
 use borrow.Author.Needs.{needs}
 use native.Mathlib.Omega.{arith}
 use Rattle.packing.specs.Grammar.{grammarBlock}
-use Rattle.packing.specs.Flat.{RulesIn}
-use Rattle.packing_grammar.specs.Answer.{InBounds}
 use Rattle.packing_grammar.proofs.Outcome.{accepted-told, refused-told}
-use Rattle.checker.specs.Check.{check, answerOf}
+use Rattle.checker.specs.Check.{check}
 use Rattle.checker.proofs.Arrays.{rules-of}
 use Rattle.checker.proofs.Judged.{under-rules}
 use Rattle.checker.proofs.check.Statement.{statement}

@@ -1,8 +1,7 @@
 -- The numbers read stand in front, so the weight of the derivation that has them is that of the reading's walk.
-use mathlib.Core.Path.{_≡_, sym, ap, _∙_}
+use mathlib.Core.Path.{ap, _∙_}
 use borrow.Author.Needs.{needs}
 use Rattle.packing.specs.Reading.{readingFrom}
-use Rattle.packing_reading.specs.Answer.{Near}
 use Rattle.packing_reading.proofs.Outcome.{parsed-told, failed-told}
 use Rattle.checker.specs.Check.{answerOf}
 use Rattle.checker.specs.Run.{rulesOf, slotsOf}

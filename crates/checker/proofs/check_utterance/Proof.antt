@@ -1,12 +1,11 @@
 -- The array's slots are the utterance that was accepted.
-use mathlib.Core.Path.{_≡_, sym, ap, _∙_}
+use mathlib.Core.Path.{sym, ap, _∙_}
 use mathlib.Core.List.{List}
 use borrow.Author.Needs.{needs}
 use native.Mathlib.Omega.{arith}
 use Rattle.packing.specs.declared.Rule as R
 use Rattle.packing.specs.Utterance.{utteranceBlock}
 use Rattle.packing.specs.Flat.{ruleAt}
-use Rattle.packing_utterance.specs.Answer.{Sized}
 use Rattle.packing_utterance.proofs.Outcome.{accepted-told, refused-told}
 use Rattle.packing_utterance.specs.declared.Slots.{Slots}
 use Rattle.checker.specs.Check.{answerOf}

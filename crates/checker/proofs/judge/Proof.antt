@@ -1,5 +1,5 @@
 -- Each way out is the one that the tests on the weight and on the end of the block choose.
-use mathlib.Core.Path.{_≡_, sym, _∙_}
+use mathlib.Core.Path.{sym, _∙_}
 use borrow.Author.Needs.{needs}
 use borrow.Author.Tests.{eq-eqb, ne-eqb}
 use Rattle.checker.proofs.judge.Statement.{statement}

@@ -1,5 +1,5 @@
 -- Each way out is one of the run's: no part to come, no such rule, another head, a pair rule, a word rule.
-use mathlib.Core.Path.{_≡_, sym, ap, _∙_}
+use mathlib.Core.Path.{sym, ap, _∙_}
 use mathlib.Core.Option.{some}
 use Prim.Native.Nat.{_-_}
 use native.Mathlib.Omega.{arith}

@@ -1,11 +1,10 @@
 -- The slot's cost of the word, if it has one, is what the run takes.
 use mathlib.Core.Path.{_≡_, sym, ap, _∙_}
 use mathlib.Core.Option.{none, some}
-use Prim.Native.Nat.{_<_}
 use native.Mathlib.Omega.{arith}
 use borrow.Author.Needs.{needs}
 use Rattle.derivation.specs.Walk.{costOf, leafStep}
-use Rattle.checker.specs.Run.{slotAt, numberOf, Small}
+use Rattle.checker.specs.Run.{slotAt, numberOf}
 use Rattle.checker.proofs.walk.word_step.Statement.{statement}
 use Rattle.checker.proofs.walk.word_step.Tie as tie
 
