@@ -1,12 +1,12 @@
 -- Every answer fits a C number: results are at most 1,283 long, and refusals below 64. Assumes nothing.
 use mathlib.Core.Bool.{Bool, true, false}
 use mathlib.Core.Path.{_≡_, refl, sym, ap, _∙_, subst}
-use mathlib.Core.List.{List, [], _∷_}
+use mathlib.Core.List.{List, [], _∷_, map}
 use Prim.Native.Nat.{ℕ, _+_, _*_, _≤_, _<_}
 use native.Mathlib.Omega.{arith}
 use borrow.Author.Tests.{ltb-false}
 use lib.Dec.{ltb, eqb}
-use lib.ListN.{length}
+use lib.ListN.{length, length-map, length-take}
 use Rattle.bits.specs.Bits.{pick, ended}
 use mathlib.Core.Option.{Option, some}
 use mathlib.Core.Option as O
@@ -26,9 +26,13 @@ use Rattle.conversion.specs.declared.Written as W
 use Rattle.derivation.specs.Derivation.{Tree, weight}
 use Rattle.checker.specs.Check.{check, judged, afterFields, derivationOf, answerOf}
 use Rattle.checker.specs.declared.Checked.the-variants.{Refused}
+use Rattle.packing.specs.Reading.{blockOfReading}
+use Rattle.derivation.specs.List.{listing}
+use Rattle.listing.specs.Listing as L
+use Rattle.listing.specs.Listing.{list, listed}
 use Rattle.specimen.specs.declared.Answered as A
 use Rattle.specimen.specs.Specimen.{asked, Answers}
-use Rattle.spireyerba.specs.Code.{checkCode, checkedCode, lengthCode, writtenCode, SmallWritten}
+use Rattle.spireyerba.specs.Code.{checkCode, checkedCode, listCode, listedCode, SmallListed, lengthCode, writtenCode, SmallWritten}
 
 -- a result of at most 1,283
 data Short : Verdict (List ℕ) → Type 0 where
@@ -144,3 +148,34 @@ check-small grammar utterance reading m e = go (check grammar utterance reading)
 pub check-code : (v : Verdict Reading) → checkedCode (answerOf v) ≡ checkCode v
 check-code (accepted d) = refl
 check-code (refused n) = refl
+
+-- the listing: at most 256 readings, and a refusal is low
+listing-most : (g : Grammar) (u : Utterance) (N : ℕ) → length (map (blockOfReading (length (g .rules))) (listing g u N)) ≤ N
+unfolding listing
+listing-most g u N = simp (length-map, length-take) (omega arith)
+
+listed-small : (g : Grammar) (u : Utterance) (N work out : ℕ) → SmallListed (L.answerOf (listed g u N work out))
+unfolding listed
+listed-small g u N work out = go (ltb N 1) (ltb 256 N) _ _ _ refl
+  where
+    go : (a b c d e : Bool) → ltb 256 N ≡ b
+        → SmallListed (L.answerOf (pick a (refused 21) (pick b (refused 21) (pick c (refused 22) (pick d (refused 23) (pick e (refused 24) (accepted (map (blockOfReading (length (g .rules))) (listing g u N)))))))))
+    go true b c d e p = omega arith
+    go false true c d e p = omega arith
+    go false false true d e p = omega arith
+    go false false false true e p = omega arith
+    go false false false false true p = omega arith
+    go false false false false false p = omega (arith, listing-most g u N, ltb-false _ _ p)
+
+refusal-small : {A : Type 0} {v : Verdict A} (k : A → Verdict (List (List ℕ))) → LowRefusal v → ((a : A) → SmallListed (L.answerOf (k a))) → SmallListed (L.answerOf (v then k))
+refusal-small k (granted {a}) h = h a
+refusal-small k (low-refusal l) h = omega arith
+
+pub list-small : (grammar utterance : List ℕ) (N work out : ℕ) → SmallListed (L.answerOf (list grammar utterance N work out))
+unfolding list
+list-small grammar utterance N work out =
+    refusal-small _ (grammar-block-low grammar) (λ g. refusal-small _ (utterance-block-low (g .words) utterance) (λ u. listed-small g u N work out))
+
+pub list-code : (v : Verdict (List (List ℕ))) → listedCode (L.answerOf v) ≡ listCode v
+list-code (accepted ls) = refl
+list-code (refused n) = refl

@@ -9,6 +9,7 @@ use Rattle.packing.specs.Meaning.{Grammar, Reading}
 use Rattle.packing.specs.Parse.{Verdict, accepted, refused}
 use Rattle.conversion.specs.declared.Written as W
 use Rattle.checker.specs.declared.Checked as C
+use Rattle.listing.specs.declared.Listed as L
 use Rattle.specimen.specs.declared.Answered as A
 use Rattle.specimen.specs.Specimen.{Says, Answers}
 
@@ -34,6 +35,19 @@ checkCode (refused n) = negℤ (pos n)
 abbrev pub checkedCode : C.Checked → ℤ
 checkedCode C.the-variants.Passes = pos 0
 checkedCode (C.the-variants.Refused n) = negℤ (pos n)
+
+-- the listing: the number of readings found
+abbrev pub listCode : Verdict (List (List ℕ)) → ℤ
+listCode (accepted ls) = pos (length ls)
+listCode (refused n) = negℤ (pos n)
+
+abbrev pub listedCode : L.Listed → ℤ
+listedCode (L.the-variants.Found m) = pos m
+listedCode (L.the-variants.Refused n) = negℤ (pos n)
+
+abbrev pub SmallListed : L.Listed → Type 0
+SmallListed (L.the-variants.Found m) = m < 2147483648
+SmallListed (L.the-variants.Refused n) = n < 2147483648
 
 -- the specimen: the length where a string was written, 0 for none
 abbrev pub answerCode : ℕ → A.Answered → ℤ

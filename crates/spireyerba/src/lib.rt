@@ -2,6 +2,7 @@
 // number: 0 or more is the answer, less than 0 is minus the refusal's number.
 use checker::Checked;
 use conversion::Written;
+use listing::Listed;
 use specimen::Answered;
 ghost use mathlib.Core.Path.{_≡_};
 ghost use Prim.Native.Nat.{_<_};
@@ -9,8 +10,9 @@ ghost use lib.IntN.{pos, negℤ};
 ghost use lib.ListN.{length};
 ghost use Rattle.packing.specs.Conversion.{grammarToBlock, grammarToSheet, utteranceToBlock, utteranceToSheet, fitting, written};
 ghost use Rattle.checker.specs.Check.{check};
+ghost use Rattle.listing.specs.Listing.{list, outputAfter, workAfter};
 ghost use Rattle.specimen.specs.Specimen.{asked};
-ghost use Rattle.spireyerba.specs.Code.{checkCode, lengthCode, writtenCode, SmallWritten, AnswersCode};
+ghost use Rattle.spireyerba.specs.Code.{checkCode, listCode, lengthCode, writtenCode, SmallWritten, AnswersCode};
 
 // A count as a C number.
 fn count(n: usize) -> i32
@@ -81,6 +83,26 @@ pub extern "C" fn spireyerba_utterance_to_sheet(
     ensures { λ r. ⌜ now (out .exit) ≡ written (fitting (utteranceToSheet (now (grammar .entry)) (now (block .entry))) (now (out .entry))) (now (out .entry)) ⌝ }
 {
     written_code(conversion::utterance_to_sheet(grammar, block, out))
+}
+
+// The readings of the least derivations, one after another at the front of the output: their number.
+#[no_mangle]
+pub extern "C" fn spireyerba_listing(
+    grammar: &[u8],
+    utterance: &[u8],
+    wanted: u32,
+    work: &mut [u32],
+    out: &mut [u8],
+) -> i32
+    ensures { λ r. ⌜ r ≡ listCode (list (now (grammar .entry)) (now (utterance .entry)) wanted (length (now (work .entry))) (length (now (out .entry)))) ⌝ }
+    ensures { λ r. ⌜ now (work .exit) ≡ workAfter (list (now (grammar .entry)) (now (utterance .entry)) wanted (length (now (work .entry))) (length (now (out .entry)))) (now (work .entry)) ⌝ }
+    ensures { λ r. ⌜ now (out .exit) ≡ outputAfter (list (now (grammar .entry)) (now (utterance .entry)) wanted (length (now (work .entry))) (length (now (out .entry)))) (now (out .entry)) ⌝ }
+{
+    let answer = listing::listing(grammar, utterance, wanted, work, out);
+    match answer {
+        Listed::Found(m) => count(m),
+        Listed::Refused(n) => refusal(n),
+    }
 }
 
 // Whether a reading passes the check: 0 if it does.
