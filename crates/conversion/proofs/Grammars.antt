@@ -17,7 +17,7 @@ use Rattle.packing.proofs.Flat.{rule-at}
 use Rattle.packing_grammar.specs.Answer.{sizes, answerOf}
 use Rattle.packing_grammar.specs.declared.Sizes.{Sizes}
 use Rattle.packing_grammar.specs.declared.GrammarRead.the-variants.{Grammar, Refused}
-use Rattle.conversion.specs.Arrays.{rulesAt, grammarFields, blockOf}
+use Rattle.packing_writing.specs.Arrays.{rulesAt, grammarFields, blockOf}
 
 -- rules that stand in an array, one by one
 all-rules : (rs : List R.Rule) (l : List ℕ) (k : ℕ) → ((r : ℕ) → r < length rs → getElem? rs r ≡ some (ruleAt l (k + r))) → rulesAt l k (length rs) ≡ rs

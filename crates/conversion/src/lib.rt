@@ -1,15 +1,14 @@
 // The four conversions between sheets and blocks.
-mod grammar_block;
-mod sheets;
-mod utterance_block;
-
-use grammar_block::write_grammar;
 use packing_grammar::GrammarRead;
 use packing_utterance::UtteranceRead;
-use sheets::write_sheet;
-use utterance_block::write_utterance;
+use packing_writing::grammar_block::grammar_length;
+use packing_writing::grammar_block::write_grammar;
+use packing_writing::sheets::write_sheet;
+use packing_writing::utterance_block::utterance_length;
+use packing_writing::utterance_block::write_utterance;
 ghost use mathlib.Core.Path.{_≡_};
 ghost use Prim.Native.Nat.{_≤_};
+ghost use lib.Dec.{ltb};
 ghost use Rattle.packing.specs.Conversion.{grammarToBlock, grammarToSheet, utteranceToBlock, utteranceToSheet, fitting, written};
 ghost use Rattle.conversion.specs.Answer.{writtenOf, Writes};
 ghost use Rattle.conversion.specs.Under.{blockUnder, sheetUnder};
@@ -18,6 +17,13 @@ ghost use Rattle.conversion.specs.Under.{blockUnder, sheetUnder};
 pub enum Written {
     Length(usize),
     Refused(u32),
+}
+
+// Whether there is no room for a result of that length: refusal 43.
+fn too_short(room: usize, length: usize) -> bool
+    ensures { λ r. ⌜ r ≡ ltb room length ⌝ }
+{
+    room < length
 }
 
 // The block of a grammar sheet.
@@ -29,7 +35,13 @@ pub fn grammar_to_block(sheet: &[u32], out: &mut [u8]) -> Written
     match packing_grammar::read_sheet(sheet, &mut rules) {
         GrammarRead::Refused(n) => Written::Refused(n),
         GrammarRead::Grammar(z) => {
-            write_grammar(out, z.symbols, z.words, z.rules as usize, &rules)
+            let count = z.rules as usize;
+            let length = grammar_length(z.symbols, z.words, count, &rules);
+            if too_short(out.len(), length) {
+                return Written::Refused(43);
+            }
+            write_grammar(out, z.symbols, z.words, count, &rules);
+            Written::Length(length)
         }
     }
 }
@@ -44,7 +56,12 @@ pub fn grammar_to_sheet(block: &[u8], out: &mut [u32]) -> Written
         GrammarRead::Refused(n) => Written::Refused(n),
         GrammarRead::Grammar(z) => {
             let head = [z.symbols, z.words, z.rules];
-            write_sheet(out, &head, &rules, 5 * z.rules as usize)
+            let numbers = 5 * z.rules as usize;
+            if too_short(out.len(), 3 + numbers) {
+                return Written::Refused(43);
+            }
+            write_sheet(out, &head, &rules, numbers);
+            Written::Length(3 + numbers)
         }
     }
 }
@@ -57,7 +74,14 @@ fn sheet_to_block(words: u32, sheet: &[u32], out: &mut [u8]) -> Written
     let mut slots = [0u32; 360];
     match packing_utterance::read_sheet(sheet, words, &mut slots) {
         UtteranceRead::Refused(n) => Written::Refused(n),
-        UtteranceRead::Utterance(u) => write_utterance(out, words, u.count, u.numbers, &slots),
+        UtteranceRead::Utterance(u) => {
+            let length = utterance_length(words, u.count, u.numbers);
+            if too_short(out.len(), length) {
+                return Written::Refused(43);
+            }
+            write_utterance(out, words, u.count, &slots);
+            Written::Length(length)
+        }
     }
 }
 
@@ -71,7 +95,11 @@ fn block_to_sheet(words: u32, block: &[u8], out: &mut [u32]) -> Written
         UtteranceRead::Refused(n) => Written::Refused(n),
         UtteranceRead::Utterance(u) => {
             let head = [u.count as u32];
-            write_sheet(out, &head, &slots, u.numbers)
+            if too_short(out.len(), 1 + u.numbers) {
+                return Written::Refused(43);
+            }
+            write_sheet(out, &head, &slots, u.numbers);
+            Written::Length(1 + u.numbers)
         }
     }
 }

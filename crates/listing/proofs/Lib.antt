@@ -2,4 +2,6 @@ pub mod Sizes
 pub mod Joined
 pub mod Accepted
 pub mod Blocks
+pub mod Written
+pub mod Outcome
 pub mod Demand3

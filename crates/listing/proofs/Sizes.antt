@@ -1,17 +1,20 @@
 -- The sizes that the listing computes with are small, and what is short decides between a refusal and acceptance.
 use mathlib.Core.Path.{_≡_, refl}
 use mathlib.Core.Bool.{Bool, true, false}
-use Prim.Native.Nat.{ℕ, _+_, _-_, _*_, _/_, _≤_, _<_}
+use mathlib.Core.List.{List}
+use Prim.Native.Nat.{ℕ, zero, suc, _+_, _-_, _*_, _/_, _≤_, _<_}
 use native.Mathlib.Nat.{mul-le-mul, mul-assoc}
 use native.Mathlib.Omega.{arith}
 use lib.Dec.{ltb}
-use lib.ListN.{length}
+use lib.ListN.{length, length-append}
 use borrow.Author.Tests.{ltb-false}
 use Rattle.bits.specs.Bits.{pick}
 use Rattle.bits.specs.Width.{widthOf}
 use Rattle.packing.specs.Meaning.{Grammar, Utterance}
 use Rattle.packing.specs.Parse.{refused}
 use Rattle.packing.proofs.Widths.{byte-width}
+use Rattle.packing_utterance.specs.Edges.{candidatesAt, slotsEdges, edgesIn}
+use Rattle.packing_utterance.proofs.Edges.{length-candidate-edges}
 use Rattle.listing.specs.Listing.{tableSize, readingLength, listed}
 use Rattle.listing.specs.Model.{firstOf, shortage}
 
@@ -71,3 +74,12 @@ pub short : (g : Grammar) (u : Utterance) (N work out : ℕ) → (shortage (g .s
 unfolding shortage listed
 short g u N work out = picks refused (ltb N 1) (ltb 256 N) (ltb work (tableSize (g .symbols) (length u) N))
     (ltb out (N * readingLength (length u) (length (g .rules)))) _
+
+-- seven edges a slot at most
+slots-few : (l : List ℕ) (n i p : ℕ) → length (slotsEdges l n i p) ≤ 7 * n
+unfolding slotsEdges
+slots-few l zero i p = omega arith
+slots-few l (suc n) i p = rw (length-append, length-candidate-edges) (omega (arith, slots-few l n (suc i) (p + 1 + 2 * candidatesAt l p)))
+
+pub edges-few : (slots : List ℕ) {n : ℕ} → n ≤ 24 → length (edgesIn slots n) ≤ 168
+edges-few slots {n} h = omega (arith, slots-few slots n 0 0)

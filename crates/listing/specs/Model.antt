@@ -1,18 +1,26 @@
 -- The parts of the listing's code as functions. Nobody need believe this page: the theorems of proofs/ join it to specs/Listing.
+use mathlib.Core.Path.{_≡_}
 use mathlib.Core.Bool.{Bool}
 use mathlib.Core.List.{List, [], _++_}
 use Prim.Native.Nat.{ℕ, _-_, _*_}
 use lib.Dec.{ltb}
-use lib.ListN.{replicate}
+use lib.ListN.{length, drop, replicate}
 use Rattle.bits.specs.Bits.{pick}
-use Rattle.packing.specs.Meaning.{sym, Reading}
+use Rattle.packing.specs.Meaning.{sym, Grammar, Utterance, Reading}
+use Rattle.packing.specs.Parse.{_then_}
+use Rattle.packing.specs.Flat.{Begins, ruleNumbers, slotNumbers}
 use Rattle.packing.specs.Loop.{iter}
 use Rattle.packing.specs.Store.{storeAll}
+use Rattle.packing.specs.Utterance.{utteranceBlock}
 use Rattle.packing.specs.Reading.{blockOfReading}
+use Rattle.packing.specs.Valid.{ValidGrammar, ValidUtterance}
+use Rattle.packing_grammar.specs.Answer.{sizes}
+use Rattle.packing_grammar.specs.declared.Sizes.{Sizes}
 use Rattle.packing_reading.specs.Answer.{readingOf}
 use Rattle.chart.specs.declared.Dims.{Dims}
-use Rattle.chart.specs.Model.{cellOf, weightAt, spelled}
-use Rattle.listing.specs.Listing.{tableSize, readingLength}
+use Rattle.chart.specs.Model.{cellOf, weightAt, listOf, foundOf, spelled}
+use Rattle.listing.specs.Listing.{tableSize, readingLength, listed, Promised}
+use Rattle.listing.specs.declared.Listed.{Listed}
 
 -- the refusal of the first test that holds: none asked for, too many, the table short, the output short; 0 where none holds
 abbrev pub firstOf : (none many table output : Bool) → ℕ
@@ -27,6 +35,30 @@ unfoldable pub readingAt : List ℕ → List ℕ → Dims → ℕ → ℕ → Re
 readingAt t rules d n x =
     readingOf n (weightAt t d (cellOf d (sym 0) 0 n) x - 1) (storeAll (replicate 48 0) 0 (spelled t rules d n (sym 0) 0 n x))
 
--- the blocks of the ranks below m, one after another
+-- its block, and the blocks of the ranks below m, one after another
+abbrev pub blockAt : List ℕ → List ℕ → Dims → ℕ → ℕ → ℕ → List ℕ
+blockAt t rules d n R x = blockOfReading R (readingAt t rules d n x)
+
 unfoldable pub blocksAt : List ℕ → List ℕ → Dims → ℕ → ℕ → ℕ → List ℕ
-blocksAt t rules d n R m = iter (λ l x. l ++ blockOfReading R (readingAt t rules d n x)) [] m
+blocksAt t rules d n R m = iter (λ l x. l ++ blockAt t rules d n R x) [] m
+
+-- what is promised where the arrays, their index and the layout are given: t is the table that the chart makes of zeros, and
+-- the ranks that it has found are written
+pub record Filled (rules : List ℕ) (R : ℕ) (edges index : List ℕ) (d : Dims) (n : ℕ) (work out : List ℕ) (r : ℕ) (work′ out′ : List ℕ)
+    : Type 0 where
+  pub table : List ℕ
+  pub made : table ≡ listOf rules edges index d n (replicate (length work) 0)
+  pub number : r ≡ foundOf table d (cellOf d (sym 0) 0 n)
+  pub blocks : out′ ≡ blocksAt table rules d n R r ++ drop (r * readingLength n R) out
+  pub zeros : work′ ≡ replicate (length work) 0
+
+-- what is promised where the slots of an utterance are in an array, and where the rules of a grammar are
+abbrev pub UtteranceListed : (rules : List ℕ) → Sizes → (slots : List ℕ) (n N : ℕ) (work out : List ℕ) → Listed → (work′ out′ : List ℕ) → Type 0
+UtteranceListed rules z slots n N work out r work′ out′ =
+    (g : Grammar) (u : Utterance) → ValidGrammar g → ValidUtterance (g .words) u → z ≡ sizes g → n ≡ length u → Begins (ruleNumbers g) rules
+    → Begins (slotNumbers (g .words) u) slots → Promised (listed g u N (length work) (length out)) work out r work′ out′
+
+abbrev pub GrammarListed : (rules : List ℕ) → Sizes → (utterance : List ℕ) (N : ℕ) (work out : List ℕ) → Listed → (work′ out′ : List ℕ) → Type 0
+GrammarListed rules z utterance N work out r work′ out′ =
+    (g : Grammar) → ValidGrammar g → z ≡ sizes g → Begins (ruleNumbers g) rules
+    → Promised (utteranceBlock (g .words) utterance then λ u. listed g u N (length work) (length out)) work out r work′ out′

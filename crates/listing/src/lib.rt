@@ -1,7 +1,20 @@
 // The listing of the N least readings.
+use chart::Dims;
+use chart::table::cell_of;
+use chart::table::weight_at;
+use chart::table::zero;
+use packing::Sym;
+use packing_grammar::GrammarRead;
+use packing_grammar::Sizes;
+use packing_utterance::UtteranceRead;
 ghost use mathlib.Core.Path.{_≡_};
-ghost use Prim.Native.Nat.{_+_, _*_, _/_, _≤_};
-ghost use Rattle.listing.specs.Model.{shortage};
+ghost use mathlib.Core.List.{_++_};
+ghost use Prim.Native.Nat.{_+_, _-_, _*_, _/_, _≤_, _<_};
+ghost use lib.ListN.{length, drop};
+ghost use Rattle.packing_grammar.specs.Answer.{Bounded};
+ghost use Rattle.chart.specs.Model.{Small};
+ghost use Rattle.listing.specs.Listing.{readingLength, list, Promised};
+ghost use Rattle.listing.specs.Model.{shortage, blockAt, blocksAt, Filled, UtteranceListed, GrammarListed};
 
 // What the listing answers: the number found.
 pub enum Listed {
@@ -36,4 +49,137 @@ fn shortage(symbols: usize, rules: usize, n: usize, wanted: u32, work: usize, ou
         return 23;
     }
     0
+}
+
+// The weight of a tree from its weight plus 1.
+fn less_one(x: usize) -> u32
+    requires { ⌜ x < 4294967296 ⌝ }
+    ensures { λ r. ⌜ r ≡ x - 1 ⌝ }
+{
+    if x == 0 { 0 } else { (x - 1) as u32 }
+}
+
+// The reading of rank x of the whole span, in front of what stands in `out` beyond it.
+fn write_rank(t: &[u32], rules: &[u32], count: usize, d: Dims, n: usize, x: usize, out: &mut [u8])
+    requires { ⌜ (Small d 0 n) × (n ≤ 24) × (1 ≤ count) × (count ≤ 256) × (x < d .cap) × (readingLength n count ≤ length (now out)) ⌝ }
+    ensures { λ _. ⌜ now (out .exit) ≡ blockAt (now (t .entry)) (now (rules .entry)) d n count x ++ drop (readingLength n count) (now (out .entry)) ⌝ }
+{
+    let start = Sym(0);
+    let mut walk = [0u32; 48];
+    chart::walk::spell(t, rules, d, start, 0, n, x, &mut walk, 0);
+    let stored = weight_at(t, d, cell_of(d, start, 0, n), x);
+    packing_reading::write_reading(out, n, count, less_one(stored), &walk);
+}
+
+// The readings of the first m ranks, one after another.
+fn write_readings(
+    t: &[u32],
+    rules: &[u32],
+    count: usize,
+    d: Dims,
+    n: usize,
+    m: usize,
+    out: &mut [u8],
+)
+    requires { ⌜ (Small d 0 n) × (n ≤ 24) × (1 ≤ count) × (count ≤ 256) × (m ≤ d .cap) × (m * readingLength n count ≤ length (now out)) ⌝ }
+    ensures { λ _. ⌜ now (out .exit) ≡ blocksAt (now (t .entry)) (now (rules .entry)) d n count m ++ drop (m * readingLength n count) (now (out .entry)) ⌝ }
+{
+    let size = packing_reading::reading_length(n, count);
+    for x in 0..m {
+        let at = x * size;
+        write_rank(t, rules, count, d, n, x, &mut out[at..]);
+    }
+}
+
+// Finds the readings and writes them. The work table is all zeros afterwards.
+fn fill(
+    rules: &[u32],
+    count: usize,
+    edges: &[u32],
+    index: &[u32],
+    d: Dims,
+    n: usize,
+    work: &mut [u32],
+    out: &mut [u8],
+) -> usize
+    requires { ⌜ (Small d 0 n) × (n ≤ 24) × (1 ≤ count) × (count ≤ 256) × (d .cap * readingLength n count ≤ length (now out)) ⌝ }
+    ensures { λ r. ⌜ Filled (now (rules .entry)) count (now (edges .entry)) (now (index .entry)) d n (now (work .entry)) (now (out .entry)) r (now (work .exit)) (now (out .exit)) ⌝ }
+{
+    zero(work);
+    chart::list(work, rules, edges, index, d, n);
+    let m = chart::found(&work[..], d, cell_of(d, Sym(0), 0, n));
+    write_readings(&work[..], rules, count, d, n, m, out);
+    zero(work);
+    m
+}
+
+// The listing of an accepted utterance under an accepted grammar.
+fn list_utterance(
+    rules: &[u32],
+    sizes: Sizes,
+    slots: &[u32],
+    n: usize,
+    wanted: u32,
+    work: &mut [u32],
+    out: &mut [u8],
+) -> Listed
+    requires { ⌜ (Bounded sizes) × (1 ≤ n) × (n ≤ 24) ⌝ }
+    ensures { λ r. ⌜ UtteranceListed (now (rules .entry)) sizes (now (slots .entry)) n wanted (now (work .entry)) (now (out .entry)) r (now (work .exit)) (now (out .exit)) ⌝ }
+{
+    let symbols = sizes.symbols as usize;
+    let count = sizes.rules as usize;
+    let refusal = shortage(symbols, count, n, wanted, work.len(), out.len());
+    if refusal != 0 {
+        return Listed::Refused(refusal);
+    }
+    let mut edges = [0u32; 672];
+    let edge_count = packing_utterance::edges_of(slots, n, &mut edges);
+    let mut index = [0u32; 1024];
+    chart_index::make_index(rules, count, symbols, &edges, edge_count, n, &mut index);
+    let d = Dims {
+        symbols: symbols,
+        cap: wanted as usize,
+        cells: cells_of(symbols, n),
+    };
+    Listed::Found(fill(rules, count, &edges, &index, d, n, work, out))
+}
+
+// The listing of an utterance block under an accepted grammar.
+fn list_grammar(
+    rules: &[u32],
+    sizes: Sizes,
+    utterance: &[u8],
+    wanted: u32,
+    work: &mut [u32],
+    out: &mut [u8],
+) -> Listed
+    requires { ⌜ Bounded sizes ⌝ }
+    ensures { λ r. ⌜ GrammarListed (now (rules .entry)) sizes (now (utterance .entry)) wanted (now (work .entry)) (now (out .entry)) r (now (work .exit)) (now (out .exit)) ⌝ }
+{
+    let mut slots = [0u32; 360];
+    match packing_utterance::read_block(utterance, sizes.words, &mut slots) {
+        UtteranceRead::Refused(n) => Listed::Refused(n),
+        UtteranceRead::Utterance(found) => {
+            list_utterance(rules, sizes, &slots, found.count, wanted, work, out)
+        }
+    }
+}
+
+// The N least readings of the utterance under the grammar, one after another into `out`, with a work table that is all
+// zeros afterwards.
+pub fn listing(
+    grammar: &[u8],
+    utterance: &[u8],
+    wanted: u32,
+    work: &mut [u32],
+    out: &mut [u8],
+) -> Listed
+    ensures { λ r. ⌜ Promised (list (now (grammar .entry)) (now (utterance .entry)) wanted (length (now (work .entry))) (length (now (out .entry))))
+        (now (work .entry)) (now (out .entry)) r (now (work .exit)) (now (out .exit)) ⌝ }
+{
+    let mut rules = [0u32; 1280];
+    match packing_grammar::read_block(grammar, &mut rules) {
+        GrammarRead::Refused(n) => Listed::Refused(n),
+        GrammarRead::Grammar(sizes) => { list_grammar(&rules, sizes, utterance, wanted, work, out) }
+    }
 }

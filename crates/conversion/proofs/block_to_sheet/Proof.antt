@@ -1,10 +1,15 @@
--- What the reader answers tells what is to be written, and the writer writes it.
+-- What the reader answers tells what is to be written, and the writer writes it where there is room.
 use mathlib.Core.Path.{sym, _∙_}
+use mathlib.Core.List.{[], _∷_, _++_}
+use Prim.Native.Nat.{_+_}
 use native.Mathlib.Omega.{arith}
 use borrow.Author.Needs.{needs}
+use borrow.Author.Tests.{ltb-false}
+use lib.ListN.{length, take}
 use Rattle.packing.specs.Parse.{accepted}
 use Rattle.packing.specs.Utterance.{utteranceBlock, sheetOfUtterance}
-use Rattle.conversion.proofs.Fit.{handed-up}
+use Rattle.packing_writing.proofs.Copied.{length-two}
+use Rattle.conversion.proofs.Fit.{handed-up, no-room, room}
 use Rattle.conversion.proofs.Utterances.{refusal-told, sheet-told}
 use Rattle.conversion.proofs.block_to_sheet.Statement.{statement}
 use Rattle.conversion.proofs.block_to_sheet.Tie as tie
@@ -26,6 +31,27 @@ cast-t12 c =
     let at-read-block = c .before .before .before .before .before in
     omega (arith, rw (c .before .before .u .given .1) at (at-read-block .read-block .ensures .2))
 
+add-too-short : tie.Need-add-too-short
+add-too-short c =
+    let at-read-block = c .before .before .before .before .before .before in
+    omega (arith, rw (c .before .before .before .u .given .1) at (at-read-block .read-block .ensures .2))
+
+too-short-requires : tie.Need-too-short-requires
+too-short-requires c κs = search needs
+
+returns : tie.Need-returns
+returns c =
+    let at-u = c .before .before .before .before .before in
+    let at-read-block = at-u .before .before .before in
+    let at-start = at-read-block .before .before .before .before in
+    let a = at-start .args in
+    let u = at-u .u .given .0 .0 in
+    let l = at-read-block .read-block .last .1 .1 .0 in
+    let e = sheet-told (a .words) (utteranceBlock (a .words) (a .block .now)) (sym (at-read-block .read-block .ensures .0) ∙ at-u .u .given .1) l (at-read-block .read-block .ensures .1) in
+    let b = rw (at-u .u .given .1) at (at-read-block .read-block .ensures .2) in
+    let n = length-two (a .out .now) (u .count ∷ []) l (u .numbers) (omega arith) in
+    no-room (a .out .now) ((u .count ∷ []) ++ take (u .numbers) l) e n (c .before .too-short .ensures) (c .if1 .taken)
+
 slice-aggregate-write-sheet : tie.Need-slice-aggregate-write-sheet
 slice-aggregate-write-sheet c = search needs
 
@@ -34,12 +60,21 @@ slice-aggregate-write-sheet-2 c = search needs
 
 write-sheet-requires : tie.Need-write-sheet-requires
 write-sheet-requires c κs =
-    let at-u = c .before .before .before .before .before in
+    let at-too-short = c .before .before .before .before in
+    let at-u = at-too-short .before .before .before .before in
+    let at-read-block = at-u .before .before .before in
+    let at-start = at-read-block .before .before .before .before in
+    let a = at-start .args in
+    omega (arith, rw (at-u .u .given .1) at (at-read-block .read-block .ensures .2), ltb-false (length (a .out .now)) (1 + at-u .u .given .0 .0 .numbers) (sym (at-too-short .too-short .ensures) ∙ c .before .before .before .if1 .left))
+
+add-t14 : tie.Need-add-t14
+add-t14 c =
+    let at-u = c .before .before .before .before .before .before .before .before .before .before .before .before in
     let at-read-block = at-u .before .before .before in
     omega (arith, rw (at-u .u .given .1) at (at-read-block .read-block .ensures .2))
 
-returns : tie.Need-returns
-returns c =
+returns-2 : tie.Need-returns-2
+returns-2 c =
     let at-read-block = c .before .before .before .before in
     let at-start = at-read-block .before .before .before .before in
     let a = at-start .args in
@@ -48,13 +83,20 @@ returns c =
 same-length : tie.Need-same-length
 same-length c = search needs
 
-returns-2 : tie.Need-returns-2
-returns-2 c =
-    let at-u = c .before .before .before .before .before .before .before .before in
+returns-3 : tie.Need-returns-3
+returns-3 c =
+    let at-if1 = c .before .before .before .before .before .before .before in
+    let at-too-short = at-if1 .before in
+    let at-u = at-too-short .before .before .before .before in
     let at-read-block = at-u .before .before .before in
     let at-start = at-read-block .before .before .before .before in
     let a = at-start .args in
-    rw (sheet-told (a .words) (utteranceBlock (a .words) (a .block .now)) (sym (at-read-block .read-block .ensures .0) ∙ at-u .u .given .1) _ (at-read-block .read-block .ensures .1)) (c .before .before .write-sheet .ensures)
+    let u = at-u .u .given .0 .0 in
+    let l = at-read-block .read-block .last .1 .1 .0 in
+    let e = sheet-told (a .words) (utteranceBlock (a .words) (a .block .now)) (sym (at-read-block .read-block .ensures .0) ∙ at-u .u .given .1) l (at-read-block .read-block .ensures .1) in
+    let b = rw (at-u .u .given .1) at (at-read-block .read-block .ensures .2) in
+    let n = length-two (a .out .now) (u .count ∷ []) l (u .numbers) (omega arith) in
+    room (a .out .now) ((u .count ∷ []) ++ take (u .numbers) l) e n (at-too-short .too-short .ensures) (at-if1 .if1 .left) (c .before .before .before .write-sheet .ensures)
 
 pub block-to-sheet-spec : {M : Type 1} → statement M
 block-to-sheet-spec =
@@ -65,9 +107,13 @@ block-to-sheet-spec =
     enum-known-n
     enum-known-u
     cast-t12
+    add-too-short
+    too-short-requires
+    returns
     slice-aggregate-write-sheet
     slice-aggregate-write-sheet-2
     write-sheet-requires
-    returns
+    add-t14
+    returns-2
     same-length
-    returns-2)
+    returns-3)

@@ -1,0 +1,106 @@
+-- What each way out of the listing says of the definition: a refusal changes nothing, and what is written from the chart's table
+-- is what is due.
+use mathlib.Core.Path.{_≡_, refl, sym, ap, _∙_}
+use mathlib.Core.List.{List, _++_}
+use Prim.Native.Nat.{ℕ, _+_, _*_, _/_, _≤_, _<_}
+use native.Mathlib.Omega.{arith}
+use lib.ListN.{length, drop}
+use Rattle.packing.specs.Meaning.{Grammar, Utterance, edges}
+use Rattle.packing.specs.Parse.{Verdict, accepted, refused}
+use Rattle.packing.specs.Flat.{Begins, ruleNumbers, slotNumbers, edgeNumbers}
+use Rattle.packing.specs.Valid.{ValidGrammar, ValidUtterance}
+use Rattle.packing.specs.Grammar.{grammarBlock}
+use Rattle.packing.specs.Utterance.{utteranceBlock}
+use Rattle.packing.proofs.Whole.{grammar-block-out, utterance-block-out}
+use Rattle.packing_grammar.specs.Answer.{sizes}
+use Rattle.packing_grammar.specs.declared.Sizes.{Sizes}
+use Rattle.packing_utterance.specs.Edges.{edgesIn}
+use Rattle.packing_utterance.proofs.Edges.{edges-in}
+use Rattle.derivation.proofs.Ranges.{valid-rules, valid-sizes, valid-slots}
+use Rattle.chart.specs.Model.{Indexed}
+use Rattle.chart.proofs.Accepted.{Holds, dims, chart-holds}
+use Rattle.chart_index.specs.Index.{indexOf}
+use Rattle.chart_index.proofs.Index.{indexed}
+use Rattle.listing.specs.Listing.{tableSize, readingLength, joined, listed, list, Promised}
+use Rattle.listing.specs.Model.{shortage, blocksAt, Filled, UtteranceListed, GrammarListed}
+use Rattle.listing.specs.declared.Listed.{Listed}
+use Rattle.listing.specs.declared.Listed.the-variants.{Found, Refused}
+use Rattle.listing.proofs.Sizes.{Met, all-met, short, edges-few}
+use Rattle.listing.proofs.Joined.{length-joined}
+use Rattle.listing.proofs.Accepted.{blocks, sized-blocks, listing-accepts}
+use Rattle.listing.proofs.Blocks.{count-found, blocks-written}
+
+-- the table holds the N least readings
+module _ (g : Grammar) (u : Utterance) (okg : ValidGrammar g) (oku : ValidUtterance (g .words) u) (N : ℕ) (work out : List ℕ)
+    (met : Met (g .symbols) (length (g .rules)) (length u) N (length work) (length out)) where
+  readings-due : (rules array index : List ℕ) (m : ℕ) (work′ out′ : List ℕ) → Begins (ruleNumbers g) rules → Begins (edgeNumbers (edges u)) array
+      → Indexed rules array index (g .symbols) (length (g .rules)) (length (edges u)) (length u)
+      → Filled rules (length (g .rules)) array index (dims g u N) (length u) work out m work′ out′
+      → Promised (listed g u N (length work) (length out)) work out (Found m) work′ out′
+  unfolding tableSize
+  readings-due rules array index m work′ out′ begun begun′ indexed filled =
+      let R = length (g .rules) in
+      let ls = blocks g u N in
+      let made = chart-holds g u N okg oku (met .positive) (met .few) begun begun′ indexed (length work) (met .table) in
+      let holds : Holds g u N rules (filled .table) m = rw (filled .number, filled .made) made in
+      let count = count-found g u oku N rules (filled .table) m holds in
+      let size : length (joined ls) ≡ m * readingLength (length u) R =
+      length-joined (readingLength (length u) R) ls (sized-blocks g u N) ∙ ap (λ (k : ℕ). k * readingLength (length u) R) count in
+      rw (listing-accepts g u N okg oku (length work) (length out) (met .positive) (met .few) (met .table) (met .room)) (
+        ap Found (sym count),
+        filled .zeros,
+        filled .blocks ∙ rw (blocks-written g u oku N rules (filled .table) m holds, size),
+      )
+
+-- the ways out where an accepted utterance is in an array
+module _ (rules : List ℕ) (z : Sizes) (slots : List ℕ) (n N : ℕ) (work out : List ℕ) where
+  pub utterance-refused : {x : ℕ} → x ≡ shortage (z .symbols) (z .rules) n N (length work) (length out) → (x ≡ 0 → ⊥)
+      → UtteranceListed rules z slots n N work out (Refused x) work out
+  utterance-refused e short-of g u okg oku ez en begun begun′ =
+      let is = rw (ez, en) at e in
+      rw (short g u N (length work) (length out) (λ none. short-of (is ∙ none)), is) (refl, refl, refl)
+
+  pub utterance-found : (array index₀ : List ℕ) {index : List ℕ} {count cells m : ℕ} {work′ out′ : List ℕ}
+      → shortage (z .symbols) (z .rules) n N (length work) (length out) ≡ 0 → cells ≡ z .symbols * (n * (n + 1) / 2)
+      → count ≡ length (edgesIn slots n) → Begins (edgeNumbers (edgesIn slots n)) array
+      → 1024 ≤ length index₀ → index ≡ indexOf rules (z .rules) (z .symbols) array count n index₀
+      → Filled rules (z .rules) array index (record { symbols = z .symbols; cap = N; cells = cells }) n work out m work′ out′
+      → UtteranceListed rules z slots n N work out (Found m) work′ out′
+  utterance-found array index₀ {index} {m = m} {work′ = work′} {out′ = out′} none e-cells e-count has-edges long made filled g u okg oku ez en begun begun′ =
+      let S = g .symbols in
+      let R = length (g .rules) in
+      let E = length (edges u) in
+      let met = all-met S R (length u) N (length work) (length out) (rw (ez, en) at none) in
+      let es : edgesIn slots (length u) ≡ edges u = edges-in (g .words) u slots oku begun′ in
+      let few = valid-slots (g .words) u oku in
+      let e : index ≡ indexOf rules R S array E (length u) index₀ = rw (e-count, ez, en, es) at made in
+      let is = indexed rules R S array E (length u) index₀ (valid-rules g okg) (valid-sizes g okg .1)
+      (rw (← es) (omega (arith, edges-few slots few))) (omega arith) long in
+      readings-due g u okg oku N work out met rules array index m work′ out′ begun (rw (en, es) at has-edges) (rw e is)
+      (rw (e-cells, ez, en) at filled)
+
+-- where the rules of an accepted grammar are in an array
+module _ (rules : List ℕ) (z : Sizes) (utterance : List ℕ) (N : ℕ) (work out : List ℕ) where
+  pub grammar-refused : {n : ℕ} → utteranceBlock (z .words) utterance ≡ refused n → GrammarListed rules z utterance N work out (Refused n) work out
+  grammar-refused e g okg ez begun = rw (rw ez at e) (refl, refl, refl)
+
+  pub grammar-listed : (slots : List ℕ) {count : ℕ} {r : Listed} {work′ out′ : List ℕ} (u : Utterance)
+      → utteranceBlock (z .words) utterance ≡ accepted u → count ≡ length u → Begins (slotNumbers (z .words) u) slots
+      → UtteranceListed rules z slots count N work out r work′ out′ → GrammarListed rules z utterance N work out r work′ out′
+  grammar-listed slots u e counted begun′ due g okg ez begun =
+      let is = rw ez at e in
+      let oku = utterance-block-out (g .words) utterance u is .0 in
+      rw is (due g u okg oku ez counted begun (rw ez at begun′))
+
+-- and where both blocks are given
+module _ (grammar utterance : List ℕ) (N : ℕ) (work out : List ℕ) where
+  pub block-refused : {n : ℕ} → grammarBlock grammar ≡ refused n
+      → Promised (list grammar utterance N (length work) (length out)) work out (Refused n) work out
+  unfolding list
+  block-refused e = rw e (refl, refl, refl)
+
+  pub block-listed : (rules : List ℕ) {z : Sizes} {r : Listed} {work′ out′ : List ℕ} (g : Grammar) → grammarBlock grammar ≡ accepted g → z ≡ sizes g
+      → Begins (ruleNumbers g) rules → GrammarListed rules z utterance N work out r work′ out′
+      → Promised (list grammar utterance N (length work) (length out)) work out r work′ out′
+  unfolding list
+  block-listed rules g e ez begun due = rw e (due g (grammar-block-out grammar g e .0) ez begun)

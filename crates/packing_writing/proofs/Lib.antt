@@ -1,0 +1,4 @@
+pub mod Block
+pub mod Rules
+pub mod Slots
+pub mod Copied
