@@ -4,7 +4,7 @@
 # make clean   removes all that was built
 
 # The services that the library exports beside the four conversions, as in .ci/run.
-features = check specimen
+features = check listing specimen
 
 .PHONY: all test bench clean
 

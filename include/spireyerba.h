@@ -197,6 +197,55 @@ int32_t spireyerba_specimen(
     uint32_t length,
     uint8_t *out, size_t out_len);
 
+/* Refusals of the listing. */
+enum {
+    SPIREYERBA_LISTING_WANTED = 21,  /* the number wanted is not 1 to 256         */
+    SPIREYERBA_LISTING_WORK = 22,    /* the work table is short                   */
+    SPIREYERBA_LISTING_OUTPUT = 23,  /* the output is short                       */
+    SPIREYERBA_LISTING_WEIGHT = 24   /* a weight passes 24 bits: no input reaches it */
+};
+
+#define SPIREYERBA_MAX_READINGS 256
+#define SPIREYERBA_READING_BLOCK_MAX 52
+
+/* The bytes of a reading's block over so many slots, 1 to 24, under a grammar of so many rules, 1 to 256. */
+static inline size_t spireyerba_reading_length(uint32_t slots, uint32_t rules) {
+    size_t rule_width = 1;
+    while (rule_width < 8 && (rules - 1) >> rule_width != 0)
+        rule_width++;
+    return (34 + (2 * (size_t)slots - 1) * rule_width + 7) / 8;
+}
+
+/* The numbers of work table that a listing needs, at most 9,830,400. */
+static inline size_t spireyerba_work_length(uint32_t symbols, uint32_t slots, uint32_t wanted) {
+    return 4 * (size_t)symbols * ((size_t)slots * (slots + 1) / 2) * wanted;
+}
+
+/*
+** LISTING. Finds the readings of least weight of an utterance under a grammar,
+** as many as wanted or as there are, the least first. Where weights are equal
+** the lower rule number comes first, then the tree with fewer slots in its left
+** part, then the lesser left part by this same order, weight included, then the
+** lesser right part.
+**
+** Answers the number found, m, which is 0 if the grammar does not derive the
+** utterance. The first m * L bytes of out are the m readings, each a block of
+** the same length L = spireyerba_reading_length(n, R).
+**
+** work is scratch memory of at least spireyerba_work_length(S, n, wanted)
+** numbers, whatever it holds; after an answer all of work is zero. out has at
+** least wanted * L bytes, also where fewer readings exist.
+**
+** Refuses with any of GRAMMAR_..., any of UTTERANCE_..., then LISTING_WANTED,
+** LISTING_WORK, LISTING_OUTPUT; then work is unchanged as well.
+*/
+int32_t spireyerba_listing(
+    const uint8_t *grammar, size_t grammar_len,
+    const uint8_t *utterance, size_t utterance_len,
+    uint32_t wanted,
+    uint32_t *work, size_t work_len,
+    uint8_t *out, size_t out_len);
+
 #ifdef __cplusplus
 }
 #endif

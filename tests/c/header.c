@@ -16,6 +16,7 @@ static uint8_t block[SPIREYERBA_GRAMMAR_BLOCK_MAX];
 static uint32_t sheet[SPIREYERBA_GRAMMAR_SHEET_MAX];
 static const uint8_t reading[] = {0x31, 0x00, 0x00, 0x00, 0xd5, 0x80};
 static const uint8_t specimen[] = {0, 0, 0};
+static uint32_t work[320];
 static int failures;
 
 static void expect(int holds, const char *what) {
@@ -71,6 +72,16 @@ int main(void) {
     expect_block(answer, specimen, LENGTH(specimen), "the specimen of G of length 3 is 0 0 0");
     answer = spireyerba_specimen(g_block, LENGTH(g_block), 25, block, LENGTH(block));
     expect(answer == -SPIREYERBA_SPECIMEN_LENGTH, "a specimen of length 25 is refused");
+
+    expect(spireyerba_work_length(1, 4, 8) == LENGTH(work) && spireyerba_reading_length(4, 2) * 8 == 48 &&
+               spireyerba_reading_length(24, 256) == SPIREYERBA_READING_BLOCK_MAX,
+           "sizes are as document 01 has them");
+    fill_outputs();
+    memset(work, 0xa5, sizeof work);
+    answer = spireyerba_listing(g_block, LENGTH(g_block), u_block, LENGTH(u_block), 8, work, LENGTH(work), block, 48);
+    expect(answer == 5 && memcmp(block, reading, LENGTH(reading)) == 0 && block[5 * LENGTH(reading)] == 0xa5,
+           "the listing finds five readings of U under G, the known one first");
+    expect(work[0] == 0 && work[LENGTH(work) - 1] == 0, "the listing leaves its work table zero");
 
     return failures != 0;
 }

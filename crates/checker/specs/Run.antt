@@ -2,7 +2,7 @@
 -- numbers in flat arrays. Nobody need believe this page: the proofs join it to Check. Assumes nothing.
 use mathlib.Core.List.{List, [], _∷_}
 use mathlib.Core.Option.{Option, none, some}
-use Prim.Native.Nat.{ℕ, zero, suc, _+_, _*_, _≤_, _<_}
+use Prim.Native.Nat.{ℕ, zero, suc, _+_, _*_, _^_, _≤_, _<_}
 use lib.Dec.{eqb}
 use lib.ListN.{length, getD}
 use Rattle.bits.specs.Bits.{pick, ended}
@@ -72,10 +72,18 @@ stateOf slots stack Astray = astray
 
 -- a number that was read is that of an array
 abbrev pub Small : Found → Type 0
-Small (Number n) = n < 4294967296
+Small (Number n) = n < 2 ^ 32
 Small Nothing = Unit {0}
 
--- each part to come has a slot of its own, and a step takes few numbers and little weight
+-- each part to come has a slot of its own, and the numbers are far from wrapping
+pub record Within (at : Progress) : Type 0 where
+  pub parts : at .height ≤ at .left
+  pub slots : at .left ≤ 24
+  pub place : at .place < 2 ^ 39
+  pub weight : at .weight < 2 ^ 39
+
+-- so after a step, which adds little
 abbrev pub Further : Progress → Step → Type 0
-Further at (Onward p) = (p .height ≤ p .left) × (p .left ≤ at .left) × (p .place ≤ at .place + 8589934592) × (p .weight ≤ at .weight + 8589934592)
+Further at (Onward p) =
+    (p .height ≤ p .left) × (p .left ≤ at .left) × (p .place ≤ at .place + 2 ^ 33) × (p .weight ≤ at .weight + 2 ^ 33)
 Further at Astray = Unit {0}

@@ -1,5 +1,5 @@
 // The check of a reading.
-pub mod walk; // walk.rt: the weight of the derivation that has a walk
+mod walk; // walk.rt: the weight of the derivation that has a walk
 
 use crate::walk::Found;
 use packing_grammar::GrammarRead;
@@ -19,11 +19,12 @@ pub enum Checked {
     Refused(u32),
 }
 
-// 34, 35 and 36 of a reading of some weight, whose fields end at bit `at` of its block: `own` is the weight of the derivation
+// 34, 35 and 36 of a reading of some weight, whose fields end at bit `at` of its block. `own` is the weight of the derivation
 // that has its walk.
 fn judge(block: &[u8], at: usize, weight: u32, own: Found) -> Checked
     requires { ⌜ at < 2 ^ 32 ⌝ }
-    ensures { λ r. ⌜ ((d : Reading) → d .weight ≡ weight → r ≡ answerOf (weighed (now (block .entry)) d at (numberOf own))) ⌝ }
+    ensures { λ r. ⌜ ((d : Reading) → d .weight ≡ weight
+        → r ≡ answerOf (weighed (now (block .entry)) d at (numberOf own))) ⌝ }
 {
     let Found::Number(w) = own else {
         return Checked::Refused(34);
@@ -40,7 +41,8 @@ fn judge(block: &[u8], at: usize, weight: u32, own: Found) -> Checked
 // The check under `count` rules and n slots that stand in arrays.
 fn check_reading(rules: &[u32], count: usize, slots: &[u32], n: usize, reading: &[u8]) -> Checked
     requires { ⌜ (1 ≤ count) × (count ≤ 256) × (1 ≤ n) × (n ≤ 24) ⌝ }
-    ensures { λ r. ⌜ r ≡ answerOf (byRun (rulesOf (now (rules .entry)) count) (slotsOf (now (slots .entry)) n 0) (now (reading .entry)) (readingFrom n count (now (reading .entry)))) ⌝ }
+    ensures { λ r. ⌜ r ≡ answerOf (byRun (rulesOf (now (rules .entry)) count) (slotsOf (now (slots .entry)) n 0)
+        (now (reading .entry)) (readingFrom n count (now (reading .entry)))) ⌝ }
 {
     let mut walk = [0u32; 47];
     match packing_reading::read_reading(reading, n, count, &mut walk) {
@@ -66,7 +68,8 @@ fn check_utterance(
     reading: &[u8],
 ) -> Checked
     requires { ⌜ (1 ≤ count) × (count ≤ 256) × (0 < words) × (words ≤ 200) ⌝ }
-    ensures { λ r. ⌜ r ≡ answerOf (underRules words (rulesOf (now (rules .entry)) count) (now (utterance .entry)) (now (reading .entry))) ⌝ }
+    ensures { λ r. ⌜ r ≡ answerOf (underRules words (rulesOf (now (rules .entry)) count) (now (utterance .entry))
+        (now (reading .entry))) ⌝ }
 {
     let mut slots = [0u32; 360];
     match packing_utterance::read_block(utterance, words, &mut slots) {

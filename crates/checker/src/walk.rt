@@ -4,12 +4,12 @@ use packing::Sym;
 use packing::Word;
 ghost use mathlib.Core.Path.{_≡_};
 ghost use mathlib.Core.List.{List, _∷_};
-ghost use Prim.Native.Nat.{ℕ, _+_, _-_, _*_, _≤_, _<_};
+ghost use Prim.Native.Nat.{ℕ, _+_, _-_, _*_, _^_, _≤_, _<_};
 ghost use lib.Dec.{ltb};
 ghost use lib.ListN.{length, take};
 ghost use Rattle.bits.specs.Bits.{pick};
 ghost use Rattle.derivation.specs.Walk.{onward, astray, costOf, leafStep, step, walkWeight};
-ghost use Rattle.checker.specs.Run.{rulesOf, candidatesOf, slotAt, behind, slotsOf, headsOf, numberOf, stateOf, Small, Further};
+ghost use Rattle.checker.specs.Run.{rulesOf, candidatesOf, slotAt, behind, slotsOf, headsOf, numberOf, stateOf, Small, Within, Further};
 
 // A number, where there is one.
 pub enum Found {
@@ -34,7 +34,7 @@ pub enum Step {
 
 // The cost of a word among `count` candidates, from place `start` on.
 fn cost_of(slots: &[u32], start: usize, count: usize, word: Word) -> Found
-    requires { ⌜ (start < 1099511627776) × (count < 4294967296) ⌝ }
+    requires { ⌜ (start < 2 ^ 40) × (count < 2 ^ 32) ⌝ }
     ensures { λ r. ⌜ (numberOf r ≡ costOf word (candidatesOf (now (slots .entry)) count start)) × Small r ⌝ }
 {
     let wanted = packing::arrays::wide(word.0);
@@ -51,10 +51,10 @@ fn cost_of(slots: &[u32], start: usize, count: usize, word: Word) -> Found
 
 // A word rule: the next slot is taken, if it offers the word.
 fn word_step(slots: &[u32], at: Progress, word: Word, weight: u32) -> Step
-    requires { ⌜ (1 ≤ at .height) × (at .height ≤ at .left) × (at .place < 549755813888) × (at .weight < 549755813888) ⌝ }
+    requires { ⌜ (1 ≤ at .height) × Within at ⌝ }
     ensures { λ r. ⌜ ((stack : List ℕ) → stateOf (now (slots .entry)) stack r
-        ≡ leafStep (slotsOf (now (slots .entry)) (at .left - 1) (behind (now (slots .entry)) (at .place))) (headsOf stack (at .height - 1))
-        (at .weight + weight) (costOf word (slotAt (now (slots .entry)) (at .place)))) × Further at r ⌝ }
+        ≡ leafStep (slotsOf (now (slots .entry)) (at .left - 1) (behind (now (slots .entry)) (at .place)))
+        (headsOf stack (at .height - 1)) (at .weight + weight) (costOf word (slotAt (now (slots .entry)) (at .place)))) × Further at r ⌝ }
 {
     let place = at.place;
     let count = packing::arrays::number_at(slots, place);
@@ -71,11 +71,10 @@ fn word_step(slots: &[u32], at: Progress, word: Word, weight: u32) -> Step
 
 // A pair rule: its two symbols take the place of its head, if each part to come has a slot of its own.
 fn pair_step(stack: &mut [u32], at: Progress, first: Sym, second: Sym, weight: u32) -> Step
-    requires { ⌜ (1 ≤ at .height) × (at .left ≤ length (now stack)) × (at .left ≤ 24) × (at .weight < 549755813888) ⌝ }
+    requires { ⌜ (1 ≤ at .height) × Within at × (24 ≤ length (now stack)) ⌝ }
     ensures { λ r. ⌜ ((slots : List ℕ) → stateOf slots (now (stack .exit)) r
-        ≡ pick (ltb (at .height) (at .left))
-        (onward (slotsOf slots (at .left) (at .place)) (first ∷ second ∷ headsOf (now (stack .entry)) (at .height - 1)) (at .weight + weight))
-        astray) × Further at r ⌝ }
+        ≡ pick (ltb (at .height) (at .left)) (onward (slotsOf slots (at .left) (at .place))
+        (first ∷ second ∷ headsOf (now (stack .entry)) (at .height - 1)) (at .weight + weight)) astray) × Further at r ⌝ }
 {
     let height = at.height;
     if height < at.left {
@@ -100,9 +99,10 @@ fn follow(
     at: Progress,
     r: usize,
 ) -> Step
-    requires { ⌜ (r < 4294967296) × (at .height ≤ at .left) × (at .left ≤ 24) × (24 ≤ length (now stack)) × (at .place < 549755813888) × (at .weight < 549755813888) ⌝ }
+    requires { ⌜ (r < 2 ^ 32) × Within at × (24 ≤ length (now stack)) ⌝ }
     ensures { λ s. ⌜ (stateOf (now (slots .entry)) (now (stack .exit)) s
-        ≡ step (rulesOf (now (rules .entry)) count) (stateOf (now (slots .entry)) (now (stack .entry)) (Step.Onward at)) r) × Further at s ⌝ }
+        ≡ step (rulesOf (now (rules .entry)) count) (stateOf (now (slots .entry)) (now (stack .entry)) (Step.Onward at)) r)
+        × Further at s ⌝ }
 {
     let height = at.height;
     if height == 0 {
@@ -128,11 +128,12 @@ fn follow(
     }
 }
 
-// The weight of the derivation of n slots whose walk the first 2n - 1 numbers are. A part to come never has fewer slots than
-// one, so the walk ends where no slot is left.
+// The weight of the derivation of n slots whose walk the first 2n - 1 numbers are. Each part to come has a slot of its own, so
+// where no slot is left no part is.
 pub fn weight_of(rules: &[u32], count: usize, slots: &[u32], n: usize, walk: &[u32]) -> Found
     requires { ⌜ (1 ≤ n) × (n ≤ 24) × (2 * n - 1 ≤ length (now walk)) ⌝ }
-    ensures { λ r. ⌜ numberOf r ≡ walkWeight (rulesOf (now (rules .entry)) count) (slotsOf (now (slots .entry)) n 0) (take (2 * n - 1) (now (walk .entry))) ⌝ }
+    ensures { λ r. ⌜ numberOf r ≡ walkWeight (rulesOf (now (rules .entry)) count) (slotsOf (now (slots .entry)) n 0)
+        (take (2 * n - 1) (now (walk .entry))) ⌝ }
 {
     let mut stack = [0u32; 24];
     let mut at = Progress {

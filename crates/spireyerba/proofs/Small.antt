@@ -29,7 +29,7 @@ use Rattle.checker.specs.declared.Checked.the-variants.{Refused}
 use Rattle.packing.specs.Reading.{blockOfReading}
 use Rattle.derivation.specs.List.{listing}
 use Rattle.listing.specs.Listing as L
-use Rattle.listing.specs.Listing.{list, listed}
+use Rattle.listing.specs.Listing.{list, listed, tableSize, readingLength, tooHeavy}
 use Rattle.specimen.specs.declared.Answered as A
 use Rattle.specimen.specs.Specimen.{asked, Answers}
 use Rattle.spireyerba.specs.Code.{checkCode, checkedCode, listCode, listedCode, SmallListed, lengthCode, writtenCode, SmallWritten}
@@ -156,7 +156,8 @@ listing-most g u N = simp (length-map, length-take) (omega arith)
 
 listed-small : (g : Grammar) (u : Utterance) (N work out : ℕ) → SmallListed (L.answerOf (listed g u N work out))
 unfolding listed
-listed-small g u N work out = go (ltb N 1) (ltb 256 N) _ _ _ refl
+listed-small g u N work out =
+    go (ltb N 1) (ltb 256 N) (ltb work (tableSize (g .symbols) (length u) N)) (ltb out (N * readingLength (length u) (length (g .rules)))) (tooHeavy (listing g u N)) refl
   where
     go : (a b c d e : Bool) → ltb 256 N ≡ b
         → SmallListed (L.answerOf (pick a (refused 21) (pick b (refused 21) (pick c (refused 22) (pick d (refused 23) (pick e (refused 24) (accepted (map (blockOfReading (length (g .rules))) (listing g u N)))))))))
@@ -165,7 +166,7 @@ listed-small g u N work out = go (ltb N 1) (ltb 256 N) _ _ _ refl
     go false false true d e p = omega arith
     go false false false true e p = omega arith
     go false false false false true p = omega arith
-    go false false false false false p = omega (arith, listing-most g u N, ltb-false _ _ p)
+    go false false false false false p = omega (arith, listing-most g u N, ltb-false 256 N p)
 
 refusal-small : {A : Type 0} {v : Verdict A} (k : A → Verdict (List (List ℕ))) → LowRefusal v → ((a : A) → SmallListed (L.answerOf (k a))) → SmallListed (L.answerOf (v then k))
 refusal-small k (granted {a}) h = h a

@@ -30,19 +30,26 @@ cast-check-utterance c = search needs
 
 check-utterance-requires : tie.Need-check-utterance-requires
 check-utterance-requires c κs =
-    let bounded = rw (c .before .before .before .sizes .given .1) at (c .before .before .before .before .before .before .read-block .ensures .2) in
+    let at-sizes = c .before .before .before in
+    let bounded = rw (at-sizes .sizes .given .1) at (at-sizes .before .before .before .read-block .ensures .2) in
     omega arith
 
 returns : tie.Need-returns
 unfolding check
-returns c = rw (refused-told (grammarBlock (c .before .before .before .before .before .before .before .before .before .args .grammar .now)) (c .before .before .before .before .read-block .ensures .0) (c .before .m .given .1))
+returns c =
+    let at-m = c .before in
+    let at-read = at-m .before .before .before in
+    let a = at-read .before .before .before .before .before .args in
+    rw (refused-told (grammarBlock (a .grammar .now)) (at-read .read-block .ensures .0) (at-m .m .given .1))
 
 returns-2 : tie.Need-returns-2
 returns-2 c =
-    let a = c .before .before .before .before .before .before .before .before .before .before .before .before .args in
-    let (g, p, z) = accepted-told (grammarBlock (a .grammar .now)) (c .before .before .before .before .before .before .before .read-block .ensures .0) (c .before .before .before .before .sizes .given .1) in
-    let begun = rw p at (c .before .before .before .before .before .before .before .read-block .ensures .1) in
-    let rules = rules-of g (c .before .before .before .before .before .before .before .read-block .last .1 .0) begun in
+    let at-sizes = c .before .before .before .before in
+    let at-read = at-sizes .before .before .before in
+    let a = at-read .before .before .before .before .before .args in
+    let read = at-read .read-block in
+    let (g, p, z) = accepted-told (grammarBlock (a .grammar .now)) (read .ensures .0) (at-sizes .sizes .given .1) in
+    let rules = rules-of g (read .last .1 .0) (rw p at (read .ensures .1)) in
     c .check-utterance .ensures ∙ rw (z, rules, under-rules (a .grammar .now) (a .utterance .now) (a .reading .now) g p)
 
 pub check-spec : {M : Type 1} → statement M

@@ -28,20 +28,27 @@ weight-of-requires : tie.Need-weight-of-requires
 weight-of-requires c κs = search needs
 
 judge-requires : tie.Need-judge-requires
-judge-requires c κs = rw (c .before .before .before .weight .given .1) at (c .before .before .before .before .before .before .read-reading .ensures .2)
+judge-requires c κs =
+    let at-weight = c .before .before .before in
+    rw (at-weight .weight .given .1) at (at-weight .before .before .before .read-reading .ensures .2)
 
 returns : tie.Need-returns
 returns c =
-    let a = c .before .before .before .before .before .before .before .before .before .args in
-    rw (failed-told (readingFrom (a .n) (a .count) (a .reading .now)) (c .before .before .before .before .read-reading .ensures .0) (c .before .m .given .1))
+    let at-m = c .before in
+    let at-read = at-m .before .before .before in
+    let a = at-read .before .before .before .before .before .args in
+    rw (failed-told (readingFrom (a .n) (a .count) (a .reading .now)) (at-read .read-reading .ensures .0) (at-m .m .given .1))
 
 returns-2 : tie.Need-returns-2
 returns-2 c =
-    let a = c .before .before .before .before .before .before .before .before .before .before .before .before .args in
-    let read = c .before .before .before .before .before .before .before .read-reading in
-    let (d, e, w) = parsed-told (readingFrom (a .n) (a .count) (a .reading .now)) (read .ensures .0) (c .before .before .before .before .weight .given .1) in
+    let at-weight-of = c .before in
+    let at-weight = at-weight-of .before .before .before in
+    let at-read = at-weight .before .before .before in
+    let a = at-read .before .before .before .before .before .args in
+    let read = at-read .read-reading in
+    let (d, e, w) = parsed-told (readingFrom (a .n) (a .count) (a .reading .now)) (read .ensures .0) (at-weight .weight .given .1) in
     let judged = walk-judged (a .n) (a .count) (rulesOf (a .rules .now) (a .count)) (slotsOf (a .slots .now) (a .n) 0)
-    (a .reading .now) (read .last .1 .1 .1 .0) e (read .ensures .1) (c .before .weight-of .ensures) in
+    (a .reading .now) (read .last .1 .1 .1 .0) e (read .ensures .1) (at-weight-of .weight-of .ensures) in
     c .judge .ensures d w ∙ ap answerOf judged
 
 pub check-reading-spec : {M : Type 1} → statement M

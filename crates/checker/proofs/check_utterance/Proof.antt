@@ -32,21 +32,27 @@ slice-aggregate-check-reading c = search needs
 
 check-reading-requires : tie.Need-check-reading-requires
 check-reading-requires c κs =
-    let sized = rw (c .before .before .found .given .1) at (c .before .before .before .before .before .read-block .ensures .2) in
-    omega (arith, c .before .before .before .before .before .before .before .before .before .before .pre)
+    let at-found = c .before .before in
+    let at-read = at-found .before .before .before in
+    let sized = rw (at-found .found .given .1) at (at-read .read-block .ensures .2) in
+    omega (arith, at-read .before .before .before .before .before .pre)
 
 returns : tie.Need-returns
 unfolding underRules
 returns c =
-    let a = c .before .before .before .before .before .before .before .before .before .args in
-    rw (refused-told (a .words) (utteranceBlock (a .words) (a .utterance .now)) (c .before .before .before .before .read-block .ensures .0) (c .before .m .given .1))
+    let at-m = c .before in
+    let at-read = at-m .before .before .before in
+    let a = at-read .before .before .before .before .before .args in
+    rw (refused-told (a .words) (utteranceBlock (a .words) (a .utterance .now)) (at-read .read-block .ensures .0) (at-m .m .given .1))
 
 returns-2 : tie.Need-returns-2
 returns-2 c =
-    let a = c .before .before .before .before .before .before .before .before .before .before .before .args in
-    let read = c .before .before .before .before .before .before .read-block in
+    let at-found = c .before .before .before in
+    let at-read = at-found .before .before .before in
+    let a = at-read .before .before .before .before .before .args in
+    let read = at-read .read-block in
     let rules : List R.Rule = rulesOf (a .rules .now) (a .count) in
-    let (u, e, z) = accepted-told (a .words) (utteranceBlock (a .words) (a .utterance .now)) (read .ensures .0) (c .before .before .before .found .given .1) in
+    let (u, e, z) = accepted-told (a .words) (utteranceBlock (a .words) (a .utterance .now)) (read .ensures .0) (at-found .found .given .1) in
     let judged = slots-judged (a .words) rules (a .utterance .now) (a .reading .now) (read .last .1 .1 .0) e (read .ensures .1)
     (ap (λ (s : Slots). s .count) z) (sym (length-table (ruleAt (a .rules .now)) (a .count))) in
     c .check-reading .ensures ∙ ap answerOf judged

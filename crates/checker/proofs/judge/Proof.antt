@@ -22,18 +22,25 @@ zero-from-requires c κs = search needs
 
 returns-2 : tie.Need-returns-2
 returns-2 c d e =
-    let same = eq-eqb (c .before .before .before .before .before .own .given .0 .0) (d .weight) (c .before .before .if1 .taken ∙ c .before .before .before .wide .ensures .0 ∙ sym e) in
-    rw (c .before .before .before .before .before .own .given .1, same, sym (c .before .zero-from .ensures) ∙ c .if2 .taken)
+    let at-if1 = c .before .before in
+    let at-own = at-if1 .before .before .before in
+    let weight = at-if1 .if1 .taken ∙ at-if1 .before .wide .ensures .0 ∙ sym e in
+    let same = eq-eqb (at-own .own .given .0 .0) (d .weight) weight in
+    rw (at-own .own .given .1, same, sym (c .before .zero-from .ensures) ∙ c .if2 .taken)
 
 returns-3 : tie.Need-returns-3
 returns-3 c d e =
-    let same = eq-eqb (c .before .before .before .before .before .own .given .0 .0) (d .weight) (c .before .before .if1 .taken ∙ c .before .before .before .wide .ensures .0 ∙ sym e) in
-    rw (c .before .before .before .before .before .own .given .1, same, sym (c .before .zero-from .ensures) ∙ c .if2 .left)
+    let at-if1 = c .before .before in
+    let at-own = at-if1 .before .before .before in
+    let weight = at-if1 .if1 .taken ∙ at-if1 .before .wide .ensures .0 ∙ sym e in
+    let same = eq-eqb (at-own .own .given .0 .0) (d .weight) weight in
+    rw (at-own .own .given .1, same, sym (c .before .zero-from .ensures) ∙ c .if2 .left)
 
 returns-4 : tie.Need-returns-4
 returns-4 c d e =
-    let other = ne-eqb (c .before .before .before .own .given .0 .0) (d .weight) (λ f. c .if1 .left (f ∙ e ∙ sym (c .before .wide .ensures .0))) in
-    rw (c .before .before .before .own .given .1, other)
+    let at-own = c .before .before .before in
+    let other = ne-eqb (at-own .own .given .0 .0) (d .weight) (λ f. c .if1 .left (f ∙ e ∙ sym (c .before .wide .ensures .0))) in
+    rw (at-own .own .given .1, other)
 
 pub judge-spec : {M : Type 1} → statement M
 judge-spec =

@@ -5,6 +5,7 @@ use Prim.Native.Nat.{_+_, _-_, _*_, _≤_}
 use native.Mathlib.Nat.{sub-zero, add-zero}
 use native.Mathlib.Omega.{arith}
 use borrow.Author.Needs.{needs}
+use Rattle.packing.specs.declared.Word as W
 use Rattle.packing.specs.Meaning.{word}
 use Rattle.derivation.specs.Walk.{costOf}
 use Rattle.checker.specs.Run.{candidatesOf}
@@ -14,7 +15,8 @@ use Rattle.checker.proofs.walk.cost_of.Tie as tie
 
 abbrev Inv-loop : tie.InvT-loop
 Inv-loop slots start count wanted k₀ k =
-    (k ≤ count) × (costOf (word wanted) (candidatesOf slots (count - k) (start + 2 * k)) ≡ costOf (word wanted) (candidatesOf slots count start))
+    (k ≤ count)
+    × (costOf (word wanted) (candidatesOf slots (count - k) (start + 2 * k)) ≡ costOf (word wanted) (candidatesOf slots count start))
 
 abbrev μ-loop : tie.MeasureT-loop
 μ-loop slots start count wanted k₀ k = count - k
@@ -42,10 +44,15 @@ number-at-requires-2 c κs = search needs
 
 returns : tie.Need-returns Inv-loop μ-loop
 returns c =
-    let a = c .before .before .before .before .before .before .before .args in
-    let l = c .before .before .before .before .loop in
-    let same : word (c .before .before .before .before .before .wide .result) ≡ a .word = ap word (c .before .before .before .before .before .wide .ensures .0) in
-    let here = cost-here (word (c .before .before .before .before .before .wide .result)) (a .slots .now) (a .start) (a .count) (l .k) (c .before .before .before .loop-test .taken) (sym (c .before .before .number-at .ensures .0) ∙ c .before .if1 .taken) in
+    let at-test = c .before .before .before in
+    let at-loop = at-test .before in
+    let at-wide = at-loop .before in
+    let a = at-wide .before .before .args in
+    let l = at-loop .loop in
+    let x : W.Word = word (at-wide .wide .result) in
+    let same : x ≡ a .word = ap word (at-wide .wide .ensures .0) in
+    let is = sym (c .before .before .number-at .ensures .0) ∙ c .before .if1 .taken in
+    let here = cost-here x (a .slots .now) (a .start) (a .count) (l .k) (at-test .loop-test .taken) is in
     rw (← same) (ap some (c .number-at2 .ensures .0) ∙ sym here ∙ l .inv .1, c .number-at2 .ensures .1)
 
 add-k : tie.Need-add-k Inv-loop μ-loop
@@ -56,17 +63,25 @@ loop-less c = omega arith
 
 loop-again : tie.Need-loop-again Inv-loop μ-loop
 loop-again c =
-    let a = c .before .before .before .before .before .before .args in
-    let l = c .before .before .before .loop in
-    let next = cost-next (word (c .before .before .before .before .wide .result)) (a .slots .now) (a .start) (a .count) (l .k) (c .before .before .loop-test .taken) (λ e. c .if1 .left (c .before .number-at .ensures .0 ∙ e)) in
+    let at-test = c .before .before in
+    let at-loop = at-test .before in
+    let at-wide = at-loop .before in
+    let a = at-wide .before .before .args in
+    let l = at-loop .loop in
+    let x : W.Word = word (at-wide .wide .result) in
+    let next = cost-next x (a .slots .now) (a .start) (a .count) (l .k) (at-test .loop-test .taken)
+    (λ e. c .if1 .left (c .before .number-at .ensures .0 ∙ e)) in
     (omega arith, next ∙ l .inv .1)
 
 returns-2 : tie.Need-returns-2 Inv-loop μ-loop
 returns-2 c =
-    let a = c .before .before .before .before .args in
-    let l = c .before .loop in
-    let same : word (c .before .before .wide .result) ≡ a .word = ap word (c .before .before .wide .ensures .0) in
-    let end = cost-end (word (c .before .before .wide .result)) (a .slots .now) (a .start) (a .count) (l .k) (c .loop-test .left) in
+    let at-loop = c .before in
+    let at-wide = at-loop .before in
+    let a = at-wide .before .before .args in
+    let l = at-loop .loop in
+    let x : W.Word = word (at-wide .wide .result) in
+    let same : x ≡ a .word = ap word (at-wide .wide .ensures .0) in
+    let end = cost-end x (a .slots .now) (a .start) (a .count) (l .k) (c .loop-test .left) in
     rw (← same) (sym end ∙ l .inv .1, tt)
 
 pub cost-of-spec : {M : Type 1} → statement M

@@ -21,8 +21,8 @@ returns c =
 returns-2 : tie.Need-returns-2
 returns-2 c =
     let a = c .before .before .before .before .before .args in
-    let none-there = table-past (ruleAt (a .rules .now)) (a .count) (a .r) (c .if2 .taken) in
-    (no-rule (rulesOf (a .rules .now) (a .count)) (a .slots .now) (a .stack .now) (a .at) (a .r) none-there, tt)
+    let past = table-past (ruleAt (a .rules .now)) (a .count) (a .r) (c .if2 .taken) in
+    (no-rule (rulesOf (a .rules .now) (a .count)) (a .slots .now) (a .stack .now) (a .at) (a .r) past, tt)
 
 sub-top : tie.Need-sub-top
 sub-top c = search needs
@@ -47,11 +47,16 @@ same-length c = search needs
 
 returns-3 : tie.Need-returns-3
 returns-3 c =
-    let a = c .before .before .before .before .before .before .before .before .before .before .before .before .before .before .before .before .args in
-    let there = table-at (ruleAt (a .rules .now)) (a .count) (a .r) (c .before .before .before .before .before .before .before .before .before .before .before .if2 .left) ∙ ap some (sym (c .before .before .before .before .before .before .before .before .before .rule-at .ensures) ∙ c .before .before .before .before .before .before .before .head .given .1) in
+    let at-step = c .before .before in
+    let at-head = at-step .before .before .before .before .before in
+    let at-rule = at-head .before .before in
+    let at-if2 = at-rule .before .before in
+    let a = at-if2 .before .before .before .before .before .args in
+    let is = sym (at-rule .rule-at .ensures) ∙ at-head .head .given .1 in
+    let there = table-at (ruleAt (a .rules .now)) (a .count) (a .r) (at-if2 .if2 .left) ∙ ap some is in
     let rule = pair-rule (rulesOf (a .rules .now) (a .count)) (a .slots .now) (a .stack .now) (a .at) (a .r) (omega arith) there in
-    let same = eq-eqb (c .before .before .before .before .before .before .before .head .given .0 .0 .0) (getD (a .stack .now) (a .at .height - 1) 0) (c .before .before .before .before .if3 .taken) in
-    (c .before .before .pair-step .ensures .0 (a .slots .now) ∙ sym (rw same at rule), c .before .before .pair-step .ensures .1)
+    let same = eq-eqb (at-head .head .given .0 .0 .0) (getD (a .stack .now) (a .at .height - 1) 0) (at-step .before .before .if3 .taken) in
+    (at-step .pair-step .ensures .0 (a .slots .now) ∙ sym (rw same at rule), at-step .pair-step .ensures .1)
 
 enum-known-head-2 : tie.Need-enum-known-head-2
 enum-known-head-2 c = search needs
@@ -61,26 +66,38 @@ word-step-requires c κs = search needs
 
 returns-4 : tie.Need-returns-4
 returns-4 c =
-    let a = c .before .before .before .before .before .before .before .before .before .before .before .before .before .args in
-    let there = table-at (ruleAt (a .rules .now)) (a .count) (a .r) (c .before .before .before .before .before .before .before .before .if2 .left) ∙ ap some (sym (c .before .before .before .before .before .before .rule-at .ensures) ∙ c .before .before .before .before .head2 .given .1) in
+    let at-head = c .before .before .before .before in
+    let at-rule = at-head .before .before in
+    let at-if2 = at-rule .before .before in
+    let a = at-if2 .before .before .before .before .before .args in
+    let is = sym (at-rule .rule-at .ensures) ∙ at-head .head2 .given .1 in
+    let there = table-at (ruleAt (a .rules .now)) (a .count) (a .r) (at-if2 .if2 .left) ∙ ap some is in
     let rule = word-rule (rulesOf (a .rules .now) (a .count)) (a .slots .now) (a .stack .now) (a .at) (a .r) (omega arith) (omega arith) there in
-    let same = eq-eqb (c .before .before .before .before .head2 .given .0 .0 .0) (getD (a .stack .now) (a .at .height - 1) 0) (c .before .if4 .taken) in
+    let same = eq-eqb (at-head .head2 .given .0 .0 .0) (getD (a .stack .now) (a .at .height - 1) 0) (c .before .if4 .taken) in
     (c .word-step .ensures .0 (a .stack .now) ∙ sym (rw same at rule), c .word-step .ensures .1)
 
 returns-5 : tie.Need-returns-5
 returns-5 c =
-    let a = c .before .before .before .before .before .before .before .before .before .before .before .before .args in
-    let there = table-at (ruleAt (a .rules .now)) (a .count) (a .r) (c .before .before .before .before .before .before .before .if2 .left) ∙ ap some (sym (c .before .before .before .before .before .rule-at .ensures) ∙ c .before .before .before .head .given .1) in
+    let at-head = c .before .before .before in
+    let at-rule = at-head .before .before in
+    let at-if2 = at-rule .before .before in
+    let a = at-if2 .before .before .before .before .before .args in
+    let is = sym (at-rule .rule-at .ensures) ∙ at-head .head .given .1 in
+    let there = table-at (ruleAt (a .rules .now)) (a .count) (a .r) (at-if2 .if2 .left) ∙ ap some is in
     let rule = pair-rule (rulesOf (a .rules .now) (a .count)) (a .slots .now) (a .stack .now) (a .at) (a .r) (omega arith) there in
-    let other = ne-eqb (c .before .before .before .head .given .0 .0 .0) (getD (a .stack .now) (a .at .height - 1) 0) (c .if3 .left) in
+    let other = ne-eqb (at-head .head .given .0 .0 .0) (getD (a .stack .now) (a .at .height - 1) 0) (c .if3 .left) in
     (sym (rw other at rule), tt)
 
 returns-6 : tie.Need-returns-6
 returns-6 c =
-    let a = c .before .before .before .before .before .before .before .before .before .before .before .before .args in
-    let there = table-at (ruleAt (a .rules .now)) (a .count) (a .r) (c .before .before .before .before .before .before .before .if2 .left) ∙ ap some (sym (c .before .before .before .before .before .rule-at .ensures) ∙ c .before .before .before .head2 .given .1) in
+    let at-head = c .before .before .before in
+    let at-rule = at-head .before .before in
+    let at-if2 = at-rule .before .before in
+    let a = at-if2 .before .before .before .before .before .args in
+    let is = sym (at-rule .rule-at .ensures) ∙ at-head .head2 .given .1 in
+    let there = table-at (ruleAt (a .rules .now)) (a .count) (a .r) (at-if2 .if2 .left) ∙ ap some is in
     let rule = word-rule (rulesOf (a .rules .now) (a .count)) (a .slots .now) (a .stack .now) (a .at) (a .r) (omega arith) (omega arith) there in
-    let other = ne-eqb (c .before .before .before .head2 .given .0 .0 .0) (getD (a .stack .now) (a .at .height - 1) 0) (c .if4 .left) in
+    let other = ne-eqb (at-head .head2 .given .0 .0 .0) (getD (a .stack .now) (a .at .height - 1) 0) (c .if4 .left) in
     (sym (rw other at rule), tt)
 
 pub follow-spec : {M : Type 1} → statement M

@@ -36,15 +36,17 @@ same-length c = search needs
 
 returns : tie.Need-returns
 returns c =
-    let a = c .before .before .before .before .before .args in
+    let at-wide = c .before in
+    let at-if1 = at-wide .before in
+    let a = at-if1 .before .before .before .args in
     let n = a .at .height in
-    let pushed = heads-pushed (a .stack .now) n (a .first .0) (a .second .0) (omega arith) (omega arith) in (
-      λ slots. rw (lt-ltb n (a .at .left) (c .before .before .if1 .taken), pushed, c .before .wide .ensures .0),
-      omega arith,
-    )
+    let pushed = heads-pushed (a .stack .now) n (a .first .0) (a .second .0) (omega arith) (omega arith) in
+    (λ slots. rw (lt-ltb n (a .at .left) (at-if1 .if1 .taken), pushed, at-wide .wide .ensures .0), omega arith)
 
 returns-2 : tie.Need-returns-2
-returns-2 c = (λ slots. rw (le-ltb (c .before .before .before .args .at .height) (c .before .before .before .args .at .left) (c .if1 .left)), tt)
+returns-2 c =
+    let a = c .before .before .before .args in
+    (λ slots. rw (le-ltb (a .at .height) (a .at .left) (c .if1 .left)), tt)
 
 pub pair-step-spec : {M : Type 1} → statement M
 pair-step-spec =

@@ -1,7 +1,7 @@
 -- After i numbers the arrays hold the state that the run has come to, with no more parts than slots.
 use mathlib.Core.Path.{_≡_, refl, sym, ap, _∙_}
 use mathlib.Core.List.{List, [], _∷_}
-use Prim.Native.Nat.{_-_, _*_, _≤_}
+use Prim.Native.Nat.{_-_, _*_, _^_, _≤_}
 use native.Mathlib.Omega.{arith}
 use borrow.Author.Needs.{needs}
 use lib.ListN.{length, take, drop}
@@ -16,8 +16,8 @@ use Rattle.checker.proofs.walk.weight_of.Tie as tie
 
 abbrev Inv-loop : tie.InvT-loop
 Inv-loop rules count slots n walk stack₀ at₀ numbers i₀ stack at i =
-    (i ≤ numbers) × (length stack ≡ 24) × (at .height ≤ at .left) × (at .left ≤ 24) × (at .place ≤ 8589934592 * i)
-    × (at .weight ≤ 8589934592 * i)
+    (i ≤ numbers) × (length stack ≡ 24) × (at .height ≤ at .left) × (at .left ≤ 24) × (at .place ≤ 2 ^ 33 * i)
+    × (at .weight ≤ 2 ^ 33 * i)
     × (run (rulesOf rules count) (stateOf slots stack (Onward at)) (drop i (take numbers walk))
     ≡ run (rulesOf rules count) (onward (slotsOf slots n 0) (symbol 0 ∷ []) 0) (take numbers walk))
 
@@ -52,12 +52,17 @@ enum-told c = search needs
 returns : tie.Need-returns Inv-loop μ-loop
 unfolding walkWeight ended
 returns c =
-    let a = c .before .before .before .before .before .before .before .before .before .before .before .args in
-    let l = c .before .before .before .before .before .before .before .loop in
+    let at-follow = c .before .before .before in
+    let at-test = at-follow .before .before .before in
+    let at-loop = at-test .before in
+    let a = at-loop .before .before .before .before .args in
+    let l = at-loop .loop in
+    let followed = at-follow .follow in
     let rules : List R.Rule = rulesOf (a .rules .now) (a .count) in
     let from : State = stateOf (a .slots .now) (l .stack) (Onward (l .at)) in
-    let next = sym (ap (stateOf (a .slots .now) (c .before .before .before .follow .last .1 .1 .1 .0)) (c .enum-told .given .1)) ∙ c .before .before .before .follow .ensures .0 in
-    let lost = run-lost rules from (a .walk .now) (2 * a .n - 1) (l .i) (omega arith) (c .before .before .before .before .before .before .loop-test .taken) (c .before .before .before .before .number-at .ensures .0) next in
+    let next = sym (ap (stateOf (a .slots .now) (followed .last .1 .1 .1 .0)) (c .enum-told .given .1)) ∙ followed .ensures .0 in
+    let lost = run-lost rules from (a .walk .now) (2 * a .n - 1) (l .i) (omega arith) (at-test .loop-test .taken)
+    (at-follow .before .number-at .ensures .0) next in
     ap ended (sym lost ∙ l .inv .6)
 
 add-i : tie.Need-add-i Inv-loop μ-loop
@@ -68,34 +73,44 @@ loop-less c = omega arith
 
 loop-again : tie.Need-loop-again Inv-loop μ-loop
 loop-again c =
-    let a = c .before .before .before .before .before .before .before .before .before .before .before .before .args in
-    let l = c .before .before .before .before .before .before .before .before .loop in
+    let at-next = c .before in
+    let at-follow = at-next .before .before .before in
+    let at-test = at-follow .before .before .before in
+    let at-loop = at-test .before in
+    let a = at-loop .before .before .before .before .args in
+    let l = at-loop .loop in
+    let followed = at-follow .follow in
     let rules : List R.Rule = rulesOf (a .rules .now) (a .count) in
     let from : State = stateOf (a .slots .now) (l .stack) (Onward (l .at)) in
-    let next = sym (ap (stateOf (a .slots .now) (c .before .before .before .before .follow .last .1 .1 .1 .0)) (c .before .next .given .1)) ∙ c .before .before .before .before .follow .ensures .0 in
-    let more = run-more rules from (a .walk .now) (2 * a .n - 1) (l .i) (omega arith) (c .before .before .before .before .before .before .before .loop-test .taken) (c .before .before .before .before .before .number-at .ensures .0) next in
-    let further = rw (c .before .next .given .1) at (c .before .before .before .before .follow .ensures .1) in
-    let kept = c .before .before .before .before .follow .kept .1 .1 .1 .0 in
+    let next = sym (ap (stateOf (a .slots .now) (followed .last .1 .1 .1 .0)) (at-next .next .given .1)) ∙ followed .ensures .0 in
+    let more = run-more rules from (a .walk .now) (2 * a .n - 1) (l .i) (omega arith) (at-test .loop-test .taken)
+    (at-follow .before .number-at .ensures .0) next in
+    let further = rw (at-next .next .given .1) at (followed .ensures .1) in
+    let kept = followed .kept .1 .1 .1 .0 in
     (omega arith, kept ∙ l .inv .1, omega arith, omega arith, omega arith, omega arith, more ∙ l .inv .6)
 
 returns-2 : tie.Need-returns-2 Inv-loop μ-loop
 unfolding walkWeight
 returns-2 c =
-    let a = c .before .before .before .before .before .before .before .args in
-    let l = c .before .before .before .loop in
+    let at-test = c .before .before in
+    let at-loop = at-test .before in
+    let a = at-loop .before .before .before .before .args in
+    let l = at-loop .loop in
     let rules : List R.Rule = rulesOf (a .rules .now) (a .count) in
     let from : State = stateOf (a .slots .now) (l .stack) (Onward (l .at)) in
-    let over = run-over rules from (a .walk .now) (2 * a .n - 1) (l .i) (c .before .before .loop-test .left) in
+    let over = run-over rules from (a .walk .now) (2 * a .n - 1) (l .i) (at-test .loop-test .left) in
     sym (at-end (a .slots .now) (l .stack) (l .at) (c .if1 .taken) (l .inv .2)) ∙ ap ended (sym over ∙ l .inv .6)
 
 returns-3 : tie.Need-returns-3 Inv-loop μ-loop
 unfolding walkWeight
 returns-3 c =
-    let a = c .before .before .before .before .before .before .before .args in
-    let l = c .before .before .before .loop in
+    let at-test = c .before .before in
+    let at-loop = at-test .before in
+    let a = at-loop .before .before .before .before .args in
+    let l = at-loop .loop in
     let rules : List R.Rule = rulesOf (a .rules .now) (a .count) in
     let from : State = stateOf (a .slots .now) (l .stack) (Onward (l .at)) in
-    let over = run-over rules from (a .walk .now) (2 * a .n - 1) (l .i) (c .before .before .loop-test .left) in
+    let over = run-over rules from (a .walk .now) (2 * a .n - 1) (l .i) (at-test .loop-test .left) in
     sym (not-at-end (a .slots .now) (l .stack) (l .at) (c .if1 .left)) ∙ ap ended (sym over ∙ l .inv .6)
 
 pub weight-of-spec : {M : Type 1} → statement M

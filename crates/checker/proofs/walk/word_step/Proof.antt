@@ -26,8 +26,11 @@ enum-told c = search needs
 returns : tie.Need-returns
 unfolding leafStep
 returns c =
-    let a = c .before .before .before .before .before .args in
-    let e : costOf (a .word) (slotAt (a .slots .now) (a .at .place)) ≡ none = sym (rw (c .before .before .before .number-at .ensures .0) at (c .before .before .cost-of .ensures .0)) ∙ ap numberOf (c .enum-told .given .1) in
+    let at-cost-of = c .before .before in
+    let at-number = at-cost-of .before in
+    let a = at-number .before .before .args in
+    let cost = rw (at-number .number-at .ensures .0) at (at-cost-of .cost-of .ensures .0) in
+    let e : costOf (a .word) (slotAt (a .slots .now) (a .at .place)) ≡ none = sym cost ∙ ap numberOf (c .enum-told .given .1) in
     (λ stack. rw e, tt)
 
 add-t9 : tie.Need-add-t9
@@ -53,17 +56,24 @@ add-t15 c = search needs
 
 add-t16 : tie.Need-add-t16
 add-t16 c =
-    let small = rw (c .before .before .before .before .before .cost .given .1) at (c .before .before .before .before .before .before .before .cost-of .ensures .1) in
+    let at-cost = c .before .before .before .before .before in
+    let small = rw (at-cost .cost .given .1) at (at-cost .before .before .cost-of .ensures .1) in
     omega (arith, c .before .wide .ensures .1)
 
 returns-2 : tie.Need-returns-2
 unfolding leafStep
 returns-2 c =
-    let a = c .before .before .before .before .before .before .before .before .before .before .args in
-    let small = rw (c .before .before .before .before .before .cost .given .1) at (c .before .before .before .before .before .before .before .cost-of .ensures .1) in
-    let count = c .before .before .before .before .before .before .before .before .number-at .ensures .0 in
-    let e : costOf (a .word) (slotAt (a .slots .now) (a .at .place)) ≡ some (c .before .before .before .before .before .cost .given .0 .0) = sym (rw count at (c .before .before .before .before .before .before .before .cost-of .ensures .0)) ∙ ap numberOf (c .before .before .before .before .before .cost .given .1) in
-    (λ stack. rw (e, count, c .before .wide .ensures .0), omega (arith, c .before .wide .ensures .1, c .before .before .before .before .before .before .before .before .number-at .ensures .1))
+    let at-wide = c .before in
+    let at-cost = at-wide .before .before .before .before in
+    let at-cost-of = at-cost .before .before in
+    let at-number = at-cost-of .before in
+    let a = at-number .before .before .args in
+    let small = rw (at-cost .cost .given .1) at (at-cost-of .cost-of .ensures .1) in
+    let count = at-number .number-at .ensures .0 in
+    let cost = rw count at (at-cost-of .cost-of .ensures .0) in
+    let e : costOf (a .word) (slotAt (a .slots .now) (a .at .place)) ≡ some (at-cost .cost .given .0 .0) =
+    sym cost ∙ ap numberOf (at-cost .cost .given .1) in
+    (λ stack. rw (e, count, at-wide .wide .ensures .0), omega (arith, at-wide .wide .ensures .1, at-number .number-at .ensures .1))
 
 pub word-step-spec : {M : Type 1} → statement M
 word-step-spec =
