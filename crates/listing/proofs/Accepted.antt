@@ -5,19 +5,25 @@ use mathlib.Core.Bool.{false}
 use mathlib.Core.List.{List, [], _∷_, map}
 use Prim.Native.Nat.{ℕ, suc, _*_, _≤_, _<_, min}
 use native.Mathlib.Omega.{arith}
-use lib.ListN.{length, length-map}
+use lib.Dec.{ltb}
+use lib.ListN.{length, length-map, length-take}
 use borrow.Author.Tests.{lt-ltb, le-ltb}
 use Rattle.packing.specs.Meaning.{Grammar, Utterance, Reading}
-use Rattle.packing.specs.Parse.{accepted}
+use Rattle.packing.specs.Parse.{Verdict, accepted, refused}
+use Rattle.packing.specs.Grammar.{grammarBlock}
+use Rattle.packing.specs.Utterance.{utteranceBlock}
 use Rattle.packing.specs.Reading.{blockOfReading}
 use Rattle.packing.specs.Valid.{ValidGrammar, ValidUtterance}
+use Rattle.packing.proofs.Parse.{granted, accepted-else, accepted-is}
 use Rattle.packing.proofs.Widths.{length-reading}
 use Rattle.derivation.specs.Derivation.{At, Derivation, reading}
 use Rattle.derivation.specs.List.{Number, listing}
 use Rattle.derivation.proofs.Lists.{map-at}
 use Rattle.derivation.proofs.Ranges.{All}
 use Rattle.derivation.proofs.Theorems.{list-length, list-element, nodes, greatest-weight}
-use Rattle.listing.specs.Listing.{tableSize, readingLength, tooHeavy, listed}
+use Rattle.listing.specs.Listing.{tableSize, readingLength, tooHeavy, listed, list, answerOf}
+use Rattle.listing.specs.declared.Listed.{Listed}
+use Rattle.listing.specs.declared.Listed.the-variants.{Found}
 use Rattle.listing.proofs.Joined.{Sized}
 
 at-all : {A : Type 0} (P : A → Type 0) (l : List A) → ((k : ℕ) (x : A) → At l k x → P x) → All P l
@@ -61,3 +67,23 @@ module _ (g : Grammar) (u : Utterance) (N : ℕ) where
       le-ltb out (N * readingLength (length u) (length (g .rules))) h₄,
       never-heavy,
     )
+
+-- what the listing answers that it found is never more than was asked for
+accepted-few : (grammar utterance : List ℕ) (N work out : ℕ) {ls : List (List ℕ)} → list grammar utterance N work out ≡ accepted ls → length ls ≤ N
+unfolding list listed listing
+accepted-few grammar utterance N work out e =
+    granted (grammarBlock grammar) _ e λ g p e.
+    granted (utteranceBlock (g .words) utterance) _ e λ u q e.
+    let e₁ = accepted-else (ltb N 1) 21 _ e .1 in
+    let e₂ = accepted-else (ltb 256 N) 21 _ e₁ .1 in
+    let e₃ = accepted-else (ltb work (tableSize (g .symbols) (length u) N)) 22 _ e₂ .1 in
+    let e₄ = accepted-else (ltb out (N * readingLength (length u) (length (g .rules)))) 23 _ e₃ .1 in
+    let e₅ = accepted-else (tooHeavy (listing g u N)) 24 _ e₄ .1 in
+    rw (← accepted-is e₅) (simp (length-map, length-take) (omega arith))
+
+pub found-few : (grammar utterance : List ℕ) (N work out : ℕ) {r : Listed} {m : ℕ} → r ≡ answerOf (list grammar utterance N work out) → r ≡ Found m → m ≤ N
+found-few grammar utterance N work out {r} {m} p q = go (list grammar utterance N work out) refl p
+  where
+    go : (v : Verdict (List (List ℕ))) → list grammar utterance N work out ≡ v → r ≡ answerOf v → m ≤ N
+    go (accepted ls) e a = let same : length ls ≡ m = cc in rw (← same) (accepted-few grammar utterance N work out e)
+    go (refused n) e a = let z : _≡_ {A = ℕ} 0 1 = cc in absurd (omega arith)

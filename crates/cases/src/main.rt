@@ -1,0 +1,50 @@
+// The checked examples of document 01 that are not marked P: G and U with N = 8, a work table of 320 numbers and an output of
+// 48 bytes, just enough of each, and what differs from that.
+use libc::STDOUT_FILENO;
+use listing::Listed;
+ghost use Prim.Native.Nat.{_≤_};
+
+fn print(text: &[u8]) {
+    io::write_all(STDOUT_FILENO, text);
+}
+
+fn print_number(n: usize) {
+    io::print_decimal(STDOUT_FILENO, n as u64);
+    print(b"\n");
+}
+
+fn print_answer(name: &[u8], answer: Listed) {
+    print(name);
+    match answer {
+        Listed::Found(m) => {
+            print(b": readings ");
+            print_number(m);
+        }
+        Listed::Refused(n) => {
+            print(b": refused ");
+            print_number(n as usize);
+        }
+    }
+}
+
+// A line for the listing of U under G with this last byte, lent so many numbers and bytes, which are full of noise.
+fn run(name: &[u8], last: u8, wanted: u32, numbers: usize, bytes: usize)
+    requires { ⌜ (numbers ≤ 320) × (bytes ≤ 48) ⌝ }
+{
+    let g = [16, 64, 64, 64, 0, 9, 0, 0, last];
+    let u = [33u8, 8, 0, 0, 128, 0, 8, 0, 0, 128, 0, 0];
+    let mut work = [12345u32; 320];
+    let mut out = [123u8; 48];
+    let answer = listing::listing(&g, &u, wanted, &mut work[..numbers], &mut out[..bytes]);
+    print_answer(name, answer);
+}
+
+fn main() {
+    run(b"work 320", 0, 8, 320, 48);
+    run(b"work 319", 0, 8, 319, 48);
+    run(b"output 48", 0, 8, 320, 48);
+    run(b"output 47", 0, 8, 320, 47);
+    run(b"N 0", 0, 0, 320, 48);
+    run(b"N 257", 0, 257, 320, 48);
+    run(b"G ending in 01", 1, 8, 320, 48);
+}
