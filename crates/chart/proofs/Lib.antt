@@ -1,19 +1,2 @@
--- What the proofs of several functions use.
+-- Loops from a number on.
 pub mod Loops
-pub mod Extended
-pub mod Places
-pub mod Stores
-pub mod Zeros
--- What a good table holds.
-pub mod Accepted
-pub mod Candidates
-pub mod Chart
-pub mod Entries
-pub mod Good
-pub mod Keys
-pub mod Least
-pub mod Listing
-pub mod Next
-pub mod Placed
-pub mod Select
-pub mod Spell

@@ -1,40 +1,43 @@
-// The chart: the ranked trees of every cell (head, from, to), found one after another in a lent work table.
+// One rank of a cell (head, from, to) placed in the work table, from what the table has of it and of its parts.
 mod selection;
-pub mod table;
-pub mod walk;
 
-use packing::Rule;
+use chart_table::Dims;
+use chart_table::NONE;
+use chart_table::cell_of;
+use chart_table::put_key;
+use chart_table::tie_at;
+use chart_table::waiting::settle;
 use packing::Sym;
-use packing::arrays::rule_at;
+use selection::base;
 use selection::floor_of;
-use selection::least;
-use table::cell_of;
-use table::put_key;
-use table::tie_at;
-use table::weight_at;
+use selection::followers;
+use selection::renewed;
 ghost use mathlib.Core.Path.{_≡_};
-ghost use Prim.Native.Nat.{ℕ, suc, _+_, _-_, _*_, _<_, _≤_};
-ghost use Rattle.chart.specs.Model.{Sized, Small, missing, placed, advanced, next, headsOf, lengthOf, firstsOf, further, listOf, foundOf};
-// The work table's layout: the number of symbols, the ranks kept for each cell, and the number of cells.
-pub struct Dims {
-    pub symbols: usize,
-    pub cap: usize,
-    pub cells: usize,
-}
+ghost use Prim.Native.Nat.{_+_, _-_, _*_, _<_, _≤_};
+ghost use Rattle.chart_table.specs.Table.{Small};
+ghost use Rattle.chart.specs.Model.{begun, placed};
 
-// Whether a rank of a cell is kept and not found.
-fn missing(t: &[u32], d: Dims, a: Sym, i: usize, k: usize, rank: usize) -> bool
+// Writes the first rank of a cell: the least candidate that follows none.
+pub fn begin(
+    t: &mut [u32],
+    rules: &[u32],
+    edges: &[u32],
+    index: &[u32],
+    d: Dims,
+    a: Sym,
+    i: usize,
+    k: usize,
+)
     requires { ⌜ Small d i k ⌝ }
-    ensures { λ r. ⌜ r ≡ missing (now (t .entry)) d a i k rank ⌝ }
+    ensures { λ _. ⌜ now (t .exit) ≡ begun (now (rules .entry)) (now (edges .entry)) (now (index .entry)) d a i k (now (t .entry)) ⌝ }
 {
-    if rank < d.cap {
-        return weight_at(t, d, cell_of(d, a, i, k), rank) == 0;
-    }
-    false
+    let key = base(&t[..], d, rules, edges, index, a, i, k, 0);
+    put_key(t, d, cell_of(d, a, i, k), 0, key);
 }
 
-// Writes the least candidate of a cell at rank c, where the ranks below are found.
-fn place(
+// Writes rank c of a cell, where the ranks below are found: the least of what waits, what follows rank c - 1, and what
+// takes the place of that.
+pub fn place(
     t: &mut [u32],
     rules: &[u32],
     edges: &[u32],
@@ -45,159 +48,17 @@ fn place(
     k: usize,
     c: usize,
 )
-    requires { ⌜ (Small d i k) × (c < d .cap) ⌝ }
+    requires { ⌜ (Small d i k) × (0 < c) × (c < d .cap) ⌝ }
     ensures { λ _. ⌜ now (t .exit) ≡ placed (now (rules .entry)) (now (edges .entry)) (now (index .entry)) d a i k c (now (t .entry)) ⌝ }
 {
+    let cell = cell_of(d, a, i, k);
+    let tie = tie_at(&t[..], d, cell, c - 1);
     let floor = floor_of(&t[..], d, a, i, k, c);
-    let key = least(&t[..], d, rules, edges, index, a, i, k, c, floor);
-    put_key(t, d, cell_of(d, a, i, k), c, key);
-}
-
-// Finds rank c of a cell, where the ranks below are found, with what it needs of the parts.
-pub fn next_of_span(
-    t: &mut [u32],
-    rules: &[u32],
-    edges: &[u32],
-    index: &[u32],
-    d: Dims,
-    a: Sym,
-    i: usize,
-    k: usize,
-    c: usize,
-)
-    requires { ⌜ (Small d i k) × (c < d .cap) ⌝ }
-    ensures { λ _. ⌜ ((f : ℕ) → k - i ≤ f → now (t .exit) ≡ next (now (rules .entry)) (now (edges .entry)) (now (index .entry)) d f (now (t .entry)) a i k c) ⌝ }
-{
-    if c == 0 {
-        place(t, rules, edges, index, d, a, i, k, c);
+    let near = followers(&t[..], d, rules, i, k, floor, NONE, tie);
+    let again = renewed(&t[..], d, rules, edges, index, a, i, k, floor, tie);
+    if again < near {
+        settle(t, d, cell, c, again, near);
         return;
     }
-    let tie = tie_at(&t[..], d, cell_of(d, a, i, k), c - 1);
-    advance_pairing(t, rules, edges, index, d, i, k, tie);
-    place(t, rules, edges, index, d, a, i, k, c);
-}
-
-// Sees that what may follow a found pairing stands in the table: the next of its right part, and of its left where the
-// right is first. The split is tested, since a table may hold anything.
-fn advance_pairing(
-    t: &mut [u32],
-    rules: &[u32],
-    edges: &[u32],
-    index: &[u32],
-    d: Dims,
-    i: usize,
-    k: usize,
-    tie: usize,
-)
-    requires { ⌜ (Small d i k) × (tie < 4294967296) ⌝ }
-    ensures { λ _. ⌜ ((f : ℕ) → k - i ≤ suc f → now (t .exit) ≡ advanced (now (rules .entry)) d (next (now (rules .entry)) (now (edges .entry)) (now (index .entry)) d f) (now (t .entry)) i k tie) ⌝ }
-{
-    let r = tie / 2097152;
-    let j = tie / 65536 % 32;
-    let p = tie / 256 % 256;
-    let q = tie % 256;
-    if i < j {
-        if j < k {
-            let rule = rule_at(rules, r);
-            match rule {
-                Rule::Pair(_, b, c, _) => {
-                    if missing(&t[..], d, c, j, k, q + 1) {
-                        next_of_span(t, rules, edges, index, d, c, j, k, q + 1);
-                    }
-                    if q == 0 {
-                        if missing(&t[..], d, b, i, j, p + 1) {
-                            next_of_span(t, rules, edges, index, d, b, i, j, p + 1);
-                        }
-                    }
-                }
-                Rule::Word(_, _, _) => {}
-            }
-        }
-    }
-}
-
-// Finds the first rank of every head over a span.
-fn first_of_heads(
-    t: &mut [u32],
-    rules: &[u32],
-    edges: &[u32],
-    index: &[u32],
-    d: Dims,
-    i: usize,
-    k: usize,
-)
-    requires { ⌜ Small d i k ⌝ }
-    ensures { λ _. ⌜ now (t .exit) ≡ headsOf (now (rules .entry)) (now (edges .entry)) (now (index .entry)) d (now (t .entry)) i k ⌝ }
-{
-    let n = d.symbols;
-    for a in 0..n {
-        next_of_span(t, rules, edges, index, d, Sym(a as u32), i, k, 0);
-    }
-}
-
-// Finds the first rank of every head over every span of a length.
-fn first_of_length(
-    t: &mut [u32],
-    rules: &[u32],
-    edges: &[u32],
-    index: &[u32],
-    d: Dims,
-    n: usize,
-    len: usize,
-)
-    requires { ⌜ (Sized d) × (n ≤ 31) × (0 < len) × (len ≤ n) ⌝ }
-    ensures { λ _. ⌜ now (t .exit) ≡ lengthOf (now (rules .entry)) (now (edges .entry)) (now (index .entry)) d n (now (t .entry)) len ⌝ }
-{
-    let m = n + 1 - len;
-    for i in 0..m {
-        first_of_heads(t, rules, edges, index, d, i, i + len);
-    }
-}
-
-// Finds the first rank of every cell, over shorter spans first.
-pub fn firsts(t: &mut [u32], rules: &[u32], edges: &[u32], index: &[u32], d: Dims, n: usize)
-    requires { ⌜ (Sized d) × (n ≤ 31) ⌝ }
-    ensures { λ _. ⌜ now (t .exit) ≡ firstsOf (now (rules .entry)) (now (edges .entry)) (now (index .entry)) d n (now (t .entry)) ⌝ }
-{
-    for x in 0..n {
-        first_of_length(t, rules, edges, index, d, n, x + 1);
-    }
-}
-
-// Finds the rank behind rank x of the whole span, if rank x is found.
-fn further(t: &mut [u32], rules: &[u32], edges: &[u32], index: &[u32], d: Dims, n: usize, x: usize)
-    requires { ⌜ (Sized d) × (0 < n) × (n ≤ 31) × (x + 1 < d .cap) ⌝ }
-    ensures { λ _. ⌜ now (t .exit) ≡ further (now (rules .entry)) (now (edges .entry)) (now (index .entry)) d n (now (t .entry)) x ⌝ }
-{
-    if weight_at(&t[..], d, cell_of(d, Sym(0), 0, n), x) == 0 {
-        return;
-    }
-    next_of_span(t, rules, edges, index, d, Sym(0), 0, n, x + 1);
-}
-
-// Finds the ranks of the whole span, as many as are kept.
-pub fn list(t: &mut [u32], rules: &[u32], edges: &[u32], index: &[u32], d: Dims, n: usize)
-    requires { ⌜ (Sized d) × (0 < n) × (n ≤ 31) ⌝ }
-    ensures { λ _. ⌜ now (t .exit) ≡ listOf (now (rules .entry)) (now (edges .entry)) (now (index .entry)) d n (now (t .entry)) ⌝ }
-{
-    firsts(t, rules, edges, index, d, n);
-    let m = d.cap - 1;
-    for x in 0..m {
-        further(t, rules, edges, index, d, n, x);
-    }
-}
-
-// How many ranks of a cell are found.
-pub fn found(t: &[u32], d: Dims, cell: usize) -> usize
-    requires { ⌜ (Sized d) × (cell < 8589934592) ⌝ }
-    ensures { λ m. ⌜ (m ≡ foundOf (now (t .entry)) d cell) × (m ≤ d .cap) ⌝ }
-{
-    let cap = d.cap;
-    let mut m: usize = 0;
-    for x in 0..cap {
-        if weight_at(t, d, cell, x) != 0 {
-            m = m + 1;
-        }
-    }
-    m
+    settle(t, d, cell, c, near, again);
 }

@@ -1,9 +1,9 @@
 // The candidates for the next rank of a cell, and the least of them above a floor.
-use crate::Dims;
-use crate::table::NONE;
-use crate::table::cell_of;
-use crate::table::tie_at;
-use crate::table::weight_at;
+use chart_table::Dims;
+use chart_table::NONE;
+use chart_table::cell_of;
+use chart_table::tie_at;
+use chart_table::weight_at;
 use packing::Rule;
 use packing::Sym;
 use packing::arrays::narrow_at;
@@ -13,7 +13,8 @@ use packing::arrays::wide;
 ghost use mathlib.Core.Path.{_≡_};
 ghost use Prim.Native.Nat.{_+_, _-_, _*_, _<_, _≤_};
 ghost use Rattle.packing.specs.Flat.{ruleAt};
-ghost use Rattle.chart.specs.Model.{Sized, Small, tieOf, keyOf, lessOne, joinKey, lesser, pairKey, wordLeaf, edgeLeaves, leavesOf, splitSeeds, ruleSeeds, seedsOf, followers, followersOf, leastOf, floorOf};
+ghost use Rattle.chart_table.specs.Table.{Sized, Small, tieOf, keyOf, ruleIn, splitIn, leftIn, rightIn};
+ghost use Rattle.chart.specs.Model.{lessOne, joinKey, lesser, pairKey, wordLeaf, edgeLeaves, leavesOf, splitSeeds, ruleSeeds, seedsOf, followers, pairOther, baseOf, renewedOf, floorOf};
 
 // A tie: rule, split, and the ranks of the parts; of a leaf the rule, 0, the edge, 0.
 fn tie_of(r: usize, j: usize, p: usize, q: usize) -> usize
@@ -230,7 +231,7 @@ fn seeds(
 
 // The best so far and what follows a found pairing: the next of its right part, and where that was the first, the next
 // of its left part. A leaf has no split and no followers.
-fn followers(
+pub fn followers(
     t: &[u32],
     d: Dims,
     rules: &[u32],
@@ -264,31 +265,34 @@ fn followers(
     }
 }
 
-// The best so far and the followers of the c ranks found of a cell.
-fn all_followers(
-    t: &[u32],
-    d: Dims,
-    rules: &[u32],
-    a: Sym,
-    i: usize,
-    k: usize,
-    c: usize,
-    floor: usize,
-    best: usize,
-) -> usize
-    requires { ⌜ (Small d i k) × (c ≤ 256) ⌝ }
-    ensures { λ x. ⌜ x ≡ followersOf (now (t .entry)) d (now (rules .entry)) a i k c floor best ⌝ }
+// The other that follows the same pairing as a follower does, where it has two and that other is above the floor.
+fn other(t: &[u32], d: Dims, rules: &[u32], i: usize, k: usize, floor: usize, tie: usize) -> usize
+    requires { ⌜ (Small d i k) × (tie < 4294967296) × (0 < splitIn tie) ⌝ }
+    ensures { λ x. ⌜ x ≡ pairOther (now (t .entry)) d i k (ruleIn tie) (splitIn tie) (leftIn tie) (rightIn tie) floor (ruleAt (now (rules .entry)) (ruleIn tie)) ⌝ }
 {
-    let cell = cell_of(d, a, i, k);
-    let mut so_far = best;
-    for y in 0..c {
-        so_far = followers(t, d, rules, i, k, floor, so_far, tie_at(t, d, cell, y));
+    let r = tie / 2097152;
+    let j = tie / 65536 % 32;
+    let p = tie / 256 % 256;
+    let q = tie % 256;
+    let rule = rule_at(rules, r);
+    match rule {
+        Rule::Pair(_, b, c, w) => {
+            if q == 1 {
+                return lesser(floor, NONE, pair_key(t, d, b, c, w, r, i, j, k, p + 1, 0));
+            }
+            if q == 0 {
+                if 0 < p {
+                    return lesser(floor, NONE, pair_key(t, d, b, c, w, r, i, j, k, p - 1, 1));
+                }
+            }
+            NONE
+        }
+        Rule::Word(_, _, _) => NONE,
     }
-    so_far
 }
 
-// The least key above the floor among all candidates of a cell of which c ranks are found.
-pub fn least(
+// The least above the floor of the candidates of a cell that follow none: its leaves and its seeds.
+pub fn base(
     t: &[u32],
     d: Dims,
     rules: &[u32],
@@ -297,15 +301,38 @@ pub fn least(
     a: Sym,
     i: usize,
     k: usize,
-    c: usize,
     floor: usize,
 ) -> usize
-    requires { ⌜ (Small d i k) × (c ≤ 256) ⌝ }
-    ensures { λ x. ⌜ x ≡ leastOf (now (t .entry)) d (now (rules .entry)) (now (edges .entry)) (now (index .entry)) a i k c floor ⌝ }
+    requires { ⌜ Small d i k ⌝ }
+    ensures { λ x. ⌜ x ≡ baseOf (now (t .entry)) d (now (rules .entry)) (now (edges .entry)) (now (index .entry)) a i k floor ⌝ }
 {
     let leaf = leaves(rules, edges, index, a, i, k, floor, NONE);
-    let seed = seeds(t, d, rules, index, a, i, k, floor, leaf);
-    all_followers(t, d, rules, a, i, k, c, floor, seed)
+    seeds(t, d, rules, index, a, i, k, floor, leaf)
+}
+
+// What takes the place of a candidate that was found: the next that follows none, or the other that follows the same.
+pub fn renewed(
+    t: &[u32],
+    d: Dims,
+    rules: &[u32],
+    edges: &[u32],
+    index: &[u32],
+    a: Sym,
+    i: usize,
+    k: usize,
+    floor: usize,
+    tie: usize,
+) -> usize
+    requires { ⌜ (Small d i k) × (tie < 4294967296) ⌝ }
+    ensures { λ x. ⌜ x ≡ renewedOf (now (t .entry)) d (now (rules .entry)) (now (edges .entry)) (now (index .entry)) a i k floor tie ⌝ }
+{
+    if tie / 65536 % 32 == 0 {
+        return base(t, d, rules, edges, index, a, i, k, floor);
+    }
+    if tie % 65536 == 0 {
+        return base(t, d, rules, edges, index, a, i, k, floor);
+    }
+    other(t, d, rules, i, k, floor, tie)
 }
 
 // The key of the last rank found, or 0.

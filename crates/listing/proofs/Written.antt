@@ -16,8 +16,9 @@ use Rattle.packing.specs.Reading.{blockOfReading}
 use Rattle.packing.proofs.Store.{length-store}
 use Rattle.packing.proofs.Widths.{length-reading}
 use Rattle.packing_reading.specs.Answer.{readingOf}
-use Rattle.chart.specs.declared.Dims.{Dims}
-use Rattle.chart.specs.Model.{cellOf, weightAt, spelled}
+use Rattle.chart_table.specs.declared.Dims.{Dims}
+use Rattle.chart_table.specs.Table.{cellOf, weightAt}
+use Rattle.chart_list.specs.Search.{spelled}
 use Rattle.listing.specs.Listing.{readingLength}
 use Rattle.listing.specs.Model.{readingAt, blockAt, blocksAt}
 

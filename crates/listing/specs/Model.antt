@@ -17,8 +17,9 @@ use Rattle.packing.specs.Valid.{ValidGrammar, ValidUtterance}
 use Rattle.packing_grammar.specs.Answer.{sizes}
 use Rattle.packing_grammar.specs.declared.Sizes.{Sizes}
 use Rattle.packing_reading.specs.Answer.{readingOf}
-use Rattle.chart.specs.declared.Dims.{Dims}
-use Rattle.chart.specs.Model.{cellOf, weightAt, listOf, foundOf, spelled}
+use Rattle.chart_table.specs.declared.Dims.{Dims}
+use Rattle.chart_table.specs.Table.{cellOf, weightAt, foundOf}
+use Rattle.chart_list.specs.Search.{listOf, spelled}
 use Rattle.listing.specs.Listing.{tableSize, readingLength, listed, Promised}
 use Rattle.listing.specs.declared.Listed.{Listed}
 

@@ -1,8 +1,8 @@
 // The listing of the N least readings.
-use chart::Dims;
-use chart::table::cell_of;
-use chart::table::weight_at;
-use chart::table::zero;
+use chart_table::Dims;
+use chart_table::cell_of;
+use chart_table::weight_at;
+use chart_table::zero;
 use packing::Sym;
 use packing_grammar::GrammarRead;
 use packing_grammar::Sizes;
@@ -12,7 +12,7 @@ ghost use mathlib.Core.List.{_++_};
 ghost use Prim.Native.Nat.{_+_, _-_, _*_, _/_, _≤_, _<_};
 ghost use lib.ListN.{length, drop};
 ghost use Rattle.packing_grammar.specs.Answer.{Bounded};
-ghost use Rattle.chart.specs.Model.{Small};
+ghost use Rattle.chart_table.specs.Table.{Small};
 ghost use Rattle.listing.specs.Listing.{readingLength, list, Promised};
 ghost use Rattle.listing.specs.Model.{shortage, blockAt, blocksAt, Filled, UtteranceListed, GrammarListed};
 
@@ -66,7 +66,7 @@ fn write_rank(t: &[u32], rules: &[u32], count: usize, d: Dims, n: usize, x: usiz
 {
     let start = Sym(0);
     let mut walk = [0u32; 48];
-    chart::walk::spell(t, rules, d, start, 0, n, x, &mut walk, 0);
+    chart_list::walk::spell(t, rules, d, start, 0, n, x, &mut walk, 0);
     let stored = weight_at(t, d, cell_of(d, start, 0, n), x);
     packing_reading::write_reading(out, n, count, less_one(stored), &walk);
 }
@@ -106,8 +106,8 @@ fn fill(
     ensures { λ r. ⌜ Filled (now (rules .entry)) count (now (edges .entry)) (now (index .entry)) d n (now (work .entry)) (now (out .entry)) r (now (work .exit)) (now (out .exit)) ⌝ }
 {
     zero(work);
-    chart::list(work, rules, edges, index, d, n);
-    let m = chart::found(&work[..], d, cell_of(d, Sym(0), 0, n));
+    chart_list::list(work, rules, edges, index, d, n);
+    let m = chart_table::found(&work[..], d, cell_of(d, Sym(0), 0, n));
     write_readings(&work[..], rules, count, d, n, m, out);
     zero(work);
     m

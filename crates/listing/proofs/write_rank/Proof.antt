@@ -6,7 +6,7 @@ use native.Mathlib.Omega.{arith}
 use borrow.Author.Needs.{needs}
 use lib.ListN.{length}
 use Rattle.packing.specs.Meaning.{sym as symbol}
-use Rattle.chart.specs.Model.{cellOf, weightAt}
+use Rattle.chart_table.specs.Table.{cellOf, weightAt}
 use Rattle.listing.specs.Listing.{readingLength}
 use Rattle.listing.proofs.Written.{rank-written}
 use Rattle.listing.proofs.write_rank.Statement.{statement}

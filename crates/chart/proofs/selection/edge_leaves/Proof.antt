@@ -6,7 +6,8 @@ use lib.ListN.{getD}
 use borrow.Author.Tests.{eq-eqb, ne-eqb}
 use borrow.Author.Needs.{needs}
 use Rattle.packing.specs.Flat.{ruleAt}
-use Rattle.chart.specs.Model.{over, wordLeaf, edgeLeaves}
+use Rattle.packing.specs.Loop.{over}
+use Rattle.chart.specs.Model.{wordLeaf, edgeLeaves}
 use Rattle.packing.proofs.Loop.{iter-end}
 use Rattle.chart.proofs.Loops.{from-none, from-more, from-turn}
 use Rattle.chart.proofs.selection.edge_leaves.Statement.{statement}

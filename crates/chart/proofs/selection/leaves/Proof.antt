@@ -4,7 +4,8 @@ use mathlib.Core.Path.{_≡_, sym, _∙_}
 use native.Mathlib.Omega.{arith}
 use lib.ListN.{getD}
 use borrow.Author.Needs.{needs}
-use Rattle.chart.specs.Model.{over, edgeLeaves, leavesOf}
+use Rattle.packing.specs.Loop.{over}
+use Rattle.chart.specs.Model.{edgeLeaves, leavesOf}
 use Rattle.packing.proofs.Loop.{iter-end}
 use Rattle.chart.proofs.Loops.{from-none, from-more, from-turn}
 use Rattle.chart.proofs.selection.leaves.Statement.{statement}

@@ -6,7 +6,8 @@ use native.Mathlib.Omega.{arith}
 use lib.ListN.{getD}
 use borrow.Author.Needs.{needs}
 use Rattle.packing.specs.Flat.{ruleAt}
-use Rattle.chart.specs.Model.{over, ruleSeeds, seedsOf}
+use Rattle.packing.specs.Loop.{over}
+use Rattle.chart.specs.Model.{ruleSeeds, seedsOf}
 use Rattle.packing.proofs.Loop.{iter-end}
 use Rattle.chart.proofs.Loops.{from-none, from-more, from-turn}
 use Rattle.chart.proofs.selection.seeds.Statement.{statement}

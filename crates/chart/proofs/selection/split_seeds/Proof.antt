@@ -3,7 +3,8 @@ use Prim.Native.Nat.{_≤_, _-_, _+_}
 use mathlib.Core.Path.{_≡_, sym, _∙_}
 use native.Mathlib.Omega.{arith}
 use borrow.Author.Needs.{needs}
-use Rattle.chart.specs.Model.{over, lesser, pairKey, splitSeeds}
+use Rattle.packing.specs.Loop.{over}
+use Rattle.chart.specs.Model.{lesser, pairKey, splitSeeds}
 use Rattle.packing.proofs.Loop.{iter-end}
 use Rattle.chart.proofs.Loops.{from-none, from-more, from-turn}
 use Rattle.chart.proofs.selection.split_seeds.Statement.{statement}

@@ -1,0 +1,107 @@
+-- A key is one number that compares as its row does: the weight plus 1 and the four numbers of the tie are its digits.
+use mathlib.Core.Path.{_≡_, refl, sym, _∙_}
+use Prim.Native.Nat.{ℕ, _+_, _*_, _/_, _%_, _<_, compare, Ordering, Ordering·lt, Ordering·eq, Ordering·gt, compare·suc-suc}
+use native.Mathlib.Nat.{mul-le-mul-right}
+use native.Mathlib.Numerals.{add-one}
+use native.Mathlib.Omega.{arith}
+use Rattle.derivation.specs.Order.{_▸_}
+use Rattle.derivation.proofs.Comparison.{compare-lawful, compare-self, compare-same, compare-lt, compare-gt, compare-below, turn-gt}
+use Rattle.derivation.proofs.Rows.{Row, row, rowWeight, rowOrder}
+use Rattle.chart_table.specs.Table.{tieOf, ruleIn, splitIn, leftIn, rightIn, keyOf, none}
+
+abbrev pub rowTie : Row → ℕ
+rowTie (row w r j p q) = tieOf r j p q
+
+abbrev pub rowKey : Row → ℕ
+rowKey v = keyOf (rowWeight v + 1) (rowTie v)
+
+-- the numbers of a row that a key has room for
+pub record Fits (r j p q : ℕ) : Type 0 where
+  pub rule : r < 256
+  pub split : j < 32
+  pub left : p < 256
+  pub right : q < 256
+
+abbrev pub RowFits : Row → Type 0
+RowFits (row w r j p q) = Fits r j p q
+
+-- digits compare as the number that they make
+▸-assoc : (a b c : Ordering) → (a ▸ b) ▸ c ≡ a ▸ b ▸ c
+unfolding _▸_
+▸-assoc Ordering·lt b c = refl
+▸-assoc Ordering·eq b c = refl
+▸-assoc Ordering·gt b c = refl
+
+compare-shift : (z x y : ℕ) → compare (z + x) (z + y) ≡ compare x y
+compare-shift z x y = go (compare x y) refl
+  where
+    go : (o : Ordering) → compare x y ≡ o → compare (z + x) (z + y) ≡ compare x y
+    go Ordering·lt e = compare-lt (z + x) (z + y) (omega (arith, compare-below x y e)) ∙ sym e
+    go Ordering·eq e = rw (compare-same x y e) (compare-self (z + y) ∙ sym (compare-self y))
+    go Ordering·gt e = compare-gt (z + x) (z + y) (omega (arith, compare-below y x (turn-gt compare-lawful x y e))) ∙ sym e
+
+compare-digits : (m x y x′ y′ : ℕ) → y < m → y′ < m → compare (x * m + y) (x′ * m + y′) ≡ compare x x′ ▸ compare y y′
+unfolding _▸_
+compare-digits m x y x′ y′ h h′ = go (compare x x′) refl
+  where
+    less : (a b c d : ℕ) → c < m → a < b → a * m + c < b * m + d
+    less a b c d k l = omega (arith, mul-le-mul-right m l)
+
+    go : (o : Ordering) → compare x x′ ≡ o → compare (x * m + y) (x′ * m + y′) ≡ compare x x′ ▸ compare y y′
+    go Ordering·lt e = rw e (compare-lt (x * m + y) (x′ * m + y′) (less x x′ y y′ h (compare-below x x′ e)))
+    go Ordering·eq e = rw (compare-same x x′ e, compare-self x′) (compare-shift (x′ * m) y y′)
+    go Ordering·gt e =
+        rw e (compare-gt (x * m + y) (x′ * m + y′) (less x′ x y′ y h′ (compare-below x′ x (turn-gt compare-lawful x x′ e))))
+
+module _ {r j p q : ℕ} (fits : Fits r j p q) where
+  pub tie-below : tieOf r j p q < 536870912
+  tie-below = omega arith
+
+  -- the numbers of a tie
+  pub rule-in : ruleIn (tieOf r j p q) ≡ r
+  rule-in = omega arith
+
+  pub split-in : splitIn (tieOf r j p q) ≡ j
+  split-in = omega arith
+
+  pub left-in : leftIn (tieOf r j p q) ≡ p
+  left-in = omega arith
+
+  pub right-in : rightIn (tieOf r j p q) ≡ q
+  right-in = omega arith
+
+-- the weight and the tie of a key
+pub key-weight : (v : Row) → RowFits v → rowKey v / 536870912 ≡ rowWeight v + 1
+key-weight (row w r j p q) fits = omega (arith, tie-below fits)
+
+pub key-tie : (v : Row) → RowFits v → rowKey v % 536870912 ≡ rowTie v
+key-tie (row w r j p q) fits = omega (arith, tie-below fits)
+
+-- the central fact
+pub key-order : (v v′ : Row) → RowFits v → RowFits v′ → compare (rowKey v) (rowKey v′) ≡ rowOrder v v′
+unfolding rowOrder
+key-order (row w r j p q) (row w′ r′ j′ p′ q′) f f′ =
+    compare-digits 536870912 (w + 1) (tieOf r j p q) (w′ + 1) (tieOf r′ j′ p′ q′) (tie-below f) (tie-below f′)
+    ∙ rw (
+      add-one w,
+      add-one w′,
+      compare·suc-suc w w′,
+      compare-digits 256 ((r * 32 + j) * 256 + p) q ((r′ * 32 + j′) * 256 + p′) q′ (f .right) (f′ .right),
+      compare-digits 256 (r * 32 + j) p (r′ * 32 + j′) p′ (f .left) (f′ .left),
+      compare-digits 32 r j r′ j′ (f .split) (f′ .split),
+      ▸-assoc (compare r r′ ▸ compare j j′) (compare p p′) (compare q q′),
+      ▸-assoc (compare r r′) (compare j j′) (compare p p′ ▸ compare q q′),
+    )
+
+pub order-key : (v v′ : Row) → RowFits v → RowFits v′ → rowOrder v v′ ≡ Ordering·lt → rowKey v < rowKey v′
+order-key v v′ f f′ e = compare-below (rowKey v) (rowKey v′) (key-order v v′ f f′ ∙ e)
+
+pub key-lt : (v v′ : Row) → RowFits v → RowFits v′ → rowKey v < rowKey v′ → rowOrder v v′ ≡ Ordering·lt
+key-lt v v′ f f′ h = sym (key-order v v′ f f′) ∙ compare-lt (rowKey v) (rowKey v′) h
+
+-- a key of a weight of 24 bits is one
+pub key-some : (v : Row) → RowFits v → rowWeight v < 16777216 → rowKey v < none
+key-some (row w r j p q) f h = omega (arith, tie-below f)
+
+pub key-positive : (v : Row) → 0 < rowKey v
+key-positive v = omega arith

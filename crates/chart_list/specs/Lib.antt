@@ -1,0 +1,2 @@
+-- The search and the spelling.
+pub mod Search

@@ -1,0 +1,3 @@
+-- Bounds of the layout, and zeros.
+pub mod Places
+pub mod Zeros

@@ -1,0 +1,2 @@
+-- The work table.
+pub mod Table
