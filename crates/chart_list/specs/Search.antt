@@ -41,8 +41,8 @@ module _ (rules edges index : List ℕ) (d : Dims) where
   unfoldable pub next : ℕ → List ℕ → Sym → ℕ → ℕ → ℕ → List ℕ
   next zero t a i k c = t
   next (suc fuel) t a i k c =
-      pick (eqb c 0) (begun a i k t)
-      (placed a i k c (advanced rules d (next fuel) t i k (tieAt t d (cellOf d a i k) (c - 1))))
+      pick (eqb c 0) (begun rules edges index d a i k t)
+      (placed rules edges index d a i k c (advanced rules d (next fuel) t i k (tieAt t d (cellOf d a i k) (c - 1))))
 
   -- the first rank of every head over a span, over every span of a length, and over every span, shorter ones first
   unfoldable pub headsOf : List ℕ → ℕ → ℕ → List ℕ
