@@ -1,0 +1,72 @@
+-- By the rule's variant and the tests of the ranks.
+use borrow.Author.Tests.{eq-eqb, ne-eqb, lt-ltb, le-ltb}
+use Rattle.chart.specs.Model.{pairOther}
+use borrow.Author.Needs.{needs}
+use Rattle.chart.proofs.selection.other.Statement.{statement}
+use Rattle.chart.proofs.selection.other.Tie as tie
+
+rule-at-requires : tie.Need-rule-at-requires
+rule-at-requires c κs = search needs
+
+enum-known-rule : tie.Need-enum-known-rule
+enum-known-rule c = search needs
+
+add-pair-key : tie.Need-add-pair-key
+add-pair-key c = search needs
+
+pair-key-requires : tie.Need-pair-key-requires
+pair-key-requires c κs = search needs
+
+lesser-requires : tie.Need-lesser-requires
+lesser-requires c κs = search needs
+
+returns : tie.Need-returns
+unfolding pairOther
+returns c = simp (← c .before .before .before .before .before .before .rule-at .ensures, c .before .before .before .before .rule .given .1, eq-eqb _ _ (c .before .before .if1 .taken)) (rw (c .lesser .ensures, c .before .pair-key .ensures))
+
+sub-pair-key : tie.Need-sub-pair-key
+sub-pair-key c = search needs
+
+pair-key-requires-2 : tie.Need-pair-key-requires-2
+pair-key-requires-2 c κs = search needs
+
+lesser-requires-2 : tie.Need-lesser-requires-2
+lesser-requires-2 c κs = search needs
+
+returns-2 : tie.Need-returns-2
+unfolding pairOther
+returns-2 c = simp (← c .before .before .before .before .before .before .before .before .rule-at .ensures, c .before .before .before .before .before .before .rule .given .1, ne-eqb _ _ (c .before .before .before .before .if1 .left), eq-eqb _ _ (c .before .before .before .if2 .taken), lt-ltb _ _ (c .before .before .if3 .taken)) (rw (c .lesser2 .ensures, c .before .pair-key2 .ensures))
+
+enum-told : tie.Need-enum-told
+enum-told c = search needs
+
+returns-3 : tie.Need-returns-3
+unfolding pairOther
+returns-3 c = simp (← c .before .before .before .before .before .before .rule-at .ensures, c .before .before .before .before .rule .given .1, ne-eqb _ _ (c .before .before .if1 .left), eq-eqb _ _ (c .before .if2 .taken), le-ltb _ _ (c .if3 .left))
+
+returns-4 : tie.Need-returns-4
+unfolding pairOther
+returns-4 c = simp (← c .before .before .before .before .before .rule-at .ensures, c .before .before .before .rule .given .1, ne-eqb _ _ (c .before .if1 .left), ne-eqb _ _ (c .if2 .left))
+
+returns-5 : tie.Need-returns-5
+unfolding pairOther
+returns-5 c = simp (← c .before .before .rule-at .ensures, c .enum-told .given .1)
+
+pub other-spec : {M : Type 1} → statement M
+other-spec =
+    tie.close
+    (tie.spec
+    rule-at-requires
+    enum-known-rule
+    add-pair-key
+    pair-key-requires
+    lesser-requires
+    returns
+    sub-pair-key
+    pair-key-requires-2
+    lesser-requires-2
+    returns-2
+    enum-told
+    returns-3
+    returns-4
+    returns-5)
