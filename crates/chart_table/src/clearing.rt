@@ -4,7 +4,7 @@ use crate::entry_of;
 use crate::weight_at;
 use packing::arrays::store;
 ghost use mathlib.Core.Path.{_≡_};
-ghost use Prim.Native.Nat.{_+_, _-_, _*_, _<_, _≤_};
+ghost use Prim.Native.Nat.{_<_, _≤_};
 ghost use Rattle.chart_table.specs.Table.{runOf, clearedEntry, clearedCell, cleared, Sized};
 
 // How many ranks of a cell are found, one after another from the first.

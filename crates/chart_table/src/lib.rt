@@ -7,7 +7,7 @@ use packing::arrays::number_at;
 use packing::arrays::store;
 use packing::arrays::wide;
 ghost use mathlib.Core.Path.{_≡_};
-ghost use Prim.Native.Nat.{_+_, _-_, _*_, _<_, _≤_};
+ghost use Prim.Native.Nat.{_<_, _≤_};
 ghost use lib.ListN.{length, replicate};
 ghost use Rattle.chart_table.specs.Table.{cellOf, entryOf, weightAt, tieAt, putKey, foundOf, Sized};
 

@@ -7,7 +7,7 @@ use crate::put_key;
 use packing::arrays::number_at;
 use packing::arrays::store;
 ghost use mathlib.Core.Path.{_≡_};
-ghost use Prim.Native.Nat.{_+_, _-_, _*_, _<_, _≤_};
+ghost use Prim.Native.Nat.{_<_, _≤_};
 ghost use Rattle.chart_table.specs.Table.{none, waitingAt, waitingIn, putWaiting, moveWaiting, putCount, sooner, soonest, replaced, appended, settled, Sized};
 
 // The key of what waits at place y.

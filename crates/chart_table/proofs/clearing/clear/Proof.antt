@@ -1,0 +1,53 @@
+-- The loop is the iteration over the cells.
+use mathlib.Core.Path.{_≡_, refl, _∙_}
+use Prim.Native.Nat.{_-_, _≤_}
+use lib.ListN.{length}
+use Rattle.packing.specs.Loop.{iter}
+use Rattle.packing.proofs.Loop.{iter-more, iter-end}
+use Rattle.chart_table.specs.Table.{clearedCell, cleared}
+use borrow.Author.Needs.{needs}
+use Rattle.chart_table.proofs.clearing.clear.Statement.{statement}
+use Rattle.chart_table.proofs.clearing.clear.Tie as tie
+
+abbrev Inv-loop : tie.InvT-loop
+Inv-loop t₀ d cells cell₀ t cell = (cell ≤ d .cells) × (length t ≡ length t₀) × (t ≡ iter (λ u cell. clearedCell u d cell) t₀ cell)
+
+abbrev μ-loop : tie.MeasureT-loop
+μ-loop t₀ d cells cell₀ t cell = d .cells - cell
+
+loop-holds : tie.Need-loop-holds Inv-loop μ-loop
+unfolding iter
+loop-holds c = (search needs, refl, refl)
+
+clear-cell-requires : tie.Need-clear-cell-requires Inv-loop μ-loop
+clear-cell-requires c κs = search needs
+
+add-cell : tie.Need-add-cell Inv-loop μ-loop
+add-cell c = search needs
+
+loop-less : tie.Need-loop-less Inv-loop μ-loop
+loop-less c = search needs
+
+loop-again : tie.Need-loop-again Inv-loop μ-loop
+loop-again c = (search needs, c .before .before .clear-cell .kept .0 ∙ c .before .before .before .before .before .loop .inv .1, rw (iter-more, ← c .before .before .before .before .before .loop .inv .2) (c .before .before .clear-cell .ensures))
+
+same-length : tie.Need-same-length Inv-loop μ-loop
+same-length c = c .before .loop .inv .1
+
+returns : tie.Need-returns Inv-loop μ-loop
+unfolding cleared
+returns c = c .before .loop .inv .2 ∙ iter-end _ _ _ _ (c .before .loop .inv .0) (c .loop-test .left)
+
+pub clear-spec : {M : Type 1} → statement M
+clear-spec =
+    tie.close
+    (tie.spec
+    Inv-loop
+    μ-loop
+    loop-holds
+    clear-cell-requires
+    add-cell
+    loop-less
+    loop-again
+    same-length
+    returns)

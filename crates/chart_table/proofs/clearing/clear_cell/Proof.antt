@@ -1,0 +1,57 @@
+-- The loop is the iteration over the ranks found.
+use mathlib.Core.Path.{_≡_, refl, _∙_}
+use Prim.Native.Nat.{_-_, _≤_}
+use lib.ListN.{length}
+use Rattle.packing.specs.Loop.{iter}
+use Rattle.packing.proofs.Loop.{iter-more, iter-end}
+use Rattle.chart_table.specs.Table.{clearedEntry, clearedCell}
+use borrow.Author.Needs.{needs}
+use Rattle.chart_table.proofs.clearing.clear_cell.Statement.{statement}
+use Rattle.chart_table.proofs.clearing.clear_cell.Tie as tie
+
+abbrev Inv-loop : tie.InvT-loop
+Inv-loop t₀ d cell m x₀ t x = (x ≤ m) × (length t ≡ length t₀) × (t ≡ iter (λ u x. clearedEntry u d cell x) t₀ x)
+
+abbrev μ-loop : tie.MeasureT-loop
+μ-loop t₀ d cell m x₀ t x = m - x
+
+run-requires : tie.Need-run-requires Inv-loop μ-loop
+run-requires c κs = search needs
+
+loop-holds : tie.Need-loop-holds Inv-loop μ-loop
+unfolding iter
+loop-holds c = (search needs, refl, refl)
+
+clear-entry-requires : tie.Need-clear-entry-requires Inv-loop μ-loop
+clear-entry-requires c κs = search needs
+
+add-x : tie.Need-add-x Inv-loop μ-loop
+add-x c = search needs
+
+loop-less : tie.Need-loop-less Inv-loop μ-loop
+loop-less c = search needs
+
+loop-again : tie.Need-loop-again Inv-loop μ-loop
+loop-again c = (search needs, c .before .before .clear-entry .kept .0 ∙ c .before .before .before .before .before .loop .inv .1, rw (iter-more, ← c .before .before .before .before .before .loop .inv .2) (c .before .before .clear-entry .ensures))
+
+same-length : tie.Need-same-length Inv-loop μ-loop
+same-length c = c .before .loop .inv .1
+
+returns : tie.Need-returns Inv-loop μ-loop
+unfolding clearedCell
+returns c = rw (← c .before .before .run .ensures .0) (c .before .loop .inv .2 ∙ iter-end _ _ _ _ (c .before .loop .inv .0) (c .loop-test .left))
+
+pub clear-cell-spec : {M : Type 1} → statement M
+clear-cell-spec =
+    tie.close
+    (tie.spec
+    Inv-loop
+    μ-loop
+    run-requires
+    loop-holds
+    clear-entry-requires
+    add-x
+    loop-less
+    loop-again
+    same-length
+    returns)
