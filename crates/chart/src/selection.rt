@@ -33,19 +33,21 @@ fn key_of(w: usize, tie: usize) -> usize
 }
 
 // The weight of a part from its weight plus 1; one that is missing weighs 2 ^ 32 - 1.
-fn less_one(x: usize) -> usize
-    requires { ⌜ x < 4294967296 ⌝ }
-    ensures { λ r. ⌜ (r ≡ lessOne x) × (r < 4294967296) ⌝ }
+fn less_one(x: u32) -> u32
+    ensures { λ r. ⌜ r ≡ lessOne x ⌝ }
 {
     if x == 0 { 4294967295 } else { x - 1 }
 }
 
 // The key of a tree joined from two parts, given by their weights plus 1.
-fn join_key(w: u32, left: usize, right: usize, tie: usize) -> usize
-    requires { ⌜ (left < 4294967296) × (right < 4294967296) × (tie < 18014398509481984) ⌝ }
+fn join_key(w: u32, left: u32, right: u32, tie: usize) -> usize
+    requires { ⌜ tie < 18014398509481984 ⌝ }
     ensures { λ x. ⌜ x ≡ joinKey w left right tie ⌝ }
 {
-    key_of(wide(w) + less_one(left) + less_one(right) + 1, tie)
+    key_of(
+        wide(w) + wide(less_one(left)) + wide(less_one(right)) + 1,
+        tie,
+    )
 }
 
 // The lesser of the best and a key above the floor.
@@ -79,7 +81,7 @@ fn pair_key(
 {
     let left = weight_at(t, d, cell_of(d, b, i, j), p);
     let right = weight_at(t, d, cell_of(d, c, j, k), q);
-    join_key(w, left, right, tie_of(r, j, p, q))
+    join_key(w, left as u32, right as u32, tie_of(r, j, p, q))
 }
 
 // The best so far and the leaf of an edge by a rule, if that is a rule of the edge's word.

@@ -10,11 +10,17 @@ wide-requires c κs = search needs
 less-one-requires : tie.Need-less-one-requires
 less-one-requires c κs = search needs
 
+wide-requires-2 : tie.Need-wide-requires-2
+wide-requires-2 c κs = search needs
+
 add-key-of : tie.Need-add-key-of
 add-key-of c = search needs
 
 less-one-requires-2 : tie.Need-less-one-requires-2
 less-one-requires-2 c κs = search needs
+
+wide-requires-3 : tie.Need-wide-requires-3
+wide-requires-3 c κs = search needs
 
 add-key-of-2 : tie.Need-add-key-of-2
 add-key-of-2 c = search needs
@@ -27,7 +33,7 @@ key-of-requires c κs = search needs
 
 returns : tie.Need-returns
 unfolding joinKey
-returns c = (cc)
+returns c = rw (c .key-of .ensures, c .before .wide3 .ensures .0, c .before .before .less-one2 .ensures, c .before .before .before .wide2 .ensures .0, c .before .before .before .before .less-one .ensures, c .before .before .before .before .before .wide .ensures .0)
 
 pub join-key-spec : {M : Type 1} → statement M
 join-key-spec =
@@ -35,8 +41,10 @@ join-key-spec =
     (tie.spec
     wide-requires
     less-one-requires
+    wide-requires-2
     add-key-of
     less-one-requires-2
+    wide-requires-3
     add-key-of-2
     add-key-of-3
     key-of-requires

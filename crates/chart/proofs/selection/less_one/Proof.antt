@@ -17,4 +17,9 @@ unfolding lessOne
 returns-2 c = search (needs, ne-eqb)
 
 pub less-one-spec : {M : Type 1} → statement M
-less-one-spec = tie.close (tie.spec sub-result returns returns-2)
+less-one-spec =
+    tie.close
+    (tie.spec
+    sub-result
+    returns
+    returns-2)

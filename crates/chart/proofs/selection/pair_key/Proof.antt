@@ -16,6 +16,12 @@ cell-of-requires-2 c κs = search needs
 weight-at-requires-2 : tie.Need-weight-at-requires-2
 weight-at-requires-2 c κs = search needs
 
+cast-join-key : tie.Need-cast-join-key
+cast-join-key c = search needs
+
+cast-join-key-2 : tie.Need-cast-join-key-2
+cast-join-key-2 c = search needs
+
 tie-of-requires : tie.Need-tie-of-requires
 tie-of-requires c κs = search needs
 
@@ -34,6 +40,8 @@ pair-key-spec =
     weight-at-requires
     cell-of-requires-2
     weight-at-requires-2
+    cast-join-key
+    cast-join-key-2
     tie-of-requires
     join-key-requires
     returns)
