@@ -1,2 +1,3 @@
--- Loops from a number on.
+-- Loops from a number on, and the loop over the splits.
 pub mod Loops
+pub mod Splits

@@ -2,6 +2,7 @@
 use chart_table::Dims;
 use chart_table::NONE;
 use chart_table::cell_of;
+use chart_table::entry_of;
 use chart_table::tie_at;
 use chart_table::weight_at;
 use packing::Rule;
@@ -162,7 +163,8 @@ fn leaves(
     so_far
 }
 
-// The best so far and the first with the first of a pair rule's parts, for each split.
+// The best so far and the first with the first of a pair rule's parts, for each split. The parts' entries go from split to
+// split by sums: no product stands in the way of the reads.
 fn split_seeds(
     t: &[u32],
     d: Dims,
@@ -178,9 +180,15 @@ fn split_seeds(
     requires { ⌜ (Small d i k) × (r < 4294967296) ⌝ }
     ensures { λ x. ⌜ x ≡ splitSeeds (now (t .entry)) d b c w r i k floor best ⌝ }
 {
+    let step = d.symbols * 4;
+    let mut x = entry_of(d, cell_of(d, b, i, i + 1), 0);
+    let mut y = entry_of(d, cell_of(d, c, i + 1, k), 0);
     let mut so_far = best;
     for j in i + 1..k {
-        so_far = lesser(floor, so_far, pair_key(t, d, b, c, w, r, i, j, k, 0, 0));
+        let key = join_key(w, narrow_at(t, x), narrow_at(t, y), tie_of(r, j, 0, 0));
+        so_far = lesser(floor, so_far, key);
+        x = x + step * j;
+        y = y + step;
     }
     so_far
 }

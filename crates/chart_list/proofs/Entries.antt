@@ -6,7 +6,7 @@ use mathlib.Core.Logic.{⊎-elim, _≢_}
 use mathlib.Core.Bool.{false}
 use mathlib.Core.List.{List}
 use Prim.Native.Nat.{ℕ, zero, suc, _+_, _-_, _*_, _/_, _%_, _≤_, _<_}
-use native.Mathlib.Nat.{eq-or-lt-of-le, suc-mul, mul-suc, mul-comm, mul-le-mul-right}
+use native.Mathlib.Nat.{eq-or-lt-of-le, mul-suc, mul-comm, mul-le-mul-right}
 use native.Mathlib.Numerals.{add-one}
 use native.Mathlib.Decide.{decLe}
 use native.Mathlib.Omega.{arith}
@@ -18,6 +18,7 @@ use borrow.Author.Tests.{eqb-false, lt-ltb, le-ltb}
 use Rattle.packing.specs.Meaning.{sym as symbol}
 use Rattle.packing.specs.declared.Sym.{Sym}
 use Rattle.chart_table.specs.declared.Dims.{Dims}
+use Rattle.chart_table.proofs.Cells.{spans, spans-suc}
 use Rattle.chart_table.specs.Table.{cellOf, entryOf, weightAt, tieAt, none, putKey}
 
 -- a head over a span of n places
@@ -29,19 +30,6 @@ pub record Cell (d : Dims) (n : ℕ) (a : Sym) (i k : ℕ) : Type 0 where
 -- the layout has a cell for each of them
 abbrev pub Planned : Dims → ℕ → Type 0
 Planned d n = d .cells ≡ d .symbols * (n * (n + 1) / 2)
-
--- how many spans end before place k
-abbrev spans : ℕ → ℕ
-spans k = k * (k - 1) / 2
-
-spans-suc : (k : ℕ) → spans (suc k) ≡ spans k + k
-spans-suc zero = refl
-spans-suc (suc m) =
-    let one : suc (suc m) - 1 ≡ suc m = omega arith in
-    let two : suc m - 1 ≡ m = omega arith in
-    let e : suc (suc m) * (suc (suc m) - 1) ≡ m * m + 3 * m + 2 = rw one (simp (suc-mul, mul-suc) (omega arith)) in
-    let e′ : suc m * (suc m - 1) ≡ m * m + m = rw two (simp (suc-mul) (omega arith)) in
-    omega arith
 
 spans-before : (k m : ℕ) → k < m → spans k + k ≤ spans m
 spans-before k (suc m) h =

@@ -1,0 +1,45 @@
+-- Where the first entries of neighbouring cells stand: with the span's begin a place later an entry stands as many entries
+-- further as there are symbols, and with its end a place later k times as many, since k spans end at place k.
+use mathlib.Core.Path.{_≡_, refl}
+use mathlib.Core.List.{List}
+use Prim.Native.Nat.{ℕ, zero, suc, _+_, _-_, _*_, _/_, _<_}
+use native.Mathlib.Nat.{suc-mul, mul-suc, add-mul, mul-comm, mul-assoc, mul-left-comm}
+use native.Mathlib.Numerals.{add-one}
+use native.Mathlib.Omega.{arith}
+use lib.ListN.{getD}
+use borrow.Author.Tests.{lt-ltb}
+use Rattle.packing.specs.declared.Sym.{Sym}
+use Rattle.chart_table.specs.declared.Dims.{Dims}
+use Rattle.chart_table.specs.Table.{cellOf, entryOf, weightAt}
+
+-- how many spans end before place k
+abbrev pub spans : ℕ → ℕ
+spans k = k * (k - 1) / 2
+
+pub spans-suc : (k : ℕ) → spans (suc k) ≡ spans k + k
+spans-suc zero = refl
+spans-suc (suc m) =
+    let one : suc (suc m) - 1 ≡ suc m = omega arith in
+    let two : suc m - 1 ≡ m = omega arith in
+    let e : suc (suc m) * (suc (suc m) - 1) ≡ m * m + 3 * m + 2 = rw one (simp (suc-mul, mul-suc) (omega arith)) in
+    let e′ : suc m * (suc m - 1) ≡ m * m + m = rw two (simp (suc-mul) (omega arith)) in
+    omega arith
+
+module _ (d : Dims) (a : Sym) (i k : ℕ) where
+  pub begin-later : entryOf d (cellOf d a (i + 1) k) 0 ≡ entryOf d (cellOf d a i k) 0 + d .symbols * 4
+  unfolding entryOf cellOf
+  begin-later =
+      let e : spans k + (i + 1) ≡ suc (spans k + i) = omega arith in
+      rw (e, suc-mul) (omega arith)
+
+  pub end-later : entryOf d (cellOf d a i (k + 1)) 0 ≡ entryOf d (cellOf d a i k) 0 + d .symbols * 4 * k
+  unfolding entryOf cellOf
+  end-later =
+      let e : spans (k + 1) + i ≡ spans k + i + k = rw (add-one k) (omega (arith, spans-suc k)) in
+      let m : d .symbols * 4 * k ≡ k * d .symbols * 4 = simp (mul-assoc, mul-comm, mul-left-comm) in
+      rw (e, m, add-mul (spans k + i) k (d .symbols)) (omega arith)
+
+-- the weight of a first rank, which is always kept
+pub first-weight : (t : List ℕ) (d : Dims) (cell : ℕ) → 0 < d .cap → weightAt t d cell 0 ≡ getD t (entryOf d cell 0) 0
+unfolding weightAt
+first-weight t d cell h = rw (lt-ltb 0 (d .cap) h)
