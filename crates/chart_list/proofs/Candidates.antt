@@ -1,6 +1,6 @@
--- The keys that `leastOf` takes the least of are those of the cell's leaves, of first with first for each pairing, and of what
--- follows the ranks that are found. For the index lists the cell's rules and edges, and a found entry's tie has its row's
--- numbers.
+-- The keys that the code takes the least of are those of the cell's candidates: leaves and first with first for each pairing,
+-- which follow nothing, and what follows a found rank. For the index lists the cell's rules and edges, and a found entry's tie
+-- has its row's numbers.
 use mathlib.Core.Path.{_≡_, refl, sym, ap}
 use mathlib.Core.Logic.{_⊎_, inl, inr, ⊎-elim}
 use mathlib.Core.Bool.{true, false}
@@ -26,23 +26,23 @@ use Rattle.chart_table.specs.Table.{tieOf, keyOf, ruleIn, splitIn, leftIn, righ
 use Rattle.chart.specs.Model.{pairKey, wordBase, pairBase, edgeBase, WordWith, PairWith, wordLeaf, edgeLeaves, leavesOf, splitSeeds, ruleSeeds, seedsOf, pairFollowers, followers}
 use Rattle.chart_list.proofs.Keys.{Fits, RowFits, rowTie, rule-in, split-in, left-in, right-in}
 use Rattle.chart_list.proofs.Entries.{Cell}
-use Rattle.chart_list.proofs.Select.{Selects, Below, Between, Among, selects-one, selects-none, selects-same, selects-then, selects-when, selects-unless, selects-iter, selects-over, selects-members}
+use Rattle.chart_list.proofs.Select.{Selects, Between, Among, selects-one, selects-none, selects-same, selects-then, selects-when, selects-unless, selects-over, selects-members}
 use Rattle.chart_list.proofs.Good.{Setting, Stands}
 
-module _ (g : Grammar) (es : List Edge) (a : Sym) (i k c : ℕ) where
-  -- ranks of the parts of rule r at place j that come into question: the first with the first, or what follows one of the first
-  -- c rows of the cell
-  pub data Reached (r j : ℕ) : ℕ → ℕ → Type 0 where
-    first : Reached r j 0 0
-    right : {w p q x : ℕ} → x < c → RowAt g es a i k x (row w r j p q) → Reached r j p (suc q)
-    left : {w p x : ℕ} → x < c → RowAt g es a i k x (row w r j p 0) → Reached r j (suc p) 0
+module _ (g : Grammar) (es : List Edge) (a : Sym) (i k : ℕ) where
+  -- ranks of the parts of rule r at place j that come into question: the first with the first, which follow nothing, or what
+  -- follows a rank of the cell
+  pub data Reached (r j : ℕ) : (o p q : ℕ) → Type 0 where
+    first : Reached r j 0 0 0
+    right : {w p q x : ℕ} → RowAt g es a i k x (row w r j p q) → Reached r j (suc x) p (suc q)
+    left : {w p x : ℕ} → RowAt g es a i k x (row w r j p 0) → Reached r j (suc x) (suc p) 0
 
   module _ (d : Dims) (t : List ℕ) where
-    pub data Candidate : ℕ → Type 0 where
+    pub data Candidate : (o key : ℕ) → Type 0 where
       leaf-key : {x : W.Word} {w cost : ℕ} (r e : ℕ) → At (g .rules) r (Word a x w) → At es e (edge i k x cost)
-          → Candidate (keyOf (w + cost + 1) (tieOf r 0 e 0))
-      pair-key : {B C : Sym} {r w j p q : ℕ} → At (g .rules) r (Pair a B C w) → i < j → j < k → Reached r j p q
-          → Candidate (pairKey t d B C w r i j k p q)
+          → Candidate 0 (keyOf (w + cost + 1) (tieOf r 0 e 0))
+      pair-key : {B C : Sym} {r w j o p q : ℕ} → At (g .rules) r (Pair a B C w) → i < j → j < k → Reached r j o p q
+          → Candidate o (pairKey t d B C w r i j k p q)
 
 -- the keys of each loop of the model
 abbrev LeafKey : List ℕ → ℕ → ℕ → Rule → ℕ → Type 0
@@ -114,11 +114,9 @@ module _ {g : Grammar} {es : List Edge} {rules edges index : List ℕ} {d : Dims
       let same : word (getD edges (4 * e + 2) 0) ≡ x = cc in
       record { from = cc; upto = cc; carries = ap (λ (y : W.Word). y .0) same; costs = cc }
 
-  -- a cell of which the first c ranks stand in the table
-  module _ (t : List ℕ) {a : Sym} {i k c : ℕ} (cell : Cell d n a i k)
-      (held : (x : ℕ) → x < c → (v : Row) × Stands g es d t a i k x v) where
-    abbrev Key : ℕ → Type 0
-    Key = Candidate g es a i k c d t
+  module _ (t : List ℕ) {a : Sym} {i k : ℕ} (cell : Cell d n a i k) where
+    abbrev Key : (o key : ℕ) → Type 0
+    Key = Candidate g es a i k d t
 
     -- leaves
     abbrev Leaving : ℕ → Type 0
@@ -133,7 +131,7 @@ module _ {g : Grammar} {es : List Edge} {rules edges index : List ℕ} {d : Dims
         (eqb (getD edges (4 * e + 1) 0) k ≡ true) × Among Words (λ r. LeafKey edges e r (ruleAt rules r)) key)
 
     leaf-out : (e r key : ℕ) (rule : Rule) → e < length es → getD edges (4 * e) 0 ≡ i → getD edges (4 * e + 1) 0 ≡ k
-        → At (g .rules) r rule → WordWith a rule → LeafKey edges e r rule key → Key key
+        → At (g .rules) r rule → WordWith a rule → LeafKey edges e r rule key → Key 0 key
     leaf-out e r key (Pair h b c′ w) le f u p z l = absurd z
     leaf-out e r key (Word h x w) le f u p z (l, is) =
         let x-is : word (getD edges (4 * e + 2) 0) ≡ x = ap word (sym (eqb-true _ _ l)) in
@@ -159,7 +157,7 @@ module _ {g : Grammar} {es : List Edge} {rules edges index : List ℕ} {d : Dims
     abbrev Seed : ℕ → Type 0
     Seed = Among Pairs (λ r. SeedKey t d i k r (ruleAt rules r))
 
-    seed-out : (r key : ℕ) (rule : Rule) → At (g .rules) r rule → PairWith a rule → SeedKey t d i k r rule key → Key key
+    seed-out : (r key : ℕ) (rule : Rule) → At (g .rules) r rule → PairWith a rule → SeedKey t d i k r rule key → Key 0 key
     seed-out r key (Pair h B C w) p z (j, l, m, is) = rw is (pair-key {j = j} (rw z at p) (omega arith) m first)
     seed-out r key (Word h x w) p z l = absurd z
 
@@ -168,52 +166,18 @@ module _ {g : Grammar} {es : List Edge} {rules edges index : List ℕ} {d : Dims
     seed-in r j p h₁ h₂ =
         (r, (at-length (g .rules) r p, rw (rule-is r p) refl), rw (rule-is r p) (j, omega arith, h₂, refl))
 
-    -- followers
-    abbrev Follows : ℕ → Type 0
-    Follows = Below c (λ x. Follower t d i k rules (tieAt t d (cellOf d a i k) x))
-
-    follow-out : (x key tie : ℕ) {v : Row} {z : Tree} → x < c → At (ranked g es a i k) x z → RowOf g es a i k v z → RowFits v
-        → tie ≡ rowTie v → Follower t d i k rules tie key → Key key
-    follow-out x key tie h l (leaf-row p q) fits is (inner, f) =
-        absurd (eqb-false (splitIn tie) 0 inner (rw is (split-in fits)))
-    follow-out x key tie h l (node-row {B} {C} {r} {w} {j} {p} {q} rule h₁ h₂ m m′) fits is (inner, f) =
-        let here : RowAt g es a i k x (row _ r j p q) = (_, l, node-row rule h₁ h₂ m m′) in
-        let plain : PairFollower t d i k r j p q (Pair a B C w) key =
-        rw (is, rule-in fits, split-in fits, left-in fits, right-in fits, rule-is r rule) at f in
-        ⊎-elim (λ e. rw (rw (add-one q) at e) (pair-key rule h₁ h₂ (right h here)))
-        (λ e. rw (rw (add-one p) at (e .1)) (pair-key rule h₁ h₂ (left h (rw (e .0) at here)))) plain
-
-    follow-in : (x r j p q key : ℕ) {B C : Sym} {w w′ : ℕ} → x < c → RowAt g es a i k x (row w′ r j p q)
-        → At (g .rules) r (Pair a B C w) → i < j → PairFollower t d i k r j p q (Pair a B C w) key → Follows key
-    follow-in x r j p q key h at rule h₁ f =
-        let (v, stands) = held x h in
-        let same : v ≡ row _ r j p q = row-one g es a i k x (stands .place) at in
-        let fits : Fits r j p q = rw same at (stands .fits) in
-        let tie : tieAt t d (cellOf d a i k) x ≡ tieOf r j p q = rw same at (stands .tied) in
-        let inner = ne-eqb j 0 (λ e. omega arith) in
-        (x, h, rw (tie, rule-in fits, split-in fits, left-in fits, right-in fits, rule-is r rule) (inner, f))
-
-    -- all three
-    candidate-out : (key : ℕ) → (Leaf key ⊎ Seed key) ⊎ Follows key → Key key
-    candidate-out key =
+    -- what follows nothing
+    base-out : (key : ℕ) → Leaf key ⊎ Seed key → Key 0 key
+    base-out key =
         ⊎-elim
-        (⊎-elim
         (λ l.
         let (e, (le, f), (u, (r, (lr, z), m))) = l in
         leaf-out e r key (ruleAt rules r) le f (eqb-true _ _ u) (s .rule-at r lr) z m)
-        (λ l. let (r, (lr, z), m) = l in seed-out r key (ruleAt rules r) (s .rule-at r lr) z m))
-        (λ l.
-        let (x, h, f) = l in
-        let (v, st) = held x h in
-        follow-out x key _ h (st .place .1) (st .place .2) (st .fits) (st .tied) f)
+        (λ l. let (r, (lr, z), m) = l in seed-out r key (ruleAt rules r) (s .rule-at r lr) z m)
 
-    candidate-in : (key : ℕ) → Key key → (Leaf key ⊎ Seed key) ⊎ Follows key
-    candidate-in key (leaf-key r e p q) = inl (inl (leaf-in r e p q))
-    candidate-in key (pair-key {r = r} {j = j} rule h₁ h₂ first) = inl (inr (seed-in r j rule h₁ h₂))
-    candidate-in key (pair-key {r = r} {j = j} {p = p} rule h₁ h₂ (right {q = q} {x = x} l at)) =
-        inr (follow-in x r j p q key l at rule h₁ (inl (rw (add-one q))))
-    candidate-in key (pair-key {r = r} {j = j} rule h₁ h₂ (left {p = p} {x = x} l at)) =
-        inr (follow-in x r j p 0 key l at rule h₁ (inr (refl, rw (add-one p))))
+    base-in : (key : ℕ) → Key 0 key → Leaf key ⊎ Seed key
+    base-in key (leaf-key r e p q) = inl (leaf-in r e p q)
+    base-in key (pair-key {r = r} {j = j} rule h₁ h₂ first) = inr (seed-in r j rule h₁ h₂)
 
     -- the three loops
     leaves-select : (floor : ℕ) → Selects floor Leaf (leavesOf rules edges index a i k floor)
@@ -231,14 +195,42 @@ module _ {g : Grammar} {es : List Edge} {rules edges index : List ℕ} {d : Dims
         selects-members floor (λ r. seed-selects t d i k floor r (ruleAt rules r)) index pairBase (a .0)
         (s .indexed .pairs a (cell .symbol))
 
-    followers-select : (floor : ℕ) → Selects floor Follows (followersOf t d rules a i k c floor)
-    unfolding followersOf
-    followers-select floor = selects-iter floor (λ x. follower-selects t d i k rules floor (tieAt t d (cellOf d a i k) x)) c
+    pub base-selects : (floor : ℕ) → Selects floor (Candidate g es a i k d t 0)
+        (λ b. seedsOf t d rules index a i k floor (leavesOf rules edges index a i k floor b))
+    base-selects floor =
+        selects-same floor (λ key. (base-out key, base-in key)) (selects-then floor (leaves-select floor) (seeds-select floor))
 
-    pub least-selects : (floor : ℕ)
-        → Selects floor (Candidate g es a i k c d t)
-        (λ b.
-        followersOf t d rules a i k c floor (seedsOf t d rules index a i k floor (leavesOf rules edges index a i k floor b)))
-    least-selects floor =
-        selects-same floor (λ key. (candidate-out key, candidate-in key))
-        (selects-then floor (selects-then floor (leaves-select floor) (seeds-select floor)) (followers-select floor))
+    -- what follows a rank that stands in the table
+    module _ (x : ℕ) {v : Row} (st : Stands g es d t a i k x v) where
+      follow-out : (key tie : ℕ) {u : Row} {z : Tree} → At (ranked g es a i k) x z → RowOf g es a i k u z → RowFits u
+          → tie ≡ rowTie u → Follower t d i k rules tie key → Key (suc x) key
+      follow-out key tie l (leaf-row p q) fits is (inner, f) = absurd (eqb-false (splitIn tie) 0 inner (rw is (split-in fits)))
+      follow-out key tie l (node-row {B} {C} {r} {w} {j} {p} {q} rule h₁ h₂ m m′) fits is (inner, f) =
+          let here : RowAt g es a i k x (row _ r j p q) = (_, l, node-row rule h₁ h₂ m m′) in
+          let plain : PairFollower t d i k r j p q (Pair a B C w) key =
+          rw (is, rule-in fits, split-in fits, left-in fits, right-in fits, rule-is r rule) at f in
+          ⊎-elim (λ e. rw (rw (add-one q) at e) (pair-key rule h₁ h₂ (right here)))
+          (λ e. rw (rw (add-one p) at (e .1)) (pair-key rule h₁ h₂ (left (rw (e .0) at here)))) plain
+
+      follow-in : (r j p q key : ℕ) {B C : Sym} {w w′ : ℕ} → RowAt g es a i k x (row w′ r j p q)
+          → At (g .rules) r (Pair a B C w) → i < j → PairFollower t d i k r j p q (Pair a B C w) key
+          → Follower t d i k rules (tieAt t d (cellOf d a i k) x) key
+      follow-in r j p q key at rule h₁ f =
+          let same : v ≡ row _ r j p q = row-one g es a i k x (st .place) at in
+          let fits : Fits r j p q = rw same at (st .fits) in
+          let tie : tieAt t d (cellOf d a i k) x ≡ tieOf r j p q = rw same at (st .tied) in
+          let inner = ne-eqb j 0 (λ e. omega arith) in
+          rw (tie, rule-in fits, split-in fits, left-in fits, right-in fits, rule-is r rule) (inner, f)
+
+      followed-in : (key : ℕ) → Key (suc x) key → Follower t d i k rules (tieAt t d (cellOf d a i k) x) key
+      followed-in key (pair-key {r = r} {j = j} {p = p} rule h₁ h₂ (right {q = q} at)) =
+          follow-in r j p q key at rule h₁ (inl (rw (add-one q)))
+      followed-in key (pair-key {r = r} {j = j} rule h₁ h₂ (left {p = p} at)) =
+          follow-in r j p 0 key at rule h₁ (inr (refl, rw (add-one p)))
+
+      pub near-selects : (floor : ℕ) → Selects floor (Candidate g es a i k d t (suc x))
+          (λ b. followers t d rules i k floor b (tieAt t d (cellOf d a i k) x))
+      near-selects floor =
+          selects-same floor
+          (λ key. (follow-out key _ (st .place .1) (st .place .2) (st .fits) (st .tied), followed-in key))
+          (follower-selects t d i k rules floor (tieAt t d (cellOf d a i k) x))

@@ -94,7 +94,7 @@ module _ (d : Dims) where
       rw (eqb·suc-zero x) (omega arith)
 
   -- the first number of an entry is never the third of one, since entries begin at multiples of 4
-  entry-four : (c x : ℕ) → entryOf d c x % 4 ≡ 0
+  pub entry-four : (c x : ℕ) → entryOf d c x % 4 ≡ 0
   unfolding entryOf
   entry-four c zero = omega arith
   entry-four c (suc x) = rw (eqb·suc-zero x) (omega arith)
@@ -136,7 +136,7 @@ module _ (t : List ℕ) (d : Dims) (c x key : ℕ) (some : key < none) where
   abbrev weighed : List ℕ
   weighed = set t at (key / 536870912)
 
-  put-is : putKey t d c x key ≡ set weighed (at + 2) (key % 536870912)
+  pub put-is : putKey t d c x key ≡ set weighed (at + 2) (key % 536870912)
   unfolding putKey
   put-is = rw (lt-ltb key none some)
 

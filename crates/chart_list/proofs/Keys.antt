@@ -6,7 +6,7 @@ use native.Mathlib.Numerals.{add-one}
 use native.Mathlib.Omega.{arith}
 use Rattle.derivation.specs.Order.{_▸_}
 use Rattle.derivation.proofs.Comparison.{compare-lawful, compare-self, compare-same, compare-lt, compare-gt, compare-below, turn-gt}
-use Rattle.derivation.proofs.Rows.{Row, row, rowWeight, rowOrder}
+use Rattle.derivation.proofs.Rows.{Row, row, rowWeight, rowOrder, row-same}
 use Rattle.chart_table.specs.Table.{tieOf, ruleIn, splitIn, leftIn, rightIn, keyOf, none}
 
 abbrev pub rowTie : Row → ℕ
@@ -105,3 +105,7 @@ key-some (row w r j p q) f h = omega (arith, tie-below f)
 
 pub key-positive : (v : Row) → 0 < rowKey v
 key-positive v = omega arith
+
+-- a key is of one row
+pub key-one : (v v′ : Row) → RowFits v → RowFits v′ → rowKey v ≡ rowKey v′ → v ≡ v′
+key-one v v′ f f′ e = row-same v v′ (sym (key-order v v′ f f′) ∙ rw e (compare-self (rowKey v′)))

@@ -1,16 +1,24 @@
 -- What the proofs of several functions use.
 pub mod Extended
 pub mod Stores
--- What a good table holds.
-pub mod Accepted
-pub mod Candidates
-pub mod Chart
-pub mod Entries
-pub mod Good
+-- What a good table holds, and what waits in it.
 pub mod Keys
-pub mod Least
-pub mod Listing
-pub mod Next
-pub mod Placed
+pub mod Entries
+pub mod Slots
 pub mod Select
+pub mod Owners
+pub mod Queue
+pub mod Arranged
+pub mod Settled
+pub mod Good
+-- A cell's next rank, the search, and what it finds.
+pub mod Candidates
+pub mod Least
+pub mod Renewed
+pub mod Placed
+pub mod Stepped
+pub mod Next
+pub mod Listing
 pub mod Spell
+pub mod Chart
+pub mod Accepted

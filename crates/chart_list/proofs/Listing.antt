@@ -11,18 +11,18 @@ use native.Mathlib.Decide.{decLt}
 use native.Mathlib.Omega.{arith}
 use lib.ListN.{length, getD}
 use lib.Dec.{ltb, eqb}
-use borrow.Author.Tests.{eqb-true}
+use borrow.Author.Tests.{eqb-true, ltb-false}
 use Rattle.bits.specs.Bits.{pick}
 use Rattle.packing.specs.Meaning.{sym as symbol, Grammar, Edge}
 use Rattle.packing.proofs.Loop.{iter-keeps}
 use Rattle.derivation.specs.List.{ranked}
 use Rattle.derivation.proofs.Rows.{row-below}
 use Rattle.chart_table.specs.declared.Dims.{Dims}
-use Rattle.chart_table.specs.Table.{cellOf, entryOf, weightAt, foundOf}
-use Rattle.chart_list.specs.Search.{next, headsOf, lengthOf, firstsOf, further, listOf}
+use Rattle.chart_table.specs.Table.{cellOf, entryOf, weightAt, waitingIn, foundOf}
+use Rattle.chart_list.specs.Search.{extended, next, headsOf, lengthOf, firstsOf, further, listOf}
 use Rattle.chart_list.proofs.Entries.{Cell, found-test}
-use Rattle.chart_list.proofs.Good.{Setting, Found, Known, Good, known-grows, Grown, grown-none, grown-then, all-below}
-use Rattle.chart_list.proofs.Next.{next-finds}
+use Rattle.chart_list.proofs.Good.{Setting, Found, Known, Good, known-grows, Grown, grown-none, grown-then}
+use Rattle.chart_list.proofs.Next.{Finds, next-finds, extended-done}
 
 abbrev pub Zeros : List ℕ → Type 0
 Zeros t = (y : ℕ) → getD t y 0 ≡ 0
@@ -36,6 +36,14 @@ module _ (d : Dims) (t : List ℕ) (zeros : Zeros t) where
       go true h = omega (arith, zeros (entryOf d c x))
       go false h = omega arith
 
+  none-waits : (c : ℕ) → waitingIn t d c ≡ 0
+  unfolding waitingIn
+  none-waits c = rw (zeros (entryOf d c 0 + 1)) (go (ltb 0 (d .cap)) refl)
+    where
+      go : (b : Bool) → ltb 0 (d .cap) ≡ b → pick b 0 (d .cap) ≡ 0
+      go true e = refl
+      go false e = omega (arith, ltb-false 0 (d .cap) e)
+
   pub zeros-good : (g : Grammar) (es : List Edge) (n : ℕ) → 4 * (d .cells * d .cap) ≤ length t → Good g es d n 1 t
   zeros-good g es n room = record {
     room = room;
@@ -43,6 +51,8 @@ module _ (d : Dims) (t : List ℕ) (zeros : Zeros t) where
     down = λ a i k x cell h. absurd (none-found _ (suc x) h);
     begun = λ a i k cell l. absurd (omega (arith, cell .order));
     ahead = λ a i k x v cell h. absurd (none-found _ (suc x) h);
+    empty = λ a i k cell e. none-waits (cellOf d a i k);
+    waits = λ a i k x v cell h. absurd (none-found _ x h);
   }
 
 module _ {g : Grammar} {es : List Edge} {rules edges index : List ℕ} {d : Dims} {n : ℕ}
@@ -66,7 +76,7 @@ module _ {g : Grammar} {es : List Edge} {rules edges index : List ℕ} {d : Dims
       step x u l heads =
           let cell : Cell d n (symbol x) i k = record { symbol = l; order = order; within = within } in
           let done = next-finds s m (k - i) .finds u (symbol x) i k 0 (heads .grown .good) cell (omega arith) due (s .kept)
-          (λ y h. absurd (omega arith)) in
+          (λ y h. absurd (omega arith)) (λ h. absurd (omega arith)) in
           record {
             grown = grown-then (heads .grown) (done .grown);
             known = λ a h. ⊎-elim (λ e. rw e (done .here))
@@ -106,6 +116,8 @@ module _ {g : Grammar} {es : List Edge} {rules edges index : List ℕ} {d : Dims
             rw last (lengths .known i (a .0) (omega (arith, cell .order, cell .within)) (cell .symbol)))
             (λ less. lengths .good .begun a i k cell less) (eq-or-lt-of-le {n = k - i} {m = len} (omega arith));
         ahead = lengths .good .ahead;
+        empty = lengths .good .empty;
+        waits = lengths .good .waits;
       }
 
   firsts-known : (t : List ℕ) → Table 1 t → Table (suc n) (firstsOf rules edges index d n t)
@@ -134,17 +146,16 @@ module _ {g : Grammar} {es : List Edge} {rules edges index : List ℕ} {d : Dims
         at-end : weight ≡ 0 → suc x < length (ranked g es (symbol 0) 0 n) → ⊥
         at-end absent more = omega (arith, listed .known x (le-refl x) (omega arith) (omega arith))
 
-        go : (b : Bool) → eqb weight 0 ≡ b → Listed (suc x) (pick b u (next rules edges index d n u (symbol 0) 0 n (suc x)))
+        go : (b : Bool) → eqb weight 0 ≡ b → Listed (suc x) (pick b u (extended d (next rules edges index d n) u (symbol 0) 0 n (suc x)))
         go true e = record {
           good = listed .good;
           known = λ y h. ⊎-elim (λ same. rw same (λ kept more. absurd (at-end (eqb-true weight 0 e) more)))
               (λ less. listed .known y (omega arith)) (eq-or-lt-of-le h);
         }
         go false e =
-            let below : (y : ℕ) → y < suc x → Found d u (symbol 0) 0 n y =
-            λ y h. all-below (listed .good) (symbol 0) 0 n x y whole (omega arith) (found-test weight e) in
-            let done = next-finds s (suc n) n .finds u (symbol 0) 0 n (suc x) (listed .good) whole (omega arith) (omega arith)
-            (omega arith) below in
+            let found = found-test weight e in
+            let by-next : Finds s (suc n) (next rules edges index d n) (suc n) = next-finds s (suc n) n in
+            let done = extended-done s (suc n) by-next u (symbol 0) 0 n x (listed .good) whole (omega arith) (omega arith) found in
             record {
               good = done .grown .good;
               known = λ y h. ⊎-elim (λ same. rw same (done .here))

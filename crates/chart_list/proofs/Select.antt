@@ -67,6 +67,15 @@ module _ (floor : ℕ) where
     least = λ b key c h. s .least b key (same key .1 c) h;
   }
 
+  -- keys at or below the floor do not matter
+  pub selects-above : {C D : ℕ → Type 0} {f : ℕ → ℕ} → ((key : ℕ) → floor < key → C key ↔ D key) → Selects floor C f
+      → Selects floor D f
+  selects-above {f = f} same s = record {
+    below = s .below;
+    from = λ b. ⊎-elim inl (λ w. inr (w .0, same (f b) (w .0) .0 (w .1))) (s .from b);
+    least = λ b key c h. s .least b key (same key h .1 c) h;
+  }
+
   -- one step after another
   pub selects-then : {C D : ℕ → Type 0} {f g : ℕ → ℕ} → Selects floor C f → Selects floor D g
       → Selects floor (λ key. C key ⊎ D key) (λ b. g (f b))

@@ -56,7 +56,7 @@ module _ (rules edges index : List ℕ) (d : Dims) where
 
   -- the further ranks of the whole span: each is gone for where the one before it is found
   unfoldable pub further : ℕ → List ℕ → ℕ → List ℕ
-  further n t x = pick (eqb (weightAt t d (cellOf d (sym 0) 0 n) x) 0) t (next n t (sym 0) 0 n (x + 1))
+  further n t x = pick (eqb (weightAt t d (cellOf d (sym 0) 0 n) x) 0) t (extended d (next n) t (sym 0) 0 n (x + 1))
 
   unfoldable pub listOf : ℕ → List ℕ → List ℕ
   listOf n t = iter (further n) (firstsOf n t) (d .cap - 1)

@@ -145,7 +145,9 @@ fn further(t: &mut [u32], rules: &[u32], edges: &[u32], index: &[u32], d: Dims, 
     if weight_at(&t[..], d, cell_of(d, Sym(0), 0, n), x) == 0 {
         return;
     }
-    next_of_span(t, rules, edges, index, d, Sym(0), 0, n, x + 1);
+    if missing(&t[..], d, Sym(0), 0, n, x + 1) {
+        next_of_span(t, rules, edges, index, d, Sym(0), 0, n, x + 1);
+    }
 }
 
 // Finds the ranks of the whole span, as many as are kept.

@@ -28,7 +28,7 @@ rowWeight (row w r j p q) = w
 unfoldable pub rowOrder : Row → Row → Ordering
 rowOrder (row w r j p q) (row w′ r′ j′ p′ q′) = compare w w′ ▸ compare r r′ ▸ compare j j′ ▸ compare p p′ ▸ compare q q′
 
-row-same : (x y : Row) → rowOrder x y ≡ Ordering·eq → x ≡ y
+pub row-same : (x y : Row) → rowOrder x y ≡ Ordering·eq → x ≡ y
 unfolding rowOrder
 row-same (row w r j p q) (row w′ r′ j′ p′ q′) h =
     let h₁ = ▸-eq _ _ h in
