@@ -3,9 +3,9 @@ mod selection;
 pub mod table;
 pub mod walk;
 
+use arrays::rule_at;
 use packing::Rule;
 use packing::Sym;
-use packing::arrays::rule_at;
 use selection::floor_of;
 use selection::least;
 use table::cell_of;

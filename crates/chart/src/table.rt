@@ -1,9 +1,9 @@
 // The work table's cells and entries. Reads past its end give 0, and stores there do nothing.
 use crate::Dims;
+use arrays::number_at;
+use arrays::store;
+use arrays::wide;
 use packing::Sym;
-use packing::arrays::number_at;
-use packing::arrays::store;
-use packing::arrays::wide;
 ghost use mathlib.Core.Path.{_≡_};
 ghost use Prim.Native.Nat.{_+_, _-_, _*_, _<_, _≤_};
 ghost use lib.ListN.{length, replicate};

@@ -2,10 +2,10 @@
 use crate::Dims;
 use crate::table::cell_of;
 use crate::table::tie_at;
+use arrays::rule_at;
+use arrays::store;
 use packing::Rule;
 use packing::Sym;
-use packing::arrays::rule_at;
-use packing::arrays::store;
 ghost use mathlib.Core.Path.{_≡_};
 ghost use Prim.Native.Nat.{ℕ, _+_, _-_, _*_, _<_, _≤_};
 ghost use lib.ListN.{length};
