@@ -9,7 +9,7 @@ use chart_table::tie_at;
 use chart_table::weight_at;
 use packing::Rule;
 use packing::Sym;
-use packing::arrays::rule_at;
+use arrays::rule_at;
 ghost use mathlib.Core.Path.{_≡_};
 ghost use Prim.Native.Nat.{ℕ, suc, _+_, _-_, _*_, _<_, _≤_};
 ghost use Rattle.chart_table.specs.Table.{Sized, Small};

@@ -2,7 +2,7 @@
 use crate::Dims;
 use crate::entry_of;
 use crate::weight_at;
-use packing::arrays::store;
+use arrays::store;
 ghost use mathlib.Core.Path.{_≡_};
 ghost use Prim.Native.Nat.{_<_, _≤_};
 ghost use Rattle.chart_table.specs.Table.{runOf, clearedEntry, clearedCell, cleared, Sized};

@@ -3,9 +3,9 @@ pub mod clearing;
 pub mod waiting;
 
 use packing::Sym;
-use packing::arrays::number_at;
-use packing::arrays::store;
-use packing::arrays::wide;
+use arrays::number_at;
+use arrays::store;
+use arrays::wide;
 ghost use mathlib.Core.Path.{_≡_};
 ghost use Prim.Native.Nat.{_<_, _≤_};
 ghost use lib.ListN.{length, replicate};

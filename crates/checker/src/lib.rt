@@ -29,7 +29,7 @@ fn judge(block: &[u8], at: usize, weight: u32, own: Found) -> Checked
     let Found::Number(w) = own else {
         return Checked::Refused(34);
     };
-    if w == packing::arrays::wide(weight) {
+    if w == arrays::wide(weight) {
         if bits::zero_from(block, at) {
             return Checked::Passes;
         }

@@ -37,12 +37,12 @@ fn cost_of(slots: &[u32], start: usize, count: usize, word: Word) -> Found
     requires { ⌜ (start < 2 ^ 40) × (count < 2 ^ 32) ⌝ }
     ensures { λ r. ⌜ (numberOf r ≡ costOf word (candidatesOf (now (slots .entry)) count start)) × Small r ⌝ }
 {
-    let wanted = packing::arrays::wide(word.0);
+    let wanted = arrays::wide(word.0);
     let mut k: usize = 0;
     while k < count {
         let at = start + 2 * k;
-        if packing::arrays::number_at(slots, at) == wanted {
-            return Found::Number(packing::arrays::number_at(slots, at + 1));
+        if arrays::number_at(slots, at) == wanted {
+            return Found::Number(arrays::number_at(slots, at + 1));
         }
         k += 1;
     }
@@ -57,7 +57,7 @@ fn word_step(slots: &[u32], at: Progress, word: Word, weight: u32) -> Step
         (headsOf stack (at .height - 1)) (at .weight + weight) (costOf word (slotAt (now (slots .entry)) (at .place)))) × Further at r ⌝ }
 {
     let place = at.place;
-    let count = packing::arrays::number_at(slots, place);
+    let count = arrays::number_at(slots, place);
     let Found::Number(cost) = cost_of(slots, place + 1, count, word) else {
         return Step::Astray;
     };
@@ -65,7 +65,7 @@ fn word_step(slots: &[u32], at: Progress, word: Word, weight: u32) -> Step
         place: place + 1 + 2 * count,
         left: at.left - 1,
         height: at.height - 1,
-        weight: at.weight + packing::arrays::wide(weight) + cost,
+        weight: at.weight + arrays::wide(weight) + cost,
     })
 }
 
@@ -84,7 +84,7 @@ fn pair_step(stack: &mut [u32], at: Progress, first: Sym, second: Sym, weight: u
             place: at.place,
             left: at.left,
             height: height + 1,
-            weight: at.weight + packing::arrays::wide(weight),
+            weight: at.weight + arrays::wide(weight),
         });
     }
     Step::Astray
@@ -112,7 +112,7 @@ fn follow(
         return Step::Astray;
     }
     let top = stack[height - 1];
-    match packing::arrays::rule_at(rules, r) {
+    match arrays::rule_at(rules, r) {
         Rule::Pair(head, first, second, weight) => {
             if head.0 == top {
                 return pair_step(stack, at, first, second, weight);
@@ -151,7 +151,7 @@ pub fn weight_of(rules: &[u32], count: usize, slots: &[u32], n: usize, walk: &[u
             slots,
             &mut stack,
             at,
-            packing::arrays::number_at(walk, i),
+            arrays::number_at(walk, i),
         ) else {
             return Found::Nothing;
         };

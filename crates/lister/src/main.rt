@@ -1,7 +1,7 @@
 // The lister of document 01: the eight least readings of the utterance in utterance.bin under the grammar in grammar.bin.
+use arrays::number_at;
 use libc::STDOUT_FILENO;
 use listing::Listed;
-use packing::arrays::number_at;
 use packing_grammar::GrammarRead;
 use packing_reading::ReadingRead;
 use packing_utterance::UtteranceRead;

@@ -1,6 +1,4 @@
 // What blocks and sheets are made of, and the reading of one number of them.
-pub mod arrays; // arrays.rt: flat arrays of numbers
-
 ghost use mathlib.Core.Path.{_≡_};
 ghost use Prim.Native.Nat.{_^_, _≤_, _<_};
 ghost use Rattle.packing.specs.Source.{inRange, readOf, refusalOf, sourceOf, take};

@@ -3,7 +3,6 @@ use packing::Cursor;
 use packing::Field;
 use packing::Read;
 use packing::Source;
-use packing::arrays;
 ghost use mathlib.Core.Path.{_≡_};
 ghost use Prim.Native.Nat.{_+_, _*_, _^_, _≤_, _<_};
 ghost use lib.ListN.{length};

@@ -32,7 +32,7 @@ fn rules_bits(rules: &[u32], n: usize, symbols: u32, words: u32) -> usize
     let mut total: usize = 0;
     let mut i: usize = 0;
     while i < n {
-        total += rule_bits(packing::arrays::rule_at(rules, i), symbols, words);
+        total += rule_bits(arrays::rule_at(rules, i), symbols, words);
         i += 1;
     }
     total
@@ -85,7 +85,7 @@ fn write_rules(out: &mut [u8], start: usize, rules: &[u32], n: usize, symbols: u
     let mut at = start;
     let mut i: usize = 0;
     while i < n {
-        at = write_rule(out, at, packing::arrays::rule_at(rules, i), symbols, words);
+        at = write_rule(out, at, arrays::rule_at(rules, i), symbols, words);
         i += 1;
     }
 }

@@ -1,7 +1,7 @@
 // Utterance blocks, written from an array that has for each slot its count and its words and costs.
 use crate::width_below;
-use packing::arrays::narrow_at;
-use packing::arrays::number_at;
+use arrays::narrow_at;
+use arrays::number_at;
 ghost use mathlib.Core.Path.{_≡_};
 ghost use Prim.Native.Nat.{_+_, _*_, _/_, _^_, _≤_, _<_};
 ghost use lib.ListN.{length};

@@ -1,8 +1,8 @@
 // The specimen: some word string of a wanted length that a grammar derives.
+use arrays::number_at;
+use arrays::rule_at;
 use packing::Rule;
 use packing::Sym;
-use packing::arrays::number_at;
-use packing::arrays::rule_at;
 use packing_grammar::GrammarRead;
 use packing_grammar::Sizes;
 ghost use mathlib.Core.Path.{_≡_};
@@ -30,7 +30,7 @@ fn choice_at(table: &[u32], a: Sym, len: usize) -> usize
     requires { ⌜ len < 4294967296 ⌝ }
     ensures { λ r. ⌜ (r ≡ choiceAt (now (table .entry)) a len) × (r < 4294967296) ⌝ }
 {
-    number_at(table, len * 32 + packing::arrays::wide(a.0))
+    number_at(table, len * 32 + arrays::wide(a.0))
 }
 
 // A pair rule with a left part of length j, where both parts have a choice.
@@ -109,7 +109,7 @@ fn fill_length(table: &mut [u32], rules: &[u32], count: usize, symbols: usize, l
 {
     for a in 0..symbols {
         let choice = cell_choice(&table[..], rules, count, Sym(a as u32), len);
-        packing::arrays::store(table, len * 32 + a, choice as u32);
+        arrays::store(table, len * 32 + a, choice as u32);
     }
 }
 

@@ -23,7 +23,7 @@ use Rattle.chart_list.proofs.missing.Reads as missing-reads
 use Rattle.chart.proofs.place.Reads as place-reads
 use Rattle.chart_table.proofs.cell_of.Reads as cell-of-reads
 use Rattle.chart_table.proofs.tie_at.Reads as tie-at-reads
-use Rattle.packing.proofs.arrays.rule_at.Reads as rule-at-reads
+use Rattle.arrays.proofs.rule_at.Reads as rule-at-reads
 use Rattle.chart_list.proofs.+advance_pairing+next_of_span.{statement}
 use Rattle.chart_list.proofs.+advance_pairing+next_of_span.Tie.{close}
 

@@ -10,7 +10,7 @@ use borrow.Fn.PlainCycle.{Measures, is, falls, and}
 use Rattle.specimen.proofs.spell.Reads as spell
 use Rattle.specimen.proofs.spell.Kinds as spell-kinds
 use Rattle.specimen.proofs.+spell.Lts-spell as spell-lts
-use Rattle.packing.proofs.arrays.rule_at.Reads as rule-at-reads
+use Rattle.arrays.proofs.rule_at.Reads as rule-at-reads
 use Rattle.specimen.proofs.choice_at.Reads as choice-at-reads
 use Rattle.specimen.proofs.less_one.Reads as less-one-reads
 use Rattle.specimen.proofs.store_byte.Reads as store-byte-reads

@@ -17,8 +17,8 @@ use Rattle.chart_list.proofs.walk.spell.Kinds as spell-kinds
 use Rattle.chart_list.proofs.walk.+spell.Lts-spell as spell-lts
 use Rattle.chart_table.proofs.cell_of.Reads as cell-of-reads
 use Rattle.chart_table.proofs.tie_at.Reads as tie-at-reads
-use Rattle.packing.proofs.arrays.rule_at.Reads as rule-at-reads
-use Rattle.packing.proofs.arrays.store.Reads as store-reads
+use Rattle.arrays.proofs.rule_at.Reads as rule-at-reads
+use Rattle.arrays.proofs.store.Reads as store-reads
 use Rattle.chart_list.proofs.walk.+spell.{statement}
 use Rattle.chart_list.proofs.walk.+spell.Tie.{close}
 

@@ -1,11 +1,11 @@
 // Flat arrays of numbers: reads that give 0 past the end, stores that do nothing there, and the rules of such an array.
-use crate::Rule;
-use crate::Sym;
-use crate::Word;
+use packing::Rule;
+use packing::Sym;
+use packing::Word;
 ghost use mathlib.Core.Path.{_≡_};
 ghost use Prim.Native.Nat.{_<_};
 ghost use lib.ListN.{getD, set};
 ghost use Rattle.packing.specs.Flat.{ruleAt};
 
 // A number in the width of an index.
 pub fn wide(x: u32) -> usize

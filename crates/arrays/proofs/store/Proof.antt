@@ -2,8 +2,8 @@
 use lib.Seq.{set-out}
 use mathlib.Core.Path.{sym}
 use borrow.Author.Needs.{needs}
-use Rattle.packing.proofs.arrays.store.Statement.{statement}
-use Rattle.packing.proofs.arrays.store.Tie as tie
+use Rattle.arrays.proofs.store.Statement.{statement}
+use Rattle.arrays.proofs.store.Tie as tie
 
 mul-t : tie.Need-mul-t
 mul-t c = search needs

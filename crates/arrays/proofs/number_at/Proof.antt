@@ -1,8 +1,8 @@
 -- Past the end `getD` gives its default.
 use lib.ListN.{List·getD-eq-default}
 use borrow.Author.Needs.{needs}
-use Rattle.packing.proofs.arrays.number_at.Statement.{statement}
-use Rattle.packing.proofs.arrays.number_at.Tie as tie
+use Rattle.arrays.proofs.number_at.Statement.{statement}
+use Rattle.arrays.proofs.number_at.Tie as tie
 
 mul-wide : tie.Need-mul-wide
 mul-wide c = search needs

@@ -1,8 +1,8 @@
 -- The kind decides the variant, and each field is read where `ruleAt` reads it.
 use borrow.Author.Tests.{eq-eqb, ne-eqb}
 use borrow.Author.Needs.{needs}
-use Rattle.packing.proofs.arrays.rule_at.Statement.{statement}
-use Rattle.packing.proofs.arrays.rule_at.Tie as tie
+use Rattle.arrays.proofs.rule_at.Statement.{statement}
+use Rattle.arrays.proofs.rule_at.Tie as tie
 
 mul-at : tie.Need-mul-at
 mul-at c = search needs

@@ -1,8 +1,8 @@
 -- Past the end `getD` gives its default.
 use lib.ListN.{List·getD-eq-default}
 use borrow.Author.Needs.{needs}
-use Rattle.packing.proofs.arrays.narrow_at.Statement.{statement}
-use Rattle.packing.proofs.arrays.narrow_at.Tie as tie
+use Rattle.arrays.proofs.narrow_at.Statement.{statement}
+use Rattle.arrays.proofs.narrow_at.Tie as tie
 
 mul-result : tie.Need-mul-result
 mul-result c = search needs
