@@ -1,4 +1,8 @@
 // The candidates for the next rank of a cell, and the least of them above a floor.
+use arrays::narrow_at;
+use arrays::number_at;
+use arrays::rule_at;
+use arrays::wide;
 use chart_table::Dims;
 use chart_table::NONE;
 use chart_table::cell_of;
@@ -7,10 +11,6 @@ use chart_table::tie_at;
 use chart_table::weight_at;
 use packing::Rule;
 use packing::Sym;
-use arrays::narrow_at;
-use arrays::number_at;
-use arrays::rule_at;
-use arrays::wide;
 ghost use mathlib.Core.Path.{_≡_};
 ghost use Prim.Native.Nat.{_+_, _-_, _*_, _<_, _≤_};
 ghost use Rattle.packing.specs.Flat.{ruleAt};

@@ -69,9 +69,10 @@ module _ {g : Grammar} {es : List Edge} {rules edges index : List ℕ} {d : Dims
               let (e₁, e₂, e₃) = cell-one d n cell′ (ready .cell) q in
               inl (e₁, e₂, e₃, r)
           go (no e) =
-              inr
-              (stored .weights other p ∙ put-weight-other t d cell c (rowKey v) some other p e,
-              stored .ties other p ∙ put-tie-other t d cell c (rowKey v) some other p e)
+              inr (
+                stored .weights other p ∙ put-weight-other t d cell c (rowKey v) some other p e,
+                stored .ties other p ∙ put-tie-other t d cell c (rowKey v) some other p e,
+              )
 
       pub grows : Grows d t u
       grows c′ x h = go (ℕ-discrete (entryOf d c′ x) (entryOf d cell c))

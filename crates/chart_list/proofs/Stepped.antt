@@ -116,8 +116,12 @@ module _ {g : Grammar} {es : List Edge} {rules edges index : List ℕ} {d : Dims
         go (yes some) (inr (above, candidate)) =
             let (v, st) = candidate-frontier s ready candidate (omega arith) some in
             let at = step-row g es a i k (d .cap) 0 (ready .kept) (omega arith) (st .on) (λ x l e. absurd (omega arith)) (λ v′ on′ above′ before.
-            omega (arith, bound v′ on′, st .keyed,
-            order-key v′ v (frontier-fits s ready on′) (frontier-fits s ready (st .on)) before)) in
+            omega (
+              arith,
+              bound v′ on′,
+              st .keyed,
+              order-key v′ v (frontier-fits s ready on′) (frontier-fits s ready (st .on)) before,
+            )) in
             rw (st .keyed) (found-first v at (st .on) (st .parts))
         go (no over) _ =
             rw (put-none t d cell 0 key (omega arith))
@@ -229,10 +233,11 @@ module _ {g : Grammar} {es : List Edge} {rules edges index : List ℕ} {d : Dims
             below le =
                 ⊎-elim (λ e. omega (arith, rw (← e) at new))
                 (λ less.
-                omega
-                (arith,
-                grows s ready v at (frontier-fits s ready on-v) (frontier-light s ready on-v) parts u at-key cell-of (suc q)
-                (ready .all (suc q) less)))
+                omega (
+                  arith,
+                  grows s ready v at (frontier-fits s ready on-v) (frontier-light s ready on-v) parts u at-key cell-of (suc q)
+                      (ready .all (suc q) less),
+                ))
                 (eq-or-lt-of-le {n = suc q} {m = suc x} le)
 
             beyond : suc x < q → ⊥

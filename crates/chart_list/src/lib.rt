@@ -1,6 +1,7 @@
 // The search: the ranked trees of every cell (head, from, to), found one after another in a lent work table.
 pub mod walk;
 
+use arrays::rule_at;
 use chart::begin;
 use chart::place;
 use chart_table::Dims;
@@ -9,7 +10,6 @@ use chart_table::tie_at;
 use chart_table::weight_at;
 use packing::Rule;
 use packing::Sym;
-use arrays::rule_at;
 ghost use mathlib.Core.Path.{_≡_};
 ghost use Prim.Native.Nat.{ℕ, suc, _+_, _-_, _*_, _<_, _≤_};
 ghost use Rattle.chart_table.specs.Table.{Sized, Small};

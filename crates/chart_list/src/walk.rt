@@ -1,11 +1,11 @@
 // The spelling of a found tree.
+use arrays::rule_at;
+use arrays::store;
 use chart_table::Dims;
 use chart_table::cell_of;
 use chart_table::tie_at;
 use packing::Rule;
 use packing::Sym;
-use arrays::rule_at;
-use arrays::store;
 ghost use mathlib.Core.Path.{_≡_};
 ghost use Prim.Native.Nat.{ℕ, _+_, _-_, _*_, _<_, _≤_};
 ghost use lib.ListN.{length};

@@ -2,10 +2,10 @@
 pub mod clearing;
 pub mod waiting;
 
-use packing::Sym;
 use arrays::number_at;
 use arrays::store;
 use arrays::wide;
+use packing::Sym;
 ghost use mathlib.Core.Path.{_≡_};
 ghost use Prim.Native.Nat.{_<_, _≤_};
 ghost use lib.ListN.{length, replicate};
