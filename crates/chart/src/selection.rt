@@ -14,8 +14,8 @@ use packing::Sym;
 ghost use mathlib.Core.Path.{_≡_};
 ghost use Prim.Native.Nat.{_+_, _-_, _*_, _<_, _≤_};
 ghost use Rattle.packing.specs.Flat.{ruleAt};
-ghost use Rattle.chart_table.specs.Table.{Sized, Small, tieOf, keyOf, ruleIn, splitIn, leftIn, rightIn};
-ghost use Rattle.chart.specs.Model.{lessOne, joinKey, lesser, pairKey, wordLeaf, edgeLeaves, leavesOf, splitSeeds, ruleSeeds, seedsOf, followers, pairOther, baseOf, renewedOf, floorOf};
+ghost use Rattle.chart_table.specs.Table.{Sized, Small, weightAt, tieOf, keyOf, ruleIn, splitIn, leftIn, rightIn};
+ghost use Rattle.chart.specs.Model.{lessOne, joinKey, lesser, wordLeaf, edgeLeaves, leavesOf, splitSeeds, ruleSeeds, seedsOf, followers, pairOther, baseOf, renewedOf, floorOf};
 
 // A tie: rule, split, and the ranks of the parts; of a leaf the rule, 0, the edge, 0.
 fn tie_of(r: usize, j: usize, p: usize, q: usize) -> usize
@@ -62,27 +62,25 @@ fn lesser(floor: usize, best: usize, key: usize) -> usize
     }
 }
 
-// The key of the tree joined from rank p of the left part and rank q of the right.
+// The key of the tree joined from rank p of the left part and rank q of the right, given by their cells.
 fn pair_key(
     t: &[u32],
     d: Dims,
-    b: Sym,
-    c: Sym,
+    left: usize,
+    right: usize,
     w: u32,
     r: usize,
-    i: usize,
     j: usize,
-    k: usize,
     p: usize,
     q: usize,
 ) -> usize
-    requires { ⌜ (Sized d) × (i ≤ 31) × (0 < j) × (j ≤ 31) × (0 < k) × (k ≤ 31) ⌝ }
-    requires { ⌜ (r < 4294967296) × (p ≤ 256) × (q ≤ 256) ⌝ }
-    ensures { λ x. ⌜ x ≡ pairKey (now (t .entry)) d b c w r i j k p q ⌝ }
+    requires { ⌜ (Sized d) × (left < 8589934592) × (right < 8589934592) ⌝ }
+    requires { ⌜ (r < 4294967296) × (j ≤ 31) × (p ≤ 256) × (q ≤ 256) ⌝ }
+    ensures { λ x. ⌜ x ≡ joinKey w (weightAt (now (t .entry)) d left p) (weightAt (now (t .entry)) d right q) (tieOf r j p q) ⌝ }
 {
-    let left = weight_at(t, d, cell_of(d, b, i, j), p);
-    let right = weight_at(t, d, cell_of(d, c, j, k), q);
-    join_key(w, left as u32, right as u32, tie_of(r, j, p, q))
+    let x = weight_at(t, d, left, p);
+    let y = weight_at(t, d, right, q);
+    join_key(w, x as u32, y as u32, tie_of(r, j, p, q))
 }
 
 // The best so far and the leaf of an edge by a rule, if that is a rule of the edge's word.
@@ -264,11 +262,13 @@ pub fn followers(
     let rule = rule_at(rules, r);
     match rule {
         Rule::Pair(_, b, c, w) => {
-            let right = lesser(floor, best, pair_key(t, d, b, c, w, r, i, j, k, p, q + 1));
+            let x = cell_of(d, b, i, j);
+            let y = cell_of(d, c, j, k);
+            let further = lesser(floor, best, pair_key(t, d, x, y, w, r, j, p, q + 1));
             if q == 0 {
-                lesser(floor, right, pair_key(t, d, b, c, w, r, i, j, k, p + 1, 0))
+                lesser(floor, further, pair_key(t, d, x, y, w, r, j, p + 1, 0))
             } else {
-                right
+                further
             }
         }
         Rule::Word(_, _, _) => best,
@@ -287,12 +287,14 @@ fn other(t: &[u32], d: Dims, rules: &[u32], i: usize, k: usize, floor: usize, ti
     let rule = rule_at(rules, r);
     match rule {
         Rule::Pair(_, b, c, w) => {
+            let x = cell_of(d, b, i, j);
+            let y = cell_of(d, c, j, k);
             if q == 1 {
-                return lesser(floor, NONE, pair_key(t, d, b, c, w, r, i, j, k, p + 1, 0));
+                return lesser(floor, NONE, pair_key(t, d, x, y, w, r, j, p + 1, 0));
             }
             if q == 0 {
                 if 0 < p {
-                    return lesser(floor, NONE, pair_key(t, d, b, c, w, r, i, j, k, p - 1, 1));
+                    return lesser(floor, NONE, pair_key(t, d, x, y, w, r, j, p - 1, 1));
                 }
             }
             NONE

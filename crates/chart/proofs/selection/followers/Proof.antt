@@ -1,6 +1,6 @@
 -- By the tests of the split and of the right part's rank, and by the rule's variant.
 use borrow.Author.Tests.{eq-eqb, ne-eqb}
-use Rattle.chart.specs.Model.{followers, pairFollowers}
+use Rattle.chart.specs.Model.{pairKey, followers, pairFollowers}
 use borrow.Author.Needs.{needs}
 use Rattle.chart.proofs.selection.followers.Statement.{statement}
 use Rattle.chart.proofs.selection.followers.Tie as tie
@@ -14,6 +14,12 @@ rule-at-requires c κs = search needs
 
 enum-known-rule : tie.Need-enum-known-rule
 enum-known-rule c = search needs
+
+cell-of-requires : tie.Need-cell-of-requires
+cell-of-requires c κs = search needs
+
+cell-of-requires-2 : tie.Need-cell-of-requires-2
+cell-of-requires-2 c κs = search needs
 
 add-pair-key : tie.Need-add-pair-key
 add-pair-key c = search needs
@@ -37,12 +43,12 @@ enum-told : tie.Need-enum-told
 enum-told c = search needs
 
 returns-2 : tie.Need-returns-2
-unfolding followers pairFollowers
-returns-2 c = simp (ne-eqb _ _ (c .before .before .before .before .before .before .before .before .before .if1 .left), ← c .before .before .before .before .before .before .before .before .rule-at .ensures, c .before .before .before .before .before .before .rule .given .1, eq-eqb _ _ (c .before .before .if2 .taken)) (rw (c .lesser2 .ensures, c .before .pair-key2 .ensures, c .before .before .before .lesser .ensures, c .before .before .before .before .pair-key .ensures))
+unfolding followers pairFollowers pairKey
+returns-2 c = simp (ne-eqb _ _ (c .before .before .before .before .before .before .before .before .before .before .before .if1 .left), ← c .before .before .before .before .before .before .before .before .before .before .rule-at .ensures, c .before .before .before .before .before .before .before .before .rule .given .1, eq-eqb _ _ (c .before .before .if2 .taken)) (rw (c .lesser2 .ensures, c .before .pair-key2 .ensures, c .before .before .before .lesser .ensures, c .before .before .before .before .pair-key .ensures, c .before .before .before .before .before .cell-of2 .ensures .0, c .before .before .before .before .before .before .cell-of .ensures .0))
 
 returns-3 : tie.Need-returns-3
-unfolding followers pairFollowers
-returns-3 c = simp (ne-eqb _ _ (c .before .before .before .before .before .before .before .if1 .left), ← c .before .before .before .before .before .before .rule-at .ensures, c .before .before .before .before .rule .given .1, ne-eqb _ _ (c .if2 .left)) (rw (c .before .lesser .ensures, c .before .before .pair-key .ensures))
+unfolding followers pairFollowers pairKey
+returns-3 c = simp (ne-eqb _ _ (c .before .before .before .before .before .before .before .before .before .if1 .left), ← c .before .before .before .before .before .before .before .before .rule-at .ensures, c .before .before .before .before .before .before .rule .given .1, ne-eqb _ _ (c .if2 .left)) (rw (c .before .lesser .ensures, c .before .before .pair-key .ensures, c .before .before .before .cell-of2 .ensures .0, c .before .before .before .before .cell-of .ensures .0))
 
 returns-4 : tie.Need-returns-4
 unfolding followers pairFollowers
@@ -55,6 +61,8 @@ followers-spec =
     returns
     rule-at-requires
     enum-known-rule
+    cell-of-requires
+    cell-of-requires-2
     add-pair-key
     pair-key-requires
     lesser-requires

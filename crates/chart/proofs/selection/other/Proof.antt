@@ -1,6 +1,6 @@
 -- By the rule's variant and the tests of the ranks.
 use borrow.Author.Tests.{eq-eqb, ne-eqb, lt-ltb, le-ltb}
-use Rattle.chart.specs.Model.{pairOther}
+use Rattle.chart.specs.Model.{pairKey, pairOther}
 use borrow.Author.Needs.{needs}
 use Rattle.chart.proofs.selection.other.Statement.{statement}
 use Rattle.chart.proofs.selection.other.Tie as tie
@@ -10,6 +10,12 @@ rule-at-requires c κs = search needs
 
 enum-known-rule : tie.Need-enum-known-rule
 enum-known-rule c = search needs
+
+cell-of-requires : tie.Need-cell-of-requires
+cell-of-requires c κs = search needs
+
+cell-of-requires-2 : tie.Need-cell-of-requires-2
+cell-of-requires-2 c κs = search needs
 
 add-pair-key : tie.Need-add-pair-key
 add-pair-key c = search needs
@@ -21,8 +27,8 @@ lesser-requires : tie.Need-lesser-requires
 lesser-requires c κs = search needs
 
 returns : tie.Need-returns
-unfolding pairOther
-returns c = simp (← c .before .before .before .before .before .before .rule-at .ensures, c .before .before .before .before .rule .given .1, eq-eqb _ _ (c .before .before .if1 .taken)) (rw (c .lesser .ensures, c .before .pair-key .ensures))
+unfolding pairOther pairKey
+returns c = simp (← c .before .before .before .before .before .before .before .before .rule-at .ensures, c .before .before .before .before .before .before .rule .given .1, eq-eqb _ _ (c .before .before .if1 .taken)) (rw (c .lesser .ensures, c .before .pair-key .ensures, c .before .before .before .cell-of2 .ensures .0, c .before .before .before .before .cell-of .ensures .0))
 
 sub-pair-key : tie.Need-sub-pair-key
 sub-pair-key c = search needs
@@ -34,19 +40,19 @@ lesser-requires-2 : tie.Need-lesser-requires-2
 lesser-requires-2 c κs = search needs
 
 returns-2 : tie.Need-returns-2
-unfolding pairOther
-returns-2 c = simp (← c .before .before .before .before .before .before .before .before .rule-at .ensures, c .before .before .before .before .before .before .rule .given .1, ne-eqb _ _ (c .before .before .before .before .if1 .left), eq-eqb _ _ (c .before .before .before .if2 .taken), lt-ltb _ _ (c .before .before .if3 .taken)) (rw (c .lesser2 .ensures, c .before .pair-key2 .ensures))
+unfolding pairOther pairKey
+returns-2 c = simp (← c .before .before .before .before .before .before .before .before .before .before .rule-at .ensures, c .before .before .before .before .before .before .before .before .rule .given .1, ne-eqb _ _ (c .before .before .before .before .if1 .left), eq-eqb _ _ (c .before .before .before .if2 .taken), lt-ltb _ _ (c .before .before .if3 .taken)) (rw (c .lesser2 .ensures, c .before .pair-key2 .ensures, c .before .before .before .before .before .cell-of2 .ensures .0, c .before .before .before .before .before .before .cell-of .ensures .0))
 
 enum-told : tie.Need-enum-told
 enum-told c = search needs
 
 returns-3 : tie.Need-returns-3
 unfolding pairOther
-returns-3 c = simp (← c .before .before .before .before .before .before .rule-at .ensures, c .before .before .before .before .rule .given .1, ne-eqb _ _ (c .before .before .if1 .left), eq-eqb _ _ (c .before .if2 .taken), le-ltb _ _ (c .if3 .left))
+returns-3 c = simp (← c .before .before .before .before .before .before .before .before .rule-at .ensures, c .before .before .before .before .before .before .rule .given .1, ne-eqb _ _ (c .before .before .if1 .left), eq-eqb _ _ (c .before .if2 .taken), le-ltb _ _ (c .if3 .left))
 
 returns-4 : tie.Need-returns-4
 unfolding pairOther
-returns-4 c = simp (← c .before .before .before .before .before .rule-at .ensures, c .before .before .before .rule .given .1, ne-eqb _ _ (c .before .if1 .left), ne-eqb _ _ (c .if2 .left))
+returns-4 c = simp (← c .before .before .before .before .before .before .before .rule-at .ensures, c .before .before .before .before .before .rule .given .1, ne-eqb _ _ (c .before .if1 .left), ne-eqb _ _ (c .if2 .left))
 
 returns-5 : tie.Need-returns-5
 unfolding pairOther
@@ -58,6 +64,8 @@ other-spec =
     (tie.spec
     rule-at-requires
     enum-known-rule
+    cell-of-requires
+    cell-of-requires-2
     add-pair-key
     pair-key-requires
     lesser-requires

@@ -1,17 +1,10 @@
--- Each call has the meaning of its part of the definition.
-use Rattle.chart.specs.Model.{pairKey}
+-- Each call has the meaning of its part of the promise.
 use borrow.Author.Needs.{needs}
 use Rattle.chart.proofs.selection.pair_key.Statement.{statement}
 use Rattle.chart.proofs.selection.pair_key.Tie as tie
 
-cell-of-requires : tie.Need-cell-of-requires
-cell-of-requires c κs = search needs
-
 weight-at-requires : tie.Need-weight-at-requires
 weight-at-requires c κs = search needs
-
-cell-of-requires-2 : tie.Need-cell-of-requires-2
-cell-of-requires-2 c κs = search needs
 
 weight-at-requires-2 : tie.Need-weight-at-requires-2
 weight-at-requires-2 c κs = search needs
@@ -29,16 +22,13 @@ join-key-requires : tie.Need-join-key-requires
 join-key-requires c κs = search needs
 
 returns : tie.Need-returns
-unfolding pairKey
-returns c = rw (c .join-key .ensures, c .before .tie-of .ensures .0, c .before .before .weight-at2 .ensures .0, c .before .before .before .before .weight-at .ensures .0, c .before .before .before .cell-of2 .ensures .0, c .before .before .before .before .before .cell-of .ensures .0)
+returns c = rw (c .join-key .ensures, c .before .tie-of .ensures .0, c .before .before .weight-at2 .ensures .0, c .before .before .before .weight-at .ensures .0)
 
 pub pair-key-spec : {M : Type 1} → statement M
 pair-key-spec =
     tie.close
     (tie.spec
-    cell-of-requires
     weight-at-requires
-    cell-of-requires-2
     weight-at-requires-2
     cast-join-key
     cast-join-key-2
