@@ -19,7 +19,7 @@ use Rattle.derivation.proofs.Ranges.{all-at, Within, valid-rules, valid-sizes, 
 use Rattle.derivation.proofs.Slots.{edges-short, edges-cheap}
 use Rattle.derivation.proofs.Readings.{weight-bound}
 use Rattle.chart_table.specs.declared.Dims.{Dims}
-use Rattle.chart_table.specs.Table.{cellOf, weightAt, foundOf}
+use Rattle.chart_table.specs.Table.{cellOf, weightAt, foundOf, cleared}
 use Rattle.chart.specs.Model.{Indexed}
 use Rattle.chart_list.specs.Search.{listOf, spelled}
 use Rattle.chart_list.proofs.Good.{Setting}
@@ -51,15 +51,16 @@ module _ (g : Grammar) (u : Utterance) (N : ℕ) where
     walk = spelled t rules dims (length u) (symbol 0) 0 (length u) x;
   }
 
-  -- a table holds the list of the N least readings, of which there are m
+  -- a table holds the list of the N least readings, of which there are m, and is zeros once the entries found are cleared
   pub record Holds (rules t : List ℕ) (m : ℕ) : Type 0 where
     pub number : length (listing g u N) ≡ m
     pub each : (x : ℕ) → x < m → At (listing g u N) x (readingAt rules t x)
+    pub clears : cleared t dims ≡ replicate (length t) 0
 
   -- ranked trees are the listing's readings
   holds : (rules t : List ℕ) (m : ℕ) → Lists g (edges u) rules dims (length u) t m → Holds rules t m
   unfolding listing reading
-  holds rules t m lists = record { number = number; each = each }
+  holds rules t m lists = record { number = number; each = each; clears = lists .clears }
     where
       all : List Tree
       all = ranked g (edges u) (symbol 0) 0 (length u)

@@ -10,11 +10,12 @@ use Rattle.derivation.specs.Derivation.{At, Tree, weight, walk}
 use Rattle.derivation.specs.List.{ranked}
 use Rattle.derivation.proofs.Rows.{row-weight}
 use Rattle.chart_table.specs.declared.Dims.{Dims}
-use Rattle.chart_table.specs.Table.{cellOf, weightAt, foundOf}
+use Rattle.chart_table.specs.Table.{cellOf, weightAt, foundOf, cleared}
 use Rattle.chart_list.specs.Search.{listOf, spelled}
 use Rattle.chart_list.proofs.Good.{Setting}
 use Rattle.chart_list.proofs.Listing.{Zeros, zeros-good, whole, Listed, list-known, found-exactly, count-found}
 use Rattle.chart_list.proofs.Spell.{spells}
+use Rattle.chart_list.proofs.Cleared.{good-cleared}
 
 -- rank x of the whole span is the tree z: its weight is stored, plus 1, and its walk is spelled
 pub record Ranked (g : Grammar) (es : List Edge) (rules : List ℕ) (d : Dims) (n : ℕ) (t : List ℕ) (x : ℕ) (z : Tree)
@@ -23,10 +24,12 @@ pub record Ranked (g : Grammar) (es : List Edge) (rules : List ℕ) (d : Dims) (
   pub weighs : weightAt t d (cellOf d (symbol 0) 0 n) x ≡ weight g es z + 1
   pub spelt : (fuel : ℕ) → n ≤ fuel → spelled t rules d fuel (symbol 0) 0 n x ≡ walk z
 
--- m ranks are found, the lesser of those that are kept and those that there are, and each is the tree of its place
+-- m ranks are found, the lesser of those that are kept and those that there are, and each is the tree of its place; clearing the
+-- entries found makes the table zeros
 pub record Lists (g : Grammar) (es : List Edge) (rules : List ℕ) (d : Dims) (n : ℕ) (t : List ℕ) (m : ℕ) : Type 0 where
   pub number : m ≡ min (d .cap) (length (ranked g es (symbol 0) 0 n))
   pub each : (x : ℕ) → x < m → (z : Tree) × Ranked g es rules d n t x z
+  pub clears : cleared t d ≡ replicate (length t) 0
 
 replicate-zeros : (len : ℕ) → Zeros (replicate len 0)
 replicate-zeros zero y = refl
@@ -62,4 +65,4 @@ module _ {g : Grammar} {es : List Edge} {rules edges index : List ℕ} {d : Dims
   chart-lists len room =
       let good = zeros-good d (replicate len 0) (replicate-zeros len) g es n (rw length-replicate room) in
       let listed = list-known s some-place some-symbol (replicate len 0) good in
-      record { number = number _ listed; each = each _ listed }
+      record { number = number _ listed; each = each _ listed; clears = good-cleared s _ (listed .good) }

@@ -20,6 +20,7 @@ use Rattle.chart.specs.Model.{Indexed}
 use Rattle.chart_list.proofs.Keys.{rowTie, RowFits}
 use Rattle.chart_list.proofs.Entries.{Cell, Planned}
 use Rattle.chart_list.proofs.Queue.{Queue}
+use Rattle.chart_list.proofs.Settled.{InEntry}
 
 -- the arrays hold the grammar and the edges, the index is theirs, and a key has room for all of their numbers
 pub record Setting (g : Grammar) (es : List Edge) (rules edges index : List ℕ) (d : Dims) (n : ℕ) : Type 0 where
@@ -72,6 +73,8 @@ pub record Good (g : Grammar) (es : List Edge) (d : Dims) (n m : ℕ) (t : List 
   pub begun : (a : Sym) (i k : ℕ) → Cell d n a i k → k - i < m → Known g es d t a i k 0
   pub ahead : (a : Sym) (i k x : ℕ) (v : Row) → Cell d n a i k → Found d t a i k (suc x) → RowAt g es a i k x v
       → Ahead g es d t a i k v
+  pub tidy : (z : ℕ) → 0 < getD t z 0
+      → (a : Sym) × (i : ℕ) × (k : ℕ) × (x : ℕ) × Cell d n a i k × Found d t a i k x × InEntry d (cellOf d a i k) x z
   pub empty : (a : Sym) (i k : ℕ) → Cell d n a i k → weightAt t d (cellOf d a i k) 0 ≡ 0 → waitingIn t d (cellOf d a i k) ≡ 0
   pub waits : (a : Sym) (i k x : ℕ) (v : Row) → Cell d n a i k → Found d t a i k x → suc x < d .cap
       → weightAt t d (cellOf d a i k) (suc x) ≡ 0 → RowAt g es a i k x v

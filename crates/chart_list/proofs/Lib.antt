@@ -20,5 +20,6 @@ pub mod Stepped
 pub mod Next
 pub mod Listing
 pub mod Spell
+pub mod Cleared
 pub mod Chart
 pub mod Accepted

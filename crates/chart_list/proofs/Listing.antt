@@ -51,6 +51,7 @@ module _ (d : Dims) (t : List ℕ) (zeros : Zeros t) where
     down = λ a i k x cell h. absurd (none-found _ (suc x) h);
     begun = λ a i k cell l. absurd (omega (arith, cell .order));
     ahead = λ a i k x v cell h. absurd (none-found _ (suc x) h);
+    tidy = λ z h. absurd (omega (arith, zeros z));
     empty = λ a i k cell e. none-waits (cellOf d a i k);
     waits = λ a i k x v cell h. absurd (none-found _ x h);
   }
@@ -116,6 +117,7 @@ module _ {g : Grammar} {es : List Edge} {rules edges index : List ℕ} {d : Dims
             rw last (lengths .known i (a .0) (omega (arith, cell .order, cell .within)) (cell .symbol)))
             (λ less. lengths .good .begun a i k cell less) (eq-or-lt-of-le {n = k - i} {m = len} (omega arith));
         ahead = lengths .good .ahead;
+        tidy = lengths .good .tidy;
         empty = lengths .good .empty;
         waits = lengths .good .waits;
       }

@@ -4,9 +4,10 @@ use mathlib.Core.Path.{_≡_, refl, sym, _∙_}
 use mathlib.Core.Logic.{_⊎_, inl, inr, ⊎-elim, _≢_}
 use mathlib.Core.List.{List}
 use Prim.Native.Nat.{ℕ, zero, suc, _+_, _-_, _≤_, _<_}
+use native.Mathlib.Nat.{eq-or-lt-of-le}
 use native.Mathlib.Decide.{ℕ-discrete, decLt}
 use native.Mathlib.Omega.{arith}
-use lib.ListN.{length}
+use lib.ListN.{length, getD}
 use Rattle.packing.specs.declared.Sym.{Sym}
 use Rattle.packing.specs.Meaning.{Grammar, Edge}
 use Rattle.derivation.proofs.Rows.{Row, rowWeight, RowAt}
@@ -15,7 +16,7 @@ use Rattle.chart_table.specs.Table.{none, cellOf, entryOf, weightAt, tieAt, wai
 use Rattle.chart_list.proofs.Keys.{RowFits, rowKey, key-weight, key-tie, key-some}
 use Rattle.chart_list.proofs.Entries.{Cell, cell-below, cell-one, entry-one, entry-within, past-cap, same-entry, under-cap, put-weight, put-tie, put-weight-other, put-tie-other}
 use Rattle.chart_list.proofs.Queue.{Queue, queue-kept}
-use Rattle.chart_list.proofs.Settled.{Stored}
+use Rattle.chart_list.proofs.Settled.{InEntry, Stored}
 use Rattle.chart_list.proofs.Good.{Setting, Found, Known, Parts, Ahead, Stands, Good, Grows, known-grows, parts-grow, ahead-grows, Grown}
 use Rattle.chart_list.proofs.Least.{Ready}
 
@@ -128,6 +129,20 @@ module _ {g : Grammar} {es : List Edge} {rules edges index : List ℕ} {d : Dims
           (λ e. ready .good .ahead b x y p v′ cell′ (rw (e .0) at h) at′)
           (look b x y (suc p) cell′ (under-cap u d _ (suc p) h)))
 
+      -- what is not 0 stands in the entry of a found rank
+      tidy : (z : ℕ) → 0 < getD u z 0
+          → (b : Sym) × (x : ℕ) × (y : ℕ) × (p : ℕ) × Cell d n b x y × Found d u b x y p × InEntry d (cellOf d b x y) p z
+      tidy z h =
+          ⊎-elim
+          (λ e.
+          let (b, x, y, p, cell′, found, in-entry) = ready .good .tidy z (rw e at h) in
+          (b, x, y, p, cell′, grows (cellOf d b x y) p found, in-entry))
+          (λ w.
+          let (p, le, in-entry) = w in
+          let found = ⊎-elim (λ e. rw e new-found) (λ less. grows cell p (ready .all p less)) (eq-or-lt-of-le {n = p} {m = c} le) in
+          (a, i, k, p, ready .cell, found, in-entry))
+          (stored .within z)
+
       -- what waits
       abbrev pub Waiting : (b : Sym) (x y p : ℕ) → Row → Type 0
       Waiting b x y p v′ =
@@ -180,6 +195,7 @@ module _ {g : Grammar} {es : List Edge} {rules edges index : List ℕ} {d : Dims
           down = down;
           begun = λ b x y cell′ l. known-grows g es d t u grows b x y 0 (ready .good .begun b x y cell′ l);
           ahead = ahead;
+          tidy = tidy;
           empty = empty-other;
           waits = waits;
         }

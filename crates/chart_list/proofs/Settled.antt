@@ -6,16 +6,17 @@ use mathlib.Core.List.{List}
 use Prim.Native.Nat.{ℕ, zero, suc, _+_, _-_, _*_, _/_, _%_, _≤_, _<_}
 use native.Mathlib.Nat.{eq-or-lt-of-le, le-refl, le-trans}
 use native.Mathlib.Numerals.{add-one}
-use native.Mathlib.Decide.{decLt}
+use native.Mathlib.Decide.{decLt, ℕ-discrete}
 use native.Mathlib.Omega.{arith}
-use lib.ListN.{length, getD}
+use lib.ListN.{length, getD, set}
+use lib.Seq.{getD-set-other}
 use lib.Dec.{ltb}
 use borrow.Author.Tests.{ltb-true, ltb-false, le-ltb}
 use Rattle.bits.specs.Bits.{pick}
 use Rattle.packing.specs.Loop.{iter}
 use Rattle.chart_table.specs.declared.Dims.{Dims}
 use Rattle.chart_table.specs.Table.{entryOf, weightAt, tieAt, none, putKey, waitingAt, waitingIn, putWaiting, moveWaiting, putCount, sooner, soonest, replaced, appended, settled}
-use Rattle.chart_list.proofs.Entries.{entry-one, entry-within, put-none, put-length}
+use Rattle.chart_list.proofs.Entries.{entry-one, entry-within, put-none, put-is, put-length}
 use Rattle.chart_list.proofs.Slots.{put-waiting, put-count, paired, paired-length, paired-weight, paired-tie, paired-same, paired-other, paired-count, count-length, count-weight, count-tie, count-same, count-other, count-waiting}
 use Rattle.chart_list.proofs.Queue.{Member, slot, low, high, Valid, keyIn, Arranged}
 use Rattle.chart_list.proofs.Arranged.{late-arranged, early-arranged, moved-arranged}
@@ -57,6 +58,19 @@ module _ (t : List ℕ) (d : Dims) (cell : ℕ) where
   soonest-some zero h = absurd (omega arith)
   soonest-some (suc m) h = soonest-least m
 
+-- a number of an entry
+abbrev pub InEntry : Dims → (cell x z : ℕ) → Type 0
+InEntry d cell x z = (entryOf d cell x ≤ z) × (z < entryOf d cell x + 4)
+
+-- a store in an entry changes a number of it or none
+set-within : (t : List ℕ) (d : Dims) (cell x f v z : ℕ) → f < 4
+    → (getD (set t (entryOf d cell x + f) v) z 0 ≡ getD t z 0) ⊎ InEntry d cell x z
+set-within t d cell x f v z h = go (ℕ-discrete z (entryOf d cell x + f))
+  where
+    go : Dec (z ≡ entryOf d cell x + f) → (getD (set t (entryOf d cell x + f) v) z 0 ≡ getD t z 0) ⊎ InEntry d cell x z
+    go (yes e) = inr (omega arith, omega arith)
+    go (no e) = inl (getD-set-other t (entryOf d cell x + f) z v 0 e)
+
 -- what a store of a key at rank c of a cell changes, and what waits in other cells
 pub record Stored (t : List ℕ) (d : Dims) (cell c key : ℕ) (u : List ℕ) : Type 0 where
   pub size : length u ≡ length t
@@ -64,6 +78,7 @@ pub record Stored (t : List ℕ) (d : Dims) (cell c key : ℕ) (u : List ℕ) : 
   pub ties : (c′ x : ℕ) → tieAt u d c′ x ≡ tieAt (putKey t d cell c key) d c′ x
   pub counts : (c′ : ℕ) → c′ < d .cells → c′ ≢ cell → waitingIn u d c′ ≡ waitingIn t d c′
   pub others : (c′ y : ℕ) → c′ < d .cells → c′ ≢ cell → suc y < d .cap → waitingAt u d c′ y ≡ waitingAt t d c′ y
+  pub within : (z : ℕ) → (getD u z 0 ≡ getD t z 0) ⊎ ((x : ℕ) × (x ≤ c) × InEntry d cell x z)
 
 module _ (t : List ℕ) (d : Dims) (cell c key : ℕ) (below : cell < d .cells) (kept : 0 < d .cap) where
   apart : (c′ x x′ : ℕ) → c′ < d .cells → c′ ≢ cell → x < d .cap → x′ < d .cap → entryOf d c′ x ≢ entryOf d cell x′
@@ -79,20 +94,37 @@ module _ (t : List ℕ) (d : Dims) (cell c key : ℕ) (below : cell < d .cells) 
     ties = λ c′ x. refl;
     counts = λ c′ h other. put-count t d cell c key some c′;
     others = λ c′ y h other l. put-waiting t d cell c key some c′ y;
+    within = λ z.
+        let first : entryOf d cell c + 0 ≡ entryOf d cell c = omega arith in
+        let weighed = set t (entryOf d cell c) (key / 536870912) in
+        rw (put-is t d cell c key some)
+        (⊎-elim
+        (λ e. ⊎-elim (λ e′. inl (e ∙ e′)) (λ b. inr (c, le-refl c, b))
+        (rw first at (set-within t d cell c 0 (key / 536870912) z (omega arith))))
+        (λ b. inr (c, le-refl c, b)) (set-within weighed d cell c 2 (key % 536870912) z (omega arith)));
   }
 
   module _ {u : List ℕ} (st : Stored t d cell c key u) where
-    stored-pair : (y v v′ : ℕ) → suc y < d .cap → Stored t d cell c key (paired u d cell y v v′)
-    stored-pair y v v′ l = record {
+    -- in an entry of a rank up to c
+    within-one : (w : List ℕ) (x f v : ℕ) → x ≤ c → f < 4 → ((z : ℕ) → (getD w z 0 ≡ getD t z 0) ⊎ ((x : ℕ) × (x ≤ c) × InEntry d cell x z))
+        → (z : ℕ) → (getD (set w (entryOf d cell x + f) v) z 0 ≡ getD t z 0) ⊎ ((x : ℕ) × (x ≤ c) × InEntry d cell x z)
+    within-one w x f v le h before z =
+        ⊎-elim (λ e. ⊎-elim (λ e′. inl (e ∙ e′)) inr (before z)) (λ b. inr (x, le, b)) (set-within w d cell x f v z h)
+
+    stored-pair : (y v v′ : ℕ) → suc y < d .cap → suc y ≤ c → Stored t d cell c key (paired u d cell y v v′)
+    stored-pair y v v′ l le = record {
       size = paired-length u d cell y v v′ ∙ st .size;
       weights = λ c′ x. paired-weight u d cell y v v′ c′ x ∙ st .weights c′ x;
       ties = λ c′ x. paired-tie u d cell y v v′ c′ x ∙ st .ties c′ x;
       counts = λ c′ h other. paired-count u d cell y v v′ c′ (apart c′ 0 (y + 1) h other kept (omega arith)) ∙ st .counts c′ h other;
       others = λ c′ z h other l′. paired-other u d cell y v v′ c′ z (apart c′ (z + 1) (y + 1) h other (omega arith) (omega arith))
           ∙ st .others c′ z h other l′;
+      within = within-one (set u (entryOf d cell (y + 1) + 1) v) (y + 1) 3 v′ (omega arith) (omega arith)
+          (within-one u (y + 1) 1 v (omega arith) (omega arith) (st .within));
     }
 
     stored-count : (m : ℕ) → Stored t d cell c key (putCount u d cell m)
+    unfolding putCount
     stored-count m = record {
       size = count-length u d cell m ∙ st .size;
       weights = λ c′ x. count-weight u d cell m c′ x ∙ st .weights c′ x;
@@ -100,6 +132,7 @@ module _ (t : List ℕ) (d : Dims) (cell c key : ℕ) (below : cell < d .cells) 
       counts = λ c′ h other. count-other u d cell m c′ (apart c′ 0 0 h other kept kept) ∙ st .counts c′ h other;
       others = λ c′ y h other l. count-waiting u d cell m c′ y (apart c′ (y + 1) 0 h other (omega arith) kept)
           ∙ st .others c′ y h other l;
+      within = within-one u 0 1 m (omega arith) (omega arith) (st .within);
     }
 
 -- what `settled` comes to
@@ -168,7 +201,7 @@ module _ (t : List ℕ) (d : Dims) (cell c lo hi : ℕ) (below : cell < d .cells
       stored : Stored t d cell c key (putCount w d cell (m + 1))
       stored =
           stored-count t d cell c key below some-kept
-          (stored-pair t d cell c key below some-kept st m (hi / 536870912) (hi % 536870912) (omega arith)) (m + 1)
+          (stored-pair t d cell c key below some-kept st m (hi / 536870912) (hi % 536870912) (omega arith) (omega arith)) (m + 1)
 
       counted : waitingIn (putCount w d cell (m + 1)) d cell ≡ suc m
       counted = count-same w d cell (m + 1) (entry-room w 0 size some-kept) (omega arith) ∙ add-one m
@@ -247,7 +280,7 @@ module _ (t : List ℕ) (d : Dims) (cell c lo hi : ℕ) (below : cell < d .cells
         grown : Grew (wait x) w (appended w d cell m hi)
         grown =
             grew (wait x) w
-            (stored-pair t d cell c (wait x) below some-kept st x (lo / 536870912) (lo % 536870912) (omega arith))
+            (stored-pair t d cell c (wait x) below some-kept st x (lo / 536870912) (lo % 536870912) (omega arith) (omega arith))
             (written-count at-c (st .size) x lo (omega arith) ∙ counted (wait x) real-x)
 
     -- and there are no more
@@ -256,7 +289,7 @@ module _ (t : List ℕ) (d : Dims) (cell c lo hi : ℕ) (below : cell < d .cells
     moved-outcome no-lo =
         something (slot x) waited early-least
         (stored-count t d cell c (wait x) below some-kept
-        (stored-pair t d cell c (wait x) below some-kept st x heavy tied (omega arith)) (m - 1))
+        (stored-pair t d cell c (wait x) below some-kept st x heavy tied (omega arith) (omega arith)) (m - 1))
         (moved-arranged c m lo hi wait _ _ (omega (arith, fewer)) x waited no-lo (omega arith) fewer-suc (λ h. new) other)
       where
         st : Stored t d cell c (wait x) at-c
