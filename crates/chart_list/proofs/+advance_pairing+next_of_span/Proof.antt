@@ -13,17 +13,18 @@ use Rattle.chart_list.proofs.Extended.{missing-kept, extended-missing, 
 use Prim.Native.Nat.{ℕ, _<_}
 use borrow.Fn.Kinds.{In}
 use borrow.Fn.PlainCycle.{Measures, is, falls, and}
-use Rattle.chart.proofs.advance_pairing.Reads as advance-pairing
-use Rattle.chart.proofs.advance_pairing.Kinds as advance-pairing-kinds
+use Rattle.chart_list.proofs.advance_pairing.Reads as advance-pairing
+use Rattle.chart_list.proofs.advance_pairing.Kinds as advance-pairing-kinds
 use Rattle.chart_list.proofs.+advance_pairing+next_of_span.Lts-advance_pairing as advance-pairing-lts
-use Rattle.chart.proofs.next_of_span.Reads as next-of-span
-use Rattle.chart.proofs.next_of_span.Kinds as next-of-span-kinds
+use Rattle.chart_list.proofs.next_of_span.Reads as next-of-span
+use Rattle.chart_list.proofs.next_of_span.Kinds as next-of-span-kinds
 use Rattle.chart_list.proofs.+advance_pairing+next_of_span.Lts-next_of_span as next-of-span-lts
-use Rattle.chart_list.proofs.missing.Reads as missing-reads
+use Rattle.arrays.proofs.rule_at.Reads as rule-at-reads
+use Rattle.chart.proofs.begin.Reads as begin-reads
 use Rattle.chart.proofs.place.Reads as place-reads
+use Rattle.chart_list.proofs.missing.Reads as missing-reads
 use Rattle.chart_table.proofs.cell_of.Reads as cell-of-reads
 use Rattle.chart_table.proofs.tie_at.Reads as tie-at-reads
-use Rattle.arrays.proofs.rule_at.Reads as rule-at-reads
 use Rattle.chart_list.proofs.+advance_pairing+next_of_span.{statement}
 use Rattle.chart_list.proofs.+advance_pairing+next_of_span.Tie.{close}
 
@@ -295,127 +296,147 @@ advance-pairing-returns-6 : (t : ℕ) → advance-pairing-lts.Need-returns-6 (
 unfolding advanced
 advance-pairing-returns-6 t c = λ f h. simp (le-ltb _ _ (c .if1 .left))
 
-next-of-span-place-requires : (t : ℕ) → next-of-span-lts.Need-place-requires (
-  place-reads.Asked,
-  place-reads.Learnt,
+next-of-span-begin-requires : (t : ℕ) → next-of-span-lts.Need-begin-requires (
+  begin-reads.Asked,
+  begin-reads.Learnt,
   cell-of-reads.Asked,
   cell-of-reads.Learnt,
   tie-at-reads.Asked,
   tie-at-reads.Learnt,
   advance-pairing-below t,
   advance-pairing.Post,
+  place-reads.Asked,
+  place-reads.Learnt,
 ) (next-of-span-at t) next-of-span.Post
-next-of-span-place-requires t c κs = search needs
+next-of-span-begin-requires t c κs = search needs
 
 next-of-span-same-length : (t : ℕ) → next-of-span-lts.Need-same-length (
-  place-reads.Asked,
-  place-reads.Learnt,
+  begin-reads.Asked,
+  begin-reads.Learnt,
   cell-of-reads.Asked,
   cell-of-reads.Learnt,
   tie-at-reads.Asked,
   tie-at-reads.Learnt,
   advance-pairing-below t,
   advance-pairing.Post,
+  place-reads.Asked,
+  place-reads.Learnt,
 ) (next-of-span-at t) next-of-span.Post
-next-of-span-same-length t c = c .before .before .place .kept .0
+next-of-span-same-length t c = c .before .before .begin .kept .0
 
 next-of-span-returns : (t : ℕ) → next-of-span-lts.Need-returns (
-  place-reads.Asked,
-  place-reads.Learnt,
+  begin-reads.Asked,
+  begin-reads.Learnt,
   cell-of-reads.Asked,
   cell-of-reads.Learnt,
   tie-at-reads.Asked,
   tie-at-reads.Learnt,
   advance-pairing-below t,
   advance-pairing.Post,
+  place-reads.Asked,
+  place-reads.Learnt,
 ) (next-of-span-at t) next-of-span.Post
 unfolding next
-next-of-span-returns t c = λ f. elim f [ zero ↦ λ h. absurd (omega (arith, c .before .before .before .before .before .before .before .before .before .pre .1 .0 .order)) | suc g ↦ λ h. simp (le-ltb 0 (c .before .before .before .before .before .before .before .before .before .args .c) (omega (arith, c .before .before .before .before .if1 .taken))) (c .before .before .place .ensures) ]
+next-of-span-returns t c = λ f. elim f [ zero ↦ λ h. absurd (omega (arith, c .before .before .before .before .before .before .before .before .before .pre .1 .0 .order)) | suc g ↦ λ h. rw (eq-eqb (c .before .before .before .before .before .before .before .before .before .args .c) 0 (c .before .before .before .before .if1 .taken)) (c .before .before .begin .ensures) ]
 
 next-of-span-cell-of-requires : (t : ℕ) → next-of-span-lts.Need-cell-of-requires (
-  place-reads.Asked,
-  place-reads.Learnt,
+  begin-reads.Asked,
+  begin-reads.Learnt,
   cell-of-reads.Asked,
   cell-of-reads.Learnt,
   tie-at-reads.Asked,
   tie-at-reads.Learnt,
   advance-pairing-below t,
   advance-pairing.Post,
+  place-reads.Asked,
+  place-reads.Learnt,
 ) (next-of-span-at t) next-of-span.Post
 next-of-span-cell-of-requires t c κs = search needs
 
 next-of-span-sub-tie-at : (t : ℕ) → next-of-span-lts.Need-sub-tie-at (
-  place-reads.Asked,
-  place-reads.Learnt,
+  begin-reads.Asked,
+  begin-reads.Learnt,
   cell-of-reads.Asked,
   cell-of-reads.Learnt,
   tie-at-reads.Asked,
   tie-at-reads.Learnt,
   advance-pairing-below t,
   advance-pairing.Post,
+  place-reads.Asked,
+  place-reads.Learnt,
 ) (next-of-span-at t) next-of-span.Post
 next-of-span-sub-tie-at t c = search needs
 
 next-of-span-tie-at-requires : (t : ℕ) → next-of-span-lts.Need-tie-at-requires (
-  place-reads.Asked,
-  place-reads.Learnt,
+  begin-reads.Asked,
+  begin-reads.Learnt,
   cell-of-reads.Asked,
   cell-of-reads.Learnt,
   tie-at-reads.Asked,
   tie-at-reads.Learnt,
   advance-pairing-below t,
   advance-pairing.Post,
+  place-reads.Asked,
+  place-reads.Learnt,
 ) (next-of-span-at t) next-of-span.Post
 next-of-span-tie-at-requires t c κs = search needs
 
 next-of-span-advance-pairing-requires : (t : ℕ) → next-of-span-lts.Need-advance-pairing-requires (
-  place-reads.Asked,
-  place-reads.Learnt,
+  begin-reads.Asked,
+  begin-reads.Learnt,
   cell-of-reads.Asked,
   cell-of-reads.Learnt,
   tie-at-reads.Asked,
   tie-at-reads.Learnt,
   advance-pairing-below t,
   advance-pairing.Post,
+  place-reads.Asked,
+  place-reads.Learnt,
 ) (next-of-span-at t) next-of-span.Post
 next-of-span-advance-pairing-requires t c κs = search needs
 
-next-of-span-place-requires-2 : (t : ℕ) → next-of-span-lts.Need-place-requires-2 (
-  place-reads.Asked,
-  place-reads.Learnt,
+next-of-span-place-requires : (t : ℕ) → next-of-span-lts.Need-place-requires (
+  begin-reads.Asked,
+  begin-reads.Learnt,
   cell-of-reads.Asked,
   cell-of-reads.Learnt,
   tie-at-reads.Asked,
   tie-at-reads.Learnt,
   advance-pairing-below t,
   advance-pairing.Post,
+  place-reads.Asked,
+  place-reads.Learnt,
 ) (next-of-span-at t) next-of-span.Post
-next-of-span-place-requires-2 t c κs = search needs
+next-of-span-place-requires t c κs = search needs
 
 next-of-span-same-length-2 : (t : ℕ) → next-of-span-lts.Need-same-length-2 (
-  place-reads.Asked,
-  place-reads.Learnt,
+  begin-reads.Asked,
+  begin-reads.Learnt,
   cell-of-reads.Asked,
   cell-of-reads.Learnt,
   tie-at-reads.Asked,
   tie-at-reads.Learnt,
   advance-pairing-below t,
   advance-pairing.Post,
+  place-reads.Asked,
+  place-reads.Learnt,
 ) (next-of-span-at t) next-of-span.Post
-next-of-span-same-length-2 t c = c .before .before .place2 .kept .0 ∙ c .before .before .before .before .before .before .advance-pairing .kept .0
+next-of-span-same-length-2 t c = c .before .before .place .kept .0 ∙ c .before .before .before .before .before .before .advance-pairing .kept .0
 
 next-of-span-returns-2 : (t : ℕ) → next-of-span-lts.Need-returns-2 (
-  place-reads.Asked,
-  place-reads.Learnt,
+  begin-reads.Asked,
+  begin-reads.Learnt,
   cell-of-reads.Asked,
   cell-of-reads.Learnt,
   tie-at-reads.Asked,
   tie-at-reads.Learnt,
   advance-pairing-below t,
   advance-pairing.Post,
+  place-reads.Asked,
+  place-reads.Learnt,
 ) (next-of-span-at t) next-of-span.Post
 unfolding next
-next-of-span-returns-2 t c = λ f. elim f [ zero ↦ λ h. absurd (omega (arith, c .before .before .before .before .before .before .before .before .before .before .before .before .before .before .before .before .pre .1 .0 .order)) | suc g ↦ λ h. simp (lt-ltb 0 (c .before .before .before .before .before .before .before .before .before .before .before .before .before .before .before .before .args .c) (omega (arith, c .before .before .before .before .before .before .before .before .before .before .before .if1 .left))) (rw (← c .before .before .before .before .before .before .before .before .before .cell-of .ensures .0, ← c .before .before .before .before .before .before .before .before .tie-at .ensures .0, ← c .before .before .before .before .before .before .advance-pairing .ensures g h) (c .before .before .place2 .ensures)) ]
+next-of-span-returns-2 t c = λ f. elim f [ zero ↦ λ h. absurd (omega (arith, c .before .before .before .before .before .before .before .before .before .before .before .before .before .before .before .before .pre .1 .0 .order)) | suc g ↦ λ h. rw (ne-eqb (c .before .before .before .before .before .before .before .before .before .before .before .before .before .before .before .before .args .c) 0 (c .before .before .before .before .before .before .before .before .before .before .before .if1 .left)) (rw (← c .before .before .before .before .before .before .before .before .before .cell-of .ensures .0, ← c .before .before .before .before .before .before .before .before .tie-at .ensures .0, ← c .before .before .before .before .before .before .advance-pairing .ensures g h) (c .before .before .place .ensures)) ]
 
 pub +advance-pairing+next-of-span-spec : {M : Type 1} → statement M
 +advance-pairing+next-of-span-spec =
@@ -450,24 +471,26 @@ pub +advance-pairing+next-of-span-spec : {M : Type 1} → statement M
     (advance-pairing-returns-5 t)
     (advance-pairing-returns-6 t))
     λ t. next-of-span-lts.spec (
-      place-reads.Asked,
-      place-reads.Learnt,
+      begin-reads.Asked,
+      begin-reads.Learnt,
       cell-of-reads.Asked,
       cell-of-reads.Learnt,
       tie-at-reads.Asked,
       tie-at-reads.Learnt,
       advance-pairing-below t,
       advance-pairing.Post,
+      place-reads.Asked,
+      place-reads.Learnt,
     )
     (next-of-span-at t)
     next-of-span.Post
-    (next-of-span-place-requires t)
+    (next-of-span-begin-requires t)
     (next-of-span-same-length t)
     (next-of-span-returns t)
     (next-of-span-cell-of-requires t)
     (next-of-span-sub-tie-at t)
     (next-of-span-tie-at-requires t)
     (next-of-span-advance-pairing-requires t)
-    (next-of-span-place-requires-2 t)
+    (next-of-span-place-requires t)
     (next-of-span-same-length-2 t)
     (next-of-span-returns-2 t)
