@@ -4,7 +4,7 @@ use mathlib.Core.Path.{_≡_, refl, sym, ap, _∙_}
 use mathlib.Core.List.{List, _++_}
 use Prim.Native.Nat.{ℕ, _+_, _*_, _/_, _≤_, _<_}
 use native.Mathlib.Omega.{arith}
-use lib.ListN.{length, drop}
+use lib.ListN.{length, drop, replicate}
 use Rattle.packing.specs.Meaning.{Grammar, Utterance, edges}
 use Rattle.packing.specs.Parse.{Verdict, accepted, refused}
 use Rattle.packing.specs.Flat.{Begins, ruleNumbers, slotNumbers, edgeNumbers}
@@ -48,7 +48,7 @@ module _ (g : Grammar) (u : Utterance) (okg : ValidGrammar g) (oku : ValidUttera
       length-joined (readingLength (length u) R) ls (sized-blocks g u N) ∙ ap (λ (k : ℕ). k * readingLength (length u) R) count in
       rw (listing-accepts g u N okg oku (length work) (length out) (met .positive) (met .few) (met .table) (met .room)) (
         ap Found (sym count),
-        filled .zeros,
+        filled .emptied ∙ holds .clears ∙ ap (λ (k : ℕ). replicate k 0) (filled .size),
         filled .blocks ∙ rw (blocks-written g u oku N rules (filled .table) m holds, size),
       )
 

@@ -18,7 +18,7 @@ use Rattle.packing_grammar.specs.Answer.{sizes}
 use Rattle.packing_grammar.specs.declared.Sizes.{Sizes}
 use Rattle.packing_reading.specs.Answer.{readingOf}
 use Rattle.chart_table.specs.declared.Dims.{Dims}
-use Rattle.chart_table.specs.Table.{cellOf, weightAt, foundOf}
+use Rattle.chart_table.specs.Table.{cellOf, weightAt, foundOf, cleared}
 use Rattle.chart_list.specs.Search.{listOf, spelled}
 use Rattle.listing.specs.Listing.{tableSize, readingLength, listed, Promised}
 use Rattle.listing.specs.declared.Listed.{Listed}
@@ -44,14 +44,15 @@ unfoldable pub blocksAt : List ℕ → List ℕ → Dims → ℕ → ℕ → ℕ
 blocksAt t rules d n R m = iter (λ l x. l ++ blockAt t rules d n R x) [] m
 
 -- what is promised where the arrays, their index and the layout are given: t is the table that the chart makes of zeros, and
--- the ranks that it has found are written
+-- the ranks that it has found are written, and their entries are cleared
 pub record Filled (rules : List ℕ) (R : ℕ) (edges index : List ℕ) (d : Dims) (n : ℕ) (work out : List ℕ) (r : ℕ) (work′ out′ : List ℕ)
     : Type 0 where
   pub table : List ℕ
   pub made : table ≡ listOf rules edges index d n (replicate (length work) 0)
   pub number : r ≡ foundOf table d (cellOf d (sym 0) 0 n)
   pub blocks : out′ ≡ blocksAt table rules d n R r ++ drop (r * readingLength n R) out
-  pub zeros : work′ ≡ replicate (length work) 0
+  pub size : length table ≡ length work
+  pub emptied : work′ ≡ cleared table d
 
 -- what is promised where the slots of an utterance are in an array, and where the rules of a grammar are
 abbrev pub UtteranceListed : (rules : List ℕ) → Sizes → (slots : List ℕ) (n N : ℕ) (work out : List ℕ) → Listed → (work′ out′ : List ℕ) → Type 0

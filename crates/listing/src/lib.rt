@@ -1,6 +1,7 @@
 // The listing of the N least readings.
 use chart_table::Dims;
 use chart_table::cell_of;
+use chart_table::clearing::clear;
 use chart_table::weight_at;
 use chart_table::zero;
 use packing::Sym;
@@ -91,7 +92,7 @@ fn write_readings(
     }
 }
 
-// Finds the readings and writes them. The work table is all zeros afterwards.
+// Finds the readings and writes them. The work table is all zeros afterwards: outside the entries found it stays so.
 fn fill(
     rules: &[u32],
     count: usize,
@@ -109,7 +110,7 @@ fn fill(
     chart_list::list(work, rules, edges, index, d, n);
     let m = chart_table::found(&work[..], d, cell_of(d, Sym(0), 0, n));
     write_readings(&work[..], rules, count, d, n, m, out);
-    zero(work);
+    clear(work, d);
     m
 }
 

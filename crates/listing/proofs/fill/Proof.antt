@@ -1,4 +1,4 @@
--- The table that the chart makes of zeros is read for the readings, and then it is made zeros again.
+-- The table that the chart makes of zeros is read for the readings, and then the entries found are cleared.
 use mathlib.Core.Path.{_≡_, ap, _∙_}
 use Prim.Native.Nat.{ℕ, _*_, _≤_}
 use native.Mathlib.Nat.{mul-le-mul-right}
@@ -35,8 +35,8 @@ write-readings-requires c κs =
       omega (arith, at-start .pre .4, mul-le-mul-right (readingLength (a .n) (a .count)) few),
     )
 
-zero-requires-2 : tie.Need-zero-requires-2
-zero-requires-2 c κs = search needs
+clear-requires : tie.Need-clear-requires
+clear-requires c κs = search needs
 
 same-length : tie.Need-same-length
 same-length c = search needs
@@ -53,13 +53,13 @@ returns c =
     let at-start = at-zero .before .before .before .before .before .before .before in
     let a = at-start .args in
     let table = at-list .list .last .0 in
-    let long : length table ≡ length (a .work .now) = at-list .list .kept .0 ∙ at-zero .zero .kept .0 in
     record {
       table = table;
       made = rw (at-zero .zero .ensures) at (at-list .list .ensures);
       number = rw (at-found .before .cell-of .ensures .0) at (at-found .found .ensures .0);
       blocks = at-write-readings .write-readings .ensures;
-      zeros = c .before .before .zero2 .ensures ∙ ap (λ (k : ℕ). replicate k 0) long;
+      size = at-list .list .kept .0 ∙ at-zero .zero .kept .0;
+      emptied = c .before .before .clear .ensures;
     }
 
 pub fill-spec : {M : Type 1} → statement M
@@ -71,7 +71,7 @@ fill-spec =
     cell-of-requires
     found-requires
     write-readings-requires
-    zero-requires-2
+    clear-requires
     same-length
     same-length-2
     returns)
