@@ -1,6 +1,5 @@
 pub mod Num
 pub mod Put
-pub mod Part
 pub mod Holds
 pub mod End
 pub mod Pack

@@ -1,20 +1,12 @@
--- Numbers stored one after another: two lists are one, a node's number and its parts' are the node's spelling, and what was
--- stored can be read.
-use mathlib.Core.Path.{_≡_, refl, sym, _∙_}
+-- Numbers stored one after another: a node's number and its parts' are the node's spelling, and what was stored can be read.
+use mathlib.Core.Path.{_≡_, refl}
 use mathlib.Core.List.{List, _∷_, _++_}
 use Prim.Native.Nat.{ℕ, _+_, _≤_}
 use native.Mathlib.Omega.{arith}
-use lib.ListN.{length, set, take, drop, length-append}
+use lib.ListN.{length, set, take, drop}
 use lib.Seq.{take-at, drop-at, length-take-le}
 use Rattle.packing.specs.Store.{storeAll}
-use Rattle.packing.proofs.Store.{store-append, store-at}
-
-pub stored-next : (array : List ℕ) (at : ℕ) (l m : List ℕ) {behind-l behind : List ℕ} {middle end : ℕ}
-    → behind-l ≡ storeAll array at l → middle ≡ at + length l → behind ≡ storeAll behind-l middle m → end ≡ middle + length m
-    → (behind ≡ storeAll array at (l ++ m)) × (end ≡ at + length (l ++ m))
-stored-next array at l m e f g h =
-    let n : length (l ++ m) ≡ length l + length m = length-append l m in
-    (g ∙ rw (e, f) (sym (store-append array at l m)), omega arith)
+use Rattle.packing.proofs.Store.{store-at, stored-next}
 
 pub node-stored : (array : List ℕ) (at x : ℕ) (l m : List ℕ) {behind-l behind : List ℕ} {middle end : ℕ}
     → behind-l ≡ storeAll (set array at x) (at + 1) l → middle ≡ at + 1 + length l → behind ≡ storeAll behind-l middle m → end ≡ middle + length m

@@ -30,7 +30,7 @@ fn judge(block: &[u8], at: usize, weight: u32, own: Found) -> Checked
         return Checked::Refused(34);
     };
     if w == arrays::wide(weight) {
-        if bits::zero_from(block, at) {
+        if bit_reader::zero_from(block, at) {
             return Checked::Passes;
         }
         return Checked::Refused(36);

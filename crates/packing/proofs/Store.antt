@@ -5,7 +5,7 @@ use Prim.Native.Nat.{ℕ, zero, suc, _+_, _≤_, _<_}
 use native.Mathlib.Nat.{add-assoc, add-zero}
 use native.Mathlib.Numerals.{add-one}
 use native.Mathlib.Omega.{arith}
-use lib.ListN.{length, set, take, drop, length-set, take-append-drop}
+use lib.ListN.{length, set, take, drop, length-append, length-set, take-append-drop}
 use lib.Seq.{take-suc-set, drop-cons}
 use Rattle.packing.specs.Store.{storeAll}
 
@@ -36,3 +36,11 @@ store-at array at (x ∷ l) h =
     let e : at + suc (length l) ≡ at + 1 + length l = omega arith in
     rw e (store-at (set array at x) (at + 1) l (simp length-set (omega arith))
     ∙ rw (drop-set array at (at + 1 + length l) x (omega arith), add-one at, take-suc-set array at x (omega arith), append-assoc))
+
+-- two lists stored one behind the other are one
+pub stored-next : (array : List ℕ) (at : ℕ) (l m : List ℕ) {behind-l behind : List ℕ} {middle end : ℕ}
+    → behind-l ≡ storeAll array at l → middle ≡ at + length l → behind ≡ storeAll behind-l middle m → end ≡ middle + length m
+    → (behind ≡ storeAll array at (l ++ m)) × (end ≡ at + length (l ++ m))
+stored-next array at l m e f g h =
+    let n : length (l ++ m) ≡ length l + length m = length-append l m in
+    (g ∙ rw (e, f) (sym (store-append array at l m)), omega arith)

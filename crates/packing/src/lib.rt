@@ -65,8 +65,8 @@ pub fn take(src: Source, block: &[u8], sheet: &[u32], at: usize, f: Field) -> Re
     match src {
         Source::Block(missing) => {
             let width = f.width;
-            if bits::has_field(block, at, width) {
-                return in_range(f, bits::read_field(block, at, width), at + width);
+            if bit_reader::has_field(block, at, width) {
+                return in_range(f, bit_reader::read_field(block, at, width), at + width);
             }
             Read::Refused(missing)
         }

@@ -333,7 +333,7 @@ pub fn read_block(block: &[u8], rules: &mut [u32]) -> GrammarRead
         SizesRead::Refused(n) => GrammarRead::Refused(n),
         SizesRead::Sizes(sizes, c) => {
             let at = c.at;
-            if bits::zero_from(block, at) {
+            if bit_reader::zero_from(block, at) {
                 return GrammarRead::Grammar(sizes);
             }
             GrammarRead::Refused(7)

@@ -127,7 +127,7 @@ fn write_walk(out: &mut [u8], start: usize, rules: usize, walk: &[u32], n: usize
     let mut at = start;
     let mut i: usize = 0;
     while i < n {
-        bits::write_field(out, at, width, walk[i]);
+        bit_writer::write_field(out, at, width, walk[i]);
         at += width;
         i += 1;
     }
@@ -139,8 +139,8 @@ pub fn write_reading(out: &mut [u8], n: usize, rules: usize, weight: u32, walk: 
     ensures { λ _. ⌜ now (out .exit) ≡ blockOfReading rules (readingOf n weight (now (walk .entry)))
         ++ drop (length (blockOfReading rules (readingOf n weight (now (walk .entry))))) (now (out .entry)) ⌝ }
 {
-    bits::write_field(out, 0, 4, 3);
-    bits::write_field(out, 4, 6, n as u32);
-    bits::write_field(out, 10, 24, weight);
+    bit_writer::write_field(out, 0, 4, 3);
+    bit_writer::write_field(out, 4, 6, n as u32);
+    bit_writer::write_field(out, 10, 24, weight);
     write_walk(out, 34, rules, walk, 2 * n - 1);
 }

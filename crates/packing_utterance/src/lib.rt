@@ -258,7 +258,7 @@ pub fn read_block(block: &[u8], words: u32, slots: &mut [u32]) -> UtteranceRead
         SlotsRead::Refused(n) => UtteranceRead::Refused(n),
         SlotsRead::Read(found, end) => {
             let at = end.at;
-            if bits::zero_from(block, at) {
+            if bit_reader::zero_from(block, at) {
                 return UtteranceRead::Utterance(found);
             }
             UtteranceRead::Refused(16)

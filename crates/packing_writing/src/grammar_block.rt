@@ -43,11 +43,11 @@ fn write_start(out: &mut [u8], at: usize, kind: u32, width: usize, head: u32, we
     requires { ⌜ (at < 2 ^ 31) × (width ≤ 8) × (at + 1 + width + 16 ≤ 8 * length (now out)) ⌝ }
     ensures { λ r. ⌜ (r ≡ at + 1 + width + 16) × (now (out .exit) ≡ puts (now (out .entry)) at (fld 1 kind ∷ fld width head ∷ fld 16 weight ∷ [])) ⌝ }
 {
-    bits::write_field(out, at, 1, kind);
+    bit_writer::write_field(out, at, 1, kind);
     let at = at + 1;
-    bits::write_field(out, at, width, head);
+    bit_writer::write_field(out, at, width, head);
     let at = at + width;
-    bits::write_field(out, at, 16, weight);
+    bit_writer::write_field(out, at, 16, weight);
     at + 16
 }
 
@@ -62,15 +62,15 @@ fn write_rule(out: &mut [u8], at: usize, rule: Rule, symbols: u32, words: u32) -
     match rule {
         Rule::Pair(head, first, second, weight) => {
             let at = write_start(out, at, 0, width, head.0, weight);
-            bits::write_field(out, at, width, first.0);
+            bit_writer::write_field(out, at, width, first.0);
             let at = at + width;
-            bits::write_field(out, at, width, second.0);
+            bit_writer::write_field(out, at, width, second.0);
             at + width
         }
         Rule::Word(head, word, weight) => {
             let at = write_start(out, at, 1, width, head.0, weight);
             let width = width_below(words);
-            bits::write_field(out, at, width, word.0);
+            bit_writer::write_field(out, at, width, word.0);
             at + width
         }
     }
@@ -104,9 +104,9 @@ pub fn write_grammar(out: &mut [u8], symbols: u32, words: u32, n: usize, rules: 
         × (length (blockOf (grammarFields symbols words n (now rules))) ≤ length (now out)) ⌝ }
     ensures { λ _. ⌜ now (out .exit) ≡ written (accepted (blockOf (grammarFields symbols words n (now (rules .entry))))) (now (out .entry)) ⌝ }
 {
-    bits::write_field(out, 0, 4, 1);
-    bits::write_field(out, 4, 6, symbols);
-    bits::write_field(out, 10, 8, words);
-    bits::write_field(out, 18, 9, n as u32);
+    bit_writer::write_field(out, 0, 4, 1);
+    bit_writer::write_field(out, 4, 6, symbols);
+    bit_writer::write_field(out, 10, 8, words);
+    bit_writer::write_field(out, 18, 9, n as u32);
     write_rules(out, 27, rules, n, symbols, words);
 }

@@ -39,10 +39,10 @@ fn write_candidates(
     let mut i: usize = 0;
     while i < n {
         let word = narrow_at(slots, p + 2 * i);
-        bits::write_field(out, at, width, word);
+        bit_writer::write_field(out, at, width, word);
         at += width;
         let cost = narrow_at(slots, p + 2 * i + 1);
-        bits::write_field(out, at, 16, cost);
+        bit_writer::write_field(out, at, 16, cost);
         at += 16;
         i += 1;
     }
@@ -60,7 +60,7 @@ fn write_slots(out: &mut [u8], start: usize, slots: &[u32], n: usize, words: u32
     let mut i: usize = 0;
     while i < n {
         let count = number_at(slots, p);
-        bits::write_field(out, at, 3, count as u32);
+        bit_writer::write_field(out, at, 3, count as u32);
         at = write_candidates(out, at + 3, slots, p + 1, count, words);
         p = p + 1 + 2 * count;
         i += 1;
@@ -73,7 +73,7 @@ pub fn write_utterance(out: &mut [u8], words: u32, n: usize, slots: &[u32])
         × (length (blockOf (utteranceFields words n (now slots))) ≤ length (now out)) ⌝ }
     ensures { λ _. ⌜ now (out .exit) ≡ written (accepted (blockOf (utteranceFields words n (now (slots .entry))))) (now (out .entry)) ⌝ }
 {
-    bits::write_field(out, 0, 4, 2);
-    bits::write_field(out, 4, 6, n as u32);
+    bit_writer::write_field(out, 0, 4, 2);
+    bit_writer::write_field(out, 4, 6, n as u32);
     write_slots(out, 10, slots, n, words);
 }

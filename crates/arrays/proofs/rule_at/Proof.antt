@@ -1,6 +1,6 @@
 -- The kind decides the variant, and each field is read where `ruleAt` reads it.
-use borrow.Author.Tests.{eq-eqb, ne-eqb}
 use borrow.Author.Needs.{needs}
+use Rattle.arrays.proofs.Row.{pair-row, word-row}
 use Rattle.arrays.proofs.rule_at.Statement.{statement}
 use Rattle.arrays.proofs.rule_at.Tie as tie
 
@@ -35,10 +35,27 @@ narrow-at-requires-4 : tie.Need-narrow-at-requires-4
 narrow-at-requires-4 c κs = search needs
 
 returns : tie.Need-returns
-returns c = simp (← c .before .before .number-at .ensures .0, eq-eqb _ _ (c .before .if1 .taken)) (cc)
+returns c =
+    pair-row
+    (c .before .before .before .before .before .before .before .args .rules .now)
+    (c .before .before .before .before .before .before .before .args .r)
+    (c .before .before .number-at .ensures .0)
+    (c .before .before .before .before .before .narrow-at .ensures)
+    (c .before .before .before .before .narrow-at2 .ensures)
+    (c .before .before .before .narrow-at3 .ensures)
+    (c .before .if1 .taken)
+    (c .narrow-at4 .ensures)
 
 returns-2 : tie.Need-returns-2
-returns-2 c = simp (← c .before .number-at .ensures .0, ne-eqb _ _ (c .if1 .left)) (cc)
+returns-2 c =
+    word-row
+    (c .before .before .before .before .before .before .args .rules .now)
+    (c .before .before .before .before .before .before .args .r)
+    (c .before .number-at .ensures .0)
+    (c .before .before .before .before .narrow-at .ensures)
+    (c .before .before .before .narrow-at2 .ensures)
+    (c .before .before .narrow-at3 .ensures)
+    (c .if1 .left)
 
 pub rule-at-spec : {M : Type 1} → statement M
 rule-at-spec =

@@ -3,10 +3,10 @@ use mathlib.Core.Path.{_≡_, refl, sym}
 use Prim.Native.Nat.{_≤_, _-_, _+_, _*_}
 use native.Mathlib.Omega.{arith}
 use borrow.Author.Needs.{needs}
 use Rattle.bits.specs.Bits.{field, num}
 use Rattle.bits.proofs.Num.{field-small, field-bytes}
-use Rattle.bits.proofs.bytes_from.Statement.{statement}
-use Rattle.bits.proofs.bytes_from.Tie as tie
+use Rattle.bit_reader.proofs.bytes_from.Statement.{statement}
+use Rattle.bit_reader.proofs.bytes_from.Tie as tie
 
 abbrev Inv-loop : tie.InvT-loop
 Inv-loop s first count v₀ k₀ v k = (k ≤ count) × (v ≡ field s (8 * first) (8 * k))

@@ -1,10 +1,10 @@
 -- The field is the middle of the bytes that it touches.
 use Prim.Native.Nat.{_+_, _%_, _/_}
 use native.Mathlib.Omega.{arith}
 use Rattle.bits.proofs.Num.{field-touched}
 use borrow.Author.Needs.{needs}
-use Rattle.bits.proofs.read_field.Statement.{statement}
-use Rattle.bits.proofs.read_field.Tie as tie
+use Rattle.bit_reader.proofs.read_field.Statement.{statement}
+use Rattle.bit_reader.proofs.read_field.Tie as tie
 
 add-end : tie.Need-add-end
 add-end c = search needs

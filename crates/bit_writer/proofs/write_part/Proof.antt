@@ -3,10 +3,10 @@ use mathlib.Core.Path.{sym, ap, _∙_}
 use Prim.Native.Nat.{_/_, _%_, _-_}
 use native.Mathlib.Omega.{arith}
 use lib.ListN.{getD, set}
-use Rattle.bits.proofs.Part.{put-part, joined-fits, joined-shl, part-lt}
+use Rattle.bit_writer.proofs.Part.{put-part, joined-fits, joined-shl, part-lt}
 use borrow.Author.Needs.{needs}
-use Rattle.bits.proofs.write_part.Statement.{statement}
-use Rattle.bits.proofs.write_part.Tie as tie
+use Rattle.bit_writer.proofs.write_part.Statement.{statement}
+use Rattle.bit_writer.proofs.write_part.Tie as tie
 
 sub-room : tie.Need-sub-room
 sub-room c = search needs

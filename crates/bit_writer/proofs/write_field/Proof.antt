@@ -4,10 +4,10 @@ use Prim.Native.Nat.{_≤_, _-_, _/_, _^_}
 use native.Mathlib.Omega.{arith}
 use borrow.Author.Needs.{needs}
 use lib.ListN.{length}
 use Rattle.bits.specs.Bits.{put}
 use Rattle.bits.proofs.Put.{put-more, put-all}
-use Rattle.bits.proofs.write_field.Statement.{statement}
-use Rattle.bits.proofs.write_field.Tie as tie
+use Rattle.bit_writer.proofs.write_field.Statement.{statement}
+use Rattle.bit_writer.proofs.write_field.Tie as tie
 
 abbrev Inv-loop : tie.InvT-loop
 Inv-loop out₀ at width value done₀ out done = (done ≤ width) × (length out ≡ length out₀) × (out ≡ put out₀ at done (value / 2 ^ (width - done)))

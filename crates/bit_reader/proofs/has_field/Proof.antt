@@ -2,9 +2,9 @@
 use Prim.Native.Nat.{_+_}
 use lib.ListN.{length}
 use borrow.Author.Needs.{needs}
 use Rattle.bits.proofs.Num.{bytes-have}
-use Rattle.bits.proofs.has_field.Statement.{statement}
-use Rattle.bits.proofs.has_field.Tie as tie
+use Rattle.bit_reader.proofs.has_field.Statement.{statement}
+use Rattle.bit_reader.proofs.has_field.Tie as tie
 
 add-result : tie.Need-add-result
 add-result c = search needs

@@ -2,9 +2,9 @@
 use native.Mathlib.Nat.{mul-comm}
 use native.Mathlib.Omega.{arith}
 use borrow.Author.Needs.{needs}
 use Rattle.bits.proofs.End.{past-end, not-ended, end-field}
-use Rattle.bits.proofs.zero_from.Statement.{statement}
-use Rattle.bits.proofs.zero_from.Tie as tie
+use Rattle.bit_reader.proofs.zero_from.Statement.{statement}
+use Rattle.bit_reader.proofs.zero_from.Tie as tie
 
 add-if1 : tie.Need-add-if1
 add-if1 c = search needs

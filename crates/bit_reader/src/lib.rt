@@ -1,0 +1,55 @@
+// Fields of bits read from bytes, most significant bit first.
+ghost use mathlib.Core.Path.{_≡_};
+ghost use Prim.Native.Nat.{_+_, _*_, _^_, _≤_, _<_};
+ghost use lib.Dec.{leb};
+ghost use lib.ListN.{length};
+ghost use Rattle.bits.specs.Bits.{field, ended};
+
+// Whether the bytes have the `width` bits from bit `at`.
+pub fn has_field(s: &[u8], at: usize, width: usize) -> bool
+    requires { ⌜ (at < 2 ^ 32) × (width ≤ 24) ⌝ }
+    ensures { λ r. ⌜ r ≡ leb (at + width) (8 * length (now (s .entry))) ⌝ }
+{
+    (at + width + 7) / 8 <= s.len()
+}
+
+// The number in `count` bytes from byte `first`.
+fn bytes_from(s: &[u8], first: usize, count: usize) -> u32
+    requires { ⌜ (count ≤ 4) × (first + count ≤ length (now s)) ⌝ }
+    ensures { λ r. ⌜ r ≡ field (now (s .entry)) (8 * first) (8 * count) ⌝ }
+{
+    let mut v: u32 = 0;
+    let mut k: usize = 0;
+    while k < count {
+        let x = s[first + k];
+        v = v * 256 + x as u32;
+        k += 1;
+    }
+    v
+}
+
+// The number in the `width` bits from bit `at`.
+pub fn read_field(s: &[u8], at: usize, width: usize) -> u32
+    requires { ⌜ (at < 2 ^ 32) × (width ≤ 24) × (at + width ≤ 8 * length (now s)) ⌝ }
+    ensures { λ r. ⌜ r ≡ field (now (s .entry)) at width ⌝ }
+{
+    let end = at % 8 + width;
+    let count = (end + 7) / 8;
+    let v = bytes_from(s, at / 8, count);
+    bits::lower(v >> (8 * count - end), width)
+}
+
+// Whether the bits from bit `at` to the end are fewer than 8, and all zero.
+pub fn zero_from(s: &[u8], at: usize) -> bool
+    requires { ⌜ at < 2 ^ 32 ⌝ }
+    ensures { λ r. ⌜ r ≡ ended (now (s .entry)) at ⌝ }
+{
+    if (at + 7) / 8 < s.len() {
+        return false;
+    }
+    let total = s.len() * 8;
+    if total < at {
+        return false;
+    }
+    read_field(s, at, total - at) == 0
+}

@@ -1,0 +1,39 @@
+// Fields of bits written into bytes, most significant bit first.
+ghost use mathlib.Core.Path.{_≡_};
+ghost use Prim.Native.Nat.{_+_, _*_, _%_, _^_, _≤_, _<_, min};
+ghost use lib.ListN.{length};
+ghost use Rattle.bits.specs.Bits.{put};
+
+// A field within one byte; the rest of the byte becomes zero.
+fn write_part(out: &mut [u8], at: usize, width: usize, value: u32)
+    requires { ⌜ (0 < width) × (at % 8 + width ≤ 8) × (at < 8 * length (now out)) ⌝ }
+    ensures { λ _. ⌜ now (out .exit) ≡ put (now (out .entry)) at width value ⌝ }
+{
+    let room = 8 - at % 8;
+    let x = out[at / 8];
+    let kept = ((x as u32) >> room) << width;
+    let y = (kept + bits::lower(value, width)) << (room - width);
+    out[at / 8] = y as u8;
+}
+
+// The lesser of two numbers.
+fn least(a: usize, b: usize) -> usize
+    ensures { λ r. ⌜ r ≡ min a b ⌝ }
+{
+    if a < b { a } else { b }
+}
+
+// The `width` bits of `value`, from bit `at`; the rest of the last byte becomes zero.
+pub fn write_field(out: &mut [u8], at: usize, width: usize, value: u32)
+    requires { ⌜ (at < 2 ^ 32) × (width ≤ 24) × (at + width ≤ 8 * length (now out)) ⌝ }
+    ensures { λ _. ⌜ now (out .exit) ≡ put (now (out .entry)) at width value ⌝ }
+{
+    let mut done: usize = 0;
+    while done < width {
+        let p = at + done;
+        let left = width - done;
+        let part = least(left, 8 - p % 8);
+        write_part(out, p, part, value >> (left - part));
+        done += part;
+    }
+}
