@@ -1,3 +1,2 @@
 pub mod Fit
-pub mod Grammars
-pub mod Utterances
+pub mod Sizes

@@ -1,4 +1,2 @@
 pub mod Block
-pub mod Rules
-pub mod Slots
 pub mod Copied

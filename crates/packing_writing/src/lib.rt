@@ -1,14 +1,12 @@
-// Blocks and sheets, written from flat arrays of numbers.
-pub mod grammar_block; // grammar_block.rt: from five numbers a rule
+// What the writers of blocks and sheets share: the width of a field, and sheets written from flat arrays of numbers.
 pub mod sheets; // sheets.rt: from the numbers themselves
-pub mod utterance_block; // utterance_block.rt: from each slot's count, words and costs
 
 ghost use mathlib.Core.Path.{_≡_};
 ghost use Prim.Native.Nat.{_-_, _≤_};
 ghost use Rattle.bits.specs.Width.{widthOf};
 
 // The width of a number below n.
-fn width_below(n: u32) -> usize
+pub fn width_below(n: u32) -> usize
     requires { ⌜ (1 ≤ n) × (n ≤ 256) ⌝ }
     ensures { λ r. ⌜ (r ≡ widthOf (n - 1)) × (r ≤ 8) ⌝ }
 {

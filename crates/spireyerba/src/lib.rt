@@ -47,7 +47,7 @@ pub extern "C" fn spireyerba_grammar_to_block(sheet: &[u32], out: &mut [u8]) -> 
     ensures { λ r. ⌜ r ≡ lengthCode (fitting (grammarToBlock (now (sheet .entry))) (now (out .entry))) ⌝ }
     ensures { λ r. ⌜ now (out .exit) ≡ written (fitting (grammarToBlock (now (sheet .entry))) (now (out .entry))) (now (out .entry)) ⌝ }
 {
-    written_code(conversion::grammar_to_block(sheet, out))
+    written_code(grammar_conversion::grammar_to_block(sheet, out))
 }
 
 // The sheet of a grammar block.
@@ -56,7 +56,7 @@ pub extern "C" fn spireyerba_grammar_to_sheet(block: &[u8], out: &mut [u32]) -> 
     ensures { λ r. ⌜ r ≡ lengthCode (fitting (grammarToSheet (now (block .entry))) (now (out .entry))) ⌝ }
     ensures { λ r. ⌜ now (out .exit) ≡ written (fitting (grammarToSheet (now (block .entry))) (now (out .entry))) (now (out .entry)) ⌝ }
 {
-    written_code(conversion::grammar_to_sheet(block, out))
+    written_code(grammar_conversion::grammar_to_sheet(block, out))
 }
 
 // The block of an utterance sheet under a grammar.
@@ -69,7 +69,7 @@ pub extern "C" fn spireyerba_utterance_to_block(
     ensures { λ r. ⌜ r ≡ lengthCode (fitting (utteranceToBlock (now (grammar .entry)) (now (sheet .entry))) (now (out .entry))) ⌝ }
     ensures { λ r. ⌜ now (out .exit) ≡ written (fitting (utteranceToBlock (now (grammar .entry)) (now (sheet .entry))) (now (out .entry))) (now (out .entry)) ⌝ }
 {
-    written_code(conversion::utterance_to_block(grammar, sheet, out))
+    written_code(utterance_conversion::utterance_to_block(grammar, sheet, out))
 }
 
 // The sheet of an utterance block under a grammar.
@@ -82,7 +82,7 @@ pub extern "C" fn spireyerba_utterance_to_sheet(
     ensures { λ r. ⌜ r ≡ lengthCode (fitting (utteranceToSheet (now (grammar .entry)) (now (block .entry))) (now (out .entry))) ⌝ }
     ensures { λ r. ⌜ now (out .exit) ≡ written (fitting (utteranceToSheet (now (grammar .entry)) (now (block .entry))) (now (out .entry))) (now (out .entry)) ⌝ }
 {
-    written_code(conversion::utterance_to_sheet(grammar, block, out))
+    written_code(utterance_conversion::utterance_to_sheet(grammar, block, out))
 }
 
 // The readings of the least derivations, one after another at the front of the output: their number.

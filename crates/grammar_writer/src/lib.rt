@@ -1,0 +1,112 @@
+// Grammar blocks, written from an array of five numbers a rule.
+use packing::Rule;
+use packing_writing::width_below;
+ghost use mathlib.Core.Path.{_≡_};
+ghost use mathlib.Core.List.{[], _∷_};
+ghost use Prim.Native.Nat.{_+_, _*_, _^_, _≤_, _<_};
+ghost use lib.ListN.{length};
+ghost use Rattle.bits.specs.Fields.{fld, puts, widths};
+ghost use Rattle.packing.specs.Parse.{accepted};
+ghost use Rattle.packing.specs.Source.{flds};
+ghost use Rattle.packing.specs.Grammar.{ruleEntries};
+ghost use Rattle.packing.specs.Conversion.{written};
+ghost use Rattle.packing_writing.specs.Arrays.{rulesFields, grammarFields, blockOf};
+
+// How many bits a rule takes.
+fn rule_bits(rule: Rule, symbols: u32, words: u32) -> usize
+    requires { ⌜ (1 ≤ symbols) × (symbols ≤ 32) × (1 ≤ words) × (words ≤ 200) ⌝ }
+    ensures { λ r. ⌜ (r ≡ widths (flds (ruleEntries symbols words rule))) × (r ≤ 41) ⌝ }
+{
+    let width = width_below(symbols);
+    match rule {
+        Rule::Pair(_, _, _, _) => 17 + 3 * width,
+        Rule::Word(_, _, _) => 17 + width + width_below(words),
+    }
+}
+
+// How many bits the first n rules of an array take.
+fn rules_bits(rules: &[u32], n: usize, symbols: u32, words: u32) -> usize
+    requires { ⌜ (n ≤ 256) × (1 ≤ symbols) × (symbols ≤ 32) × (1 ≤ words) × (words ≤ 200) ⌝ }
+    ensures { λ r. ⌜ (r ≡ widths (rulesFields symbols words (now (rules .entry)) 0 n)) × (r ≤ 10496) ⌝ }
+{
+    let mut total: usize = 0;
+    let mut i: usize = 0;
+    while i < n {
+        total += rule_bits(arrays::rule_at(rules, i), symbols, words);
+        i += 1;
+    }
+    total
+}
+
+// Kind, head and weight of a rule, from bit `at`; the place behind them.
+fn write_start(out: &mut [u8], at: usize, kind: u32, width: usize, head: u32, weight: u32) -> usize
+    requires { ⌜ (at < 2 ^ 31) × (width ≤ 8) × (at + 1 + width + 16 ≤ 8 * length (now out)) ⌝ }
+    ensures { λ r. ⌜ (r ≡ at + 1 + width + 16) × (now (out .exit) ≡ puts (now (out .entry)) at (fld 1 kind ∷ fld width head ∷ fld 16 weight ∷ [])) ⌝ }
+{
+    bit_writer::write_field(out, at, 1, kind);
+    let at = at + 1;
+    bit_writer::write_field(out, at, width, head);
+    let at = at + width;
+    bit_writer::write_field(out, at, 16, weight);
+    at + 16
+}
+
+// A rule, from bit `at`; the place behind it.
+fn write_rule(out: &mut [u8], at: usize, rule: Rule, symbols: u32, words: u32) -> usize
+    requires { ⌜ (at < 2 ^ 31) × (1 ≤ symbols) × (symbols ≤ 32) × (1 ≤ words) × (words ≤ 200)
+        × (at + widths (flds (ruleEntries symbols words rule)) ≤ 8 * length (now out)) ⌝ }
+    ensures { λ r. ⌜ (r ≡ at + widths (flds (ruleEntries symbols words rule))) × (r ≤ at + 41)
+        × (now (out .exit) ≡ puts (now (out .entry)) at (flds (ruleEntries symbols words rule))) ⌝ }
+{
+    let width = width_below(symbols);
+    match rule {
+        Rule::Pair(head, first, second, weight) => {
+            let at = write_start(out, at, 0, width, head.0, weight);
+            bit_writer::write_field(out, at, width, first.0);
+            let at = at + width;
+            bit_writer::write_field(out, at, width, second.0);
+            at + width
+        }
+        Rule::Word(head, word, weight) => {
+            let at = write_start(out, at, 1, width, head.0, weight);
+            let width = width_below(words);
+            bit_writer::write_field(out, at, width, word.0);
+            at + width
+        }
+    }
+}
+
+// The first n rules of an array, from bit `start`.
+fn write_rules(out: &mut [u8], start: usize, rules: &[u32], n: usize, symbols: u32, words: u32)
+    requires { ⌜ (start ≤ 27) × (n ≤ 256) × (1 ≤ symbols) × (symbols ≤ 32) × (1 ≤ words) × (words ≤ 200)
+        × (start + widths (rulesFields symbols words (now rules) 0 n) ≤ 8 * length (now out)) ⌝ }
+    ensures { λ _. ⌜ now (out .exit) ≡ puts (now (out .entry)) start (rulesFields symbols words (now (rules .entry)) 0 n) ⌝ }
+{
+    let mut at = start;
+    let mut i: usize = 0;
+    while i < n {
+        at = write_rule(out, at, arrays::rule_at(rules, i), symbols, words);
+        i += 1;
+    }
+}
+
+// The length of the block of a grammar whose n rules stand in an array.
+pub fn grammar_length(symbols: u32, words: u32, n: usize, rules: &[u32]) -> usize
+    requires { ⌜ (n ≤ 256) × (1 ≤ symbols) × (symbols ≤ 32) × (1 ≤ words) × (words ≤ 200) ⌝ }
+    ensures { λ r. ⌜ r ≡ length (blockOf (grammarFields symbols words n (now (rules .entry)))) ⌝ }
+{
+    (27 + rules_bits(rules, n, symbols, words) + 7) / 8
+}
+
+// The block of a grammar whose n rules stand in an array, in front of what stands beyond it.
+pub fn write_grammar(out: &mut [u8], symbols: u32, words: u32, n: usize, rules: &[u32])
+    requires { ⌜ (n ≤ 256) × (1 ≤ symbols) × (symbols ≤ 32) × (1 ≤ words) × (words ≤ 200)
+        × (length (blockOf (grammarFields symbols words n (now rules))) ≤ length (now out)) ⌝ }
+    ensures { λ _. ⌜ now (out .exit) ≡ written (accepted (blockOf (grammarFields symbols words n (now (rules .entry))))) (now (out .entry)) ⌝ }
+{
+    bit_writer::write_field(out, 0, 4, 1);
+    bit_writer::write_field(out, 4, 6, symbols);
+    bit_writer::write_field(out, 10, 8, words);
+    bit_writer::write_field(out, 18, 9, n as u32);
+    write_rules(out, 27, rules, n, symbols, words);
+}

@@ -1,0 +1,75 @@
+// Utterance sheets and blocks, turned into each other under a grammar.
+use conversion::Written;
+use conversion::too_short;
+use packing_grammar::GrammarRead;
+use packing_utterance::UtteranceRead;
+use packing_writing::sheets::write_sheet;
+use utterance_writer::utterance_length;
+use utterance_writer::write_utterance;
+ghost use mathlib.Core.Path.{_≡_};
+ghost use Prim.Native.Nat.{_≤_};
+ghost use Rattle.packing.specs.Conversion.{utteranceToBlock, utteranceToSheet, fitting, written};
+ghost use Rattle.conversion.specs.Answer.{writtenOf, Writes};
+ghost use Rattle.utterance_conversion.specs.Under.{blockUnder, sheetUnder};
+
+// The block of an utterance sheet under a grammar of `words` words.
+fn sheet_to_block(words: u32, sheet: &[u32], out: &mut [u8]) -> Written
+    requires { ⌜ (1 ≤ words) × (words ≤ 200) ⌝ }
+    ensures { λ r. ⌜ Writes (blockUnder words (now (sheet .entry))) (now (out .entry)) r (now (out .exit)) ⌝ }
+{
+    let mut slots = [0u32; 360];
+    match packing_utterance::read_sheet(sheet, words, &mut slots) {
+        UtteranceRead::Refused(n) => Written::Refused(n),
+        UtteranceRead::Utterance(u) => {
+            let length = utterance_length(words, u.count, u.numbers);
+            if too_short(out.len(), length) {
+                return Written::Refused(43);
+            }
+            write_utterance(out, words, u.count, &slots);
+            Written::Length(length)
+        }
+    }
+}
+
+// The sheet of an utterance block under a grammar of `words` words.
+fn block_to_sheet(words: u32, block: &[u8], out: &mut [u32]) -> Written
+    requires { ⌜ (1 ≤ words) × (words ≤ 200) ⌝ }
+    ensures { λ r. ⌜ Writes (sheetUnder words (now (block .entry))) (now (out .entry)) r (now (out .exit)) ⌝ }
+{
+    let mut slots = [0u32; 360];
+    match packing_utterance::read_block(block, words, &mut slots) {
+        UtteranceRead::Refused(n) => Written::Refused(n),
+        UtteranceRead::Utterance(u) => {
+            let head = [u.count as u32];
+            if too_short(out.len(), 1 + u.numbers) {
+                return Written::Refused(43);
+            }
+            write_sheet(out, &head, &slots, u.numbers);
+            Written::Length(1 + u.numbers)
+        }
+    }
+}
+
+// The block of an utterance sheet under a grammar.
+pub fn utterance_to_block(grammar: &[u8], sheet: &[u32], out: &mut [u8]) -> Written
+    ensures { λ r. ⌜ (r ≡ writtenOf (fitting (utteranceToBlock (now (grammar .entry)) (now (sheet .entry))) (now (out .entry))))
+        × (now (out .exit) ≡ written (fitting (utteranceToBlock (now (grammar .entry)) (now (sheet .entry))) (now (out .entry))) (now (out .entry))) ⌝ }
+{
+    let mut rules = [0u32; 1280];
+    match packing_grammar::read_block(grammar, &mut rules) {
+        GrammarRead::Refused(n) => Written::Refused(n),
+        GrammarRead::Grammar(z) => sheet_to_block(z.words, sheet, out),
+    }
+}
+
+// The sheet of an utterance block under a grammar.
+pub fn utterance_to_sheet(grammar: &[u8], block: &[u8], out: &mut [u32]) -> Written
+    ensures { λ r. ⌜ (r ≡ writtenOf (fitting (utteranceToSheet (now (grammar .entry)) (now (block .entry))) (now (out .entry))))
+        × (now (out .exit) ≡ written (fitting (utteranceToSheet (now (grammar .entry)) (now (block .entry))) (now (out .entry))) (now (out .entry))) ⌝ }
+{
+    let mut rules = [0u32; 1280];
+    match packing_grammar::read_block(grammar, &mut rules) {
+        GrammarRead::Refused(n) => Written::Refused(n),
+        GrammarRead::Grammar(z) => block_to_sheet(z.words, block, out),
+    }
+}

@@ -1,0 +1,62 @@
+-- The fields of an array's candidates and slots, one after the other.
+-- Assumes nothing.
+use mathlib.Core.Path.{_≡_, refl}
+use mathlib.Core.List.{List, [], _∷_, _++_}
+use Prim.Native.Nat.{ℕ, zero, suc, _+_, _-_, _*_, _≤_, _<_}
+use native.Mathlib.Nat.{mul-le-mul}
+use native.Mathlib.Omega.{arith}
+use lib.ListN.{getD}
+use Rattle.bits.specs.Bits.{put}
+use Rattle.bits.specs.Width.{widthOf}
+use Rattle.bits.specs.Fields.{Fld, fld, puts, widths}
+use Rattle.bits.proofs.Remaining.{Remaining, one-written, some-within, some-written}
+use Rattle.packing_writing.specs.Arrays.{candidatesFields, slotsFields}
+
+pub candidates-small : {m w : ℕ} → m ≤ 180 → w ≤ 24 → m * w ≤ 4320
+candidates-small h k = mul-le-mul h k
+
+module _ (W : ℕ) (l : List ℕ) where
+  -- each candidate takes some bits
+  pub candidates-some : (p n : ℕ) → 2 * n ≤ widths (candidatesFields W l p n)
+  unfolding candidatesFields widths
+  candidates-some p zero = omega arith
+  candidates-some p (suc n) = omega (arith, candidates-some (p + 2) n)
+
+  module _ (p n i : ℕ) where
+    pub candidates-end : n ≤ i → candidatesFields W l (p + 2 * i) (n - i) ≡ []
+    unfolding candidatesFields
+    candidates-end h = let z : n - i ≡ 0 = omega arith in rw z
+
+    pub candidates-more : {w : ℕ} → w ≡ widthOf (W - 1) → i < n
+        → candidatesFields W l (p + 2 * i) (n - i)
+        ≡ fld w (getD l (p + 2 * i) 0) ∷ fld 16 (getD l (p + 2 * i + 1) 0) ∷ candidatesFields W l (p + 2 * (i + 1)) (n - (i + 1))
+    unfolding candidatesFields
+    candidates-more e h =
+        let z : n - i ≡ suc (n - (i + 1)) = omega arith in
+        let q : p + 2 * (i + 1) ≡ p + 2 * i + 2 = omega arith in
+        rw (e, z, q)
+
+    pub slots-end : n ≤ i → slotsFields W l p (n - i) ≡ []
+    unfolding slotsFields
+    slots-end h = let z : n - i ≡ 0 = omega arith in rw z
+
+    pub slots-more : {k : ℕ} → k ≡ getD l p 0 → i < n
+        → slotsFields W l p (n - i) ≡ fld 3 k ∷ (candidatesFields W l (p + 1) k ++ slotsFields W l (p + 1 + 2 * k) (n - (i + 1)))
+    unfolding slotsFields
+    slots-more e h = let z : n - i ≡ suc (n - (i + 1)) = omega arith in rw (z, e)
+
+-- a slot whose fields come next: there is room for them, and behind them the next slot's remain
+module _ (W : ℕ) (l : List ℕ) (p n i : ℕ) {o out : List ℕ} {start at k : ℕ} {fs : List Fld} (e : k ≡ getD l p 0) (h : i < n)
+    (r : Remaining o start fs out at (slotsFields W l p (n - i))) where
+  behind : {out′ : List ℕ} → out′ ≡ put out at 3 k
+      → Remaining o start fs out′ (at + 3) (candidatesFields W l (p + 1) k ++ slotsFields W l (p + 1 + 2 * k) (n - (i + 1)))
+  behind w = one-written (rw (slots-more W l p n i e h) at r) w
+
+  pub slot-within : (at + 3 + widths (candidatesFields W l (p + 1) k) ≤ start + widths fs) × (2 * k ≤ widths (candidatesFields W l (p + 1) k))
+  slot-within =
+      (some-within (candidatesFields W l (p + 1) k) (slotsFields W l (p + 1 + 2 * k) (n - (i + 1))) (behind refl), candidates-some W l (p + 1) k)
+
+  pub slot-written : {out′ out″ : List ℕ} {at″ : ℕ} → out′ ≡ put out at 3 k → out″ ≡ puts out′ (at + 3) (candidatesFields W l (p + 1) k)
+      → at″ ≡ at + 3 + widths (candidatesFields W l (p + 1) k)
+      → Remaining o start fs out″ at″ (slotsFields W l (p + 1 + 2 * k) (n - (i + 1)))
+  slot-written w = some-written (candidatesFields W l (p + 1) k) (slotsFields W l (p + 1 + 2 * k) (n - (i + 1))) (behind w)

@@ -1,0 +1,79 @@
+// Utterance blocks, written from an array that has for each slot its count and its words and costs.
+use arrays::narrow_at;
+use arrays::number_at;
+use packing_writing::width_below;
+ghost use mathlib.Core.Path.{_≡_};
+ghost use Prim.Native.Nat.{_+_, _*_, _/_, _^_, _≤_, _<_};
+ghost use lib.ListN.{length};
+ghost use Rattle.bits.specs.Fields.{puts, widths};
+ghost use Rattle.packing.specs.Parse.{accepted};
+ghost use Rattle.packing.specs.Conversion.{written};
+ghost use Rattle.packing_writing.specs.Arrays.{candidatesFields, slotsFields, slotsBits, utteranceFields, blockOf};
+
+// The length of the block of an utterance whose n slots have `numbers` numbers together.
+pub fn utterance_length(words: u32, n: usize, numbers: usize) -> usize
+    requires { ⌜ (1 ≤ words) × (words ≤ 200) × (n ≤ 24) × (n ≤ numbers) × (numbers ≤ 360) ⌝ }
+    ensures { λ r. ⌜ r ≡ (10 + slotsBits words n numbers + 7) / 8 ⌝ }
+{
+    let width = width_below(words);
+    let candidates = (numbers - n) / 2;
+    (10 + (3 * n + candidates * (width + 16)) + 7) / 8
+}
+
+// The n candidates whose words and costs stand from place p on, from bit `start`; the place behind them.
+fn write_candidates(
+    out: &mut [u8],
+    start: usize,
+    slots: &[u32],
+    p: usize,
+    n: usize,
+    words: u32,
+) -> usize
+    requires { ⌜ (1 ≤ words) × (words ≤ 200) × (p < 2 ^ 32) × (start + widths (candidatesFields words (now slots) p n) < 2 ^ 32)
+        × (start + widths (candidatesFields words (now slots) p n) ≤ 8 * length (now out)) ⌝ }
+    ensures { λ r. ⌜ (r ≡ start + widths (candidatesFields words (now (slots .entry)) p n))
+        × (now (out .exit) ≡ puts (now (out .entry)) start (candidatesFields words (now (slots .entry)) p n)) ⌝ }
+{
+    let width = width_below(words);
+    let mut at = start;
+    let mut i: usize = 0;
+    while i < n {
+        let word = narrow_at(slots, p + 2 * i);
+        bit_writer::write_field(out, at, width, word);
+        at += width;
+        let cost = narrow_at(slots, p + 2 * i + 1);
+        bit_writer::write_field(out, at, 16, cost);
+        at += 16;
+        i += 1;
+    }
+    at
+}
+
+// The first n slots of an array, from bit `start`.
+fn write_slots(out: &mut [u8], start: usize, slots: &[u32], n: usize, words: u32)
+    requires { ⌜ (1 ≤ words) × (words ≤ 200) × (n ≤ 24) × (start + widths (slotsFields words (now slots) 0 n) < 2 ^ 32)
+        × (start + widths (slotsFields words (now slots) 0 n) ≤ 8 * length (now out)) ⌝ }
+    ensures { λ _. ⌜ now (out .exit) ≡ puts (now (out .entry)) start (slotsFields words (now (slots .entry)) 0 n) ⌝ }
+{
+    let mut at = start;
+    let mut p: usize = 0;
+    let mut i: usize = 0;
+    while i < n {
+        let count = number_at(slots, p);
+        bit_writer::write_field(out, at, 3, count as u32);
+        at = write_candidates(out, at + 3, slots, p + 1, count, words);
+        p = p + 1 + 2 * count;
+        i += 1;
+    }
+}
+
+// The block of an utterance whose n slots stand in an array, in front of what stands beyond it.
+pub fn write_utterance(out: &mut [u8], words: u32, n: usize, slots: &[u32])
+    requires { ⌜ (1 ≤ words) × (words ≤ 200) × (n ≤ 24) × (widths (slotsFields words (now slots) 0 n) ≤ 4392)
+        × (length (blockOf (utteranceFields words n (now slots))) ≤ length (now out)) ⌝ }
+    ensures { λ _. ⌜ now (out .exit) ≡ written (accepted (blockOf (utteranceFields words n (now (slots .entry))))) (now (out .entry)) ⌝ }
+{
+    bit_writer::write_field(out, 0, 4, 2);
+    bit_writer::write_field(out, 4, 6, n as u32);
+    write_slots(out, 10, slots, n, words);
+}
