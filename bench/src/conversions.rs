@@ -1,48 +1,68 @@
-//! Packing the greatest grammar and reading it back: the library beside the second implementation.
+//! Sheets to blocks and back, and the check of a reading, which reads all three blocks: the library beside the second
+//! implementation.
 
+use crate::inputs::{greatest, Input};
 use crate::measure::{medians, micros, ratio, Plan};
-use spireyerba_tests::grammar::{Body, Grammar, Rule};
+use crate::table::{print_head, print_row};
 use spireyerba_tests::refusal::Answer;
 use spireyerba_tests::{conversions, library};
 use std::hint::black_box;
 
 const PLAN: Plan = Plan { rounds: 301, calls: 20 };
 
-/// 32 symbols, 200 words, and 256 rules of which the greater part are pair rules.
-fn greatest_grammar() -> Grammar {
-    let rule = |number: u32| {
-        let (head, weight) = (number % 32, number * 251);
-        let body = if number % 4 == 3 { Body::Word(number % 200) } else { Body::Pair(number / 32, number * 7 % 32) };
-        Rule { head, weight, body }
-    };
-    Grammar { symbols: 32, words: 200, rules: (0..256).map(rule).collect() }
+pub fn print_table() {
+    let Input { grammar, utterance, .. } = greatest(24);
+    let (grammar_sheet, grammar_block) = (grammar.to_sheet(), grammar.to_block());
+    let (sheet, block) = (utterance.to_sheet(), utterance.to_block(&grammar));
+    print_head("256 rules, 24 slots of 7 words", &["ours", "second", "ratio"]);
+    print_call(
+        "grammar sheet to block",
+        &grammar_block,
+        |out| library::grammar_to_block(&grammar_sheet, out),
+        |out| conversions::grammar_to_block(&grammar_sheet, out),
+    );
+    print_call(
+        "grammar block to sheet",
+        &grammar_sheet,
+        |out| library::grammar_to_sheet(&grammar_block, out),
+        |out| conversions::grammar_to_sheet(&grammar_block, out),
+    );
+    print_call(
+        "utterance sheet to block",
+        &block,
+        |out| library::utterance_to_block(&grammar_block, &sheet, out),
+        |out| conversions::utterance_to_block(&grammar_block, &sheet, out),
+    );
+    print_call(
+        "utterance block to sheet",
+        &sheet,
+        |out| library::utterance_to_sheet(&grammar_block, &block, out),
+        |out| conversions::utterance_to_sheet(&grammar_block, &block, out),
+    );
+    #[cfg(feature = "check")]
+    {
+        let reading = crate::free::least(&grammar, &utterance, 1)[0].to_block(&grammar);
+        print_call::<u8>(
+            "check of a reading",
+            &[],
+            |_| library::check(&grammar_block, &block, &reading),
+            |_| spireyerba_tests::check::check(&grammar_block, &block, &reading),
+        );
+    }
 }
 
-pub fn print_rows() {
-    let grammar = greatest_grammar();
-    let (sheet, block) = (grammar.to_sheet(), grammar.to_block());
-    println!("{:<40} {:>12} {:>12} {:>8}", "a grammar of 256 rules", "library", "second", "ratio");
-    print_row("sheet to block", &sheet, &block, library::grammar_to_block, conversions::grammar_to_block);
-    print_row("block to sheet", &block, &sheet, library::grammar_to_sheet, conversions::grammar_to_sheet);
-}
-
-fn print_row<I, O: Copy + Default + PartialEq>(
+/// One service, which answers the length of its result and writes that.
+fn print_call<T: Copy + Default + PartialEq>(
     name: &str,
-    input: &[I],
-    result: &[O],
-    library: fn(&[I], &mut [O]) -> i32,
-    second: fn(&[I], &mut [O]) -> Answer,
+    result: &[T],
+    library: impl Fn(&mut [T]) -> i32,
+    second: impl Fn(&mut [T]) -> Answer,
 ) {
-    let mut from_library = vec![O::default(); result.len()];
+    let mut from_library = vec![T::default(); result.len()];
     let mut from_second = from_library.clone();
-    let mut call_library = || {
-        black_box(library(black_box(input), &mut from_library));
-    };
-    let mut call_second = || {
-        let _ = black_box(second(black_box(input), &mut from_second));
-    };
-    let [library_time, second_time] = medians(PLAN, [&mut call_library, &mut call_second]);
+    let mut call_library = || assert_eq!(library(black_box(&mut from_library)), result.len() as i32, "{name}");
+    let mut call_second = || assert!(second(black_box(&mut from_second)) == Ok(result.len()), "{name}");
+    let [ours, other] = medians(PLAN, [&mut call_library, &mut call_second]);
     assert!(from_library == result && from_second == result, "{name}: wrong result");
-    let ratio = ratio(library_time, second_time);
-    println!("{name:<40} {:>12} {:>12} {ratio:>8}", micros(library_time), micros(second_time));
+    print_row(name, &[micros(ours), micros(other), ratio(ours, other)]);
 }

@@ -6,3 +6,4 @@ pub mod inputs;
 #[cfg(feature = "listing")]
 pub mod listing;
 pub mod measure;
+pub mod table;

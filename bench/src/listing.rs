@@ -1,78 +1,117 @@
-//! The listing: the library beside the free version with heaps and beside the second implementation.
+//! The listing: the library beside the free version with heaps, and beside the second implementation.
 
 use crate::free;
 use crate::inputs::{greatest, shapes, Input};
 use crate::measure::{medians, micros, ratio, Plan};
+use crate::table::{print_head, print_row};
+use spireyerba_tests::library;
 use spireyerba_tests::listing::{listing, work_length};
 use spireyerba_tests::reading::Reading;
 use std::hint::black_box;
 use std::time::{Duration, Instant};
 
-/// About how long one row is measured.
+/// About how long the calls of one row are measured.
 const BUDGET: Duration = Duration::from_millis(1_500);
 
-pub fn print_rows() {
-    println!();
-    println!("Clearing is one pass over the work table that was lent; the ratios leave it out on both sides.");
-    println!(
-        "{:<36} {:>4} {:>4} {:>12} {:>12} {:>12} {:>12} {:>8} {:>8}",
-        "readings of", "n", "N", "library", "clearing", "free", "second", "/ free", "/ second"
-    );
-    for wanted in [1, 16, 256] {
-        print_row(&greatest(24), wanted);
+/// Growth with the slots and with the readings wanted, then the other shapes.
+fn rows() -> impl Iterator<Item = (Input, usize)> {
+    let sizes = [(6, 1), (12, 1), (24, 1), (24, 16), (24, 64), (6, 256), (12, 256), (24, 256)];
+    let of_shapes = shapes().into_iter().map(|input| (input, 256));
+    sizes.map(|(slots, wanted)| (greatest(slots), wanted)).into_iter().chain(of_shapes)
+}
+
+/// The library beside the free version, with the clearing of the work table apart and in.
+pub fn print_beside_free() {
+    print_head("shape", &["n", "N", "ours", "clearing", "rest", "free", "rest/free", "ours/free"]);
+    for (input, wanted) in rows() {
+        assert_equal_lists(&input, wanted);
+        let [ours, clearing, free] = times(&input, [Lent::library, Lent::clear, Lent::free].map(|call| (wanted, call)));
+        let rest = ours.saturating_sub(clearing);
+        let times = [ours, clearing, rest, free].map(micros);
+        print_numbers(&input, wanted, &[&times[..], &[ratio(rest, free), ratio(ours, free)]].concat());
     }
-    for slots in [6, 12] {
-        print_row(&greatest(slots), 256);
-    }
-    for input in shapes() {
-        print_row(&input, 256);
+    let calls = [(1, Lent::library as Call), (1, Lent::clear), (256, Lent::library), (256, Lent::clear)];
+    let [one, clearing_one, many, clearing_many] = times(&greatest(24), calls);
+    let cost = ratio(many.saturating_sub(clearing_many), one.saturating_sub(clearing_one));
+    println!("\n256 readings of 24 slots under 32 symbols and 256 rules cost {cost} times one, clearing apart.");
+}
+
+/// The library beside the second implementation, apart since that can take a hundred times as long.
+pub fn print_beside_second() {
+    print_head("shape", &["n", "N", "ours", "second", "ratio"]);
+    for (input, wanted) in rows() {
+        let [ours, second] = times(&input, [(wanted, Lent::library), (wanted, Lent::second)]);
+        print_numbers(&input, wanted, &[micros(ours), micros(second), ratio(ours, second)]);
     }
 }
 
-fn print_row(input: &Input, wanted: usize) {
-    let (grammar, utterance) = (input.grammar.to_block(), input.utterance.to_block(&input.grammar));
-    let slots = input.utterance.slots.len();
-    let length = wanted * Reading::block_length(&input.grammar, slots);
-    let mut work = vec![1; work_length(input.grammar.symbols, slots, wanted)];
-    let (mut second_work, mut cleared) = (work.clone(), work.clone());
-    let [mut from_library, mut from_free, mut from_second] = [(); 3].map(|()| vec![0; length]);
-    let mut call_library = || {
-        black_box(spireyerba_tests::library::listing(
-            &grammar,
-            &utterance,
-            wanted as u32,
-            &mut work,
-            &mut from_library,
-        ));
-    };
-    let mut clear = || black_box(&mut cleared).fill(0);
-    let mut call_free = || {
-        let _ = black_box(free::listing(&grammar, &utterance, wanted, &mut from_free));
-    };
-    let mut call_second = || {
-        let _ = black_box(listing(&grammar, &utterance, wanted as u32, &mut second_work, &mut from_second));
-    };
-    let [library, clearing, free] = medians_in_budget([&mut call_library, &mut clear, &mut call_free]);
-    // apart, since it can take a hundred times as long
-    let [second] = medians_in_budget([&mut call_second]);
-    assert!(from_library == from_second && from_free == from_second, "{}: the lists differ", input.name);
-    let without_clearing = |time: Duration| time.saturating_sub(clearing);
-    println!(
-        "{:<36} {slots:>4} {wanted:>4} {:>12} {:>12} {:>12} {:>12} {:>8} {:>8}",
-        input.name,
-        micros(library),
-        micros(clearing),
-        micros(free),
-        micros(second),
-        ratio(without_clearing(library), free),
-        ratio(without_clearing(library), without_clearing(second)),
-    );
+fn print_numbers(input: &Input, wanted: usize, numbers: &[String]) {
+    let size = [input.utterance.slots.len(), wanted].map(|number| number.to_string());
+    print_row(input.name, &[&size[..], numbers].concat());
 }
 
-/// Medians of as many rounds as the time for one row allows.
-fn medians_in_budget<const COUNT: usize>(mut functions: [&mut dyn FnMut(); COUNT]) -> [Duration; COUNT] {
+fn assert_equal_lists(input: &Input, wanted: usize) {
+    let [library, free, second] = [Lent::library, Lent::free, Lent::second].map(|call| {
+        let mut lent = Lent::new(input, wanted);
+        call(&mut lent);
+        lent.out
+    });
+    assert!(library == second && free == second, "{}: the lists differ", input.name);
+}
+
+type Call = fn(&mut Lent);
+
+/// Two blocks, the number of readings wanted, and what is lent for one call.
+struct Lent {
+    grammar: Vec<u8>,
+    utterance: Vec<u8>,
+    wanted: usize,
+    work: Vec<u32>,
+    out: Vec<u8>,
+}
+
+impl Lent {
+    fn new(input: &Input, wanted: usize) -> Self {
+        let Input { grammar, utterance, .. } = input;
+        let slots = utterance.slots.len();
+        Self {
+            grammar: grammar.to_block(),
+            utterance: utterance.to_block(grammar),
+            wanted,
+            work: vec![1; work_length(grammar.symbols, slots, wanted)],
+            out: vec![0; wanted * Reading::block_length(grammar, slots)],
+        }
+    }
+
+    fn library(&mut self) {
+        let Self { grammar, utterance, wanted, work, out } = self;
+        black_box(library::listing(grammar, utterance, *wanted as u32, work, out));
+    }
+
+    /// One pass over the work table, which any listing owes whatever the table held.
+    fn clear(&mut self) {
+        black_box(&mut self.work).fill(0);
+    }
+
+    fn free(&mut self) {
+        let _ = black_box(free::listing(&self.grammar, &self.utterance, self.wanted, &mut self.out));
+    }
+
+    fn second(&mut self) {
+        let Self { grammar, utterance, wanted, work, out } = self;
+        let _ = black_box(listing(grammar, utterance, *wanted as u32, work, out));
+    }
+}
+
+/// The median time of each call, of as many rounds as the time for one row allows.
+fn times<const COUNT: usize>(input: &Input, calls: [(usize, Call); COUNT]) -> [Duration; COUNT] {
+    let mut calls = calls.map(|(wanted, call)| {
+        let mut lent = Lent::new(input, wanted);
+        move || call(&mut lent)
+    });
     let begin = Instant::now();
-    functions.iter_mut().for_each(|function| function());
+    calls.iter_mut().for_each(|call| call());
     let rounds = (BUDGET.as_secs_f64() / begin.elapsed().as_secs_f64()) as usize;
-    medians(Plan { rounds: rounds.clamp(5, 500), calls: 1 }, functions)
+    let plan = Plan { rounds: rounds.clamp(5, 500), calls: 1 };
+    medians(plan, calls.each_mut().map(|call| call as &mut dyn FnMut()))
 }

@@ -1,7 +1,13 @@
-//! Prints one table: medians of alternating runs in one process, and their ratios.
+//! Prints Markdown tables of times in microseconds, medians of alternating calls in one process, and of their ratios.
 
 fn main() {
-    spireyerba_bench::conversions::print_rows();
     #[cfg(feature = "listing")]
-    spireyerba_bench::listing::print_rows();
+    spireyerba_bench::listing::print_beside_free();
+    println!();
+    spireyerba_bench::conversions::print_table();
+    #[cfg(feature = "listing")]
+    {
+        println!();
+        spireyerba_bench::listing::print_beside_second();
+    }
 }
