@@ -11,7 +11,7 @@ use Rattle.packing.specs.Utterance.{utteranceBlock}
 use Rattle.packing.specs.Reading.{readingFrom}
 use Rattle.packing.specs.Flat.{SlotsIn}
 use Rattle.packing.proofs.Reading.{reading-out}
-use Rattle.packing_reading.specs.Answer.{WalkIn}
+use Rattle.reading_reader.specs.Answer.{WalkIn}
 use Rattle.derivation.specs.Walk.{walkWeight}
 use Rattle.checker.specs.Run.{weighed, byRun, underRules, slotsOf}
 use Rattle.checker.proofs.Arrays.{slots-of}

@@ -3,8 +3,8 @@ mod walk; // walk.rt: the weight of the derivation that has a walk
 
 use crate::walk::Found;
 use packing_grammar::GrammarRead;
-use packing_reading::ReadingRead;
 use packing_utterance::UtteranceRead;
+use reading_reader::ReadingRead;
 ghost use mathlib.Core.Path.{_≡_};
 ghost use Prim.Native.Nat.{_^_, _≤_, _<_};
 ghost use Rattle.packing.specs.Meaning.{Reading};
@@ -45,7 +45,7 @@ fn check_reading(rules: &[u32], count: usize, slots: &[u32], n: usize, reading: 
         (now (reading .entry)) (readingFrom n count (now (reading .entry)))) ⌝ }
 {
     let mut walk = [0u32; 47];
-    match packing_reading::read_reading(reading, n, count, &mut walk) {
+    match reading_reader::read_reading(reading, n, count, &mut walk) {
         ReadingRead::Refused(m) => Checked::Refused(m),
         ReadingRead::Reading(weight, end) => {
             let at = end.at;

@@ -13,8 +13,9 @@ use Rattle.packing.specs.Flat.{Begins}
 use Rattle.packing.specs.Valid.{ValidReading}
 use Rattle.packing.specs.declared.Cursor.{Cursor}
 use Rattle.packing.proofs.Whole.{reading-block-back}
-use Rattle.packing_reading.specs.Answer.{answerOf, WalkIn, readingLength}
-use Rattle.packing_reading.specs.declared.ReadingRead as read
+use Rattle.reading_reader.specs.Answer.{answerOf, WalkIn}
+use Rattle.packing_reading.specs.Answer.{readingLength}
+use Rattle.reading_reader.specs.declared.ReadingRead as read
 use Rattle.lister.specs.Lines.{Line}
 use Rattle.lister.specs.declared.Shape.{Shape}
 

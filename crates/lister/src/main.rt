@@ -3,8 +3,8 @@ use arrays::number_at;
 use libc::STDOUT_FILENO;
 use listing::Listed;
 use packing_grammar::GrammarRead;
-use packing_reading::ReadingRead;
 use packing_utterance::UtteranceRead;
+use reading_reader::ReadingRead;
 ghost use Prim.Native.Nat.{_+_, _-_, _*_, _≤_};
 ghost use lib.ListN.{length};
 ghost use Rattle.io.specs.Counts.{Counts};
@@ -60,7 +60,7 @@ fn line_of(out: &[u8], k: usize, s: Shape, walk: &mut [u32]) -> u32
     let size = packing_reading::reading_length(n, rules);
     let from = k * size;
     let upto = from + size;
-    let read = packing_reading::read_reading(&out[from..upto], n, rules, walk);
+    let read = reading_reader::read_reading(&out[from..upto], n, rules, walk);
     let ReadingRead::Reading(weight, _) = read else {
         return 0;
     };

@@ -1,13 +1,13 @@
 -- Inversions: the code's answer tells the parse that it stands for, a parse that succeeded went through both its halves, and
 -- an accepted verdict passed its test.
 -- Assumes nothing.
-use mathlib.Core.Path.{_≡_, refl, ap, _∙_}
+use mathlib.Core.Path.{_≡_, refl, sym, ap, _∙_}
 use mathlib.Core.Bool.{Bool, true, false}
 use Prim.Native.Nat.{ℕ}
 use native.Mathlib.Omega.{arith}
 use Rattle.bits.specs.Bits.{pick}
 use Rattle.packing.specs.Parse.{Parse, parsed, failed, _⟫_, Verdict, accepted, refused, _then_, finish}
-use Rattle.packing.specs.Source.{readOf}
+use Rattle.packing.specs.Source.{readOf, refusalOf}
 use Rattle.packing.specs.declared.Cursor.{Cursor}
 use Rattle.packing.specs.declared.Read.{Read}
 use Rattle.packing.specs.declared.Read.the-variants.{Number, Refused}
@@ -26,6 +26,12 @@ number-out x e = same-parse x ∙ ap parseOf e
 
 pub refused-out : (x : Parse ℕ) {n : ℕ} → readOf x ≡ Refused n → x ≡ failed n
 refused-out x e = same-parse x ∙ ap parseOf e
+
+pub number-told : (x : Parse ℕ) {r : Read} {v : ℕ} {c : Cursor} → r ≡ readOf x → r ≡ Number v c → x ≡ parsed v (c .at)
+number-told x e h = number-out x (sym e ∙ h)
+
+pub refusal-told : (x : Parse ℕ) {r : Read} {n m : ℕ} → r ≡ readOf x → r ≡ Refused n → m ≡ refusalOf r → x ≡ failed m
+refusal-told x e h k = refused-out x (sym e ∙ h) ∙ ap failed (sym (k ∙ ap refusalOf h))
 
 failed≢parsed : {A : Type 0} {n next : ℕ} {a : A} → failed n ≡ parsed a next → ⊥
 failed≢parsed e = let z : _≡_ {A = ℕ} 0 1 = cc in omega arith

@@ -17,8 +17,9 @@ use Rattle.packing.specs.declared.Cursor.{Cursor}
 use Rattle.packing.specs.declared.Read.{Read}
 use Rattle.packing.specs.declared.Read as read
 use Rattle.packing.proofs.Parse.{number-out, refused-out}
+use Rattle.rules_reader.specs.Rules.{counted, RulesTold}
 use Rattle.packing_grammar.specs.Answer.{sizes, answerOf, Bounded}
-use Rattle.packing_grammar.specs.Parts.{sizesFrom, sizesOf, counted, RulesTold, sizesIn, GrammarTold}
+use Rattle.packing_grammar.specs.Parts.{sizesFrom, sizesOf, sizesIn, GrammarTold}
 use Rattle.packing_grammar.specs.declared.Sizes as Z
 use Rattle.packing_grammar.specs.declared.SizesRead.{SizesRead}
 use Rattle.packing_grammar.specs.declared.SizesRead.the-variants.{Sizes, Refused}
@@ -82,7 +83,7 @@ module _ (src : Source) (at : ℕ) where
       pub sheet-unfit : unfit src (z .rules) ≡ true → GrammarTold src at (Refused 41) array
       sheet-unfit u = grammar-refused 41 array (rw u at (sym after-sizes))
 
-      module _ (u : unfit src (z .rules) ≡ false) {body : Read} (t : RulesTold src z (c .at) body array) where
+      module _ (u : unfit src (z .rules) ≡ false) {body : Read} (t : RulesTold src (z .symbols) (z .words) (z .rules) (c .at) body array) where
         pub rules-refused : {n m : ℕ} → body ≡ read.the-variants.Refused n → m ≡ refusalOf body → GrammarTold src at (Refused m) array
         rules-refused {n} {m} b h =
             let p = counted-failed (rulesFrom src (z .symbols) (z .words) (z .rules) (c .at) []) (refused-out _ (sym (t .answer) ∙ b)) in

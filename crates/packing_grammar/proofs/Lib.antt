@@ -1,7 +1,2 @@
-pub mod Taken
-pub mod Fields
-pub mod Rows
-pub mod Keys
-pub mod Turns
 pub mod Grammars
 pub mod Outcome

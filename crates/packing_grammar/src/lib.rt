@@ -4,17 +4,15 @@ use packing::Field;
 use packing::Read;
 use packing::Source;
 ghost use mathlib.Core.Path.{_≡_};
-ghost use mathlib.Core.List.{List, _++_};
-ghost use Prim.Native.Nat.{ℕ, _+_, _-_, _*_, _^_, _≤_, _<_};
-ghost use lib.ListN.{length, take};
-ghost use Rattle.packing.specs.Source.{within, sourceOf};
-ghost use Rattle.bits.specs.Width.{widthOf};
-ghost use Rattle.packing.specs.Grammar.{firstOf, secondOf, ruleFrom, grammarBlock, grammarSheet};
+ghost use mathlib.Core.List.{List};
+ghost use Prim.Native.Nat.{ℕ, _+_, _^_, _≤_, _<_};
+ghost use lib.ListN.{length};
+ghost use Rattle.packing.specs.Source.{sourceOf};
+ghost use Rattle.packing.specs.Grammar.{grammarBlock, grammarSheet};
 ghost use Rattle.packing.specs.Grammar as grammar;
 ghost use Rattle.packing.specs.Flat.{RulesIn};
-ghost use Rattle.packing_grammar.specs.Answer.{answerOf, Bounded, InBounds};
-ghost use Rattle.packing_grammar.specs.Parts.{sizesFrom, sizesOf, SizesNear, ruleRead, RuleNear};
-ghost use Rattle.packing_grammar.specs.Parts.{Sound, row, keyOf, among, RulesTold, GrammarTold};
+ghost use Rattle.packing_grammar.specs.Answer.{answerOf, InBounds};
+ghost use Rattle.packing_grammar.specs.Parts.{sizesFrom, sizesOf, SizesNear, GrammarTold};
 
 // S, W and R of a grammar.
 pub struct Sizes {
@@ -35,23 +33,7 @@ enum SizesRead {
     Refused(u32),
 }
 
-// The five numbers of a rule. For a word rule, kind 1, the first is the word and the second 0.
-struct RuleNumbers {
-    kind: u32,
-    head: u32,
-    weight: u32,
-    first: u32,
-    second: u32,
-}
-
-// A rule's numbers and the next place, or the refusal.
-enum RuleRead {
-    Rule(RuleNumbers, Cursor),
-    Refused(u32),
-}
-
-// The fields of document 01's grammar block and sheet that are the same for every grammar: the block's kind, S, W and R; a
-// rule's kind and weight, and the last number of a word rule.
+// The fields of document 01's grammar block and sheet that stand before the rules: the block's kind, S, W and R.
 const KIND: Field = Field {
     width: 4,
     least: 1,
@@ -84,67 +66,6 @@ const RULES: Field = Field {
     above: 3,
 };
 
-const RULE_KIND: Field = Field {
-    width: 1,
-    least: 0,
-    most: 1,
-    below: 42,
-    above: 42,
-};
-
-const WEIGHT: Field = Field {
-    width: 16,
-    least: 0,
-    most: 65535,
-    below: 42,
-    above: 42,
-};
-
-const NOTHING: Field = Field {
-    width: 0,
-    least: 0,
-    most: 0,
-    below: 42,
-    above: 42,
-};
-
-// The field of a number below n.
-fn below(n: u32, refusal: u32) -> Field
-    requires { ⌜ (1 ≤ n) × (n ≤ 256) ⌝ }
-    ensures { λ f. ⌜ (f ≡ within (widthOf (n - 1)) 0 (n - 1) refusal) × (f .width ≤ 8) ⌝ }
-{
-    let most = n - 1;
-    Field {
-        width: bits::width_of(most as usize),
-        least: 0,
-        most: most,
-        below: refusal,
-        above: refusal,
-    }
-}
-
-// The field of the first number of a rule's body.
-fn first_of(sizes: Sizes, kind: u32) -> Field
-    requires { ⌜ Bounded sizes ⌝ }
-    ensures { λ f. ⌜ (f ≡ firstOf (sizes .symbols) (sizes .words) kind) × (f .width ≤ 8) ⌝ }
-{
-    if kind == 0 {
-        return below(sizes.symbols, 4);
-    }
-    below(sizes.words, 5)
-}
-
-// The field of the second number of a rule's body.
-fn second_of(sizes: Sizes, kind: u32) -> Field
-    requires { ⌜ Bounded sizes ⌝ }
-    ensures { λ f. ⌜ (f ≡ secondOf (sizes .symbols) kind) × (f .width ≤ 8) ⌝ }
-{
-    if kind == 0 {
-        return below(sizes.symbols, 4);
-    }
-    NOTHING
-}
-
 // S, W and R, from a place of the source.
 fn read_sizes(src: Source, block: &[u8], sheet: &[u32], at: usize) -> SizesRead
     requires { ⌜ at < 2 ^ 16 ⌝ }
@@ -172,119 +93,6 @@ fn read_sizes(src: Source, block: &[u8], sheet: &[u32], at: usize) -> SizesRead
     SizesRead::Sizes(sizes, c)
 }
 
-// The rule at a place of the source.
-fn read_rule(src: Source, block: &[u8], sheet: &[u32], at: usize, sizes: Sizes) -> RuleRead
-    requires { ⌜ (at < 2 ^ 16) × Bounded sizes ⌝ }
-    ensures { λ r. ⌜ (ruleRead r ≡ ruleFrom (sourceOf src (now (block .entry)) (now (sheet .entry))) (sizes .symbols) (sizes .words) at) × RuleNear (at + 41) r ⌝ }
-{
-    let read = packing::take(src, block, sheet, at, RULE_KIND);
-    let Read::Number(kind, c) = read else {
-        return RuleRead::Refused(packing::refusal(read));
-    };
-    let at = c.at;
-    let read = packing::take(src, block, sheet, at, below(sizes.symbols, 4));
-    let Read::Number(head, c) = read else {
-        return RuleRead::Refused(packing::refusal(read));
-    };
-    let at = c.at;
-    let read = packing::take(src, block, sheet, at, WEIGHT);
-    let Read::Number(weight, c) = read else {
-        return RuleRead::Refused(packing::refusal(read));
-    };
-    let at = c.at;
-    let read = packing::take(src, block, sheet, at, first_of(sizes, kind));
-    let Read::Number(first, c) = read else {
-        return RuleRead::Refused(packing::refusal(read));
-    };
-    let at = c.at;
-    let read = packing::take(src, block, sheet, at, second_of(sizes, kind));
-    let Read::Number(second, c) = read else {
-        return RuleRead::Refused(packing::refusal(read));
-    };
-    let numbers = RuleNumbers {
-        kind,
-        head,
-        weight,
-        first,
-        second,
-    };
-    RuleRead::Rule(numbers, c)
-}
-
-// Kind, head and body of a rule as one number.
-fn rule_key(numbers: RuleNumbers) -> u32
-    requires { ⌜ Sound numbers ⌝ }
-    ensures { λ k. ⌜ k ≡ keyOf numbers ⌝ }
-{
-    ((numbers.kind * 32 + numbers.head) * 256 + numbers.first) * 256 + numbers.second
-}
-
-// Whether `key` is one of the first n keys. It looks at all of them, which is faster than to stop early.
-fn seen(keys: &[u32], n: usize, key: u32) -> bool
-    requires { ⌜ n ≤ length (now keys) ⌝ }
-    ensures { λ r. ⌜ r ≡ among key (take n (now (keys .entry))) ⌝ }
-{
-    let mut found = false;
-    let mut i: usize = 0;
-    while i < n {
-        if key == keys[i] {
-            found = true;
-        }
-        i += 1;
-    }
-    found
-}
-
-// The five numbers of rule i into the array.
-fn store_rule(rules: &mut [u32], i: usize, numbers: RuleNumbers)
-    requires { ⌜ 5 * i + 5 ≤ length (now rules) ⌝ }
-    ensures { λ _. ⌜ take (5 * i + 5) (now (rules .exit)) ≡ take (5 * i) (now (rules .entry)) ++ row numbers ⌝ }
-{
-    let at = 5 * i;
-    rules[at] = numbers.kind;
-    rules[at + 1] = numbers.head;
-    rules[at + 2] = numbers.weight;
-    rules[at + 3] = numbers.first;
-    rules[at + 4] = numbers.second;
-}
-
-// The rules, from a place of the source, with their numbers into the array: how many, and the next place.
-fn read_rules(
-    src: Source,
-    block: &[u8],
-    sheet: &[u32],
-    start: usize,
-    sizes: Sizes,
-    rules: &mut [u32],
-) -> Read
-    requires { ⌜ (start < 2 ^ 8) × Bounded sizes × (1280 ≤ length (now rules)) ⌝ }
-    ensures { λ r. ⌜ RulesTold (sourceOf src (now (block .entry)) (now (sheet .entry))) sizes start r (now (rules .exit)) ⌝ }
-{
-    let count = sizes.rules as usize;
-    let mut keys = [0u32; 256];
-    let mut at = start;
-    let mut i: usize = 0;
-    while i < count {
-        let read = read_rule(src, block, sheet, at, sizes);
-        match read {
-            RuleRead::Refused(n) => {
-                return Read::Refused(n);
-            }
-            RuleRead::Rule(numbers, c) => {
-                let key = rule_key(numbers);
-                if seen(&keys, i, key) {
-                    return Read::Refused(6);
-                }
-                keys[i] = key;
-                store_rule(rules, i, numbers);
-                at = c.at;
-                i += 1;
-            }
-        }
-    }
-    Read::Number(sizes.rules, Cursor { at: at })
-}
-
 // Whether a sheet has not the numbers of its grammar's rules.
 fn unfit(src: Source, sheet: &[u32], rules: u32) -> bool
     requires { ⌜ rules ≤ 256 ⌝ }
@@ -309,7 +117,16 @@ fn read_grammar(src: Source, block: &[u8], sheet: &[u32], at: usize, rules: &mut
         return SizesRead::Refused(41);
     }
     let at = c.at;
-    let body = read_rules(src, block, sheet, at, sizes, rules);
+    let body = rules_reader::read_rules(
+        src,
+        block,
+        sheet,
+        at,
+        sizes.symbols,
+        sizes.words,
+        sizes.rules,
+        rules,
+    );
     let Read::Number(_, c) = body else {
         return SizesRead::Refused(packing::refusal(body));
     };

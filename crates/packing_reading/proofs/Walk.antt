@@ -35,11 +35,11 @@ module _ (R : ℕ) where
     pub walk-room : 34 + widths (flds (walkEntries R (take (2 * n - 1) walk))) ≤ 8 * length o
     walk-room = rw (widths-walk (take (2 * n - 1) walk), length-take-le (2 * n - 1) walk h) (omega arith)
 
-    pub reading-written : ((i : ℕ) → getD o i 0 < 256) → {out : List ℕ}
-        → out ≡ puts (put (put (put o 0 4 3) 4 6 n) 10 24 w) 34 (flds (walkEntries R (take (2 * n - 1) walk)))
+    pub reading-written : ((i : ℕ) → getD o i 0 < 256) → {kind slots weight out : List ℕ} → kind ≡ put o 0 4 3 → slots ≡ put kind 4 6 n
+        → weight ≡ put slots 10 24 w → out ≡ puts weight 34 (flds (walkEntries R (take (2 * n - 1) walk)))
         → out ≡ laid o (bitsOfAll (flds (readingEntries R (readingOf n w walk))))
     unfolding readingEntries puts widths
-    reading-written y e = e ∙ puts-block o (flds (readingEntries R (readingOf n w walk))) y (omega (arith, walk-room))
+    reading-written y e₁ e₂ e₃ e = rw (e₃, e₂, e₁) at e ∙ puts-block o (flds (readingEntries R (readingOf n w walk))) y (omega (arith, walk-room))
 
   -- what is left to write of a walk of n numbers behind the first i
   abbrev pub rest : List ℕ → ℕ → ℕ → List Fld

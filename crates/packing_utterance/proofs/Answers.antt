@@ -17,7 +17,7 @@ use Rattle.packing.proofs.Whole.{utterance-block-out, utterance-sheet-out}
 use Rattle.packing_utterance.specs.Answer.{answerOf, Sized}
 use Rattle.packing_utterance.specs.declared.Slots.{Slots}
 use Rattle.packing_utterance.specs.declared.UtteranceRead as R
-use Rattle.packing_utterance.proofs.Numbers.{valid-size}
+use Rattle.slots_reader.proofs.Numbers.{valid-size}
 
 -- what both readers promise, of a verdict, the array and the answer
 abbrev pub Promised : ℕ → Verdict Utterance → List ℕ → R.UtteranceRead → Type 0

@@ -17,11 +17,11 @@ use Rattle.packing.specs.Store.{storeAll}
 use Rattle.packing.specs.Valid.{InRange, Fits, ValidUtterance}
 use Rattle.packing.proofs.Entries.{each-right}
 use Rattle.packing.proofs.Flat.{length-edges}
+use Rattle.packing.proofs.Store.{stored-next}
 use Rattle.packing.proofs.Whole.{utterance-block-out}
-use Rattle.packing_utterance.specs.Placed.{candidateNumbers}
+use Rattle.slots_reader.specs.Placed.{candidateNumbers}
 use Rattle.packing_utterance.specs.Edges.{candidateEdges, candidatesAt, slotsEdges, edgesIn}
-use Rattle.packing_utterance.proofs.Stored.{stored-more}
-use Rattle.packing_utterance.proofs.Numbers.{slot-first}
+use Rattle.slots_reader.proofs.Numbers.{slot-first}
 
 -- edges stored behind others
 numbers-append : (es fs : List Edge) → edgeNumbers (es ++ fs) ≡ edgeNumbers es ++ edgeNumbers fs
@@ -32,7 +32,7 @@ numbers-append (edge i k w c ∷ es) fs = ap (λ (l : List ℕ). i ∷ k ∷ w .
 pub edges-stored : (before : List ℕ) (to : ℕ) {between after : List ℕ} {p : ℕ} (es fs : List Edge) → between ≡ storeAll before to (edgeNumbers es)
     → p ≡ to + 4 * length es → after ≡ storeAll between p (edgeNumbers fs) → after ≡ storeAll before to (edgeNumbers (es ++ fs))
 edges-stored before to es fs h e k =
-    rw (numbers-append es fs) (stored-more before to (edgeNumbers es) (edgeNumbers fs) h (omega (arith, length-edges es)) k)
+    rw (numbers-append es fs) (stored-next before to (edgeNumbers es) (edgeNumbers fs) h (omega (arith, length-edges es)) k refl .0)
 
 module _ (l : List ℕ) (i : ℕ) where
   pub length-candidate-edges : (n p : ℕ) → length (candidateEdges l i n p) ≡ n

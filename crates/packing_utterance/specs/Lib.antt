@@ -1,3 +1,3 @@
 pub mod Answer
-pub mod Placed
+pub mod Parts
 pub mod Edges

@@ -2,7 +2,7 @@
 use mathlib.Core.Path.{ap, _∙_}
 use borrow.Author.Needs.{needs}
 use Rattle.packing.specs.Reading.{readingFrom}
-use Rattle.packing_reading.proofs.Outcome.{parsed-told, failed-told}
+use Rattle.reading_reader.proofs.Outcome.{parsed-told, failed-told}
 use Rattle.checker.specs.Check.{answerOf}
 use Rattle.checker.specs.Run.{rulesOf, slotsOf}
 use Rattle.checker.proofs.Answered.{walk-judged}

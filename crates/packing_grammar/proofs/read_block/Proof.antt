@@ -10,7 +10,7 @@ use Rattle.packing.specs.Source.{bytes, take}
 use Rattle.packing.specs.Grammar.{blockKind, grammarFrom, grammarBlock}
 use Rattle.packing_grammar.specs.Answer.{Bounded}
 use Rattle.packing_grammar.specs.Parts.{SizesNear}
-use Rattle.packing_grammar.proofs.Taken.{got, missed, taken}
+use Rattle.rules_reader.proofs.Taken.{got, missed, taken}
 use Rattle.packing_grammar.proofs.Grammars.{end-refused, end-passed, end-failed}
 use Rattle.packing_grammar.proofs.read_block.Statement.{statement}
 use Rattle.packing_grammar.proofs.read_block.Tie as tie

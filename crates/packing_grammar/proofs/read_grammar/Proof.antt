@@ -34,7 +34,12 @@ returns-2 c = sheet-unfit _ _ (c .before .before .before .before .before .read-s
 read-rules-requires : tie.Need-read-rules-requires
 read-rules-requires c κs =
     let n = near (c .before .before .before) in
-    (omega (arith, n .1, c .before .before .before .before .before .before .before .before .before .before .pre), n .0, c .before .before .before .before .before .before .before .before .before .before .pre .1)
+    let b = n .0 in (
+      omega (arith, n .1, c .before .before .before .before .before .before .before .before .before .before .pre),
+      record { some-symbol = b .some-symbol; symbols = b .symbols; some-word = b .some-word; words = b .words },
+      b .rules,
+      c .before .before .before .before .before .before .before .before .before .before .pre .1,
+    )
 
 enum-known-body : tie.Need-enum-known-body
 enum-known-body c = search needs

@@ -7,7 +7,7 @@ use Rattle.packing.specs.Parse.{parsed}
 use Rattle.packing.specs.Source.{Source, take, sourceOf}
 use Rattle.packing.specs.Grammar.{size}
 use Rattle.packing_grammar.specs.Parts.{sizesFrom}
-use Rattle.packing_grammar.proofs.Taken.{got, missed, taken}
+use Rattle.rules_reader.proofs.Taken.{got, missed, taken}
 use Rattle.packing_grammar.proofs.read_sizes.Statement.{statement}
 use Rattle.packing_grammar.proofs.read_sizes.Tie as tie
 

@@ -1,12 +1,6 @@
 -- The fields of the head and of the walk, written one after the other, are the block's bits in front of what stood there.
-use mathlib.Core.Path.{_≡_}
-use Prim.Native.Nat.{_-_, _*_}
 use native.Mathlib.Omega.{arith}
-use lib.ListN.{take}
-use Rattle.bits.specs.Bits.{put}
-use Rattle.bits.specs.Fields.{puts}
-use Rattle.packing.specs.Source.{flds}
-use Rattle.packing.specs.Reading.{walkEntries, blockOfReading}
+use Rattle.packing.specs.Reading.{blockOfReading}
 use Rattle.packing_reading.proofs.Walk.{walk-room, reading-written}
 use borrow.Author.Needs.{needs}
 use Rattle.packing_reading.proofs.write_reading.Statement.{statement}
@@ -48,9 +42,8 @@ returns c =
     let at-slice-known = at-write-field .before .before .before in
     let at-start = at-slice-known .before in
     let a = at-start .args in
-    let e : c .before .before .write-walk .last .0 ≡ puts (put (put (put (a .out .now) 0 4 3) 4 6 (a .n)) 10 24 (a .weight)) 34 (flds (walkEntries (a .rules) (take (2 * a .n - 1) (a .walk .now)))) =
-    cc (c .before .before .write-walk .ensures, at-write-field3 .write-field3 .ensures, at-write-field2 .write-field2 .ensures, at-write-field .write-field .ensures) in
-    reading-written (a .rules) (a .n) (a .weight) (a .walk .now) (a .out .now) (omega (arith, at-start .pre)) (omega (arith, at-start .pre)) (λ i. at-slice-known .slice-known .given i .fits) e
+    reading-written (a .rules) (a .n) (a .weight) (a .walk .now) (a .out .now) (omega (arith, at-start .pre)) (omega (arith, at-start .pre)) (λ i. at-slice-known .slice-known .given i .fits)
+    (at-write-field .write-field .ensures) (at-write-field2 .write-field2 .ensures) (at-write-field3 .write-field3 .ensures) (c .before .before .write-walk .ensures)
 
 pub write-reading-spec : {M : Type 1} → statement M
 write-reading-spec =

@@ -11,7 +11,7 @@ use Rattle.packing.specs.Flat.{edgeNumbers}
 use Rattle.packing.specs.Store.{storeAll}
 use Rattle.packing.proofs.Flat.{length-edges}
 use Rattle.packing_utterance.specs.Edges.{candidateEdges, slotsEdges}
-use Rattle.packing_utterance.proofs.Stored.{stored-begins}
+use Rattle.slots_reader.proofs.Stored.{stored-begins}
 use Rattle.packing_utterance.proofs.Edges.{edges-stored, length-candidate-edges, slot-edges-more, slot-edges-end}
 use Rattle.packing_utterance.proofs.edges_of.Statement.{statement}
 use Rattle.packing_utterance.proofs.edges_of.Tie as tie

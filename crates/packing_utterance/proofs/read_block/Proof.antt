@@ -6,7 +6,8 @@ use Rattle.packing.specs.Parse.{parsed}
 use Rattle.packing.specs.Source.{bytes, take}
 use Rattle.packing.specs.Grammar.{blockKind}
 use Rattle.packing.proofs.Bounds.{take-next}
-use Rattle.packing_utterance.proofs.Told.{number-told, refusal-told, slots-told, no-slots-told}
+use Rattle.packing.proofs.Parse.{number-told, refusal-told}
+use Rattle.packing_utterance.proofs.Told.{slots-told, no-slots-told}
 use Rattle.packing_utterance.proofs.Utterances.{utterance-near}
 use Rattle.packing_utterance.proofs.Answers.{promised-refusal, promised-slots, no-kind, block-stops, block-goes-on, block-ends}
 use borrow.Author.Needs.{needs}
@@ -59,7 +60,7 @@ zero-from-requires c κs =
     let s = c .before .before .before .before .before .before .before .before .before .before .before .before .before .before .before in
     let k = c .before .before .before .before .before .before .before .before in
     let r = slots-told (c .before .before .before .before .before .read-utterance .ensures) (c .before .found .given .1) in
-    omega (arith, near k, utterance-near (bytes 11 (s .args .block .now)) (s .args .words) (omega arith) (k .before .kind .given .0 .1 .0 .at) (r .1))
+    omega (arith, near k, utterance-near (bytes 11 (s .args .block .now)) (s .args .words) (k .before .kind .given .0 .1 .0 .at) (omega arith) (r .1))
 
 same-length : tie.Need-same-length
 same-length c = search needs

@@ -8,10 +8,12 @@ use Rattle.packing.specs.Utterance.{slotCount}
 use Rattle.packing.proofs.Bounds.{take-range, take-next}
 use Rattle.packing.proofs.Taken.{taken-fits}
 use Rattle.packing.proofs.Utterance.{utterance-out}
-use Rattle.packing_utterance.specs.Placed.{no-slots}
-use Rattle.packing_utterance.proofs.Told.{number-told, refusal-told, not-placed-told}
-use Rattle.packing_utterance.proofs.Numbers.{valid-size}
-use Rattle.packing_utterance.proofs.Utterances.{utterance-stops, utterance-goes-on, slots-near, slots-placed}
+use Rattle.packing_utterance.specs.Parts.{no-slots}
+use Rattle.packing.proofs.Parse.{number-told, refusal-told}
+use Rattle.slots_reader.proofs.Told.{not-placed-told}
+use Rattle.slots_reader.proofs.Numbers.{valid-size}
+use Rattle.slots_reader.proofs.Slots.{slots-near}
+use Rattle.packing_utterance.proofs.Utterances.{utterance-stops, utterance-goes-on, slots-placed}
 use borrow.Author.Needs.{needs}
 use Rattle.packing_utterance.proofs.read_utterance.Statement.{statement}
 use Rattle.packing_utterance.proofs.read_utterance.Tie as tie

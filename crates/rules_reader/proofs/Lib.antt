@@ -1,0 +1,5 @@
+pub mod Taken
+pub mod Fields
+pub mod Rows
+pub mod Keys
+pub mod Turns

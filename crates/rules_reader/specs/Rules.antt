@@ -1,0 +1,76 @@
+-- The parts of the reader of a grammar's rules, for the contracts of its functions: document 01, "Packed blocks". Assumes
+-- nothing.
+use mathlib.Core.Path.{_≡_}
+use mathlib.Core.List.{List, [], _∷_}
+use mathlib.Core.Bool.{Bool, true, false}
+use Prim.Native.Nat.{ℕ, _+_, _-_, _*_, _≤_}
+use lib.Dec.{eqb}
+use lib.ListN.{length}
+use Rattle.bits.specs.Bits.{pick}
+use Rattle.packing.specs.Parse.{Parse, parsed, failed}
+use Rattle.packing.specs.Source.{Source, values, readOf}
+use Rattle.packing.specs.Grammar.{ruleOf, rulesFrom, rulesEntries}
+use Rattle.packing.specs.Flat.{Begins}
+use Rattle.packing.specs.declared.Rule as rules
+use Rattle.packing.specs.declared.Read.{Read}
+use Rattle.packing.specs.declared.Read.the-variants.{Number}
+use Rattle.packing.specs.declared.Read as read
+use Rattle.rules_reader.specs.declared.RuleNumbers.{RuleNumbers}
+use Rattle.rules_reader.specs.declared.RuleRead as rule
+
+-- S and W are in their ranges
+pub record Ranges (S W : ℕ) : Type 0 where
+  pub some-symbol : 1 ≤ S
+  pub symbols : S ≤ 32
+  pub some-word : 1 ≤ W
+  pub words : W ≤ 200
+
+-- the rule of five numbers, and what was read as a rule
+abbrev pub ruleBy : RuleNumbers → rules.Rule
+ruleBy n = ruleOf (n .kind) (n .head) (n .weight) (n .first) (n .second)
+
+abbrev pub ruleRead : rule.RuleRead → Parse rules.Rule
+ruleRead (rule.the-variants.Rule n c) = parsed (ruleBy n) (c .at)
+ruleRead (rule.the-variants.Refused n) = failed n
+
+-- no number of a rule is too great, and a word rule's last is 0
+pub record Sound (n : RuleNumbers) : Type 0 where
+  pub kind : n .kind ≤ 1
+  pub head : n .head ≤ 31
+  pub first : n .first ≤ 199
+  pub second : n .second ≤ 31 * (1 - n .kind)
+
+abbrev pub RuleNear : ℕ → rule.RuleRead → Type 0
+RuleNear most (rule.the-variants.Rule n c) = Sound n × (c .at ≤ most)
+RuleNear most (rule.the-variants.Refused n) = Unit {0}
+
+-- the numbers in their order
+abbrev pub row : RuleNumbers → List ℕ
+row n = n .kind ∷ n .head ∷ n .weight ∷ n .first ∷ n .second ∷ []
+
+-- kind, head and body of a rule as one number, and whether such a number is in a list
+abbrev pub keyOf : RuleNumbers → ℕ
+keyOf n = ((n .kind * 32 + n .head) * 256 + n .first) * 256 + n .second
+
+unfoldable pub among : ℕ → List ℕ → Bool
+among k [] = false
+among k (x ∷ xs) = pick (eqb k x) true (among k xs)
+
+-- how many rules were read
+abbrev pub counted : Parse (List rules.Rule) → Parse ℕ
+counted (parsed rs at) = parsed (length rs) at
+counted (failed n) = failed n
+
+abbrev pub RowsIn : ℕ → ℕ → Parse (List rules.Rule) → List ℕ → Type 0
+RowsIn S W (parsed rs at) array = Begins (values (rulesEntries S W rs)) array
+RowsIn S W (failed n) array = Unit {0}
+
+abbrev pub CountNear : ℕ → ℕ → Read → Type 0
+CountNear count most (Number v c) = (v ≡ count) × (c .at ≤ most)
+CountNear count most (read.the-variants.Refused n) = Unit {0}
+
+-- what reading the rules from a place promises of its answer and of the array
+pub record RulesTold (src : Source) (S W R at : ℕ) (r : Read) (array : List ℕ) : Type 0 where
+  pub answer : r ≡ readOf (counted (rulesFrom src S W R at []))
+  pub rows : RowsIn S W (rulesFrom src S W R at []) array
+  pub near : CountNear R (at + 41 * 256) r

@@ -1,0 +1,112 @@
+-- `slots_reader::read_slots` meets its contract: the slots read so far stand in the array, and what the definition
+-- reads behind them is what it reads from the start. Assumes nothing.
+use mathlib.Core.Path.{_≡_, refl, sym, _∙_}
+use mathlib.Core.List.{[], _∷_, _++_}
+use Prim.Native.Nat.{_+_, _-_, _*_, _≤_}
+use native.Mathlib.Omega.{arith}
+use borrow.Author.Needs.{needs}
+use lib.ListN.{length, length-append}
+use Rattle.packing.specs.Meaning.{Utterance}
+use Rattle.packing.specs.Source.{Source, sourceOf}
+use Rattle.packing.specs.Utterance.{slotsFrom, slotsEntries}
+use Rattle.packing.specs.Flat.{slotNumbers}
+use Rattle.packing.specs.Store.{storeAll}
+use Rattle.slots_reader.specs.Placed.{placed, not-placed}
+use Rattle.slots_reader.proofs.Told.{placed-told, not-placed-told}
+use Rattle.slots_reader.proofs.Numbers.{length-numbers, slot-more, slot-stored}
+use Rattle.slots_reader.proofs.Slots.{slots-stop, slots-go-on, slots-end, slot-near}
+use Rattle.slots_reader.proofs.read_slots.Statement.{statement}
+use Rattle.slots_reader.proofs.read_slots.Tie as tie
+
+abbrev Inv-loop : tie.InvT-loop
+Inv-loop src block sheet start words count slots₀ at₀ to₀ i₀ slots at to i =
+    (i ≤ count) × (at ≤ start + 171 * i) × (to ≤ 15 * i) × (length slots ≡ length slots₀)
+    × ((u : Utterance) × (length u ≡ i) × (to ≡ 0 + length (slotNumbers words u)) × (slots ≡ storeAll slots₀ 0 (slotNumbers words u))
+    × (slotsFrom (sourceOf src block sheet) words (count - i) at u ≡ slotsFrom (sourceOf src block sheet) words count start []))
+
+abbrev μ-loop : tie.MeasureT-loop
+μ-loop src block sheet start words count slots₀ at₀ to₀ i₀ slots at to i = count - i
+
+abbrev source : tie.Start Inv-loop μ-loop → Source
+source c = sourceOf (c .args .src) (c .args .block .now) (c .args .sheet .now)
+
+loop-holds : tie.Need-loop-holds Inv-loop μ-loop
+unfolding storeAll slotsEntries
+loop-holds c =
+    let a = c .before .before .before .args in
+    let z : a .count - 0 ≡ a .count = omega arith in
+    (omega arith, omega arith, omega arith, refl, ([], refl, refl, refl, rw z))
+
+read-slot-requires : tie.Need-read-slot-requires Inv-loop μ-loop
+read-slot-requires c κs = omega arith
+
+enum-known-n : tie.Need-enum-known-n Inv-loop μ-loop
+enum-known-n c = search needs
+
+same-length : tie.Need-same-length Inv-loop μ-loop
+same-length c = c .before .before .before .before .before .read-slot .kept .1 .1 .1 .1 .1 .0 ∙ c .before .before .before .before .before .before .before .before .loop .inv .3
+
+returns : tie.Need-returns Inv-loop μ-loop
+returns c =
+    let l = c .before .before .before .before .before .before .before .before .loop in
+    let stops = slots-stop (source (c .before .before .before .before .before .before .before .before .before .before .before .before)) _ _ (l .i) (l .at) (l .inv .4 .0) (c .before .before .before .before .before .before .before .loop-test .taken) (not-placed-told (c .before .before .before .before .before .read-slot .ensures) (c .before .n .given .1)) in
+    rw (sym (l .inv .4 .4) ∙ stops) (not-placed _)
+
+enum-known-c : tie.Need-enum-known-c Inv-loop μ-loop
+enum-known-c c = search needs
+
+add-i : tie.Need-add-i Inv-loop μ-loop
+add-i c = omega arith
+
+loop-less : tie.Need-loop-less Inv-loop μ-loop
+loop-less c = omega arith
+
+loop-again : tie.Need-loop-again Inv-loop μ-loop
+loop-again c =
+    let l = c .before .before .before .before .before .before .before .before .loop in
+    let a = c .before .before .before .before .before .before .before .before .before .before .before .before .args in
+    let u = l .inv .4 .0 in
+    let r = placed-told (c .before .before .before .before .before .read-slot .ensures) (c .before .c .given .1) in
+    let n = slot-near (source (c .before .before .before .before .before .before .before .before .before .before .before .before)) (a .words) (omega arith) (l .at) (r .1) in
+    let m = length-numbers (a .words) (r .0) in (
+      omega arith,
+      omega arith,
+      omega arith,
+      c .before .before .before .before .before .read-slot .kept .1 .1 .1 .1 .1 .0 ∙ l .inv .3,
+      (
+        u ++ (r .0 ∷ []),
+        simp length-append (omega arith),
+        rw (slot-more (a .words) u (r .0), length-append) (omega arith),
+        slot-stored (a .slots .now) (a .words) u (r .0) (l .inv .4 .2) (l .inv .4 .3) (r .3),
+        sym (slots-go-on (source (c .before .before .before .before .before .before .before .before .before .before .before .before)) _ _ (l .i) (l .at) u (c .before .before .before .before .before .before .before .loop-test .taken) (r .1)) ∙ l .inv .4 .4,
+      ),
+    )
+
+same-length-2 : tie.Need-same-length-2 Inv-loop μ-loop
+same-length-2 c = c .before .loop .inv .3
+
+returns-2 : tie.Need-returns-2 Inv-loop μ-loop
+returns-2 c =
+    let l = c .before .loop in
+    let a = c .before .before .before .before .before .args in
+    let u = l .inv .4 .0 in
+    let end = slots-end (source (c .before .before .before .before .before)) (a .words) (a .count) (l .i) (l .at) u (omega arith) in
+    rw (sym (l .inv .4 .4) ∙ end, l .inv .4 .2) (placed u (l .at) (l .inv .4 .3))
+
+pub read-slots-spec : {M : Type 1} → statement M
+read-slots-spec =
+    tie.close
+    (tie.spec
+    Inv-loop
+    μ-loop
+    loop-holds
+    read-slot-requires
+    enum-known-n
+    same-length
+    returns
+    enum-known-c
+    add-i
+    loop-less
+    loop-again
+    same-length-2
+    returns-2)
