@@ -6,9 +6,11 @@ use crate::entry_of;
 use crate::put_key;
 use arrays::number_at;
 use arrays::store;
+use arrays::wide;
 ghost use mathlib.Core.Path.{_≡_};
-ghost use Prim.Native.Nat.{_<_, _≤_};
-ghost use Rattle.chart_table.specs.Table.{none, waitingAt, waitingIn, putWaiting, moveWaiting, putCount, sooner, soonest, replaced, appended, settled, Sized};
+ghost use Prim.Native.Nat.{_+_, _<_, _≤_};
+ghost use lib.ListN.{length, getD};
+ghost use Rattle.chart_table.specs.Table.{entryOf, keyOf, none, waitingAt, waitingIn, putWaiting, moveWaiting, putCount, sooner, soonest, replaced, appended, settled, Sized};
 
 // The key of what waits at place y.
 fn waiting_at(t: &[u32], d: Dims, cell: usize, y: usize) -> usize
@@ -71,8 +73,8 @@ fn sooner(t: &[u32], d: Dims, cell: usize, x: usize, y: usize) -> usize
     }
 }
 
-// The place of the least key of the first m, 0 where none waits.
-fn soonest(t: &[u32], d: Dims, cell: usize, m: usize) -> usize
+// The place of the least key of the first m, 0 where none waits. A table may be too short: the reads are total.
+fn soonest_anywhere(t: &[u32], d: Dims, cell: usize, m: usize) -> usize
     requires { ⌜ (Sized d) × (cell < 8589934592) × (m ≤ 256) ⌝ }
     ensures { λ r. ⌜ (r ≡ soonest (now (t .entry)) d cell m) × (r ≤ 256) ⌝ }
 {
@@ -81,6 +83,46 @@ fn soonest(t: &[u32], d: Dims, cell: usize, m: usize) -> usize
         x = sooner(t, d, cell, x, y);
     }
     x
+}
+
+// The key beside the entry at an index, where that stands in the table.
+fn key_beside(t: &[u32], at: usize) -> usize
+    requires { ⌜ at + 3 < length (now t) ⌝ }
+    ensures { λ r. ⌜ r ≡ keyOf (getD (now (t .entry)) (at + 1) 0) (getD (now (t .entry)) (at + 3) 0) ⌝ }
+{
+    wide(t[at + 1]) * 536870912 + wide(t[at + 3])
+}
+
+// The place of the least key of the first m, at least one, where they stand in the table: each is read once, for the
+// least so far is carried beside its place.
+fn soonest_within(t: &[u32], d: Dims, cell: usize, m: usize) -> usize
+    requires { ⌜ (Sized d) × (cell < 8589934592) × (0 < m) × (m ≤ 256) × (entryOf d cell m + 3 < length (now t)) ⌝ }
+    ensures { λ r. ⌜ (r ≡ soonest (now (t .entry)) d cell m) × (r ≤ 256) ⌝ }
+{
+    let start = entry_of(d, cell, 1);
+    let mut x: usize = 0;
+    let mut best = key_beside(t, start);
+    for y in 1..m {
+        let key = key_beside(t, start + 4 * y);
+        if key < best {
+            best = key;
+            x = y;
+        }
+    }
+    x
+}
+
+// The place of the least key of the first m, 0 where none waits.
+fn soonest(t: &[u32], d: Dims, cell: usize, m: usize) -> usize
+    requires { ⌜ (Sized d) × (cell < 8589934592) × (m ≤ 256) ⌝ }
+    ensures { λ r. ⌜ (r ≡ soonest (now (t .entry)) d cell m) × (r ≤ 256) ⌝ }
+{
+    if 0 < m {
+        if entry_of(d, cell, m) + 3 < t.len() {
+            return soonest_within(t, d, cell, m);
+        }
+    }
+    soonest_anywhere(t, d, cell, m)
 }
 
 // Place y of m gets a key, or, where there is none, what waits last.

@@ -5,8 +5,8 @@ use Rattle.packing.specs.Loop.{iter}
 use Rattle.packing.proofs.Loop.{iter-more, iter-end}
 use Rattle.chart_table.specs.Table.{sooner, soonest}
 use borrow.Author.Needs.{needs}
-use Rattle.chart_table.proofs.waiting.soonest.Statement.{statement}
-use Rattle.chart_table.proofs.waiting.soonest.Tie as tie
+use Rattle.chart_table.proofs.waiting.soonest_anywhere.Statement.{statement}
+use Rattle.chart_table.proofs.waiting.soonest_anywhere.Tie as tie
 
 abbrev Inv-loop : tie.InvT-loop
 Inv-loop t d cell m x₀ y₀ x y = (y ≤ m) × (x ≤ 256) × (x ≡ iter (sooner t d cell) 0 y)
@@ -34,7 +34,7 @@ returns : tie.Need-returns Inv-loop μ-loop
 unfolding soonest
 returns c = (c .before .loop .inv .2 ∙ iter-end _ _ _ _ (c .before .loop .inv .0) (c .loop-test .left), c .before .loop .inv .1)
 
-pub soonest-spec : {M : Type 1} → statement M
-soonest-spec =
+pub soonest-anywhere-spec : {M : Type 1} → statement M
+soonest-anywhere-spec =
     tie.close
     (tie.spec Inv-loop μ-loop loop-holds sooner-requires add-y loop-less loop-again returns)
