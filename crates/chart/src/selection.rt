@@ -14,7 +14,8 @@ use packing::Sym;
 ghost use mathlib.Core.Path.{_≡_};
 ghost use Prim.Native.Nat.{_+_, _-_, _*_, _<_, _≤_};
 ghost use Rattle.packing.specs.Flat.{ruleAt};
-ghost use Rattle.chart_table.specs.Table.{Sized, Small, weightAt, tieOf, keyOf, ruleIn, splitIn, leftIn, rightIn};
+ghost use lib.ListN.{length};
+ghost use Rattle.chart_table.specs.Table.{Sized, Small, cellOf, entryOf, weightAt, tieOf, keyOf, ruleIn, splitIn, leftIn, rightIn};
 ghost use Rattle.chart.specs.Model.{lessOne, joinKey, lesser, wordLeaf, edgeLeaves, leavesOf, splitSeeds, ruleSeeds, seedsOf, followers, pairOther, baseOf, renewedOf, floorOf};
 
 // A tie: rule, split, and the ranks of the parts; of a leaf the rule, 0, the edge, 0.
@@ -161,8 +162,63 @@ fn leaves(
     so_far
 }
 
-// The best so far and the first with the first of a pair rule's parts, for each split. The parts' entries go from split to
-// split by sums: no product stands in the way of the reads.
+// The best so far and the first with the first of a pair rule's parts, for each split.
+fn split_seeds_anywhere(
+    t: &[u32],
+    d: Dims,
+    b: Sym,
+    c: Sym,
+    w: u32,
+    r: usize,
+    i: usize,
+    k: usize,
+    floor: usize,
+    best: usize,
+) -> usize
+    requires { ⌜ (Small d i k) × (r < 4294967296) ⌝ }
+    ensures { λ x. ⌜ x ≡ splitSeeds (now (t .entry)) d b c w r i k floor best ⌝ }
+{
+    let mut so_far = best;
+    for j in i + 1..k {
+        let left = cell_of(d, b, i, j);
+        let right = cell_of(d, c, j, k);
+        so_far = lesser(floor, so_far, pair_key(t, d, left, right, w, r, j, 0, 0));
+    }
+    so_far
+}
+
+// The same in a table that is long enough for the last split. The parts' entries go from split to split by sums, so that no
+// product stands in the way of the reads, and the reads need no test.
+fn split_seeds_within(
+    t: &[u32],
+    d: Dims,
+    b: Sym,
+    c: Sym,
+    w: u32,
+    r: usize,
+    i: usize,
+    k: usize,
+    floor: usize,
+    best: usize,
+) -> usize
+    requires { ⌜ (Small d i k) × (r < 4294967296) ⌝ }
+    requires { ⌜ (entryOf d (cellOf d b i (k - 1)) 0 < length (now t)) × (entryOf d (cellOf d c (k - 1) k) 0 < length (now t)) ⌝ }
+    ensures { λ x. ⌜ x ≡ splitSeeds (now (t .entry)) d b c w r i k floor best ⌝ }
+{
+    let step = d.symbols * 4;
+    let mut x = entry_of(d, cell_of(d, b, i, i + 1), 0);
+    let mut y = entry_of(d, cell_of(d, c, i + 1, k), 0);
+    let mut so_far = best;
+    for j in i + 1..k {
+        let key = join_key(w, t[x], t[y], tie_of(r, j, 0, 0));
+        so_far = lesser(floor, so_far, key);
+        x = x + step * j;
+        y = y + step;
+    }
+    so_far
+}
+
+// The same: no part's entry stands behind that of the last split.
 fn split_seeds(
     t: &[u32],
     d: Dims,
@@ -178,17 +234,16 @@ fn split_seeds(
     requires { ⌜ (Small d i k) × (r < 4294967296) ⌝ }
     ensures { λ x. ⌜ x ≡ splitSeeds (now (t .entry)) d b c w r i k floor best ⌝ }
 {
-    let step = d.symbols * 4;
-    let mut x = entry_of(d, cell_of(d, b, i, i + 1), 0);
-    let mut y = entry_of(d, cell_of(d, c, i + 1, k), 0);
-    let mut so_far = best;
-    for j in i + 1..k {
-        let key = join_key(w, narrow_at(t, x), narrow_at(t, y), tie_of(r, j, 0, 0));
-        so_far = lesser(floor, so_far, key);
-        x = x + step * j;
-        y = y + step;
+    if i + 1 < k {
+        let left = entry_of(d, cell_of(d, b, i, k - 1), 0);
+        let right = entry_of(d, cell_of(d, c, k - 1, k), 0);
+        if left < t.len() {
+            if right < t.len() {
+                return split_seeds_within(t, d, b, c, w, r, i, k, floor, best);
+            }
+        }
     }
-    so_far
+    split_seeds_anywhere(t, d, b, c, w, r, i, k, floor, best)
 }
 
 // The same for rule r, if it is a pair rule.

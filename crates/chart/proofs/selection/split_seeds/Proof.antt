@@ -1,108 +1,53 @@
--- The loop is the iteration over the splits, with the parts' first entries as Splits has them.
-use Prim.Native.Nat.{_≤_, _-_, _+_, _*_}
-use mathlib.Core.Path.{refl, _∙_}
-use native.Mathlib.Omega.{arith}
-use Rattle.packing.proofs.Loop.{iter-end}
-use Rattle.chart.specs.Model.{splitSeeds}
-use Rattle.chart.proofs.Splits.{step-small, Kept, at-first, at-next}
+-- Where the entries of the last split stand in the table, so do those of the others.
 use borrow.Author.Needs.{needs}
 use Rattle.chart.proofs.selection.split_seeds.Statement.{statement}
 use Rattle.chart.proofs.selection.split_seeds.Tie as tie
 
-abbrev Inv-loop : tie.InvT-loop
-Inv-loop t w r i k floor best step x₀ y₀ so-far₀ j₀ x y so-far j = (i + 1 ≤ j) × (j - (i + 1) ≤ k - (i + 1)) × (x ≤ 17592186044416 + 4096 * j) × (y ≤ 17592186044416 + 4096 * j) × Kept t w r i k floor best step x₀ y₀ j x y so-far
+add-if1 : tie.Need-add-if1
+add-if1 c = search needs
 
-abbrev μ-loop : tie.MeasureT-loop
-μ-loop t w r i k floor best step x₀ y₀ so-far₀ j₀ x y so-far j = k - j
+sub-cell-of : tie.Need-sub-cell-of
+sub-cell-of c = search needs
 
-mul-step : tie.Need-mul-step Inv-loop μ-loop
-mul-step c = search needs
-
-add-cell-of : tie.Need-add-cell-of Inv-loop μ-loop
-add-cell-of c = search needs
-
-cell-of-requires : tie.Need-cell-of-requires Inv-loop μ-loop
+cell-of-requires : tie.Need-cell-of-requires
 cell-of-requires c κs = search needs
 
-entry-of-requires : tie.Need-entry-of-requires Inv-loop μ-loop
+entry-of-requires : tie.Need-entry-of-requires
 entry-of-requires c κs = search needs
 
-add-cell-of-2 : tie.Need-add-cell-of-2 Inv-loop μ-loop
-add-cell-of-2 c = search needs
+sub-cell-of-2 : tie.Need-sub-cell-of-2
+sub-cell-of-2 c = search needs
 
-cell-of-requires-2 : tie.Need-cell-of-requires-2 Inv-loop μ-loop
+cell-of-requires-2 : tie.Need-cell-of-requires-2
 cell-of-requires-2 c κs = search needs
 
-entry-of-requires-2 : tie.Need-entry-of-requires-2 Inv-loop μ-loop
+entry-of-requires-2 : tie.Need-entry-of-requires-2
 entry-of-requires-2 c κs = search needs
 
-add-j : tie.Need-add-j Inv-loop μ-loop
-add-j c = search needs
+split-seeds-within-requires : tie.Need-split-seeds-within-requires
+split-seeds-within-requires c κs = (c .before .before .before .before .before .before .before .before .pre, (rw (← c .before .before .before .before .before .cell-of .ensures .0, ← c .before .before .before .before .entry-of .ensures .0) (search needs), rw (← c .before .before .before .cell-of2 .ensures .0, ← c .before .before .entry-of2 .ensures .0) (search needs)))
 
-loop-holds : tie.Need-loop-holds Inv-loop μ-loop
-loop-holds c = (search needs, search needs, search needs, search needs, at-first _ _ _ _ _ _ _ _ _ _)
+returns : tie.Need-returns
+returns c = search needs
 
-narrow-at-requires : tie.Need-narrow-at-requires Inv-loop μ-loop
-narrow-at-requires c κs = search needs
+split-seeds-anywhere-requires : tie.Need-split-seeds-anywhere-requires
+split-seeds-anywhere-requires c κs = search needs
 
-narrow-at-requires-2 : tie.Need-narrow-at-requires-2 Inv-loop μ-loop
-narrow-at-requires-2 c κs = search needs
-
-tie-of-requires : tie.Need-tie-of-requires Inv-loop μ-loop
-tie-of-requires c κs = search needs
-
-join-key-requires : tie.Need-join-key-requires Inv-loop μ-loop
-join-key-requires c κs = search needs
-
-lesser-requires : tie.Need-lesser-requires Inv-loop μ-loop
-lesser-requires c κs = search needs
-
-mul-x : tie.Need-mul-x Inv-loop μ-loop
-mul-x c = omega (arith, step-small (c .before .before .before .before .before .before .before .before .before .before .before .before .before .args .d .symbols) (c .before .before .before .before .before .before .loop .j) (search needs) (search needs))
-
-add-x : tie.Need-add-x Inv-loop μ-loop
-add-x c = omega (arith, step-small (c .before .before .before .before .before .before .before .before .before .before .before .before .before .args .d .symbols) (c .before .before .before .before .before .before .loop .j) (search needs) (search needs), c .before .before .before .before .before .before .loop .inv .2)
-
-add-y : tie.Need-add-y Inv-loop μ-loop
-add-y c = search needs
-
-add-j-2 : tie.Need-add-j-2 Inv-loop μ-loop
-add-j-2 c = search needs
-
-loop-less : tie.Need-loop-less Inv-loop μ-loop
-loop-less c = search needs
-
-loop-again : tie.Need-loop-again Inv-loop μ-loop
-loop-again c = let h = c .before .before .before .before .before .before .loop .inv .0 in (search needs, search needs, omega (arith, step-small (c .before .before .before .before .before .before .before .before .before .before .before .before .before .args .d .symbols) (c .before .before .before .before .before .before .loop .j) (search needs) (search needs), c .before .before .before .before .before .before .loop .inv .2), search needs, rw (c .lesser .ensures, c .before .join-key .ensures, c .before .before .tie-of .ensures .0, c .before .before .before .narrow-at2 .ensures, c .before .before .before .before .narrow-at .ensures) (at-next _ _ _ _ _ _ _ _ _ _ _ _ _ _ h (c .before .before .before .before .before .before .loop .inv .4)))
-
-returns : tie.Need-returns Inv-loop μ-loop
-unfolding splitSeeds
-returns c = c .before .loop .inv .4 _ _ _ (record { kept = c .before .before .before .before .before .before .before .before .pre .0 .sized .kept; apart = refl; left = rw (← c .before .before .before .before .before .cell-of .ensures .0) (c .before .before .before .before .entry-of .ensures .0); right = rw (← c .before .before .before .cell-of2 .ensures .0) (c .before .before .entry-of2 .ensures .0) }) .seeds ∙ iter-end _ _ _ _ (c .before .loop .inv .1) (omega arith)
+returns-2 : tie.Need-returns-2
+returns-2 c = search needs
 
 pub split-seeds-spec : {M : Type 1} → statement M
 split-seeds-spec =
     tie.close
     (tie.spec
-    Inv-loop
-    μ-loop
-    mul-step
-    add-cell-of
+    add-if1
+    sub-cell-of
     cell-of-requires
     entry-of-requires
-    add-cell-of-2
+    sub-cell-of-2
     cell-of-requires-2
     entry-of-requires-2
-    add-j
-    loop-holds
-    narrow-at-requires
-    narrow-at-requires-2
-    tie-of-requires
-    join-key-requires
-    lesser-requires
-    mul-x
-    add-x
-    add-y
-    add-j-2
-    loop-less
-    loop-again
-    returns)
+    split-seeds-within-requires
+    returns
+    split-seeds-anywhere-requires
+    returns-2)
