@@ -1,7 +1,7 @@
 -- The loop over the splits of a span: where the first entries of the two parts stand at split j, and the best so far. The loop
 -- itself knows only where they stand at the first split and by how much they go on, so what it keeps is said of every layout
 -- and every two heads that it can have begun with.
-use mathlib.Core.Path.{_≡_, sym}
+use mathlib.Core.Path.{_≡_, sym, _∙_}
 use mathlib.Core.List.{List}
 use Prim.Native.Nat.{ℕ, zero, suc, _+_, _-_, _*_, _≤_, _<_}
 use native.Mathlib.Nat.{mul-le-mul}
@@ -62,8 +62,8 @@ module _ (t : List ℕ) (w r i k floor best step x₀ y₀ : ℕ) where
   abbrev pub Kept : ℕ → ℕ → ℕ → ℕ → Type 0
   Kept j x y so-far = (d : Dims) (b c : Sym) → From d b c → At j x y so-far d b c
 
-  pub at-first : Kept (i + 1) x₀ y₀ best
-  at-first d b c f = record { left = f .left; right = f .right; seeds = sym (from-none _ _ _) }
+  pub at-first : (so-far : ℕ) → so-far ≡ best → Kept (i + 1) x₀ y₀ so-far
+  at-first so-far e d b c f = record { left = f .left; right = f .right; seeds = e ∙ sym (from-none _ _ _) }
 
   pub at-next : (j x y so-far : ℕ) → i + 1 ≤ j → Kept j x y so-far
       → Kept (j + 1) (x + step * j) (y + step) (lesser floor so-far (joinKey w (getD t x 0) (getD t y 0) (tieOf r j 0 0)))

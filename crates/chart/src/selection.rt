@@ -12,7 +12,7 @@ use chart_table::weight_at;
 use packing::Rule;
 use packing::Sym;
 ghost use mathlib.Core.Path.{_≡_};
-ghost use Prim.Native.Nat.{_+_, _-_, _*_, _<_, _≤_};
+ghost use Prim.Native.Nat.{_+_, _-_, _*_, _^_, _<_, _≤_};
 ghost use Rattle.packing.specs.Flat.{ruleAt};
 ghost use lib.ListN.{length};
 ghost use Rattle.chart_table.specs.Table.{Sized, Small, cellOf, entryOf, weightAt, tieOf, keyOf, ruleIn, splitIn, leftIn, rightIn};
@@ -61,6 +61,16 @@ fn lesser(floor: usize, best: usize, key: usize) -> usize
     } else {
         best
     }
+}
+
+// The same by heights above the floor: of height h is the key h + floor + 1. A key that is not above the floor wraps round to
+// a height that is too great, so that one test decides.
+fn lesser_height(floor: usize, height: usize, key: usize) -> usize
+    requires { ⌜ height + (floor + 1) < 2 ^ 64 ⌝ }
+    ensures { λ x. ⌜ (x + (floor + 1) ≡ lesser floor (height + (floor + 1)) key) × (x ≤ height) ⌝ }
+{
+    let other = std::num::wrapping_sub_usize(key, floor + 1);
+    if other < height { other } else { height }
 }
 
 // The key of the tree joined from rank p of the left part and rank q of the right, given by their cells.
@@ -187,8 +197,8 @@ fn split_seeds_anywhere(
     so_far
 }
 
-// The same in a table that is long enough for the last split. The parts' entries go from split to split by sums, so that no
-// product stands in the way of the reads, and the reads need no test.
+// The same where the best is above the floor and the table long enough for the last split. The parts' entries go from split
+// to split by sums, so that no product stands in the way of the reads, and the reads need no test.
 fn split_seeds_within(
     t: &[u32],
     d: Dims,
@@ -202,20 +212,20 @@ fn split_seeds_within(
     best: usize,
 ) -> usize
     requires { ⌜ (Small d i k) × (r < 4294967296) ⌝ }
-    requires { ⌜ (entryOf d (cellOf d b i (k - 1)) 0 < length (now t)) × (entryOf d (cellOf d c (k - 1) k) 0 < length (now t)) ⌝ }
+    requires { ⌜ (floor < best) × (entryOf d (cellOf d b i (k - 1)) 0 < length (now t)) × (entryOf d (cellOf d c (k - 1) k) 0 < length (now t)) ⌝ }
     ensures { λ x. ⌜ x ≡ splitSeeds (now (t .entry)) d b c w r i k floor best ⌝ }
 {
     let step = d.symbols * 4;
     let mut x = entry_of(d, cell_of(d, b, i, i + 1), 0);
     let mut y = entry_of(d, cell_of(d, c, i + 1, k), 0);
-    let mut so_far = best;
+    let mut height = best - (floor + 1);
     for j in i + 1..k {
         let key = join_key(w, t[x], t[y], tie_of(r, j, 0, 0));
-        so_far = lesser(floor, so_far, key);
+        height = lesser_height(floor, height, key);
         x = x + step * j;
         y = y + step;
     }
-    so_far
+    height + (floor + 1)
 }
 
 // The same: no part's entry stands behind that of the last split.
@@ -239,7 +249,9 @@ fn split_seeds(
         let right = entry_of(d, cell_of(d, c, k - 1, k), 0);
         if left < t.len() {
             if right < t.len() {
-                return split_seeds_within(t, d, b, c, w, r, i, k, floor, best);
+                if floor < best {
+                    return split_seeds_within(t, d, b, c, w, r, i, k, floor, best);
+                }
             }
         }
     }

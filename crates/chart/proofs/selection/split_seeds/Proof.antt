@@ -25,7 +25,7 @@ entry-of-requires-2 : tie.Need-entry-of-requires-2
 entry-of-requires-2 c κs = search needs
 
 split-seeds-within-requires : tie.Need-split-seeds-within-requires
-split-seeds-within-requires c κs = (c .before .before .before .before .before .before .before .before .pre, (rw (← c .before .before .before .before .before .cell-of .ensures .0, ← c .before .before .before .before .entry-of .ensures .0) (search needs), rw (← c .before .before .before .cell-of2 .ensures .0, ← c .before .before .entry-of2 .ensures .0) (search needs)))
+split-seeds-within-requires c κs = (c .before .before .before .before .before .before .before .before .before .pre, (search needs, rw (← c .before .before .before .before .before .before .cell-of .ensures .0, ← c .before .before .before .before .before .entry-of .ensures .0) (search needs), rw (← c .before .before .before .before .cell-of2 .ensures .0, ← c .before .before .before .entry-of2 .ensures .0) (search needs)))
 
 returns : tie.Need-returns
 returns c = search needs
