@@ -1,6 +1,8 @@
--- What the proofs of several functions use.
+-- What the proofs of functions use.
 pub mod Extended
 pub mod Stores
+pub mod Spelling
+pub mod Later
 -- What a good table holds, and what waits in it.
 pub mod Keys
 pub mod Entries
