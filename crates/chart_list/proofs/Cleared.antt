@@ -1,25 +1,25 @@
--- Clearing the entries of the ranks found leaves a good table all zeros: what is not 0 stands in such an entry, and the ranks of
--- a cell are found one after another, so that the count of them from the first on meets them all.
+-- Clearing the entries of each cell's ranks up to the last found leaves a good table all zeros: what is not 0 stands in the entry
+-- of a found rank.
 use mathlib.Core.Path.{_≡_, refl, ap, _∙_}
 use mathlib.Core.Logic.{_⊎_, inl, inr, ⊎-elim}
 use mathlib.Core.Bool.{Bool, true, false}
 use mathlib.Core.List.{List, [], _∷_}
-use Prim.Native.Nat.{ℕ, zero, suc, _+_, _*_, _≤_, _<_}
+use Prim.Native.Nat.{ℕ, suc, _+_, _*_, _≤_, _<_}
 use native.Mathlib.Nat.{eq-or-lt-of-le, le-refl}
 use native.Mathlib.Decide.{ℕ-discrete, decLt, decLe}
 use native.Mathlib.Omega.{arith}
 use lib.ListN.{length, getD, set, replicate, length-set}
 use lib.Seq.{getD-set-same, getD-set-other}
-use lib.Dec.{eqb}
-use borrow.Author.Tests.{eqb-true}
+use lib.Dec.{ltb}
+use borrow.Author.Tests.{ltb-true}
 use Rattle.bits.specs.Bits.{pick}
 use Rattle.packing.proofs.Loop.{iter-keeps}
 use Rattle.packing.specs.Meaning.{Grammar, Edge}
 use Rattle.chart_table.specs.declared.Dims.{Dims}
-use Rattle.chart_table.specs.Table.{cellOf, entryOf, weightAt, runOf, clearedEntry, clearedCell, cleared}
+use Rattle.chart_table.specs.Table.{cellOf, entryOf, lastIn, ranksIn, clearedEntry, clearedCell, cleared}
 use Rattle.chart_list.proofs.Entries.{cell-below, entry-one, entry-four, entry-within, under-cap}
 use Rattle.chart_list.proofs.Settled.{InEntry}
-use Rattle.chart_list.proofs.Good.{Setting, Good, all-below}
+use Rattle.chart_list.proofs.Good.{Setting, Good}
 
 -- a list of zeros
 all-zeros : (l : List ℕ) → ((y : ℕ) → getD l y 0 ≡ 0) → l ≡ replicate (length l) 0
@@ -33,40 +33,23 @@ all-zeros (x ∷ l) zeros =
 one-entry : (d : Dims) (c x c′ x′ z : ℕ) → InEntry d c x z → InEntry d c′ x′ z → entryOf d c x ≡ entryOf d c′ x′
 one-entry d c x c′ x′ z b b′ = omega (arith, b .0, b .1, b′ .0, b′ .1, entry-four d c x, entry-four d c′ x′)
 
--- the count of ranks found from x on reaches all that are found one after another
+-- the ranks to clear are those up to the last found, of those kept
 module _ (t : List ℕ) (d : Dims) (c : ℕ) where
-  run-above : (more x : ℕ) → x ≤ runOf t d c x more
-  unfolding runOf
-  run-above zero x = le-refl x
-  run-above (suc more) x = go (eqb (weightAt t d c x) 0) (run-above more (x + 1))
+  ranks-below : ranksIn t d c ≤ d .cap
+  unfolding ranksIn
+  ranks-below = go (ltb (lastIn t d c) (d .cap)) refl
     where
-      go : (b : Bool) → x + 1 ≤ runOf t d c (x + 1) more → x ≤ pick b x (runOf t d c (x + 1) more)
-      go true h = le-refl x
-      go false h = omega arith
+      go : (b : Bool) → ltb (lastIn t d c) (d .cap) ≡ b → pick b (lastIn t d c + 1) (d .cap) ≤ d .cap
+      go true e = omega (arith, ltb-true (lastIn t d c) (d .cap) e)
+      go false e = le-refl (d .cap)
 
-  run-below : (more x : ℕ) → runOf t d c x more ≤ x + more
-  unfolding runOf
-  run-below zero x = omega arith
-  run-below (suc more) x = go (eqb (weightAt t d c x) 0) (run-below more (x + 1))
+  ranks-reach : (x : ℕ) → x < d .cap → x ≤ lastIn t d c → x < ranksIn t d c
+  unfolding ranksIn
+  ranks-reach x l h = go (ltb (lastIn t d c) (d .cap))
     where
-      go : (b : Bool) → runOf t d c (x + 1) more ≤ x + 1 + more → pick b x (runOf t d c (x + 1) more) ≤ x + suc more
-      go true h = omega arith
-      go false h = omega arith
-
-  run-reaches : (more x y : ℕ) → x ≤ y → y < x + more → ((z : ℕ) → z ≤ y → 0 < weightAt t d c z) → y < runOf t d c x more
-  unfolding runOf
-  run-reaches zero x y h l found = absurd (omega arith)
-  run-reaches (suc more) x y h l found =
-      go (eqb (weightAt t d c x) 0) refl (λ less. run-reaches more (x + 1) y (omega arith) (omega arith) found)
-    where
-      next : Dec (x < y) → (x < y → y < runOf t d c (x + 1) more) → y < runOf t d c (x + 1) more
-      next (yes less) further = further less
-      next (no same) further = omega (arith, run-above more (x + 1))
-
-      go : (b : Bool) → eqb (weightAt t d c x) 0 ≡ b → (x < y → y < runOf t d c (x + 1) more)
-          → y < pick b x (runOf t d c (x + 1) more)
-      go true e further = absurd (omega (arith, eqb-true (weightAt t d c x) 0 e, found x h))
-      go false e further = next (decLt x y) further
+      go : (b : Bool) → x < pick b (lastIn t d c + 1) (d .cap)
+      go true = omega arith
+      go false = l
 
 -- one entry cleared
 module _ (t : List ℕ) (d : Dims) (c x : ℕ) (room : entryOf d c x + 4 ≤ length t) where
@@ -132,13 +115,13 @@ module _ (d : Dims) (len : ℕ) (room : 4 * (d .cells * d .cap) ≤ len) where
     either : (z : ℕ) → (getD u z 0 ≡ 0) ⊎ (getD u z 0 ≡ getD t z 0)
 
   entries-cleared : (t : List ℕ) (c : ℕ) → length t ≡ len → c < d .cells
-      → Entries t c (runOf t d c 0 (d .cap)) (clearedCell t d c)
+      → Entries t c (ranksIn t d c) (clearedCell t d c)
   unfolding clearedCell
   entries-cleared t c size below =
-      iter-keeps (Entries t c) (λ u x. clearedEntry u d c x) t (runOf t d c 0 (d .cap))
+      iter-keeps (Entries t c) (λ u x. clearedEntry u d c x) t (ranksIn t d c)
       (record { size = size; hit = λ y z h. absurd (omega arith); miss = λ z out. refl; either = λ z. inr refl }) step
     where
-      step : (x : ℕ) (u : List ℕ) → x < runOf t d c 0 (d .cap) → Entries t c x u → Entries t c (suc x) (clearedEntry u d c x)
+      step : (x : ℕ) (u : List ℕ) → x < ranksIn t d c → Entries t c x u → Entries t c (suc x) (clearedEntry u d c x)
       step x u l entries = record {
         size = entry-size u d c x here ∙ entries .size;
         hit = λ y z h b. by-entry y z h b (inside z);
@@ -147,7 +130,7 @@ module _ (d : Dims) (len : ℕ) (room : 4 * (d .cells * d .cap) ≤ len) where
       }
         where
           kept : x < d .cap
-          kept = omega (arith, run-below t d c (d .cap) 0)
+          kept = omega (arith, ranks-below t d c)
 
           here : entryOf d c x + 4 ≤ length u
           here = entry-room c x below kept u (entries .size)
@@ -176,13 +159,13 @@ module _ (d : Dims) (len : ℕ) (room : 4 * (d .cells * d .cap) ≤ len) where
   -- the first c cells cleared
   record Cells (t : List ℕ) (c : ℕ) (u : List ℕ) : Type 0 where
     size : length u ≡ len
-    hit : (b x z : ℕ) → b < c → x < d .cap → ((y : ℕ) → y ≤ x → 0 < weightAt t d b y) → InEntry d b x z → getD u z 0 ≡ 0
+    hit : (b x z : ℕ) → b < c → x < d .cap → x ≤ lastIn t d b → InEntry d b x z → getD u z 0 ≡ 0
     later : (b x z : ℕ) → c ≤ b → b < d .cells → x < d .cap → InEntry d b x z → getD u z 0 ≡ getD t z 0
     either : (z : ℕ) → (getD u z 0 ≡ 0) ⊎ (getD u z 0 ≡ getD t z 0)
 
-  cells-cleared : (t : List ℕ) → length t ≡ len → Cells t (d .cells) (cleared t d)
-  unfolding cleared weightAt
-  cells-cleared t size =
+  cells-cleared : (t : List ℕ) → length t ≡ len → 0 < d .cap → Cells t (d .cells) (cleared t d)
+  unfolding cleared lastIn
+  cells-cleared t size kept =
       iter-keeps (Cells t) (λ u c. clearedCell u d c) t (d .cells)
       (record {
         size = size;
@@ -197,30 +180,26 @@ module _ (d : Dims) (len : ℕ) (room : 4 * (d .cells * d .cap) ≤ len) where
         size = entries .size;
         hit = hit;
         later = λ b x z h below l′ in-entry. entries .miss z (λ y h′ in-c.
-            let (e, _) = entry-one d c y b x l below (omega (arith, run-below u d c (d .cap) 0)) l′ (one-entry d c y b x z in-c in-entry) in
+            let (e, _) = entry-one d c y b x l below (omega (arith, ranks-below u d c)) l′ (one-entry d c y b x z in-c in-entry) in
             omega arith)
             ∙ cells .later b x z (omega arith) below l′ in-entry;
         either = λ z. ⊎-elim inl (λ e. ⊎-elim (λ e′. inl (e ∙ e′)) (λ e′. inr (e ∙ e′)) (cells .either z)) (entries .either z);
       }
         where
-          entries : Entries u c (runOf u d c 0 (d .cap)) (clearedCell u d c)
+          entries : Entries u c (ranksIn u d c) (clearedCell u d c)
           entries = entries-cleared u c (cells .size) l
 
           -- the cell was as it is in t
-          same-weight : (y : ℕ) → y < d .cap → weightAt u d c y ≡ weightAt t d c y
-          same-weight y h = rw (cells .later c y (entryOf d c y) (le-refl c) l h (omega arith, omega arith))
+          same-last : lastIn u d c ≡ lastIn t d c
+          same-last = cells .later c 0 (entryOf d c 0 + 3) (le-refl c) l kept (omega arith, omega arith)
 
-          hit : (b x z : ℕ) → b < suc c → x < d .cap → ((y : ℕ) → y ≤ x → 0 < weightAt t d b y) → InEntry d b x z
-              → getD (clearedCell u d c) z 0 ≡ 0
-          hit b x z h l′ found in-entry =
+          hit : (b x z : ℕ) → b < suc c → x < d .cap → x ≤ lastIn t d b → InEntry d b x z → getD (clearedCell u d c) z 0 ≡ 0
+          hit b x z h l′ le in-entry =
               ⊎-elim
               (λ e.
               let in-c : InEntry d c x z = rw e at in-entry in
-              entries .hit x z
-              (run-reaches u d c (d .cap) 0 x (omega arith) (omega arith) (λ y le.
-              rw (same-weight y (omega arith)) (rw e at (found y le)))) in-c)
-              (λ less.
-              ⊎-elim (λ e. e) (λ e. e ∙ cells .hit b x z less l′ found in-entry) (entries .either z))
+              entries .hit x z (ranks-reach u d c x l′ (rw same-last (rw e at le))) in-c)
+              (λ less. ⊎-elim (λ e. e) (λ e. e ∙ cells .hit b x z less l′ le in-entry) (entries .either z))
               (eq-or-lt-of-le {n = b} {m = c} (omega arith))
 
 -- a good table cleared
@@ -230,7 +209,7 @@ module _ {g : Grammar} {es : List Edge} {rules edges index : List ℕ} {d : Dims
   good-cleared = all-zeros (cleared t d) zeros ∙ rw (cells .size)
     where
       cells : Cells d (length t) (good .room) t (d .cells) (cleared t d)
-      cells = cells-cleared d (length t) (good .room) t refl
+      cells = cells-cleared d (length t) (good .room) t refl (s .kept)
 
       zeros : (z : ℕ) → getD (cleared t d) z 0 ≡ 0
       zeros z = ⊎-elim (λ e. e) (λ e. go e (decLt 0 (getD t z 0))) (cells .either z)
@@ -239,5 +218,5 @@ module _ {g : Grammar} {es : List Edge} {rules edges index : List ℕ} {d : Dims
           go e (no h) = omega (arith, e)
           go e (yes h) =
               let (a, i, k, x, cell, found, in-entry) = good .tidy z h in
-              cells .hit (cellOf d a i k) x z (cell-below d n (s .planned) cell) (under-cap t d _ x found) (λ y le.
-              all-below good a i k x y cell le found) in-entry
+              cells .hit (cellOf d a i k) x z (cell-below d n (s .planned) cell) (under-cap t d _ x found)
+              (good .last a i k x cell found) in-entry

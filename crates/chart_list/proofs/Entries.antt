@@ -1,6 +1,5 @@
 -- No two entries share a number, and each lies within the table: a cell is a number in the base of the symbols, an entry one
--- in the base of the ranks, and the spans that end before place k come before those that end there. So a store of one entry
--- leaves all others.
+-- in the base of the ranks, and the spans that end before place k come before those that end there.
 use mathlib.Core.Path.{_≡_, refl, sym, ap, _∙_, subst}
 use mathlib.Core.Logic.{⊎-elim, _≢_}
 use mathlib.Core.Bool.{false}
@@ -10,16 +9,14 @@ use native.Mathlib.Nat.{eq-or-lt-of-le, mul-suc, mul-comm, mul-le-mul-right}
 use native.Mathlib.Numerals.{add-one}
 use native.Mathlib.Decide.{decLe}
 use native.Mathlib.Omega.{arith}
-use lib.ListN.{length, set, length-set}
-use lib.Seq.{getD-set-same, getD-set-other}
 use lib.Arith.{digits-div, digits-mod, digits-lt}
 use lib.Dec.{eqb, eqb·suc-zero}
-use borrow.Author.Tests.{eqb-false, lt-ltb, le-ltb}
+use borrow.Author.Tests.{eqb-false, ne-eqb, lt-ltb, le-ltb}
 use Rattle.packing.specs.Meaning.{sym as symbol}
 use Rattle.packing.specs.declared.Sym.{Sym}
 use Rattle.chart_table.specs.declared.Dims.{Dims}
 use Rattle.chart_table.proofs.Cells.{spans, spans-suc}
-use Rattle.chart_table.specs.Table.{cellOf, entryOf, weightAt, tieAt, none, putKey}
+use Rattle.chart_table.specs.Table.{cellOf, entryOf, weightAt}
 
 -- a head over a span of n places
 pub record Cell (d : Dims) (n : ℕ) (a : Sym) (i k : ℕ) : Type 0 where
@@ -93,14 +90,16 @@ module _ (d : Dims) where
       let whole : d .cells * (d .cap - 1) + d .cells ≡ d .cells * d .cap = rw last at (sym (mul-suc (d .cells) (d .cap - 1))) in
       rw (eqb·suc-zero x) (omega arith)
 
-  -- the first number of an entry is never the third of one, since entries begin at multiples of 4
+  -- entries begin at multiples of 4
   pub entry-four : (c x : ℕ) → entryOf d c x % 4 ≡ 0
   unfolding entryOf
   entry-four c zero = omega arith
   entry-four c (suc x) = rw (eqb·suc-zero x) (omega arith)
 
-  entry-apart : (c x c′ x′ : ℕ) → entryOf d c x ≢ entryOf d c′ x′ + 2
-  entry-apart c x c′ x′ e = omega (arith, entry-four c x, entry-four c′ x′)
+  -- those of further ranks stand behind those of first ranks
+  pub entry-behind : (c c′ y : ℕ) → c < d .cells → entryOf d c′ (y + 1) ≢ entryOf d c 0
+  unfolding entryOf
+  entry-behind c c′ y h e = omega (arith, rw (ne-eqb (y + 1) 0 (λ z. omega arith)) at e)
 
 -- ranks past the cap are not kept
 pub past-cap : (t : List ℕ) (d : Dims) (c x : ℕ) → d .cap ≤ x → weightAt t d c x ≡ 0
@@ -122,56 +121,3 @@ pub same-entry : (t : List ℕ) (d : Dims) (c x c′ x′ : ℕ) → x < d .cap 
     → weightAt t d c x ≡ weightAt t d c′ x′
 unfolding weightAt
 same-entry t d c x c′ x′ l l′ e = rw (lt-ltb x (d .cap) l, lt-ltb x′ (d .cap) l′, e)
-
--- the store of a key that is none
-pub put-none : (t : List ℕ) (d : Dims) (c x key : ℕ) → none ≤ key → putKey t d c x key ≡ t
-unfolding putKey
-put-none t d c x key h = rw (le-ltb key none h)
-
--- what the store of a key changes, and what it leaves
-module _ (t : List ℕ) (d : Dims) (c x key : ℕ) (some : key < none) where
-  abbrev at : ℕ
-  at = entryOf d c x
-
-  abbrev weighed : List ℕ
-  weighed = set t at (key / 536870912)
-
-  pub put-is : putKey t d c x key ≡ set weighed (at + 2) (key % 536870912)
-  unfolding putKey
-  put-is = rw (lt-ltb key none some)
-
-  pub put-length : length (putKey t d c x key) ≡ length t
-  put-length = rw put-is (simp length-set)
-
-  module _ (room : entryOf d c x + 4 ≤ length t) where
-    pub put-weight : x < d .cap → weightAt (putKey t d c x key) d c x ≡ key / 536870912
-    unfolding weightAt
-    put-weight h =
-        rw (put-is, lt-ltb x (d .cap) h, getD-set-other weighed (at + 2) at (key % 536870912) 0 (λ e. omega arith))
-        (getD-set-same t at (key / 536870912) 0 (omega arith))
-
-    pub put-tie : tieAt (putKey t d c x key) d c x ≡ key % 536870912
-    unfolding tieAt
-    put-tie = rw put-is (getD-set-same weighed (at + 2) (key % 536870912) 0 (simp length-set (omega arith)))
-
-  module _ (c′ x′ : ℕ) (other : entryOf d c′ x′ ≢ entryOf d c x) where
-    abbrev there : ℕ
-    there = entryOf d c′ x′
-
-    pub put-weight-other : weightAt (putKey t d c x key) d c′ x′ ≡ weightAt t d c′ x′
-    unfolding weightAt
-    put-weight-other =
-        rw (
-          put-is,
-          getD-set-other weighed (at + 2) there (key % 536870912) 0 (entry-apart d c′ x′ c x),
-          getD-set-other t at there (key / 536870912) 0 other,
-        )
-
-    pub put-tie-other : tieAt (putKey t d c x key) d c′ x′ ≡ tieAt t d c′ x′
-    unfolding tieAt
-    put-tie-other =
-        rw (
-          put-is,
-          getD-set-other weighed (at + 2) (there + 2) (key % 536870912) 0 (λ e. other (omega arith)),
-          getD-set-other t at (there + 2) (key / 536870912) 0 (λ e. entry-apart d c x c′ x′ (sym e)),
-        )

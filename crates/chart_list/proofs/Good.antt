@@ -15,7 +15,7 @@ use Rattle.derivation.specs.Derivation.{At, Tree, Derives, weight}
 use Rattle.derivation.specs.List.{ranked}
 use Rattle.derivation.proofs.Rows.{Row, row, rowWeight, RowAt}
 use Rattle.chart_table.specs.declared.Dims.{Dims}
-use Rattle.chart_table.specs.Table.{cellOf, weightAt, tieAt, waitingAt, waitingIn}
+use Rattle.chart_table.specs.Table.{cellOf, weightAt, tieAt, lastIn, waitingAt, waitingIn}
 use Rattle.chart.specs.Model.{Indexed}
 use Rattle.chart_list.proofs.Keys.{rowTie, RowFits}
 use Rattle.chart_list.proofs.Entries.{Cell, Planned}
@@ -75,6 +75,7 @@ pub record Good (g : Grammar) (es : List Edge) (d : Dims) (n m : ℕ) (t : List 
       → Ahead g es d t a i k v
   pub tidy : (z : ℕ) → 0 < getD t z 0
       → (a : Sym) × (i : ℕ) × (k : ℕ) × (x : ℕ) × Cell d n a i k × Found d t a i k x × InEntry d (cellOf d a i k) x z
+  pub last : (a : Sym) (i k x : ℕ) → Cell d n a i k → Found d t a i k x → x ≤ lastIn t d (cellOf d a i k)
   pub empty : (a : Sym) (i k : ℕ) → Cell d n a i k → weightAt t d (cellOf d a i k) 0 ≡ 0 → waitingIn t d (cellOf d a i k) ≡ 0
   pub waits : (a : Sym) (i k x : ℕ) (v : Row) → Cell d n a i k → Found d t a i k x → suc x < d .cap
       → weightAt t d (cellOf d a i k) (suc x) ≡ 0 → RowAt g es a i k x v

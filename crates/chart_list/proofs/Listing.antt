@@ -52,6 +52,7 @@ module _ (d : Dims) (t : List ℕ) (zeros : Zeros t) where
     begun = λ a i k cell l. absurd (omega (arith, cell .order));
     ahead = λ a i k x v cell h. absurd (none-found _ (suc x) h);
     tidy = λ z h. absurd (omega (arith, zeros z));
+    last = λ a i k x cell h. absurd (none-found _ x h);
     empty = λ a i k cell e. none-waits (cellOf d a i k);
     waits = λ a i k x v cell h. absurd (none-found _ x h);
   }
@@ -118,6 +119,7 @@ module _ {g : Grammar} {es : List Edge} {rules edges index : List ℕ} {d : Dims
             (λ less. lengths .good .begun a i k cell less) (eq-or-lt-of-le {n = k - i} {m = len} (omega arith));
         ahead = lengths .good .ahead;
         tidy = lengths .good .tidy;
+        last = lengths .good .last;
         empty = lengths .good .empty;
         waits = lengths .good .waits;
       }

@@ -4,7 +4,7 @@ use mathlib.Core.Path.{_≡_, refl, sym, _∙_}
 use mathlib.Core.Logic.{_⊎_, inl, inr, ⊎-elim, _≢_}
 use mathlib.Core.List.{List}
 use Prim.Native.Nat.{ℕ, zero, suc, _+_, _-_, _≤_, _<_}
-use native.Mathlib.Nat.{eq-or-lt-of-le}
+use native.Mathlib.Nat.{eq-or-lt-of-le, le-trans}
 use native.Mathlib.Decide.{ℕ-discrete, decLt}
 use native.Mathlib.Omega.{arith}
 use lib.ListN.{length, getD}
@@ -12,9 +12,10 @@ use Rattle.packing.specs.declared.Sym.{Sym}
 use Rattle.packing.specs.Meaning.{Grammar, Edge}
 use Rattle.derivation.proofs.Rows.{Row, rowWeight, RowAt}
 use Rattle.chart_table.specs.declared.Dims.{Dims}
-use Rattle.chart_table.specs.Table.{none, cellOf, entryOf, weightAt, tieAt, waitingAt, waitingIn}
+use Rattle.chart_table.specs.Table.{none, cellOf, entryOf, weightAt, tieAt, lastIn, waitingAt, waitingIn}
 use Rattle.chart_list.proofs.Keys.{RowFits, rowKey, key-weight, key-tie, key-some}
-use Rattle.chart_list.proofs.Entries.{Cell, cell-below, cell-one, entry-one, entry-within, past-cap, same-entry, under-cap, put-weight, put-tie, put-weight-other, put-tie-other}
+use Rattle.chart_list.proofs.Entries.{Cell, cell-below, cell-one, entry-one, entry-within, past-cap, same-entry, under-cap}
+use Rattle.chart_list.proofs.Slots.{put-weight, put-tie, put-weight-other, put-tie-other}
 use Rattle.chart_list.proofs.Queue.{Queue, queue-kept}
 use Rattle.chart_list.proofs.Settled.{InEntry, Stored}
 use Rattle.chart_list.proofs.Good.{Setting, Found, Known, Parts, Ahead, Stands, Good, Grows, known-grows, parts-grow, ahead-grows, Grown}
@@ -143,6 +144,13 @@ module _ {g : Grammar} {es : List Edge} {rules edges index : List ℕ} {d : Dims
           (a, i, k, p, ready .cell, found, in-entry))
           (stored .within z)
 
+      -- no rank is found behind the last
+      last : (b : Sym) (x y p : ℕ) → Cell d n b x y → Found d u b x y p → p ≤ lastIn u d (cellOf d b x y)
+      last b x y p cell′ h =
+          ⊎-elim (λ e. rw (e .0, e .1, e .2, e .3) (stored .last))
+          (λ e. le-trans (ready .good .last b x y p cell′ (rw (e .0) at h)) (stored .lasts _ (inside cell′)))
+          (look b x y p cell′ (under-cap u d _ p h))
+
       -- what waits
       abbrev pub Waiting : (b : Sym) (x y p : ℕ) → Row → Type 0
       Waiting b x y p v′ =
@@ -196,6 +204,7 @@ module _ {g : Grammar} {es : List Edge} {rules edges index : List ℕ} {d : Dims
           begun = λ b x y cell′ l. known-grows g es d t u grows b x y 0 (ready .good .begun b x y cell′ l);
           ahead = ahead;
           tidy = tidy;
+          last = last;
           empty = empty-other;
           waits = waits;
         }

@@ -15,9 +15,9 @@ use borrow.Author.Tests.{ltb-true, ltb-false, le-ltb}
 use Rattle.bits.specs.Bits.{pick}
 use Rattle.packing.specs.Loop.{iter}
 use Rattle.chart_table.specs.declared.Dims.{Dims}
-use Rattle.chart_table.specs.Table.{entryOf, weightAt, tieAt, none, putKey, waitingAt, waitingIn, putWaiting, moveWaiting, putCount, sooner, soonest, replaced, appended, settled}
-use Rattle.chart_list.proofs.Entries.{entry-one, entry-within, put-none, put-is, put-length}
-use Rattle.chart_list.proofs.Slots.{put-waiting, put-count, paired, paired-length, paired-weight, paired-tie, paired-same, paired-other, paired-count, count-length, count-weight, count-tie, count-same, count-other, count-waiting}
+use Rattle.chart_table.specs.Table.{entryOf, weightAt, tieAt, none, lastIn, putKey, waitingAt, waitingIn, putWaiting, moveWaiting, putCount, sooner, soonest, replaced, appended, settled}
+use Rattle.chart_list.proofs.Entries.{entry-one, entry-within}
+use Rattle.chart_list.proofs.Slots.{last-cases, put-none, keyed, put-is, put-length, put-waiting, put-count, put-last, put-last-grows, paired, paired-length, paired-weight, paired-tie, paired-same, paired-other, paired-count, paired-last, count-length, count-weight, count-tie, count-same, count-other, count-waiting, count-last}
 use Rattle.chart_list.proofs.Queue.{Member, slot, low, high, Valid, keyIn, Arranged}
 use Rattle.chart_list.proofs.Arranged.{late-arranged, early-arranged, moved-arranged}
 
@@ -78,6 +78,8 @@ pub record Stored (t : List ℕ) (d : Dims) (cell c key : ℕ) (u : List ℕ) : 
   pub ties : (c′ x : ℕ) → tieAt u d c′ x ≡ tieAt (putKey t d cell c key) d c′ x
   pub counts : (c′ : ℕ) → c′ < d .cells → c′ ≢ cell → waitingIn u d c′ ≡ waitingIn t d c′
   pub others : (c′ y : ℕ) → c′ < d .cells → c′ ≢ cell → suc y < d .cap → waitingAt u d c′ y ≡ waitingAt t d c′ y
+  pub last : c ≤ lastIn u d cell
+  pub lasts : (c′ : ℕ) → c′ < d .cells → lastIn t d c′ ≤ lastIn u d c′
   pub within : (z : ℕ) → (getD u z 0 ≡ getD t z 0) ⊎ ((x : ℕ) × (x ≤ c) × InEntry d cell x z)
 
 module _ (t : List ℕ) (d : Dims) (cell c key : ℕ) (below : cell < d .cells) (kept : 0 < d .cap) where
@@ -87,22 +89,31 @@ module _ (t : List ℕ) (d : Dims) (cell c key : ℕ) (below : cell < d .cells) 
   apart-rank : (x x′ : ℕ) → x ≢ x′ → x < d .cap → x′ < d .cap → entryOf d cell x ≢ entryOf d cell x′
   apart-rank x x′ other l l′ e = other (entry-one d cell x cell x′ below below l l′ e .1)
 
-  pub stored-key : key < none → Stored t d cell c key (putKey t d cell c key)
-  stored-key some = record {
+  pub stored-key : 4 * (d .cells * d .cap) ≤ length t → key < none → Stored t d cell c key (putKey t d cell c key)
+  stored-key room some = record {
     size = put-length t d cell c key some;
     weights = λ c′ x. refl;
     ties = λ c′ x. refl;
     counts = λ c′ h other. put-count t d cell c key some c′;
-    others = λ c′ y h other l. put-waiting t d cell c key some c′ y;
-    within = λ z.
-        let first : entryOf d cell c + 0 ≡ entryOf d cell c = omega arith in
-        let weighed = set t (entryOf d cell c) (key / 536870912) in
-        rw (put-is t d cell c key some)
-        (⊎-elim
-        (λ e. ⊎-elim (λ e′. inl (e ∙ e′)) (λ b. inr (c, le-refl c, b))
-        (rw first at (set-within t d cell c 0 (key / 536870912) z (omega arith))))
-        (λ b. inr (c, le-refl c, b)) (set-within weighed d cell c 2 (key % 536870912) z (omega arith)));
+    others = λ c′ y h other l. put-waiting t d cell c key some below c′ y;
+    last = put-last t d cell c key some first-room;
+    lasts = λ c′ h. put-last-grows t d cell c key some first-room c′;
+    within = λ z. rw (put-is t d cell c key some)
+        (⊎-elim (λ e. rw (e .0) (⊎-elim (λ e′. tied z e′) (λ b. inr (0, omega arith, b)) (set-within (keyed t d cell c key) d cell 0 3 c z (omega arith))))
+        (λ e. rw (e .0) (tied z refl)) (last-cases (keyed t d cell c key) d cell c));
   }
+    where
+      first-room : entryOf d cell 0 + 4 ≤ length t
+      first-room = omega (arith, entry-within d cell 0 below kept)
+
+      tied : (z : ℕ) {w : ℕ} → w ≡ getD (keyed t d cell c key) z 0 → (w ≡ getD t z 0) ⊎ ((x : ℕ) × (x ≤ c) × InEntry d cell x z)
+      tied z e =
+          let first : entryOf d cell c + 0 ≡ entryOf d cell c = omega arith in
+          let weighed = set t (entryOf d cell c) (key / 536870912) in
+          ⊎-elim
+          (λ e′. ⊎-elim (λ e″. inl (e ∙ e′ ∙ e″)) (λ b. inr (c, le-refl c, b))
+          (rw first at (set-within t d cell c 0 (key / 536870912) z (omega arith))))
+          (λ b. inr (c, le-refl c, b)) (set-within weighed d cell c 2 (key % 536870912) z (omega arith))
 
   module _ {u : List ℕ} (st : Stored t d cell c key u) where
     -- in an entry of a rank up to c
@@ -119,6 +130,8 @@ module _ (t : List ℕ) (d : Dims) (cell c key : ℕ) (below : cell < d .cells) 
       counts = λ c′ h other. paired-count u d cell y v v′ c′ (apart c′ 0 (y + 1) h other kept (omega arith)) ∙ st .counts c′ h other;
       others = λ c′ z h other l′. paired-other u d cell y v v′ c′ z (apart c′ (z + 1) (y + 1) h other (omega arith) (omega arith))
           ∙ st .others c′ z h other l′;
+      last = rw (paired-last u d cell y v v′ cell below) (st .last);
+      lasts = λ c′ h. rw (paired-last u d cell y v v′ c′ h) (st .lasts c′ h);
       within = within-one (set u (entryOf d cell (y + 1) + 1) v) (y + 1) 3 v′ (omega arith) (omega arith)
           (within-one u (y + 1) 1 v (omega arith) (omega arith) (st .within));
     }
@@ -132,6 +145,8 @@ module _ (t : List ℕ) (d : Dims) (cell c key : ℕ) (below : cell < d .cells) 
       counts = λ c′ h other. count-other u d cell m c′ (apart c′ 0 0 h other kept kept) ∙ st .counts c′ h other;
       others = λ c′ y h other l. count-waiting u d cell m c′ y (apart c′ (y + 1) 0 h other (omega arith) kept)
           ∙ st .others c′ y h other l;
+      last = rw (count-last u d cell m cell) (st .last);
+      lasts = λ c′ h. rw (count-last u d cell m c′) (st .lasts c′ h);
       within = within-one u 0 1 m (omega arith) (omega arith) (st .within);
     }
 
@@ -229,13 +244,13 @@ module _ (t : List ℕ) (d : Dims) (cell c lo hi : ℕ) (below : cell < d .cells
     v = putKey t d cell c key
 
     stored : Stored t d cell c key v
-    stored = stored-key t d cell c key below some-kept some
+    stored = stored-key t d cell c key below some-kept room some
 
     counted : waitingIn v d cell ≡ m
     counted = put-count t d cell c key some cell
 
     kept : (y : ℕ) → waitingAt v d cell y ≡ wait y
-    kept y = put-waiting t d cell c key some cell y
+    kept y = put-waiting t d cell c key some below cell y
 
   -- the lesser of the two was found
   late-outcome : lo < none → ((y : ℕ) → y < m → lo ≤ wait y) → Outcome t d cell c lo hi (appended (putKey t d cell c lo) d cell m hi)

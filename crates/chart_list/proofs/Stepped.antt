@@ -21,8 +21,8 @@ use Rattle.chart_table.specs.declared.Dims.{Dims}
 use Rattle.chart_table.specs.Table.{none, cellOf, weightAt, tieAt, putKey, waitingAt, waitingIn, settled}
 use Rattle.chart.specs.Model.{leavesOf, seedsOf, followers, baseOf, renewedOf, begun, placed}
 use Rattle.chart_list.proofs.Keys.{rowKey, key-some, key-lt, order-key}
-use Rattle.chart_list.proofs.Entries.{cell-below, put-none}
-use Rattle.chart_list.proofs.Slots.{put-waiting, put-count}
+use Rattle.chart_list.proofs.Entries.{cell-below}
+use Rattle.chart_list.proofs.Slots.{put-none, put-waiting, put-count}
 use Rattle.chart_list.proofs.Select.{Selects}
 use Rattle.chart_list.proofs.Owners.{owned}
 use Rattle.chart_list.proofs.Queue.{Queue, queue-kept, queue-first, Fresh, Member, slot, low, high, Valid, keyIn, Arranged, waits, rowOf, pool-whole, requeued}
@@ -72,7 +72,7 @@ module _ {g : Grammar} {es : List Edge} {rules edges index : List ℕ} {d : Dims
       some = key-some v (frontier-fits s ready on) (frontier-light s ready on)
 
       stored : Stored t d cell 0 (rowKey v) u
-      stored = stored-key t d cell 0 (rowKey v) (cell-below d n (s .planned) (ready .cell)) (s .kept) some
+      stored = stored-key t d cell 0 (rowKey v) (cell-below d n (s .planned) (ready .cell)) (s .kept) (ready .good .room) some
 
       seen : (p : ℕ) → p < d .cap → (p ≡ 0) ⊎ (weightAt u d cell p ≡ weightAt t d cell p)
       seen p l =
@@ -91,7 +91,7 @@ module _ {g : Grammar} {es : List Edge} {rules edges index : List ℕ} {d : Dims
           go (yes before) =
               queue-kept g es (d .cap) a i k
               (parts-grow g es d t u (grows s ready v at (frontier-fits s ready on) (frontier-light s ready on) parts u stored) a i k)
-              (put-count t d cell 0 (rowKey v) some cell) (λ y h. put-waiting t d cell 0 (rowKey v) some cell y)
+              (put-count t d cell 0 (rowKey v) some cell) (λ y h. put-waiting t d cell 0 (rowKey v) some (cell-below d n (s .planned) (ready .cell)) cell y)
               (ready .good .waits a i k p v′ (ready .cell) before l (absent-before p l absent) at′)
           go (no before) =
               let e : p ≡ 0 = ⊎-elim (λ e. e) (λ e. absurd (before (rw e at found))) (seen p (omega arith)) in

@@ -1,6 +1,5 @@
--- Bounds of the layout, neighbouring cells, zeros, the ranks that stand one behind another, and those found so.
+-- Bounds of the layout, neighbouring cells, zeros, and the ranks that stand one behind another.
 pub mod Cells
 pub mod Places
 pub mod Ranks
-pub mod Runs
 pub mod Zeros

@@ -12,7 +12,7 @@ use Rattle.chart_table.specs.declared.Dims.{Dims}
 
 -- the cell of a head over a span, and the entry of a rank of a cell: rank 0 of all cells stands first, cell by cell, then for
 -- each cell its further ranks. An entry is four numbers: the weight plus 1 (0: not found), the tie as its third, and beside them
--- what waits (below)
+-- the last rank found and what waits (below)
 unfoldable pub cellOf : Dims → Sym → ℕ → ℕ → ℕ
 cellOf d a i k = (k * (k - 1) / 2 + i) * d .symbols + a .0
 
@@ -48,9 +48,17 @@ keyOf w tie = w * 536870912 + tie
 abbrev pub none : ℕ
 none = 2305843008676823040
 
+-- the last rank found of a cell is the fourth number of the entry of its first rank
+unfoldable pub lastIn : List ℕ → Dims → ℕ → ℕ
+lastIn t d cell = getD t (entryOf d cell 0 + 3) 0
+
+unfoldable pub putLast : List ℕ → Dims → ℕ → ℕ → List ℕ
+putLast t d cell rank = pick (ltb (lastIn t d cell) rank) (set t (entryOf d cell 0 + 3) rank) t
+
 unfoldable pub putKey : List ℕ → Dims → ℕ → ℕ → ℕ → List ℕ
 putKey t d cell rank key =
-    pick (ltb key none) (set (set t (entryOf d cell rank) (key / 536870912)) (entryOf d cell rank + 2) (key % 536870912)) t
+    pick (ltb key none)
+    (putLast (set (set t (entryOf d cell rank) (key / 536870912)) (entryOf d cell rank + 2) (key % 536870912)) d cell rank) t
 
 -- what waits: beside rank y + 1 of a cell stands a candidate that was met and not found yet, by its weight plus 1 and its tie,
 -- and beside the first rank how many wait, of which no more than the ranks kept are taken
@@ -102,19 +110,18 @@ settled t d cell c lo hi =
 unfoldable pub foundOf : List ℕ → Dims → ℕ → ℕ
 foundOf t d cell = iter (λ m x. pick (eqb (weightAt t d cell x) 0) m (m + 1)) 0 (d .cap)
 
--- how many ranks of a cell are found one after another from rank x on, of at most `more`
-unfoldable pub runOf : List ℕ → Dims → ℕ → ℕ → ℕ → ℕ
-runOf t d cell x zero = x
-runOf t d cell x (suc more) = pick (eqb (weightAt t d cell x) 0) x (runOf t d cell (x + 1) more)
+-- how many ranks of a cell there are up to the last found, of those that are kept, and one where none is found
+unfoldable pub ranksIn : List ℕ → Dims → ℕ → ℕ
+ranksIn t d cell = pick (ltb (lastIn t d cell) (d .cap)) (lastIn t d cell + 1) (d .cap)
 
--- the four numbers of an entry made 0, those of the ranks found of a cell, and of every cell
+-- the four numbers of an entry made 0, those of a cell's ranks up to the last found, and of every cell
 unfoldable pub clearedEntry : List ℕ → Dims → ℕ → ℕ → List ℕ
 clearedEntry t d cell x =
     let at = entryOf d cell x in
     set (set (set (set t at 0) (at + 1) 0) (at + 2) 0) (at + 3) 0
 
 unfoldable pub clearedCell : List ℕ → Dims → ℕ → List ℕ
-clearedCell t d cell = iter (λ u x. clearedEntry u d cell x) t (runOf t d cell 0 (d .cap))
+clearedCell t d cell = iter (λ u x. clearedEntry u d cell x) t (ranksIn t d cell)
 
 unfoldable pub cleared : List ℕ → Dims → List ℕ
 cleared t d = iter (λ u cell. clearedCell u d cell) t (d .cells)

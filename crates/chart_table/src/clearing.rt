@@ -1,26 +1,19 @@
-// Clearing: the entries of the ranks that were found made zero.
+// Clearing: the entries of the ranks that were found made 0.
 use crate::Dims;
 use crate::entry_of;
-use crate::weight_at;
+use crate::last_in;
 use arrays::store;
 ghost use mathlib.Core.Path.{_≡_};
 ghost use Prim.Native.Nat.{_<_, _≤_};
-ghost use Rattle.chart_table.specs.Table.{runOf, clearedEntry, clearedCell, cleared, Sized};
+ghost use Rattle.chart_table.specs.Table.{ranksIn, clearedEntry, clearedCell, cleared, Sized};
 
-// How many ranks of a cell are found, one after another from the first.
-fn run(t: &[u32], d: Dims, cell: usize) -> usize
+// How many ranks of a cell there are up to the last found, and one where none is.
+fn ranks_in(t: &[u32], d: Dims, cell: usize) -> usize
     requires { ⌜ (Sized d) × (cell < 8589934592) ⌝ }
-    ensures { λ r. ⌜ (r ≡ runOf (now (t .entry)) d cell 0 (d .cap)) × (r ≤ d .cap) ⌝ }
+    ensures { λ r. ⌜ (r ≡ ranksIn (now (t .entry)) d cell) × (r ≤ d .cap) ⌝ }
 {
-    let cap = d.cap;
-    let mut x: usize = 0;
-    while x < cap {
-        if weight_at(t, d, cell, x) == 0 {
-            return x;
-        }
-        x += 1;
-    }
-    x
+    let last = last_in(t, d, cell);
+    if last < d.cap { last + 1 } else { d.cap }
 }
 
 // Makes the four numbers of an entry 0.
@@ -35,18 +28,18 @@ fn clear_entry(t: &mut [u32], d: Dims, cell: usize, x: usize)
     store(t, at + 3, 0);
 }
 
-// Makes the entries of the ranks found of a cell 0.
+// Makes the entries of a cell's ranks up to the last found 0.
 fn clear_cell(t: &mut [u32], d: Dims, cell: usize)
     requires { ⌜ (Sized d) × (cell < 8589934592) ⌝ }
     ensures { λ _. ⌜ now (t .exit) ≡ clearedCell (now (t .entry)) d cell ⌝ }
 {
-    let m = run(&t[..], d, cell);
+    let m = ranks_in(&t[..], d, cell);
     for x in 0..m {
         clear_entry(t, d, cell, x);
     }
 }
 
-// Makes the entries of all ranks found 0.
+// Makes the entries of all ranks found 0, of every cell.
 pub fn clear(t: &mut [u32], d: Dims)
     requires { ⌜ Sized d ⌝ }
     ensures { λ _. ⌜ now (t .exit) ≡ cleared (now (t .entry)) d ⌝ }

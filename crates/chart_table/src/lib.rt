@@ -9,7 +9,7 @@ use packing::Sym;
 ghost use mathlib.Core.Path.{_≡_};
 ghost use Prim.Native.Nat.{_<_, _≤_};
 ghost use lib.ListN.{length, replicate};
-ghost use Rattle.chart_table.specs.Table.{cellOf, entryOf, weightAt, tieAt, putKey, foundOf, Sized};
+ghost use Rattle.chart_table.specs.Table.{cellOf, entryOf, weightAt, tieAt, lastIn, putLast, putKey, foundOf, Sized};
 
 // The work table's layout: the number of symbols, the ranks kept for each cell, and the number of cells.
 pub struct Dims {
@@ -61,6 +61,24 @@ pub fn tie_at(t: &[u32], d: Dims, cell: usize, rank: usize) -> usize
     number_at(t, entry_of(d, cell, rank) + 2)
 }
 
+// The last rank found of a cell, which stands beside the first.
+fn last_in(t: &[u32], d: Dims, cell: usize) -> usize
+    requires { ⌜ (Sized d) × (cell < 8589934592) ⌝ }
+    ensures { λ r. ⌜ (r ≡ lastIn (now (t .entry)) d cell) × (r < 4294967296) ⌝ }
+{
+    number_at(t, entry_of(d, cell, 0) + 3)
+}
+
+// A rank is found, and is the last one unless one behind it was.
+fn put_last(t: &mut [u32], d: Dims, cell: usize, rank: usize)
+    requires { ⌜ (Sized d) × (cell < 8589934592) × (rank ≤ 512) ⌝ }
+    ensures { λ _. ⌜ now (t .exit) ≡ putLast (now (t .entry)) d cell rank ⌝ }
+{
+    if last_in(&t[..], d, cell) < rank {
+        store(t, entry_of(d, cell, 0) + 3, rank as u32);
+    }
+}
+
 // Writes a key at a rank of a cell; NONE and what is above it change nothing.
 pub fn put_key(t: &mut [u32], d: Dims, cell: usize, rank: usize, key: usize)
     requires { ⌜ (Sized d) × (cell < 8589934592) × (rank ≤ 512) ⌝ }
@@ -70,6 +88,7 @@ pub fn put_key(t: &mut [u32], d: Dims, cell: usize, rank: usize, key: usize)
         let at = entry_of(d, cell, rank);
         store(t, at, (key / 536870912) as u32);
         store(t, at + 2, (key % 536870912) as u32);
+        put_last(t, d, cell, rank);
     }
 }
 

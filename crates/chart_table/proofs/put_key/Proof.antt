@@ -23,12 +23,15 @@ cast-store-2 c = search needs
 store-requires-2 : tie.Need-store-requires-2
 store-requires-2 c κs = search needs
 
+put-last-requires : tie.Need-put-last-requires
+put-last-requires c κs = search needs
+
 same-length : tie.Need-same-length
 same-length c = search needs
 
 returns : tie.Need-returns
 unfolding putKey
-returns c = simp (lt-ltb _ _ (c .before .before .before .before .before .before .before .before .before .if1 .taken)) (cc)
+returns c = simp (lt-ltb _ _ (c .before .before .before .before .before .before .before .before .before .before .before .before .before .if1 .taken)) (rw (c .before .before .put-last .ensures, c .before .before .before .before .before .before .store2 .ensures, c .before .before .before .before .before .before .before .before .before .before .store .ensures, c .before .before .before .before .before .before .before .before .before .before .before .before .entry-of .ensures .0))
 
 returns-2 : tie.Need-returns-2
 unfolding putKey
@@ -44,6 +47,7 @@ put-key-spec =
     add-store
     cast-store-2
     store-requires-2
+    put-last-requires
     same-length
     returns
     returns-2)

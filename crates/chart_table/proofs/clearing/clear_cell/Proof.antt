@@ -1,4 +1,4 @@
--- The loop is the iteration over the ranks found.
+-- The loop is the iteration over the ranks up to the last found.
 use mathlib.Core.Path.{_≡_, refl, _∙_}
 use Prim.Native.Nat.{_-_, _≤_}
 use lib.ListN.{length}
@@ -15,8 +15,8 @@ Inv-loop t₀ d cell m x₀ t x = (x ≤ m) × (length t ≡ length t₀) × (t 
 abbrev μ-loop : tie.MeasureT-loop
 μ-loop t₀ d cell m x₀ t x = m - x
 
-run-requires : tie.Need-run-requires Inv-loop μ-loop
-run-requires c κs = search needs
+ranks-in-requires : tie.Need-ranks-in-requires Inv-loop μ-loop
+ranks-in-requires c κs = search needs
 
 loop-holds : tie.Need-loop-holds Inv-loop μ-loop
 unfolding iter
@@ -39,7 +39,7 @@ same-length c = c .before .loop .inv .1
 
 returns : tie.Need-returns Inv-loop μ-loop
 unfolding clearedCell
-returns c = rw (← c .before .before .run .ensures .0) (c .before .loop .inv .2 ∙ iter-end _ _ _ _ (c .before .loop .inv .0) (c .loop-test .left))
+returns c = rw (← c .before .before .ranks-in .ensures .0) (c .before .loop .inv .2 ∙ iter-end _ _ _ _ (c .before .loop .inv .0) (c .loop-test .left))
 
 pub clear-cell-spec : {M : Type 1} → statement M
 clear-cell-spec =
@@ -47,7 +47,7 @@ clear-cell-spec =
     (tie.spec
     Inv-loop
     μ-loop
-    run-requires
+    ranks-in-requires
     loop-holds
     clear-entry-requires
     add-x

@@ -1,0 +1,49 @@
+-- The test is the definition's.
+use borrow.Author.Tests.{lt-ltb, le-ltb}
+use Rattle.chart_table.specs.Table.{putLast}
+use borrow.Author.Needs.{needs}
+use Rattle.chart_table.proofs.put_last.Statement.{statement}
+use Rattle.chart_table.proofs.put_last.Tie as tie
+
+last-in-requires : tie.Need-last-in-requires
+last-in-requires c κs = search needs
+
+entry-of-requires : tie.Need-entry-of-requires
+entry-of-requires c κs = search needs
+
+add-store : tie.Need-add-store
+add-store c = search needs
+
+cast-store : tie.Need-cast-store
+cast-store c = search needs
+
+store-requires : tie.Need-store-requires
+store-requires c κs = search needs
+
+same-length : tie.Need-same-length
+same-length c = search needs
+
+returns : tie.Need-returns
+unfolding putLast
+returns c = simp (← c .before .before .before .before .before .before .last-in .ensures .0, lt-ltb _ _ (c .before .before .before .before .before .if1 .taken)) (rw (c .before .before .store .ensures, c .before .before .before .entry-of .ensures .0))
+
+same-length-2 : tie.Need-same-length-2
+same-length-2 c = search needs
+
+returns-2 : tie.Need-returns-2
+unfolding putLast
+returns-2 c = simp (← c .before .last-in .ensures .0, le-ltb _ _ (c .if1 .left))
+
+pub put-last-spec : {M : Type 1} → statement M
+put-last-spec =
+    tie.close
+    (tie.spec
+    last-in-requires
+    entry-of-requires
+    add-store
+    cast-store
+    store-requires
+    same-length
+    returns
+    same-length-2
+    returns-2)
