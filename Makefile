@@ -3,9 +3,6 @@
 # make bench   the library's times beside those of Rust on the same inputs
 # make clean   removes all that was built
 
-# The services that the library exports beside the four conversions, as in .ci/run.
-features = check listing specimen
-
 .PHONY: all test bench clean
 
 all:
@@ -17,7 +14,7 @@ test:
 
 bench:
 	rt staticlib spireyerba
-	cargo run --release --locked --manifest-path bench/Cargo.toml --features "$(features)"
+	cargo run --release --locked --manifest-path bench/Cargo.toml
 
 clean:
 	rm -rf target

@@ -1,9 +1,11 @@
 //! Sheets to blocks and back, and the check of a reading, which reads all three blocks: the library beside the second
 //! implementation.
 
+use crate::free;
 use crate::inputs::{greatest, Input};
 use crate::measure::{medians, micros, ratio, Plan};
 use crate::table::{print_head, print_row};
+use spireyerba_tests::check::check;
 use spireyerba_tests::refusal::Answer;
 use spireyerba_tests::{conversions, library};
 use std::hint::black_box;
@@ -39,16 +41,13 @@ pub fn print_table() {
         |out| library::utterance_to_sheet(&grammar_block, &block, out),
         |out| conversions::utterance_to_sheet(&grammar_block, &block, out),
     );
-    #[cfg(feature = "check")]
-    {
-        let reading = crate::free::least(&grammar, &utterance, 1)[0].to_block(&grammar);
-        print_call::<u8>(
-            "check of a reading",
-            &[],
-            |_| library::check(&grammar_block, &block, &reading),
-            |_| spireyerba_tests::check::check(&grammar_block, &block, &reading),
-        );
-    }
+    let reading = free::least(&grammar, &utterance, 1)[0].to_block(&grammar);
+    print_call::<u8>(
+        "check of a reading",
+        &[],
+        |_| library::check(&grammar_block, &block, &reading),
+        |_| check(&grammar_block, &block, &reading),
+    );
 }
 
 /// One service, which answers the length of its result and writes that.

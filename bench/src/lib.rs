@@ -3,7 +3,6 @@
 pub mod conversions;
 pub mod free;
 pub mod inputs;
-#[cfg(feature = "listing")]
 pub mod listing;
 pub mod measure;
 pub mod table;

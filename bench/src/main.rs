@@ -1,13 +1,11 @@
 //! Prints Markdown tables of times in microseconds, medians of alternating calls in one process, and of their ratios.
 
+use spireyerba_bench::{conversions, listing};
+
 fn main() {
-    #[cfg(feature = "listing")]
-    spireyerba_bench::listing::print_beside_free();
+    listing::print_beside_free();
     println!();
-    spireyerba_bench::conversions::print_table();
-    #[cfg(feature = "listing")]
-    {
-        println!();
-        spireyerba_bench::listing::print_beside_second();
-    }
+    conversions::print_table();
+    println!();
+    listing::print_beside_second();
 }

@@ -22,8 +22,6 @@ extern "C" {
         out: *mut u32,
         out_len: usize,
     ) -> i32;
-
-    #[cfg(feature = "check")]
     fn spireyerba_check(
         grammar: *const u8,
         grammar_len: usize,
@@ -32,8 +30,6 @@ extern "C" {
         reading: *const u8,
         reading_len: usize,
     ) -> i32;
-
-    #[cfg(feature = "listing")]
     fn spireyerba_listing(
         grammar: *const u8,
         grammar_len: usize,
@@ -45,8 +41,6 @@ extern "C" {
         out: *mut u8,
         out_len: usize,
     ) -> i32;
-
-    #[cfg(feature = "specimen")]
     fn spireyerba_specimen(grammar: *const u8, grammar_len: usize, length: u32, out: *mut u8, out_len: usize) -> i32;
 }
 
@@ -85,8 +79,6 @@ pub fn utterance_to_sheet(grammar: &[u8], block: &[u8], out: &mut [u32]) -> i32 
         )
     }
 }
-
-#[cfg(feature = "check")]
 pub fn check(grammar: &[u8], utterance: &[u8], reading: &[u8]) -> i32 {
     unsafe {
         spireyerba_check(
@@ -99,8 +91,6 @@ pub fn check(grammar: &[u8], utterance: &[u8], reading: &[u8]) -> i32 {
         )
     }
 }
-
-#[cfg(feature = "listing")]
 pub fn listing(grammar: &[u8], utterance: &[u8], wanted: u32, work: &mut [u32], out: &mut [u8]) -> i32 {
     unsafe {
         spireyerba_listing(
@@ -116,8 +106,6 @@ pub fn listing(grammar: &[u8], utterance: &[u8], wanted: u32, work: &mut [u32], 
         )
     }
 }
-
-#[cfg(feature = "specimen")]
 pub fn specimen(grammar: &[u8], length: u32, out: &mut [u8]) -> i32 {
     unsafe { spireyerba_specimen(grammar.as_ptr(), grammar.len(), length, out.as_mut_ptr(), out.len()) }
 }

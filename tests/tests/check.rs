@@ -1,5 +1,4 @@
 //! The library's check beside the second implementation, on readings of real derivations and on damaged ones.
-#![cfg(feature = "check")]
 
 use spireyerba_tests::compare::check::compare;
 use spireyerba_tests::compare::{over_seeds, Tally};

@@ -1,5 +1,4 @@
 //! The library's listing beside the second implementation.
-#![cfg(feature = "listing")]
 
 use spireyerba_tests::compare::listing::{compare, Call};
 use spireyerba_tests::compare::{over_seeds, Tally};

@@ -1,5 +1,4 @@
 //! The library's specimen, held to the second implementation's recogniser.
-#![cfg(feature = "specimen")]
 
 use spireyerba_tests::compare::specimen::compare;
 use spireyerba_tests::compare::{over_seeds, Tally};

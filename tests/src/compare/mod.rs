@@ -1,11 +1,7 @@
 //! One call of the library and of the second implementation on the same slices, held to each other.
-
-#[cfg(feature = "check")]
 pub mod check;
 pub mod conversions;
-#[cfg(feature = "listing")]
 pub mod listing;
-#[cfg(feature = "specimen")]
 pub mod specimen;
 
 use crate::refusal::Refusal;
