@@ -1,7 +1,10 @@
 //! The files of examples/ belong together: texts and sheets, blocks, and lists of readings.
 
 use spireyerba_tests::grammar::Grammar;
+use spireyerba_tests::library;
+use spireyerba_tests::listing::work_length;
 use spireyerba_tests::nbest::least;
+use spireyerba_tests::reading::Reading;
 use spireyerba_tests::text::{list, parse_sheet, Named};
 use spireyerba_tests::utterance::Utterance;
 use std::path::PathBuf;
@@ -18,11 +21,24 @@ fn text(folder: &str, name: &str) -> String {
     String::from_utf8(bytes(folder, name)).expect("a text")
 }
 
+/// The readings that the library lists.
+fn listed_by_library(grammar: &Grammar, utterance: &Utterance, wanted: usize) -> Vec<Reading> {
+    let slots = utterance.slots.len();
+    let length = Reading::block_length(grammar, slots);
+    let (mut work, mut out) = (vec![7; work_length(grammar.symbols, slots, wanted)], vec![0xff; wanted * length]);
+    let blocks = (grammar.to_block(), utterance.to_block(grammar));
+    let found = library::listing(&blocks.0, &blocks.1, wanted as u32, &mut work, &mut out);
+    let found = usize::try_from(found).expect("an example is accepted");
+    let reading = |block| Reading::from_block(grammar, slots, block).expect("a reading").0;
+    out.chunks_exact(length).take(found).map(reading).collect()
+}
+
 /// The blocks are these, and their readings those listed.
 fn expect(folder: &str, grammar: &Grammar, utterance: &Utterance) {
     assert_eq!(bytes(folder, "grammar.bin"), grammar.to_block());
     assert_eq!(bytes(folder, "utterance.bin"), utterance.to_block(grammar));
     assert_eq!(text(folder, "readings.txt"), list(&least(grammar, utterance, 8)));
+    assert_eq!(text(folder, "readings.txt"), list(&listed_by_library(grammar, utterance, 8)));
 }
 
 #[test]

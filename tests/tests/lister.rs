@@ -1,0 +1,91 @@
+//! The lister as a program (document 01, "Checked examples"): over the examples, where a file is missing or too long, and
+//! where the table that it lends is short. `make` and `.ci/run` build it.
+
+use spireyerba_tests::grammar::{Body, Grammar, Rule};
+use spireyerba_tests::utterance::{Candidate, Utterance};
+use std::fs;
+use std::path::{Path, PathBuf};
+use std::process::Command;
+
+/// The bytes of a file that count.
+const MOST_BYTES: usize = 2_048;
+
+fn root() -> PathBuf {
+    Path::new(env!("CARGO_MANIFEST_DIR")).join("..")
+}
+
+fn read(path: &str) -> Vec<u8> {
+    fs::read(root().join(path)).unwrap_or_else(|fault| panic!("{path}: {fault}"))
+}
+
+/// What the lister prints in a folder.
+fn printed_in(folder: &Path) -> String {
+    let program = root().join("target/bin/lister");
+    let run = Command::new(&program).current_dir(folder).output();
+    let output = run.unwrap_or_else(|fault| panic!("{}: {fault}", program.display()));
+    assert!(output.status.success() && output.stderr.is_empty(), "{output:?}");
+    String::from_utf8(output.stdout).expect("a text")
+}
+
+/// What the lister prints in a folder that has these files and no others.
+fn printed(name: &str, grammar: Option<&[u8]>, utterance: Option<&[u8]>) -> String {
+    let folder = Path::new(env!("CARGO_TARGET_TMPDIR")).join("lister").join(name);
+    if folder.exists() {
+        fs::remove_dir_all(&folder).expect("the folder of an earlier run goes");
+    }
+    fs::create_dir_all(&folder).expect("a new folder");
+    for (file, bytes) in [("grammar.bin", grammar), ("utterance.bin", utterance)] {
+        if let Some(bytes) = bytes {
+            fs::write(folder.join(file), bytes).expect("a new file");
+        }
+    }
+    printed_in(&folder)
+}
+
+#[test]
+fn the_examples() {
+    for example in ["examples/doors", "examples/g"] {
+        let readings = String::from_utf8(read(&format!("{example}/readings.txt"))).expect("a text");
+        assert_eq!(printed_in(&root().join(example)), readings, "{example}");
+    }
+}
+
+#[test]
+fn a_missing_file_is_empty() {
+    let (g, u) = (read("examples/g/grammar.bin"), read("examples/g/utterance.bin"));
+    assert_eq!(printed("none", None, None), "refused 1\n");
+    assert_eq!(printed("no_grammar", None, Some(&u)), "refused 1\n");
+    assert_eq!(printed("empty_grammar", Some(&[]), Some(&u)), "refused 1\n");
+    assert_eq!(printed("no_utterance", Some(&g), None), "refused 11\n");
+    assert_eq!(printed("empty_utterance", Some(&g), Some(&[])), "refused 11\n");
+}
+
+/// No accepted block is so long: what counts of it is refused for its further bytes.
+#[test]
+fn of_a_long_file_the_first_bytes_count() {
+    let (g, u) = (read("examples/g/grammar.bin"), read("examples/g/utterance.bin"));
+    for length in [MOST_BYTES - 1, MOST_BYTES, MOST_BYTES + 1, 1_000_000] {
+        let [long_g, long_u] = [&g, &u].map(|block| [block.as_slice(), &vec![0; length - block.len()]].concat());
+        assert_eq!(printed("long_grammar", Some(&long_g), Some(&u)), "refused 7\n", "{length} bytes");
+        assert_eq!(printed("long_utterance", Some(&g), Some(&long_u)), "refused 16\n", "{length} bytes");
+        assert_eq!(printed("long_files", Some(&long_g), Some(&long_u)), "refused 7\n", "{length} bytes");
+    }
+    let [late_g, late_u] = [&g, &u].map(|block| [[0; MOST_BYTES].as_slice(), block].concat());
+    assert_eq!(printed("late_grammar", Some(&late_g), Some(&u)), "refused 2\n");
+    assert_eq!(printed("late_utterance", Some(&g), Some(&late_u)), "refused 12\n");
+}
+
+/// So many symbols of which only the start has a rule, for one word, and so many slots that offer it.
+fn printed_of_size(name: &str, symbols: u32, slots: usize) -> String {
+    let rules = vec![Rule { head: 0, weight: 0, body: Body::Word(0) }];
+    let grammar = Grammar { symbols, words: 1, rules };
+    let utterance = Utterance { slots: vec![vec![Candidate { word: 0, cost: 0 }]; slots] };
+    printed(name, Some(&grammar.to_block()), Some(&utterance.to_block(&grammar)))
+}
+
+/// The sizes just below and just above 8,192 numbers of work table for eight readings: 8,160 and 8,320.
+#[test]
+fn the_work_table_that_is_lent() {
+    assert_eq!(printed_of_size("work_enough", 17, 5), "readings 0\n");
+    assert_eq!(printed_of_size("work_short", 26, 4), "refused 22\n");
+}
