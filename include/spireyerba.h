@@ -1,33 +1,36 @@
 /*
 ** Spireyerba: ranked readings of an utterance under a weighted grammar.
 **
-** This header is the whole C interface of libspireyerba.a. The library is
-** written in Rattle, and what is said here of answers and of memory is proved
-** of it for every input.
+** This header is the whole interface of libspireyerba.a, for C and C++. The
+** library is written in Rattle: what each function answers and what it writes
+** is proved for every input, from definitions that this header puts in words
+** (README.md, "What is proved").
 **
 **   cc -Iinclude program.c target/staticlib/libspireyerba.a
 **
 ** ANSWERS. Every function returns an int32_t. Zero or more is its answer. Less
 ** than zero is a refusal: minus one of the numbers SPIREYERBA_... below, such
 ** as -SPIREYERBA_GRAMMAR_KIND. Where several conditions hold, the one that is
-** met first is answered: the grammar block's, then the utterance block's or the
-** sheet's, field by field, then the output's.
+** met first is answered: the grammar's, then the utterance's, then the
+** reading's, each field by field unless its function says otherwise; then those
+** of a number wanted and of lengths lent, in the order that its function names.
 **
 ** MEMORY. A slice is a pointer and a length, and the length counts elements
 ** (uint8_t or uint32_t), not bytes. All memory is the caller's: it is lent for
-** the time of one call, and no pointer is kept. The library allocates nothing
-** and needs less than 64 KiB of stack. A pointer must be valid for its length,
-** aligned for its type and not null (for an empty slice, any address that is
-** not null will do); an output may not overlap another slice.
+** the time of one call, and no pointer is kept. The library allocates nothing,
+** and 64 KiB of stack suffice (measured, not proved: tests/tests/stack.rs). A
+** pointer must be valid for its length, aligned for its type and not null (for
+** an empty slice, any address that is not null will do); out and work may not
+** overlap each other or another slice.
 **
-** WHAT IS WRITTEN. An input is never changed. Of an output exactly the elements
-** that the answer counts are written, and all others stay as they were. A
-** refusal changes nothing at all. What an output held before makes no
-** difference.
+** WHAT IS WRITTEN. Only out and work are ever changed, and a refusal changes
+** nothing at all. An answer leaves its result at the front of out, as long as
+** the function says, everything behind it as it was, and all of work zero. This
+** holds whatever out and work held before.
 **
 ** THREADS. The library has no state: no variable, no file, no lock. Any
-** functions may run at once on any threads, as long as no output is lent to two
-** calls at a time.
+** functions may run at once on any threads, as long as no out or work is lent
+** to two calls at a time.
 */
 #ifndef SPIREYERBA_H
 #define SPIREYERBA_H
@@ -172,7 +175,8 @@ enum {
 **
 ** Answers 0 if the block is the reading of a derivation of this utterance under
 ** this grammar, with its true weight. Refuses with any of GRAMMAR_..., any of
-** UTTERANCE_..., any of READING_.... No slice is changed.
+** UTTERANCE_..., any of READING_...; of these _WALK, _WEIGHT and _FILL come
+** after all fields are read, in this order. No slice is changed.
 */
 int32_t spireyerba_check(
     const uint8_t *grammar, size_t grammar_len,
@@ -233,11 +237,12 @@ static inline size_t spireyerba_work_length(uint32_t symbols, uint32_t slots, ui
 ** the same length L = spireyerba_reading_length(n, R).
 **
 ** work is scratch memory of at least spireyerba_work_length(S, n, wanted)
-** numbers, whatever it holds; after an answer all of work is zero. out has at
-** least wanted * L bytes, also where fewer readings exist.
+** numbers, whatever it holds; after an answer all of it is zero, also what is
+** beyond that length. out has at least wanted * L bytes, also where fewer
+** readings exist.
 **
 ** Refuses with any of GRAMMAR_..., any of UTTERANCE_..., then LISTING_WANTED,
-** LISTING_WORK, LISTING_OUTPUT; then work is unchanged as well.
+** LISTING_WORK, LISTING_OUTPUT.
 */
 int32_t spireyerba_listing(
     const uint8_t *grammar, size_t grammar_len,

@@ -1,4 +1,4 @@
-/* Includes the header from C, links the library, and converts document 01's grammar G and utterance U both ways. */
+/* Calls every function of the header, on document 01's grammar G and utterance U. Compiled as C and as C++. */
 
 #include "spireyerba.h"
 
