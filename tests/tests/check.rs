@@ -1,4 +1,4 @@
-//! The library's check beside the second implementation, on readings of real derivations and on damaged ones.
+//! The library's check beside the second implementation, on readings of real derivations, on damaged ones and on noise.
 
 use spireyerba_tests::compare::check::compare;
 use spireyerba_tests::compare::{over_seeds, Tally};
@@ -68,7 +68,7 @@ fn early_and_late(rng: &mut Rng, grammar: &Grammar, utterance: &Utterance) -> Ve
 }
 
 #[test]
-fn readings_of_derivations_and_damaged_ones() {
+fn readings_of_derivations_damaged_ones_and_noise() {
     let mut tally = Tally::default();
     over_seeds(0..400, |rng| {
         let shape = shape(rng);
@@ -83,6 +83,7 @@ fn readings_of_derivations_and_damaged_ones() {
         let other = utterance_of(rng, &grammar, shape);
         readings.extend(least(&grammar, &other, 5));
         inputs.extend(readings.iter().map(|reading| reading.to_block(&grammar)));
+        inputs.extend((0..10).map(|length| rng.noise(length)));
         for reading in &inputs {
             compare(rng, &mut tally, [&grammar_block, &utterance_block, reading]);
         }
