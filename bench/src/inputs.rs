@@ -1,9 +1,9 @@
 //! The grammars and utterances that the listing is measured on.
 
 use spireyerba_tests::grammar::{Body, Grammar, Rule};
+use spireyerba_tests::seeded::grammars::{with_weights, Weights};
 use spireyerba_tests::seeded::rng::Rng;
 use spireyerba_tests::utterance::{Candidate, Utterance};
-use std::collections::HashSet;
 
 pub struct Input {
     pub name: &'static str,
@@ -38,21 +38,9 @@ pub fn shapes() -> Vec<Input> {
     ]
 }
 
+/// As many words as word rules.
 fn random_grammar(rng: &mut Rng, symbols: u32, pairs: u32, word_rules: u32, weight: u32) -> Grammar {
-    let words = word_rules.min(200);
-    let mut bodies = HashSet::new();
-    let mut rules = Vec::new();
-    while rules.len() < (pairs + word_rules) as usize {
-        let mut symbol = || rng.within(0..=symbols - 1);
-        let (head, first, second) = (symbol(), symbol(), symbol());
-        let is_pair = rules.len() < pairs as usize;
-        let body = if is_pair { Body::Pair(first, second) } else { Body::Word(rng.within(0..=words - 1)) };
-        if bodies.insert((head, body)) {
-            rules.push(Rule { head, weight: rng.within(0..=weight), body });
-        }
-    }
-    rng.shuffle(&mut rules);
-    Grammar { symbols, words, rules }
+    with_weights(rng, symbols, word_rules, pairs, word_rules, Weights::UpTo(weight))
 }
 
 /// Head 0 joins 200 of the pairs of 16 symbols; each symbol has words.
@@ -78,7 +66,7 @@ fn chain(first: u32, second: u32) -> Grammar {
 
 /// Each slot offers seven words that some rule has.
 fn utterance(rng: &mut Rng, grammar: &Grammar, slots: usize, cost: u32) -> Utterance {
-    let mut known: Vec<u32> = grammar.rules.iter().filter_map(|rule| word_of(rule.body)).collect();
+    let mut known: Vec<u32> = grammar.words_of_rules().collect();
     known.sort_unstable();
     known.dedup();
     let slot = |_| {
@@ -88,13 +76,6 @@ fn utterance(rng: &mut Rng, grammar: &Grammar, slots: usize, cost: u32) -> Utter
         words.into_iter().map(|word| Candidate { word, cost: rng.within(0..=cost) }).collect()
     };
     Utterance { slots: (0..slots).map(slot).collect() }
-}
-
-fn word_of(body: Body) -> Option<u32> {
-    match body {
-        Body::Word(word) => Some(word),
-        Body::Pair(..) => None,
-    }
 }
 
 #[cfg(test)]

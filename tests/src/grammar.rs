@@ -51,6 +51,14 @@ impl Grammar {
         width(self.rules.len() as u32 - 1)
     }
 
+    /// The word of each word rule.
+    pub fn words_of_rules(&self) -> impl Iterator<Item = u32> + '_ {
+        self.rules.iter().filter_map(|rule| match rule.body {
+            Body::Word(word) => Some(word),
+            Body::Pair(..) => None,
+        })
+    }
+
     /// Reads a block, or refuses it with 1 to 7.
     pub fn from_block(block: &[u8]) -> Result<Self, Refusal> {
         let mut reader = BitReader::new(block);

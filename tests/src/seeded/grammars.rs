@@ -1,7 +1,7 @@
 //! Seeded grammars.
 
 use super::rng::Rng;
-use crate::grammar::{Body, Grammar, Rule};
+use crate::grammar::{Body, Grammar, Rule, GREATEST_WEIGHT};
 use std::collections::HashSet;
 
 /// How large a seeded grammar or utterance is.
@@ -19,12 +19,12 @@ pub enum Weights {
     /// Few different ones, so that ties are many.
     Tied,
     Extreme,
-    Any,
+    UpTo(u32),
 }
 
 impl Weights {
     pub fn any(rng: &mut Rng) -> Self {
-        rng.pick(&[Self::Zero, Self::Tied, Self::Extreme, Self::Any])
+        rng.pick(&[Self::Zero, Self::Tied, Self::Extreme, Self::UpTo(GREATEST_WEIGHT)])
     }
 
     pub fn draw(self, rng: &mut Rng) -> u32 {
@@ -32,7 +32,7 @@ impl Weights {
             Self::Zero => 0,
             Self::Tied => rng.within(0..=2),
             Self::Extreme => rng.pick(&[0, 1, 65_534, 65_535]),
-            Self::Any => rng.within(0..=65_535),
+            Self::UpTo(most) => rng.within(0..=most),
         }
     }
 }
@@ -52,21 +52,26 @@ pub fn grammar(rng: &mut Rng, size: Size) -> Grammar {
     with_rules(rng, symbols, words, pairs, rules - pairs)
 }
 
-/// A grammar with up to so many pair rules and word rules, no two of one kind, head and body.
+/// A grammar with so many pair rules and word rules, or as many as there are, no two of one kind, head and body.
 pub fn with_rules(rng: &mut Rng, symbols: u32, words: u32, pairs: u32, word_rules: u32) -> Grammar {
+    let weights = Weights::any(rng);
+    with_weights(rng, symbols, words, pairs, word_rules, weights)
+}
+
+/// The same with weights drawn as is said.
+pub fn with_weights(rng: &mut Rng, symbols: u32, words: u32, pairs: u32, word_rules: u32, weights: Weights) -> Grammar {
     let mut bodies = HashSet::new();
-    let mut drawn = Vec::new();
-    for (is_word, count) in [(false, pairs), (true, word_rules)] {
-        for _ in 0..count {
-            // a body that is there already is drawn again, but not for ever: there may be no other
-            let fresh = (0..20).map(|_| headed_body(rng, symbols, words, is_word)).find(|&new| bodies.insert(new));
-            drawn.extend(fresh);
+    let mut rules = Vec::new();
+    let (pairs, word_rules) = (pairs.min(symbols.pow(3)), word_rules.min(symbols * words));
+    while rules.len() < (pairs + word_rules) as usize {
+        let is_word = rules.len() >= pairs as usize;
+        let (head, body) = headed_body(rng, symbols, words, is_word);
+        if bodies.insert((head, body)) {
+            rules.push(Rule { head, weight: weights.draw(rng), body });
         }
     }
-    rng.shuffle(&mut drawn);
-    let weights = Weights::any(rng);
-    let rule = |(head, body)| Rule { head, weight: weights.draw(rng), body };
-    Grammar { symbols, words, rules: drawn.into_iter().map(rule).collect() }
+    rng.shuffle(&mut rules);
+    Grammar { symbols, words, rules }
 }
 
 fn headed_body(rng: &mut Rng, symbols: u32, words: u32, is_word: bool) -> (u32, Body) {

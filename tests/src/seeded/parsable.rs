@@ -3,7 +3,7 @@
 use super::grammars::{with_rules, Weights};
 use super::rng::Rng;
 use super::utterances::slot;
-use crate::grammar::{Body, Grammar};
+use crate::grammar::Grammar;
 use crate::utterance::Utterance;
 use std::ops::RangeInclusive;
 
@@ -58,7 +58,7 @@ pub fn case(rng: &mut Rng, shape: &Shape) -> (Grammar, Utterance) {
 
 /// Another utterance for a grammar.
 pub fn utterance_of(rng: &mut Rng, grammar: &Grammar, shape: &Shape) -> Utterance {
-    let mut offered: Vec<u32> = grammar.rules.iter().filter_map(|rule| word_of(rule.body)).collect();
+    let mut offered: Vec<u32> = grammar.words_of_rules().collect();
     offered.push(rng.within(0..=grammar.words - 1));
     let costs = Weights::any(rng);
     let slots = rng.within(shape.slots.clone());
@@ -67,11 +67,4 @@ pub fn utterance_of(rng: &mut Rng, grammar: &Grammar, shape: &Shape) -> Utteranc
         slot(rng, &offered, candidates as usize, costs)
     });
     Utterance { slots: slots.collect() }
-}
-
-fn word_of(body: Body) -> Option<u32> {
-    match body {
-        Body::Word(word) => Some(word),
-        Body::Pair(..) => None,
-    }
 }
