@@ -18,7 +18,7 @@ use Rattle.packing_grammar.specs.Answer.{answerOf}
 use Rattle.packing_grammar.specs.declared.Sizes.{Sizes}
 use Rattle.packing_grammar.specs.declared.GrammarRead.the-variants.{Grammar}
 use Rattle.packing_writing.specs.Arrays.{rulesAt, grammarFields, blockOf}
-use Rattle.conversion.proofs.Sizes.{of-sizes}
+use Rattle.packing_grammar.proofs.Told.{of-sizes}
 
 -- rules that stand in an array, one by one
 all-rules : (rs : List R.Rule) (l : List ℕ) (k : ℕ) → ((r : ℕ) → r < length rs → getElem? rs r ≡ some (ruleAt l (k + r))) → rulesAt l k (length rs) ≡ rs

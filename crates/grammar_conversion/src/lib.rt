@@ -1,13 +1,11 @@
 // Grammar sheets and blocks, turned into each other.
-use conversion::Written;
-use conversion::too_short;
-use grammar_writer::grammar_length;
 use grammar_writer::write_grammar;
 use packing_grammar::GrammarRead;
+use packing_writing::Written;
 use packing_writing::sheets::write_sheet;
 ghost use mathlib.Core.Path.{_≡_};
 ghost use Rattle.packing.specs.Conversion.{grammarToBlock, grammarToSheet, fitting, written};
-ghost use Rattle.conversion.specs.Answer.{writtenOf};
+ghost use Rattle.packing_writing.specs.Answer.{writtenOf};
 
 // The block of a grammar sheet.
 pub fn grammar_to_block(sheet: &[u32], out: &mut [u8]) -> Written
@@ -18,13 +16,7 @@ pub fn grammar_to_block(sheet: &[u32], out: &mut [u8]) -> Written
     match packing_grammar::read_sheet(sheet, &mut rules) {
         GrammarRead::Refused(n) => Written::Refused(n),
         GrammarRead::Grammar(z) => {
-            let count = z.rules as usize;
-            let length = grammar_length(z.symbols, z.words, count, &rules);
-            if too_short(out.len(), length) {
-                return Written::Refused(43);
-            }
-            write_grammar(out, z.symbols, z.words, count, &rules);
-            Written::Length(length)
+            write_grammar(out, z.symbols, z.words, z.rules as usize, &rules)
         }
     }
 }
@@ -39,12 +31,7 @@ pub fn grammar_to_sheet(block: &[u8], out: &mut [u32]) -> Written
         GrammarRead::Refused(n) => Written::Refused(n),
         GrammarRead::Grammar(z) => {
             let head = [z.symbols, z.words, z.rules];
-            let numbers = 5 * z.rules as usize;
-            if too_short(out.len(), 3 + numbers) {
-                return Written::Refused(43);
-            }
-            write_sheet(out, &head, &rules, numbers);
-            Written::Length(3 + numbers)
+            write_sheet(out, &head, &rules, 5 * z.rules as usize)
         }
     }
 }

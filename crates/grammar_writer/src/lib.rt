@@ -1,5 +1,6 @@
 // Grammar blocks, written from an array of five numbers a rule.
 use packing::Rule;
+use packing_writing::Written;
 use packing_writing::width_below;
 ghost use mathlib.Core.Path.{_≡_};
 ghost use mathlib.Core.List.{[], _∷_};
@@ -10,6 +11,7 @@ ghost use Rattle.packing.specs.Parse.{accepted};
 ghost use Rattle.packing.specs.Source.{flds};
 ghost use Rattle.packing.specs.Grammar.{ruleEntries};
 ghost use Rattle.packing.specs.Conversion.{written};
+ghost use Rattle.packing_writing.specs.Answer.{Writes};
 ghost use Rattle.packing_writing.specs.Arrays.{rulesFields, grammarFields, blockOf};
 
 // How many bits a rule takes.
@@ -91,15 +93,15 @@ fn write_rules(out: &mut [u8], start: usize, rules: &[u32], n: usize, symbols: u
 }
 
 // The length of the block of a grammar whose n rules stand in an array.
-pub fn grammar_length(symbols: u32, words: u32, n: usize, rules: &[u32]) -> usize
+fn grammar_length(symbols: u32, words: u32, n: usize, rules: &[u32]) -> usize
     requires { ⌜ (n ≤ 256) × (1 ≤ symbols) × (symbols ≤ 32) × (1 ≤ words) × (words ≤ 200) ⌝ }
     ensures { λ r. ⌜ r ≡ length (blockOf (grammarFields symbols words n (now (rules .entry)))) ⌝ }
 {
     (27 + rules_bits(rules, n, symbols, words) + 7) / 8
 }
 
-// The block of a grammar whose n rules stand in an array, in front of what stands beyond it.
-pub fn write_grammar(out: &mut [u8], symbols: u32, words: u32, n: usize, rules: &[u32])
+// That block, where there is room.
+fn write_fields(out: &mut [u8], symbols: u32, words: u32, n: usize, rules: &[u32])
     requires { ⌜ (n ≤ 256) × (1 ≤ symbols) × (symbols ≤ 32) × (1 ≤ words) × (words ≤ 200)
         × (length (blockOf (grammarFields symbols words n (now rules))) ≤ length (now out)) ⌝ }
     ensures { λ _. ⌜ now (out .exit) ≡ written (accepted (blockOf (grammarFields symbols words n (now (rules .entry))))) (now (out .entry)) ⌝ }
@@ -109,4 +111,17 @@ pub fn write_grammar(out: &mut [u8], symbols: u32, words: u32, n: usize, rules: 
     bit_writer::write_field(out, 10, 8, words);
     bit_writer::write_field(out, 18, 9, n as u32);
     write_rules(out, 27, rules, n, symbols, words);
+}
+
+// The block of a grammar whose n rules stand in an array, in front of what stands beyond it.
+pub fn write_grammar(out: &mut [u8], symbols: u32, words: u32, n: usize, rules: &[u32]) -> Written
+    requires { ⌜ (n ≤ 256) × (1 ≤ symbols) × (symbols ≤ 32) × (1 ≤ words) × (words ≤ 200) ⌝ }
+    ensures { λ r. ⌜ Writes (accepted (blockOf (grammarFields symbols words n (now (rules .entry))))) (now (out .entry)) r (now (out .exit)) ⌝ }
+{
+    let length = grammar_length(symbols, words, n, rules);
+    if out.len() < length {
+        return Written::Refused(43);
+    }
+    write_fields(out, symbols, words, n, rules);
+    Written::Length(length)
 }

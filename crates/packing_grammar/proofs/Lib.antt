@@ -1,2 +1,3 @@
 pub mod Grammars
 pub mod Outcome
+pub mod Told

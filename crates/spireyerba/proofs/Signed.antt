@@ -6,7 +6,7 @@ use lib.IntN.{ℤ, pos, negℤ, _-ℤ_, +ℤ-idl}
 use mir.Syntax.{w32}
 use mir.Val.{toZ, ofZ, SFits}
 use mir.ValLaws.{toZ-pos, toZ-ofZ}
-use Rattle.conversion.specs.declared.Written as W
+use Rattle.packing_writing.specs.declared.Written as W
 use Rattle.spireyerba.specs.Code.{writtenCode, SmallWritten}
 
 pub fits-pos : (n : ℕ) → n < 2147483648 → SFits w32 (pos n)

@@ -21,8 +21,8 @@ use Rattle.packing.proofs.Bounds.{length-rules, length-slots}
 use Rattle.packing.proofs.Widths.{grammar-length, utterance-length, valid-words}
 use Rattle.packing.proofs.Whole.{grammar-block-out, grammar-sheet-out, utterance-block-out, utterance-sheet-out}
 use Rattle.packing.proofs.Refusals.{LowRefusal, granted, low-refusal, Low, going, low, then-low, choose-low, grammar-block-low, utterance-block-low, reading-low, grammar-to-block-low, grammar-to-sheet-low, utterance-to-block-low, utterance-to-sheet-low}
-use Rattle.conversion.specs.Answer.{writtenOf}
-use Rattle.conversion.specs.declared.Written as W
+use Rattle.packing_writing.specs.Answer.{writtenOf}
+use Rattle.packing_writing.specs.declared.Written as W
 use Rattle.derivation.specs.Derivation.{Tree, weight}
 use Rattle.checker.specs.Check.{check, judged, afterFields, derivationOf, answerOf}
 use Rattle.checker.specs.declared.Checked.the-variants.{Refused}

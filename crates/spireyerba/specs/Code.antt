@@ -7,7 +7,7 @@ use lib.IntN.{ℤ, pos, negℤ}
 use lib.ListN.{length, drop}
 use Rattle.packing.specs.Meaning.{Grammar, Reading}
 use Rattle.packing.specs.Parse.{Verdict, accepted, refused}
-use Rattle.conversion.specs.declared.Written as W
+use Rattle.packing_writing.specs.declared.Written as W
 use Rattle.checker.specs.declared.Checked as C
 use Rattle.listing.specs.declared.Listed as L
 use Rattle.specimen.specs.declared.Answered as A

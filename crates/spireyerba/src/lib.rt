@@ -1,8 +1,8 @@
 // The library for C and Rust (include/spireyerba.h): each exported function is a call of a service, with the answer as one
 // number: 0 or more is the answer, less than 0 is minus the refusal's number.
 use checker::Checked;
-use conversion::Written;
 use listing::Listed;
+use packing_writing::Written;
 use specimen::Answered;
 ghost use mathlib.Core.Path.{_≡_};
 ghost use Prim.Native.Nat.{_<_};

@@ -1,6 +1,6 @@
 -- The array that an utterance was read into gives back its fields, how many bits they take, its block and its sheet.
 -- Assumes nothing.
-use mathlib.Core.Path.{_≡_, refl, sym, ap, subst, _∙_}
+use mathlib.Core.Path.{_≡_, refl, subst, _∙_}
 use mathlib.Core.List.{List, [], _∷_, _++_, map-append}
 use Prim.Native.Nat.{ℕ, suc, _+_, _-_, _*_, _/_, _≤_}
 use native.Mathlib.Nat.{add-zero, zero-mul, suc-mul, add-mul}
@@ -9,18 +9,16 @@ use lib.ListN.{length, getD, take, drop, length-append, length-map}
 use lib.Seq.{getD-drop, drop-drop}
 use Rattle.bits.specs.Width.{widthOf}
 use Rattle.bits.specs.Fields.{widths}
-use Rattle.bits.proofs.Fields.{widths-append, length-block}
+use Rattle.bits.proofs.Fields.{widths-append}
 use Rattle.packing.specs.Meaning.{Candidate, candidate, Utterance}
 use Rattle.packing.specs.Parse.{Verdict, accepted, refused, _then_}
 use Rattle.packing.specs.Source.{valueOf, fldOf, values, flds}
 use Rattle.packing.specs.Utterance.{candidatesEntries, slotsEntries, utteranceEntries, blockOfUtterance, sheetOfUtterance}
 use Rattle.packing.specs.Flat.{Begins, slotNumbers, SlotsIn}
 use Rattle.packing.proofs.Bounds.{length-candidates}
-use Rattle.packing.proofs.Widths.{byte-width}
 use Rattle.packing_utterance.specs.Answer.{answerOf}
 use Rattle.packing_utterance.specs.declared.Slots.{Slots}
 use Rattle.packing_utterance.specs.declared.UtteranceRead as R
-use Rattle.utterance_writer.proofs.Slots.{candidates-small}
 use Rattle.packing_writing.specs.Arrays.{candidatesFields, slotsFields, slotsBits, utteranceFields, blockOf}
 
 -- the numbers at a place, one by one and in two parts
@@ -101,17 +99,6 @@ module _ (W : ℕ) where
     bits-told =
         of-slots (λ y. (y .count ≤ y .numbers) × (widths (slotsFields W l 0 (y .count)) ≡ slotsBits W (y .count) (y .numbers))) v e
         (λ u q. rw (slots-in u l 0 (rw q at b)) (slots-bits u))
-
-    pub length-told : (10 + slotsBits W (z .count) (z .numbers) + 7) / 8 ≡ length (blockOf (utteranceFields W (z .count) l))
-    unfolding widths
-    length-told =
-        let b = bits-told .1 in
-        ap (λ (k : ℕ). (k + 7) / 8) (omega arith) ∙ sym (length-block (utteranceFields W (z .count) l))
-
-    pub bits-small : W ≤ 200 → z .count ≤ 24 → z .numbers ≤ 360 → widths (slotsFields W l 0 (z .count)) ≤ 4392
-    bits-small w n m =
-        let k : (z .numbers - z .count) / 2 * (widthOf (W - 1) + 16) ≤ 4320 = candidates-small (omega arith) (omega (arith, byte-width W (omega arith))) in
-        omega (arith, bits-told .1)
 
     pub block-told : (v then λ u. accepted (blockOfUtterance W u)) ≡ accepted (blockOf (utteranceFields W (z .count) l))
     unfolding blockOfUtterance utteranceEntries

@@ -1,15 +1,13 @@
 // Utterance sheets and blocks, turned into each other under a grammar.
-use conversion::Written;
-use conversion::too_short;
 use packing_grammar::GrammarRead;
 use packing_utterance::UtteranceRead;
+use packing_writing::Written;
 use packing_writing::sheets::write_sheet;
-use utterance_writer::utterance_length;
 use utterance_writer::write_utterance;
 ghost use mathlib.Core.Path.{_≡_};
 ghost use Prim.Native.Nat.{_≤_};
 ghost use Rattle.packing.specs.Conversion.{utteranceToBlock, utteranceToSheet, fitting, written};
-ghost use Rattle.conversion.specs.Answer.{writtenOf, Writes};
+ghost use Rattle.packing_writing.specs.Answer.{writtenOf, Writes};
 ghost use Rattle.utterance_conversion.specs.Under.{blockUnder, sheetUnder};
 
 // The block of an utterance sheet under a grammar of `words` words.
@@ -20,14 +18,7 @@ fn sheet_to_block(words: u32, sheet: &[u32], out: &mut [u8]) -> Written
     let mut slots = [0u32; 360];
     match packing_utterance::read_sheet(sheet, words, &mut slots) {
         UtteranceRead::Refused(n) => Written::Refused(n),
-        UtteranceRead::Utterance(u) => {
-            let length = utterance_length(words, u.count, u.numbers);
-            if too_short(out.len(), length) {
-                return Written::Refused(43);
-            }
-            write_utterance(out, words, u.count, &slots);
-            Written::Length(length)
-        }
+        UtteranceRead::Utterance(u) => write_utterance(out, words, u.count, u.numbers, &slots),
     }
 }
 
@@ -41,11 +32,7 @@ fn block_to_sheet(words: u32, block: &[u8], out: &mut [u32]) -> Written
         UtteranceRead::Refused(n) => Written::Refused(n),
         UtteranceRead::Utterance(u) => {
             let head = [u.count as u32];
-            if too_short(out.len(), 1 + u.numbers) {
-                return Written::Refused(43);
-            }
-            write_sheet(out, &head, &slots, u.numbers);
-            Written::Length(1 + u.numbers)
+            write_sheet(out, &head, &slots, u.numbers)
         }
     }
 }

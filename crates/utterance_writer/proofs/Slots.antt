@@ -1,19 +1,32 @@
 -- The fields of an array's candidates and slots, one after the other.
 -- Assumes nothing.
-use mathlib.Core.Path.{_≡_, refl}
+use mathlib.Core.Path.{_≡_, refl, sym, ap, _∙_}
 use mathlib.Core.List.{List, [], _∷_, _++_}
-use Prim.Native.Nat.{ℕ, zero, suc, _+_, _-_, _*_, _≤_, _<_}
+use Prim.Native.Nat.{ℕ, zero, suc, _+_, _-_, _*_, _/_, _≤_, _<_}
 use native.Mathlib.Nat.{mul-le-mul}
 use native.Mathlib.Omega.{arith}
-use lib.ListN.{getD}
+use lib.ListN.{length, getD}
 use Rattle.bits.specs.Bits.{put}
 use Rattle.bits.specs.Width.{widthOf}
 use Rattle.bits.specs.Fields.{Fld, fld, puts, widths}
+use Rattle.bits.proofs.Fields.{length-block}
 use Rattle.bits.proofs.Remaining.{Remaining, one-written, some-within, some-written}
-use Rattle.packing_writing.specs.Arrays.{candidatesFields, slotsFields}
+use Rattle.packing.proofs.Widths.{byte-width}
+use Rattle.packing_writing.specs.Arrays.{candidatesFields, slotsFields, slotsBits, utteranceFields, blockOf}
 
 pub candidates-small : {m w : ℕ} → m ≤ 180 → w ≤ 24 → m * w ≤ 4320
 candidates-small h k = mul-le-mul h k
+
+-- slots that have m numbers together: the block's length, and that they take few bits
+module _ (W : ℕ) (l : List ℕ) (n m : ℕ) (e : widths (slotsFields W l 0 n) ≡ slotsBits W n m) where
+  pub block-length : (10 + slotsBits W n m + 7) / 8 ≡ length (blockOf (utteranceFields W n l))
+  unfolding widths
+  block-length = ap (λ (k : ℕ). (k + 7) / 8) (omega arith) ∙ sym (length-block (utteranceFields W n l))
+
+  pub slots-small : W ≤ 200 → m ≤ 360 → n ≤ 24 → widths (slotsFields W l 0 n) ≤ 4392
+  slots-small w k h =
+      let b : (m - n) / 2 * (widthOf (W - 1) + 16) ≤ 4320 = candidates-small (omega arith) (omega (arith, byte-width W (omega arith))) in
+      omega (arith, e)
 
 module _ (W : ℕ) (l : List ℕ) where
   -- each candidate takes some bits

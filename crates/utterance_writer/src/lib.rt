@@ -1,6 +1,7 @@
 // Utterance blocks, written from an array that has for each slot its count and its words and costs.
 use arrays::narrow_at;
 use arrays::number_at;
+use packing_writing::Written;
 use packing_writing::width_below;
 ghost use mathlib.Core.Path.{_≡_};
 ghost use Prim.Native.Nat.{_+_, _*_, _/_, _^_, _≤_, _<_};
@@ -8,17 +9,8 @@ ghost use lib.ListN.{length};
 ghost use Rattle.bits.specs.Fields.{puts, widths};
 ghost use Rattle.packing.specs.Parse.{accepted};
 ghost use Rattle.packing.specs.Conversion.{written};
+ghost use Rattle.packing_writing.specs.Answer.{Writes};
 ghost use Rattle.packing_writing.specs.Arrays.{candidatesFields, slotsFields, slotsBits, utteranceFields, blockOf};
-
-// The length of the block of an utterance whose n slots have `numbers` numbers together.
-pub fn utterance_length(words: u32, n: usize, numbers: usize) -> usize
-    requires { ⌜ (1 ≤ words) × (words ≤ 200) × (n ≤ 24) × (n ≤ numbers) × (numbers ≤ 360) ⌝ }
-    ensures { λ r. ⌜ r ≡ (10 + slotsBits words n numbers + 7) / 8 ⌝ }
-{
-    let width = width_below(words);
-    let candidates = (numbers - n) / 2;
-    (10 + (3 * n + candidates * (width + 16)) + 7) / 8
-}
 
 // The n candidates whose words and costs stand from place p on, from bit `start`; the place behind them.
 fn write_candidates(
@@ -67,8 +59,18 @@ fn write_slots(out: &mut [u8], start: usize, slots: &[u32], n: usize, words: u32
     }
 }
 
-// The block of an utterance whose n slots stand in an array, in front of what stands beyond it.
-pub fn write_utterance(out: &mut [u8], words: u32, n: usize, slots: &[u32])
+// The length of the block of an utterance whose n slots have `numbers` numbers together.
+fn utterance_length(words: u32, n: usize, numbers: usize) -> usize
+    requires { ⌜ (1 ≤ words) × (words ≤ 200) × (n ≤ 24) × (n ≤ numbers) × (numbers ≤ 360) ⌝ }
+    ensures { λ r. ⌜ r ≡ (10 + slotsBits words n numbers + 7) / 8 ⌝ }
+{
+    let width = width_below(words);
+    let candidates = (numbers - n) / 2;
+    (10 + (3 * n + candidates * (width + 16)) + 7) / 8
+}
+
+// The block of an utterance whose n slots stand in an array, where there is room.
+fn write_fields(out: &mut [u8], words: u32, n: usize, slots: &[u32])
     requires { ⌜ (1 ≤ words) × (words ≤ 200) × (n ≤ 24) × (widths (slotsFields words (now slots) 0 n) ≤ 4392)
         × (length (blockOf (utteranceFields words n (now slots))) ≤ length (now out)) ⌝ }
     ensures { λ _. ⌜ now (out .exit) ≡ written (accepted (blockOf (utteranceFields words n (now (slots .entry))))) (now (out .entry)) ⌝ }
@@ -76,4 +78,24 @@ pub fn write_utterance(out: &mut [u8], words: u32, n: usize, slots: &[u32])
     bit_writer::write_field(out, 0, 4, 2);
     bit_writer::write_field(out, 4, 6, n as u32);
     write_slots(out, 10, slots, n, words);
+}
+
+// The block of an utterance whose n slots are the first `numbers` numbers of an array, in front of what stands beyond it.
+pub fn write_utterance(
+    out: &mut [u8],
+    words: u32,
+    n: usize,
+    numbers: usize,
+    slots: &[u32],
+) -> Written
+    requires { ⌜ (1 ≤ words) × (words ≤ 200) × (n ≤ 24) × (n ≤ numbers) × (numbers ≤ 360)
+        × (widths (slotsFields words (now slots) 0 n) ≡ slotsBits words n numbers) ⌝ }
+    ensures { λ r. ⌜ Writes (accepted (blockOf (utteranceFields words n (now (slots .entry))))) (now (out .entry)) r (now (out .exit)) ⌝ }
+{
+    let length = utterance_length(words, n, numbers);
+    if out.len() < length {
+        return Written::Refused(43);
+    }
+    write_fields(out, words, n, slots);
+    Written::Length(length)
 }

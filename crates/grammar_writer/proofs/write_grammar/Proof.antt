@@ -1,84 +1,30 @@
--- The head's fields and the rules', one after the other, are the block's bits in front of what stood there.
-use mathlib.Core.Path.{_∙_}
-use native.Mathlib.Omega.{arith}
+-- The block is written where its length fits.
 use borrow.Author.Needs.{needs}
-use Rattle.bits.specs.Fields.{widths}
-use Rattle.bits.proofs.Remaining.{all-remain, one-written}
-use Rattle.packing_writing.specs.Arrays.{grammarFields}
-use Rattle.packing_writing.proofs.Block.{block-room, block-written}
+use Rattle.packing_writing.specs.Arrays.{grammarFields, blockOf}
+use Rattle.packing_writing.proofs.Fit.{no-room, room}
 use Rattle.grammar_writer.proofs.write_grammar.Statement.{statement}
 use Rattle.grammar_writer.proofs.write_grammar.Tie as tie
 
-write-field-requires : tie.Need-write-field-requires
-unfolding widths
-write-field-requires c κs =
-    let a = c .before .before .before .args in
-    let fs = grammarFields (a .symbols) (a .words) (a .n) (a .rules .now) in
-    omega (arith, block-room fs (a .out .now) (c .before .before .before .pre .5))
+grammar-length-requires : tie.Need-grammar-length-requires
+grammar-length-requires c κs = search needs
 
-write-field-requires-2 : tie.Need-write-field-requires-2
-unfolding widths
-write-field-requires-2 c κs =
-    let at-start = c .before .before .before .before .before .before .before in
-    let a = at-start .args in
-    let fs = grammarFields (a .symbols) (a .words) (a .n) (a .rules .now) in
-    omega (arith, block-room fs (a .out .now) (at-start .pre .5))
+returns : tie.Need-returns
+returns c =
+    let a = c .before .before .before .before .args in
+    no-room (blockOf (grammarFields (a .symbols) (a .words) (a .n) (a .rules .now))) (a .out .now) (c .before .grammar-length .ensures) (c .if1 .taken)
 
-write-field-requires-3 : tie.Need-write-field-requires-3
-unfolding widths
-write-field-requires-3 c κs =
-    let at-start = c .before .before .before .before .before .before .before .before .before .before .before in
-    let a = at-start .args in
-    let fs = grammarFields (a .symbols) (a .words) (a .n) (a .rules .now) in
-    omega (arith, block-room fs (a .out .now) (at-start .pre .5))
-
-cast-write-field : tie.Need-cast-write-field
-cast-write-field c = search needs
-
-write-field-requires-4 : tie.Need-write-field-requires-4
-unfolding widths
-write-field-requires-4 c κs =
-    let at-start = c .before .before .before .before .before .before .before .before .before .before .before .before .before .before .before in
-    let a = at-start .args in
-    let fs = grammarFields (a .symbols) (a .words) (a .n) (a .rules .now) in
-    omega (arith, block-room fs (a .out .now) (at-start .pre .5))
-
-write-rules-requires : tie.Need-write-rules-requires
-unfolding widths
-write-rules-requires c κs =
-    let at-start = c .before .before .before .before .before .before .before .before .before .before .before .before .before .before .before .before .before .before .before in
-    let a = at-start .args in
-    let fs = grammarFields (a .symbols) (a .words) (a .n) (a .rules .now) in
-    omega (arith, block-room fs (a .out .now) (at-start .pre .5))
+write-fields-requires : tie.Need-write-fields-requires
+write-fields-requires c κs = search needs
 
 same-length : tie.Need-same-length
 same-length c = search needs
 
-returns : tie.Need-returns
-returns c =
-    let at-write-field4 = c .before .before .before .before .before .before in
-    let at-write-field3 = at-write-field4 .before .before .before .before in
-    let at-write-field2 = at-write-field3 .before .before .before .before in
-    let at-write-field = at-write-field2 .before .before .before .before in
-    let at-slice-known = at-write-field .before .before .before in
-    let at-start = at-slice-known .before in
-    let a = at-start .args in
-    let fs = grammarFields (a .symbols) (a .words) (a .n) (a .rules .now) in
-    let f1 = one-written (all-remain {o = a .out .now} {start = 0} {fs = fs}) (at-write-field .write-field .ensures) in
-    let f2 = one-written f1 (at-write-field2 .write-field2 .ensures) in
-    let f3 = one-written f2 (at-write-field3 .write-field3 .ensures) in
-    let f4 = one-written f3 (at-write-field4 .write-field4 .ensures) in
-    block-written fs (a .out .now) (at-start .pre .5) (λ i. at-slice-known .slice-known .given i .fits) (c .before .before .write-rules .ensures ∙ f4 .rest)
+returns-2 : tie.Need-returns-2
+returns-2 c =
+    let a = c .before .before .before .before .before .before .before .before .args in
+    room (blockOf (grammarFields (a .symbols) (a .words) (a .n) (a .rules .now))) (a .out .now) (c .before .before .before .before .before .grammar-length .ensures) (c .before .before .before .before .if1 .left) (c .before .before .write-fields .ensures)
 
 pub write-grammar-spec : {M : Type 1} → statement M
 write-grammar-spec =
     tie.close
-    (tie.spec
-    write-field-requires
-    write-field-requires-2
-    write-field-requires-3
-    cast-write-field
-    write-field-requires-4
-    write-rules-requires
-    same-length
-    returns)
+    (tie.spec grammar-length-requires returns write-fields-requires same-length returns-2)

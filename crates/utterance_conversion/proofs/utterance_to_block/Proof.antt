@@ -5,8 +5,8 @@ use borrow.Author.Needs.{needs}
 use Rattle.packing.specs.Grammar.{grammarBlock}
 use Rattle.packing.specs.Conversion.{utteranceToBlock}
 use Rattle.utterance_conversion.specs.Under.{blockUnder}
-use Rattle.conversion.proofs.Fit.{handed-up}
-use Rattle.conversion.proofs.Sizes.{refusal-told, words-told}
+use Rattle.packing_writing.proofs.Fit.{handed-up}
+use Rattle.packing_grammar.proofs.Told.{refusal-told, words-told}
 use Rattle.utterance_conversion.proofs.utterance_to_block.Statement.{statement}
 use Rattle.utterance_conversion.proofs.utterance_to_block.Tie as tie
 

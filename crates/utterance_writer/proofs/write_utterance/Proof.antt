@@ -1,62 +1,38 @@
--- The head's fields and the slots', one after the other, are the block's bits in front of what stood there.
+-- The block is written where its length, told by how many numbers the slots take, fits.
 use mathlib.Core.Path.{_∙_}
 use native.Mathlib.Omega.{arith}
 use borrow.Author.Needs.{needs}
-use Rattle.bits.specs.Fields.{widths}
-use Rattle.bits.proofs.Remaining.{all-remain, one-written}
-use Rattle.packing_writing.specs.Arrays.{utteranceFields}
-use Rattle.packing_writing.proofs.Block.{block-room, block-written}
+use Rattle.packing_writing.specs.Arrays.{utteranceFields, blockOf}
+use Rattle.packing_writing.proofs.Fit.{no-room, room}
+use Rattle.utterance_writer.proofs.Slots.{block-length, slots-small}
 use Rattle.utterance_writer.proofs.write_utterance.Statement.{statement}
 use Rattle.utterance_writer.proofs.write_utterance.Tie as tie
 
-write-field-requires : tie.Need-write-field-requires
-unfolding widths
-write-field-requires c κs =
-    let a = c .before .before .before .args in
-    let fs = utteranceFields (a .words) (a .n) (a .slots .now) in
-    omega (arith, block-room fs (a .out .now) (c .before .before .before .pre .4))
+utterance-length-requires : tie.Need-utterance-length-requires
+utterance-length-requires c κs = search needs
 
-cast-write-field : tie.Need-cast-write-field
-cast-write-field c = search needs
+returns : tie.Need-returns
+returns c =
+    let a = c .before .before .before .before .args in
+    let n = c .before .utterance-length .ensures ∙ block-length (a .words) (a .slots .now) (a .n) (a .numbers) (c .before .before .before .before .pre .5) in
+    no-room (blockOf (utteranceFields (a .words) (a .n) (a .slots .now))) (a .out .now) n (c .if1 .taken)
 
-write-field-requires-2 : tie.Need-write-field-requires-2
-unfolding widths
-write-field-requires-2 c κs =
-    let at-start = c .before .before .before .before .before .before .before in
-    let a = at-start .args in
-    let fs = utteranceFields (a .words) (a .n) (a .slots .now) in
-    omega (arith, block-room fs (a .out .now) (at-start .pre .4))
-
-write-slots-requires : tie.Need-write-slots-requires
-unfolding widths
-write-slots-requires c κs =
-    let at-start = c .before .before .before .before .before .before .before .before .before .before .before in
-    let a = at-start .args in
-    let fs = utteranceFields (a .words) (a .n) (a .slots .now) in
-    omega (arith, block-room fs (a .out .now) (at-start .pre .4))
+write-fields-requires : tie.Need-write-fields-requires
+write-fields-requires c κs =
+    let a = c .before .before .before .before .before .args in
+    let n = block-length (a .words) (a .slots .now) (a .n) (a .numbers) (c .before .before .before .before .before .pre .5) in
+    omega (arith, slots-small (a .words) (a .slots .now) (a .n) (a .numbers) (c .before .before .before .before .before .pre .5) (omega arith) (omega arith) (omega arith))
 
 same-length : tie.Need-same-length
 same-length c = search needs
 
-returns : tie.Need-returns
-returns c =
-    let at-write-field2 = c .before .before .before .before .before .before in
-    let at-write-field = at-write-field2 .before .before .before .before in
-    let at-slice-known = at-write-field .before .before .before in
-    let at-start = at-slice-known .before in
-    let a = at-start .args in
-    let fs = utteranceFields (a .words) (a .n) (a .slots .now) in
-    let f1 = one-written (all-remain {o = a .out .now} {start = 0} {fs = fs}) (at-write-field .write-field .ensures) in
-    let f2 = one-written f1 (at-write-field2 .write-field2 .ensures) in
-    block-written fs (a .out .now) (at-start .pre .4) (λ i. at-slice-known .slice-known .given i .fits) (c .before .before .write-slots .ensures ∙ f2 .rest)
+returns-2 : tie.Need-returns-2
+returns-2 c =
+    let a = c .before .before .before .before .before .before .before .before .args in
+    let n = c .before .before .before .before .before .utterance-length .ensures ∙ block-length (a .words) (a .slots .now) (a .n) (a .numbers) (c .before .before .before .before .before .before .before .before .pre .5) in
+    room (blockOf (utteranceFields (a .words) (a .n) (a .slots .now))) (a .out .now) n (c .before .before .before .before .if1 .left) (c .before .before .write-fields .ensures)
 
 pub write-utterance-spec : {M : Type 1} → statement M
 write-utterance-spec =
     tie.close
-    (tie.spec
-    write-field-requires
-    cast-write-field
-    write-field-requires-2
-    write-slots-requires
-    same-length
-    returns)
+    (tie.spec utterance-length-requires returns write-fields-requires same-length returns-2)

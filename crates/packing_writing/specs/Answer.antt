@@ -1,4 +1,4 @@
--- What a conversion answers and leaves behind: document 01, "The services": the length written, or the refusal. Assumes
+-- What a writer answers and leaves behind: document 01, "The services": the length written, or the refusal. Assumes
 -- nothing.
 use mathlib.Core.Path.{_≡_}
 use mathlib.Core.List.{List}
@@ -6,7 +6,7 @@ use Prim.Native.Nat.{ℕ}
 use lib.ListN.{length}
 use Rattle.packing.specs.Parse.{Verdict, accepted, refused}
 use Rattle.packing.specs.Conversion.{fitting, written}
-use Rattle.conversion.specs.declared.Written as W
+use Rattle.packing_writing.specs.declared.Written as W
 
 abbrev pub writtenOf : Verdict (List ℕ) → W.Written
 writtenOf (accepted l) = W.the-variants.Length (length l)
