@@ -1,5 +1,5 @@
-//! A second implementation of the services, written from document 01 (docs of the project) and not from
-//! the Rattle code, and what is needed to compare the proved library with it.
+//! A second implementation of the services, written from document 01 (README.md) and not from the Rattle code, and what
+//! is needed to compare the proved library with it.
 //!
 //! | modules | hold |
 //! |---|---|
