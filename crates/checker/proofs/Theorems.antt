@@ -17,15 +17,9 @@ use Rattle.packing.specs.Reading.{blockOfReading}
 use Rattle.packing.proofs.Parse.{granted}
 use Rattle.packing.proofs.Whole.{grammar-block-out, utterance-block-out}
 use Rattle.derivation.specs.Derivation.{Tree, Derivation, reading}
-use Rattle.checker.specs.Check.{check, answerOf}
+use Rattle.checker.specs.Check.{check, answerOf, OfDerivation}
 use Rattle.checker.specs.declared.Checked.the-variants.{Passes}
 use Rattle.checker.proofs.Passed.{passed-out, passed-back}
-
--- the block is the packed reading of a derivation, with its own weight, of what the grammar block and the utterance block mean
-abbrev pub OfDerivation : List ℕ → List ℕ → List ℕ → Type 0
-OfDerivation grammar utterance block =
-    (g : Grammar) × (u : Utterance) × (t : Tree) × (grammarBlock grammar ≡ accepted g)
-    × (utteranceBlock (g .words) utterance ≡ accepted u) × Derivation g u t × (block ≡ blockOfReading (length (g .rules)) (reading g u t))
 
 module _ (grammar utterance block : List ℕ) (bytes : Bytes block) where
   -- Under a grammar and an utterance that are accepted, the check accepts a block with the reading d exactly if d is a

@@ -1,5 +1,6 @@
 -- The check of a reading: document 01, "The services" and the rows grammar block, utterance block and reading block of
 -- "Where each check stands". Stands on packing's and derivation's definitions.
+use mathlib.Core.Path.{_≡_}
 use mathlib.Core.Bool.{Bool, true, false}
 use mathlib.Core.List.{List, [], _∷_}
 use mathlib.Core.Option.{Option, none, some}
@@ -11,8 +12,8 @@ use Rattle.packing.specs.Meaning.{Grammar, Utterance, Reading, edges, sym}
 use Rattle.packing.specs.Parse.{Parse, parsed, failed, Verdict, accepted, refused, _then_}
 use Rattle.packing.specs.Grammar.{grammarBlock}
 use Rattle.packing.specs.Utterance.{utteranceBlock}
-use Rattle.packing.specs.Reading.{readingFrom}
-use Rattle.derivation.specs.Derivation.{Tree, walk, weight}
+use Rattle.packing.specs.Reading.{readingFrom, blockOfReading}
+use Rattle.derivation.specs.Derivation.{Tree, walk, weight, Derivation, reading}
 use Rattle.derivation.specs.List.{trees}
 use Rattle.checker.specs.declared.Checked.{Checked}
 use Rattle.checker.specs.declared.Checked.the-variants.{Passes, Refused}
@@ -53,3 +54,10 @@ check grammar utterance reading =
 abbrev pub answerOf : Verdict Reading → Checked
 answerOf (accepted d) = Passes
 answerOf (refused n) = Refused n
+
+-- what is to pass: the block is the packed reading of a derivation, with its own weight, of what the grammar block and the
+-- utterance block mean
+abbrev pub OfDerivation : List ℕ → List ℕ → List ℕ → Type 0
+OfDerivation grammar utterance block =
+    (g : Grammar) × (u : Utterance) × (t : Tree) × (grammarBlock grammar ≡ accepted g)
+    × (utteranceBlock (g .words) utterance ≡ accepted u) × Derivation g u t × (block ≡ blockOfReading (length (g .rules)) (reading g u t))
