@@ -21,8 +21,8 @@ use Rattle.chart.specs.Model.{Indexed}
 use Rattle.chart_list.proofs.Accepted.{Holds, dims, chart-holds}
 use Rattle.chart_index.specs.Index.{indexOf}
 use Rattle.chart_index.proofs.Index.{indexed}
-use Rattle.listing.specs.Listing.{tableSize, readingLength, joined, listed, list, Promised}
-use Rattle.listing.specs.Model.{shortage, blocksAt, Filled, UtteranceListed, GrammarListed}
+use Rattle.listing.specs.Listing.{tableSize, readingLength, joined, listed, list}
+use Rattle.listing.specs.Model.{shortage, Filled, Promised, UtteranceListed, GrammarListed}
 use Rattle.listing.specs.declared.Listed.{Listed}
 use Rattle.listing.specs.declared.Listed.the-variants.{Found, Refused}
 use Rattle.listing.proofs.Sizes.{Met, all-met, short, edges-few}
@@ -48,8 +48,10 @@ module _ (g : Grammar) (u : Utterance) (okg : ValidGrammar g) (oku : ValidUttera
       length-joined (readingLength (length u) R) ls (sized-blocks g u N) ∙ ap (λ (k : ℕ). k * readingLength (length u) R) count in
       rw (listing-accepts g u N okg oku (length work) (length out) (met .positive) (met .few) (met .table) (met .room)) (
         ap Found (sym count),
-        filled .emptied ∙ holds .clears ∙ ap (λ (k : ℕ). replicate k 0) (filled .size),
-        filled .blocks ∙ rw (blocks-written g u oku N rules (filled .table) m holds, size),
+        (
+          filled .emptied ∙ holds .clears ∙ ap (λ (k : ℕ). replicate k 0) (filled .size),
+          filled .blocks ∙ rw (blocks-written g u oku N rules (filled .table) m holds, size),
+        ),
       )
 
 -- the ways out where an accepted utterance is in an array
@@ -58,7 +60,7 @@ module _ (rules : List ℕ) (z : Sizes) (slots : List ℕ) (n N : ℕ) (work out
       → UtteranceListed rules z slots n N work out (Refused x) work out
   utterance-refused e short-of g u okg oku ez en begun begun′ =
       let is = rw (ez, en) at e in
-      rw (short g u N (length work) (length out) (λ none. short-of (is ∙ none)), is) (refl, refl, refl)
+      rw (short g u N (length work) (length out) (λ none. short-of (is ∙ none)), is) (refl, (refl, refl))
 
   pub utterance-found : (array index₀ : List ℕ) {index : List ℕ} {count cells m : ℕ} {work′ out′ : List ℕ}
       → shortage (z .symbols) (z .rules) n N (length work) (length out) ≡ 0 → cells ≡ z .symbols * (n * (n + 1) / 2)
@@ -82,7 +84,7 @@ module _ (rules : List ℕ) (z : Sizes) (slots : List ℕ) (n N : ℕ) (work out
 -- where the rules of an accepted grammar are in an array
 module _ (rules : List ℕ) (z : Sizes) (utterance : List ℕ) (N : ℕ) (work out : List ℕ) where
   pub grammar-refused : {n : ℕ} → utteranceBlock (z .words) utterance ≡ refused n → GrammarListed rules z utterance N work out (Refused n) work out
-  grammar-refused e g okg ez begun = rw (rw ez at e) (refl, refl, refl)
+  grammar-refused e g okg ez begun = rw (rw ez at e) (refl, (refl, refl))
 
   pub grammar-listed : (slots : List ℕ) {count : ℕ} {r : Listed} {work′ out′ : List ℕ} (u : Utterance)
       → utteranceBlock (z .words) utterance ≡ accepted u → count ≡ length u → Begins (slotNumbers (z .words) u) slots
@@ -97,7 +99,7 @@ module _ (grammar utterance : List ℕ) (N : ℕ) (work out : List ℕ) where
   pub block-refused : {n : ℕ} → grammarBlock grammar ≡ refused n
       → Promised (list grammar utterance N (length work) (length out)) work out (Refused n) work out
   unfolding list
-  block-refused e = rw e (refl, refl, refl)
+  block-refused e = rw e (refl, (refl, refl))
 
   pub block-listed : (rules : List ℕ) {z : Sizes} {r : Listed} {work′ out′ : List ℕ} (g : Grammar) → grammarBlock grammar ≡ accepted g → z ≡ sizes g
       → Begins (ruleNumbers g) rules → GrammarListed rules z utterance N work out r work′ out′

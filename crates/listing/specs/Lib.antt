@@ -1,2 +1,3 @@
 pub mod Listing
+pub mod Demand3
 pub mod Model

@@ -1,6 +1,5 @@
 -- The listing: document 01, "Tables", "The list of demand 3" and the rows grammar block, utterance block and listing of
 -- "Where each check stands". Stands on packing's and derivation's definitions.
-use mathlib.Core.Path.{_≡_}
 use mathlib.Core.Bool.{Bool, true, false}
 use mathlib.Core.List.{List, [], _∷_, _++_, map}
 use Prim.Native.Nat.{ℕ, _+_, _-_, _*_, _/_}
@@ -62,7 +61,3 @@ outputAfter (refused n) out = out
 abbrev pub workAfter : Verdict (List (List ℕ)) → List ℕ → List ℕ
 workAfter (accepted ls) work = replicate (length work) 0
 workAfter (refused n) work = work
-
--- what is promised of the answer and of both slices afterwards, where this verdict is due
-abbrev pub Promised : Verdict (List (List ℕ)) → (work out : List ℕ) → Listed → (work′ out′ : List ℕ) → Type 0
-Promised v work out r work′ out′ = (r ≡ answerOf v) × (work′ ≡ workAfter v work) × (out′ ≡ outputAfter v out)

@@ -7,7 +7,7 @@ use lib.Dec.{ltb}
 use lib.ListN.{length, drop, replicate}
 use Rattle.bits.specs.Bits.{pick}
 use Rattle.packing.specs.Meaning.{sym, Grammar, Utterance, Reading}
-use Rattle.packing.specs.Parse.{_then_}
+use Rattle.packing.specs.Parse.{Verdict, _then_}
 use Rattle.packing.specs.Flat.{Begins, ruleNumbers, slotNumbers}
 use Rattle.packing.specs.Loop.{iter}
 use Rattle.packing.specs.Store.{storeAll}
@@ -20,7 +20,7 @@ use Rattle.packing_reading.specs.Answer.{readingOf}
 use Rattle.chart_table.specs.declared.Dims.{Dims}
 use Rattle.chart_table.specs.Table.{cellOf, weightAt, foundOf, cleared}
 use Rattle.chart_list.specs.Search.{listOf, spelled}
-use Rattle.listing.specs.Listing.{tableSize, readingLength, listed, Promised}
+use Rattle.listing.specs.Listing.{tableSize, readingLength, listed, answerOf, outputAfter, workAfter}
 use Rattle.listing.specs.declared.Listed.{Listed}
 
 -- the refusal of the first test that holds: none asked for, too many, the table short, the output short; 0 where none holds
@@ -53,6 +53,10 @@ pub record Filled (rules : List ℕ) (R : ℕ) (edges index : List ℕ) (d : Dim
   pub blocks : out′ ≡ blocksAt table rules d n R r ++ drop (r * readingLength n R) out
   pub size : length table ≡ length work
   pub emptied : work′ ≡ cleared table d
+
+-- what is promised of the answer and of both slices afterwards, where this verdict is due
+abbrev pub Promised : Verdict (List (List ℕ)) → (work out : List ℕ) → Listed → (work′ out′ : List ℕ) → Type 0
+Promised v work out r work′ out′ = (r ≡ answerOf v) × ((work′ ≡ workAfter v work) × (out′ ≡ outputAfter v out))
 
 -- what is promised where the slots of an utterance are in an array, and where the rules of a grammar are
 abbrev pub UtteranceListed : (rules : List ℕ) → Sizes → (slots : List ℕ) (n N : ℕ) (work out : List ℕ) → Listed → (work′ out′ : List ℕ) → Type 0

@@ -14,7 +14,7 @@ ghost use Prim.Native.Nat.{_+_, _-_, _*_, _/_, _≤_, _<_};
 ghost use lib.ListN.{length, drop};
 ghost use Rattle.packing_grammar.specs.Answer.{Bounded};
 ghost use Rattle.chart_table.specs.Table.{Small};
-ghost use Rattle.listing.specs.Listing.{readingLength, list, Promised};
+ghost use Rattle.listing.specs.Listing.{readingLength, list, answerOf, outputAfter, workAfter};
 ghost use Rattle.listing.specs.Model.{shortage, blockAt, blocksAt, Filled, UtteranceListed, GrammarListed};
 
 // What the listing answers: the number found.
@@ -175,8 +175,9 @@ pub fn listing(
     work: &mut [u32],
     out: &mut [u8],
 ) -> Listed
-    ensures { λ r. ⌜ Promised (list (now (grammar .entry)) (now (utterance .entry)) wanted (length (now (work .entry))) (length (now (out .entry))))
-        (now (work .entry)) (now (out .entry)) r (now (work .exit)) (now (out .exit)) ⌝ }
+    ensures { λ r. ⌜ r ≡ answerOf (list (now (grammar .entry)) (now (utterance .entry)) wanted (length (now (work .entry))) (length (now (out .entry)))) ⌝ }
+    ensures { λ r. ⌜ now (work .exit) ≡ workAfter (list (now (grammar .entry)) (now (utterance .entry)) wanted (length (now (work .entry))) (length (now (out .entry)))) (now (work .entry)) ⌝ }
+    ensures { λ r. ⌜ now (out .exit) ≡ outputAfter (list (now (grammar .entry)) (now (utterance .entry)) wanted (length (now (work .entry))) (length (now (out .entry)))) (now (out .entry)) ⌝ }
 {
     let mut rules = [0u32; 1280];
     match packing_grammar::read_block(grammar, &mut rules) {

@@ -12,7 +12,8 @@ ghost use Rattle.packing.specs.Conversion.{grammarToBlock, grammarToSheet, utte
 ghost use Rattle.checker.specs.Check.{check};
 ghost use Rattle.listing.specs.Listing.{list, outputAfter, workAfter};
 ghost use Rattle.specimen.specs.Specimen.{asked};
-ghost use Rattle.spireyerba.specs.Code.{checkCode, listCode, lengthCode, writtenCode, SmallWritten, AnswersCode};
+ghost use Rattle.spireyerba.specs.Code.{checkCode, listCode, lengthCode, AnswersCode};
+ghost use Rattle.spireyerba.specs.Model.{writtenCode, SmallWritten};
 
 // A count as a C number.
 fn count(n: usize) -> i32

@@ -1,0 +1,125 @@
+-- The C number of an answer is the one of the verdict v that it tells, since a small number fits 32 bits. Of each service r is
+-- the answer, and s is its case where the code goes by cases. Assumes nothing.
+use mathlib.Core.Path.{_≡_, refl, sym, subst, ap, _∙_}
+use mathlib.Core.List.{List}
+use Prim.Native.Nat.{ℕ, _<_}
+use native.Mathlib.Omega.{arith}
+use lib.IntN.{ℤ, pos, negℤ}
+use lib.ListN.{length}
+use mir.Syntax.{w32}
+use mir.Val.{toZ, ofZ, SFits}
+use Rattle.packing.specs.Meaning.{Reading}
+use Rattle.packing.specs.Parse.{Verdict, accepted, refused}
+use Rattle.packing_writing.specs.Answer.{writtenOf}
+use Rattle.packing_writing.specs.declared.Written as W
+use Rattle.checker.specs.Check as Check
+use Rattle.checker.specs.declared.Checked as C
+use Rattle.listing.specs.Listing as Listing
+use Rattle.listing.specs.declared.Listed as L
+use Rattle.specimen.specs.declared.Answered as A
+use Rattle.spireyerba.specs.Code.{codeOf, answerCode}
+use Rattle.spireyerba.specs.Model.{writtenCode, SmallWritten}
+use Rattle.spireyerba.proofs.Signed.{back, fits-pos, fits-neg}
+
+-- a verdict whose number is small
+pub data Small {A : Type 0} (size : A → ℕ) : Verdict A → Type 0 where
+  small-size : {a : A} → size a < 2147483648 → Small size (accepted a)
+  small-refusal : {n : ℕ} → n < 2147483648 → Small size (refused n)
+
+fits-code : {A : Type 0} {size : A → ℕ} {v : Verdict A} → Small size v → SFits w32 (codeOf size v)
+fits-code (small-size h) = fits-pos _ h
+fits-code (small-refusal h) = fits-neg _ h
+
+-- the law for the services whose answer tells the verdict
+module _ {A B : Type 0} {size : A → ℕ} (tell : Verdict A → B) (code : B → ℤ) (same : (v : Verdict A) → code (tell v) ≡ codeOf size v)
+    {v : Verdict A} {r s : B} where
+  told-code : r ≡ tell v → r ≡ s → code s ≡ codeOf size v
+  told-code e told = ap code (sym told ∙ e) ∙ same v
+
+  told-number : {z : ℤ} → Small size v → r ≡ tell v → r ≡ s → z ≡ code s → toZ w32 (ofZ w32 z) ≡ codeOf size v
+  told-number small e told p = back (codeOf size v) (fits-code small) (p ∙ told-code e told)
+
+-- the conversions
+module _ {v : Verdict (List ℕ)} (small : Small length v) {r : W.Written} (e : r ≡ writtenOf v) where
+  pub written-small : SmallWritten r
+  written-small = rw e (go small)
+    where
+      go : {v : Verdict (List ℕ)} → Small length v → SmallWritten (writtenOf v)
+      go (small-size h) = h
+      go (small-refusal h) = h
+
+  pub written-number : {z : ℤ} → z ≡ writtenCode r → toZ w32 (ofZ w32 z) ≡ codeOf length v
+  written-number p = told-number writtenOf writtenCode same small e refl p
+    where
+      same : (v : Verdict (List ℕ)) → writtenCode (writtenOf v) ≡ codeOf length v
+      same (accepted l) = refl
+      same (refused n) = refl
+
+-- the check
+abbrev checkedCode : C.Checked → ℤ
+checkedCode C.the-variants.Passes = pos 0
+checkedCode (C.the-variants.Refused n) = negℤ (pos n)
+
+abbrev SmallChecked : C.Checked → Type 0
+SmallChecked C.the-variants.Passes = Unit {0}
+SmallChecked (C.the-variants.Refused n) = n < 2147483648
+
+checked-same : (v : Verdict Reading) → checkedCode (Check.answerOf v) ≡ codeOf (λ d. 0) v
+checked-same (accepted d) = refl
+checked-same (refused n) = refl
+
+module _ {v : Verdict Reading} (small : Small (λ d. 0) v) {r s : C.Checked} (e : r ≡ Check.answerOf v) (told : r ≡ s) where
+  pub checked-small : SmallChecked s
+  checked-small = subst SmallChecked (sym e ∙ told) (go small)
+    where
+      go : {v : Verdict Reading} → Small (λ d. 0) v → SmallChecked (Check.answerOf v)
+      go (small-size h) = tt
+      go (small-refusal h) = h
+
+  pub checked-code : checkedCode s ≡ codeOf (λ d. 0) v
+  checked-code = told-code Check.answerOf checkedCode checked-same {v = v} e told
+
+  pub checked-number : {z : ℤ} → z ≡ checkedCode s → toZ w32 (ofZ w32 z) ≡ codeOf (λ d. 0) v
+  checked-number p = told-number Check.answerOf checkedCode checked-same small e told p
+
+-- the listing
+abbrev listedCode : L.Listed → ℤ
+listedCode (L.the-variants.Found m) = pos m
+listedCode (L.the-variants.Refused n) = negℤ (pos n)
+
+abbrev SmallListed : L.Listed → Type 0
+SmallListed (L.the-variants.Found m) = m < 2147483648
+SmallListed (L.the-variants.Refused n) = n < 2147483648
+
+module _ {v : Verdict (List (List ℕ))} (small : Small length v) {r s : L.Listed} (e : r ≡ Listing.answerOf v) (told : r ≡ s) where
+  pub listed-small : SmallListed s
+  listed-small = subst SmallListed (sym e ∙ told) (go small)
+    where
+      go : {v : Verdict (List (List ℕ))} → Small length v → SmallListed (Listing.answerOf v)
+      go (small-size h) = h
+      go (small-refusal h) = h
+
+  pub listed-number : {z : ℤ} → z ≡ listedCode s → toZ w32 (ofZ w32 z) ≡ codeOf length v
+  listed-number p = told-number Listing.answerOf listedCode same small e told p
+    where
+      same : (v : Verdict (List (List ℕ))) → listedCode (Listing.answerOf v) ≡ codeOf length v
+      same (accepted ls) = refl
+      same (refused n) = refl
+
+-- the specimen, of a string of length n
+abbrev pub SmallAnswered : ℕ → A.Answered → Type 0
+SmallAnswered n A.the-variants.Written = n < 2147483648
+SmallAnswered n A.the-variants.Nothing = Unit {0}
+SmallAnswered n (A.the-variants.Refused m) = m < 2147483648
+
+fits-answered : (n : ℕ) (a : A.Answered) → SmallAnswered n a → SFits w32 (answerCode n a)
+fits-answered n A.the-variants.Written h = fits-pos n h
+fits-answered n A.the-variants.Nothing h = fits-pos 0 (omega arith)
+fits-answered n (A.the-variants.Refused m) h = fits-neg m h
+
+module _ (n : ℕ) {r s : A.Answered} (small : SmallAnswered n r) (told : r ≡ s) where
+  pub answered-small : SmallAnswered n s
+  answered-small = subst (SmallAnswered n) told small
+
+  pub answered-number : {z : ℤ} → z ≡ answerCode n s → toZ w32 (ofZ w32 z) ≡ answerCode n r
+  answered-number p = back (answerCode n r) (fits-answered n r small) (p ∙ ap (answerCode n) (sym told))
