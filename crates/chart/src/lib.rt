@@ -1,12 +1,12 @@
 // One rank of a cell (head, from, to) placed in the work table, from what the table has of it and of its parts.
 mod selection;
 
+use chart_keys::NONE;
 use chart_table::Dims;
-use chart_table::NONE;
 use chart_table::cell_of;
 use chart_table::put_key;
 use chart_table::tie_at;
-use chart_table::waiting::settle;
+use chart_waiting::settle;
 use packing::Sym;
 use selection::base;
 use selection::floor_of;

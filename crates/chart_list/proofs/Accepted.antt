@@ -20,7 +20,7 @@ use Rattle.derivation.proofs.Slots.{edges-short, edges-cheap}
 use Rattle.derivation.proofs.Readings.{weight-bound}
 use Rattle.chart_table.specs.declared.Dims.{Dims}
 use Rattle.chart_table.specs.Table.{cellOf, weightAt, foundOf, cleared}
-use Rattle.chart.specs.Model.{Indexed}
+use Rattle.chart_candidates.specs.Candidates.{Indexed}
 use Rattle.chart_list.specs.Search.{listOf, spelled}
 use Rattle.chart_list.proofs.Good.{Setting}
 use Rattle.chart_list.proofs.Chart.{Lists, chart-lists}

@@ -8,7 +8,7 @@ use native.Mathlib.Omega.{arith}
 use lib.Dec.{ltb, eqb}
 use borrow.Author.Tests.{lt-ltb, le-ltb, eq-eqb, ne-eqb}
 use Rattle.bits.specs.Bits.{pick}
-use Rattle.chart_table.specs.Table.{none}
+use Rattle.chart_keys.specs.Keys.{none}
 use Rattle.chart_list.proofs.Queue.{Member, slot, low, high, Valid, keyIn, Arranged}
 
 slot≢low : (y : ℕ) → slot y ≢ low

@@ -22,8 +22,10 @@ use Rattle.derivation.specs.List.{ranked}
 use Rattle.derivation.proofs.Lists.{at-length}
 use Rattle.derivation.proofs.Rows.{Row, row, RowOf, leaf-row, node-row, RowAt, row-one}
 use Rattle.chart_table.specs.declared.Dims.{Dims}
-use Rattle.chart_table.specs.Table.{tieOf, keyOf, ruleIn, splitIn, leftIn, rightIn, cellOf, tieAt}
-use Rattle.chart.specs.Model.{pairKey, wordBase, pairBase, edgeBase, WordWith, PairWith, wordLeaf, edgeLeaves, leavesOf, splitSeeds, ruleSeeds, seedsOf, pairFollowers, followers}
+use Rattle.chart_keys.specs.Keys.{tieOf, keyOf, ruleIn, splitIn, leftIn, rightIn}
+use Rattle.chart_table.specs.Table.{cellOf, tieAt}
+use Rattle.chart_candidates.specs.Candidates.{pairKey, wordBase, pairBase, edgeBase, WordWith, PairWith, wordLeaf, edgeLeaves, leavesOf, splitSeeds, ruleSeeds, seedsOf}
+use Rattle.chart.specs.Model.{pairFollowers, followers}
 use Rattle.chart_list.proofs.Keys.{Fits, RowFits, rowTie, rule-in, split-in, left-in, right-in}
 use Rattle.chart_list.proofs.Entries.{Cell}
 use Rattle.chart_list.proofs.Select.{Selects, Between, Among, selects-one, selects-none, selects-same, selects-then, selects-when, selects-unless, selects-over, selects-members}

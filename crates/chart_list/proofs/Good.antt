@@ -15,8 +15,9 @@ use Rattle.derivation.specs.Derivation.{At, Tree, Derives, weight}
 use Rattle.derivation.specs.List.{ranked}
 use Rattle.derivation.proofs.Rows.{Row, row, rowWeight, RowAt}
 use Rattle.chart_table.specs.declared.Dims.{Dims}
-use Rattle.chart_table.specs.Table.{cellOf, weightAt, tieAt, lastIn, waitingAt, waitingIn}
-use Rattle.chart.specs.Model.{Indexed}
+use Rattle.chart_table.specs.Table.{cellOf, weightAt, tieAt, lastIn}
+use Rattle.chart_waiting.specs.Waiting.{waitingAt, waitingIn}
+use Rattle.chart_candidates.specs.Candidates.{Indexed}
 use Rattle.chart_list.proofs.Keys.{rowTie, RowFits}
 use Rattle.chart_list.proofs.Entries.{Cell, Planned}
 use Rattle.chart_list.proofs.Queue.{Queue}

@@ -7,7 +7,7 @@ use native.Mathlib.Omega.{arith}
 use Rattle.derivation.specs.Order.{_▸_}
 use Rattle.derivation.proofs.Comparison.{compare-lawful, compare-self, compare-same, compare-lt, compare-gt, compare-below, turn-gt}
 use Rattle.derivation.proofs.Rows.{Row, row, rowWeight, rowOrder, row-same}
-use Rattle.chart_table.specs.Table.{tieOf, ruleIn, splitIn, leftIn, rightIn, keyOf, none}
+use Rattle.chart_keys.specs.Keys.{tieOf, ruleIn, splitIn, leftIn, rightIn, keyOf, none}
 
 abbrev pub rowTie : Row → ℕ
 rowTie (row w r j p q) = tieOf r j p q

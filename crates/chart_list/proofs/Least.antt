@@ -18,8 +18,11 @@ use Rattle.derivation.proofs.Lists.{at-length}
 use Rattle.derivation.proofs.Rows.{Row, row, rowWeight, row-weight, row-derives, RowAt, row-below, row-one}
 use Rattle.derivation.proofs.Frontier.{Frontier, a-leaf, a-seed, right-follower, left-follower, frontier-row}
 use Rattle.chart_table.specs.declared.Dims.{Dims}
-use Rattle.chart_table.specs.Table.{none, cellOf, weightAt}
-use Rattle.chart.specs.Model.{lessOne, joinKey, pairKey, floorOf}
+use Rattle.chart_keys.specs.Keys.{none}
+use Rattle.chart_table.specs.Table.{cellOf, weightAt}
+use Rattle.chart_keys.specs.Keys.{lessOne, joinKey}
+use Rattle.chart_candidates.specs.Candidates.{pairKey}
+use Rattle.chart.specs.Model.{floorOf}
 use Rattle.chart_list.proofs.Keys.{RowFits, rowKey}
 use Rattle.chart_list.proofs.Entries.{Cell, under-cap}
 use Rattle.chart_list.proofs.Select.{Selects}

@@ -18,7 +18,8 @@ use Rattle.packing.proofs.Loop.{iter-keeps}
 use Rattle.derivation.specs.List.{ranked}
 use Rattle.derivation.proofs.Rows.{row-below}
 use Rattle.chart_table.specs.declared.Dims.{Dims}
-use Rattle.chart_table.specs.Table.{cellOf, entryOf, weightAt, waitingIn, foundOf}
+use Rattle.chart_table.specs.Table.{cellOf, entryOf, weightAt, foundOf}
+use Rattle.chart_waiting.specs.Waiting.{waitingIn}
 use Rattle.chart_list.specs.Search.{extended, next, headsOf, lengthOf, firstsOf, further, listOf}
 use Rattle.chart_list.proofs.Entries.{Cell, found-test}
 use Rattle.chart_list.proofs.Good.{Setting, Found, Known, Good, known-grows, Grown, grown-none, grown-then}

@@ -12,7 +12,9 @@ use Rattle.packing.specs.declared.Sym.{Sym}
 use Rattle.packing.specs.Meaning.{Grammar, Edge}
 use Rattle.derivation.proofs.Rows.{Row, rowWeight, RowAt}
 use Rattle.chart_table.specs.declared.Dims.{Dims}
-use Rattle.chart_table.specs.Table.{none, cellOf, entryOf, weightAt, tieAt, lastIn, waitingAt, waitingIn}
+use Rattle.chart_keys.specs.Keys.{none}
+use Rattle.chart_table.specs.Table.{cellOf, entryOf, weightAt, tieAt, lastIn}
+use Rattle.chart_waiting.specs.Waiting.{waitingAt, waitingIn}
 use Rattle.chart_list.proofs.Keys.{RowFits, rowKey, key-weight, key-tie, key-some}
 use Rattle.chart_list.proofs.Entries.{Cell, cell-below, cell-one, entry-one, entry-within, past-cap, same-entry, under-cap}
 use Rattle.chart_list.proofs.Slots.{put-weight, put-tie, put-weight-other, put-tie-other}

@@ -12,7 +12,7 @@ use Rattle.packing.specs.declared.Sym.{Sym}
 use Rattle.packing.specs.Meaning.{Grammar, Edge}
 use Rattle.derivation.proofs.Rows.{Row}
 use Rattle.derivation.proofs.Frontier.{Frontier}
-use Rattle.chart_table.specs.Table.{none}
+use Rattle.chart_keys.specs.Keys.{none}
 use Rattle.chart_list.proofs.Keys.{RowFits, rowKey, key-one}
 use Rattle.chart_list.proofs.Owners.{OwnerOf, owner-one, frontier-more, frontier-less}
 

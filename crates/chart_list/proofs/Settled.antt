@@ -15,7 +15,9 @@ use borrow.Author.Tests.{ltb-true, ltb-false, le-ltb}
 use Rattle.bits.specs.Bits.{pick}
 use Rattle.packing.specs.Loop.{iter}
 use Rattle.chart_table.specs.declared.Dims.{Dims}
-use Rattle.chart_table.specs.Table.{entryOf, weightAt, tieAt, none, lastIn, putKey, waitingAt, waitingIn, putWaiting, moveWaiting, putCount, sooner, soonest, replaced, appended, settled}
+use Rattle.chart_keys.specs.Keys.{none}
+use Rattle.chart_table.specs.Table.{entryOf, weightAt, tieAt, lastIn, putKey}
+use Rattle.chart_waiting.specs.Waiting.{waitingAt, waitingIn, putWaiting, moveWaiting, putCount, sooner, soonest, replaced, appended, settled}
 use Rattle.chart_list.proofs.Entries.{entry-one, entry-within}
 use Rattle.chart_list.proofs.Slots.{last-cases, put-none, keyed, put-is, put-length, put-waiting, put-count, put-last, put-last-grows, paired, paired-length, paired-weight, paired-tie, paired-same, paired-other, paired-count, paired-last, count-length, count-weight, count-tie, count-same, count-other, count-waiting, count-last}
 use Rattle.chart_list.proofs.Queue.{Member, slot, low, high, Valid, keyIn, Arranged}

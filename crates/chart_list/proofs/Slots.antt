@@ -15,7 +15,9 @@ use lib.Seq.{getD-set-same, getD-set-other}
 use borrow.Author.Tests.{lt-ltb, le-ltb, ltb-true, ltb-false}
 use Rattle.bits.specs.Bits.{pick}
 use Rattle.chart_table.specs.declared.Dims.{Dims}
-use Rattle.chart_table.specs.Table.{entryOf, weightAt, tieAt, keyOf, none, lastIn, putLast, putKey, waitingAt, waitingIn, putCount}
+use Rattle.chart_keys.specs.Keys.{keyOf, none}
+use Rattle.chart_table.specs.Table.{entryOf, weightAt, tieAt, lastIn, putLast, putKey}
+use Rattle.chart_waiting.specs.Waiting.{waitingAt, waitingIn, putCount}
 use Rattle.chart_list.proofs.Entries.{entry-four, entry-behind}
 
 -- two numbers of entries are apart where they are not of one kind

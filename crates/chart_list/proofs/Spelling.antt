@@ -15,7 +15,8 @@ use Rattle.packing.specs.declared.Word as W
 use Rattle.packing.specs.declared.Rule.{Rule}
 use Rattle.packing.specs.declared.Rule.the-variants.{Pair, Word}
 use Rattle.chart_table.specs.declared.Dims.{Dims}
-use Rattle.chart_table.specs.Table.{cellOf, tieAt, ruleIn, splitIn, leftIn, rightIn}
+use Rattle.chart_keys.specs.Keys.{ruleIn, splitIn, leftIn, rightIn}
+use Rattle.chart_table.specs.Table.{cellOf, tieAt}
 use Rattle.chart_list.specs.declared.walk.Part.{Part}
 use Rattle.chart_list.specs.Search.{partsSpelled, spelled}
 

@@ -18,8 +18,11 @@ use Rattle.derivation.specs.List.{ranked}
 use Rattle.derivation.proofs.Rows.{Row, RowAt, row-below, row-one}
 use Rattle.derivation.proofs.Frontier.{Frontier, Beyond, step-row, stop-row}
 use Rattle.chart_table.specs.declared.Dims.{Dims}
-use Rattle.chart_table.specs.Table.{none, cellOf, weightAt, tieAt, putKey, waitingAt, waitingIn, settled}
-use Rattle.chart.specs.Model.{leavesOf, seedsOf, followers, baseOf, renewedOf, begun, placed}
+use Rattle.chart_keys.specs.Keys.{none}
+use Rattle.chart_table.specs.Table.{cellOf, weightAt, tieAt, putKey}
+use Rattle.chart_waiting.specs.Waiting.{waitingAt, waitingIn, settled}
+use Rattle.chart_candidates.specs.Candidates.{leavesOf, seedsOf}
+use Rattle.chart.specs.Model.{followers, baseOf, renewedOf, begun, placed}
 use Rattle.chart_list.proofs.Keys.{rowKey, key-some, key-lt, order-key}
 use Rattle.chart_list.proofs.Entries.{cell-below}
 use Rattle.chart_list.proofs.Slots.{put-none, put-waiting, put-count}

@@ -13,7 +13,8 @@ use Rattle.packing.specs.declared.Sym.{Sym}
 use Rattle.packing.specs.declared.Rule.{Rule}
 use Rattle.packing.specs.declared.Rule.the-variants.{Pair, Word}
 use Rattle.chart_table.specs.declared.Dims.{Dims}
-use Rattle.chart_table.specs.Table.{cellOf, weightAt, tieAt, ruleIn, splitIn, leftIn, rightIn}
+use Rattle.chart_keys.specs.Keys.{ruleIn, splitIn, leftIn, rightIn}
+use Rattle.chart_table.specs.Table.{cellOf, weightAt, tieAt}
 use Rattle.chart.specs.Model.{begun, placed}
 
 -- a rank of a cell is kept, and not found

@@ -17,7 +17,8 @@ ghost use Rattle.packing.specs.Meaning.{sym, word};
 ghost use Rattle.packing.specs.Flat.{ruleAt};
 ghost use Rattle.packing.specs.Store.{storeAll};
 ghost use Rattle.packing.specs.declared.Rule.the-variants as Rule;
-ghost use Rattle.chart_table.specs.Table.{Small, cellOf, tieAt, ruleIn, splitIn, leftIn};
+ghost use Rattle.chart_keys.specs.Keys.{ruleIn, splitIn, leftIn};
+ghost use Rattle.chart_table.specs.Table.{Small, cellOf, tieAt};
 ghost use Rattle.chart_list.specs.Search.{spelled};
 
 // A part of a tree: a rank of a cell.

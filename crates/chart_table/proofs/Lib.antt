@@ -1,5 +1,4 @@
--- Bounds of the layout, neighbouring cells, zeros, and the ranks that stand one behind another.
+-- Bounds of the layout, neighbouring cells, and zeros.
 pub mod Cells
 pub mod Places
-pub mod Ranks
 pub mod Zeros

@@ -1,10 +1,10 @@
 // The work table's cells and entries. Reads past its end give 0, and stores there do nothing.
 pub mod clearing;
-pub mod waiting;
 
 use arrays::number_at;
 use arrays::store;
 use arrays::wide;
+use chart_keys::NONE;
 use packing::Sym;
 ghost use mathlib.Core.Path.{_≡_};
 ghost use Prim.Native.Nat.{_<_, _≤_};
@@ -17,9 +17,6 @@ pub struct Dims {
     pub cap: usize,
     pub cells: usize,
 }
-
-// The key of no tree: weight 2 ^ 32 - 2, which the sum of two parts of which one is missing reaches.
-pub const NONE: usize = 2305843008676823040;
 
 // The cell of a head over a span.
 pub fn cell_of(d: Dims, a: Sym, i: usize, k: usize) -> usize

@@ -1,6 +1,7 @@
 -- By the tests of the split and of the right part's rank, and by the rule's variant.
 use borrow.Author.Tests.{eq-eqb, ne-eqb}
-use Rattle.chart.specs.Model.{pairKey, followers, pairFollowers}
+use Rattle.chart_candidates.specs.Candidates.{pairKey}
+use Rattle.chart.specs.Model.{followers, pairFollowers}
 use borrow.Author.Needs.{needs}
 use Rattle.chart.proofs.selection.followers.Statement.{statement}
 use Rattle.chart.proofs.selection.followers.Tie as tie

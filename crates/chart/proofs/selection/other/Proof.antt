@@ -1,6 +1,7 @@
 -- By the rule's variant and the tests of the ranks.
 use borrow.Author.Tests.{eq-eqb, ne-eqb, lt-ltb, le-ltb}
-use Rattle.chart.specs.Model.{pairKey, pairOther}
+use Rattle.chart_candidates.specs.Candidates.{pairKey}
+use Rattle.chart.specs.Model.{pairOther}
 use borrow.Author.Needs.{needs}
 use Rattle.chart.proofs.selection.other.Statement.{statement}
 use Rattle.chart.proofs.selection.other.Tie as tie

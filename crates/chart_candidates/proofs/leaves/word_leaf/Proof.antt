@@ -1,0 +1,86 @@
+-- By the rule's variant and the test of its word.
+use borrow.Author.Tests.{eq-eqb, ne-eqb}
+use Rattle.chart_candidates.specs.Candidates.{wordLeaf}
+use borrow.Author.Needs.{needs}
+use Rattle.chart_candidates.proofs.leaves.word_leaf.Statement.{statement}
+use Rattle.chart_candidates.proofs.leaves.word_leaf.Tie as tie
+
+rule-at-requires : tie.Need-rule-at-requires
+rule-at-requires c κs = search needs
+
+enum-told : tie.Need-enum-told
+enum-told c = search needs
+
+enum-known-rule : tie.Need-enum-known-rule
+enum-known-rule c = search needs
+
+mul-narrow-at : tie.Need-mul-narrow-at
+mul-narrow-at c = search needs
+
+add-narrow-at : tie.Need-add-narrow-at
+add-narrow-at c = search needs
+
+narrow-at-requires : tie.Need-narrow-at-requires
+narrow-at-requires c κs = search needs
+
+mul-number-at : tie.Need-mul-number-at
+mul-number-at c = search needs
+
+add-number-at : tie.Need-add-number-at
+add-number-at c = search needs
+
+number-at-requires : tie.Need-number-at-requires
+number-at-requires c κs = search needs
+
+wide-requires : tie.Need-wide-requires
+wide-requires c κs = search needs
+
+add-key-of : tie.Need-add-key-of
+add-key-of c = search needs
+
+add-key-of-2 : tie.Need-add-key-of-2
+add-key-of-2 c = search needs
+
+tie-of-requires : tie.Need-tie-of-requires
+tie-of-requires c κs = search needs
+
+key-of-requires : tie.Need-key-of-requires
+key-of-requires c κs = search needs
+
+lesser-requires : tie.Need-lesser-requires
+lesser-requires c κs = search needs
+
+returns : tie.Need-returns
+unfolding wordLeaf
+returns c = simp (← c .before .before .rule-at .ensures, c .enum-told .given .1)
+
+returns-2 : tie.Need-returns-2
+unfolding wordLeaf
+returns-2 c = simp (← c .before .before .before .before .before .before .before .before .before .before .before .rule-at .ensures, c .before .before .before .before .before .before .before .before .before .rule .given .1, ← c .before .before .before .before .before .before .before .narrow-at .ensures, eq-eqb _ _ (c .before .before .before .before .before .if1 .taken)) (rw (c .lesser .ensures, c .before .key-of .ensures, c .before .before .tie-of .ensures .0, c .before .before .before .wide .ensures .0, c .before .before .before .before .number-at .ensures .0))
+
+returns-3 : tie.Need-returns-3
+unfolding wordLeaf
+returns-3 c = simp (← c .before .before .before .before .before .before .rule-at .ensures, c .before .before .before .before .rule .given .1, ← c .before .before .narrow-at .ensures, ne-eqb _ _ (c .if1 .left))
+
+pub word-leaf-spec : {M : Type 1} → statement M
+word-leaf-spec =
+    tie.close
+    (tie.spec
+    rule-at-requires
+    enum-told
+    enum-known-rule
+    mul-narrow-at
+    add-narrow-at
+    narrow-at-requires
+    mul-number-at
+    add-number-at
+    number-at-requires
+    wide-requires
+    add-key-of
+    add-key-of-2
+    tie-of-requires
+    key-of-requires
+    lesser-requires
+    returns
+    returns-2
+    returns-3)

@@ -1,0 +1,2 @@
+-- Leaves and seeds.
+pub mod Candidates

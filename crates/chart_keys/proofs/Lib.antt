@@ -1,0 +1,2 @@
+-- Heights above the floor.
+pub mod Heights

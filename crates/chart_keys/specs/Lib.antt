@@ -1,0 +1,2 @@
+-- Ties and keys.
+pub mod Keys

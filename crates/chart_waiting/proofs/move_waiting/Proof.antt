@@ -1,0 +1,75 @@
+-- Both numbers are read before either is stored.
+use Rattle.chart_waiting.specs.Waiting.{moveWaiting}
+use borrow.Author.Needs.{needs}
+use Rattle.chart_waiting.proofs.move_waiting.Statement.{statement}
+use Rattle.chart_waiting.proofs.move_waiting.Tie as tie
+
+add-entry-of : tie.Need-add-entry-of
+add-entry-of c = search needs
+
+entry-of-requires : tie.Need-entry-of-requires
+entry-of-requires c κs = search needs
+
+add-number-at : tie.Need-add-number-at
+add-number-at c = search needs
+
+number-at-requires : tie.Need-number-at-requires
+number-at-requires c κs = search needs
+
+add-number-at-2 : tie.Need-add-number-at-2
+add-number-at-2 c = search needs
+
+number-at-requires-2 : tie.Need-number-at-requires-2
+number-at-requires-2 c κs = search needs
+
+add-entry-of-2 : tie.Need-add-entry-of-2
+add-entry-of-2 c = search needs
+
+entry-of-requires-2 : tie.Need-entry-of-requires-2
+entry-of-requires-2 c κs = search needs
+
+add-store : tie.Need-add-store
+add-store c = search needs
+
+cast-store : tie.Need-cast-store
+cast-store c = search needs
+
+store-requires : tie.Need-store-requires
+store-requires c κs = search needs
+
+add-store-2 : tie.Need-add-store-2
+add-store-2 c = search needs
+
+cast-store-2 : tie.Need-cast-store-2
+cast-store-2 c = search needs
+
+store-requires-2 : tie.Need-store-requires-2
+store-requires-2 c κs = search needs
+
+same-length : tie.Need-same-length
+same-length c = search needs
+
+returns : tie.Need-returns
+unfolding moveWaiting
+returns c = rw (c .before .before .store2 .ensures, c .before .before .before .before .before .before .store .ensures, c .before .before .before .before .before .before .before .before .before .number-at2 .ensures .0, c .before .before .before .before .before .before .before .before .before .before .before .number-at .ensures .0, c .before .before .before .before .before .before .before .before .entry-of2 .ensures .0, c .before .before .before .before .before .before .before .before .before .before .before .before .before .entry-of .ensures .0)
+
+pub move-waiting-spec : {M : Type 1} → statement M
+move-waiting-spec =
+    tie.close
+    (tie.spec
+    add-entry-of
+    entry-of-requires
+    add-number-at
+    number-at-requires
+    add-number-at-2
+    number-at-requires-2
+    add-entry-of-2
+    entry-of-requires-2
+    add-store
+    cast-store
+    store-requires
+    add-store-2
+    cast-store-2
+    store-requires-2
+    same-length
+    returns)

@@ -1,0 +1,51 @@
+-- A key below NONE is its weight plus 1 and its tie, which both fit a number.
+use Rattle.chart_waiting.specs.Waiting.{putWaiting}
+use borrow.Author.Needs.{needs}
+use Rattle.chart_waiting.proofs.put_waiting.Statement.{statement}
+use Rattle.chart_waiting.proofs.put_waiting.Tie as tie
+
+add-entry-of : tie.Need-add-entry-of
+add-entry-of c = search needs
+
+entry-of-requires : tie.Need-entry-of-requires
+entry-of-requires c κs = search needs
+
+add-store : tie.Need-add-store
+add-store c = search needs
+
+cast-store : tie.Need-cast-store
+cast-store c = search needs
+
+store-requires : tie.Need-store-requires
+store-requires c κs = search needs
+
+add-store-2 : tie.Need-add-store-2
+add-store-2 c = search needs
+
+cast-store-2 : tie.Need-cast-store-2
+cast-store-2 c = search needs
+
+store-requires-2 : tie.Need-store-requires-2
+store-requires-2 c κs = search needs
+
+same-length : tie.Need-same-length
+same-length c = search needs
+
+returns : tie.Need-returns
+unfolding putWaiting
+returns c = rw (c .before .before .store2 .ensures, c .before .before .before .before .before .before .store .ensures, c .before .before .before .before .before .before .before .before .entry-of .ensures .0)
+
+pub put-waiting-spec : {M : Type 1} → statement M
+put-waiting-spec =
+    tie.close
+    (tie.spec
+    add-entry-of
+    entry-of-requires
+    add-store
+    cast-store
+    store-requires
+    add-store-2
+    cast-store-2
+    store-requires-2
+    same-length
+    returns)

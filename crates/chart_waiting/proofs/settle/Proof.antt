@@ -1,0 +1,62 @@
+-- By whether one waits and whether its key is less, as in the definition.
+use mathlib.Core.Logic.{⊎-elim}
+use borrow.Author.Tests.{lt-ltb, le-ltb}
+use Rattle.chart_waiting.specs.Waiting.{settled}
+use borrow.Author.Needs.{needs}
+use Rattle.chart_waiting.proofs.settle.Statement.{statement}
+use Rattle.chart_waiting.proofs.settle.Tie as tie
+
+waiting-in-requires : tie.Need-waiting-in-requires
+waiting-in-requires c κs = search needs
+
+soonest-requires : tie.Need-soonest-requires
+soonest-requires c κs = search needs
+
+waiting-at-requires : tie.Need-waiting-at-requires
+waiting-at-requires c κs = search needs
+
+put-key-requires : tie.Need-put-key-requires
+put-key-requires c κs = search needs
+
+replace-requires : tie.Need-replace-requires
+replace-requires c κs = search needs
+
+append-requires : tie.Need-append-requires
+append-requires c κs = search needs
+
+same-length : tie.Need-same-length
+same-length c = search needs
+
+returns : tie.Need-returns
+unfolding settled
+returns c = simp (← c .before .before .before .before .before .before .before .before .before .before .before .before .before .before .before .before .before .before .waiting-in .ensures .0, ← c .before .before .before .before .before .before .before .before .before .before .before .before .before .before .before .before .soonest .ensures .0, ← c .before .before .before .before .before .before .before .before .before .before .before .before .before .before .waiting-at .ensures, lt-ltb _ _ (c .before .before .before .before .before .before .before .before .before .before .before .before .before .if1 .taken), lt-ltb _ _ (c .before .before .before .before .before .before .before .before .before .before .before .before .if2 .taken)) (rw (c .before .before .append .ensures, c .before .before .before .before .before .before .replace .ensures, c .before .before .before .before .before .before .before .before .before .before .put-key .ensures))
+
+put-key-requires-2 : tie.Need-put-key-requires-2
+put-key-requires-2 c κs = search needs
+
+append-requires-2 : tie.Need-append-requires-2
+append-requires-2 c κs = search needs
+
+same-length-2 : tie.Need-same-length-2
+same-length-2 c = search needs
+
+returns-2 : tie.Need-returns-2
+unfolding settled
+returns-2 c = rw (c .before .before .append2 .ensures, c .before .before .before .before .before .before .put-key2 .ensures) (simp (← c .before .before .before .before .before .before .before .before .before .before .before .before .before .waiting-in .ensures .0, ← c .before .before .before .before .before .before .before .before .before .before .before .soonest .ensures .0, ← c .before .before .before .before .before .before .before .before .before .waiting-at .ensures) (⊎-elim (λ w. simp (lt-ltb _ _ (w .0 .taken), le-ltb _ _ (w .1 .left))) (λ w. simp (le-ltb _ _ (w .left))) (c .before .before .before .before .before .before .before .before .if1 .came)))
+
+pub settle-spec : {M : Type 1} → statement M
+settle-spec =
+    tie.close
+    (tie.spec
+    waiting-in-requires
+    soonest-requires
+    waiting-at-requires
+    put-key-requires
+    replace-requires
+    append-requires
+    same-length
+    returns
+    put-key-requires-2
+    append-requires-2
+    same-length-2
+    returns-2)

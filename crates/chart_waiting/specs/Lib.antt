@@ -1,0 +1,2 @@
+-- What waits.
+pub mod Waiting
