@@ -50,10 +50,6 @@ module _ (t : List ℕ) (d : Dims) where
       pick (isBase tie) (baseOf rules edges index a i k floor)
       (pairOther i k (ruleIn tie) (splitIn tie) (leftIn tie) (rightIn tie) floor (ruleAt rules (ruleIn tie)))
 
-  -- the key of the last rank found, or 0
-  unfoldable pub floorOf : Sym → ℕ → ℕ → ℕ → ℕ
-  floorOf a i k c = pick (eqb c 0) 0 (keyOf (weightAt t d (cellOf d a i k) (c - 1)) (tieAt t d (cellOf d a i k) (c - 1)))
-
 module _ (rules edges index : List ℕ) (d : Dims) where
   -- the first rank: the least of what follows none
   unfoldable pub begun : Sym → ℕ → ℕ → List ℕ → List ℕ
@@ -63,7 +59,7 @@ module _ (rules edges index : List ℕ) (d : Dims) where
   unfoldable pub placed : Sym → ℕ → ℕ → ℕ → List ℕ → List ℕ
   placed a i k c t =
       let tie = tieAt t d (cellOf d a i k) (c - 1) in
-      let floor = floorOf t d a i k c in
+      let floor = keyOf (weightAt t d (cellOf d a i k) (c - 1)) tie in
       let near = followers t d rules i k floor none tie in
       let again = renewedOf t d rules edges index a i k floor tie in
       settled t d (cellOf d a i k) c (pick (ltb again near) again near) (pick (ltb again near) near again)

@@ -2,14 +2,15 @@
 mod selection;
 
 use chart_keys::NONE;
+use chart_keys::key_of;
 use chart_table::Dims;
 use chart_table::cell_of;
 use chart_table::put_key;
 use chart_table::tie_at;
+use chart_table::weight_at;
 use chart_waiting::settle;
 use packing::Sym;
 use selection::base;
-use selection::floor_of;
 use selection::followers;
 use selection::renewed;
 ghost use mathlib.Core.Path.{_≡_};
@@ -53,7 +54,7 @@ pub fn place(
 {
     let cell = cell_of(d, a, i, k);
     let tie = tie_at(&t[..], d, cell, c - 1);
-    let floor = floor_of(&t[..], d, a, i, k, c);
+    let floor = key_of(weight_at(&t[..], d, cell, c - 1), tie);
     let near = followers(&t[..], d, rules, i, k, floor, NONE, tie);
     let again = renewed(&t[..], d, rules, edges, index, a, i, k, floor, tie);
     if again < near {

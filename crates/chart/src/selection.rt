@@ -4,12 +4,9 @@ use chart_candidates::leaves::leaves;
 use chart_candidates::pair_key;
 use chart_candidates::seeds::seeds;
 use chart_keys::NONE;
-use chart_keys::key_of;
 use chart_keys::lesser;
 use chart_table::Dims;
 use chart_table::cell_of;
-use chart_table::tie_at;
-use chart_table::weight_at;
 use packing::Rule;
 use packing::Sym;
 ghost use mathlib.Core.Path.{_≡_};
@@ -17,7 +14,7 @@ ghost use Prim.Native.Nat.{_+_, _-_, _*_, _<_, _≤_};
 ghost use Rattle.packing.specs.Flat.{ruleAt};
 ghost use Rattle.chart_keys.specs.Keys.{ruleIn, splitIn, leftIn, rightIn};
 ghost use Rattle.chart_table.specs.Table.{Small};
-ghost use Rattle.chart.specs.Model.{followers, pairOther, baseOf, renewedOf, floorOf};
+ghost use Rattle.chart.specs.Model.{followers, pairOther, baseOf, renewedOf};
 
 // The best so far and what follows a found pairing: the next of its right part, and where that was the first, the next
 // of its left part. A leaf has no split and no followers.
@@ -127,16 +124,4 @@ pub fn renewed(
         return base(t, d, rules, edges, index, a, i, k, floor);
     }
     other(t, d, rules, i, k, floor, tie)
-}
-
-// The key of the last rank found, or 0.
-pub fn floor_of(t: &[u32], d: Dims, a: Sym, i: usize, k: usize, c: usize) -> usize
-    requires { ⌜ (Small d i k) × (c ≤ 256) ⌝ }
-    ensures { λ x. ⌜ x ≡ floorOf (now (t .entry)) d a i k c ⌝ }
-{
-    if c == 0 {
-        return 0;
-    }
-    let cell = cell_of(d, a, i, k);
-    key_of(weight_at(t, d, cell, c - 1), tie_at(t, d, cell, c - 1))
 }

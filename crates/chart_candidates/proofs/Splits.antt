@@ -10,10 +10,9 @@ use lib.ListN.{getD, length}
 use Rattle.packing.specs.Loop.{over}
 use Rattle.packing.specs.declared.Sym.{Sym}
 use Rattle.chart_table.specs.declared.Dims.{Dims}
-use Rattle.chart_keys.specs.Keys.{tieOf}
+use Rattle.chart_keys.specs.Keys.{tieOf, lesser, joinKey}
 use Rattle.chart_table.specs.Table.{cellOf, entryOf}
 use Rattle.chart_table.proofs.Cells.{begin-later, end-later, first-weight}
-use Rattle.chart_keys.specs.Keys.{lesser, joinKey}
 use Rattle.chart_candidates.specs.Candidates.{pairKey}
 use Rattle.chart_candidates.proofs.Loops.{from-none, from-more, from-turn}
 

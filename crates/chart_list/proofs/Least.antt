@@ -18,11 +18,9 @@ use Rattle.derivation.proofs.Lists.{at-length}
 use Rattle.derivation.proofs.Rows.{Row, row, rowWeight, row-weight, row-derives, RowAt, row-below, row-one}
 use Rattle.derivation.proofs.Frontier.{Frontier, a-leaf, a-seed, right-follower, left-follower, frontier-row}
 use Rattle.chart_table.specs.declared.Dims.{Dims}
-use Rattle.chart_keys.specs.Keys.{none}
-use Rattle.chart_table.specs.Table.{cellOf, weightAt}
-use Rattle.chart_keys.specs.Keys.{lessOne, joinKey}
+use Rattle.chart_keys.specs.Keys.{keyOf, none, lessOne, joinKey}
+use Rattle.chart_table.specs.Table.{cellOf, weightAt, tieAt}
 use Rattle.chart_candidates.specs.Candidates.{pairKey}
-use Rattle.chart.specs.Model.{floorOf}
 use Rattle.chart_list.proofs.Keys.{RowFits, rowKey}
 use Rattle.chart_list.proofs.Entries.{Cell, under-cap}
 use Rattle.chart_list.proofs.Select.{Selects}
@@ -192,13 +190,10 @@ module _ {g : Grammar} {es : List Edge} {rules edges index : List ℕ} {d : Dims
         let (z, o) = frontier-row g es a i k (d .cap) b on in
         omega (arith, row-weight g es o, s .light a i k z (ready .cell .within) (row-derives g es o))
 
-    -- above the floor is above the last found
-    pub floor-is : (x : ℕ) (l : Row) → suc x ≡ c → RowAt g es a i k x l → floorOf t d a i k c ≡ rowKey l
-    unfolding floorOf
-    floor-is x l e at =
-        let st = stands x (omega arith) at in
-        let last : c - 1 ≡ x = omega arith in
-        rw (last, ← e, eqb·suc-zero x, st .weighs, st .tied)
+    -- the key of a rank found is its row's
+    pub floor-is : (x : ℕ) (l : Row) → x < c → RowAt g es a i k x l
+        → keyOf (weightAt t d (cellOf d a i k) x) (tieAt t d (cellOf d a i k) x) ≡ rowKey l
+    floor-is x l h at = let st = stands x h at in rw (st .weighs, st .tied)
 
     -- the least key of the candidates that follow o is the least candidate's
     pub fresh : (l : Row) (o : ℕ) {f : ℕ → ℕ} → o ≤ c → Selects (rowKey l) (Candidate g es a i k d t o) f

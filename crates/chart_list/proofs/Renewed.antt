@@ -15,8 +15,7 @@ use Rattle.derivation.specs.Derivation.{At, Tree, weight}
 use Rattle.derivation.specs.List.{ranked}
 use Rattle.derivation.proofs.Rows.{Row, row, RowOf, leaf-row, node-row, row-weight, RowAt, row-one, place-row}
 use Rattle.chart_table.specs.declared.Dims.{Dims}
-use Rattle.chart_keys.specs.Keys.{tieOf}
-use Rattle.chart_keys.specs.Keys.{lesser}
+use Rattle.chart_keys.specs.Keys.{tieOf, lesser}
 use Rattle.chart_candidates.specs.Candidates.{pairKey}
 use Rattle.chart.specs.Model.{isBase, baseOf, pairOther, renewedOf}
 use Rattle.chart_list.proofs.Keys.{Fits, RowFits, rowKey, rowTie, rule-in, split-in, left-in, right-in}

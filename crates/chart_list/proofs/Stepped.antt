@@ -282,7 +282,7 @@ module _ {g : Grammar} {es : List Edge} {rules edges index : List ℕ} {d : Dims
     unfolding placed
     placed-done =
         let last : suc x - 1 ≡ x = omega arith in
-        rw (last, floor-is s ready x l refl (st .place)) (by-order (ltb again near) refl)
+        rw (last, floor-is s ready x l (omega arith) (st .place)) (by-order (ltb again near) refl)
       where
         near : ℕ
         near = followers t d rules i k (rowKey l) none (tieAt t d cell-of x)

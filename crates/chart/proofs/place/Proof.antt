@@ -14,8 +14,14 @@ sub-tie-at c = search needs
 tie-at-requires : tie.Need-tie-at-requires
 tie-at-requires c κs = search needs
 
-floor-of-requires : tie.Need-floor-of-requires
-floor-of-requires c κs = search needs
+sub-weight-at : tie.Need-sub-weight-at
+sub-weight-at c = search needs
+
+weight-at-requires : tie.Need-weight-at-requires
+weight-at-requires c κs = search needs
+
+key-of-requires : tie.Need-key-of-requires
+key-of-requires c κs = search needs
 
 followers-requires : tie.Need-followers-requires
 followers-requires c κs = search needs
@@ -24,24 +30,24 @@ renewed-requires : tie.Need-renewed-requires
 renewed-requires c κs = search needs
 
 settle-requires : tie.Need-settle-requires
-settle-requires c κs = search (needs, c .before .before .before .before .before .before .before .before .before .before .before .before .before .before .before .pre .0 .sized .cap, c .before .before .before .before .before .before .before .before .before .before .before .before .before .before .before .pre .2)
+settle-requires c κs = search (needs, c .before .before .before .before .before .before .before .before .before .before .before .before .before .before .before .before .pre .0 .sized .cap, c .before .before .before .before .before .before .before .before .before .before .before .before .before .before .before .before .pre .2)
 
 same-length : tie.Need-same-length
 same-length c = search needs
 
 returns : tie.Need-returns
 unfolding placed
-returns c = rw (← c .before .before .before .before .before .before .before .before .before .before .before .before .before .cell-of .ensures .0, ← c .before .before .before .before .before .before .before .before .before .before .before .tie-at .ensures .0, ← c .before .before .before .before .before .before .before .before .before .floor-of .ensures, ← c .before .before .before .before .before .before .before .followers .ensures, ← c .before .before .before .before .before .renewed .ensures, lt-ltb _ _ (c .before .before .before .before .if1 .taken)) (c .before .before .settle .ensures)
+returns c = rw (← c .before .before .before .before .before .before .before .before .before .before .before .before .before .before .cell-of .ensures .0, ← c .before .before .before .before .before .before .before .before .before .before .before .before .tie-at .ensures .0, ← c .before .before .before .before .before .before .before .before .before .before .weight-at .ensures .0, ← c .before .before .before .before .before .before .before .before .before .key-of .ensures, ← c .before .before .before .before .before .before .before .followers .ensures, ← c .before .before .before .before .before .renewed .ensures, lt-ltb _ _ (c .before .before .before .before .if1 .taken)) (c .before .before .settle .ensures)
 
 settle-requires-2 : tie.Need-settle-requires-2
-settle-requires-2 c κs = search (needs, c .before .before .before .before .before .before .before .before .before .before .before .before .before .before .before .pre .0 .sized .cap, c .before .before .before .before .before .before .before .before .before .before .before .before .before .before .before .pre .2)
+settle-requires-2 c κs = search (needs, c .before .before .before .before .before .before .before .before .before .before .before .before .before .before .before .before .pre .0 .sized .cap, c .before .before .before .before .before .before .before .before .before .before .before .before .before .before .before .before .pre .2)
 
 same-length-2 : tie.Need-same-length-2
 same-length-2 c = search needs
 
 returns-2 : tie.Need-returns-2
 unfolding placed
-returns-2 c = rw (← c .before .before .before .before .before .before .before .before .before .before .before .before .before .cell-of .ensures .0, ← c .before .before .before .before .before .before .before .before .before .before .before .tie-at .ensures .0, ← c .before .before .before .before .before .before .before .before .before .floor-of .ensures, ← c .before .before .before .before .before .before .before .followers .ensures, ← c .before .before .before .before .before .renewed .ensures, le-ltb _ _ (c .before .before .before .before .if1 .left)) (c .before .before .settle2 .ensures)
+returns-2 c = rw (← c .before .before .before .before .before .before .before .before .before .before .before .before .before .before .cell-of .ensures .0, ← c .before .before .before .before .before .before .before .before .before .before .before .before .tie-at .ensures .0, ← c .before .before .before .before .before .before .before .before .before .before .weight-at .ensures .0, ← c .before .before .before .before .before .before .before .before .before .key-of .ensures, ← c .before .before .before .before .before .before .before .followers .ensures, ← c .before .before .before .before .before .renewed .ensures, le-ltb _ _ (c .before .before .before .before .if1 .left)) (c .before .before .settle2 .ensures)
 
 pub place-spec : {M : Type 1} → statement M
 place-spec =
@@ -50,7 +56,9 @@ place-spec =
     cell-of-requires
     sub-tie-at
     tie-at-requires
-    floor-of-requires
+    sub-weight-at
+    weight-at-requires
+    key-of-requires
     followers-requires
     renewed-requires
     settle-requires

@@ -2,7 +2,7 @@
 -- the parts. Each promise holds for any fuel of at least that length, so the part's promise is taken at one less.
 use mathlib.Core.Path.{_≡_, sym, ap, _∙_}
 use mathlib.Core.Logic.{⊎-elim}
-use Prim.Native.Nat.{zero, suc, _+_, _-_, _*_, _/_, _%_, _≤_}
+use Prim.Native.Nat.{zero, suc, _+_, _-_, _*_, _/_, _%_, _≤_, ℕ, _<_}
 use native.Mathlib.Omega.{arith}
 use lib.ListN.{length}
 use denote.Ref.{now}
@@ -10,7 +10,6 @@ use borrow.Author.Needs.{needs}
 use borrow.Author.Tests.{eq-eqb, ne-eqb, lt-ltb, le-ltb}
 use Rattle.chart_list.specs.Search.{next, extended, advanced, partsExtended}
 use Rattle.chart_list.proofs.Extended.{missing-kept, extended-missing, extended-found}
-use Prim.Native.Nat.{ℕ, _<_}
 use borrow.Fn.Kinds.{In}
 use borrow.Fn.PlainCycle.{Measures, is, falls, and}
 use Rattle.chart_list.proofs.advance_pairing.Reads as advance-pairing

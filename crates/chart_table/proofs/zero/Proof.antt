@@ -1,11 +1,10 @@
 -- What is passed is 0: the list is that many zeros and what stood behind them.
-use lib.ListN.{length-set}
+use lib.ListN.{length-set, length, replicate, drop}
 use Rattle.chart_table.proofs.Zeros.{zeros-more, zeros-end}
 use Prim.Native.Nat.{_≤_, _-_}
 use mathlib.Core.Path.{_≡_, refl, _∙_}
 use mathlib.Core.List.{_++_}
 use native.Mathlib.Omega.{arith}
-use lib.ListN.{length, replicate, drop}
 use borrow.Author.Needs.{needs}
 use Rattle.chart_table.proofs.zero.Statement.{statement}
 use Rattle.chart_table.proofs.zero.Tie as tie
