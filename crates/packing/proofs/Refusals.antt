@@ -1,175 +1,275 @@
--- Every refusal is a number of document 01's table: below 64. Assumes nothing.
-use mathlib.Core.Bool.{Bool, true, false}
+-- Every refusal of a block or a sheet is a number of its row in document 01's table: the refusals of each field are, and in a
+-- block a value is never above the range of a field whose range is all that its width can hold.
+-- Assumes nothing.
+use mathlib.Core.Bool.{Bool, true, false, false≢true}
 use mathlib.Core.List.{List, [], _∷_, _++_}
-use mathlib.Core.Path.{_≡_}
-use Prim.Native.Nat.{ℕ, zero, suc, _+_, _-_, _*_, _<_}
+use mathlib.Core.Logic.{_⊎_, inl, inr, ⊎-elim}
+use mathlib.Core.Path.{_≡_, refl}
+use Prim.Native.Nat.{ℕ, zero, suc, _+_, _-_, _*_, _^_, _≤_, _<_}
 use native.Mathlib.Omega.{arith}
+use borrow.Author.Tests.{ltb-true}
 use lib.Dec.{ltb, leb, eqb}
 use lib.ListN.{length, getD}
+use lib.Pow.{pow-mono}
 use Rattle.bits.specs.Bits.{pick, field, ended}
+use Rattle.bits.specs.Width.{widthOf}
+use Rattle.bits.proofs.Num.{field-lt}
 use Rattle.packing.specs.Meaning.{Grammar, Candidate, candidate, Utterance, word}
 use Rattle.packing.specs.Parse.{Parse, parsed, failed, _⟫_, Verdict, accepted, refused, _then_, finish}
-use Rattle.packing.specs.Source.{Source, bytes, numbers, inRange, take}
-use Rattle.packing.specs.Grammar.{ruleWord, nothing, symbol, firstOf, secondOf, ruleFrom, ruleOf, anyAlike, rulesFrom, unfit, grammarFrom, grammarBlock, grammarSheet}
-use Rattle.packing.specs.Utterance.{candidatesFrom, slotFrom, slotsFrom, utteranceFrom, utteranceBlock, utteranceSheet}
-use Rattle.packing.specs.Reading.{walkFrom, readingFrom}
+use Rattle.packing.specs.Source.{Source, bytes, numbers, inRange, take, within}
+use Rattle.packing.specs.Grammar.{ruleKind, ruleWord, weight, nothing, symbol, firstOf, secondOf, ruleFrom, anyAlike, rulesFrom, unfit, grammarFrom, grammarBlock, grammarSheet}
+use Rattle.packing.specs.Utterance.{cost, candidatesFrom, slotFrom, slotsFrom, utteranceFrom, utteranceBlock, utteranceSheet}
+use Rattle.packing.specs.Reading.{ruleNumber, walkFrom, readingFrom}
 use Rattle.packing.specs.Conversion.{grammarToBlock, grammarToSheet, utteranceToBlock, utteranceToSheet, fitting}
 use Rattle.packing.specs.declared.Field.{Field}
 use Rattle.packing.specs.declared.Rule as R
+use Rattle.packing.proofs.Widths.{byte-width}
 
--- a refusal on the way, and a refusal at the end, is below 64
-pub data Low {A : Type 0} : Parse A → Type 0 where
-  going : {a : A} {at : ℕ} → Low (parsed a at)
-  low : {n : ℕ} → n < 64 → Low (failed n)
+-- a refusal on the way, and a refusal at the end, is a number of the row
+pub data Stops (Row : ℕ → Type 0) {A : Type 0} : Parse A → Type 0 where
+  going : {a : A} {at : ℕ} → Stops Row (parsed a at)
+  stopped : {n : ℕ} → Row n → Stops Row (failed n)
 
-pub data LowRefusal {A : Type 0} : Verdict A → Type 0 where
-  granted : {a : A} → LowRefusal (accepted a)
-  low-refusal : {n : ℕ} → n < 64 → LowRefusal (refused n)
+pub data Refuses (Row : ℕ → Type 0) {A : Type 0} : Verdict A → Type 0 where
+  granted : {a : A} → Refuses Row (accepted a)
+  denied : {n : ℕ} → Row n → Refuses Row (refused n)
 
-pub low-number : {A : Type 0} {v : Verdict A} {n : ℕ} → LowRefusal v → v ≡ refused n → n < 64
-low-number granted e = let z : _≡_ {A = ℕ} 0 1 = cc in absurd (omega arith)
-low-number {n = n} (low-refusal {n = m} h) e = let same : m ≡ n = cc in rw same at h
+-- the rows
+abbrev pub From : ℕ → ℕ → ℕ → Type 0
+From least most n = (least ≤ n) × (n ≤ most)
 
-bind : {A B : Type 0} {p : Parse A} {k : A → ℕ → Parse B} → Low p → ((a : A) (at : ℕ) → Low (k a at)) → Low (p ⟫ k)
-bind (going {a} {at}) h = h a at
-bind (low l) h = low l
+abbrev pub GrammarBlock : ℕ → Type 0
+GrammarBlock n = From 1 7 n
 
-choose : {A : Type 0} (b : Bool) {p q : Parse A} → Low p → Low q → Low (pick b p q)
-choose true l h = l
-choose false l h = h
+abbrev pub UtteranceBlock : ℕ → Type 0
+UtteranceBlock n = From 11 16 n
 
-pub then-low : {A B : Type 0} {v : Verdict A} {k : A → Verdict B} → LowRefusal v → ((a : A) → LowRefusal (k a)) → LowRefusal (v then k)
-then-low (granted {a}) h = h a
-then-low (low-refusal l) h = low-refusal l
+abbrev pub ReadingFields : ℕ → Type 0
+ReadingFields n = From 31 33 n
 
-pub choose-low : {A : Type 0} (b : Bool) {v w : Verdict A} → LowRefusal v → LowRefusal w → LowRefusal (pick b v w)
-choose-low true l h = l
-choose-low false l h = h
+abbrev pub GrammarSheet : ℕ → Type 0
+GrammarSheet n = From 3 6 n ⊎ From 41 42 n
 
-finish-low : {A : Type 0} {p : Parse A} (end : ℕ → Bool) (n : ℕ) → n < 64 → Low p → LowRefusal (finish end n p)
-finish-low end n h (going {at = at}) = choose-low (end at) granted (low-refusal h)
-finish-low end n h (low l) = low-refusal l
+abbrev pub UtteranceSheet : ℕ → Type 0
+UtteranceSheet n = From 13 15 n ⊎ From 41 42 n
 
-abbrev LowField : Field → Type 0
-LowField f = (f .below < 64) × (f .above < 64)
+abbrev pub Low : ℕ → Type 0
+Low n = n < 64
 
-abbrev LowSource : Source → Type 0
-LowSource (bytes missing s) = missing < 64
-LowSource (numbers s) = Unit {0}
+module _ {Row : ℕ → Type 0} where
+  pub stop-number : {A : Type 0} {p : Parse A} {n : ℕ} → Stops Row p → p ≡ failed n → Row n
+  stop-number going e = let z : _≡_ {A = ℕ} 0 1 = cc in absurd (omega arith)
+  stop-number {n = n} (stopped {n = m} h) e = let same : m ≡ n = cc in rw same at h
 
-in-range-low : (f : Field) (v next : ℕ) → LowField f → Low (inRange f v next)
-unfolding inRange
-in-range-low f v next l = choose (ltb (f .most) v) (low (l .1)) (choose (ltb v (f .least)) (low (l .0)) going)
+  pub refusal-number : {A : Type 0} {v : Verdict A} {n : ℕ} → Refuses Row v → v ≡ refused n → Row n
+  refusal-number granted e = let z : _≡_ {A = ℕ} 0 1 = cc in absurd (omega arith)
+  refusal-number {n = n} (denied {n = m} h) e = let same : m ≡ n = cc in rw same at h
 
-take-low : (src : Source) (at : ℕ) (f : Field) → LowSource src → LowField f → Low (take src at f)
-unfolding take
-take-low (bytes missing s) at f l h = choose (leb (at + f .width) (8 * length s)) (in-range-low f _ _ h) (low l)
-take-low (numbers s) at f l h = choose (ltb at (length s)) (in-range-low f _ _ h) (low (omega arith))
+  bind : {A B : Type 0} {p : Parse A} {k : A → ℕ → Parse B} → Stops Row p → ((a : A) (at : ℕ) → Stops Row (k a at)) → Stops Row (p ⟫ k)
+  bind (going {a} {at}) h = h a at
+  bind (stopped l) h = stopped l
 
-module _ (src : Source) (from : LowSource src) where
-  body-low : (S W kind : ℕ) → LowField (firstOf S W kind) × LowField (secondOf S kind)
-  body-low S W kind = go (eqb kind 0)
+  -- a refusal where a test holds
+  test : {A : Type 0} (b : Bool) (n : ℕ) {p : Parse A} → (b ≡ true → Row n) → Stops Row p → Stops Row (pick b (failed n) p)
+  test true n l h = stopped (l refl)
+  test false n l h = h
+
+  pub then-row : {A B : Type 0} {v : Verdict A} {k : A → Verdict B} → Refuses Row v → ((a : A) → v ≡ accepted a → Refuses Row (k a)) → Refuses Row (v then k)
+  then-row (granted {a}) h = h a refl
+  then-row (denied l) h = denied l
+
+  pub choose-row : {A : Type 0} (b : Bool) {v w : Verdict A} → Refuses Row v → Refuses Row w → Refuses Row (pick b v w)
+  choose-row true l h = l
+  choose-row false l h = h
+
+  finish-row : {A : Type 0} {p : Parse A} (end : ℕ → Bool) (n : ℕ) → Row n → Stops Row p → Refuses Row (finish end n p)
+  finish-row end n h (going {at = at}) = choose-row (end at) granted (denied h)
+  finish-row end n h (stopped l) = denied l
+
+-- the values that a field of a source can have
+abbrev Held : Source → Field → ℕ → Type 0
+Held (bytes missing s) f v = v < 2 ^ f .width
+Held (numbers s) f v = Unit {0}
+
+abbrev missingOf : Source → ℕ
+missingOf (bytes missing s) = missing
+missingOf (numbers s) = 41
+
+-- the refusals of such values are of the row
+data Told (Row : ℕ → Type 0) (src : Source) : Field → Type 0 where
+  told : {f : Field} → ((v : ℕ) → Held src f v → (f .most < v → Row (f .above)) × (v < f .least → Row (f .below))) → Told Row src f
+
+module _ {Row : ℕ → Type 0} where
+  -- a field with one refusal, which is of the row
+  ranged : {src : Source} {width least most n : ℕ} → Row n → Told Row src (within width least most n)
+  ranged r = told (λ v h. (λ a. r, λ b. r))
+
+  -- a field whose range is all that its width can hold is never refused in a block
+  as-wide : {missing : ℕ} {s : List ℕ} {width most n : ℕ} → 2 ^ width ≤ most + 1 → Told Row (bytes missing s) (within width 0 most n)
+  as-wide {width = width} {most} {n} l = told none
     where
-      go : (b : Bool) → LowField (pick b (symbol S) (ruleWord W)) × LowField (pick b (symbol S) nothing)
-      go true = ((omega arith, omega arith), (omega arith, omega arith))
-      go false = ((omega arith, omega arith), (omega arith, omega arith))
+      none : (v : ℕ) → v < 2 ^ width → (most < v → Row n) × (v < 0 → Row n)
+      none v h = (λ a. absurd (omega arith), λ b. absurd (omega arith))
 
-  rule-low : (S W at : ℕ) → Low (ruleFrom src S W at)
-  unfolding ruleFrom
-  rule-low S W at =
-      bind (take-low src at _ from (omega arith, omega arith)) (λ kind at.
-      bind (take-low src at _ from (omega arith, omega arith)) (λ head at.
-      bind (take-low src at _ from (omega arith, omega arith)) (λ w at.
-      bind (take-low src at _ from (body-low S W kind .0)) (λ first at.
-      bind (take-low src at _ from (body-low S W kind .1)) (λ second at. going)))))
+  in-range-row : {src : Source} (f : Field) (v next : ℕ) → Held src f v → Told Row src f → Stops Row (inRange f v next)
+  unfolding inRange
+  in-range-row f v next h (told t) =
+      let r = t v h in
+      test (ltb (f .most) v) (f .above) (λ e. r .0 (ltb-true _ _ e)) (test (ltb v (f .least)) (f .below) (λ e. r .1 (ltb-true _ _ e)) going)
 
-  rules-low : (S W n at : ℕ) (rs : List R.Rule) → Low (rulesFrom src S W n at rs)
-  unfolding rulesFrom
-  rules-low S W zero at rs = going
-  rules-low S W (suc n) at rs =
-      bind (rule-low S W at) (λ r at. choose (anyAlike r rs) (low (omega arith)) (rules-low S W n at (rs ++ (r ∷ []))))
+  -- what a source refuses in place of a field that is missing, or of a value out of its range
+  otherwise : {A : Type 0} (b : Bool) (n : ℕ) {p : Parse A} → Row n → Stops Row p → Stops Row (pick b p (failed n))
+  otherwise true n l h = h
+  otherwise false n l h = stopped l
 
-  grammar-low : (at : ℕ) → Low (grammarFrom src at)
-  unfolding grammarFrom
-  grammar-low at =
-      bind (take-low src at _ from (omega arith, omega arith)) (λ S at.
-      bind (take-low src at _ from (omega arith, omega arith)) (λ W at.
-      bind (take-low src at _ from (omega arith, omega arith)) (λ R at.
-      choose (unfit src R) (low (omega arith)) (bind (rules-low S W R at []) (λ rs at. going)))))
+  take-row : (src : Source) (at : ℕ) {f : Field} → Row (missingOf src) → Told Row src f → Stops Row (take src at f)
+  unfolding take
+  take-row (bytes missing s) at {f} m t =
+      otherwise (leb (at + f .width) (8 * length s)) missing m (in-range-row f _ _ (field-lt s at (f .width)) t)
+  take-row (numbers s) at {f} m t = otherwise (ltb at (length s)) 41 m (in-range-row f _ _ tt t)
 
-  candidates-low : (W n least at : ℕ) (cs : List Candidate) → Low (candidatesFrom src W n least at cs)
-  unfolding candidatesFrom
-  candidates-low W zero least at cs = going
-  candidates-low W (suc n) least at cs =
-      bind (take-low src at _ from (omega arith, omega arith)) (λ w at.
-      bind (take-low src at _ from (omega arith, omega arith)) (λ c at.
-      candidates-low W n (suc w) at (cs ++ (candidate (word w) c ∷ []))))
+module _ {Row : ℕ → Type 0} (src : Source) (end : Row (missingOf src)) where
+  at-field : (at : ℕ) {f : Field} → Told Row src f → Stops Row (take src at f)
+  at-field at t = take-row src at end t
 
-  slot-low : (W at : ℕ) → Low (slotFrom src W at)
-  unfolding slotFrom
-  slot-low W at = bind (take-low src at _ from (omega arith, omega arith)) (λ n at. candidates-low W n 0 at [])
+  -- grammars: the refusals of S, W and R, of symbols, words and equal rules, of what only a sheet can get wrong, and of its length
+  module _ (sizes : Row 3) (symbols : Row 4) (words : Row 5) (equals : Row 6)
+      (kinds : Told Row src ruleKind) (weights : Told Row src weight) (lasts : Told Row src nothing) (count : (R : ℕ) → unfit src R ≡ true → Row 41) where
+    body-row : (S W kind : ℕ) → Told Row src (firstOf S W kind) × Told Row src (secondOf S kind)
+    body-row S W kind = go (eqb kind 0)
+      where
+        go : (b : Bool) → Told Row src (pick b (symbol S) (ruleWord W)) × Told Row src (pick b (symbol S) nothing)
+        go true = (ranged symbols, ranged symbols)
+        go false = (ranged words, lasts)
 
-  slots-low : (W n at : ℕ) (u : Utterance) → Low (slotsFrom src W n at u)
-  unfolding slotsFrom
-  slots-low W zero at u = going
-  slots-low W (suc n) at u = bind (slot-low W at) (λ cs at. slots-low W n at (u ++ (cs ∷ [])))
+    rule-row : (S W at : ℕ) → Stops Row (ruleFrom src S W at)
+    unfolding ruleFrom
+    rule-row S W at =
+        bind (at-field at kinds) (λ kind at. bind (at-field at (ranged symbols)) (λ head at. bind (at-field at weights) (λ w at.
+        bind (at-field at (body-row S W kind .0)) (λ first at. bind (at-field at (body-row S W kind .1)) (λ second at. going)))))
 
-  utterance-low : (W at : ℕ) → Low (utteranceFrom src W at)
-  unfolding utteranceFrom
-  utterance-low W at = bind (take-low src at _ from (omega arith, omega arith)) (λ n at. slots-low W n at [])
+    rules-row : (S W n at : ℕ) (rs : List R.Rule) → Stops Row (rulesFrom src S W n at rs)
+    unfolding rulesFrom
+    rules-row S W zero at rs = going
+    rules-row S W (suc n) at rs = bind (rule-row S W at) (λ r at. test (anyAlike r rs) 6 (λ e. equals) (rules-row S W n at (rs ++ (r ∷ []))))
 
-  walk-low : (R m at : ℕ) (rs : List ℕ) → Low (walkFrom src R m at rs)
+    grammar-row : (at : ℕ) → Stops Row (grammarFrom src at)
+    unfolding grammarFrom
+    grammar-row at =
+        bind (at-field at (ranged sizes)) (λ S at. bind (at-field at (ranged sizes)) (λ W at. bind (at-field at (ranged sizes)) (λ R at.
+        test (unfit src R) 41 (count R) (bind (rules-row S W R at []) (λ rs at. going)))))
+
+  -- utterances: of the counts, of a word that is none or does not ascend, and of a cost
+  module _ (counts : Row 13) (words : Row 14) (order : Row 15) (costs : Told Row src cost) where
+    candidates-row : (W n least at : ℕ) (cs : List Candidate) → Stops Row (candidatesFrom src W n least at cs)
+    unfolding candidatesFrom
+    candidates-row W zero least at cs = going
+    candidates-row W (suc n) least at cs =
+        bind (at-field at (told (λ v h. (λ a. words, λ b. order)))) (λ w at. bind (at-field at costs) (λ c at.
+        candidates-row W n (suc w) at (cs ++ (candidate (word w) c ∷ []))))
+
+    slots-row : (W n at : ℕ) (u : Utterance) → Stops Row (slotsFrom src W n at u)
+    unfolding slotsFrom slotFrom
+    slots-row W zero at u = going
+    slots-row W (suc n) at u =
+        bind (bind (at-field at (ranged counts)) (λ m at. candidates-row W m 0 at [])) (λ cs at. slots-row W n at (u ++ (cs ∷ [])))
+
+    utterance-row : (W at : ℕ) → Stops Row (utteranceFrom src W at)
+    unfolding utteranceFrom
+    utterance-row W at = bind (at-field at (ranged counts)) (λ n at. slots-row W n at [])
+
+  walk-row : (R m at : ℕ) (rs : List ℕ) → Told Row src (ruleNumber R) → Stops Row (walkFrom src R m at rs)
   unfolding walkFrom
-  walk-low R zero at rs = going
-  walk-low R (suc m) at rs = bind (take-low src at _ from (omega arith, omega arith)) (λ r at. walk-low R m at (rs ++ (r ∷ [])))
+  walk-row R zero at rs t = going
+  walk-row R (suc m) at rs t = bind (at-field at t) (λ r at. walk-row R m at (rs ++ (r ∷ [])) t)
 
-pub reading-low : (n R : ℕ) (s : List ℕ) → Low (readingFrom n R s)
-unfolding readingFrom
-reading-low n R s =
-    bind (take-low (bytes 31 s) 0 _ (omega arith) (omega arith, omega arith)) (λ kind at.
-    bind (take-low (bytes 31 s) at _ (omega arith) (omega arith, omega arith)) (λ m at.
-    bind (take-low (bytes 31 s) at _ (omega arith) (omega arith, omega arith)) (λ w at.
-    bind (walk-low (bytes 31 s) (omega arith) R (2 * n - 1) at []) (λ rs at. going))))
-
-pub grammar-block-low : (s : List ℕ) → LowRefusal (grammarBlock s)
+-- the rows of document 01
+pub grammar-block-row : (s : List ℕ) → Refuses GrammarBlock (grammarBlock s)
 unfolding grammarBlock
-grammar-block-low s =
-    finish-low _ 7 (omega arith)
-    (bind (take-low (bytes 1 s) 0 _ (omega arith) (omega arith, omega arith)) (λ kind at. grammar-low (bytes 1 s) (omega arith) at))
+grammar-block-row s =
+    let src : Source = bytes 1 s in
+    let end : GrammarBlock 1 = (omega arith, omega arith) in
+    finish-row _ 7 (omega arith, omega arith) (bind (take-row src 0 end (ranged (omega arith, omega arith))) (λ kind at.
+    grammar-row src end (omega arith, omega arith) (omega arith, omega arith) (omega arith, omega arith) (omega arith, omega arith)
+    (as-wide (omega arith)) (as-wide (omega arith)) (as-wide (omega arith)) (λ R e. absurd (false≢true e)) at))
 
-pub grammar-sheet-low : (s : List ℕ) → LowRefusal (grammarSheet s)
+pub grammar-sheet-row : (s : List ℕ) → Refuses GrammarSheet (grammarSheet s)
 unfolding grammarSheet
-grammar-sheet-low s = choose-low (ltb (length s) 3) (low-refusal (omega arith)) (finish-low _ 41 (omega arith) (grammar-low (numbers s) tt 0))
+grammar-sheet-row s =
+    let src : Source = numbers s in
+    let short : GrammarSheet 41 = inr (omega arith, omega arith) in
+    let wrong : GrammarSheet 42 = inr (omega arith, omega arith) in
+    choose-row (ltb (length s) 3) (denied short) (finish-row _ 41 short
+    (grammar-row src short (inl (omega arith, omega arith)) (inl (omega arith, omega arith)) (inl (omega arith, omega arith)) (inl (omega arith, omega arith))
+    (ranged wrong) (ranged wrong) (ranged wrong) (λ R e. short) 0))
 
-pub utterance-block-low : (W : ℕ) (s : List ℕ) → LowRefusal (utteranceBlock W s)
+pub utterance-block-row : (W : ℕ) (s : List ℕ) → Refuses UtteranceBlock (utteranceBlock W s)
 unfolding utteranceBlock
-utterance-block-low W s =
-    finish-low _ 16 (omega arith)
-    (bind (take-low (bytes 11 s) 0 _ (omega arith) (omega arith, omega arith)) (λ kind at. utterance-low (bytes 11 s) (omega arith) W at))
+utterance-block-row W s =
+    let src : Source = bytes 11 s in
+    let end : UtteranceBlock 11 = (omega arith, omega arith) in
+    finish-row _ 16 (omega arith, omega arith) (bind (take-row src 0 end (ranged (omega arith, omega arith))) (λ kind at.
+    utterance-row src end (omega arith, omega arith) (omega arith, omega arith) (omega arith, omega arith) (as-wide (omega arith)) W at))
 
-pub utterance-sheet-low : (W : ℕ) (s : List ℕ) → LowRefusal (utteranceSheet W s)
+pub utterance-sheet-row : (W : ℕ) (s : List ℕ) → Refuses UtteranceSheet (utteranceSheet W s)
 unfolding utteranceSheet
-utterance-sheet-low W s = finish-low _ 41 (omega arith) (utterance-low (numbers s) tt W 0)
+utterance-sheet-row W s =
+    let short : UtteranceSheet 41 = inr (omega arith, omega arith) in
+    finish-row _ 41 short
+    (utterance-row (numbers s) short (inl (omega arith, omega arith)) (inl (omega arith, omega arith)) (inl (omega arith, omega arith))
+    (ranged (inr (omega arith, omega arith))) W 0)
+
+-- a rule number of at most 8 bits is at most 255
+pub reading-row : (n R : ℕ) (s : List ℕ) → R ≤ 256 → Stops ReadingFields (readingFrom n R s)
+unfolding readingFrom
+reading-row n R s h =
+    let src : Source = bytes 31 s in
+    let end : ReadingFields 31 = (omega arith, omega arith) in
+    let room : 2 ^ widthOf (R - 1) ≤ 255 + 1 = pow-mono (byte-width R h) in
+    bind (take-row src 0 end (ranged (omega arith, omega arith))) (λ kind at.
+    bind (take-row src at end (ranged (omega arith, omega arith))) (λ m at.
+    bind (take-row src at end (as-wide (omega arith))) (λ w at.
+    bind (walk-row src end R (2 * n - 1) at [] (as-wide room)) (λ rs at. going))))
+
+-- so each is below 64
+lower : {Row : ℕ → Type 0} → ((n : ℕ) → Row n → Low n) → {A : Type 0} {v : Verdict A} → Refuses Row v → Refuses Low v
+lower f granted = granted
+lower f (denied {n} r) = denied (f n r)
+
+pub grammar-block-low : (s : List ℕ) → Refuses Low (grammarBlock s)
+grammar-block-low s = lower (λ n r. omega (arith, r)) (grammar-block-row s)
+
+pub utterance-block-low : (W : ℕ) (s : List ℕ) → Refuses Low (utteranceBlock W s)
+utterance-block-low W s = lower (λ n r. omega (arith, r)) (utterance-block-row W s)
+
+pub reading-low : (n R : ℕ) (s : List ℕ) → R ≤ 256 → Stops Low (readingFrom n R s)
+reading-low n R s h = go (reading-row n R s h)
+  where
+    go : {A : Type 0} {p : Parse A} → Stops ReadingFields p → Stops Low p
+    go going = going
+    go (stopped {n} r) = stopped {n = n} (omega (arith, r))
 
 -- and so of the conversions
-fitting-low : (v : Verdict (List ℕ)) (out : List ℕ) → LowRefusal v → LowRefusal (fitting v out)
+fitting-low : (v : Verdict (List ℕ)) (out : List ℕ) → Refuses Low v → Refuses Low (fitting v out)
 unfolding fitting
-fitting-low v out l = then-low l (λ r. choose-low (ltb (length out) (length r)) (low-refusal (omega arith)) granted)
+fitting-low v out l = then-row l (λ r e. choose-row (ltb (length out) (length r)) (denied (omega arith)) granted)
 
-pub grammar-to-block-low : (t out : List ℕ) → LowRefusal (fitting (grammarToBlock t) out)
+pub grammar-to-block-low : (t out : List ℕ) → Refuses Low (fitting (grammarToBlock t) out)
 unfolding grammarToBlock
-grammar-to-block-low t out = fitting-low _ out (then-low (grammar-sheet-low t) (λ g. granted))
+grammar-to-block-low t out =
+    fitting-low _ out (then-row (lower (λ n. ⊎-elim (λ r. omega (arith, r)) (λ r. omega (arith, r))) (grammar-sheet-row t)) (λ g e. granted))
 
-pub grammar-to-sheet-low : (s out : List ℕ) → LowRefusal (fitting (grammarToSheet s) out)
+pub grammar-to-sheet-low : (s out : List ℕ) → Refuses Low (fitting (grammarToSheet s) out)
 unfolding grammarToSheet
-grammar-to-sheet-low s out = fitting-low _ out (then-low (grammar-block-low s) (λ g. granted))
+grammar-to-sheet-low s out = fitting-low _ out (then-row (grammar-block-low s) (λ g e. granted))
 
-pub utterance-to-block-low : (s t out : List ℕ) → LowRefusal (fitting (utteranceToBlock s t) out)
+pub utterance-to-block-low : (s t out : List ℕ) → Refuses Low (fitting (utteranceToBlock s t) out)
 unfolding utteranceToBlock
 utterance-to-block-low s t out =
-    fitting-low _ out (then-low (grammar-block-low s) (λ g. then-low (utterance-sheet-low (g .words) t) (λ u. granted)))
+    fitting-low _ out (then-row (grammar-block-low s) (λ g e.
+    then-row (lower (λ n. ⊎-elim (λ r. omega (arith, r)) (λ r. omega (arith, r))) (utterance-sheet-row (g .words) t)) (λ u e. granted)))
 
-pub utterance-to-sheet-low : (s t out : List ℕ) → LowRefusal (fitting (utteranceToSheet s t) out)
+pub utterance-to-sheet-low : (s t out : List ℕ) → Refuses Low (fitting (utteranceToSheet s t) out)
 unfolding utteranceToSheet
 utterance-to-sheet-low s t out =
-    fitting-low _ out (then-low (grammar-block-low s) (λ g. then-low (utterance-block-low (g .words) t) (λ u. granted)))
+    fitting-low _ out (then-row (grammar-block-low s) (λ g e. then-row (utterance-block-low (g .words) t) (λ u e. granted)))

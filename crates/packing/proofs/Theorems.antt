@@ -4,14 +4,14 @@
 -- Assumes nothing.
 use mathlib.Core.Path.{_≡_, ap, _∙_}
 use mathlib.Core.Bool.{true}
-use mathlib.Core.Logic.{_↔_}
+use mathlib.Core.Logic.{_↔_, _⊎_}
 use mathlib.Core.List.{List}
 use Prim.Native.Nat.{ℕ, _≤_}
 use lib.ListN.{length}
 use Rattle.bits.specs.Bits.{ended}
 use Rattle.bits.specs.Fields.{widths}
 use Rattle.packing.specs.Meaning.{Grammar, Utterance, Reading}
-use Rattle.packing.specs.Parse.{parsed, accepted}
+use Rattle.packing.specs.Parse.{parsed, failed, accepted, refused}
 use Rattle.packing.specs.Source.{flds}
 use Rattle.packing.specs.Grammar.{grammarBlock, grammarSheet, blockOfGrammar, sheetOfGrammar}
 use Rattle.packing.specs.Utterance.{utteranceBlock, utteranceSheet, blockOfUtterance, sheetOfUtterance}
@@ -19,6 +19,7 @@ use Rattle.packing.specs.Reading.{readingFrom, readingEntries, blockOfRe
 use Rattle.packing.specs.Conversion.{grammarToBlock, grammarToSheet, utteranceToBlock, utteranceToSheet}
 use Rattle.packing.specs.Valid.{Bytes, ValidGrammar, ValidUtterance, ValidReading}
 use Rattle.packing.proofs.Parse.{granted, accepted-is}
+use Rattle.packing.proofs.Refusals.{refusal-number, stop-number, grammar-block-row, grammar-sheet-row, utterance-block-row, utterance-sheet-row, reading-row}
 use Rattle.packing.proofs.Widths.{grammar-length, utterance-length, reading-length, valid-words}
 use Rattle.packing.proofs.Whole.{grammar-block-out, grammar-block-back, grammar-sheet-out, grammar-sheet-back, utterance-block-out, utterance-block-back, utterance-sheet-out, utterance-sheet-back, reading-block-out, reading-block-back}
 
@@ -96,3 +97,20 @@ pub longest-reading : (n R : ℕ) (s : List ℕ) (d : Reading) (at : ℕ) → n 
 longest-reading n R s d at h r y e end =
     let (v, m, p) = reading-block-out R n s d at e end in
     rw (p y) (reading-length R d r (rw m h) v)
+
+-- "Where each check stands": a refusal is a number of its row. In a block 42 does not come, and up to a reading's last field
+-- none of 34 to 36.
+pub grammar-block-refused : (s : List ℕ) (n : ℕ) → grammarBlock s ≡ refused n → (1 ≤ n) × (n ≤ 7)
+grammar-block-refused s n = refusal-number (grammar-block-row s)
+
+pub utterance-block-refused : (W : ℕ) (s : List ℕ) (n : ℕ) → utteranceBlock W s ≡ refused n → (11 ≤ n) × (n ≤ 16)
+utterance-block-refused W s n = refusal-number (utterance-block-row W s)
+
+pub reading-block-refused : (slots R : ℕ) (s : List ℕ) (n : ℕ) → R ≤ 256 → readingFrom slots R s ≡ failed n → (31 ≤ n) × (n ≤ 33)
+reading-block-refused slots R s n h = stop-number (reading-row slots R s h)
+
+pub grammar-sheet-refused : (t : List ℕ) (n : ℕ) → grammarSheet t ≡ refused n → ((3 ≤ n) × (n ≤ 6)) ⊎ ((41 ≤ n) × (n ≤ 42))
+grammar-sheet-refused t n = refusal-number (grammar-sheet-row t)
+
+pub utterance-sheet-refused : (W : ℕ) (t : List ℕ) (n : ℕ) → utteranceSheet W t ≡ refused n → ((13 ≤ n) × (n ≤ 15)) ⊎ ((41 ≤ n) × (n ≤ 42))
+utterance-sheet-refused W t n = refusal-number (utterance-sheet-row W t)

@@ -20,11 +20,12 @@ use Rattle.packing.specs.Valid.{ValidGrammar, ValidUtterance}
 use Rattle.packing.proofs.Bounds.{length-rules, length-slots}
 use Rattle.packing.proofs.Widths.{grammar-length, utterance-length, valid-words}
 use Rattle.packing.proofs.Whole.{grammar-block-out, grammar-sheet-out, utterance-block-out, utterance-sheet-out}
-use Rattle.packing.proofs.Refusals.{LowRefusal, granted, low-refusal, Low, going, low, then-low, choose-low, grammar-block-low, utterance-block-low, reading-low, grammar-to-block-low, grammar-to-sheet-low, utterance-to-block-low, utterance-to-sheet-low}
+use Rattle.packing.proofs.Refusals.{Refuses, granted, denied, Stops, going, stopped, Low, then-row, choose-row, grammar-block-low, utterance-block-low, reading-low, grammar-to-block-low, grammar-to-sheet-low, utterance-to-block-low, utterance-to-sheet-low}
 use Rattle.derivation.specs.Derivation.{Tree, weight}
 use Rattle.checker.specs.Check.{check, judged, afterFields, derivationOf}
 use Rattle.packing.specs.Reading.{blockOfReading}
 use Rattle.derivation.specs.List.{listing}
+use Rattle.derivation.proofs.Ranges.{valid-rules}
 use Rattle.listing.specs.Listing.{list, listed, tableSize, readingLength, tooHeavy}
 use Rattle.specimen.specs.declared.Answered as A
 use Rattle.specimen.specs.Specimen.{asked, Answers}
@@ -57,9 +58,9 @@ unfolding sheetOfUtterance utteranceEntries
 slots-short W u v = omega (arith, length-slots W u (v .1), v .0 .1)
 
 -- what is short, with a low refusal, is a small answer
-small : {v : Verdict (List ℕ)} → Short v → LowRefusal v → Small length v
+small : {v : Verdict (List ℕ)} → Short v → Refuses Low v → Small length v
 small (short {l} h) r = small-size {a = l} (omega arith)
-small none (low-refusal {n} h) = small-refusal {n = n} (omega arith)
+small none (denied {n} h) = small-refusal {n = n} (omega arith)
 
 pub small-grammar-block : (t out : List ℕ) → Small length (fitting (grammarToBlock t) out)
 unfolding grammarToBlock
@@ -86,12 +87,12 @@ small-utterance-sheet s t out =
     short (slots-short (g .words) u (utterance-block-out (g .words) t u f .0)))))) (utterance-to-sheet-low s t out)
 
 -- the specimen: an accepted length is at most 24, and a refusal is low
-asked-low : (s : List ℕ) (n out : ℕ) → LowRefusal (asked s n out)
+asked-low : (s : List ℕ) (n out : ℕ) → Refuses Low (asked s n out)
 unfolding asked
 asked-low s n out =
-    then-low (grammar-block-low s) λ g.
-    choose-low (ltb n 1) (low-refusal {n = 25} (omega arith)) (choose-low (ltb 24 n) (low-refusal {n = 25} (omega arith))
-    (choose-low (ltb out n) (low-refusal {n = 26} (omega arith)) granted))
+    then-row (grammar-block-low s) λ g e.
+    choose-row (ltb n 1) (denied {n = 25} (omega arith)) (choose-row (ltb 24 n) (denied {n = 25} (omega arith))
+    (choose-row (ltb out n) (denied {n = 26} (omega arith)) granted))
 
 asked-most : (s : List ℕ) (n out : ℕ) (g : Grammar) → asked s n out ≡ accepted g → n ≤ 24
 unfolding asked
@@ -107,33 +108,33 @@ asked-most s n out g e = go (grammarBlock s) (ltb n 1) (ltb 24 n) (ltb out n) re
 pub asked-small : (s : List ℕ) (n size : ℕ) (out exit : List ℕ) (a : A.Answered) → Answers (asked s n size) n out a exit → SmallAnswered n a
 asked-small s n size out exit a = go (asked s n size) refl (asked-low s n size) a
   where
-    go : (v : Verdict Grammar) → asked s n size ≡ v → LowRefusal v → (a : A.Answered) → Answers v n out a exit → SmallAnswered n a
+    go : (v : Verdict Grammar) → asked s n size ≡ v → Refuses Low v → (a : A.Answered) → Answers v n out a exit → SmallAnswered n a
     go (accepted g) e l A.the-variants.Written b = omega (arith, asked-most s n size g e)
     go v e l A.the-variants.Nothing b = tt
     go (accepted g) e l (A.the-variants.Refused m) b = absurd b
     go (refused k) e l A.the-variants.Written b = absurd b
-    go (refused k) e (low-refusal l) (A.the-variants.Refused m) b = omega (arith, b .0)
+    go (refused k) e (denied l) (A.the-variants.Refused m) b = omega (arith, b .0)
 
 -- the check: a refusal is low
-judged-low : (g : Grammar) (u : Utterance) (block : List ℕ) (d : Reading) (at : ℕ) (t : Option Tree) → LowRefusal (judged g u block d at t)
-judged-low g u block d at O.none = low-refusal {n = 34} (omega arith)
+judged-low : (g : Grammar) (u : Utterance) (block : List ℕ) (d : Reading) (at : ℕ) (t : Option Tree) → Refuses Low (judged g u block d at t)
+judged-low g u block d at O.none = denied {n = 34} (omega arith)
 judged-low g u block d at (some t) =
-    choose-low (eqb (weight g (edges u) t) (d .weight)) (choose-low (ended block at) granted (low-refusal {n = 36} (omega arith)))
-    (low-refusal {n = 35} (omega arith))
+    choose-row (eqb (weight g (edges u) t) (d .weight)) (choose-row (ended block at) granted (denied {n = 36} (omega arith)))
+    (denied {n = 35} (omega arith))
 
-fields-low : (g : Grammar) (u : Utterance) (block : List ℕ) {p : Parse Reading} → Low p → LowRefusal (afterFields g u block p)
-fields-low g u block (low l) = low-refusal l
+fields-low : (g : Grammar) (u : Utterance) (block : List ℕ) {p : Parse Reading} → Stops Low p → Refuses Low (afterFields g u block p)
+fields-low g u block (stopped l) = denied l
 fields-low g u block (going {a = d} {at = at}) = judged-low g u block d at (derivationOf g u (d .walk))
 
-check-low : (grammar utterance reading : List ℕ) → LowRefusal (check grammar utterance reading)
+check-low : (grammar utterance reading : List ℕ) → Refuses Low (check grammar utterance reading)
 unfolding check
 check-low grammar utterance reading =
-    then-low (grammar-block-low grammar) (λ g. then-low (utterance-block-low (g .words) utterance) (λ u.
-    fields-low g u reading (reading-low (length u) (length (g .rules)) reading)))
+    then-row (grammar-block-low grammar) (λ g e. then-row (utterance-block-low (g .words) utterance) (λ u f.
+    fields-low g u reading (reading-low (length u) (length (g .rules)) reading (valid-rules g (grammar-block-out grammar g e .0)))))
 
-checked-low : {v : Verdict Reading} → LowRefusal v → Small (λ d. 0) v
+checked-low : {v : Verdict Reading} → Refuses Low v → Small (λ d. 0) v
 checked-low (granted {a}) = small-size {a = a} (omega arith)
-checked-low (low-refusal {n} l) = small-refusal {n = n} (omega arith)
+checked-low (denied {n} l) = small-refusal {n = n} (omega arith)
 
 pub check-small : (grammar utterance reading : List ℕ) → Small (λ d. 0) (check grammar utterance reading)
 check-small grammar utterance reading = checked-low (check-low grammar utterance reading)
@@ -161,10 +162,10 @@ listed-small g u N work out =
     go false false false false true p = small-refusal {n = 24} (omega arith)
     go false false false false false p = small-size {a = blocks g u N} (omega (arith, listing-most g u N, ltb-false 256 N p))
 
-then-small : {A : Type 0} {v : Verdict A} (k : A → Verdict (List (List ℕ))) → LowRefusal v → ((a : A) → Small length (k a))
+then-small : {A : Type 0} {v : Verdict A} (k : A → Verdict (List (List ℕ))) → Refuses Low v → ((a : A) → Small length (k a))
     → Small length (v then k)
 then-small k (granted {a}) h = h a
-then-small k (low-refusal {n} l) h = small-refusal {n = n} (omega arith)
+then-small k (denied {n} l) h = small-refusal {n = n} (omega arith)
 
 pub list-small : (grammar utterance : List ℕ) (N work out : ℕ) → Small length (list grammar utterance N work out)
 unfolding list
