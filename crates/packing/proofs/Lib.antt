@@ -12,6 +12,5 @@ pub mod Reading
 pub mod Widths
 pub mod Whole
 pub mod Theorems
-pub mod Cases
 pub mod Loop
 pub mod Store
