@@ -3,7 +3,7 @@
 use mathlib.Core.Path.{_≡_, refl, sym, ap}
 use mathlib.Core.Bool.{true}
 use mathlib.Core.List.{List, [], _∷_, _++_, append-assoc, append-nil}
-use Prim.Native.Nat.{ℕ, zero, suc, _+_, _-_, _*_, _/_, _%_, _^_, _≤_, _<_}
+use Prim.Native.Nat.{ℕ, zero, suc, _+_, _*_, _/_, _%_, _^_, _≤_, _<_}
 use native.Mathlib.Nat.{add-assoc, add-zero}
 use native.Mathlib.Omega.{arith}
 use lib.ListN.{length, getD, length-append}
@@ -81,17 +81,6 @@ pub cons-field : (s : List ℕ) (at w v : ℕ) (fs : List Fld) → v ≡ field s
 unfolding bitsOfAll
 cons-field s at w v fs e h =
     rw e (holds-join s at (bitsOf w (field s at w)) (bitsOfAll fs) (holds-field s at w (omega arith)) (rw length-bitsOf h))
-
--- fields held in two parts
-module _ (s : List ℕ) (at : ℕ) (fs gs : List Fld) where
-  pub fields-left : Holds s at (bitsOfAll (fs ++ gs)) → Holds s at (bitsOfAll fs)
-  fields-left h = holds-left s at (bitsOfAll fs) (bitsOfAll gs) (rw bitsOfAll-append at h)
-
-  pub fields-right : Holds s at (bitsOfAll (fs ++ gs)) → Holds s (at + widths fs) (bitsOfAll gs)
-  fields-right h = rw (length-bitsOfAll fs) at (holds-right s at (bitsOfAll fs) (bitsOfAll gs) (rw bitsOfAll-append at h))
-
-  pub fields-join : Holds s at (bitsOfAll fs) → Holds s (at + widths fs) (bitsOfAll gs) → Holds s at (bitsOfAll (fs ++ gs))
-  fields-join h k = rw bitsOfAll-append (holds-join s at (bitsOfAll fs) (bitsOfAll gs) h (rw (length-bitsOfAll fs) k))
 
 -- a block of fields holds them, and ends behind them; and bytes of which both is so are that block
 module _ (fs : List Fld) where

@@ -9,12 +9,12 @@ use Prim.Native.Nat.{ℕ, zero, suc, _+_, _-_, _*_, _^_, _≤_, _<_}
 use native.Mathlib.Omega.{arith}
 use borrow.Author.Tests.{ltb-true}
 use lib.Dec.{ltb, leb, eqb}
-use lib.ListN.{length, getD}
+use lib.ListN.{length}
 use lib.Pow.{pow-mono}
-use Rattle.bits.specs.Bits.{pick, field, ended}
+use Rattle.bits.specs.Bits.{pick}
 use Rattle.bits.specs.Width.{widthOf}
 use Rattle.bits.proofs.Num.{field-lt}
-use Rattle.packing.specs.Meaning.{Grammar, Candidate, candidate, Utterance, word}
+use Rattle.packing.specs.Meaning.{Candidate, candidate, Utterance, word}
 use Rattle.packing.specs.Parse.{Parse, parsed, failed, _⟫_, Verdict, accepted, refused, _then_, finish}
 use Rattle.packing.specs.Source.{Source, bytes, numbers, inRange, take, within}
 use Rattle.packing.specs.Grammar.{ruleKind, ruleWord, weight, nothing, symbol, firstOf, secondOf, ruleFrom, anyAlike, rulesFrom, unfit, grammarFrom, grammarBlock, grammarSheet}

@@ -1,12 +1,12 @@
 -- Laws of numbers stored one after another. Assumes nothing.
-use mathlib.Core.Path.{_≡_, refl, sym, ap, _∙_}
+use mathlib.Core.Path.{_≡_, refl, sym, _∙_}
 use mathlib.Core.List.{List, [], _∷_, _++_, append-assoc}
 use Prim.Native.Nat.{ℕ, zero, suc, _+_, _≤_, _<_}
-use native.Mathlib.Nat.{add-assoc, add-zero}
+use native.Mathlib.Nat.{add-zero}
 use native.Mathlib.Numerals.{add-one}
 use native.Mathlib.Omega.{arith}
 use lib.ListN.{length, set, take, drop, length-append, length-set, take-append-drop}
-use lib.Seq.{take-suc-set, drop-cons}
+use lib.Seq.{take-suc-set}
 use Rattle.packing.specs.Store.{storeAll}
 
 pub length-store : (array : List ℕ) (at : ℕ) (l : List ℕ) → length (storeAll array at l) ≡ length array

@@ -4,7 +4,6 @@ use Prim.Native.Nat.{ℕ}
 use lib.Dec.{ltb}
 use lib.ListN.{length, drop}
 use Rattle.bits.specs.Bits.{pick}
-use Rattle.packing.specs.Meaning.{Grammar, Utterance}
 use Rattle.packing.specs.Parse.{Verdict, accepted, refused, _then_}
 use Rattle.packing.specs.Grammar.{grammarBlock, grammarSheet, blockOfGrammar, sheetOfGrammar}
 use Rattle.packing.specs.Utterance.{utteranceBlock, utteranceSheet, blockOfUtterance, sheetOfUtterance}

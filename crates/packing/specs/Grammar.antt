@@ -9,7 +9,7 @@ use Rattle.bits.specs.Bits.{pick, pack, ended}
 use Rattle.bits.specs.Width.{widthOf}
 use Rattle.bits.specs.Fields.{bitsOfAll}
 use Rattle.packing.specs.Meaning.{Grammar, sym, word}
-use Rattle.packing.specs.Parse.{Parse, parsed, failed, _⟫_, Verdict, accepted, refused, finish}
+use Rattle.packing.specs.Parse.{Parse, parsed, failed, _⟫_, Verdict, refused, finish}
 use Rattle.packing.specs.Source.{Source, bytes, numbers, take, within, Entry, entry, values, flds}
 use Rattle.packing.specs.declared.Field.{Field}
 use Rattle.packing.specs.declared.Rule as R

@@ -6,7 +6,7 @@ use Rattle.bits.specs.Bits.{pack}
 use Rattle.bits.specs.Width.{widthOf}
 use Rattle.bits.specs.Fields.{bitsOfAll}
 use Rattle.packing.specs.Meaning.{Reading}
-use Rattle.packing.specs.Parse.{Parse, parsed, failed, _⟫_}
+use Rattle.packing.specs.Parse.{Parse, parsed, _⟫_}
 use Rattle.packing.specs.Source.{Source, bytes, take, within, Entry, entry, flds}
 use Rattle.packing.specs.Grammar.{blockKind}
 use Rattle.packing.specs.declared.Field.{Field}

@@ -1,15 +1,13 @@
 -- A number of a block or a sheet: document 01, "Packed blocks" and "Where each check stands": a field is read, then
 -- checked, before the next. Assumes nothing.
-use mathlib.Core.List.{List, [], _∷_, map}
-use mathlib.Core.Bool.{Bool, true, false}
+use mathlib.Core.List.{List, map}
 use Prim.Native.Nat.{ℕ, _+_, _*_}
-use lib.Dec.{ltb, leb, eqb}
+use lib.Dec.{ltb, leb}
 use lib.ListN.{length, getD}
-use Rattle.bits.specs.Bits.{pick, field, ended}
+use Rattle.bits.specs.Bits.{pick, field}
 use Rattle.bits.specs.Fields.{Fld, fld}
 use Rattle.packing.specs.Parse.{Parse, parsed, failed}
 use Rattle.packing.specs.declared.Field.{Field}
-use Rattle.packing.specs.declared.Cursor.{Cursor}
 use Rattle.packing.specs.declared.Read.{Read}
 use Rattle.packing.specs.declared.Read.the-variants.{Number, Refused}
 use Rattle.packing.specs.declared.Source as S

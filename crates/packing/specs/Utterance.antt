@@ -8,7 +8,7 @@ use Rattle.bits.specs.Bits.{pack, ended}
 use Rattle.bits.specs.Width.{widthOf}
 use Rattle.bits.specs.Fields.{bitsOfAll}
 use Rattle.packing.specs.Meaning.{Candidate, candidate, Utterance, word}
-use Rattle.packing.specs.Parse.{Parse, parsed, failed, _⟫_, Verdict, accepted, refused, finish}
+use Rattle.packing.specs.Parse.{Parse, parsed, _⟫_, Verdict, finish}
 use Rattle.packing.specs.Source.{Source, bytes, numbers, take, within, Entry, entry, values, flds}
 use Rattle.packing.specs.Grammar.{blockKind}
 use Rattle.packing.specs.declared.Field.{Field}

@@ -1,11 +1,10 @@
 -- `packing::take` meets its contract: each arm of the match is the definition's clause for that source. Assumes nothing.
 use borrow.Author.Needs.{needs}
 use borrow.Author.Tests.{leb-true, lt-ltb, le-ltb}
-use native.Mathlib.Omega.{arith}
 use Prim.Native.Nat.{_+_, _*_, _≤_}
 use lib.ListN.{length}
-use mathlib.Core.Path.{_≡_, refl, sym, ap, _∙_}
-use Rattle.packing.specs.Source.{take, readOf, sourceOf}
+use mathlib.Core.Path.{sym, _∙_}
+use Rattle.packing.specs.Source.{take}
 use Rattle.packing.proofs.take.Statement.{statement}
 use Rattle.packing.proofs.take.Tie as tie
 
