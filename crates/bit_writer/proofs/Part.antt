@@ -9,7 +9,7 @@ use native.Mathlib.Omega.{arith}
 use lib.ListN.{length, getD, set}
 use lib.Seq.{getD-set-same, set-set}
 use lib.Pow.{pow-pos, pow-mono, pow-add, shr-shr, shl-shr, shr-lt, shl-lt, shl-exact, mod-pow-add}
-use Rattle.bits.specs.Bits.{lastBit, putBit, put}
+use Rattle.bits.specs.Put.{lastBit, putBit, put}
 
 -- a field within one byte x, from its bit 8 - room
 abbrev pub part : ℕ → ℕ → ℕ → ℕ → ℕ

@@ -2,7 +2,7 @@
 ghost use mathlib.Core.Path.{_≡_};
 ghost use Prim.Native.Nat.{_+_, _*_, _%_, _^_, _≤_, _<_, min};
 ghost use lib.ListN.{length};
-ghost use Rattle.bits.specs.Bits.{put};
+ghost use Rattle.bits.specs.Put.{put};
 
 // A field within one byte; the rest of the byte becomes zero.
 fn write_part(out: &mut [u8], at: usize, width: usize, value: u32)

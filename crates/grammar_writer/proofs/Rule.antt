@@ -4,9 +4,9 @@ use mathlib.Core.Path.{_≡_}
 use mathlib.Core.List.{List, [], _∷_}
 use Prim.Native.Nat.{ℕ, _+_, _-_, _≤_}
 use native.Mathlib.Omega.{arith}
-use Rattle.bits.specs.Bits.{put}
+use Rattle.bits.specs.Put.{put, puts}
 use Rattle.bits.specs.Width.{widthOf}
-use Rattle.bits.specs.Fields.{fld, puts, widths}
+use Rattle.bits.specs.Fields.{fld, widths}
 use Rattle.packing.specs.Source.{flds}
 use Rattle.packing.specs.Grammar.{ruleEntries}
 use Rattle.packing.specs.declared.Sym.{Sym}

@@ -1,5 +1,5 @@
 -- What a line says: a block that a valid reading was packed into is read as that reading.
-use mathlib.Core.Path.{_≡_, refl, sym, ap, _∙_}
+use mathlib.Core.Path.{_≡_, sym, ap, _∙_}
 use mathlib.Core.List.{List}
 use Prim.Native.Nat.{ℕ, _+_, _-_, _*_}
 use native.Mathlib.Omega.{arith}
@@ -8,13 +8,11 @@ use Rattle.packing.specs.Meaning.{Reading}
 use Rattle.packing.specs.Parse.{parsed}
 use Rattle.bits.specs.Fields.{widths}
 use Rattle.packing.specs.Source.{flds}
-use Rattle.packing.specs.Reading.{readingFrom, readingEntries, blockOfReading}
-use Rattle.packing.specs.Flat.{Begins}
+use Rattle.packing.specs.Reading.{readingFrom, readingEntries, blockOfReading, readingLength}
 use Rattle.packing.specs.Valid.{ValidReading}
 use Rattle.packing.specs.declared.Cursor.{Cursor}
 use Rattle.packing.proofs.Whole.{reading-block-back}
 use Rattle.reading_reader.specs.Answer.{answerOf, WalkIn}
-use Rattle.packing_reading.specs.Answer.{readingLength}
 use Rattle.reading_reader.specs.declared.ReadingRead as read
 use Rattle.lister.specs.Lines.{Line}
 use Rattle.lister.specs.declared.Shape.{Shape}

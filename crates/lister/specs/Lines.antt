@@ -7,10 +7,9 @@ use Rattle.packing.specs.Meaning.{Grammar, Utterance, Reading}
 use Rattle.packing.specs.Parse.{accepted}
 use Rattle.packing.specs.Grammar.{grammarBlock}
 use Rattle.packing.specs.Utterance.{utteranceBlock}
-use Rattle.packing.specs.Reading.{blockOfReading}
+use Rattle.packing.specs.Reading.{blockOfReading, readingLength}
 use Rattle.packing.specs.Flat.{Begins}
 use Rattle.packing.specs.Valid.{ValidReading}
-use Rattle.packing_reading.specs.Answer.{readingLength}
 use Rattle.lister.specs.declared.Shape.{Shape}
 
 -- n and R in their ranges

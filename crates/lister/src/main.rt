@@ -8,7 +8,7 @@ use reading_reader::ReadingRead;
 ghost use Prim.Native.Nat.{_+_, _-_, _*_, _≤_};
 ghost use lib.ListN.{length};
 ghost use Rattle.io.specs.Counts.{Counts};
-ghost use Rattle.packing_reading.specs.Answer.{readingLength};
+ghost use Rattle.packing.specs.Reading.{readingLength};
 ghost use Rattle.lister.specs.Lines.{ShapeOf, Bounded, Line};
 
 // n and R, on which the length of a reading depends.

@@ -12,7 +12,7 @@ use Rattle.packing.specs.Meaning.{Grammar, Utterance, Reading}
 use Rattle.packing.specs.Parse.{Verdict, accepted, refused}
 use Rattle.packing.specs.Grammar.{grammarBlock}
 use Rattle.packing.specs.Utterance.{utteranceBlock}
-use Rattle.packing.specs.Reading.{blockOfReading}
+use Rattle.packing.specs.Reading.{blockOfReading, readingLength}
 use Rattle.packing.specs.Valid.{ValidGrammar, ValidUtterance}
 use Rattle.packing.proofs.Parse.{granted, accepted-else, accepted-is}
 use Rattle.packing.proofs.Widths.{length-reading}
@@ -21,7 +21,7 @@ use Rattle.derivation.specs.List.{Number, listing}
 use Rattle.derivation.proofs.Lists.{map-at}
 use Rattle.derivation.proofs.Ranges.{All}
 use Rattle.derivation.proofs.Theorems.{list-length, list-element, nodes, greatest-weight}
-use Rattle.listing.specs.Listing.{tableSize, readingLength, tooHeavy, listed, list, answerOf}
+use Rattle.listing.specs.Listing.{tableSize, tooHeavy, listed, list, answerOf}
 use Rattle.listing.specs.declared.Listed.{Listed}
 use Rattle.listing.specs.declared.Listed.the-variants.{Found}
 use Rattle.listing.proofs.Joined.{Sized}
@@ -44,11 +44,11 @@ module _ (g : Grammar) (u : Utterance) (N : ℕ) where
   count-blocks all number = length-map (listing g u N) (blockOfReading (length (g .rules))) ∙ list-length g u N all number
 
   pub sized-blocks : Sized (readingLength (length u) (length (g .rules))) blocks
-  unfolding readingLength reading
+  unfolding reading
   sized-blocks = at-all _ blocks λ k b h.
       let (v, at, e) = map-at (blockOfReading (length (g .rules))) (listing g u N) k h in
       let (t, d, rank, below, is) = list-element g u N k v .0 at in
-      rw (e, is, length-reading (length (g .rules)) (reading g u t), nodes g u t d)
+      rw (e, is, length-reading (length (g .rules)) (reading g u t) (nodes g u t d))
 
   module _ (okg : ValidGrammar g) (oku : ValidUtterance (g .words) u) where
     never-heavy : tooHeavy (listing g u N) ≡ false

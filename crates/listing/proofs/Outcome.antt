@@ -21,7 +21,8 @@ use Rattle.chart_candidates.specs.Candidates.{Indexed}
 use Rattle.chart_list.proofs.Accepted.{Holds, dims, chart-holds}
 use Rattle.chart_index.specs.Index.{indexOf}
 use Rattle.chart_index.proofs.Index.{indexed}
-use Rattle.listing.specs.Listing.{tableSize, readingLength, joined, listed, list}
+use Rattle.listing.specs.Listing.{tableSize, joined, listed, list}
+use Rattle.packing.specs.Reading.{readingLength}
 use Rattle.listing.specs.Model.{shortage, Filled, Promised, UtteranceListed, GrammarListed}
 use Rattle.listing.specs.declared.Listed.{Listed}
 use Rattle.listing.specs.declared.Listed.the-variants.{Found, Refused}

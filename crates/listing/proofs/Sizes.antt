@@ -2,20 +2,20 @@
 use mathlib.Core.Path.{_≡_, refl}
 use mathlib.Core.Bool.{Bool, true, false}
 use mathlib.Core.List.{List}
-use Prim.Native.Nat.{ℕ, zero, suc, _+_, _-_, _*_, _/_, _≤_, _<_}
+use Prim.Native.Nat.{ℕ, zero, suc, _+_, _*_, _/_, _≤_}
 use native.Mathlib.Nat.{mul-le-mul, mul-assoc}
 use native.Mathlib.Omega.{arith}
 use lib.Dec.{ltb}
 use lib.ListN.{length, length-append}
 use borrow.Author.Tests.{ltb-false}
 use Rattle.bits.specs.Bits.{pick}
-use Rattle.bits.specs.Width.{widthOf}
 use Rattle.packing.specs.Meaning.{Grammar, Utterance}
 use Rattle.packing.specs.Parse.{refused}
-use Rattle.packing.proofs.Widths.{byte-width}
+use Rattle.packing.proofs.Widths.{length-small}
 use Rattle.packing_utterance.specs.Edges.{candidatesAt, slotsEdges, edgesIn}
 use Rattle.packing_utterance.proofs.Edges.{length-candidate-edges}
-use Rattle.listing.specs.Listing.{tableSize, readingLength, listed}
+use Rattle.listing.specs.Listing.{tableSize, listed}
+use Rattle.packing.specs.Reading.{readingLength}
 use Rattle.listing.specs.Model.{firstOf, shortage}
 
 pub places-small : {n : ℕ} → n ≤ 24 → n * (n + 1) ≤ 600
@@ -32,14 +32,8 @@ table-is S n N e = rw (e, mul-assoc 4 S (n * (n + 1) / 2))
 pub table-small : {cells N : ℕ} → cells ≤ 9600 → N ≤ 256 → 4 * cells * N ≤ 9830400
 table-small h h′ = mul-le-mul {n₂ = 38400} {m₂ = 256} (omega arith) h′
 
-pub length-small : {n R : ℕ} → n ≤ 24 → R ≤ 256 → readingLength n R ≤ 52
-unfolding readingLength
-length-small {n} {R} h h′ =
-    let bits : (2 * n - 1) * widthOf (R - 1) ≤ 376 = mul-le-mul {n₂ = 47} {m₂ = 8} (omega arith) (byte-width R h′) in
-    omega arith
-
 pub output-small : {n R N : ℕ} → n ≤ 24 → R ≤ 256 → N ≤ 256 → N * readingLength n R ≤ 13312
-output-small h h′ h″ = mul-le-mul {n₂ = 256} {m₂ = 52} h″ (length-small h h′)
+output-small {n} {R} h h′ h″ = mul-le-mul {n₂ = 256} {m₂ = 52} h″ (length-small n R h h′)
 
 -- where nothing is short
 pub record Met (S R n N work out : ℕ) : Type 0 where

@@ -12,14 +12,13 @@ use borrow.Rule.Slice.PartMut.{putMid}
 use Rattle.packing.specs.Meaning.{sym as symbol}
 use Rattle.packing.specs.Loop.{iter}
 use Rattle.packing.specs.Store.{storeAll}
-use Rattle.packing.specs.Reading.{blockOfReading}
+use Rattle.packing.specs.Reading.{blockOfReading, readingLength}
 use Rattle.packing.proofs.Store.{length-store}
 use Rattle.packing.proofs.Widths.{length-reading}
 use Rattle.packing_reading.specs.Answer.{readingOf}
 use Rattle.chart_table.specs.declared.Dims.{Dims}
 use Rattle.chart_table.specs.Table.{cellOf, weightAt}
 use Rattle.chart_list.specs.Search.{spelled}
-use Rattle.listing.specs.Listing.{readingLength}
 use Rattle.listing.specs.Model.{readingAt, blockAt, blocksAt}
 
 -- what comes back of an output of which the end from place a on was lent, where the first a numbers were P
@@ -36,11 +35,10 @@ lent-end a P D e =
 
 module _ (t rules : List ℕ) (d : Dims) (n R : ℕ) (small : n ≤ 24) where
   length-block : (x : ℕ) → length (blockAt t rules d n R x) ≡ readingLength n R
-  unfolding readingAt readingLength
-  length-block x = rw (
-    length-reading R (readingAt t rules d n x),
-    length-take-le (2 * n - 1) (storeAll (replicate 48 0) 0 (spelled t rules d n (symbol 0) 0 n x)) (rw length-store (omega arith)),
-  )
+  unfolding readingAt
+  length-block x =
+      length-reading R (readingAt t rules d n x)
+      (length-take-le (2 * n - 1) (storeAll (replicate 48 0) 0 (spelled t rules d n (symbol 0) 0 n x)) (rw length-store (omega arith)))
 
   length-blocks : (m : ℕ) → length (blocksAt t rules d n R m) ≡ m * readingLength n R
   unfolding blocksAt iter

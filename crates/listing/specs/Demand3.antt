@@ -12,11 +12,11 @@ use Rattle.packing.specs.Meaning.{Grammar, Utterance, edges}
 use Rattle.packing.specs.Parse.{accepted}
 use Rattle.packing.specs.Grammar.{grammarBlock}
 use Rattle.packing.specs.Utterance.{utteranceBlock}
-use Rattle.packing.specs.Reading.{blockOfReading}
+use Rattle.packing.specs.Reading.{blockOfReading, readingLength}
 use Rattle.derivation.specs.Derivation.{Tree, Derivation, reading}
 use Rattle.derivation.specs.Order.{Before}
 use Rattle.derivation.specs.List.{Number, Rank}
-use Rattle.listing.specs.Listing.{tableSize, readingLength}
+use Rattle.listing.specs.Listing.{tableSize}
 use Rattle.listing.specs.declared.Listed.{Listed}
 use Rattle.listing.specs.declared.Listed.the-variants.{Found}
 

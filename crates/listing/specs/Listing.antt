@@ -2,16 +2,15 @@
 -- "Where each check stands". Stands on packing's and derivation's definitions.
 use mathlib.Core.Bool.{Bool, true, false}
 use mathlib.Core.List.{List, [], _∷_, _++_, map}
-use Prim.Native.Nat.{ℕ, _+_, _-_, _*_, _/_}
+use Prim.Native.Nat.{ℕ, _+_, _*_, _/_}
 use lib.Dec.{ltb}
 use lib.ListN.{length, drop, replicate}
 use Rattle.bits.specs.Bits.{pick}
-use Rattle.bits.specs.Width.{widthOf}
 use Rattle.packing.specs.Meaning.{Grammar, Utterance, Reading}
 use Rattle.packing.specs.Parse.{Verdict, accepted, refused, _then_}
 use Rattle.packing.specs.Grammar.{grammarBlock}
 use Rattle.packing.specs.Utterance.{utteranceBlock}
-use Rattle.packing.specs.Reading.{blockOfReading}
+use Rattle.packing.specs.Reading.{blockOfReading, readingLength}
 use Rattle.derivation.specs.List.{listing}
 use Rattle.listing.specs.declared.Listed.{Listed}
 use Rattle.listing.specs.declared.Listed.the-variants.{Found, Refused}
@@ -19,10 +18,6 @@ use Rattle.listing.specs.declared.Listed.the-variants.{Found, Refused}
 -- the numbers of work table that N readings need
 unfoldable pub tableSize : ℕ → ℕ → ℕ → ℕ
 tableSize S n N = 4 * S * (n * (n + 1) / 2) * N
-
--- L, a reading's length in bytes for n slots and R rules: kind, n, weight and 2n - 1 rule numbers
-unfoldable pub readingLength : ℕ → ℕ → ℕ
-readingLength n R = (34 + (2 * n - 1) * widthOf (R - 1) + 7) / 8
 
 -- some weight passes 24 bits
 unfoldable pub tooHeavy : List Reading → Bool

@@ -12,7 +12,7 @@ use Rattle.packing.specs.Flat.{Begins, ruleNumbers, slotNumbers}
 use Rattle.packing.specs.Loop.{iter}
 use Rattle.packing.specs.Store.{storeAll}
 use Rattle.packing.specs.Utterance.{utteranceBlock}
-use Rattle.packing.specs.Reading.{blockOfReading}
+use Rattle.packing.specs.Reading.{blockOfReading, readingLength}
 use Rattle.packing.specs.Valid.{ValidGrammar, ValidUtterance}
 use Rattle.packing_grammar.specs.Answer.{sizes}
 use Rattle.packing_grammar.specs.declared.Sizes.{Sizes}
@@ -20,7 +20,7 @@ use Rattle.packing_reading.specs.Answer.{readingOf}
 use Rattle.chart_table.specs.declared.Dims.{Dims}
 use Rattle.chart_table.specs.Table.{cellOf, weightAt, foundOf, cleared}
 use Rattle.chart_list.specs.Search.{listOf, spelled}
-use Rattle.listing.specs.Listing.{tableSize, readingLength, listed, answerOf, outputAfter, workAfter}
+use Rattle.listing.specs.Listing.{tableSize, listed, answerOf, outputAfter, workAfter}
 use Rattle.listing.specs.declared.Listed.{Listed}
 
 -- the refusal of the first test that holds: none asked for, too many, the table short, the output short; 0 where none holds

@@ -14,7 +14,8 @@ ghost use Prim.Native.Nat.{_+_, _-_, _*_, _/_, _≤_, _<_};
 ghost use lib.ListN.{length, drop};
 ghost use Rattle.packing_grammar.specs.Answer.{Bounded};
 ghost use Rattle.chart_table.specs.Table.{Small};
-ghost use Rattle.listing.specs.Listing.{readingLength, list, answerOf, outputAfter, workAfter};
+ghost use Rattle.listing.specs.Listing.{list, answerOf, outputAfter, workAfter};
+ghost use Rattle.packing.specs.Reading.{readingLength};
 ghost use Rattle.listing.specs.Model.{shortage, blockAt, blocksAt, Filled, UtteranceListed, GrammarListed};
 
 // What the listing answers: the number found.

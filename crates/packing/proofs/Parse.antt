@@ -6,8 +6,8 @@ use mathlib.Core.Bool.{Bool, true, false}
 use Prim.Native.Nat.{ℕ}
 use native.Mathlib.Omega.{arith}
 use Rattle.bits.specs.Bits.{pick}
-use Rattle.packing.specs.Parse.{Parse, parsed, failed, _⟫_, Verdict, accepted, refused, _then_, finish}
-use Rattle.packing.specs.Source.{readOf, refusalOf}
+use Rattle.packing.specs.Parse.{Parse, parsed, failed, _⟫_, Verdict, accepted, refused, _then_, verdictOf, finish}
+use Rattle.packing.specs.Read.{readOf, refusalOf}
 use Rattle.packing.specs.declared.Cursor.{Cursor}
 use Rattle.packing.specs.declared.Read.{Read}
 use Rattle.packing.specs.declared.Read.the-variants.{Number, Refused}
@@ -87,6 +87,11 @@ same-parsed P {a} {b} {m} {n} e h =
 pub accepted-is : {A : Type 0} {a b : A} → accepted a ≡ accepted b → a ≡ b
 accepted-is e = cc
 
+-- what was read
+pub verdict-out : {A : Type 0} (x : Parse A) {a : A} → verdictOf x ≡ accepted a → (next : ℕ) × (x ≡ parsed a next)
+verdict-out (parsed b next) e = (next, ap (λ (c : _). parsed c next) (accepted-is e))
+verdict-out (failed m) e = absurd (refused≢accepted e)
+
 -- what was read to its end
 pub finish-out : {A : Type 0} (end : ℕ → Bool) (n : ℕ) (x : Parse A) {a : A} → finish end n x ≡ accepted a
     → (next : ℕ) × (x ≡ parsed a next) × (end next ≡ true)
@@ -94,3 +99,8 @@ finish-out end n (parsed b next) e =
     let (t, f) = picked-first (end next) (accepted b) (refused n) refused≢accepted e in
     (next, ap (λ (c : _). parsed c next) (accepted-is f), t)
 finish-out end n (failed m) e = absurd (refused≢accepted e)
+
+-- an end that is always passed
+pub finish-always : {A : Type 0} (n : ℕ) (x : Parse A) → finish (λ at. true) n x ≡ verdictOf x
+finish-always n (parsed a at) = refl
+finish-always n (failed m) = refl

@@ -15,7 +15,7 @@ use Rattle.bits.specs.Bits.{pick}
 use Rattle.bits.specs.Width.{widthOf}
 use Rattle.bits.proofs.Num.{field-lt}
 use Rattle.packing.specs.Meaning.{Candidate, candidate, Utterance, word}
-use Rattle.packing.specs.Parse.{Parse, parsed, failed, _⟫_, Verdict, accepted, refused, _then_, finish}
+use Rattle.packing.specs.Parse.{Parse, parsed, failed, _⟫_, Verdict, accepted, refused, _then_, verdictOf, finish}
 use Rattle.packing.specs.Source.{Source, bytes, numbers, inRange, take, within}
 use Rattle.packing.specs.Grammar.{ruleKind, ruleWord, weight, nothing, symbol, firstOf, secondOf, ruleFrom, anyAlike, rulesFrom, unfit, grammarFrom, grammarBlock, grammarSheet}
 use Rattle.packing.specs.Utterance.{cost, candidatesFrom, slotFrom, slotsFrom, utteranceFrom, utteranceBlock, utteranceSheet}
@@ -81,6 +81,10 @@ module _ {Row : ℕ → Type 0} where
   pub choose-row : {A : Type 0} (b : Bool) {v w : Verdict A} → Refuses Row v → Refuses Row w → Refuses Row (pick b v w)
   choose-row true l h = l
   choose-row false l h = h
+
+  verdict-row : {A : Type 0} {p : Parse A} → Stops Row p → Refuses Row (verdictOf p)
+  verdict-row going = granted
+  verdict-row (stopped l) = denied l
 
   finish-row : {A : Type 0} {p : Parse A} (end : ℕ → Bool) (n : ℕ) → Row n → Stops Row p → Refuses Row (finish end n p)
   finish-row end n h (going {at = at}) = choose-row (end at) granted (denied h)
@@ -199,7 +203,7 @@ grammar-sheet-row s =
     let src : Source = numbers s in
     let short : GrammarSheet 41 = inr (omega arith, omega arith) in
     let wrong : GrammarSheet 42 = inr (omega arith, omega arith) in
-    choose-row (ltb (length s) 3) (denied short) (finish-row _ 41 short
+    choose-row (ltb (length s) 3) (denied short) (verdict-row
     (grammar-row src short (inl (omega arith, omega arith)) (inl (omega arith, omega arith)) (inl (omega arith, omega arith)) (inl (omega arith, omega arith))
     (ranged wrong) (ranged wrong) (ranged wrong) (λ R e. short) 0))
 

@@ -19,7 +19,7 @@ use Rattle.packing.specs.Grammar.{blockKind, grammarFrom, grammarBlock, 
 use Rattle.packing.specs.Utterance.{utteranceFrom, utteranceBlock, utteranceSheet, utteranceEntries, blockOfUtterance, sheetOfUtterance}
 use Rattle.packing.specs.Reading.{readingFrom, readingEntries, blockOfReading}
 use Rattle.packing.specs.Valid.{Bytes, Each, InWidth, Fits, ValidGrammar, ValidUtterance, ValidReading}
-use Rattle.packing.proofs.Parse.{through, finish-out, accepted-else}
+use Rattle.packing.proofs.Parse.{through, finish-out, accepted-else, verdict-out}
 use Rattle.packing.proofs.Bounds.{take-range, length-rules}
 use Rattle.packing.proofs.Taken.{Taken, more, taken-fits, taken-held, held-taken, taken-listed, listed-taken}
 use Rattle.packing.proofs.Widths.{grammar-room, utterance-room}
@@ -87,7 +87,7 @@ pub grammar-sheet-out : (s : List ℕ) (g : Grammar) → grammarSheet s ≡ acce
 unfolding grammarSheet sheetOfGrammar
 grammar-sheet-out s g e =
     let (l, d) = accepted-else (ltb (length s) 3) 41 _ e in
-    let (next, p, end) = finish-out (λ at. true) 41 _ d in
+    let (next, p) = verdict-out (grammarFrom (numbers s) 0) d in
     let (t, u, f) = grammar-out (numbers s) 0 p in
     ((taken-fits t, u), taken-sheet s (grammarEntries g) t (fit _ _ f ∙ sym (length-grammar g)))
 

@@ -4,7 +4,7 @@
 use mathlib.Core.Path.{_≡_, refl}
 use mathlib.Core.Option.{some}
 use mathlib.Core.List.{List, [], _∷_, map-append}
-use Prim.Native.Nat.{ℕ, suc, _+_, _-_, _*_, _/_, _^_, _≤_, _<_}
+use Prim.Native.Nat.{ℕ, suc, _-_, _*_, _^_, _≤_, _<_}
 use native.Mathlib.Nat.{mul-le-mul, zero-mul, suc-mul}
 use native.Mathlib.Omega.{arith}
 use lib.ListN.{length, getElem?}
@@ -16,7 +16,7 @@ use Rattle.packing.specs.Meaning.{Grammar, Candidate, candidate, Utteran
 use Rattle.packing.specs.Source.{fldOf, flds}
 use Rattle.packing.specs.Grammar.{ruleEntries, rulesEntries, grammarEntries, blockOfGrammar}
 use Rattle.packing.specs.Utterance.{candidatesEntries, slotsEntries, utteranceEntries, blockOfUtterance}
-use Rattle.packing.specs.Reading.{walkEntries, readingEntries, blockOfReading}
+use Rattle.packing.specs.Reading.{walkEntries, readingEntries, blockOfReading, readingLength}
 use Rattle.packing.specs.Valid.{InRange, InWidth, Each, Fits, ValidGrammar, ValidUtterance, ValidReading}
 use Rattle.packing.specs.declared.Rule as R
 use Rattle.packing.specs.declared.Rule.the-variants.{Pair, Word}
@@ -109,19 +109,23 @@ module _ (W : ℕ) (w : 1 ≤ W) (W≤ : W ≤ 200) where
   unfolding blockOfUtterance utteranceEntries widths
   utterance-length u (a, h) = rw length-block (omega (arith, slots-bits u h))
 
-walk-bits : (R : ℕ) (rs : List ℕ) → widths (flds (walkEntries R rs)) ≡ length rs * widthOf (R - 1)
+pub walk-bits : (R : ℕ) (rs : List ℕ) → widths (flds (walkEntries R rs)) ≡ length rs * widthOf (R - 1)
 unfolding walkEntries widths
 walk-bits R [] = simp zero-mul
 walk-bits R (r ∷ rs) = rw (walk-bits R rs, suc-mul) (omega arith)
 
-pub length-reading : (R : ℕ) (d : Reading) → length (blockOfReading R d) ≡ (34 + length (d .walk) * widthOf (R - 1) + 7) / 8
-unfolding blockOfReading readingEntries widths
-length-reading R d = rw (length-block, walk-bits) (omega arith)
+pub length-reading : (R : ℕ) (d : Reading) → length (d .walk) ≡ 2 * d .slots - 1 → length (blockOfReading R d) ≡ readingLength (d .slots) R
+unfolding blockOfReading readingEntries readingLength widths
+length-reading R d e = rw (length-block, walk-bits, e) (omega arith)
+
+pub length-small : (n R : ℕ) → n ≤ 24 → R ≤ 256 → readingLength n R ≤ 52
+unfolding readingLength
+length-small n R h r =
+    let m : (2 * n - 1) * widthOf (R - 1) ≤ 47 * 8 = mul-le-mul {n₂ = 47} {m₂ = 8} (omega arith) (byte-width R r) in
+    omega arith
 
 pub reading-length : (R : ℕ) (d : Reading) → R ≤ 256 → d .slots ≤ 24 → ValidReading R d → length (blockOfReading R d) ≤ 52
-reading-length R d h n v =
-    let m : length (d .walk) * widthOf (R - 1) ≤ 47 * 8 = mul-le-mul {n₂ = 47} {m₂ = 8} (omega arith) (byte-width R h) in
-    omega (arith, length-reading R d)
+reading-length R d h n v = rw (length-reading R d (v .2)) (length-small (d .slots) R n h)
 
 -- rule numbers below R can be written
 module _ (R : ℕ) (h : R ≤ 256) where

@@ -15,13 +15,18 @@ grammarToBlock sheet = grammarSheet sheet then λ g. accepted (blockOfGrammar g)
 unfoldable pub grammarToSheet : List ℕ → Verdict (List ℕ)
 grammarToSheet block = grammarBlock block then λ g. accepted (sheetOfGrammar g)
 
+-- an utterance under a grammar of W words, and under a grammar block
+abbrev pub blockUnder : ℕ → List ℕ → Verdict (List ℕ)
+blockUnder W sheet = utteranceSheet W sheet then λ u. accepted (blockOfUtterance W u)
+
+abbrev pub sheetUnder : ℕ → List ℕ → Verdict (List ℕ)
+sheetUnder W block = utteranceBlock W block then λ u. accepted (sheetOfUtterance W u)
+
 unfoldable pub utteranceToBlock : List ℕ → List ℕ → Verdict (List ℕ)
-utteranceToBlock grammar sheet =
-    grammarBlock grammar then λ g. utteranceSheet (g .words) sheet then λ u. accepted (blockOfUtterance (g .words) u)
+utteranceToBlock grammar sheet = grammarBlock grammar then λ g. blockUnder (g .words) sheet
 
 unfoldable pub utteranceToSheet : List ℕ → List ℕ → Verdict (List ℕ)
-utteranceToSheet grammar block =
-    grammarBlock grammar then λ g. utteranceBlock (g .words) block then λ u. accepted (sheetOfUtterance (g .words) u)
+utteranceToSheet grammar block = grammarBlock grammar then λ g. sheetUnder (g .words) block
 
 -- 43 where the output is shorter than the result
 unfoldable pub fitting : Verdict (List ℕ) → List ℕ → Verdict (List ℕ)

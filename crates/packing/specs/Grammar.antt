@@ -9,7 +9,7 @@ use Rattle.bits.specs.Bits.{pick, pack, ended}
 use Rattle.bits.specs.Width.{widthOf}
 use Rattle.bits.specs.Fields.{bitsOfAll}
 use Rattle.packing.specs.Meaning.{Grammar, sym, word}
-use Rattle.packing.specs.Parse.{Parse, parsed, failed, _⟫_, Verdict, refused, finish}
+use Rattle.packing.specs.Parse.{Parse, parsed, failed, _⟫_, Verdict, refused, verdictOf, finish}
 use Rattle.packing.specs.Source.{Source, bytes, numbers, take, within, Entry, entry, values, flds}
 use Rattle.packing.specs.declared.Field.{Field}
 use Rattle.packing.specs.declared.Rule as R
@@ -92,7 +92,7 @@ unfoldable pub grammarBlock : List ℕ → Verdict Grammar
 grammarBlock s = finish (ended s) 7 (take (bytes 1 s) 0 (blockKind 1 2) ⟫ λ kind at. grammarFrom (bytes 1 s) at)
 
 unfoldable pub grammarSheet : List ℕ → Verdict Grammar
-grammarSheet s = pick (ltb (length s) 3) (refused 41) (finish (λ at. true) 41 (grammarFrom (numbers s) 0))
+grammarSheet s = pick (ltb (length s) 3) (refused 41) (verdictOf (grammarFrom (numbers s) 0))
 
 -- the fields of a grammar with their values, and its block and its sheet
 abbrev pub ruleEntries : ℕ → ℕ → R.Rule → List Entry

@@ -24,6 +24,11 @@ abbrev pub _then_ : {A B : Type 0} → Verdict A → (A → Verdict B) → Verdi
 _then_ (accepted a) k = k a
 _then_ (refused n) k = refused n
 
+-- what was read is accepted
+abbrev pub verdictOf : {A : Type 0} → Parse A → Verdict A
+verdictOf (parsed a at) = accepted a
+verdictOf (failed n) = refused n
+
 -- what was read is accepted where the test of the place behind it passes, and otherwise refused with n
 abbrev pub finish : {A : Type 0} → (ℕ → Bool) → ℕ → Parse A → Verdict A
 finish end n (parsed a at) = pick (end at) (accepted a) (refused n)

@@ -1,7 +1,7 @@
 -- Reading blocks for an utterance of n slots and a grammar of R rules: document 01, "Packed blocks" and the row reading
 -- block of "Where each check stands", up to 33; 34 to 36 are the check's. Assumes nothing.
 use mathlib.Core.List.{List, [], _∷_, _++_}
-use Prim.Native.Nat.{ℕ, zero, suc, _-_, _*_}
+use Prim.Native.Nat.{ℕ, zero, suc, _+_, _-_, _*_, _/_}
 use Rattle.bits.specs.Bits.{pack}
 use Rattle.bits.specs.Width.{widthOf}
 use Rattle.bits.specs.Fields.{bitsOfAll}
@@ -44,3 +44,7 @@ readingEntries R d =
 
 unfoldable pub blockOfReading : ℕ → Reading → List ℕ
 blockOfReading R d = pack (bitsOfAll (flds (readingEntries R d)))
+
+-- L, its length in bytes for n slots and R rules: kind, n, weight and 2n − 1 rule numbers
+unfoldable pub readingLength : ℕ → ℕ → ℕ
+readingLength n R = (34 + (2 * n - 1) * widthOf (R - 1) + 7) / 8

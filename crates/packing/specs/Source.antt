@@ -8,9 +8,6 @@ use Rattle.bits.specs.Bits.{pick, field}
 use Rattle.bits.specs.Fields.{Fld, fld}
 use Rattle.packing.specs.Parse.{Parse, parsed, failed}
 use Rattle.packing.specs.declared.Field.{Field}
-use Rattle.packing.specs.declared.Read.{Read}
-use Rattle.packing.specs.declared.Read.the-variants.{Number, Refused}
-use Rattle.packing.specs.declared.Source as S
 
 -- a block's bytes, with the refusal of a field that passes their end; or a sheet's numbers
 pub data Source : Type 0 where
@@ -27,7 +24,7 @@ take (bytes missing s) at f =
     pick (leb (at + f .width) (8 * length s)) (inRange f (field s at (f .width)) (at + f .width)) (failed missing)
 take (numbers s) at f = pick (ltb at (length s)) (inRange f (getD s at 0) (at + 1)) (failed 41)
 
--- the field of one range with one refusal, and of a range with a refusal for each side
+-- the field of one range with one refusal
 abbrev pub within : ℕ → ℕ → ℕ → ℕ → Field
 within width least most n = record { width = width; least = least; most = most; below = n; above = n }
 
@@ -46,16 +43,3 @@ values es = map valueOf es
 
 abbrev pub flds : List Entry → List Fld
 flds es = map fldOf es
-
--- the answers of the code: what a `Read` says, and which source is read
-abbrev pub readOf : Parse ℕ → Read
-readOf (parsed v next) = Number v (record { at = next })
-readOf (failed n) = Refused n
-
-abbrev pub refusalOf : Read → ℕ
-refusalOf (Number v c) = 0
-refusalOf (Refused n) = n
-
-abbrev pub sourceOf : S.Source → List ℕ → List ℕ → Source
-sourceOf (S.the-variants.Block missing) block sheet = bytes missing block
-sourceOf S.the-variants.Sheet block sheet = numbers sheet

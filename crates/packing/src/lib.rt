@@ -1,7 +1,8 @@
 // What blocks and sheets are made of, and the reading of one number of them.
 ghost use mathlib.Core.Path.{_≡_};
 ghost use Prim.Native.Nat.{_^_, _≤_, _<_};
-ghost use Rattle.packing.specs.Source.{inRange, readOf, refusalOf, sourceOf, take, within};
+ghost use Rattle.packing.specs.Source.{inRange, take, within};
+ghost use Rattle.packing.specs.Read.{readOf, refusalOf, sourceOf};
 
 // A symbol of the grammar, V of document 001.
 pub struct Sym(pub u32);

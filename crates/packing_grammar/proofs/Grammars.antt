@@ -9,7 +9,8 @@ use lib.ListN.{length}
 use Rattle.bits.specs.Bits.{pick}
 use Rattle.packing.specs.Meaning as meaning
 use Rattle.packing.specs.Parse.{Parse, parsed, failed, _⟫_, finish}
-use Rattle.packing.specs.Source.{Source, take, refusalOf}
+use Rattle.packing.specs.Source.{Source, take}
+use Rattle.packing.specs.Read.{refusalOf}
 use Rattle.packing.specs.Grammar.{size, unfit, rulesFrom, grammarFrom}
 use Rattle.packing.specs.Flat.{RulesIn}
 use Rattle.packing.specs.declared.Rule.{Rule}

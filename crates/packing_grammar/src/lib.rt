@@ -7,7 +7,7 @@ ghost use mathlib.Core.Path.{_≡_};
 ghost use mathlib.Core.List.{List};
 ghost use Prim.Native.Nat.{ℕ, _+_, _^_, _≤_, _<_};
 ghost use lib.ListN.{length};
-ghost use Rattle.packing.specs.Source.{sourceOf};
+ghost use Rattle.packing.specs.Read.{sourceOf};
 ghost use Rattle.packing.specs.Grammar.{grammarBlock, grammarSheet};
 ghost use Rattle.packing.specs.Grammar as grammar;
 ghost use Rattle.packing.specs.Flat.{RulesIn};

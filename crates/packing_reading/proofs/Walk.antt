@@ -1,39 +1,31 @@
--- The rule numbers of a reading all have one width, and so its block's length is known from n and R.
+-- A reading's fields, written one after the other, are its block, for which its length leaves room.
 -- Assumes nothing.
-use mathlib.Core.Path.{_≡_, ap, _∙_}
+use mathlib.Core.Path.{_≡_, _∙_}
 use mathlib.Core.List.{List, [], _∷_}
-use Prim.Native.Nat.{ℕ, suc, _+_, _-_, _*_, _/_, _≤_, _<_}
-use native.Mathlib.Nat.{zero-mul, suc-mul, mul-le-mul}
+use Prim.Native.Nat.{ℕ, suc, _+_, _-_, _*_, _≤_, _<_}
+use native.Mathlib.Nat.{mul-le-mul}
 use native.Mathlib.Numerals.{add-one}
 use native.Mathlib.Omega.{arith}
 use lib.ListN.{length, take, drop, getD}
 use lib.Seq.{drop-cons, length-take-le}
-use Rattle.bits.specs.Bits.{put, laid}
+use Rattle.bits.specs.Put.{put, laid, puts}
 use Rattle.bits.specs.Width.{widthOf}
-use Rattle.bits.specs.Fields.{Fld, fld, puts, widths, bitsOfAll}
-use Rattle.bits.proofs.Fields.{length-block, puts-block}
-use Rattle.packing.specs.Meaning.{Reading}
+use Rattle.bits.specs.Fields.{Fld, fld, widths, bitsOfAll}
+use Rattle.bits.proofs.Fields.{puts-block}
 use Rattle.packing.specs.Source.{flds}
-use Rattle.packing.specs.Reading.{walkEntries, readingEntries, blockOfReading}
-use Rattle.packing_reading.specs.Answer.{readingLength, readingOf}
+use Rattle.packing.specs.Reading.{walkEntries, readingEntries, readingLength}
+use Rattle.packing.proofs.Widths.{walk-bits}
+use Rattle.packing_reading.specs.Answer.{readingOf}
 
 pub walk-small : {m w : ℕ} → m ≤ 47 → w ≤ 8 → m * w ≤ 376
 walk-small h k = mul-le-mul h k
 
 module _ (R : ℕ) where
-  pub widths-walk : (l : List ℕ) → widths (flds (walkEntries R l)) ≡ length l * widthOf (R - 1)
-  unfolding walkEntries widths
-  widths-walk [] = rw zero-mul
-  widths-walk (r ∷ l) = rw (widths-walk l, suc-mul) (omega arith)
-
-  pub length-reading : (d : Reading) → length (d .walk) ≡ 2 * d .slots - 1 → length (blockOfReading R d) ≡ readingLength (d .slots) R
-  unfolding blockOfReading readingEntries widths
-  length-reading d e = rw (length-block (flds (readingEntries R d)), widths-walk (d .walk), e) (ap (λ (k : ℕ). k / 8) (omega arith))
-
   -- what a block's length leaves room for, and the block from its fields
   module _ (n w : ℕ) (walk o : List ℕ) (h : 2 * n - 1 ≤ length walk) (l : readingLength n R ≤ length o) where
     pub walk-room : 34 + widths (flds (walkEntries R (take (2 * n - 1) walk))) ≤ 8 * length o
-    walk-room = rw (widths-walk (take (2 * n - 1) walk), length-take-le (2 * n - 1) walk h) (omega arith)
+    unfolding readingLength
+    walk-room = rw (walk-bits R (take (2 * n - 1) walk), length-take-le (2 * n - 1) walk h) (omega arith)
 
     pub reading-written : ((i : ℕ) → getD o i 0 < 256) → {kind slots weight out : List ℕ} → kind ≡ put o 0 4 3 → slots ≡ put kind 4 6 n
         → weight ≡ put slots 10 24 w → out ≡ puts weight 34 (flds (walkEntries R (take (2 * n - 1) walk)))

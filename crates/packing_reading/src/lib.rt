@@ -3,10 +3,11 @@ ghost use mathlib.Core.Path.{_≡_};
 ghost use mathlib.Core.List.{_++_};
 ghost use Prim.Native.Nat.{_+_, _-_, _*_, _≤_};
 ghost use lib.ListN.{length, take, drop};
-ghost use Rattle.bits.specs.Fields.{puts, widths};
+ghost use Rattle.bits.specs.Fields.{widths};
+ghost use Rattle.bits.specs.Put.{puts};
 ghost use Rattle.packing.specs.Source.{flds};
-ghost use Rattle.packing.specs.Reading.{walkEntries, blockOfReading};
-ghost use Rattle.packing_reading.specs.Answer.{readingLength, readingOf};
+ghost use Rattle.packing.specs.Reading.{walkEntries, blockOfReading, readingLength};
+ghost use Rattle.packing_reading.specs.Answer.{readingOf};
 
 // The length in bytes of a reading of n slots under a grammar of `rules` rules.
 pub fn reading_length(n: usize, rules: usize) -> usize

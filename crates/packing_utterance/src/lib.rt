@@ -8,7 +8,7 @@ ghost use mathlib.Core.Path.{_≡_};
 ghost use Prim.Native.Nat.{_+_, _*_, _^_, _≤_, _<_};
 ghost use lib.ListN.{length};
 ghost use mathlib.Core.List.{[], _∷_};
-ghost use Rattle.packing.specs.Source.{sourceOf};
+ghost use Rattle.packing.specs.Read.{sourceOf};
 ghost use Rattle.packing.specs.Utterance.{utteranceFrom, utteranceBlock, utteranceSheet};
 ghost use Rattle.packing.specs.Flat.{SlotsIn, Begins, edgeNumbers};
 ghost use Rattle.packing.specs.Store.{storeAll};

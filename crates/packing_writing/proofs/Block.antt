@@ -5,7 +5,8 @@ use mathlib.Core.List.{List, _++_}
 use Prim.Native.Nat.{ℕ, _*_, _≤_, _<_}
 use native.Mathlib.Omega.{arith}
 use lib.ListN.{length, getD, drop}
-use Rattle.bits.specs.Fields.{Fld, puts, widths}
+use Rattle.bits.specs.Fields.{Fld, widths}
+use Rattle.bits.specs.Put.{puts}
 use Rattle.bits.proofs.Fields.{length-block, puts-block}
 use Rattle.packing_writing.specs.Arrays.{blockOf}
 

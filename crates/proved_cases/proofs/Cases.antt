@@ -5,14 +5,14 @@ use native.Mathlib.Omega.{arith}
 use Rattle.packing.specs.Meaning.{sym, slotEdges, edgesFrom}
 use Rattle.packing.specs.Grammar.{ruleFrom, anyAlike, rulesFrom, grammarFrom, grammarBlock, rulesEntries, grammarEntries, blockOfGrammar}
 use Rattle.packing.specs.Utterance.{candidatesFrom, slotFrom, slotsFrom, utteranceFrom, utteranceBlock, candidatesEntries, slotsEntries, utteranceEntries, blockOfUtterance}
-use Rattle.packing.specs.Reading.{walkFrom, readingFrom, walkEntries, readingEntries, blockOfReading}
+use Rattle.packing.specs.Reading.{walkFrom, readingFrom, walkEntries, readingEntries, blockOfReading, readingLength}
 use Rattle.bits.specs.Bits.{num, bitsOf, pack, ended}
 use Rattle.bits.specs.Width.{widthOf, widthFrom}
 use Rattle.bits.specs.Fields.{bitsOfAll}
 use Rattle.packing.specs.Source.{inRange, take}
 use Rattle.derivation.specs.Derivation.{weight, walk}
 use Rattle.derivation.specs.List.{trees, listing}
-use Rattle.listing.specs.Listing.{tableSize, readingLength, tooHeavy, listed, list}
+use Rattle.listing.specs.Listing.{tableSize, tooHeavy, listed, list}
 use Rattle.checker.specs.Check.{withWalk, derivationOf, check}
 use Rattle.derivation.proofs.Ranges.{All}
 use Rattle.specimen.specs.Specimen.{asked, Says}

@@ -6,7 +6,8 @@ use packing::Source;
 ghost use mathlib.Core.Path.{_≡_};
 ghost use Prim.Native.Nat.{_-_, _*_, _^_, _≤_, _<_};
 ghost use lib.ListN.{length};
-ghost use Rattle.packing.specs.Source.{bytes, readOf, take as taken};
+ghost use Rattle.packing.specs.Source.{bytes, take as taken};
+ghost use Rattle.packing.specs.Read.{readOf};
 ghost use Rattle.packing.specs.Reading.{ruleNumber, readingFrom};
 ghost use Rattle.reading_reader.specs.Answer.{answerOf, WalkIn, Near, headFrom};
 

@@ -3,7 +3,8 @@
 use mathlib.Core.Path.{_≡_}
 use Prim.Native.Nat.{ℕ, _+_, _≤_}
 use Rattle.packing.specs.Parse.{parsed, failed}
-use Rattle.packing.specs.Source.{Source, take, readOf, refusalOf}
+use Rattle.packing.specs.Source.{Source, take}
+use Rattle.packing.specs.Read.{readOf, refusalOf}
 use Rattle.packing.specs.Valid.{InRange}
 use Rattle.packing.proofs.Parse.{number-told, refusal-told}
 use Rattle.packing.proofs.Bounds.{take-range, take-next}

@@ -8,7 +8,8 @@ use lib.Dec.{eqb}
 use lib.ListN.{length}
 use Rattle.bits.specs.Bits.{pick}
 use Rattle.packing.specs.Parse.{Parse, parsed, failed}
-use Rattle.packing.specs.Source.{Source, values, readOf}
+use Rattle.packing.specs.Source.{Source, values}
+use Rattle.packing.specs.Read.{readOf}
 use Rattle.packing.specs.Grammar.{ruleOf, rulesFrom, rulesEntries}
 use Rattle.packing.specs.Flat.{Begins}
 use Rattle.packing.specs.declared.Rule as rules

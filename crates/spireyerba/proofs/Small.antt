@@ -23,10 +23,10 @@ use Rattle.packing.proofs.Whole.{grammar-block-out, grammar-sheet-out, utteranc
 use Rattle.packing.proofs.Refusals.{Refuses, granted, denied, Stops, going, stopped, Low, then-row, choose-row, grammar-block-low, utterance-block-low, reading-low, grammar-to-block-low, grammar-to-sheet-low, utterance-to-block-low, utterance-to-sheet-low}
 use Rattle.derivation.specs.Derivation.{Tree, weight}
 use Rattle.checker.specs.Check.{check, judged, afterFields, derivationOf}
-use Rattle.packing.specs.Reading.{blockOfReading}
+use Rattle.packing.specs.Reading.{blockOfReading, readingLength}
 use Rattle.derivation.specs.List.{listing}
 use Rattle.derivation.proofs.Ranges.{valid-rules}
-use Rattle.listing.specs.Listing.{list, listed, tableSize, readingLength, tooHeavy}
+use Rattle.listing.specs.Listing.{list, listed, tableSize, tooHeavy}
 use Rattle.specimen.specs.declared.Answered as A
 use Rattle.specimen.specs.Specimen.{asked, Answers}
 use Rattle.spireyerba.proofs.Codes.{Small, small-size, small-refusal, SmallAnswered}

@@ -6,9 +6,8 @@ use packing_writing::sheets::write_sheet;
 use utterance_writer::write_utterance;
 ghost use mathlib.Core.Path.{_≡_};
 ghost use Prim.Native.Nat.{_≤_};
-ghost use Rattle.packing.specs.Conversion.{utteranceToBlock, utteranceToSheet, fitting, written};
+ghost use Rattle.packing.specs.Conversion.{utteranceToBlock, utteranceToSheet, fitting, written, blockUnder, sheetUnder};
 ghost use Rattle.packing_writing.specs.Answer.{writtenOf, Writes};
-ghost use Rattle.utterance_conversion.specs.Under.{blockUnder, sheetUnder};
 
 // The block of an utterance sheet under a grammar of `words` words.
 fn sheet_to_block(words: u32, sheet: &[u32], out: &mut [u8]) -> Written

@@ -6,9 +6,9 @@ use Prim.Native.Nat.{ℕ, zero, suc, _+_, _-_, _*_, _/_, _≤_, _<_}
 use native.Mathlib.Nat.{mul-le-mul}
 use native.Mathlib.Omega.{arith}
 use lib.ListN.{length, getD}
-use Rattle.bits.specs.Bits.{put}
+use Rattle.bits.specs.Put.{put, puts}
 use Rattle.bits.specs.Width.{widthOf}
-use Rattle.bits.specs.Fields.{Fld, fld, puts, widths}
+use Rattle.bits.specs.Fields.{Fld, fld, widths}
 use Rattle.bits.proofs.Fields.{length-block}
 use Rattle.bits.proofs.Remaining.{Remaining, one-written, some-within, some-written}
 use Rattle.packing.proofs.Widths.{byte-width}

@@ -4,7 +4,7 @@ use Prim.Native.Nat.{_≤_, _-_, _/_, _^_}
 use native.Mathlib.Omega.{arith}
 use borrow.Author.Needs.{needs}
 use lib.ListN.{length}
-use Rattle.bits.specs.Bits.{put}
+use Rattle.bits.specs.Put.{put}
 use Rattle.bits.proofs.Put.{put-more, put-all}
 use Rattle.bit_writer.proofs.write_field.Statement.{statement}
 use Rattle.bit_writer.proofs.write_field.Tie as tie

@@ -3,7 +3,6 @@ use Prim.Native.Nat.{_+_, _*_, _≤_}
 use native.Mathlib.Omega.{arith}
 use borrow.Author.Needs.{needs}
 use lib.ListN.{length}
-use Rattle.packing_reading.specs.Answer.{readingLength}
 use Rattle.lister.proofs.Lines.{line-read, line-refused}
 use Rattle.lister.proofs.line_of.Statement.{statement}
 use Rattle.lister.proofs.line_of.Tie as tie

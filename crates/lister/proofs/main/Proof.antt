@@ -3,9 +3,8 @@ use Prim.Native.Nat.{_*_, _≤_}
 use native.Mathlib.Nat.{mul-le-mul}
 use native.Mathlib.Omega.{arith}
 use borrow.Author.Needs.{needs}
-use Rattle.packing_reading.specs.Answer.{readingLength}
-use Rattle.listing.specs.Listing as listing
-use Rattle.listing.proofs.Sizes.{length-small}
+use Rattle.packing.specs.Reading.{readingLength}
+use Rattle.packing.proofs.Widths.{length-small}
 use Rattle.listing.proofs.Accepted.{found-few}
 use Rattle.lister.proofs.main.Statement.{statement}
 use Rattle.lister.proofs.main.Tie as tie
@@ -83,7 +82,6 @@ slice-aggregate-print-lines : tie.Need-slice-aggregate-print-lines
 slice-aggregate-print-lines c = search needs
 
 print-lines-requires : tie.Need-print-lines-requires
-unfolding listing.readingLength
 print-lines-requires c κs =
     let at-m = c .before .before .before .before .before .before in
     let at-listing = at-m .before .before .before .before in
@@ -92,7 +90,7 @@ print-lines-requires c κs =
     let bounded = at-shape-of .shape-of .ensures .bounded in
     let few : at-m .m .given .0 .0 ≤ 8 = found-few _ _ 8 _ _ (at-listing .listing .ensures .0) (at-m .m .given .1) in
     let all : at-m .m .given .0 .0 * readingLength (s .slots) (s .rules) ≤ 8 * 52 =
-    mul-le-mul {n₂ = 8} {m₂ = 52} few (length-small {n = s .slots} {R = s .rules} (bounded .slots) (bounded .rules)) in
+    mul-le-mul {n₂ = 8} {m₂ = 52} few (length-small (s .slots) (s .rules) (bounded .slots) (bounded .rules)) in
     (bounded, omega (arith, at-listing .listing .kept))
 
 enum-known-n : tie.Need-enum-known-n

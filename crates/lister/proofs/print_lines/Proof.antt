@@ -5,7 +5,7 @@ use native.Mathlib.Nat.{mul-le-mul-right}
 use native.Mathlib.Omega.{arith}
 use borrow.Author.Needs.{needs}
 use lib.ListN.{length}
-use Rattle.packing_reading.specs.Answer.{readingLength}
+use Rattle.packing.specs.Reading.{readingLength}
 use Rattle.lister.proofs.print_lines.Statement.{statement}
 use Rattle.lister.proofs.print_lines.Tie as tie
 

@@ -4,7 +4,8 @@ use Prim.Native.Nat.{_+_, _*_, _/_, _≤_, _<_}
 use native.Mathlib.Omega.{arith}
 use borrow.Author.Needs.{needs}
 use borrow.Author.Tests.{lt-ltb, le-ltb}
-use Rattle.listing.specs.Listing.{tableSize, readingLength}
+use Rattle.listing.specs.Listing.{tableSize}
+use Rattle.packing.specs.Reading.{readingLength}
 use Rattle.listing.specs.Model.{shortage}
 use Rattle.listing.proofs.Sizes.{table-is, table-small, output-small}
 use Rattle.listing.proofs.shortage.Statement.{statement}
@@ -42,14 +43,13 @@ reading-length-requires : tie.Need-reading-length-requires
 reading-length-requires c κs = search needs
 
 mul-if4 : tie.Need-mul-if4
-unfolding readingLength
 mul-if4 c =
     let at-if2 = c .before .before .before in
     let a = at-if2 .before .before .args in
     rw (c .reading-length .ensures) (omega (arith, output-small {n = a .n} {R = a .rules} {N = a .wanted} (omega arith) (omega arith) (at-if2 .if2 .left)))
 
 returns-4 : tie.Need-returns-4
-unfolding shortage readingLength
+unfolding shortage
 returns-4 c =
     let at-if3 = c .before .before in
     let at-if2 = at-if3 .before .before in
@@ -60,7 +60,7 @@ returns-4 c =
     rw (le-ltb (a .wanted) 1 (at-if2 .before .if1 .left), le-ltb 256 (a .wanted) (at-if2 .if2 .left), le-ltb _ _ table, lt-ltb _ _ short)
 
 returns-5 : tie.Need-returns-5
-unfolding shortage readingLength
+unfolding shortage
 returns-5 c =
     let at-if3 = c .before .before in
     let at-if2 = at-if3 .before .before in

@@ -7,7 +7,6 @@ use borrow.Author.Needs.{needs}
 use lib.ListN.{length}
 use Rattle.packing.specs.Meaning.{sym as symbol}
 use Rattle.chart_table.specs.Table.{cellOf, weightAt}
-use Rattle.listing.specs.Listing.{readingLength}
 use Rattle.listing.proofs.Written.{rank-written}
 use Rattle.listing.proofs.write_rank.Statement.{statement}
 use Rattle.listing.proofs.write_rank.Tie as tie
@@ -31,7 +30,6 @@ slice-aggregate-write-reading : tie.Need-slice-aggregate-write-reading
 slice-aggregate-write-reading c = search needs
 
 write-reading-requires : tie.Need-write-reading-requires
-unfolding readingLength
 write-reading-requires c κs =
     let at-spell = c .before .before .before .before .before .before in
     let at-start = at-spell .before .before .before .before .before in

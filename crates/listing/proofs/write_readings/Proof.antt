@@ -7,7 +7,7 @@ use native.Mathlib.Omega.{arith}
 use lib.ListN.{length, drop, length-take, length-drop}
 use borrow.Rule.Slice.PartMut.{same-len-mid}
 use Rattle.packing.specs.Loop.{iter}
-use Rattle.listing.specs.Listing.{readingLength}
+use Rattle.packing.specs.Reading.{readingLength}
 use Rattle.listing.specs.Model.{blocksAt}
 use Rattle.listing.proofs.Written.{written-more}
 use Rattle.listing.proofs.write_readings.Statement.{statement}
@@ -23,7 +23,6 @@ abbrev μ-loop : tie.MeasureT-loop
 -- a turn's block lies within the output
 within : (c : tie.In-loop Inv-loop μ-loop)
     → (c .before .loop .x + 1) * c .before .before .reading-length .result ≤ length (c .before .loop .out)
-unfolding readingLength
 within c =
     let at-loop = c .before in
     let at-reading-length = at-loop .before in
@@ -53,7 +52,6 @@ part-write-rank-end : tie.Need-part-write-rank-end Inv-loop μ-loop
 part-write-rank-end c = omega arith
 
 write-rank-requires : tie.Need-write-rank-requires Inv-loop μ-loop
-unfolding readingLength
 write-rank-requires c κs =
     let at-loop = c .before .before in
     let at-start = at-loop .before .before .before .before .before in
@@ -74,7 +72,6 @@ loop-less : tie.Need-loop-less Inv-loop μ-loop
 loop-less c = omega arith
 
 loop-again : tie.Need-loop-again Inv-loop μ-loop
-unfolding readingLength
 loop-again c =
     let at-write-rank = c .before .before in
     let at-loop = at-write-rank .before .before .before in

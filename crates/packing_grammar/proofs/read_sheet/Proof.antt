@@ -7,7 +7,8 @@ use borrow.Author.Needs.{needs}
 use lib.Dec.{ltb}
 use lib.ListN.{length}
 use borrow.Author.Tests.{lt-ltb, le-ltb}
-use Rattle.packing.specs.Grammar.{grammarSheet}
+use Rattle.packing.specs.Grammar.{grammarFrom, grammarSheet}
+use Rattle.packing.proofs.Parse.{finish-always}
 use Rattle.packing_grammar.specs.Parts.{SizesNear}
 use Rattle.packing_grammar.proofs.Grammars.{end-refused, end-passed}
 use Rattle.packing_grammar.proofs.read_sheet.Statement.{statement}
@@ -40,7 +41,7 @@ returns-2 : tie.Need-returns-2
 unfolding grammarSheet
 returns-2 c =
     let (a, b) = end-refused (c .before .before .before .before .before .read-grammar .ensures) (λ (at : ℕ). true) 41 (c .before .read .given .1) in
-    rw (long (c .before .before .before .before .before .before .before .before)) (a, b, tt)
+    rw (long (c .before .before .before .before .before .before .before .before), ← finish-always 41 (grammarFrom _ 0)) (a, b, tt)
 
 same-length-2 : tie.Need-same-length-2
 same-length-2 c = search needs
@@ -49,7 +50,7 @@ returns-3 : tie.Need-returns-3
 unfolding grammarSheet
 returns-3 c =
     let (a, b) = end-passed (c .before .before .before .before .before .read-grammar .ensures) (λ (at : ℕ). true) 41 (c .before .read2 .given .1) refl in
-    rw (long (c .before .before .before .before .before .before .before .before)) (a, b, subst (SizesNear _) (c .before .read2 .given .1) (c .before .before .before .before .before .read-grammar .ensures .near) .0)
+    rw (long (c .before .before .before .before .before .before .before .before), ← finish-always 41 (grammarFrom _ 0)) (a, b, subst (SizesNear _) (c .before .read2 .given .1) (c .before .before .before .before .before .read-grammar .ensures .near) .0)
 
 pub read-sheet-spec : {M : Type 1} → statement M
 read-sheet-spec =

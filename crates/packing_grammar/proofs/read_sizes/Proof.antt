@@ -4,7 +4,8 @@ use Prim.Native.Nat.{_+_, _≤_}
 use native.Mathlib.Omega.{arith}
 use borrow.Author.Needs.{needs}
 use Rattle.packing.specs.Parse.{parsed}
-use Rattle.packing.specs.Source.{Source, take, sourceOf}
+use Rattle.packing.specs.Source.{Source, take}
+use Rattle.packing.specs.Read.{sourceOf}
 use Rattle.packing.specs.Grammar.{size}
 use Rattle.packing_grammar.specs.Parts.{sizesFrom}
 use Rattle.rules_reader.proofs.Taken.{got, missed, taken}

@@ -2,6 +2,7 @@
 use Prim.Native.Nat.{_-_, _*_}
 use native.Mathlib.Omega.{arith}
 use borrow.Author.Needs.{needs}
+use Rattle.packing.specs.Reading.{readingLength}
 use Rattle.packing_reading.proofs.Walk.{walk-small}
 use Rattle.packing_reading.proofs.reading_length.Statement.{statement}
 use Rattle.packing_reading.proofs.reading_length.Tie as tie
@@ -28,6 +29,7 @@ add-result-2 : tie.Need-add-result-2
 add-result-2 c = omega (arith, walk-small {m = 2 * c .before .args .n - 1} {w = c .width-of .result} (omega arith) (omega arith))
 
 returns : tie.Need-returns
+unfolding readingLength
 returns c = rw (c .width-of .ensures .0)
 
 pub reading-length-spec : {M : Type 1} → statement M

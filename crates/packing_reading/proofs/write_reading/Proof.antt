@@ -1,21 +1,24 @@
 -- The fields of the head and of the walk, written one after the other, are the block's bits in front of what stood there.
 use native.Mathlib.Omega.{arith}
-use Rattle.packing.specs.Reading.{blockOfReading}
+use Rattle.packing.specs.Reading.{blockOfReading, readingLength}
 use Rattle.packing_reading.proofs.Walk.{walk-room, reading-written}
 use borrow.Author.Needs.{needs}
 use Rattle.packing_reading.proofs.write_reading.Statement.{statement}
 use Rattle.packing_reading.proofs.write_reading.Tie as tie
 
 write-field-requires : tie.Need-write-field-requires
+unfolding readingLength
 write-field-requires c κs = search needs
 
 cast-write-field : tie.Need-cast-write-field
 cast-write-field c = search needs
 
 write-field-requires-2 : tie.Need-write-field-requires-2
+unfolding readingLength
 write-field-requires-2 c κs = search needs
 
 write-field-requires-3 : tie.Need-write-field-requires-3
+unfolding readingLength
 write-field-requires-3 c κs = search needs
 
 mul-write-walk : tie.Need-mul-write-walk

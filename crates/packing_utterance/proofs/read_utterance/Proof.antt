@@ -3,7 +3,8 @@ use mathlib.Core.Path.{_≡_, _∙_}
 use mathlib.Core.List.{[]}
 use native.Mathlib.Omega.{arith}
 use Rattle.packing.specs.Parse.{parsed}
-use Rattle.packing.specs.Source.{Source, take, sourceOf}
+use Rattle.packing.specs.Source.{Source, take}
+use Rattle.packing.specs.Read.{sourceOf}
 use Rattle.packing.specs.Utterance.{slotCount}
 use Rattle.packing.proofs.Bounds.{take-range, take-next}
 use Rattle.packing.proofs.Taken.{taken-fits}

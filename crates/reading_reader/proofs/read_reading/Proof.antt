@@ -7,7 +7,8 @@ use native.Mathlib.Omega.{arith}
 use borrow.Author.Needs.{needs}
 use lib.ListN.{length, take as front, length-set}
 use lib.Seq.{length-take-le}
-use Rattle.packing.specs.Source.{bytes, take, refusalOf}
+use Rattle.packing.specs.Source.{bytes, take}
+use Rattle.packing.specs.Read.{refusalOf}
 use Rattle.packing.specs.Reading.{ruleNumber, walkFrom}
 use Rattle.packing.proofs.Parse.{number-out, refused-out}
 use Rattle.packing.proofs.Bounds.{take-next}

@@ -5,7 +5,7 @@ use Prim.Native.Nat.{_+_, _-_, _*_, _≤_, _<_}
 use native.Mathlib.Omega.{arith}
 use borrow.Author.Needs.{needs}
 use lib.ListN.{length, length-set}
-use Rattle.packing.specs.Source.{sourceOf}
+use Rattle.packing.specs.Read.{sourceOf}
 use Rattle.rules_reader.specs.Rules.{RuleNear, Sound}
 use Rattle.rules_reader.proofs.Turns.{Passed, none-passed, all-passed, rule-refused, rule-repeated, rule-passed}
 use Rattle.rules_reader.proofs.read_rules.Statement.{statement}

@@ -2,7 +2,8 @@
 use mathlib.Core.Path.{_≡_, ap, _∙_}
 use native.Mathlib.Omega.{arith}
 use Rattle.packing.specs.Parse.{parsed}
-use Rattle.packing.specs.Source.{Source, take, readOf, sourceOf}
+use Rattle.packing.specs.Source.{Source, take}
+use Rattle.packing.specs.Read.{readOf, sourceOf}
 use Rattle.packing.specs.Utterance.{offered}
 use Rattle.packing.specs.declared.Field.{Field}
 use Rattle.packing.proofs.Bounds.{take-next}

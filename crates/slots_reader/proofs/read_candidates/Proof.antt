@@ -8,7 +8,8 @@ use borrow.Author.Needs.{needs}
 use lib.ListN.{length, length-append}
 use Rattle.packing.specs.Meaning.{Candidate, candidate, word}
 use Rattle.packing.specs.Parse.{parsed}
-use Rattle.packing.specs.Source.{Source, sourceOf}
+use Rattle.packing.specs.Source.{Source}
+use Rattle.packing.specs.Read.{sourceOf}
 use Rattle.packing.specs.Utterance.{candidatesFrom, candidatesEntries}
 use Rattle.packing.specs.Store.{storeAll}
 use Rattle.slots_reader.specs.Placed.{candidateFrom, candidateNumbers, placed, not-placed}

@@ -4,7 +4,8 @@ use mathlib.Core.List.{[]}
 use native.Mathlib.Omega.{arith}
 use lib.ListN.{length-set}
 use Rattle.packing.specs.Parse.{parsed}
-use Rattle.packing.specs.Source.{Source, take, sourceOf}
+use Rattle.packing.specs.Source.{Source, take}
+use Rattle.packing.specs.Read.{sourceOf}
 use Rattle.packing.specs.Utterance.{candidateCount}
 use Rattle.packing.proofs.Bounds.{take-range, take-next}
 use Rattle.slots_reader.specs.Placed.{not-placed}

@@ -7,7 +7,8 @@ use native.Mathlib.Omega.{arith}
 use borrow.Author.Needs.{needs}
 use lib.ListN.{length, length-append}
 use Rattle.packing.specs.Meaning.{Utterance}
-use Rattle.packing.specs.Source.{Source, sourceOf}
+use Rattle.packing.specs.Source.{Source}
+use Rattle.packing.specs.Read.{sourceOf}
 use Rattle.packing.specs.Utterance.{slotsFrom, slotsEntries}
 use Rattle.packing.specs.Flat.{slotNumbers}
 use Rattle.packing.specs.Store.{storeAll}

@@ -3,8 +3,7 @@ use mathlib.Core.Path.{sym, _∙_}
 use native.Mathlib.Omega.{arith}
 use borrow.Author.Needs.{needs}
 use Rattle.packing.specs.Grammar.{grammarBlock}
-use Rattle.packing.specs.Conversion.{utteranceToBlock}
-use Rattle.utterance_conversion.specs.Under.{blockUnder}
+use Rattle.packing.specs.Conversion.{utteranceToBlock, blockUnder}
 use Rattle.packing_writing.proofs.Fit.{handed-up}
 use Rattle.packing_grammar.proofs.Told.{refusal-told, words-told}
 use Rattle.utterance_conversion.proofs.utterance_to_block.Statement.{statement}
