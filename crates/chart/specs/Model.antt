@@ -1,5 +1,5 @@
 -- The next rank of a cell, from what its last rank found leads to: what follows it, and what takes its place.
--- Nobody need believe this page: the theorems of chart_list join it to the derivations. Assumes nothing.
+-- Nobody need believe this page: the theorems of chart_theory join it to the derivations. Assumes nothing.
 use mathlib.Core.List.{List}
 use mathlib.Core.Bool.{Bool, true}
 use Prim.Native.Nat.{ℕ, _+_, _-_, _%_}

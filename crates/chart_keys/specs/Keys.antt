@@ -1,5 +1,5 @@
 -- Ties and keys: a tree of a cell as a number, so that less is sooner.
--- Nobody need believe this page: the theorems of chart_list join it to the derivations. Assumes nothing.
+-- Nobody need believe this page: the theorems of chart_theory join it to the derivations. Assumes nothing.
 use Prim.Native.Nat.{ℕ, _+_, _-_, _*_, _/_, _%_}
 use lib.Dec.{ltb, eqb}
 use Rattle.bits.specs.Bits.{pick}

@@ -1,6 +1,6 @@
 -- The work table as a list of numbers: where the cells and their entries stand, and what an entry holds.
 -- Every read past the end is 0 and every store past it nothing, so these hold of any table.
--- Nobody need believe this page: the theorems of chart_list join it to the derivations. Assumes nothing.
+-- Nobody need believe this page: the theorems of chart_theory join it to the derivations. Assumes nothing.
 use mathlib.Core.List.{List}
 use Prim.Native.Nat.{ℕ, _+_, _-_, _*_, _/_, _%_, _≤_, _<_}
 use lib.Dec.{ltb, eqb}

@@ -1,5 +1,5 @@
 -- What waits beside the ranks of a cell: candidates that were met and not found yet, and the least of them found.
--- Nobody need believe this page: the theorems of chart_list join it to the derivations. Assumes nothing.
+-- Nobody need believe this page: the theorems of chart_theory join it to the derivations. Assumes nothing.
 use mathlib.Core.List.{List}
 use Prim.Native.Nat.{ℕ, _+_, _-_, _/_, _%_}
 use lib.Dec.{ltb}

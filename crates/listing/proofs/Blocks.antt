@@ -17,8 +17,8 @@ use Rattle.derivation.specs.List.{listing}
 use Rattle.derivation.proofs.Lists.{none≢some, at-map}
 use Rattle.derivation.proofs.Ranges.{valid-slots}
 use Rattle.derivation.proofs.Theorems.{list-element, nodes}
-use Rattle.chart_list.specs.Search.{spelled}
-use Rattle.chart_list.proofs.Accepted as chart
+use Rattle.chart_walk.specs.Walk.{spelled}
+use Rattle.chart_theory.proofs.Accepted as chart
 use Rattle.listing.specs.Listing.{joined}
 use Rattle.listing.specs.Model.{readingAt, blocksAt}
 use Rattle.listing.proofs.Joined.{joined-more}

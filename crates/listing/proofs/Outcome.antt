@@ -18,7 +18,7 @@ use Rattle.packing_utterance.specs.Edges.{edgesIn}
 use Rattle.packing_utterance.proofs.Edges.{edges-in}
 use Rattle.derivation.proofs.Ranges.{valid-rules, valid-sizes, valid-slots}
 use Rattle.chart_candidates.specs.Candidates.{Indexed}
-use Rattle.chart_list.proofs.Accepted.{Holds, dims, chart-holds}
+use Rattle.chart_theory.proofs.Accepted.{Holds, dims, chart-holds}
 use Rattle.chart_index.specs.Index.{indexOf}
 use Rattle.chart_index.proofs.Index.{indexed}
 use Rattle.listing.specs.Listing.{tableSize, joined, listed, list}

@@ -18,7 +18,7 @@ use Rattle.packing.proofs.Widths.{length-reading}
 use Rattle.packing_reading.specs.Answer.{readingOf}
 use Rattle.chart_table.specs.declared.Dims.{Dims}
 use Rattle.chart_table.specs.Table.{cellOf, weightAt}
-use Rattle.chart_list.specs.Search.{spelled}
+use Rattle.chart_walk.specs.Walk.{spelled}
 use Rattle.listing.specs.Model.{readingAt, blockAt, blocksAt}
 
 -- what comes back of an output of which the end from place a on was lent, where the first a numbers were P

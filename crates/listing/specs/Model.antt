@@ -19,7 +19,8 @@ use Rattle.packing_grammar.specs.declared.Sizes.{Sizes}
 use Rattle.packing_reading.specs.Answer.{readingOf}
 use Rattle.chart_table.specs.declared.Dims.{Dims}
 use Rattle.chart_table.specs.Table.{cellOf, weightAt, foundOf, cleared}
-use Rattle.chart_list.specs.Search.{listOf, spelled}
+use Rattle.chart_search.specs.Search.{listOf}
+use Rattle.chart_walk.specs.Walk.{spelled}
 use Rattle.listing.specs.Listing.{tableSize, listed, answerOf, outputAfter, workAfter}
 use Rattle.listing.specs.declared.Listed.{Listed}
 

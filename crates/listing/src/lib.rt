@@ -68,7 +68,7 @@ fn write_rank(t: &[u32], rules: &[u32], count: usize, d: Dims, n: usize, x: usiz
 {
     let start = Sym(0);
     let mut walk = [0u32; 48];
-    chart_list::walk::spell(t, rules, d, start, 0, n, x, &mut walk, 0);
+    chart_walk::spell(t, rules, d, start, 0, n, x, &mut walk, 0);
     let stored = weight_at(t, d, cell_of(d, start, 0, n), x);
     packing_reading::write_reading(out, n, count, less_one(stored), &walk);
 }
@@ -108,7 +108,7 @@ fn fill(
     ensures { λ r. ⌜ Filled (now (rules .entry)) count (now (edges .entry)) (now (index .entry)) d n (now (work .entry)) (now (out .entry)) r (now (work .exit)) (now (out .exit)) ⌝ }
 {
     zero(work);
-    chart_list::list(work, rules, edges, index, d, n);
+    chart_search::list(work, rules, edges, index, d, n);
     let m = chart_table::found(&work[..], d, cell_of(d, Sym(0), 0, n));
     write_readings(&work[..], rules, count, d, n, m, out);
     clear(work, d);

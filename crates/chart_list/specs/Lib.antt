@@ -1,2 +1,0 @@
--- The search and the spelling.
-pub mod Search

@@ -1,0 +1,2 @@
+-- What is missing, and what is gone for.
+pub mod Extended

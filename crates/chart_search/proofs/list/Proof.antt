@@ -1,0 +1,61 @@
+-- The first pass, and then the loop is the iteration over the further ranks.
+use Prim.Native.Nat.{_≤_, _-_}
+use mathlib.Core.Path.{_≡_, refl, _∙_}
+use lib.ListN.{length}
+use borrow.Author.Needs.{needs}
+use Rattle.packing.specs.Loop.{iter}
+use Rattle.packing.proofs.Loop.{iter-more, iter-end}
+use Rattle.chart_search.specs.Search.{further, listOf}
+use Rattle.chart_search.proofs.list.Statement.{statement}
+use Rattle.chart_search.proofs.list.Tie as tie
+
+abbrev Inv-loop : tie.InvT-loop
+Inv-loop t₀ rules edges index d n m x₀ t x = (x ≤ m) × (length t ≡ length t₀) × (t ≡ iter (further rules edges index d n) t₀ x)
+
+abbrev μ-loop : tie.MeasureT-loop
+μ-loop t₀ rules edges index d n m x₀ t x = m - x
+
+firsts-requires : tie.Need-firsts-requires Inv-loop μ-loop
+firsts-requires c κs = search needs
+
+sub-m : tie.Need-sub-m Inv-loop μ-loop
+sub-m c = search needs
+
+loop-holds : tie.Need-loop-holds Inv-loop μ-loop
+unfolding iter
+loop-holds c = (search needs, refl, refl)
+
+further-requires : tie.Need-further-requires Inv-loop μ-loop
+further-requires c κs = search needs
+
+add-x : tie.Need-add-x Inv-loop μ-loop
+add-x c = search needs
+
+loop-less : tie.Need-loop-less Inv-loop μ-loop
+loop-less c = search needs
+
+loop-again : tie.Need-loop-again Inv-loop μ-loop
+loop-again c = (search needs, c .before .before .further .kept .0 ∙ c .before .before .before .before .before .loop .inv .1, rw (iter-more, ← c .before .before .before .before .before .loop .inv .2) (c .before .before .further .ensures))
+
+same-length : tie.Need-same-length Inv-loop μ-loop
+same-length c = c .before .loop .inv .1 ∙ c .before .before .before .before .before .firsts .kept .0
+
+returns : tie.Need-returns Inv-loop μ-loop
+unfolding listOf
+returns c = rw (← c .before .before .before .before .before .firsts .ensures) (c .before .loop .inv .2 ∙ iter-end _ _ _ _ (c .before .loop .inv .0) (c .loop-test .left))
+
+pub list-spec : {M : Type 1} → statement M
+list-spec =
+    tie.close
+    (tie.spec
+    Inv-loop
+    μ-loop
+    firsts-requires
+    sub-m
+    loop-holds
+    further-requires
+    add-x
+    loop-less
+    loop-again
+    same-length
+    returns)

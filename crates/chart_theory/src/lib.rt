@@ -1,0 +1,1 @@
+// Theorems only: see proofs/. The chart finds the ranked derivations (Accepted).

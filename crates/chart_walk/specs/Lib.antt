@@ -1,0 +1,2 @@
+-- The spelling of a tree.
+pub mod Walk
