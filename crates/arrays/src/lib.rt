@@ -15,17 +15,17 @@ pub fn wide(x: u32) -> usize
 }
 
 // The number at an index, and 0 past the end.
-pub fn number_at(s: &[u32], at: usize) -> usize
-    ensures { λ r. ⌜ (r ≡ getD (now (s .entry)) at 0) × (r < 4294967296) ⌝ }
-{
-    if at < s.len() { wide(s[at]) } else { 0 }
-}
-
-// The same in its own width.
 pub fn narrow_at(s: &[u32], at: usize) -> u32
     ensures { λ r. ⌜ r ≡ getD (now (s .entry)) at 0 ⌝ }
 {
     if at < s.len() { s[at] } else { 0 }
+}
+
+// The same in the width of an index.
+pub fn number_at(s: &[u32], at: usize) -> usize
+    ensures { λ r. ⌜ (r ≡ getD (now (s .entry)) at 0) × (r < 4294967296) ⌝ }
+{
+    wide(narrow_at(s, at))
 }
 
 // Stores a number, and nothing past the end.

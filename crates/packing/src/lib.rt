@@ -1,7 +1,7 @@
 // What blocks and sheets are made of, and the reading of one number of them.
 ghost use mathlib.Core.Path.{_≡_};
 ghost use Prim.Native.Nat.{_^_, _≤_, _<_};
-ghost use Rattle.packing.specs.Source.{inRange, take, within};
+ghost use Rattle.packing.specs.Source.{inRange, take};
 ghost use Rattle.packing.specs.Read.{readOf, refusalOf, sourceOf};
 
 // A symbol of the grammar, V of document 001.
@@ -43,19 +43,6 @@ pub enum Read {
 pub enum Source {
     Block(u32),
     Sheet,
-}
-
-// The field of one range with one refusal.
-pub fn within(width: usize, least: u32, most: u32, refusal: u32) -> Field
-    ensures { λ f. ⌜ f ≡ within width least most refusal ⌝ }
-{
-    Field {
-        width: width,
-        least: least,
-        most: most,
-        below: refusal,
-        above: refusal,
-    }
 }
 
 // A value that was found, if it is in its range.

@@ -53,7 +53,13 @@ fn read_head(block: &[u8], n: usize) -> Read
         return kind;
     };
     let at = c.at;
-    let slots = packing::within(6, n as u32, n as u32, 33);
+    let slots = Field {
+        width: 6,
+        least: n as u32,
+        most: n as u32,
+        below: 33,
+        above: 33,
+    };
     let found = number(block, at, slots);
     let Read::Number(_, c) = found else {
         return found;
@@ -67,7 +73,13 @@ fn read_number(block: &[u8], at: usize, rules: usize) -> Read
     requires { ⌜ (at < 2 ^ 32) × (1 ≤ rules) × (rules ≤ 256) ⌝ }
     ensures { λ r. ⌜ r ≡ readOf (taken (bytes 31 (now (block .entry))) at (ruleNumber rules)) ⌝ }
 {
-    let f = packing::within(bits::width_of(rules - 1), 0, 255, 34);
+    let f = Field {
+        width: bits::width_of(rules - 1),
+        least: 0,
+        most: 255,
+        below: 34,
+        above: 34,
+    };
     number(block, at, f)
 }
 

@@ -59,7 +59,13 @@ fn below(n: u32, refusal: u32) -> Field
     ensures { λ f. ⌜ (f ≡ within (widthOf (n - 1)) 0 (n - 1) refusal) × (f .width ≤ 8) ⌝ }
 {
     let most = n - 1;
-    packing::within(bits::width_of(most as usize), 0, most, refusal)
+    Field {
+        width: bits::width_of(most as usize),
+        least: 0,
+        most: most,
+        below: refusal,
+        above: refusal,
+    }
 }
 
 // The field of the first number of a rule's body.

@@ -41,17 +41,14 @@ kind-read c = number-told _ (c .before .before .before .number .ensures) (c .bef
 kind-near : (c : tie.After-known-told) → c .before .kind .given .0 .1 .0 .at ≤ 4
 kind-near c = omega (arith, take-next (blockKind 3 32) (source (start c)) 0 4 (omega arith) (omega arith) (kind-read c))
 
-cast-within : tie.Need-cast-within
-cast-within c = search needs
+cast-t11 : tie.Need-cast-t11
+cast-t11 c = search needs
 
-cast-within-2 : tie.Need-cast-within-2
-cast-within-2 c = search needs
-
-within-requires : tie.Need-within-requires
-within-requires c κs = search needs
+cast-t12 : tie.Need-cast-t12
+cast-t12 c = search needs
 
 number-requires-2 : tie.Need-number-requires-2
-number-requires-2 c κs = rw (c .within .ensures) (omega (arith, kind-near (c .before)))
+number-requires-2 c κs = omega (arith, kind-near c)
 
 enum-known-found : tie.Need-enum-known-found
 enum-known-found c = search needs
@@ -62,21 +59,18 @@ enum-told-2 c = search needs
 returns-2 : tie.Need-returns-2
 unfolding headFrom
 returns-2 c =
-    let w = c .before .before .before in
-    let s = start (w .before) in
-    let e = refused-out (take (source s) _ (readingSlots (s .args .n))) (sym (rw (w .within .ensures) at (c .before .before .number2 .ensures)) ∙ c .enum-told2 .given .1) in
-    rw (kind-read (w .before), e) (c .enum-told2 .given .1)
+    let k = c .before .before .before in
+    let e = refused-out (take (source (start k)) _ (readingSlots (start k .args .n))) (sym (c .before .before .number2 .ensures) ∙ c .enum-told2 .given .1) in
+    rw (kind-read k, e) (c .enum-told2 .given .1)
 
 -- n that was read
 abbrev kind-before : tie.After-known-told2 → tie.After-known-told
-kind-before c = c .before .before .before .before .before
+kind-before c = c .before .before .before .before
 
 slots-read : (c : tie.After-known-told2) →
     let k = kind-before c in
     take (source (start k)) (k .before .kind .given .0 .1 .0 .at) (readingSlots (start k .args .n)) ≡ parsed (c .before .found .given .0 .0) (c .before .found .given .0 .1 .0 .at)
-slots-read c =
-    let w = c .before .before .before .before in
-    number-told _ (rw (w .within .ensures) at (c .before .before .before .number2 .ensures)) (c .before .found .given .1)
+slots-read c = number-told _ (c .before .before .before .number2 .ensures) (c .before .found .given .1)
 
 number-requires-3 : tie.Need-number-requires-3
 number-requires-3 c κs =
@@ -95,9 +89,8 @@ read-head-spec =
     enum-known-kind
     enum-told
     returns
-    cast-within
-    cast-within-2
-    within-requires
+    cast-t11
+    cast-t12
     number-requires-2
     enum-known-found
     enum-told-2

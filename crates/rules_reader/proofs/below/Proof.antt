@@ -12,11 +12,8 @@ cast-width-of c = search needs
 width-of-requires : tie.Need-width-of-requires
 width-of-requires c κs = search needs
 
-within-requires : tie.Need-within-requires
-within-requires c κs = search needs
-
 returns : tie.Need-returns
-returns c = let w = c .before .width-of .ensures in (rw (← w .0) (c .within .ensures), rw (c .within .ensures) (w .1))
+returns c = let w = c .width-of .ensures in (rw (w .0), w .1)
 
 pub below-spec : {M : Type 1} → statement M
-below-spec = tie.close (tie.spec sub-most cast-width-of width-of-requires within-requires returns)
+below-spec = tie.close (tie.spec sub-most cast-width-of width-of-requires returns)
