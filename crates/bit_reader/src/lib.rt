@@ -1,17 +1,8 @@
 // Fields of bits read from bytes, most significant bit first.
 ghost use mathlib.Core.Path.{_≡_};
 ghost use Prim.Native.Nat.{_+_, _*_, _^_, _≤_, _<_};
-ghost use lib.Dec.{leb};
 ghost use lib.ListN.{length};
 ghost use Rattle.bits.specs.Bits.{field, ended};
-
-// Whether the bytes have the `width` bits from bit `at`.
-pub fn has_field(s: &[u8], at: usize, width: usize) -> bool
-    requires { ⌜ (at < 2 ^ 32) × (width ≤ 24) ⌝ }
-    ensures { λ r. ⌜ r ≡ leb (at + width) (8 * length (now (s .entry))) ⌝ }
-{
-    (at + width + 7) / 8 <= s.len()
-}
 
 // The number in `count` bytes from byte `first`.
 fn bytes_from(s: &[u8], first: usize, count: usize) -> u32

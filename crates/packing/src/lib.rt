@@ -1,6 +1,8 @@
 // What blocks and sheets are made of, and the reading of one number of them.
 ghost use mathlib.Core.Path.{_≡_};
-ghost use Prim.Native.Nat.{_^_, _≤_, _<_};
+ghost use Prim.Native.Nat.{_+_, _*_, _^_, _≤_, _<_};
+ghost use lib.Dec.{leb};
+ghost use lib.ListN.{length};
 ghost use Rattle.packing.specs.Source.{inRange, take};
 ghost use Rattle.packing.specs.Read.{readOf, refusalOf, sourceOf};
 
@@ -45,6 +47,14 @@ pub enum Source {
     Sheet,
 }
 
+// Whether a block has the `width` bits from bit `at`.
+fn has_field(block: &[u8], at: usize, width: usize) -> bool
+    requires { ⌜ (at < 2 ^ 32) × (width ≤ 24) ⌝ }
+    ensures { λ r. ⌜ r ≡ leb (at + width) (8 * length (now (block .entry))) ⌝ }
+{
+    (at + width + 7) / 8 <= block.len()
+}
+
 // A value that was found, if it is in its range.
 fn in_range(f: Field, v: u32, next: usize) -> Read
     ensures { λ r. ⌜ r ≡ readOf (inRange f v next) ⌝ }
@@ -66,7 +76,7 @@ pub fn take(src: Source, block: &[u8], sheet: &[u32], at: usize, f: Field) -> Re
     match src {
         Source::Block(missing) => {
             let width = f.width;
-            if bit_reader::has_field(block, at, width) {
+            if has_field(block, at, width) {
                 return in_range(f, bit_reader::read_field(block, at, width), at + width);
             }
             Read::Refused(missing)

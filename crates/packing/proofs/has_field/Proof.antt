@@ -3,8 +3,8 @@ use Prim.Native.Nat.{_+_}
 use lib.ListN.{length}
 use borrow.Author.Needs.{needs}
 use Rattle.bits.proofs.Num.{bytes-have}
-use Rattle.bit_reader.proofs.has_field.Statement.{statement}
-use Rattle.bit_reader.proofs.has_field.Tie as tie
+use Rattle.packing.proofs.has_field.Statement.{statement}
+use Rattle.packing.proofs.has_field.Tie as tie
 
 add-result : tie.Need-add-result
 add-result c = search needs
@@ -13,7 +13,7 @@ add-result-2 : tie.Need-add-result-2
 add-result-2 c = search needs
 
 returns : tie.Need-returns
-returns c = let a = c .args in bytes-have (a .at + a .width) (length (a .s .now))
+returns c = let a = c .args in bytes-have (a .at + a .width) (length (a .block .now))
 
 pub has-field-spec : {M : Type 1} → statement M
 has-field-spec = tie.close (tie.spec add-result add-result-2 returns)
