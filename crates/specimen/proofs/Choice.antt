@@ -1,18 +1,16 @@
--- The table of choices is right: a symbol and a length have a choice exactly if some string of that length is derived, and
--- the words chosen are such a string. Assumes nothing.
-use mathlib.Core.Path.{_≡_, refl, sym, ap, _∙_, subst}
+-- The table of choices is right: a symbol and a length have a choice exactly if some string of that length is derived.
+-- Assumes nothing.
+use mathlib.Core.Path.{_≡_, refl, sym, ap, _∙_}
 use mathlib.Core.Logic.{_⊎_, inl, inr, ⊎-elim}
 use mathlib.Core.Bool.{Bool, true, false}
-use mathlib.Core.Option.{Option, none, some}
-use mathlib.Core.List.{List, [], _∷_, _++_}
-use Prim.Native.Nat.{ℕ, zero, suc, _+_, _-_, _*_, _/_, _%_, _≤_, _<_}
-use native.Mathlib.Decide.{decLt, ℕ-discrete}
-use native.Mathlib.Nat.{mod-eq-of-lt}
+use mathlib.Core.List.{List}
+use Prim.Native.Nat.{ℕ, zero, suc, _+_, _-_, _*_, _≤_, _<_}
+use native.Mathlib.Decide.{ℕ-discrete}
 use native.Mathlib.Numerals.{add-one}
 use native.Mathlib.Omega.{arith}
-use borrow.Author.Tests.{eq-eqb, ne-eqb, lt-ltb}
+use borrow.Author.Tests.{eq-eqb, ne-eqb}
 use lib.Dec.{eqb}
-use lib.ListN.{length, getD, set, getElem?, length-append, length-set}
+use lib.ListN.{length, set, length-append, length-set}
 use lib.Seq.{getD-set-same, getD-set-other}
 use Rattle.bits.specs.Bits.{pick}
 use Rattle.packing.specs.Meaning.{Grammar, word, sym as symbol}
@@ -23,7 +21,8 @@ use Rattle.packing.specs.declared.Sym.{Sym}
 use Rattle.packing.specs.declared.Rule.{Rule}
 use Rattle.packing.specs.declared.Rule.the-variants.{Pair, Word}
 use Rattle.derivation.specs.Derivation.{At}
-use Rattle.specimen.specs.Choice.{choiceAt, orElse, splitChoice, pairChoice, ruleChoice, cellChoice, lengthFilled, filled, wordsOf, chosen}
+use Rattle.derivation.proofs.Lists.{at-length}
+use Rattle.specimen.specs.Choice.{choiceAt, orElse, splitChoice, pairChoice, ruleChoice, cellChoice, lengthFilled, filled}
 use Rattle.specimen.proofs.Yields.{Yields, one, two}
 
 -- a fold that keeps the first choice: what it ends with was there before or is found at some turn, and it ends with 0 only
@@ -95,7 +94,7 @@ rule-or-else t a len best r (Pair h b c w) = go (eqb (h .0) (a .0))
     go false = or-else-zero best
 rule-or-else t a len best r (Word h x w) = go (eqb (h .0) (a .0)) (eqb len 1)
   where
-    go : (e f : Bool) → pick e (pick f (orElse best (1 + r * 32)) best) best ≡ orElse best (pick e (pick f (orElse 0 (1 + r * 32)) 0) 0)
+    go : (e f : Bool) → pick e (pick f (orElse best (r * 32 + 1)) best) best ≡ orElse best (pick e (pick f (orElse 0 (r * 32 + 1)) 0) 0)
     go true true = refl
     go true false = or-else-zero best
     go false f = or-else-zero best
@@ -107,8 +106,8 @@ module _ (g : Grammar) (rules : List ℕ) (S : ℕ) (few : S ≤ 32)
     (words : (A : Sym) (x r w : ℕ) → At (g .rules) r (Word A (word x) w) → x < 256) where
   -- what a choice says: a word rule, or a pair rule and two parts that have choices
   pub data Choice (t : List ℕ) (a : Sym) (len : ℕ) : ℕ → Type 0 where
-    by-word : {x : ℕ} (r w : ℕ) → At (g .rules) r (Word a (word x) w) → len ≡ 1 → Choice t a len (1 + r * 32)
-    by-split : {b c : Sym} (r w j : ℕ) → At (g .rules) r (Pair a b c w) → 0 < j → j < len → (choiceAt t b j ≡ 0 → ⊥) → (choiceAt t c (len - j) ≡ 0 → ⊥) → Choice t a len (1 + r * 32 + j)
+    by-word : {x : ℕ} (r w : ℕ) → At (g .rules) r (Word a (word x) w) → len ≡ 1 → Choice t a len (r * 32 + 1)
+    by-split : {b c : Sym} (r w j : ℕ) → At (g .rules) r (Pair a b c w) → 0 < j → j < len → (choiceAt t b j ≡ 0 → ⊥) → (choiceAt t c (len - j) ≡ 0 → ⊥) → Choice t a len (r * 32 + j)
 
   -- the choice v is right for a symbol and a length
   pub record Right (t : List ℕ) (a : Sym) (len v : ℕ) : Type 0 where
@@ -122,14 +121,9 @@ module _ (g : Grammar) (rules : List ℕ) (S : ℕ) (few : S ≤ 32)
   nonempty (one r w h) = omega arith
   nonempty (two {us = us} {vs = vs} r w h l m) = let p = nonempty l in simp length-append (omega arith)
 
-  at-below : {A : Type 0} (l : List A) (n : ℕ) {x : A} → At l n x → n < length l
-  at-below [] n h = let z : _≡_ {A = ℕ} 0 1 = cc in absurd (omega arith)
-  at-below (y ∷ l) zero h = omega arith
-  at-below (y ∷ l) (suc n) h = let r = at-below l n h in omega arith
-
   -- rule r of the array is rule r of the grammar
-  rule-is : (r : ℕ) {x : Rule} → At (g .rules) r x → ruleAt rules r ≡ x
-  rule-is r h = let e = stored r (at-below (g .rules) r h) in cc
+  pub rule-is : (r : ℕ) {x : Rule} → At (g .rules) r x → ruleAt rules r ≡ x
+  rule-is r h = let e = stored r (at-length (g .rules) r h) in cc
 
   module _ (t : List ℕ) (a : Sym) (len : ℕ) (below : a .0 < S) (good : Good t (len - 1)) where
     abbrev find : ℕ → ℕ
@@ -174,16 +168,16 @@ module _ (g : Grammar) (rules : List ℕ) (S : ℕ) (few : S ≤ 32)
     rule-nothing : ((r : ℕ) → r < length (g .rules) → find r ≡ 0) → (ws : List ℕ) → length ws ≡ len → Yields g a ws → ⊥
     unfolding ruleChoice pairChoice splitChoice
     rule-nothing zeros ws n (one {x = x} r w h) =
-        let z = zeros r (at-below (g .rules) r h) in
+        let z = zeros r (at-length (g .rules) r h) in
         let e : ruleChoice t a len 0 r (Word a (word x) w) ≡ 0 = rw (rule-is r h) at z in
-        let f : 1 + r * 32 ≡ 0 = rw (eq-eqb (a .0) (a .0) refl, eq-eqb len 1 (sym n)) at e in
+        let f : r * 32 + 1 ≡ 0 = rw (eq-eqb (a .0) (a .0) refl, eq-eqb len 1 (sym n)) at e in
         omega arith
     rule-nothing zeros ws n (two {B = b} {C = c} {us = us} {vs = vs} r w h l m) =
         let s = parts a b c r w h in
         let p = nonempty l in
         let q = nonempty m in
         let k : length us + length vs ≡ len = sym (length-append us vs) ∙ n in
-        let z = zeros r (at-below (g .rules) r h) in
+        let z = zeros r (at-length (g .rules) r h) in
         let e : ruleChoice t a len 0 r (Pair a b c w) ≡ 0 = rw (rule-is r h) at z in
         let f : pairChoice t b c r len 0 ≡ 0 = rw (eq-eqb (a .0) (a .0) refl) at e in
         let y = kept-none (λ y. splitChoice t b c r len (y + 1)) 0 (len - 1) f .1 (length us - 1) (omega arith) in
@@ -191,7 +185,7 @@ module _ (g : Grammar) (rules : List ℕ) (S : ℕ) (few : S ≤ 32)
         let i₂ : len - length us ≡ length vs = omega arith in
         let left : choiceAt t b (length us) ≡ 0 → ⊥ = λ v. good b (length us) (s .0) p (omega arith) .nothing v us refl l in
         let right : choiceAt t c (length vs) ≡ 0 → ⊥ = λ v. good c (length vs) (s .1) q (omega arith) .nothing v vs refl m in
-        let v : 1 + r * 32 + length us ≡ 0 = rw (ne-eqb _ _ left, ne-eqb _ _ right) at (rw (i, i₂) at y) in
+        let v : r * 32 + length us ≡ 0 = rw (ne-eqb _ _ left, ne-eqb _ _ right) at (rw (i, i₂) at y) in
         omega arith
 
     cell-right : Right t a len (cellChoice t rules (length (g .rules)) a len)
@@ -263,25 +257,3 @@ module _ (g : Grammar) (rules : List ℕ) (S : ℕ) (few : S ≤ 32)
       iter-keeps (λ x t. (32 * (n + 1) ≤ length t) × Good t x) (λ t y. lengthFilled rules (length (g .rules)) S (y + 1) t) t n
       (size, λ a m ha pm le. absurd (omega arith))
       (λ x t l w. let e : x + 1 - 1 ≡ x = omega arith in rw (← add-one x) (row-filled n (x + 1) (omega arith) (omega arith) t (w .0) (rw e (w .1)))) .1
-
-  -- the words chosen are derived
-  pub chosen-yields : (t : List ℕ) (n : ℕ) → n < 32 → Good t n → (fuel : ℕ) (a : Sym) (len : ℕ) → len ≤ fuel → a .0 < S → 0 < len → len ≤ n → (choiceAt t a len ≡ 0 → ⊥)
-      → (length (chosen t rules fuel a len) ≡ len) × Yields g a (chosen t rules fuel a len)
-  unfolding chosen
-  chosen-yields t n small good zero a len hf ha pos le ne = absurd (omega arith)
-  chosen-yields t n small good (suc fuel) a len hf ha pos le ne = go (good a len ha pos le .something ne) refl (chosen-yields t n small good fuel)
-    where
-      go : {v : ℕ} → Choice t a len v → choiceAt t a len ≡ v
-          → ((a : Sym) (len : ℕ) → len ≤ fuel → a .0 < S → 0 < len → len ≤ n → (choiceAt t a len ≡ 0 → ⊥) → (length (chosen t rules fuel a len) ≡ len) × Yields g a (chosen t rules fuel a len))
-          → (length (chosen t rules (suc fuel) a len) ≡ len) × Yields g a (chosen t rules (suc fuel) a len)
-      go (by-word {x = x} r w h e) v rec =
-          let d : (choiceAt t a len - 1) / 32 ≡ r = omega arith in
-          let m : x % 256 ≡ x = mod-eq-of-lt (words a x r w h) in
-          rw (d, rule-is r h, m) (sym e, one r w h)
-      go (by-split {b = b} {c = c} r w j h p q e f) v rec =
-          let s = parts a b c r w h in
-          let d : (choiceAt t a len - 1) / 32 ≡ r = omega arith in
-          let m : (choiceAt t a len - 1) % 32 ≡ j = omega arith in
-          let x = rec b j (omega arith) (s .0) p (omega arith) e in
-          let y = rec c (len - j) (omega arith) (s .1) (omega arith) (omega arith) f in
-          rw (d, m, rule-is r h, lt-ltb 0 j p, lt-ltb j len q) (simp length-append (omega (arith, x .0, y .0)), two r w h (x .1) (y .1))

@@ -1,5 +1,5 @@
 pub mod Yields
 pub mod Choice
-pub mod Spelling
+pub mod Words
 pub mod Said
 pub mod Asked

@@ -1,33 +1,26 @@
 -- The table of choices answers what is asked: no string of the length, or one that the grammar says. Assumes nothing.
 use mathlib.Core.Path.{_≡_, refl, sym, ap, _∙_}
-use mathlib.Core.List.{List, [], _∷_, _++_}
-use Prim.Native.Nat.{ℕ, zero, suc, _+_, _*_, _≤_, _<_}
+use mathlib.Core.List.{List, _++_}
+use Prim.Native.Nat.{ℕ, _+_, _*_, _≤_, _<_}
 use native.Mathlib.Omega.{arith}
-use lib.ListN.{length, drop, take}
+use lib.ListN.{length, drop}
 use Rattle.packing.specs.Meaning.{Grammar, word, sym as symbol}
 use Rattle.packing.specs.Parse.{accepted}
 use Rattle.packing_grammar.specs.declared.Sizes.{Sizes}
 use Rattle.packing_grammar.specs.Answer.{sizes}
 use Rattle.specimen.specs.declared.Answered.the-variants.{Written, Nothing}
 use Rattle.packing.specs.Flat.{Begins, ruleNumbers, ruleAt}
-use Rattle.packing.specs.Store.{storeAll}
 use Rattle.packing.specs.Valid.{ValidGrammar}
 use Rattle.packing.proofs.Flat.{rule-at}
-use Rattle.packing.proofs.Store.{store-at}
 use Rattle.packing.specs.declared.Sym.{Sym}
 use Rattle.packing.specs.declared.Rule.the-variants.{Pair, Word}
 use Rattle.derivation.specs.Derivation.{At}
 use Rattle.derivation.proofs.Ranges.{Within, all-at, valid-sizes, valid-within}
 use Rattle.specimen.specs.Specimen.{Says, Answers}
-use Rattle.specimen.specs.Choice.{choiceAt, filled, chosen}
-use Rattle.specimen.proofs.Yields.{Yields, says-yields, yields-says}
-use Rattle.specimen.proofs.Choice.{Good, filled-good, chosen-yields}
-
--- the string at the front of the output, and what stood beyond it
-at-front : (out ws : List ℕ) (n : ℕ) → length ws ≡ n → n ≤ length out → storeAll out 0 ws ≡ ws ++ drop n out
-at-front out ws n e h =
-    let m : 0 + length ws ≡ n = omega arith in
-    store-at out 0 ws (omega arith) ∙ rw m
+use Rattle.specimen.specs.Choice.{choiceAt, filled, wordsWritten}
+use Rattle.specimen.proofs.Yields.{says-yields, yields-says}
+use Rattle.specimen.proofs.Choice.{Good, filled-good}
+use Rattle.specimen.proofs.Words.{words-yield, stored-front}
 
 module _ (g : Grammar) (v : ValidGrammar g) (rules : List ℕ) (b : Begins (ruleNumbers g) rules) where
   few : g .symbols ≤ 32
@@ -52,13 +45,16 @@ module _ (g : Grammar) (v : ValidGrammar g) (rules : List ℕ) (b : Begins (rule
     start : symbol 0 .0 < g .symbols
     start = omega (arith, valid-sizes g v .0)
 
-    pub none-said : choiceAt full (symbol 0) n ≡ 0 → (ws : List ℕ) → length ws ≡ n → Says g ws → ⊥
+    none-said : choiceAt full (symbol 0) n ≡ 0 → (ws : List ℕ) → length ws ≡ n → Says g ws → ⊥
     none-said e ws h s = good (symbol 0) n start pos (omega arith) .nothing e ws h (says-yields g ws s)
 
-    pub one-said : (choiceAt full (symbol 0) n ≡ 0 → ⊥) → (length (chosen full rules n (symbol 0) n) ≡ n) × Says g (chosen full rules n (symbol 0) n)
-    one-said ne =
-        let c = chosen-yields g rules (g .symbols) few stored parts words full n (omega arith) good n (symbol 0) n (omega arith) start pos (omega arith) ne in
-        (c .0, yields-says g _ (c .1))
+    -- the string that is written, and that it stands at the front of the output
+    one-said : (choiceAt full (symbol 0) n ≡ 0 → ⊥) → (out : List ℕ) → n ≤ length out
+        → (ws : List ℕ) × (length ws ≡ n) × Says g ws × (wordsWritten full rules n out ≡ ws ++ drop n out)
+    unfolding wordsWritten
+    one-said ne out l =
+        let (ws, e, y, at) = words-yield g rules (g .symbols) few stored parts words full n (omega arith) good n (symbol 0) n (omega arith) start pos (omega arith) ne in
+        (ws, e, yields-says g ws y, stored-front _ out ws n e l at)
 
     -- the answers, from what the code knows: the table, and its choice for the start
     module _ (z : Sizes) (e : z ≡ sizes g) (t : List ℕ) (p : t ≡ filled rules (z .rules) (z .symbols) n table) {x : ℕ} (q : x ≡ choiceAt t (symbol 0) n) where
@@ -68,7 +64,8 @@ module _ (g : Grammar) (v : ValidGrammar g) (rules : List ℕ) (b : Begins (rule
       pub answers-nothing : (out : List ℕ) → x ≡ 0 → Answers (accepted g) n out Nothing out
       answers-nothing out h = (none-said (sym (ap (λ (l : List ℕ). choiceAt l (symbol 0) n) is-full) ∙ sym q ∙ h), refl)
 
-      pub answers-written : (out exit : List ℕ) → (x ≡ 0 → ⊥) → n ≤ length out → exit ≡ storeAll out 0 (chosen t rules n (symbol 0) n) → Answers (accepted g) n out Written exit
+      pub answers-written : (out exit : List ℕ) → (x ≡ 0 → ⊥) → n ≤ length out → exit ≡ wordsWritten t rules n out
+          → Answers (accepted g) n out Written exit
       answers-written out exit h l r =
-          let c = one-said (λ y. h (q ∙ ap (λ (l : List ℕ). choiceAt l (symbol 0) n) is-full ∙ y)) in
-          (chosen full rules n (symbol 0) n, c .0, c .1, r ∙ ap (λ (l : List ℕ). storeAll out 0 (chosen l rules n (symbol 0) n)) is-full ∙ at-front out _ n (c .0) l)
+          let (ws, e, y, w) = one-said (λ z. h (q ∙ ap (λ (l : List ℕ). choiceAt l (symbol 0) n) is-full ∙ z)) out l in
+          (ws, e, y, r ∙ ap (λ (l : List ℕ). wordsWritten l rules n out) is-full ∙ w)

@@ -1,17 +1,18 @@
 -- What a symbol derives, string by string: the same as `Derives` over the utterance that offers just that string.
 -- Assumes nothing.
-use mathlib.Core.Path.{_≡_, refl, sym, ap, _∙_, subst}
-use mathlib.Core.Option.{Option, none, some}
-use mathlib.Core.List.{List, [], _∷_, _++_, map, append-assoc, append-nil}
+use mathlib.Core.Path.{_≡_, refl, ap, _∙_}
+use mathlib.Core.Option.{some}
+use mathlib.Core.List.{List, [], _∷_, _++_, append-assoc, append-nil}
 use Prim.Native.Nat.{ℕ, zero, suc, _+_, _-_, _≤_, _<_}
-use native.Mathlib.Nat.{add-zero, zero-add, add-assoc}
+use native.Mathlib.Nat.{add-zero, zero-add}
 use native.Mathlib.Omega.{arith}
 use lib.ListN.{length, getElem?, take, drop, length-append}
-use lib.Seq.{take-length, take-nil, drop-nil}
-use Rattle.packing.specs.Meaning.{Grammar, Edge, edge, slotEdges, edgesFrom, edges, candidate, word, sym as symbol}
+use lib.Seq.{take-length, take-add, drop-drop}
+use Rattle.packing.specs.Meaning.{Grammar, edge, slotEdges, edgesFrom, edges, word, sym as symbol}
 use Rattle.packing.specs.declared.Sym.{Sym}
 use Rattle.packing.specs.declared.Word as W
 use Rattle.packing.specs.declared.Rule.the-variants.{Pair, Word}
+use Rattle.derivation.proofs.Lists.{at-length}
 use Rattle.derivation.specs.Derivation.{Tree, leaf, node, At, Derives, by-word, by-pair}
 use Rattle.specimen.specs.Specimen.{plain, Says}
 
@@ -32,33 +33,18 @@ edge-is a [] e i k x c h = let z : _≡_ {A = ℕ} 0 1 = cc in absurd (omega ari
 edge-is a (y ∷ ws) zero i k x c h = (omega (arith, let z : i ≡ a = cc in z), (let z : k ≡ suc a = cc in let z₂ : i ≡ a = cc in omega arith), (let z : word y ≡ x = cc in rw (← z)))
 edge-is a (y ∷ ws) (suc e) i k x c h = let (p, q, r) = edge-is (suc a) ws e i k x c h in (omega arith, q, r)
 
-at-length : (ws : List ℕ) (e : ℕ) {x : ℕ} → getElem? ws e ≡ some x → e < length ws
-at-length [] e h = let z : _≡_ {A = ℕ} 0 1 = cc in absurd (omega arith)
-at-length (y ∷ ws) zero h = omega arith
-at-length (y ∷ ws) (suc e) h = let r = at-length ws e h in omega arith
-
 -- element e of a list, and the part from i to k as the part to j and the part from j
 drop-at : (ws : List ℕ) (e x : ℕ) → getElem? ws e ≡ some x → take 1 (drop e ws) ≡ x ∷ []
 drop-at [] e x h = let z : _≡_ {A = ℕ} 0 1 = cc in absurd (omega arith)
 drop-at (y ∷ ws) zero x h = cc
 drop-at (y ∷ ws) (suc e) x h = drop-at ws e x h
 
-take-join : (ws : List ℕ) (m n : ℕ) → take (m + n) ws ≡ take m ws ++ take n (drop m ws)
-take-join ws zero n = rw zero-add
-take-join [] (suc m) n = rw (take-nil, take-nil)
-take-join (y ∷ ws) (suc m) n = let e : suc m + n ≡ suc (m + n) = omega arith in rw (e, take-join ws m n)
-
-drop-drop : (ws : List ℕ) (m n : ℕ) → drop n (drop m ws) ≡ drop (m + n) ws
-drop-drop ws zero n = rw zero-add
-drop-drop [] (suc m) n = rw (drop-nil, drop-nil)
-drop-drop (y ∷ ws) (suc m) n = let e : suc m + n ≡ suc (m + n) = omega arith in rw e (drop-drop ws m n)
-
 take-drop-join : (ws : List ℕ) (i j k : ℕ) → i < j → j < k → k ≤ length ws → take (k - i) (drop i ws) ≡ take (j - i) (drop i ws) ++ take (k - j) (drop j ws)
 take-drop-join ws i j k h₁ h₂ h₃ =
     let e : k - i ≡ (j - i) + (k - j) = omega arith in
     let n : i + (j - i) ≡ j = omega arith in
-    let d : drop (j - i) (drop i ws) ≡ drop j ws = drop-drop ws i (j - i) ∙ ap (λ (m : ℕ). drop m ws) n in
-    rw (e, take-join (drop i ws) (j - i) (k - j), d)
+    let d : drop (j - i) (drop i ws) ≡ drop j ws = drop-drop (j - i) i ws ∙ ap (λ (m : ℕ). drop m ws) n in
+    rw (e, take-add (j - i) (k - j) (drop i ws), d)
 
 length-plain : (ws : List ℕ) → length (plain ws) ≡ length ws
 unfolding plain

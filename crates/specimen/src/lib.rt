@@ -6,17 +6,15 @@ use packing::Sym;
 use packing_grammar::GrammarRead;
 use packing_grammar::Sizes;
 ghost use mathlib.Core.Path.{_≡_};
-ghost use mathlib.Core.List.{_++_};
-ghost use Prim.Native.Nat.{ℕ, _+_, _-_, _*_, _≤_, _<_};
-ghost use lib.ListN.{length, take, drop, set};
+ghost use Prim.Native.Nat.{_≤_, _<_};
+ghost use lib.ListN.{length};
 ghost use Rattle.packing.specs.Flat.{Begins, ruleNumbers, ruleAt};
-ghost use Rattle.packing.specs.Meaning.{Grammar};
+ghost use Rattle.packing.specs.Meaning.{Grammar, sym};
 ghost use Rattle.packing.specs.Parse.{accepted};
 ghost use Rattle.packing.specs.Valid.{ValidGrammar};
 ghost use Rattle.packing_grammar.specs.Answer.{Bounded, sizes as sizesOf};
 ghost use Rattle.specimen.specs.Specimen.{asked, Answers};
-ghost use Rattle.packing.specs.Store.{storeAll};
-ghost use Rattle.specimen.specs.Choice.{choiceAt, orElse, splitChoice, pairChoice, ruleChoice, cellChoice, lengthFilled, filled, chosen};
+ghost use Rattle.specimen.specs.Choice.{choiceAt, orElse, splitChoice, pairChoice, ruleChoice, cellChoice, lengthFilled, filled, partBelow, wordAt, wordsWritten};
 
 // What the specimen answers: that the string was written, that there is none, or the refusal.
 pub enum Answered {
@@ -44,7 +42,7 @@ fn split_choice(table: &[u32], b: Sym, c: Sym, r: usize, len: usize, j: usize) -
     if choice_at(table, c, len - j) == 0 {
         return 0;
     }
-    1 + r * 32 + j
+    r * 32 + j
 }
 
 // The first choice found stays.
@@ -82,7 +80,7 @@ fn rule_choice(table: &[u32], rules: &[u32], a: Sym, len: usize, r: usize, best:
         Rule::Word(head, _, _) => {
             if head.0 == a.0 {
                 if len == 1 {
-                    return or_else(best, 1 + r * 32);
+                    return or_else(best, r * 32 + 1);
                 }
                 return best;
             }
@@ -123,46 +121,67 @@ fn fill(table: &mut [u32], rules: &[u32], count: usize, symbols: usize, n: usize
     }
 }
 
-// Stores a byte, and nothing past the end.
-fn store_byte(out: &mut [u8], at: usize, x: u8)
-    ensures { λ _. ⌜ now (out .exit) ≡ set (now (out .entry)) at x ⌝ }
+// A place in the words chosen for a symbol and a length.
+struct Part {
+    head: Sym,
+    len: usize,
+    place: usize,
+}
+
+// The same place in the left or in the right part, by the choice; a word rule has no parts.
+fn part_below(table: &[u32], rules: &[u32], p: Part) -> Part
+    requires { ⌜ (p .place < p .len) × (p .len ≤ 31) ⌝ }
+    ensures { λ r. ⌜ (r ≡ partBelow (now (table .entry)) (now (rules .entry)) p) × (r .place < r .len) × (r .len ≤ 31) ⌝ }
 {
-    if at < out.len() {
-        out[at] = x;
+    let choice = choice_at(table, p.head, p.len);
+    let rule = rule_at(rules, choice / 32);
+    match rule {
+        Rule::Word(_, _, _) => p,
+        Rule::Pair(_, b, c, _) => {
+            let j = choice % 32;
+            if p.place < j {
+                return Part {
+                    head: b,
+                    len: j,
+                    place: p.place,
+                };
+            }
+            Part {
+                head: c,
+                len: p.len - j,
+                place: p.place - j,
+            }
+        }
     }
 }
 
-// One less, and 0 of 0.
-fn less_one(x: usize) -> usize
-    ensures { λ r. ⌜ (r ≡ x - 1) × (r ≤ x) ⌝ }
+// The word at a place, after n steps down.
+fn word_at(table: &[u32], rules: &[u32], n: usize, place: usize) -> u8
+    requires { ⌜ (place < n) × (n ≤ 24) ⌝ }
+    ensures { λ r. ⌜ r ≡ wordAt (now (table .entry)) (now (rules .entry)) n (record { head = sym 0; len = n; place = place }) ⌝ }
 {
-    if x == 0 { 0 } else { x - 1 }
+    let mut p = Part {
+        head: Sym(0),
+        len: n,
+        place,
+    };
+    for y in 0..n {
+        p = part_below(table, rules, p);
+    }
+    let rule = rule_at(rules, choice_at(table, p.head, p.len) / 32);
+    match rule {
+        Rule::Word(_, word, _) => (word.0 % 256) as u8,
+        Rule::Pair(_, _, _, _) => 0,
+    }
 }
 
-// Writes the words chosen for a symbol and a length, and answers the place behind them.
-fn spell(table: &[u32], rules: &[u32], a: Sym, len: usize, out: &mut [u8], at: usize) -> usize
-    requires { ⌜ (0 < len) × (at + len ≤ 24) ⌝ }
-    ensures { λ r. ⌜ r ≤ at + len ⌝ }
-    ensures { λ r. ⌜ ((f : ℕ) → len ≤ f → (now (out .exit) ≡ storeAll (now (out .entry)) at (chosen (now (table .entry)) (now (rules .entry)) f a len)) × (r ≡ at + length (chosen (now (table .entry)) (now (rules .entry)) f a len))) ⌝ }
+// Writes the n words chosen for the start.
+fn write_words(table: &[u32], rules: &[u32], n: usize, out: &mut [u8])
+    requires { ⌜ (n ≤ 24) × (n ≤ length (now out)) ⌝ }
+    ensures { λ _. ⌜ now (out .exit) ≡ wordsWritten (now (table .entry)) (now (rules .entry)) n (now (out .entry)) ⌝ }
 {
-    let choice = less_one(choice_at(table, a, len));
-    let j = choice % 32;
-    let rule = rule_at(rules, choice / 32);
-    match rule {
-        Rule::Word(_, word, _) => {
-            store_byte(out, at, (word.0 % 256) as u8);
-            at + 1
-        }
-        Rule::Pair(_, b, c, _) => {
-            if 0 < j {
-                if j < len {
-                    let middle = spell(table, rules, b, j, out, at);
-                    return spell(table, rules, c, len - j, out, middle);
-                }
-                return at;
-            }
-            at
-        }
+    for place in 0..n {
+        out[place] = word_at(table, rules, n, place);
     }
 }
 
@@ -178,7 +197,7 @@ fn answer(rules: &[u32], sizes: Sizes, n: usize, out: &mut [u8]) -> Answered
     if choice_at(&table, Sym(0), n) == 0 {
         return Answered::Nothing;
     }
-    spell(&table, rules, Sym(0), n, out, 0);
+    write_words(&table, rules, n, out);
     Answered::Written
 }
 

@@ -1,6 +1,5 @@
 -- The table is filled as the definition fills it, and its choice for the start says which answer holds. Assumes nothing.
 use native.Mathlib.Omega.{arith}
-use native.Mathlib.Nat.{le-refl}
 use Rattle.specimen.proofs.Said.{answers-nothing, answers-written}
 use borrow.Author.Needs.{needs}
 use Rattle.specimen.proofs.answer.Statement.{statement}
@@ -25,19 +24,28 @@ choice-at-requires : tie.Need-choice-at-requires
 choice-at-requires c κs = search needs
 
 returns : tie.Need-returns
-returns c = λ g e v b. answers-nothing g v (c .before .before .before .before .before .before .before .before .before .before .args .rules .now) b (c .before .before .before .before .before .before .before .before .before .before .args .n) (search needs) (search needs) _ (omega arith) (c .before .before .before .before .before .before .before .before .before .before .args .sizes) e _ (c .before .before .before .before .fill .ensures) (c .before .choice-at .ensures .0) _ (c .if1 .taken)
+returns c = λ g e v b.
+    let at-fill = c .before .before .before .before in
+    let a = at-fill .before .before .before .before .before .before .args in
+    answers-nothing g v (a .rules .now) b (a .n) (search needs) (search needs) _ (omega arith) (a .sizes) e _ (at-fill .fill .ensures)
+    (c .before .choice-at .ensures .0) _ (c .if1 .taken)
 
-slice-aggregate-spell : tie.Need-slice-aggregate-spell
-slice-aggregate-spell c = search needs
+slice-aggregate-write-words : tie.Need-slice-aggregate-write-words
+slice-aggregate-write-words c = search needs
 
-spell-requires : tie.Need-spell-requires
-spell-requires c κs = search needs
+write-words-requires : tie.Need-write-words-requires
+write-words-requires c κs = search needs
 
 same-length : tie.Need-same-length
 same-length c = search needs
 
 returns-2 : tie.Need-returns-2
-returns-2 c = λ g e v b. answers-written g v (c .before .before .before .before .before .before .before .before .before .before .before .before .before .before .before .args .rules .now) b (c .before .before .before .before .before .before .before .before .before .before .before .before .before .before .before .args .n) (search needs) (search needs) _ (omega arith) (c .before .before .before .before .before .before .before .before .before .before .before .before .before .before .before .args .sizes) e _ (c .before .before .before .before .before .before .before .before .before .fill .ensures) (c .before .before .before .before .before .before .choice-at .ensures .0) _ _ (c .before .before .before .before .before .if1 .left) (search needs) (c .before .before .spell .ensures .1 (c .before .before .before .before .before .before .before .before .before .before .before .before .before .before .before .args .n) (le-refl _) .0)
+returns-2 c = λ g e v b.
+    let at-if1 = c .before .before .before .before .before in
+    let at-fill = at-if1 .before .before .before .before in
+    let a = at-fill .before .before .before .before .before .before .args in
+    answers-written g v (a .rules .now) b (a .n) (search needs) (search needs) _ (omega arith) (a .sizes) e _ (at-fill .fill .ensures)
+    (at-if1 .before .choice-at .ensures .0) _ _ (at-if1 .if1 .left) (search needs) (c .before .before .write-words .ensures)
 
 pub answer-spec : {M : Type 1} → statement M
 answer-spec =
@@ -50,7 +58,7 @@ answer-spec =
     slice-aggregate-choice-at
     choice-at-requires
     returns
-    slice-aggregate-spell
-    spell-requires
+    slice-aggregate-write-words
+    write-words-requires
     same-length
     returns-2)

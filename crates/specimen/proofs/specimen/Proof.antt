@@ -1,7 +1,5 @@
 -- Each way out is one of the definition's conditions; what is left is the answer for an accepted grammar. Assumes nothing.
-use mathlib.Core.Path.{_≡_, sym, ap, _∙_, subst}
-use native.Mathlib.Omega.{arith}
-use lib.ListN.{length}
+use mathlib.Core.Path.{subst}
 use Rattle.packing.specs.Grammar.{grammarBlock}
 use Rattle.packing.proofs.Whole.{grammar-block-out}
 use Rattle.packing_grammar.specs.Answer.{InBounds}

@@ -29,9 +29,6 @@ mul-result c = search needs
 add-result : tie.Need-add-result
 add-result c = search needs
 
-add-result-2 : tie.Need-add-result-2
-add-result-2 c = search needs
-
 returns-3 : tie.Need-returns-3
 unfolding splitChoice
 returns-3 c = (rw (← c .before .before .before .choice-at .ensures .0, ne-eqb _ _ (c .before .before .if1 .left), ← c .before .choice-at2 .ensures .0, ne-eqb _ _ (c .if2 .left)), omega arith)
@@ -47,5 +44,4 @@ split-choice-spec =
     returns-2
     mul-result
     add-result
-    add-result-2
     returns-3)
