@@ -1,12 +1,12 @@
 -- What each way out of the listing says of the definition: a refusal changes nothing, and what is written from the chart's table
 -- is what is due.
 use mathlib.Core.Path.{_≡_, refl, sym, ap, _∙_}
-use mathlib.Core.List.{List, _++_}
-use Prim.Native.Nat.{ℕ, _+_, _*_, _/_, _≤_, _<_}
+use mathlib.Core.List.{List}
+use Prim.Native.Nat.{ℕ, _+_, _*_, _/_, _≤_}
 use native.Mathlib.Omega.{arith}
-use lib.ListN.{length, drop, replicate}
+use lib.ListN.{length, replicate}
 use Rattle.packing.specs.Meaning.{Grammar, Utterance, edges}
-use Rattle.packing.specs.Parse.{Verdict, accepted, refused}
+use Rattle.packing.specs.Parse.{accepted, refused}
 use Rattle.packing.specs.Flat.{Begins, ruleNumbers, slotNumbers, edgeNumbers}
 use Rattle.packing.specs.Valid.{ValidGrammar, ValidUtterance}
 use Rattle.packing.specs.Grammar.{grammarBlock}

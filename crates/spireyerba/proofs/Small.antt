@@ -1,8 +1,8 @@
 -- Every answer fits a C number: results are at most 1,283 long, and refusals below 64. Assumes nothing.
 use mathlib.Core.Bool.{Bool, true, false}
-use mathlib.Core.Path.{_≡_, refl, sym, ap, _∙_, subst}
-use mathlib.Core.List.{List, [], _∷_, map}
-use Prim.Native.Nat.{ℕ, _+_, _*_, _≤_, _<_}
+use mathlib.Core.Path.{_≡_, refl}
+use mathlib.Core.List.{List, map}
+use Prim.Native.Nat.{ℕ, _*_, _≤_}
 use native.Mathlib.Omega.{arith}
 use borrow.Author.Tests.{ltb-false}
 use lib.Dec.{ltb, eqb}
@@ -12,9 +12,8 @@ use mathlib.Core.Option.{Option, some}
 use mathlib.Core.Option as O
 use Rattle.packing.specs.Meaning.{Grammar, Utterance, Reading, edges}
 use Rattle.packing.specs.Parse.{Parse, Verdict, accepted, refused, _then_}
-use Rattle.packing.specs.Source.{values}
-use Rattle.packing.specs.Grammar.{grammarBlock, grammarSheet, grammarEntries, blockOfGrammar, sheetOfGrammar}
-use Rattle.packing.specs.Utterance.{utteranceBlock, utteranceSheet, utteranceEntries, blockOfUtterance, sheetOfUtterance}
+use Rattle.packing.specs.Grammar.{grammarBlock, grammarSheet, grammarEntries, sheetOfGrammar}
+use Rattle.packing.specs.Utterance.{utteranceBlock, utteranceSheet, utteranceEntries, sheetOfUtterance}
 use Rattle.packing.specs.Conversion.{grammarToBlock, grammarToSheet, utteranceToBlock, utteranceToSheet, fitting}
 use Rattle.packing.specs.Valid.{ValidGrammar, ValidUtterance}
 use Rattle.packing.proofs.Bounds.{length-rules, length-slots}

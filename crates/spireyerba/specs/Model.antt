@@ -1,5 +1,5 @@
 -- A conversion's answer as a C number. Nobody need believe this page: the exported functions promise what specs/Code says.
-use Prim.Native.Nat.{ℕ, _<_}
+use Prim.Native.Nat.{_<_}
 use lib.IntN.{ℤ, pos, negℤ}
 use Rattle.packing_writing.specs.declared.Written as W
 

@@ -1,10 +1,7 @@
 -- What the utterance's reader says of the block decides between its refusal and the listing of what it means.
-use mathlib.Core.Path.{_≡_, ap}
-use Prim.Native.Nat.{_≤_}
+use mathlib.Core.Path.{ap}
 use borrow.Author.Needs.{needs}
-use Rattle.packing.specs.Flat.{SlotsIn}
 use Rattle.packing.specs.Utterance.{utteranceBlock}
-use Rattle.packing_utterance.specs.Answer.{Sized}
 use Rattle.packing_utterance.proofs.Outcome.{accepted-told, refused-told}
 use Rattle.packing_utterance.specs.declared.Slots.{Slots}
 use Rattle.listing.proofs.Outcome.{grammar-refused, grammar-listed}

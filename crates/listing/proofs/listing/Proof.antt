@@ -1,5 +1,4 @@
 -- What the grammar's reader says of the block decides between its refusal and the listing of what it means.
-use mathlib.Core.Path.{_≡_}
 use borrow.Author.Needs.{needs}
 use Rattle.packing.specs.Grammar.{grammarBlock}
 use Rattle.packing_grammar.proofs.Outcome.{accepted-told, refused-told}

@@ -1,10 +1,8 @@
 -- The walk is spelled into zeros and the weight is stored plus 1, so the block written is the rank's.
-use mathlib.Core.Path.{_≡_, ap, _∙_}
-use Prim.Native.Nat.{_-_, _≤_}
-use native.Mathlib.Nat.{sub-zero}
+use mathlib.Core.Path.{_≡_, _∙_}
+use Prim.Native.Nat.{_-_}
 use native.Mathlib.Omega.{arith}
 use borrow.Author.Needs.{needs}
-use lib.ListN.{length}
 use Rattle.packing.specs.Meaning.{sym as symbol}
 use Rattle.chart_table.specs.Table.{cellOf, weightAt}
 use Rattle.listing.proofs.Written.{rank-written}
