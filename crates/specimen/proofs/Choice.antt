@@ -240,7 +240,8 @@ module _ (g : Grammar) (rules : List ℕ) (S : ℕ) (few : S ≤ 32)
             let other = cell-other t a b len len v (omega arith) (omega arith) (λ p q. e q) in
             rw other (right-keeps t a len v l b len _ (omega arith) (row b (omega arith)))
 
-    row-filled : (t : List ℕ) → 32 * (n + 1) ≤ length t → Good t (len - 1) → (32 * (n + 1) ≤ length (lengthFilled rules (length (g .rules)) S len t)) × Good (lengthFilled rules (length (g .rules)) S len t) len
+    row-filled : (t : List ℕ) → 32 * (n + 1) ≤ length t → Good t (len - 1)
+        → (32 * (n + 1) ≤ length (lengthFilled rules (length (g .rules)) S len t)) × Good (lengthFilled rules (length (g .rules)) S len t) len
     unfolding lengthFilled
     row-filled t size good =
         let (p, q, r) = iter-keeps Row (λ t a. set t (len * 32 + a) (cellChoice t rules (length (g .rules)) (symbol a) len)) t S (size, good, λ a l. absurd (omega arith)) row-step in

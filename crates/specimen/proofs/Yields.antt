@@ -61,13 +61,13 @@ module _ (g : Grammar) where
   yields-derives (two {us = bs} {vs = cs} r w h l m) us vs =
       let (p, (s, d)) = yields-derives l us (cs ++ vs) in
       let (q, (t, f)) = yields-derives m (us ++ bs) vs in
-      let n : length us + length (bs ++ cs) ≡ length us + length bs + length cs = simp length-append (omega arith) in (
-        simp length-append (omega arith),
-        (
-          node r (length us + length bs) s t,
-          rw (n, append-assoc bs cs vs) (by-pair {w = w} {i = length us} {j = length us + length bs} {k = length us + length bs + length cs} {s = s} {t = t} h (omega arith) (omega arith) d (rw (append-assoc us bs (cs ++ vs), length-append) at f)),
-        ),
-      )
+      let i = length us in
+      let j = length us + length bs in
+      let k = length us + length bs + length cs in
+      let n : length us + length (bs ++ cs) ≡ k = simp length-append (omega arith) in
+      let f′ = rw (append-assoc us bs (cs ++ vs), length-append) at f in
+      let whole = by-pair {w = w} {i = i} {j = j} {k = k} {s = s} {t = t} h (omega arith) (omega arith) d f′ in
+      (simp length-append (omega arith), (node r j s t, rw (n, append-assoc bs cs vs) whole))
 
   -- and a derivation over a part of a string: what stands before, the part, and what stands behind
   pub derives-yields : (ws : List ℕ) {A : Sym} {i k : ℕ} {t : Tree} → Derives g (edges (plain ws)) A i k t → (i < k) × (k ≤ length ws) × Yields g A (take (k - i) (drop i ws))

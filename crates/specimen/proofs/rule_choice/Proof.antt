@@ -16,7 +16,11 @@ pair-choice-requires c κs = search needs
 
 returns : tie.Need-returns
 unfolding ruleChoice
-returns c = (rw (← c .before .before .before .before .before .before .before .rule-at .ensures, c .before .before .before .before .before .rule .given .1, eq-eqb _ _ (c .before .if1 .taken)) (c .pair-choice .ensures .0), c .pair-choice .ensures .1)
+returns c =
+    let at-rule = c .before .before .before .before .before in (
+      rw (← at-rule .before .before .rule-at .ensures, at-rule .rule .given .1, eq-eqb _ _ (c .before .if1 .taken)) (c .pair-choice .ensures .0),
+      c .pair-choice .ensures .1,
+    )
 
 enum-known-rule-2 : tie.Need-enum-known-rule-2
 enum-known-rule-2 c = search needs
@@ -32,19 +36,33 @@ or-else-requires c κs = search needs
 
 returns-2 : tie.Need-returns-2
 unfolding ruleChoice
-returns-2 c = (rw (← c .before .before .before .before .before .before .before .before .rule-at .ensures, c .before .before .before .before .before .before .rule2 .given .1, eq-eqb _ _ (c .before .before .if2 .taken), eq-eqb _ _ (c .before .if3 .taken)) (c .or-else .ensures .0), c .or-else .ensures .1)
+returns-2 c =
+    let at-rule = c .before .before .before .before .before .before in
+    let head = eq-eqb _ _ (c .before .before .if2 .taken) in
+    let one = eq-eqb _ _ (c .before .if3 .taken) in (
+      rw (← at-rule .before .before .rule-at .ensures, at-rule .rule2 .given .1, head, one) (c .or-else .ensures .0),
+      c .or-else .ensures .1,
+    )
 
 returns-3 : tie.Need-returns-3
 unfolding ruleChoice
-returns-3 c = (rw (← c .before .before .before .before .before .before .before .rule-at .ensures, c .before .before .before .before .before .rule2 .given .1, eq-eqb _ _ (c .before .if2 .taken), ne-eqb _ _ (c .if3 .left)), search needs)
+returns-3 c =
+    let at-rule = c .before .before .before .before .before in (
+      rw (← at-rule .before .before .rule-at .ensures, at-rule .rule2 .given .1, eq-eqb _ _ (c .before .if2 .taken), ne-eqb _ _ (c .if3 .left)),
+      search needs,
+    )
 
 returns-4 : tie.Need-returns-4
 unfolding ruleChoice
-returns-4 c = (rw (← c .before .before .before .before .before .before .rule-at .ensures, c .before .before .before .before .rule .given .1, ne-eqb _ _ (c .if1 .left)), search needs)
+returns-4 c =
+    let at-rule = c .before .before .before .before in
+    (rw (← at-rule .before .before .rule-at .ensures, at-rule .rule .given .1, ne-eqb _ _ (c .if1 .left)), search needs)
 
 returns-5 : tie.Need-returns-5
 unfolding ruleChoice
-returns-5 c = (rw (← c .before .before .before .before .before .before .rule-at .ensures, c .before .before .before .before .rule2 .given .1, ne-eqb _ _ (c .if2 .left)), search needs)
+returns-5 c =
+    let at-rule = c .before .before .before .before in
+    (rw (← at-rule .before .before .rule-at .ensures, at-rule .rule2 .given .1, ne-eqb _ _ (c .if2 .left)), search needs)
 
 pub rule-choice-spec : {M : Type 1} → statement M
 rule-choice-spec =

@@ -22,31 +22,58 @@ enum-known-read-2 : tie.Need-enum-known-read-2
 enum-known-read-2 c = search needs
 
 returns : tie.Need-returns
-returns c = answers-refused _ _ (asked-none _ _ _ (accepted-told (grammarBlock (c .before .before .before .before .before .before .before .before .before .args .grammar .now)) (c .before .before .before .before .before .read-block .ensures .0) (c .before .before .read2 .given .1) .1) (c .if1 .taken))
+returns c =
+    let at-read = c .before .before in
+    let at-block = at-read .before .before .before in
+    let block = at-block .before .before .before .before .args .grammar .now in
+    let (g, e, z) = accepted-told (grammarBlock block) (at-block .read-block .ensures .0) (at-read .read2 .given .1) in
+    answers-refused _ _ (asked-none _ _ _ e (c .if1 .taken))
 
 returns-2 : tie.Need-returns-2
-returns-2 c = answers-refused _ _ (asked-many _ _ _ (accepted-told (grammarBlock (c .before .before .before .before .before .before .before .before .before .before .args .grammar .now)) (c .before .before .before .before .before .before .read-block .ensures .0) (c .before .before .before .read2 .given .1) .1) (c .before .if1 .left) (c .if2 .taken))
+returns-2 c =
+    let at-read = c .before .before .before in
+    let at-block = at-read .before .before .before in
+    let block = at-block .before .before .before .before .args .grammar .now in
+    let (g, e, z) = accepted-told (grammarBlock block) (at-block .read-block .ensures .0) (at-read .read2 .given .1) in
+    answers-refused _ _ (asked-many _ _ _ e (c .before .if1 .left) (c .if2 .taken))
 
 returns-3 : tie.Need-returns-3
-returns-3 c = answers-refused _ _ (asked-short _ _ _ (accepted-told (grammarBlock (c .before .before .before .before .before .before .before .before .before .before .before .args .grammar .now)) (c .before .before .before .before .before .before .before .read-block .ensures .0) (c .before .before .before .before .read2 .given .1) .1) (c .before .before .if1 .left) (c .before .if2 .left) (c .if3 .taken))
+returns-3 c =
+    let at-read = c .before .before .before .before in
+    let at-block = at-read .before .before .before in
+    let block = at-block .before .before .before .before .args .grammar .now in
+    let (g, e, z) = accepted-told (grammarBlock block) (at-block .read-block .ensures .0) (at-read .read2 .given .1) in
+    answers-refused _ _ (asked-short _ _ _ e (c .before .before .if1 .left) (c .before .if2 .left) (c .if3 .taken))
 
 slice-aggregate-answer : tie.Need-slice-aggregate-answer
 slice-aggregate-answer c = search needs
 
 answer-requires : tie.Need-answer-requires
-answer-requires c κs = (subst InBounds (c .before .before .before .before .before .before .read2 .given .1) (c .before .before .before .before .before .before .before .before .before .read-block .ensures .2), c .before .before .before .before .if1 .left, c .before .before .before .if2 .left, c .before .before .if3 .left)
+answer-requires c κs =
+    let at-if3 = c .before .before in
+    let at-read = at-if3 .before .before .before .before in
+    let sized = subst InBounds (at-read .read2 .given .1) (at-read .before .before .before .read-block .ensures .2) in
+    (sized, at-if3 .before .before .if1 .left, at-if3 .before .if2 .left, at-if3 .if3 .left)
 
 returns-4 : tie.Need-returns-4
-returns-4 c = answers-refused _ _ (asked-block _ _ _ (refused-told (grammarBlock (c .before .before .before .before .before .before .before .before .args .grammar .now)) (c .before .before .before .before .read-block .ensures .0) (c .before .read .given .1)))
+returns-4 c =
+    let at-read = c .before in
+    let at-block = at-read .before .before .before in
+    let block = at-block .before .before .before .before .args .grammar .now in
+    answers-refused _ _ (asked-block _ _ _ (refused-told (grammarBlock block) (at-block .read-block .ensures .0) (at-read .read .given .1)))
 
 same-length : tie.Need-same-length
 same-length c = search needs
 
 returns-5 : tie.Need-returns-5
 returns-5 c =
-    let (g, e, z) = accepted-told (grammarBlock (c .before .before .before .before .before .before .before .before .before .before .before .before .before .before .before .before .args .grammar .now)) (c .before .before .before .before .before .before .before .before .before .before .before .before .read-block .ensures .0) (c .before .before .before .before .before .before .before .before .before .read2 .given .1) in
-    let b = rw e at (c .before .before .before .before .before .before .before .before .before .before .before .before .read-block .ensures .1) in
-    rw (asked-well _ _ _ e (c .before .before .before .before .before .before .before .if1 .left) (c .before .before .before .before .before .before .if2 .left) (c .before .before .before .before .before .if3 .left)) (c .before .before .answer .ensures g z (grammar-block-out _ g e .0) b)
+    let at-if3 = c .before .before .before .before .before in
+    let at-read = at-if3 .before .before .before .before in
+    let at-block = at-read .before .before .before in
+    let block = at-block .before .before .before .before .args .grammar .now in
+    let (g, e, z) = accepted-told (grammarBlock block) (at-block .read-block .ensures .0) (at-read .read2 .given .1) in
+    rw (asked-well _ _ _ e (at-if3 .before .before .if1 .left) (at-if3 .before .if2 .left) (at-if3 .if3 .left))
+    (c .before .before .answer .ensures g z (grammar-block-out _ g e .0) (rw e at (at-block .read-block .ensures .1)))
 
 pub specimen-spec : {M : Type 1} → statement M
 specimen-spec =
