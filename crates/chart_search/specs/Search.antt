@@ -2,7 +2,6 @@
 -- ranks of the whole span.
 -- Nobody need believe this page: the theorems of chart_theory join it to the derivations. Assumes nothing.
 use mathlib.Core.List.{List}
-use mathlib.Core.Bool.{Bool, false}
 use Prim.Native.Nat.{ℕ, zero, suc, _+_, _-_}
 use lib.Dec.{ltb, eqb}
 use Rattle.bits.specs.Bits.{pick}
@@ -17,11 +16,7 @@ use Rattle.chart_keys.specs.Keys.{ruleIn, splitIn, leftIn, rightIn}
 use Rattle.chart_table.specs.Table.{cellOf, weightAt, tieAt}
 use Rattle.chart.specs.Model.{begun, placed}
 
--- a rank of a cell is kept, and not found
-abbrev pub missing : List ℕ → Dims → Sym → ℕ → ℕ → ℕ → Bool
-missing t d a i k rank = pick (ltb rank (d .cap)) (eqb (weightAt t d (cellOf d a i k) rank) 0) false
-
--- `go` finds a rank of a cell; where that rank is missing, it is gone for
+-- `go` finds a rank of a cell; where that rank is kept and not found, it is gone for
 unfoldable pub extended : Dims → (List ℕ → Sym → ℕ → ℕ → ℕ → List ℕ) → List ℕ → Sym → ℕ → ℕ → ℕ → List ℕ
 extended d go t a i k rank = pick (ltb rank (d .cap)) (pick (eqb (weightAt t d (cellOf d a i k) rank) 0) (go t a i k rank) t) t
 

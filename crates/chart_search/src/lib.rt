@@ -11,21 +11,10 @@ use packing::Sym;
 ghost use mathlib.Core.Path.{_≡_};
 ghost use Prim.Native.Nat.{ℕ, suc, _+_, _-_, _*_, _<_, _≤_};
 ghost use Rattle.chart_table.specs.Table.{Sized, Small};
-ghost use Rattle.chart_search.specs.Search.{missing, advanced, next, headsOf, lengthOf, firstsOf, further, listOf};
-
-// Whether a rank of a cell is kept and not found.
-fn missing(t: &[u32], d: Dims, a: Sym, i: usize, k: usize, rank: usize) -> bool
-    requires { ⌜ Small d i k ⌝ }
-    ensures { λ r. ⌜ r ≡ missing (now (t .entry)) d a i k rank ⌝ }
-{
-    if rank < d.cap {
-        return weight_at(t, d, cell_of(d, a, i, k), rank) == 0;
-    }
-    false
-}
+ghost use Rattle.chart_search.specs.Search.{extended, advanced, next, headsOf, lengthOf, firstsOf, further, listOf};
 
 // Finds rank c of a cell, where the ranks below are found, with what it needs of the parts.
-pub fn next_of_span(
+fn next_of_span(
     t: &mut [u32],
     rules: &[u32],
     edges: &[u32],
@@ -72,17 +61,35 @@ fn advance_pairing(
             let rule = rule_at(rules, r);
             match rule {
                 Rule::Pair(_, b, c, _) => {
-                    if missing(&t[..], d, c, j, k, q + 1) {
-                        next_of_span(t, rules, edges, index, d, c, j, k, q + 1);
-                    }
+                    extend(t, rules, edges, index, d, c, j, k, q + 1);
                     if q == 0 {
-                        if missing(&t[..], d, b, i, j, p + 1) {
-                            next_of_span(t, rules, edges, index, d, b, i, j, p + 1);
-                        }
+                        extend(t, rules, edges, index, d, b, i, j, p + 1);
                     }
                 }
                 Rule::Word(_, _, _) => {}
             }
+        }
+    }
+}
+
+// Finds a rank of a cell, where the ranks below are found, if it is kept and not found.
+fn extend(
+    t: &mut [u32],
+    rules: &[u32],
+    edges: &[u32],
+    index: &[u32],
+    d: Dims,
+    a: Sym,
+    i: usize,
+    k: usize,
+    rank: usize,
+)
+    requires { ⌜ Small d i k ⌝ }
+    ensures { λ _. ⌜ ((f : ℕ) → k - i ≤ f → now (t .exit) ≡ extended d (next (now (rules .entry)) (now (edges .entry)) (now (index .entry)) d f) (now (t .entry)) a i k rank) ⌝ }
+{
+    if rank < d.cap {
+        if weight_at(&t[..], d, cell_of(d, a, i, k), rank) == 0 {
+            next_of_span(t, rules, edges, index, d, a, i, k, rank);
         }
     }
 }
@@ -126,7 +133,7 @@ fn first_of_length(
 }
 
 // Finds the first rank of every cell, over shorter spans first.
-pub fn firsts(t: &mut [u32], rules: &[u32], edges: &[u32], index: &[u32], d: Dims, n: usize)
+fn firsts(t: &mut [u32], rules: &[u32], edges: &[u32], index: &[u32], d: Dims, n: usize)
     requires { ⌜ (Sized d) × (n ≤ 31) ⌝ }
     ensures { λ _. ⌜ now (t .exit) ≡ firstsOf (now (rules .entry)) (now (edges .entry)) (now (index .entry)) d n (now (t .entry)) ⌝ }
 {
@@ -143,9 +150,7 @@ fn further(t: &mut [u32], rules: &[u32], edges: &[u32], index: &[u32], d: Dims, 
     if weight_at(&t[..], d, cell_of(d, Sym(0), 0, n), x) == 0 {
         return;
     }
-    if missing(&t[..], d, Sym(0), 0, n, x + 1) {
-        next_of_span(t, rules, edges, index, d, Sym(0), 0, n, x + 1);
-    }
+    extend(t, rules, edges, index, d, Sym(0), 0, n, x + 1);
 }
 
 // Finds the ranks of the whole span, as many as are kept.

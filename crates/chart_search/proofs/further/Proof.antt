@@ -1,9 +1,7 @@
--- By the tests, as in the definition; n is fuel enough for a span of n places.
-use mathlib.Core.Path.{sym, _∙_}
+-- By the test, as in the definition; n is fuel enough for a span of n places.
 use native.Mathlib.Omega.{arith}
 use borrow.Author.Tests.{eq-eqb, ne-eqb}
 use Rattle.chart_search.specs.Search.{further}
-use Rattle.chart_search.proofs.Extended.{extended-missing, extended-found}
 use borrow.Author.Needs.{needs}
 use Rattle.chart_search.proofs.further.Statement.{statement}
 use Rattle.chart_search.proofs.further.Tie as tie
@@ -21,31 +19,18 @@ returns : tie.Need-returns
 unfolding further
 returns c = simp (← c .before .before .cell-of .ensures .0, ← c .before .weight-at .ensures .0, eq-eqb _ _ (c .if1 .taken))
 
-add-missing : tie.Need-add-missing
-add-missing c = search needs
+add-extend : tie.Need-add-extend
+add-extend c = search needs
 
-missing-requires : tie.Need-missing-requires
-missing-requires c κs = search needs
-
-add-next-of-span : tie.Need-add-next-of-span
-add-next-of-span c = search needs
-
-next-of-span-requires : tie.Need-next-of-span-requires
-next-of-span-requires c κs = search needs
+extend-requires : tie.Need-extend-requires
+extend-requires c κs = search needs
 
 same-length-2 : tie.Need-same-length-2
 same-length-2 c = search needs
 
 returns-2 : tie.Need-returns-2
 unfolding further
-returns-2 c = simp (← c .before .before .before .before .before .before .before .before .before .cell-of .ensures .0, ← c .before .before .before .before .before .before .before .before .weight-at .ensures .0, ne-eqb _ _ (c .before .before .before .before .before .before .before .if1 .left)) (c .before .before .next-of-span .ensures _ (omega arith) ∙ sym (extended-missing _ _ _ _ _ _ _ (sym (c .before .before .before .before .before .missing .ensures) ∙ c .before .before .before .before .if2 .taken)))
-
-same-length-3 : tie.Need-same-length-3
-same-length-3 c = search needs
-
-returns-3 : tie.Need-returns-3
-unfolding further
-returns-3 c = simp (← c .before .before .before .before .before .cell-of .ensures .0, ← c .before .before .before .before .weight-at .ensures .0, ne-eqb _ _ (c .before .before .before .if1 .left)) (sym (extended-found _ _ _ _ _ _ _ (sym (c .before .missing .ensures) ∙ c .if2 .left)))
+returns-2 c = simp (← c .before .before .before .before .before .before .cell-of .ensures .0, ← c .before .before .before .before .before .weight-at .ensures .0, ne-eqb _ _ (c .before .before .before .before .if1 .left)) (c .before .before .extend .ensures _ (omega arith))
 
 pub further-spec : {M : Type 1} → statement M
 further-spec =
@@ -55,11 +40,7 @@ further-spec =
     weight-at-requires
     same-length
     returns
-    add-missing
-    missing-requires
-    add-next-of-span
-    next-of-span-requires
+    add-extend
+    extend-requires
     same-length-2
-    returns-2
-    same-length-3
-    returns-3)
+    returns-2)

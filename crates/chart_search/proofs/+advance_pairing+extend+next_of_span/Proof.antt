@@ -1,0 +1,229 @@
+-- By the span's length, which falls: `next_of_span` goes to `advance_pairing` over the same span, that to `extend` over the parts,
+-- and that to `next_of_span` again. Each promise holds for any fuel of at least that length, so the part's is taken at one less.
+use mathlib.Core.Path.{_∙_}
+use Prim.Native.Nat.{zero, suc, _+_, _-_, _*_, ℕ, _<_}
+use native.Mathlib.Omega.{arith}
+use borrow.Author.Needs.{needs}
+use borrow.Author.Tests.{eq-eqb, ne-eqb, lt-ltb, le-ltb}
+use Rattle.chart_search.specs.Search.{next, extended, advanced, partsExtended}
+use borrow.Fn.Kinds.{In}
+use borrow.Fn.PlainCycle.{Measures, is, falls, and}
+use Rattle.chart_search.proofs.advance_pairing.Reads as advance-pairing
+use Rattle.chart_search.proofs.advance_pairing.Kinds as advance-pairing-kinds
+use Rattle.chart_search.proofs.+advance_pairing+extend+next_of_span.Lts-advance_pairing as advance-pairing-lts
+use Rattle.chart_search.proofs.extend.Reads as extend
+use Rattle.chart_search.proofs.extend.Kinds as extend-kinds
+use Rattle.chart_search.proofs.+advance_pairing+extend+next_of_span.Lts-extend as extend-lts
+use Rattle.chart_search.proofs.next_of_span.Reads as next-of-span
+use Rattle.chart_search.proofs.next_of_span.Kinds as next-of-span-kinds
+use Rattle.chart_search.proofs.+advance_pairing+extend+next_of_span.Lts-next_of_span as next-of-span-lts
+use Rattle.arrays.proofs.rule_at.Reads as rule-at-reads
+use Rattle.chart.proofs.begin.Reads as begin-reads
+use Rattle.chart.proofs.place.Reads as place-reads
+use Rattle.chart_table.proofs.cell_of.Reads as cell-of-reads
+use Rattle.chart_table.proofs.tie_at.Reads as tie-at-reads
+use Rattle.chart_table.proofs.weight_at.Reads as weight-at-reads
+use Rattle.chart_search.proofs.+advance_pairing+extend+next_of_span.{statement}
+use Rattle.chart_search.proofs.+advance_pairing+extend+next_of_span.Tie.{close}
+
+abbrev μ-advance-pairing : Measures 4 advance-pairing-kinds.ps ℕ
+μ-advance-pairing κs a = 3 * (a .1 .1 .1 .1 .1 .1 .0 - a .1 .1 .1 .1 .1 .0)
+
+abbrev μ-extend : Measures 4 extend-kinds.ps ℕ
+μ-extend κs a = 3 * (a .1 .1 .1 .1 .1 .1 .1 .0 - a .1 .1 .1 .1 .1 .1 .0) + 2
+
+abbrev μ-next-of-span : Measures 4 next-of-span-kinds.ps ℕ
+μ-next-of-span κs a = 3 * (a .1 .1 .1 .1 .1 .1 .1 .0 - a .1 .1 .1 .1 .1 .1 .0) + 1
+
+abbrev advance-pairing-at : ℕ → In 4 advance-pairing-kinds.ps
+advance-pairing-at t =
+    and
+    4
+    advance-pairing-kinds.ps
+    (is 4 advance-pairing-kinds.ps μ-advance-pairing t)
+    advance-pairing.Pre
+
+abbrev advance-pairing-below : ℕ → In 4 advance-pairing-kinds.ps
+advance-pairing-below t =
+    and
+    4
+    advance-pairing-kinds.ps
+    (falls 4 advance-pairing-kinds.ps _<_ μ-advance-pairing t)
+    advance-pairing.Pre
+
+abbrev extend-at : ℕ → In 4 extend-kinds.ps
+extend-at t = and 4 extend-kinds.ps (is 4 extend-kinds.ps μ-extend t) extend.Pre
+
+abbrev extend-below : ℕ → In 4 extend-kinds.ps
+extend-below t = and 4 extend-kinds.ps (falls 4 extend-kinds.ps _<_ μ-extend t) extend.Pre
+
+abbrev next-of-span-at : ℕ → In 4 next-of-span-kinds.ps
+next-of-span-at t =
+    and 4 next-of-span-kinds.ps (is 4 next-of-span-kinds.ps μ-next-of-span t) next-of-span.Pre
+
+abbrev next-of-span-below : ℕ → In 4 next-of-span-kinds.ps
+next-of-span-below t =
+    and
+    4
+    next-of-span-kinds.ps
+    (falls 4 next-of-span-kinds.ps _<_ μ-next-of-span t)
+    next-of-span.Pre
+
+abbrev advance-pairing-claims : ℕ → advance-pairing-lts.Claims
+advance-pairing-claims t = (rule-at-reads.Asked, rule-at-reads.Learnt, extend-below t, extend.Post)
+
+abbrev extend-claims : ℕ → extend-lts.Claims
+extend-claims t = (cell-of-reads.Asked, cell-of-reads.Learnt, weight-at-reads.Asked, weight-at-reads.Learnt, next-of-span-below t, next-of-span.Post)
+
+abbrev next-of-span-claims : ℕ → next-of-span-lts.Claims
+next-of-span-claims t = (begin-reads.Asked, begin-reads.Learnt, cell-of-reads.Asked, cell-of-reads.Learnt, tie-at-reads.Asked, tie-at-reads.Learnt, advance-pairing-below t, advance-pairing.Post, place-reads.Asked, place-reads.Learnt)
+
+advance-pairing-rule-at-requires : (t : ℕ) → advance-pairing-lts.Need-rule-at-requires (advance-pairing-claims t) (advance-pairing-at t) advance-pairing.Post
+advance-pairing-rule-at-requires t c κs = search needs
+
+advance-pairing-enum-known-rule : (t : ℕ) → advance-pairing-lts.Need-enum-known-rule (advance-pairing-claims t) (advance-pairing-at t) advance-pairing.Post
+advance-pairing-enum-known-rule t c = search needs
+
+advance-pairing-add-extend : (t : ℕ) → advance-pairing-lts.Need-add-extend (advance-pairing-claims t) (advance-pairing-at t) advance-pairing.Post
+advance-pairing-add-extend t c = search needs
+
+advance-pairing-extend-requires : (t : ℕ) → advance-pairing-lts.Need-extend-requires (advance-pairing-claims t) (advance-pairing-at t) advance-pairing.Post
+advance-pairing-extend-requires t c κs = search needs
+
+advance-pairing-add-extend-2 : (t : ℕ) → advance-pairing-lts.Need-add-extend-2 (advance-pairing-claims t) (advance-pairing-at t) advance-pairing.Post
+advance-pairing-add-extend-2 t c = search needs
+
+advance-pairing-extend-requires-2 : (t : ℕ) → advance-pairing-lts.Need-extend-requires-2 (advance-pairing-claims t) (advance-pairing-at t) advance-pairing.Post
+advance-pairing-extend-requires-2 t c κs = search needs
+
+advance-pairing-enum-told : (t : ℕ) → advance-pairing-lts.Need-enum-told (advance-pairing-claims t) (advance-pairing-at t) advance-pairing.Post
+advance-pairing-enum-told t c = search needs
+
+advance-pairing-same-length : (t : ℕ) → advance-pairing-lts.Need-same-length (advance-pairing-claims t) (advance-pairing-at t) advance-pairing.Post
+advance-pairing-same-length t c = c .before .before .extend2 .kept .0 ∙ c .before .before .before .before .before .before .before .extend .kept .0
+
+advance-pairing-returns : (t : ℕ) → advance-pairing-lts.Need-returns (advance-pairing-claims t) (advance-pairing-at t) advance-pairing.Post
+unfolding advanced partsExtended
+advance-pairing-returns t c = λ f h. simp (lt-ltb _ _ (c .before .before .before .before .before .before .before .before .before .before .before .before .before .before .if1 .taken), lt-ltb _ _ (c .before .before .before .before .before .before .before .before .before .before .before .before .before .if2 .taken), ← c .before .before .before .before .before .before .before .before .before .before .before .before .rule-at .ensures, c .before .before .before .before .before .before .before .before .before .before .rule .given .1, eq-eqb _ _ (c .before .before .before .before .if3 .taken)) (rw (← c .before .before .before .before .before .before .before .extend .ensures f (omega (arith, c .before .before .before .before .before .before .before .before .before .before .before .before .before .before .if1 .taken))) (c .before .before .extend2 .ensures f (omega (arith, c .before .before .before .before .before .before .before .before .before .before .before .before .before .before .if1 .taken, c .before .before .before .before .before .before .before .before .before .before .before .before .before .if2 .taken))))
+
+advance-pairing-same-length-2 : (t : ℕ) → advance-pairing-lts.Need-same-length-2 (advance-pairing-claims t) (advance-pairing-at t) advance-pairing.Post
+advance-pairing-same-length-2 t c = c .before .before .before .extend .kept .0
+
+advance-pairing-returns-2 : (t : ℕ) → advance-pairing-lts.Need-returns-2 (advance-pairing-claims t) (advance-pairing-at t) advance-pairing.Post
+unfolding advanced partsExtended
+advance-pairing-returns-2 t c = λ f h. simp (lt-ltb _ _ (c .before .before .before .before .before .before .before .before .before .before .if1 .taken), lt-ltb _ _ (c .before .before .before .before .before .before .before .before .before .if2 .taken), ← c .before .before .before .before .before .before .before .before .rule-at .ensures, c .before .before .before .before .before .before .rule .given .1, ne-eqb _ _ (c .if3 .left)) (c .before .before .before .extend .ensures f (omega (arith, c .before .before .before .before .before .before .before .before .before .before .if1 .taken)))
+
+advance-pairing-returns-3 : (t : ℕ) → advance-pairing-lts.Need-returns-3 (advance-pairing-claims t) (advance-pairing-at t) advance-pairing.Post
+unfolding advanced partsExtended
+advance-pairing-returns-3 t c = λ f h. simp (lt-ltb _ _ (c .before .before .before .before .if1 .taken), lt-ltb _ _ (c .before .before .before .if2 .taken), ← c .before .before .rule-at .ensures, c .enum-told .given .1)
+
+advance-pairing-returns-4 : (t : ℕ) → advance-pairing-lts.Need-returns-4 (advance-pairing-claims t) (advance-pairing-at t) advance-pairing.Post
+unfolding advanced
+advance-pairing-returns-4 t c = λ f h. simp (lt-ltb _ _ (c .before .if1 .taken), le-ltb _ _ (c .if2 .left))
+
+advance-pairing-returns-5 : (t : ℕ) → advance-pairing-lts.Need-returns-5 (advance-pairing-claims t) (advance-pairing-at t) advance-pairing.Post
+unfolding advanced
+advance-pairing-returns-5 t c = λ f h. simp (le-ltb _ _ (c .if1 .left))
+
+extend-cell-of-requires : (t : ℕ) → extend-lts.Need-cell-of-requires (extend-claims t) (extend-at t) extend.Post
+extend-cell-of-requires t c κs = search needs
+
+extend-weight-at-requires : (t : ℕ) → extend-lts.Need-weight-at-requires (extend-claims t) (extend-at t) extend.Post
+extend-weight-at-requires t c κs = search needs
+
+extend-next-of-span-requires : (t : ℕ) → extend-lts.Need-next-of-span-requires (extend-claims t) (extend-at t) extend.Post
+extend-next-of-span-requires t c κs = search needs
+
+extend-same-length : (t : ℕ) → extend-lts.Need-same-length (extend-claims t) (extend-at t) extend.Post
+extend-same-length t c = c .before .before .next-of-span .kept .0
+
+extend-returns : (t : ℕ) → extend-lts.Need-returns (extend-claims t) (extend-at t) extend.Post
+unfolding extended
+extend-returns t c = λ f h. simp (lt-ltb _ _ (c .before .before .before .before .before .before .before .before .if1 .taken), ← c .before .before .before .before .before .before .cell-of .ensures .0, ← c .before .before .before .before .before .weight-at .ensures .0, eq-eqb _ _ (c .before .before .before .before .if2 .taken)) (c .before .before .next-of-span .ensures f h)
+
+extend-same-length-2 : (t : ℕ) → extend-lts.Need-same-length-2 (extend-claims t) (extend-at t) extend.Post
+extend-same-length-2 t c = search needs
+
+extend-returns-2 : (t : ℕ) → extend-lts.Need-returns-2 (extend-claims t) (extend-at t) extend.Post
+unfolding extended
+extend-returns-2 t c = λ f h. simp (lt-ltb _ _ (c .before .before .before .before .if1 .taken), ← c .before .before .cell-of .ensures .0, ← c .before .weight-at .ensures .0, ne-eqb _ _ (c .if2 .left))
+
+extend-returns-3 : (t : ℕ) → extend-lts.Need-returns-3 (extend-claims t) (extend-at t) extend.Post
+unfolding extended
+extend-returns-3 t c = λ f h. simp (le-ltb _ _ (c .if1 .left))
+
+next-of-span-begin-requires : (t : ℕ) → next-of-span-lts.Need-begin-requires (next-of-span-claims t) (next-of-span-at t) next-of-span.Post
+next-of-span-begin-requires t c κs = search needs
+
+next-of-span-same-length : (t : ℕ) → next-of-span-lts.Need-same-length (next-of-span-claims t) (next-of-span-at t) next-of-span.Post
+next-of-span-same-length t c = c .before .before .begin .kept .0
+
+next-of-span-returns : (t : ℕ) → next-of-span-lts.Need-returns (next-of-span-claims t) (next-of-span-at t) next-of-span.Post
+unfolding next
+next-of-span-returns t c = λ f. elim f [ zero ↦ λ h. absurd (omega (arith, c .before .before .before .before .before .before .before .before .before .pre .1 .0 .order)) | suc g ↦ λ h. rw (eq-eqb (c .before .before .before .before .before .before .before .before .before .args .c) 0 (c .before .before .before .before .if1 .taken)) (c .before .before .begin .ensures) ]
+
+next-of-span-cell-of-requires : (t : ℕ) → next-of-span-lts.Need-cell-of-requires (next-of-span-claims t) (next-of-span-at t) next-of-span.Post
+next-of-span-cell-of-requires t c κs = search needs
+
+next-of-span-sub-tie-at : (t : ℕ) → next-of-span-lts.Need-sub-tie-at (next-of-span-claims t) (next-of-span-at t) next-of-span.Post
+next-of-span-sub-tie-at t c = search needs
+
+next-of-span-tie-at-requires : (t : ℕ) → next-of-span-lts.Need-tie-at-requires (next-of-span-claims t) (next-of-span-at t) next-of-span.Post
+next-of-span-tie-at-requires t c κs = search needs
+
+next-of-span-advance-pairing-requires : (t : ℕ) → next-of-span-lts.Need-advance-pairing-requires (next-of-span-claims t) (next-of-span-at t) next-of-span.Post
+next-of-span-advance-pairing-requires t c κs = search needs
+
+next-of-span-place-requires : (t : ℕ) → next-of-span-lts.Need-place-requires (next-of-span-claims t) (next-of-span-at t) next-of-span.Post
+next-of-span-place-requires t c κs = search needs
+
+next-of-span-same-length-2 : (t : ℕ) → next-of-span-lts.Need-same-length-2 (next-of-span-claims t) (next-of-span-at t) next-of-span.Post
+next-of-span-same-length-2 t c = c .before .before .place .kept .0 ∙ c .before .before .before .before .before .before .advance-pairing .kept .0
+
+next-of-span-returns-2 : (t : ℕ) → next-of-span-lts.Need-returns-2 (next-of-span-claims t) (next-of-span-at t) next-of-span.Post
+unfolding next
+next-of-span-returns-2 t c = λ f. elim f [ zero ↦ λ h. absurd (omega (arith, c .before .before .before .before .before .before .before .before .before .before .before .before .before .before .before .before .pre .1 .0 .order)) | suc g ↦ λ h. rw (ne-eqb (c .before .before .before .before .before .before .before .before .before .before .before .before .before .before .before .before .args .c) 0 (c .before .before .before .before .before .before .before .before .before .before .before .if1 .left)) (rw (← c .before .before .before .before .before .before .before .before .before .cell-of .ensures .0, ← c .before .before .before .before .before .before .before .before .tie-at .ensures .0, ← c .before .before .before .before .before .before .advance-pairing .ensures g h) (c .before .before .place .ensures)) ]
+
+pub +advance-pairing+extend+next-of-span-spec : {M : Type 1} → statement M
++advance-pairing+extend+next-of-span-spec =
+    close μ-advance-pairing μ-extend μ-next-of-span (λ t. advance-pairing-lts.spec (advance-pairing-claims t)
+    (advance-pairing-at t)
+    advance-pairing.Post
+    (advance-pairing-rule-at-requires t)
+    (advance-pairing-enum-known-rule t)
+    (advance-pairing-add-extend t)
+    (advance-pairing-extend-requires t)
+    (advance-pairing-add-extend-2 t)
+    (advance-pairing-extend-requires-2 t)
+    (advance-pairing-enum-told t)
+    (advance-pairing-same-length t)
+    (advance-pairing-returns t)
+    (advance-pairing-same-length-2 t)
+    (advance-pairing-returns-2 t)
+    (advance-pairing-returns-3 t)
+    (advance-pairing-returns-4 t)
+    (advance-pairing-returns-5 t))
+    (λ t. extend-lts.spec (extend-claims t)
+    (extend-at t)
+    extend.Post
+    (extend-cell-of-requires t)
+    (extend-weight-at-requires t)
+    (extend-next-of-span-requires t)
+    (extend-same-length t)
+    (extend-returns t)
+    (extend-same-length-2 t)
+    (extend-returns-2 t)
+    (extend-returns-3 t))
+    λ t. next-of-span-lts.spec (next-of-span-claims t)
+    (next-of-span-at t)
+    next-of-span.Post
+    (next-of-span-begin-requires t)
+    (next-of-span-same-length t)
+    (next-of-span-returns t)
+    (next-of-span-cell-of-requires t)
+    (next-of-span-sub-tie-at t)
+    (next-of-span-tie-at-requires t)
+    (next-of-span-advance-pairing-requires t)
+    (next-of-span-place-requires t)
+    (next-of-span-same-length-2 t)
+    (next-of-span-returns-2 t)

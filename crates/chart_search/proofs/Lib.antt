@@ -1,2 +1,0 @@
--- What is missing, and what is gone for.
-pub mod Extended
