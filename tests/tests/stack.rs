@@ -20,7 +20,7 @@ fn on_small_stack(call: impl FnOnce() -> i32 + Send) -> i32 {
 }
 
 /// 32 symbols, 200 words and 256 rules. Head 0 joins one word with the rest of the utterance, which stands on one side, so
-/// that the search and the spelling go as deep as they can.
+/// that the search goes as deep as it can.
 fn grammar(first: u32, second: u32) -> Grammar {
     let mut bodies = vec![(0, Body::Pair(first, second))];
     bodies.extend((0..14).map(|number| (number % 2, Body::Word(number / 2))));
