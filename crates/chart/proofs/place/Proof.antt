@@ -30,24 +30,68 @@ renewed-requires : tie.Need-renewed-requires
 renewed-requires c κs = search needs
 
 settle-requires : tie.Need-settle-requires
-settle-requires c κs = search (needs, c .before .before .before .before .before .before .before .before .before .before .before .before .before .before .before .before .pre .0 .sized .cap, c .before .before .before .before .before .before .before .before .before .before .before .before .before .before .before .before .pre .2)
+settle-requires c κs =
+    search (
+      needs,
+      c .before .before .before .before .before .before .before .before .before .before .before .before .before .before .before .before .pre .0 .sized .cap,
+      c .before .before .before .before .before .before .before .before .before .before .before .before .before .before .before .before .pre .2,
+    )
 
 same-length : tie.Need-same-length
 same-length c = search needs
 
 returns : tie.Need-returns
 unfolding placed
-returns c = rw (← c .before .before .before .before .before .before .before .before .before .before .before .before .before .before .cell-of .ensures .0, ← c .before .before .before .before .before .before .before .before .before .before .before .before .tie-at .ensures .0, ← c .before .before .before .before .before .before .before .before .before .before .weight-at .ensures .0, ← c .before .before .before .before .before .before .before .before .before .key-of .ensures, ← c .before .before .before .before .before .before .before .followers .ensures, ← c .before .before .before .before .before .renewed .ensures, lt-ltb _ _ (c .before .before .before .before .if1 .taken)) (c .before .before .settle .ensures)
+returns c =
+    let c₂ = c .before .before in
+    let c₄ = c₂ .before .before in
+    let c₅ = c₄ .before in
+    let c₇ = c₅ .before .before in
+    let c₉ = c₇ .before .before in
+    let c₁₀ = c₉ .before in
+    let c₁₂ = c₁₀ .before .before in
+    let c₁₄ = c₁₂ .before .before in
+    rw (
+      ← c₁₄ .cell-of .ensures .0,
+      ← c₁₂ .tie-at .ensures .0,
+      ← c₁₀ .weight-at .ensures .0,
+      ← c₉ .key-of .ensures,
+      ← c₇ .followers .ensures,
+      ← c₅ .renewed .ensures,
+      lt-ltb _ _ (c₄ .if1 .taken),
+    ) (c₂ .settle .ensures)
 
 settle-requires-2 : tie.Need-settle-requires-2
-settle-requires-2 c κs = search (needs, c .before .before .before .before .before .before .before .before .before .before .before .before .before .before .before .before .pre .0 .sized .cap, c .before .before .before .before .before .before .before .before .before .before .before .before .before .before .before .before .pre .2)
+settle-requires-2 c κs =
+    search (
+      needs,
+      c .before .before .before .before .before .before .before .before .before .before .before .before .before .before .before .before .pre .0 .sized .cap,
+      c .before .before .before .before .before .before .before .before .before .before .before .before .before .before .before .before .pre .2,
+    )
 
 same-length-2 : tie.Need-same-length-2
 same-length-2 c = search needs
 
 returns-2 : tie.Need-returns-2
 unfolding placed
-returns-2 c = rw (← c .before .before .before .before .before .before .before .before .before .before .before .before .before .before .cell-of .ensures .0, ← c .before .before .before .before .before .before .before .before .before .before .before .before .tie-at .ensures .0, ← c .before .before .before .before .before .before .before .before .before .before .weight-at .ensures .0, ← c .before .before .before .before .before .before .before .before .before .key-of .ensures, ← c .before .before .before .before .before .before .before .followers .ensures, ← c .before .before .before .before .before .renewed .ensures, le-ltb _ _ (c .before .before .before .before .if1 .left)) (c .before .before .settle2 .ensures)
+returns-2 c =
+    let c₂ = c .before .before in
+    let c₄ = c₂ .before .before in
+    let c₅ = c₄ .before in
+    let c₇ = c₅ .before .before in
+    let c₉ = c₇ .before .before in
+    let c₁₀ = c₉ .before in
+    let c₁₂ = c₁₀ .before .before in
+    let c₁₄ = c₁₂ .before .before in
+    rw (
+      ← c₁₄ .cell-of .ensures .0,
+      ← c₁₂ .tie-at .ensures .0,
+      ← c₁₀ .weight-at .ensures .0,
+      ← c₉ .key-of .ensures,
+      ← c₇ .followers .ensures,
+      ← c₅ .renewed .ensures,
+      le-ltb _ _ (c₄ .if1 .left),
+    ) (c₂ .settle2 .ensures)
 
 pub place-spec : {M : Type 1} → statement M
 place-spec =

@@ -33,7 +33,20 @@ key-of-requires c κs = search needs
 
 returns : tie.Need-returns
 unfolding joinKey
-returns c = rw (c .key-of .ensures, c .before .wide3 .ensures .0, c .before .before .less-one2 .ensures, c .before .before .before .wide2 .ensures .0, c .before .before .before .before .less-one .ensures, c .before .before .before .before .before .wide .ensures .0)
+returns c =
+    let c₂ = c .before .before in
+    let c₃ = c₂ .before in
+    let c₄ = c₃ .before in
+    let c₅ = c₄ .before in
+    rw (
+      c .key-of .ensures,
+      c .before .wide3 .ensures .0,
+      c₂ .less-one2 .ensures,
+      c₃ .wide2 .ensures .0,
+      c₄
+          .less-one .ensures,
+      c₅ .wide .ensures .0,
+    )
 
 pub join-key-spec : {M : Type 1} → statement M
 join-key-spec =

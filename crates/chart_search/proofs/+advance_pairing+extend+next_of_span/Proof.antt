@@ -104,18 +104,57 @@ advance-pairing-same-length t c = c .before .before .extend2 .kept .0 ∙ c .bef
 
 advance-pairing-returns : (t : ℕ) → advance-pairing-lts.Need-returns (advance-pairing-claims t) (advance-pairing-at t) advance-pairing.Post
 unfolding advanced partsExtended
-advance-pairing-returns t c = λ f h. simp (lt-ltb _ _ (c .before .before .before .before .before .before .before .before .before .before .before .before .before .before .if1 .taken), lt-ltb _ _ (c .before .before .before .before .before .before .before .before .before .before .before .before .before .if2 .taken), ← c .before .before .before .before .before .before .before .before .before .before .before .before .rule-at .ensures, c .before .before .before .before .before .before .before .before .before .before .rule .given .1, eq-eqb _ _ (c .before .before .before .before .if3 .taken)) (rw (← c .before .before .before .before .before .before .before .extend .ensures f (omega (arith, c .before .before .before .before .before .before .before .before .before .before .before .before .before .before .if1 .taken))) (c .before .before .extend2 .ensures f (omega (arith, c .before .before .before .before .before .before .before .before .before .before .before .before .before .before .if1 .taken, c .before .before .before .before .before .before .before .before .before .before .before .before .before .if2 .taken))))
+advance-pairing-returns t c =
+    let c₂ = c .before .before in
+    let c₄ = c₂ .before .before in
+    let c₇ = c₄ .before .before .before in
+    let c₁₀ = c₇ .before .before .before in
+    let c₁₂ = c₁₀ .before .before in
+    let c₁₃ = c₁₂ .before in
+    let c₁₄ = c₁₃ .before in
+    λ f h. simp (
+      lt-ltb _ _ (c₁₄ .if1 .taken),
+      lt-ltb _ _ (c₁₃ .if2 .taken),
+      ← c₁₂ .rule-at .ensures,
+      c₁₀ .rule
+          .given .1,
+      eq-eqb _ _ (c₄ .if3 .taken),
+    ) (rw (← c₇ .extend .ensures f (omega (arith, c₁₄ .if1 .taken))) (c₂
+    .extend2 .ensures f (omega (arith, c₁₄ .if1 .taken, c₁₃ .if2 .taken))))
 
 advance-pairing-same-length-2 : (t : ℕ) → advance-pairing-lts.Need-same-length-2 (advance-pairing-claims t) (advance-pairing-at t) advance-pairing.Post
 advance-pairing-same-length-2 t c = c .before .before .before .extend .kept .0
 
 advance-pairing-returns-2 : (t : ℕ) → advance-pairing-lts.Need-returns-2 (advance-pairing-claims t) (advance-pairing-at t) advance-pairing.Post
 unfolding advanced partsExtended
-advance-pairing-returns-2 t c = λ f h. simp (lt-ltb _ _ (c .before .before .before .before .before .before .before .before .before .before .if1 .taken), lt-ltb _ _ (c .before .before .before .before .before .before .before .before .before .if2 .taken), ← c .before .before .before .before .before .before .before .before .rule-at .ensures, c .before .before .before .before .before .before .rule .given .1, ne-eqb _ _ (c .if3 .left)) (c .before .before .before .extend .ensures f (omega (arith, c .before .before .before .before .before .before .before .before .before .before .if1 .taken)))
+advance-pairing-returns-2 t c =
+    let c₃ = c .before .before .before in
+    let c₆ = c₃ .before .before .before in
+    let c₈ = c₆ .before .before in
+    let c₉ = c₈ .before in
+    let c₁₀ = c₉ .before in
+    λ f h. simp (
+      lt-ltb _ _ (c₁₀ .if1 .taken),
+      lt-ltb _ _ (c₉ .if2 .taken),
+      ← c₈ .rule-at .ensures,
+      c₆ .rule .given
+          .1,
+      ne-eqb _ _ (c .if3 .left),
+    ) (c₃ .extend .ensures f (omega (arith, c₁₀ .if1 .taken)))
 
 advance-pairing-returns-3 : (t : ℕ) → advance-pairing-lts.Need-returns-3 (advance-pairing-claims t) (advance-pairing-at t) advance-pairing.Post
 unfolding advanced partsExtended
-advance-pairing-returns-3 t c = λ f h. simp (lt-ltb _ _ (c .before .before .before .before .if1 .taken), lt-ltb _ _ (c .before .before .before .if2 .taken), ← c .before .before .rule-at .ensures, c .enum-told .given .1)
+advance-pairing-returns-3 t c =
+    let c₂ = c .before .before in
+    let c₃ = c₂ .before in
+    let c₄ = c₃ .before in
+    λ f h. simp (
+      lt-ltb _ _ (c₄ .if1 .taken),
+      lt-ltb _ _ (c₃ .if2 .taken),
+      ← c₂ .rule-at .ensures,
+      c .enum-told
+          .given .1,
+    )
 
 advance-pairing-returns-4 : (t : ℕ) → advance-pairing-lts.Need-returns-4 (advance-pairing-claims t) (advance-pairing-at t) advance-pairing.Post
 unfolding advanced
@@ -139,7 +178,19 @@ extend-same-length t c = c .before .before .next-of-span .kept .0
 
 extend-returns : (t : ℕ) → extend-lts.Need-returns (extend-claims t) (extend-at t) extend.Post
 unfolding extended
-extend-returns t c = λ f h. simp (lt-ltb _ _ (c .before .before .before .before .before .before .before .before .if1 .taken), ← c .before .before .before .before .before .before .cell-of .ensures .0, ← c .before .before .before .before .before .weight-at .ensures .0, eq-eqb _ _ (c .before .before .before .before .if2 .taken)) (c .before .before .next-of-span .ensures f h)
+extend-returns t c =
+    let c₂ = c .before .before in
+    let c₄ = c₂ .before .before in
+    let c₅ = c₄ .before in
+    let c₆ = c₅ .before in
+    let c₈ = c₆ .before .before in
+    λ f h. simp (
+      lt-ltb _ _ (c₈ .if1 .taken),
+      ← c₆ .cell-of .ensures .0,
+      ← c₅ .weight-at .ensures .0,
+      eq-eqb _ _ (c₄
+          .if2 .taken),
+    ) (c₂ .next-of-span .ensures f h)
 
 extend-same-length-2 : (t : ℕ) → extend-lts.Need-same-length-2 (extend-claims t) (extend-at t) extend.Post
 extend-same-length-2 t c = search needs
@@ -160,7 +211,15 @@ next-of-span-same-length t c = c .before .before .begin .kept .0
 
 next-of-span-returns : (t : ℕ) → next-of-span-lts.Need-returns (next-of-span-claims t) (next-of-span-at t) next-of-span.Post
 unfolding next
-next-of-span-returns t c = λ f. elim f [ zero ↦ λ h. absurd (omega (arith, c .before .before .before .before .before .before .before .before .before .pre .1 .0 .order)) | suc g ↦ λ h. rw (eq-eqb (c .before .before .before .before .before .before .before .before .before .args .c) 0 (c .before .before .before .before .if1 .taken)) (c .before .before .begin .ensures) ]
+next-of-span-returns t c =
+    let c₂ = c .before .before in
+    let c₄ = c₂ .before .before in
+    let c₉ = c₄ .before .before .before .before .before in
+    λ f. elim f [
+      | zero ↦ λ h. absurd (omega (arith, c₉ .pre .1 .0 .order))
+      | suc g ↦ λ h. rw (eq-eqb (c₉ .args .c) 0
+          (c₄ .if1 .taken)) (c₂ .begin .ensures)
+    ]
 
 next-of-span-cell-of-requires : (t : ℕ) → next-of-span-lts.Need-cell-of-requires (next-of-span-claims t) (next-of-span-at t) next-of-span.Post
 next-of-span-cell-of-requires t c κs = search needs
@@ -182,7 +241,23 @@ next-of-span-same-length-2 t c = c .before .before .place .kept .0 ∙ c .before
 
 next-of-span-returns-2 : (t : ℕ) → next-of-span-lts.Need-returns-2 (next-of-span-claims t) (next-of-span-at t) next-of-span.Post
 unfolding next
-next-of-span-returns-2 t c = λ f. elim f [ zero ↦ λ h. absurd (omega (arith, c .before .before .before .before .before .before .before .before .before .before .before .before .before .before .before .before .pre .1 .0 .order)) | suc g ↦ λ h. rw (ne-eqb (c .before .before .before .before .before .before .before .before .before .before .before .before .before .before .before .before .args .c) 0 (c .before .before .before .before .before .before .before .before .before .before .before .if1 .left)) (rw (← c .before .before .before .before .before .before .before .before .before .cell-of .ensures .0, ← c .before .before .before .before .before .before .before .before .tie-at .ensures .0, ← c .before .before .before .before .before .before .advance-pairing .ensures g h) (c .before .before .place .ensures)) ]
+next-of-span-returns-2 t c =
+    let c₂ = c .before .before in
+    let c₆ = c₂ .before .before .before .before in
+    let c₈ = c₆ .before .before in
+    let c₉ = c₈ .before in
+    let c₁₁ = c₉ .before .before in
+    let c₁₆ = c₁₁ .before .before .before .before .before in
+    λ f. elim f [
+      | zero ↦ λ h. absurd (omega (arith, c₁₆ .pre .1 .0 .order))
+      | suc g ↦ λ h. rw (ne-eqb (c₁₆ .args .c)
+          0 (c₁₁ .if1 .left)) (rw (
+            ← c₉ .cell-of .ensures .0,
+            ← c₈ .tie-at .ensures .0,
+            ← c₆ .advance-pairing .ensures g
+                h,
+          ) (c₂ .place .ensures))
+    ]
 
 pub +advance-pairing+extend+next-of-span-spec : {M : Type 1} → statement M
 +advance-pairing+extend+next-of-span-spec =

@@ -32,7 +32,14 @@ loop-less : tie.Need-loop-less Inv-loop μ-loop
 loop-less c = search needs
 
 loop-again : tie.Need-loop-again Inv-loop μ-loop
-loop-again c = (search needs, c .before .before .first-of-length .kept .0 ∙ c .before .before .before .before .before .loop .inv .1, rw (iter-more, ← c .before .before .before .before .before .loop .inv .2) (c .before .before .first-of-length .ensures))
+loop-again c =
+    let c₂ = c .before .before in
+    let c₅ = c₂ .before .before .before in (
+      search needs,
+      c₂ .first-of-length .kept .0 ∙ c₅ .loop .inv .1,
+      rw (iter-more, ← c₅ .loop .inv .2) (c₂
+          .first-of-length .ensures),
+    )
 
 same-length : tie.Need-same-length Inv-loop μ-loop
 same-length c = c .before .loop .inv .1

@@ -30,7 +30,13 @@ same-length-2 c = search needs
 
 returns-2 : tie.Need-returns-2
 unfolding further
-returns-2 c = simp (← c .before .before .before .before .before .before .cell-of .ensures .0, ← c .before .before .before .before .before .weight-at .ensures .0, ne-eqb _ _ (c .before .before .before .before .if1 .left)) (c .before .before .extend .ensures _ (omega arith))
+returns-2 c =
+    let c₂ = c .before .before in
+    let c₄ = c₂ .before .before in
+    let c₅ = c₄ .before in
+    let c₆ = c₅ .before in
+    simp (← c₆ .cell-of .ensures .0, ← c₅ .weight-at .ensures .0, ne-eqb _ _ (c₄ .if1 .left)) (c₂ .extend .ensures _
+    (omega arith))
 
 pub further-spec : {M : Type 1} → statement M
 further-spec =

@@ -35,7 +35,14 @@ loop-less : tie.Need-loop-less Inv-loop μ-loop
 loop-less c = search needs
 
 loop-again : tie.Need-loop-again Inv-loop μ-loop
-loop-again c = (search needs, c .before .before .further .kept .0 ∙ c .before .before .before .before .before .loop .inv .1, rw (iter-more, ← c .before .before .before .before .before .loop .inv .2) (c .before .before .further .ensures))
+loop-again c =
+    let c₂ = c .before .before in
+    let c₅ = c₂ .before .before .before in (
+      search needs,
+      c₂ .further .kept .0 ∙ c₅ .loop .inv .1,
+      rw (iter-more, ← c₅ .loop .inv .2) (c₂ .further
+          .ensures),
+    )
 
 same-length : tie.Need-same-length Inv-loop μ-loop
 same-length c = c .before .loop .inv .1 ∙ c .before .before .before .before .before .firsts .kept .0

@@ -23,11 +23,27 @@ wide-requires : tie.Need-wide-requires
 wide-requires c κs = search needs
 
 add-result-2 : tie.Need-add-result-2
-add-result-2 c = omega (arith, c .wide .ensures .1, cell-small (c .before .before .args .d .symbols) (c .before .before .args .i) (c .before .before .args .k) (search needs) (search needs) (search needs))
+add-result-2 c =
+    let c₂ = c .before .before in
+    omega (
+      arith,
+      c .wide .ensures .1,
+      cell-small (c₂ .args .d .symbols) (c₂ .args .i) (c₂ .args .k) (search needs)
+          (search needs) (search needs),
+    )
 
 returns : tie.Need-returns
 unfolding cellOf
-returns c = (rw (c .wide .ensures .0) refl, omega (arith, c .wide .ensures .1, cell-small (c .before .before .args .d .symbols) (c .before .before .args .i) (c .before .before .args .k) (search needs) (search needs) (search needs)))
+returns c =
+    let c₂ = c .before .before in (
+      rw (c .wide .ensures .0) refl,
+      omega (
+        arith,
+        c .wide .ensures .1,
+        cell-small (c₂ .args .d .symbols) (c₂ .args
+            .i) (c₂ .args .k) (search needs) (search needs) (search needs),
+      ),
+    )
 
 pub cell-of-spec : {M : Type 1} → statement M
 cell-of-spec =

@@ -34,7 +34,16 @@ returns c = (simp (eq-eqb _ _ (c .if1 .taken)), search needs)
 
 returns-2 : tie.Need-returns-2
 unfolding entryOf
-returns-2 c = (simp (ne-eqb _ _ (c .before .before .if1 .left)), omega (arith, ranks-small (c .before .before .before .args .cell) (c .before .before .before .args .d .cap) (search needs) (search needs)))
+returns-2 c =
+    let c₂ = c .before .before in
+    let c₃ = c₂ .before in (
+      simp (ne-eqb _ _ (c₂ .if1 .left)),
+      omega (
+        arith,
+        ranks-small (c₃ .args .cell) (c₃ .args .d .cap) (search needs)
+            (search needs),
+      ),
+    )
 
 pub entry-of-spec : {M : Type 1} → statement M
 entry-of-spec =

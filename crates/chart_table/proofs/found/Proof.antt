@@ -36,7 +36,24 @@ loop-less : tie.Need-loop-less Inv-loop μ-loop
 loop-less c = search needs
 
 loop-again : tie.Need-loop-again Inv-loop μ-loop
-loop-again c = (search needs, ⊎-elim (λ w. omega arith) (λ w. omega arith) (c .if1 .came), ⊎-elim (λ w. rw (iter-more, ← c .before .weight-at .ensures .0, ← c .before .before .before .loop .inv .2, ne-eqb _ _ (w .0 .taken)) (w .1)) (λ w. rw (iter-more, ← c .before .weight-at .ensures .0, ← c .before .before .before .loop .inv .2, eq-eqb _ _ (w .0 .left)) (w .1)) (c .if1 .came))
+loop-again c =
+    let c₃ = c .before .before .before in (
+      search needs,
+      ⊎-elim (λ w. omega arith) (λ w. omega arith) (c .if1 .came),
+      ⊎-elim (λ w. rw (
+        iter-more,
+        ← c
+            .before .weight-at .ensures .0,
+        ← c₃ .loop .inv .2,
+        ne-eqb _ _ (w .0 .taken),
+      ) (w .1)) (λ w. rw (
+        iter-more,
+        ← c
+            .before .weight-at .ensures .0,
+        ← c₃ .loop .inv .2,
+        eq-eqb _ _ (w .0 .left),
+      ) (w .1)) (c .if1 .came),
+    )
 
 returns : tie.Need-returns Inv-loop μ-loop
 unfolding foundOf

@@ -31,7 +31,19 @@ same-length c = search needs
 
 returns : tie.Need-returns
 unfolding putKey
-returns c = simp (lt-ltb _ _ (c .before .before .before .before .before .before .before .before .before .before .before .before .before .if1 .taken)) (rw (c .before .before .put-last .ensures, c .before .before .before .before .before .before .store2 .ensures, c .before .before .before .before .before .before .before .before .before .before .store .ensures, c .before .before .before .before .before .before .before .before .before .before .before .before .entry-of .ensures .0))
+returns c =
+    let c₂ = c .before .before in
+    let c₆ = c₂ .before .before .before .before in
+    let c₁₀ = c₆ .before .before .before .before in
+    let c₁₂ = c₁₀ .before .before in
+    let c₁₃ = c₁₂ .before in
+    simp (lt-ltb _ _ (c₁₃ .if1 .taken)) (rw (
+      c₂ .put-last .ensures,
+      c₆ .store2 .ensures,
+      c₁₀ .store .ensures,
+      c₁₂
+          .entry-of .ensures .0,
+    ))
 
 returns-2 : tie.Need-returns-2
 unfolding putKey

@@ -25,7 +25,16 @@ same-length c = search needs
 
 returns : tie.Need-returns
 unfolding putLast
-returns c = simp (← c .before .before .before .before .before .before .last-in .ensures .0, lt-ltb _ _ (c .before .before .before .before .before .if1 .taken)) (rw (c .before .before .store .ensures, c .before .before .before .entry-of .ensures .0))
+returns c =
+    let c₂ = c .before .before in
+    let c₃ = c₂ .before in
+    let c₅ = c₃ .before .before in
+    let c₆ = c₅ .before in
+    simp (← c₆ .last-in .ensures .0, lt-ltb _ _ (c₅ .if1 .taken)) (rw (
+      c₂ .store .ensures,
+      c₃ .entry-of .ensures
+          .0,
+    ))
 
 same-length-2 : tie.Need-same-length-2
 same-length-2 c = search needs

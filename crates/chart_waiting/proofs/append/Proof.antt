@@ -19,7 +19,11 @@ same-length c = search needs
 
 returns : tie.Need-returns
 unfolding appended
-returns c = simp (lt-ltb _ _ (c .before .before .before .before .before .before .before .before .if1 .taken)) (rw (c .before .before .put-count .ensures, c .before .before .before .before .before .before .put-waiting .ensures))
+returns c =
+    let c₂ = c .before .before in
+    let c₆ = c₂ .before .before .before .before in
+    let c₈ = c₆ .before .before in
+    simp (lt-ltb _ _ (c₈ .if1 .taken)) (rw (c₂ .put-count .ensures, c₆ .put-waiting .ensures))
 
 returns-2 : tie.Need-returns-2
 unfolding appended

@@ -51,7 +51,22 @@ same-length c = search needs
 
 returns : tie.Need-returns
 unfolding moveWaiting
-returns c = rw (c .before .before .store2 .ensures, c .before .before .before .before .before .before .store .ensures, c .before .before .before .before .before .before .before .before .before .number-at2 .ensures .0, c .before .before .before .before .before .before .before .before .before .before .before .number-at .ensures .0, c .before .before .before .before .before .before .before .before .entry-of2 .ensures .0, c .before .before .before .before .before .before .before .before .before .before .before .before .before .entry-of .ensures .0)
+returns c =
+    let c₂ = c .before .before in
+    let c₆ = c₂ .before .before .before .before in
+    let c₈ = c₆ .before .before in
+    let c₉ = c₈ .before in
+    let c₁₁ = c₉ .before .before in
+    let c₁₃ = c₁₁ .before .before in
+    rw (
+      c₂ .store2 .ensures,
+      c₆ .store .ensures,
+      c₉ .number-at2 .ensures .0,
+      c₁₁ .number-at .ensures .0,
+      c₈
+          .entry-of2 .ensures .0,
+      c₁₃ .entry-of .ensures .0,
+    )
 
 pub move-waiting-spec : {M : Type 1} → statement M
 move-waiting-spec =

@@ -33,7 +33,11 @@ same-length c = search needs
 
 returns : tie.Need-returns
 unfolding putWaiting
-returns c = rw (c .before .before .store2 .ensures, c .before .before .before .before .before .before .store .ensures, c .before .before .before .before .before .before .before .before .entry-of .ensures .0)
+returns c =
+    let c₂ = c .before .before in
+    let c₆ = c₂ .before .before .before .before in
+    let c₈ = c₆ .before .before in
+    rw (c₂ .store2 .ensures, c₆ .store .ensures, c₈ .entry-of .ensures .0)
 
 pub put-waiting-spec : {M : Type 1} → statement M
 put-waiting-spec =

@@ -32,7 +32,11 @@ same-length-2 c = search needs
 
 returns-2 : tie.Need-returns-2
 unfolding replaced
-returns-2 c = simp (le-ltb _ _ (c .before .before .before .before .before .before .before .before .if1 .left)) (rw (c .before .before .put-count .ensures, c .before .before .before .before .before .before .move-waiting .ensures))
+returns-2 c =
+    let c₂ = c .before .before in
+    let c₆ = c₂ .before .before .before .before in
+    let c₈ = c₆ .before .before in
+    simp (le-ltb _ _ (c₈ .if1 .left)) (rw (c₂ .put-count .ensures, c₆ .move-waiting .ensures))
 
 pub replace-spec : {M : Type 1} → statement M
 replace-spec =

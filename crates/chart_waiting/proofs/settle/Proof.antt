@@ -29,7 +29,28 @@ same-length c = search needs
 
 returns : tie.Need-returns
 unfolding settled
-returns c = simp (← c .before .before .before .before .before .before .before .before .before .before .before .before .before .before .before .before .before .before .waiting-in .ensures .0, ← c .before .before .before .before .before .before .before .before .before .before .before .before .before .before .before .before .soonest .ensures .0, ← c .before .before .before .before .before .before .before .before .before .before .before .before .before .before .waiting-at .ensures, lt-ltb _ _ (c .before .before .before .before .before .before .before .before .before .before .before .before .before .if1 .taken), lt-ltb _ _ (c .before .before .before .before .before .before .before .before .before .before .before .before .if2 .taken)) (rw (c .before .before .append .ensures, c .before .before .before .before .before .before .replace .ensures, c .before .before .before .before .before .before .before .before .before .before .put-key .ensures))
+returns c =
+    let c₂ = c .before .before in
+    let c₆ = c₂ .before .before .before .before in
+    let c₁₀ = c₆ .before .before .before .before in
+    let c₁₂ = c₁₀ .before .before in
+    let c₁₃ = c₁₂ .before in
+    let c₁₄ = c₁₃ .before in
+    let c₁₆ = c₁₄ .before .before in
+    let c₁₈ = c₁₆ .before .before in
+    simp (
+      ← c₁₈ .waiting-in .ensures .0,
+      ← c₁₆ .soonest .ensures .0,
+      ← c₁₄ .waiting-at .ensures,
+      lt-ltb _ _ (c₁₃
+          .if1 .taken),
+      lt-ltb _ _ (c₁₂ .if2 .taken),
+    ) (rw (
+      c₂ .append .ensures,
+      c₆ .replace .ensures,
+      c₁₀ .put-key
+          .ensures,
+    ))
 
 put-key-requires-2 : tie.Need-put-key-requires-2
 put-key-requires-2 c κs = search needs
@@ -42,7 +63,20 @@ same-length-2 c = search needs
 
 returns-2 : tie.Need-returns-2
 unfolding settled
-returns-2 c = rw (c .before .before .append2 .ensures, c .before .before .before .before .before .before .put-key2 .ensures) (simp (← c .before .before .before .before .before .before .before .before .before .before .before .before .before .waiting-in .ensures .0, ← c .before .before .before .before .before .before .before .before .before .before .before .soonest .ensures .0, ← c .before .before .before .before .before .before .before .before .before .waiting-at .ensures) (⊎-elim (λ w. simp (lt-ltb _ _ (w .0 .taken), le-ltb _ _ (w .1 .left))) (λ w. simp (le-ltb _ _ (w .left))) (c .before .before .before .before .before .before .before .before .if1 .came)))
+returns-2 c =
+    let c₂ = c .before .before in
+    let c₆ = c₂ .before .before .before .before in
+    let c₈ = c₆ .before .before in
+    let c₉ = c₈ .before in
+    let c₁₁ = c₉ .before .before in
+    let c₁₃ = c₁₁ .before .before in
+    rw (c₂ .append2 .ensures, c₆ .put-key2 .ensures) (simp (
+      ← c₁₃ .waiting-in .ensures .0,
+      ← c₁₁ .soonest .ensures
+          .0,
+      ← c₉ .waiting-at .ensures,
+    ) (⊎-elim (λ w. simp (lt-ltb _ _ (w .0 .taken), le-ltb _ _ (w .1 .left))) (λ w.
+    simp (le-ltb _ _ (w .left))) (c₈ .if1 .came)))
 
 pub settle-spec : {M : Type 1} → statement M
 settle-spec =

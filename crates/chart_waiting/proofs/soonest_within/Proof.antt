@@ -19,7 +19,14 @@ entry-of-requires : tie.Need-entry-of-requires Inv-loop μ-loop
 entry-of-requires c κs = search needs
 
 key-beside-requires : tie.Need-key-beside-requires Inv-loop μ-loop
-key-beside-requires c κs = omega (arith, c .entry-of .ensures .0, stands-before (c .before .before .args .d) (c .before .before .args .cell) (c .before .before .args .m) (length (now (c .before .before .args .t))) 0 (c .before .before .pre .2) (c .before .before .pre .4))
+key-beside-requires c κs =
+    let c₂ = c .before .before in
+    omega (
+      arith,
+      c .entry-of .ensures .0,
+      stands-before (c₂ .args .d) (c₂ .args .cell) (c₂ .args .m) (length (now
+          (c₂ .args .t))) 0 (c₂ .pre .2) (c₂ .pre .4),
+    )
 
 loop-holds : tie.Need-loop-holds Inv-loop μ-loop
 loop-holds c = (search needs, search needs, search needs, least-first (c .key-beside .ensures))
@@ -31,7 +38,11 @@ add-key-beside : tie.Need-add-key-beside Inv-loop μ-loop
 add-key-beside c = search needs
 
 key-beside-requires-2 : tie.Need-key-beside-requires-2 Inv-loop μ-loop
-key-beside-requires-2 c κs = rw (c .before .before .before .entry-of .ensures .0) (stands-before (c .before .before .before .before .before .args .d) (c .before .before .before .before .before .args .cell) (c .before .before .before .before .before .args .m) (length (now (c .before .before .before .before .before .args .t))) (c .before .loop .y) (c .loop-test .taken) (c .before .before .before .before .before .pre .4))
+key-beside-requires-2 c κs =
+    let c₃ = c .before .before .before in
+    let c₅ = c₃ .before .before in
+    rw (c₃ .entry-of .ensures .0) (stands-before (c₅ .args .d) (c₅ .args .cell) (c₅ .args .m) (length (now (c₅ .args
+    .t))) (c .before .loop .y) (c .loop-test .taken) (c₅ .pre .4))
 
 add-y : tie.Need-add-y Inv-loop μ-loop
 add-y c = search needs
@@ -40,10 +51,26 @@ loop-less : tie.Need-loop-less Inv-loop μ-loop
 loop-less c = search needs
 
 loop-again : tie.Need-loop-again Inv-loop μ-loop
-loop-again c = (search needs, search needs, ⊎-elim (λ w. omega arith) (λ w. omega arith) (c .if1 .came), ⊎-elim (λ w. rw (w .1, w .2) (least-less (c .before .before .before .loop .inv .3) (c .before .key-beside2 .ensures) (w .0 .taken))) (λ w. rw (w .1, w .2) (least-stays (c .before .before .before .loop .inv .3) (c .before .key-beside2 .ensures) (w .0 .left))) (c .if1 .came))
+loop-again c =
+    let c₃ = c .before .before .before in (
+      search needs,
+      search needs,
+      ⊎-elim (λ w. omega arith) (λ w. omega arith) (c .if1 .came),
+      ⊎-elim (λ w. rw (
+        w .1,
+        w .2,
+      ) (least-less (c₃ .loop .inv .3) (c .before .key-beside2 .ensures) (w .0 .taken))) (λ w. rw (w .1, w .2)
+          (least-stays (c₃ .loop .inv .3) (c .before .key-beside2 .ensures) (w .0 .left))) (c .if1 .came),
+    )
 
 returns : tie.Need-returns Inv-loop μ-loop
-returns c = (least-soonest (c .before .before .before .before .before .args .d) (c .before .before .before .before .before .args .cell) (c .before .before .before .before .before .args .m) (c .before .loop .inv .3) (c .before .before .before .entry-of .ensures .0) (omega arith), search needs)
+returns c =
+    let c₃ = c .before .before .before in
+    let c₅ = c₃ .before .before in (
+      least-soonest (c₅ .args .d) (c₅ .args .cell) (c₅ .args .m) (c .before .loop .inv .3) (c₃ .entry-of .ensures .0)
+          (omega arith),
+      search needs,
+    )
 
 pub soonest-within-spec : {M : Type 1} → statement M
 soonest-within-spec =

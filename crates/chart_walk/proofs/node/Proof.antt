@@ -19,7 +19,11 @@ same-length : tie.Need-same-length
 same-length c = search needs
 
 returns : tie.Need-returns
-returns c = (rw (← c .before .before .before .before .before .cell-of .ensures .0) (c .before .before .before .before .tie-at .ensures .0), c .before .before .before .before .tie-at .ensures .1, c .before .before .store .ensures)
+returns c =
+    let c₂ = c .before .before in
+    let c₄ = c₂ .before .before in
+    let c₅ = c₄ .before in
+    (rw (← c₅ .cell-of .ensures .0) (c₄ .tie-at .ensures .0), c₄ .tie-at .ensures .1, c₂ .store .ensures)
 
 pub node-spec : {M : Type 1} → statement M
 node-spec =

@@ -48,10 +48,22 @@ left-part-requires : tie.Need-left-part-requires Inv-loop μ-loop
 left-part-requires c κs = search needs
 
 loop-less : tie.Need-loop-less Inv-loop μ-loop
-loop-less c = rw (c .left-part .ensures) (less-down _ _ _ _ (c .before .before .before .before .before .before .before .before .before .before .loop .inv .1 .order) (c .before .before .before .before .before .before .before .before .before .before .loop .inv .1 .few))
+loop-less c =
+    let c₁₀ = c .before .before .before .before .before .before .before .before .before .before in
+    rw (c .left-part .ensures) (less-down _ _ _ _ (c₁₀ .loop .inv .1 .order) (c₁₀ .loop .inv .1 .few))
 
 loop-again : tie.Need-loop-again Inv-loop μ-loop
-loop-again c = (c .before .before .before .before .before .before .before .before .node .kept .1 .1 .1 .0 ∙ c .before .before .before .before .before .before .before .before .before .before .loop .inv .0, rw (c .left-part .ensures, c .before .before .before .before .before .before .before .before .node .ensures .2) (descends _ _ _ (c .before .before .before .before .before .before .before .before .before .before .loop .inv .1) (c .before .before .before .before .before .before .before .before .node .ensures .0) (c .before .before .before .before .before .before .before .before .before .before .before .before .before .before .pre .0 .last) (c .before .before .before .rule .given .1) (c .before .before .before .before .before .rule-within .ensures) (c .before .number-of .ensures .0) (c .before .number-of .ensures .1)))
+loop-again c =
+    let c₃ = c .before .before .before in
+    let c₅ = c₃ .before .before in
+    let c₈ = c₅ .before .before .before in
+    let c₁₀ = c₈ .before .before in
+    let c₁₄ = c₁₀ .before .before .before .before in (
+      c₈ .node .kept .1 .1 .1 .0 ∙ c₁₀ .loop .inv .0,
+      rw (c .left-part .ensures, c₈ .node .ensures .2) (descends _ _
+          _ (c₁₀ .loop .inv .1) (c₈ .node .ensures .0) (c₁₄ .pre .0 .last) (c₃ .rule .given .1) (c₅ .rule-within .ensures)
+          (c .before .number-of .ensures .0) (c .before .number-of .ensures .1)),
+    )
 
 enum-told : tie.Need-enum-told Inv-loop μ-loop
 enum-told c = search needs
@@ -78,10 +90,20 @@ part-of-requires : tie.Need-part-of-requires Inv-loop μ-loop
 part-of-requires c κs = top-low _ _ _ _ (c .before .before .before .before .before .before .before .before .loop .inv .1) (omega arith)
 
 loop-less-2 : tie.Need-loop-less-2 Inv-loop μ-loop
-loop-less-2 c = rw (c .part-of .ensures) (less-up _ _ _ _ (c .before .before .before .before .before .before .before .before .before .loop .inv .1 .order) (c .before .before .before .before .before .before .before .before .before .loop .inv .1 .few) _ (omega arith))
+loop-less-2 c =
+    let c₉ = c .before .before .before .before .before .before .before .before .before in
+    rw (c .part-of .ensures) (less-up _ _ _ _ (c₉ .loop .inv .1 .order) (c₉ .loop .inv .1 .few) _ (omega arith))
 
 loop-again-2 : tie.Need-loop-again-2 Inv-loop μ-loop
-loop-again-2 c = (c .before .before .before .before .before .before .before .node .kept .1 .1 .1 .0 ∙ c .before .before .before .before .before .before .before .before .before .loop .inv .0, rw (c .part-of .ensures, c .before .before .before .before .before .before .before .node .ensures .2) (resumes _ _ _ (c .before .before .before .before .before .before .before .before .before .loop .inv .1) (c .before .before .before .before .before .before .before .node .ensures .0) _ (c .before .before .enum-told .given .1) (c .before .before .before .before .rule-within .ensures) (omega arith)))
+loop-again-2 c =
+    let c₂ = c .before .before in
+    let c₄ = c₂ .before .before in
+    let c₇ = c₄ .before .before .before in
+    let c₉ = c₇ .before .before in (
+      c₇ .node .kept .1 .1 .1 .0 ∙ c₉ .loop .inv .0,
+      rw (c .part-of .ensures, c₇ .node .ensures .2) (resumes _ _ _
+          (c₉ .loop .inv .1) (c₇ .node .ensures .0) _ (c₂ .enum-told .given .1) (c₄ .rule-within .ensures) (omega arith)),
+    )
 
 pub spell-spec : {M : Type 1} → statement M
 spell-spec =

@@ -45,11 +45,41 @@ enum-told c = search needs
 
 returns-2 : tie.Need-returns-2
 unfolding followers pairFollowers pairKey
-returns-2 c = simp (ne-eqb _ _ (c .before .before .before .before .before .before .before .before .before .before .before .if1 .left), ← c .before .before .before .before .before .before .before .before .before .before .rule-at .ensures, c .before .before .before .before .before .before .before .before .rule .given .1, eq-eqb _ _ (c .before .before .if2 .taken)) (rw (c .lesser2 .ensures, c .before .pair-key2 .ensures, c .before .before .before .lesser .ensures, c .before .before .before .before .pair-key .ensures, c .before .before .before .before .before .cell-of2 .ensures .0, c .before .before .before .before .before .before .cell-of .ensures .0))
+returns-2 c =
+    let c₂ = c .before .before in
+    let c₃ = c₂ .before in
+    let c₄ = c₃ .before in
+    let c₅ = c₄ .before in
+    let c₆ = c₅ .before in
+    let c₈ = c₆ .before .before in
+    let c₁₀ = c₈ .before .before in
+    let c₁₁ = c₁₀ .before in
+    simp (ne-eqb _ _ (c₁₁ .if1 .left), ← c₁₀ .rule-at .ensures, c₈ .rule .given .1, eq-eqb _ _ (c₂ .if2 .taken)) (rw (
+      c .lesser2 .ensures,
+      c .before .pair-key2 .ensures,
+      c₃ .lesser .ensures,
+      c₄ .pair-key .ensures,
+      c₅ .cell-of2
+          .ensures .0,
+      c₆ .cell-of .ensures .0,
+    ))
 
 returns-3 : tie.Need-returns-3
 unfolding followers pairFollowers pairKey
-returns-3 c = simp (ne-eqb _ _ (c .before .before .before .before .before .before .before .before .before .if1 .left), ← c .before .before .before .before .before .before .before .before .rule-at .ensures, c .before .before .before .before .before .before .rule .given .1, ne-eqb _ _ (c .if2 .left)) (rw (c .before .lesser .ensures, c .before .before .pair-key .ensures, c .before .before .before .cell-of2 .ensures .0, c .before .before .before .before .cell-of .ensures .0))
+returns-3 c =
+    let c₂ = c .before .before in
+    let c₃ = c₂ .before in
+    let c₄ = c₃ .before in
+    let c₆ = c₄ .before .before in
+    let c₈ = c₆ .before .before in
+    let c₉ = c₈ .before in
+    simp (ne-eqb _ _ (c₉ .if1 .left), ← c₈ .rule-at .ensures, c₆ .rule .given .1, ne-eqb _ _ (c .if2 .left)) (rw (
+      c
+          .before .lesser .ensures,
+      c₂ .pair-key .ensures,
+      c₃ .cell-of2 .ensures .0,
+      c₄ .cell-of .ensures .0,
+    ))
 
 returns-4 : tie.Need-returns-4
 unfolding followers pairFollowers

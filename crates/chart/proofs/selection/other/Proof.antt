@@ -29,7 +29,19 @@ lesser-requires c κs = search needs
 
 returns : tie.Need-returns
 unfolding pairOther pairKey
-returns c = simp (← c .before .before .before .before .before .before .before .before .rule-at .ensures, c .before .before .before .before .before .before .rule .given .1, eq-eqb _ _ (c .before .before .if1 .taken)) (rw (c .lesser .ensures, c .before .pair-key .ensures, c .before .before .before .cell-of2 .ensures .0, c .before .before .before .before .cell-of .ensures .0))
+returns c =
+    let c₂ = c .before .before in
+    let c₃ = c₂ .before in
+    let c₄ = c₃ .before in
+    let c₆ = c₄ .before .before in
+    let c₈ = c₆ .before .before in
+    simp (← c₈ .rule-at .ensures, c₆ .rule .given .1, eq-eqb _ _ (c₂ .if1 .taken)) (rw (
+      c .lesser .ensures,
+      c
+          .before .pair-key .ensures,
+      c₃ .cell-of2 .ensures .0,
+      c₄ .cell-of .ensures .0,
+    ))
 
 sub-pair-key : tie.Need-sub-pair-key
 sub-pair-key c = search needs
@@ -42,18 +54,51 @@ lesser-requires-2 c κs = search needs
 
 returns-2 : tie.Need-returns-2
 unfolding pairOther pairKey
-returns-2 c = simp (← c .before .before .before .before .before .before .before .before .before .before .rule-at .ensures, c .before .before .before .before .before .before .before .before .rule .given .1, ne-eqb _ _ (c .before .before .before .before .if1 .left), eq-eqb _ _ (c .before .before .before .if2 .taken), lt-ltb _ _ (c .before .before .if3 .taken)) (rw (c .lesser2 .ensures, c .before .pair-key2 .ensures, c .before .before .before .before .before .cell-of2 .ensures .0, c .before .before .before .before .before .before .cell-of .ensures .0))
+returns-2 c =
+    let c₂ = c .before .before in
+    let c₃ = c₂ .before in
+    let c₄ = c₃ .before in
+    let c₅ = c₄ .before in
+    let c₆ = c₅ .before in
+    let c₈ = c₆ .before .before in
+    let c₁₀ = c₈ .before .before in
+    simp (
+      ← c₁₀ .rule-at .ensures,
+      c₈ .rule .given .1,
+      ne-eqb _ _ (c₄ .if1 .left),
+      eq-eqb _ _ (c₃ .if2 .taken),
+      lt-ltb _ _ (c₂ .if3 .taken),
+    ) (rw (
+      c .lesser2 .ensures,
+      c .before .pair-key2 .ensures,
+      c₅ .cell-of2 .ensures .0,
+      c₆ .cell-of .ensures .0,
+    ))
 
 enum-told : tie.Need-enum-told
 enum-told c = search needs
 
 returns-3 : tie.Need-returns-3
 unfolding pairOther
-returns-3 c = simp (← c .before .before .before .before .before .before .before .before .rule-at .ensures, c .before .before .before .before .before .before .rule .given .1, ne-eqb _ _ (c .before .before .if1 .left), eq-eqb _ _ (c .before .if2 .taken), le-ltb _ _ (c .if3 .left))
+returns-3 c =
+    let c₂ = c .before .before in
+    let c₆ = c₂ .before .before .before .before in
+    let c₈ = c₆ .before .before in
+    simp (
+      ← c₈ .rule-at .ensures,
+      c₆ .rule .given .1,
+      ne-eqb _ _ (c₂ .if1 .left),
+      eq-eqb _ _ (c .before .if2
+          .taken),
+      le-ltb _ _ (c .if3 .left),
+    )
 
 returns-4 : tie.Need-returns-4
 unfolding pairOther
-returns-4 c = simp (← c .before .before .before .before .before .before .before .rule-at .ensures, c .before .before .before .before .before .rule .given .1, ne-eqb _ _ (c .before .if1 .left), ne-eqb _ _ (c .if2 .left))
+returns-4 c =
+    let c₅ = c .before .before .before .before .before in
+    let c₇ = c₅ .before .before in
+    simp (← c₇ .rule-at .ensures, c₅ .rule .given .1, ne-eqb _ _ (c .before .if1 .left), ne-eqb _ _ (c .if2 .left))
 
 returns-5 : tie.Need-returns-5
 unfolding pairOther

@@ -66,11 +66,37 @@ loop-less : tie.Need-loop-less Inv-loop μ-loop
 loop-less c = search needs
 
 loop-again : tie.Need-loop-again Inv-loop μ-loop
-loop-again c = let h = c .before .before .before .loop .inv .0 in (search needs, search needs, rw (from-more, from-turn, ← c .before .before .before .loop .inv .2, ← c .before .number-at4 .ensures .0) (c .word-leaf .ensures))
+loop-again c =
+    let c₃ = c .before .before .before in
+    let h = c₃ .loop .inv .0 in (
+      search needs,
+      search needs,
+      rw (
+        from-more,
+        from-turn,
+        ← c₃ .loop .inv .2,
+        ← c
+            .before .number-at4 .ensures .0,
+      ) (c .word-leaf .ensures),
+    )
 
 returns-2 : tie.Need-returns-2 Inv-loop μ-loop
 unfolding edgeLeaves
-returns-2 c = simp (← c .before .before .before .before .before .before .number-at .ensures .0, eq-eqb _ _ (c .before .before .before .before .before .if1 .left), ← c .before .before .before .before .wide .ensures .0, ← c .before .before .before .number-at2 .ensures .0, ← c .before .before .number-at3 .ensures .0) (c .before .loop .inv .2 ∙ iter-end _ _ _ _ (c .before .loop .inv .1) (omega arith))
+returns-2 c =
+    let c₂ = c .before .before in
+    let c₃ = c₂ .before in
+    let c₄ = c₃ .before in
+    let c₅ = c₄ .before in
+    let c₆ = c₅ .before in
+    simp (
+      ← c₆ .number-at .ensures .0,
+      eq-eqb _ _ (c₅ .if1 .left),
+      ← c₄ .wide .ensures .0,
+      ← c₃ .number-at2 .ensures
+          .0,
+      ← c₂ .number-at3 .ensures .0,
+    ) (c .before .loop .inv .2 ∙ iter-end _ _ _ _ (c .before .loop .inv .1) (omega
+    arith))
 
 pub edge-leaves-spec : {M : Type 1} → statement M
 edge-leaves-spec =

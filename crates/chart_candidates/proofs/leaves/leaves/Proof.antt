@@ -48,7 +48,19 @@ loop-less : tie.Need-loop-less Inv-loop μ-loop
 loop-less c = search needs
 
 loop-again : tie.Need-loop-again Inv-loop μ-loop
-loop-again c = let h = c .before .before .before .loop .inv .0 in (search needs, search needs, rw (from-more, from-turn, ← c .before .before .before .loop .inv .2, ← c .before .number-at3 .ensures .0) (c .edge-leaves .ensures))
+loop-again c =
+    let c₃ = c .before .before .before in
+    let h = c₃ .loop .inv .0 in (
+      search needs,
+      search needs,
+      rw (
+        from-more,
+        from-turn,
+        ← c₃ .loop .inv .2,
+        ← c
+            .before .number-at3 .ensures .0,
+      ) (c .edge-leaves .ensures),
+    )
 
 returns : tie.Need-returns Inv-loop μ-loop
 unfolding leavesOf

@@ -56,11 +56,31 @@ returns c = simp (← c .before .before .rule-at .ensures, c .enum-told .given .
 
 returns-2 : tie.Need-returns-2
 unfolding wordLeaf
-returns-2 c = simp (← c .before .before .before .before .before .before .before .before .before .before .before .rule-at .ensures, c .before .before .before .before .before .before .before .before .before .rule .given .1, ← c .before .before .before .before .before .before .before .narrow-at .ensures, eq-eqb _ _ (c .before .before .before .before .before .if1 .taken)) (rw (c .lesser .ensures, c .before .key-of .ensures, c .before .before .tie-of .ensures .0, c .before .before .before .wide .ensures .0, c .before .before .before .before .number-at .ensures .0))
+returns-2 c =
+    let c₂ = c .before .before in
+    let c₃ = c₂ .before in
+    let c₄ = c₃ .before in
+    let c₅ = c₄ .before in
+    let c₇ = c₅ .before .before in
+    let c₉ = c₇ .before .before in
+    let c₁₁ = c₉ .before .before in
+    simp (← c₁₁ .rule-at .ensures, c₉ .rule .given .1, ← c₇ .narrow-at .ensures, eq-eqb _ _ (c₅ .if1 .taken)) (rw (
+      c
+          .lesser .ensures,
+      c .before .key-of .ensures,
+      c₂ .tie-of .ensures .0,
+      c₃ .wide .ensures .0,
+      c₄ .number-at
+          .ensures .0,
+    ))
 
 returns-3 : tie.Need-returns-3
 unfolding wordLeaf
-returns-3 c = simp (← c .before .before .before .before .before .before .rule-at .ensures, c .before .before .before .before .rule .given .1, ← c .before .before .narrow-at .ensures, ne-eqb _ _ (c .if1 .left))
+returns-3 c =
+    let c₂ = c .before .before in
+    let c₄ = c₂ .before .before in
+    let c₆ = c₄ .before .before in
+    simp (← c₆ .rule-at .ensures, c₄ .rule .given .1, ← c₂ .narrow-at .ensures, ne-eqb _ _ (c .if1 .left))
 
 pub word-leaf-spec : {M : Type 1} → statement M
 word-leaf-spec =

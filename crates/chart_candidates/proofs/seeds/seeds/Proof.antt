@@ -51,7 +51,12 @@ loop-again c = let h = c .before .before .before .loop .inv .0 in (search needs,
 
 returns : tie.Need-returns Inv-loop μ-loop
 unfolding seedsOf
-returns c = simp (zero-add, ← c .before .before .before .before .wide .ensures .0, ← c .before .before .before .number-at .ensures .0, ← c .before .before .number-at2 .ensures .0) (c .before .loop .inv .2 ∙ iter-end _ _ _ _ (c .before .loop .inv .1) (omega arith))
+returns c =
+    let c₂ = c .before .before in
+    let c₃ = c₂ .before in
+    let c₄ = c₃ .before in
+    simp (zero-add, ← c₄ .wide .ensures .0, ← c₃ .number-at .ensures .0, ← c₂ .number-at2 .ensures .0) (c .before
+    .loop .inv .2 ∙ iter-end _ _ _ _ (c .before .loop .inv .1) (omega arith))
 
 pub seeds-spec : {M : Type 1} → statement M
 seeds-spec =

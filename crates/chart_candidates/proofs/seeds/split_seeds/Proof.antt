@@ -25,7 +25,23 @@ entry-of-requires-2 : tie.Need-entry-of-requires-2
 entry-of-requires-2 c κs = search needs
 
 split-seeds-within-requires : tie.Need-split-seeds-within-requires
-split-seeds-within-requires c κs = (c .before .before .before .before .before .before .before .before .before .pre, (search needs, rw (← c .before .before .before .before .before .before .cell-of .ensures .0, ← c .before .before .before .before .before .entry-of .ensures .0) (search needs), rw (← c .before .before .before .before .cell-of2 .ensures .0, ← c .before .before .before .entry-of2 .ensures .0) (search needs)))
+split-seeds-within-requires c κs =
+    let c₃ = c .before .before .before in
+    let c₄ = c₃ .before in
+    let c₅ = c₄ .before in
+    let c₆ = c₅ .before in
+    let c₉ = c₆ .before .before .before in (
+      c₉ .pre,
+      (
+        search needs,
+        rw (← c₆ .cell-of .ensures .0, ← c₅ .entry-of .ensures .0) (search needs),
+        rw (
+          ← c₄
+              .cell-of2 .ensures .0,
+          ← c₃ .entry-of2 .ensures .0,
+        ) (search needs),
+      ),
+    )
 
 returns : tie.Need-returns
 returns c = search needs

@@ -43,7 +43,24 @@ loop-less c = search needs
 
 loop-again : tie.Need-loop-again Inv-loop μ-loop
 unfolding pairKey
-loop-again c = let h = c .before .before .before .before .before .loop .inv .0 in (search needs, search needs, rw (from-more, from-turn, c .lesser .ensures, c .before .pair-key .ensures, c .before .before .cell-of2 .ensures .0, c .before .before .before .cell-of .ensures .0, c .before .before .before .before .before .loop .inv .2))
+loop-again c =
+    let c₂ = c .before .before in
+    let c₃ = c₂ .before in
+    let c₅ = c₃ .before .before in
+    let h = c₅ .loop .inv .0 in (
+      search needs,
+      search needs,
+      rw (
+        from-more,
+        from-turn,
+        c .lesser .ensures,
+        c .before
+            .pair-key .ensures,
+        c₂ .cell-of2 .ensures .0,
+        c₃ .cell-of .ensures .0,
+        c₅ .loop .inv .2,
+      ),
+    )
 
 returns : tie.Need-returns Inv-loop μ-loop
 unfolding splitSeeds

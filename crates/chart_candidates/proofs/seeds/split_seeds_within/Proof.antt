@@ -46,7 +46,33 @@ add-j : tie.Need-add-j Inv-loop μ-loop
 add-j c = search needs
 
 loop-holds : tie.Need-loop-holds Inv-loop μ-loop
-loop-holds c = (search needs, search needs, search needs, search needs, search needs, at-first _ _ _ _ _ _ _ _ _ _ _ (search needs), record { d = c .before .before .before .before .before .before .args .d; b = c .before .before .before .before .before .before .args .b; c = c .before .before .before .before .before .before .args .c; begun = record { kept = c .before .before .before .before .before .before .pre .0 .0 .sized .kept; apart = refl; left = rw (← c .before .before .before .cell-of .ensures .0) (c .before .before .entry-of .ensures .0); right = rw (← c .before .cell-of2 .ensures .0) (c .entry-of2 .ensures .0) }; left = c .before .before .before .before .before .before .pre .1 .1; right = c .before .before .before .before .before .before .pre .1 .2 })
+loop-holds c =
+    let c₂ = c .before .before in
+    let c₃ = c₂ .before in
+    let c₆ = c₃ .before .before .before in (
+      search needs,
+      search needs,
+      search needs,
+      search needs,
+      search needs,
+      at-first _ _ _ _ _ _ _ _ _ _ _ (search
+          needs),
+      record {
+        d = c₆ .args .d;
+        b = c₆ .args .b;
+        c = c₆ .args .c;
+        begun = record {
+          kept = c₆ .pre .0 .0 .sized
+              .kept;
+          apart = refl;
+          left = rw (← c₃ .cell-of .ensures .0) (c₂ .entry-of .ensures .0);
+          right = rw (← c .before
+              .cell-of2 .ensures .0) (c .entry-of2 .ensures .0);
+        };
+        left = c₆ .pre .1 .1;
+        right = c₆ .pre .1 .2;
+      },
+    )
 
 mul-join-key : tie.Need-mul-join-key Inv-loop μ-loop
 mul-join-key c = search needs
@@ -70,10 +96,16 @@ lesser-height-requires : tie.Need-lesser-height-requires Inv-loop μ-loop
 lesser-height-requires c κs = search needs
 
 mul-x : tie.Need-mul-x Inv-loop μ-loop
-mul-x c = omega (arith, step-small (c .before .before .before .before .before .before .before .before .before .before .before .before .before .args .d .symbols) (c .before .before .before .before .before .before .loop .j) (search needs) (search needs))
+mul-x c =
+    let c₆ = c .before .before .before .before .before .before in
+    let c₁₃ = c₆ .before .before .before .before .before .before .before in
+    omega (arith, step-small (c₁₃ .args .d .symbols) (c₆ .loop .j) (search needs) (search needs))
 
 add-x : tie.Need-add-x Inv-loop μ-loop
-add-x c = omega (arith, step-small (c .before .before .before .before .before .before .before .before .before .before .before .before .before .args .d .symbols) (c .before .before .before .before .before .before .loop .j) (search needs) (search needs), c .before .before .before .before .before .before .loop .inv .2)
+add-x c =
+    let c₆ = c .before .before .before .before .before .before in
+    let c₁₃ = c₆ .before .before .before .before .before .before .before in
+    omega (arith, step-small (c₁₃ .args .d .symbols) (c₆ .loop .j) (search needs) (search needs), c₆ .loop .inv .2)
 
 add-y : tie.Need-add-y Inv-loop μ-loop
 add-y c = search needs
@@ -85,7 +117,34 @@ loop-less : tie.Need-loop-less Inv-loop μ-loop
 loop-less c = search needs
 
 loop-again : tie.Need-loop-again Inv-loop μ-loop
-loop-again c = let h = c .before .before .before .before .before .before .loop .inv .0 in (search needs, search needs, omega (arith, step-small (c .before .before .before .before .before .before .before .before .before .before .before .before .before .args .d .symbols) (c .before .before .before .before .before .before .loop .j) (search needs) (search needs), c .before .before .before .before .before .before .loop .inv .2), search needs, omega (arith, c .lesser-height .ensures .1, c .before .before .before .before .before .before .loop .inv .4), rw (c .lesser-height .ensures .0, c .before .join-key .ensures, c .before .before .tie-of .ensures .0) (at-next _ _ _ _ _ _ _ _ _ _ _ _ _ _ h (c .before .before .before .before .before .before .loop .inv .5)), c .before .before .before .before .before .before .loop .inv .6)
+loop-again c =
+    let c₂ = c .before .before in
+    let c₆ = c₂ .before .before .before .before in
+    let c₁₃ = c₆ .before .before .before .before .before .before .before in
+    let h = c₆ .loop .inv .0 in (
+      search needs,
+      search needs,
+      omega (
+        arith,
+        step-small (c₁₃ .args .d .symbols) (c₆
+            .loop .j) (search needs) (search needs),
+        c₆ .loop .inv .2,
+      ),
+      search needs,
+      omega (
+        arith,
+        c .lesser-height
+            .ensures .1,
+        c₆ .loop .inv .4,
+      ),
+      rw (
+        c .lesser-height .ensures .0,
+        c .before .join-key .ensures,
+        c₂ .tie-of
+            .ensures .0,
+      ) (at-next _ _ _ _ _ _ _ _ _ _ _ _ _ _ h (c₆ .loop .inv .5)),
+      c₆ .loop .inv .6,
+    )
 
 add-result : tie.Need-add-result Inv-loop μ-loop
 add-result c = search needs
@@ -95,7 +154,20 @@ add-result-2 c = search needs
 
 returns : tie.Need-returns Inv-loop μ-loop
 unfolding splitSeeds
-returns c = c .before .loop .inv .5 _ _ _ (record { kept = c .before .before .before .before .before .before .before .before .pre .0 .0 .sized .kept; apart = refl; left = rw (← c .before .before .before .before .before .cell-of .ensures .0) (c .before .before .before .before .entry-of .ensures .0); right = rw (← c .before .before .before .cell-of2 .ensures .0) (c .before .before .entry-of2 .ensures .0) }) .seeds ∙ iter-end _ _ _ _ (c .before .loop .inv .1) (omega arith)
+returns c =
+    let c₂ = c .before .before in
+    let c₃ = c₂ .before in
+    let c₄ = c₃ .before in
+    let c₅ = c₄ .before in
+    let c₈ = c₅ .before .before .before in
+    c .before .loop .inv .5 _ _ _ (record {
+      kept = c₈ .pre .0 .0 .sized .kept;
+      apart = refl;
+      left = rw (← c₅
+          .cell-of .ensures .0) (c₄ .entry-of .ensures .0);
+      right = rw (← c₃ .cell-of2 .ensures .0) (c₂ .entry-of2
+          .ensures .0);
+    }) .seeds ∙ iter-end _ _ _ _ (c .before .loop .inv .1) (omega arith)
 
 pub split-seeds-within-spec : {M : Type 1} → statement M
 split-seeds-within-spec =

@@ -33,7 +33,20 @@ same-length c = search needs
 
 returns : tie.Need-returns
 unfolding clearedEntry
-returns c = rw (c .before .before .store4 .ensures, c .before .before .before .before .before .before .store3 .ensures, c .before .before .before .before .before .before .before .before .before .before .store2 .ensures, c .before .before .before .before .before .before .before .before .before .before .before .before .before .before .store .ensures, c .before .before .before .before .before .before .before .before .before .before .before .before .before .before .before .before .entry-of .ensures .0)
+returns c =
+    let c₂ = c .before .before in
+    let c₆ = c₂ .before .before .before .before in
+    let c₁₀ = c₆ .before .before .before .before in
+    let c₁₄ = c₁₀ .before .before .before .before in
+    let c₁₆ = c₁₄ .before .before in
+    rw (
+      c₂ .store4 .ensures,
+      c₆ .store3 .ensures,
+      c₁₀ .store2 .ensures,
+      c₁₄ .store .ensures,
+      c₁₆ .entry-of .ensures
+          .0,
+    )
 
 pub clear-entry-spec : {M : Type 1} → statement M
 clear-entry-spec =
