@@ -9,12 +9,12 @@ use Rattle.packing.specs.Meaning.{Utterance, Reading}
 use Rattle.packing.specs.Parse.{parsed, accepted}
 use Rattle.packing.specs.Utterance.{utteranceBlock}
 use Rattle.packing.specs.Reading.{readingFrom}
-use Rattle.packing.specs.Flat.{SlotsIn}
+use Rattle.packing.specs.Flat.{SlotsIn, slotsOf}
 use Rattle.packing.proofs.Reading.{reading-out}
 use Rattle.reading_reader.specs.Answer.{WalkIn}
 use Rattle.derivation.specs.Walk.{walkWeight}
-use Rattle.checker.specs.Run.{weighed, byRun, underRules, slotsOf}
-use Rattle.checker.proofs.Arrays.{slots-of}
+use Rattle.checker.specs.Run.{weighed, byRun, underRules}
+use Rattle.packing.proofs.Flat.{slots-of}
 
 -- a reading, by the weight of the walk that stands in the array
 pub walk-judged : (n count : ℕ) (rules : List R.Rule) (u : Utterance) (block array : List ℕ) {d : Reading} {at : ℕ} {own : Option ℕ}

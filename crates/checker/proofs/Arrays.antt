@@ -1,90 +1,18 @@
--- What stands in arrays: the numbers of a grammar's rules and of an utterance's slots give back those, and the stack's symbols
--- change where it is written.
-use mathlib.Core.Path.{_≡_, refl, sym, ap, _∙_}
-use mathlib.Core.List.{List, [], _∷_, _++_, map-append, append-assoc}
+-- The stack's symbols change where it is written, and a word's cost is looked for among the candidates of an array one by one.
+use mathlib.Core.Path.{_≡_, refl, ap}
+use mathlib.Core.List.{List, _∷_}
 use mathlib.Core.Option.{none, some}
 use Prim.Native.Nat.{ℕ, zero, suc, _+_, _-_, _*_, _≤_, _<_}
 use native.Mathlib.Numerals.{add-one}
 use native.Mathlib.Omega.{arith}
 use borrow.Author.Tests.{eq-eqb, ne-eqb}
-use lib.ListN.{length, getD, getElem?, set, drop, take-append-drop, length-set}
+use lib.ListN.{length, getD, set, length-set}
 use lib.Seq.{getD-set-same, getD-set-other}
 use Rattle.packing.specs.declared.Word as W
-use Rattle.packing.specs.Meaning.{sym as symbol, Grammar, Utterance, Candidate, candidate}
-use Rattle.packing.specs.Source.{values, valueOf}
-use Rattle.packing.specs.Utterance.{candidatesEntries, slotsEntries}
-use Rattle.packing.specs.Flat.{Begins, ruleNumbers, ruleAt, slotNumbers}
-use Rattle.packing.proofs.Flat.{rule-at}
+use Rattle.packing.specs.Meaning.{sym as symbol}
+use Rattle.packing.specs.Flat.{candidatesOf}
 use Rattle.derivation.specs.Walk.{costOf}
-use Rattle.checker.specs.Run.{table, rulesOf, candidatesOf, slotsOf, headsOf}
-
--- tables
-module _ {A : Type 0} where
-  pub length-table : (f : ℕ → A) (n : ℕ) → length (table f n) ≡ n
-  unfolding table
-  length-table f zero = refl
-  length-table f (suc n) = ap suc (length-table (λ m. f (suc m)) n)
-
-  pub table-at : (f : ℕ → A) (n r : ℕ) → r < n → getElem? (table f n) r ≡ some (f r)
-  unfolding table
-  table-at f zero r h = absurd (omega arith)
-  table-at f (suc n) zero h = refl
-  table-at f (suc n) (suc r) h = table-at (λ m. f (suc m)) n r (omega arith)
-
-  pub table-past : (f : ℕ → A) (n r : ℕ) → n ≤ r → getElem? (table f n) r ≡ none
-  unfolding table
-  table-past f zero r h = refl
-  table-past f (suc n) zero h = absurd (omega arith)
-  table-past f (suc n) (suc r) h = table-past (λ m. f (suc m)) n r (omega arith)
-
-  table-is : (f : ℕ → A) (l : List A) → ((r : ℕ) → r < length l → getElem? l r ≡ some (f r)) → table f (length l) ≡ l
-  unfolding table
-  table-is f [] h = refl
-  table-is f (x ∷ l) h =
-      let p : f 0 ≡ x = cc (h 0 (omega arith)) in
-      rw (p, table-is (λ m. f (suc m)) l (λ r b. h (suc r) (omega arith)))
-
-pub rules-of : (g : Grammar) (array : List ℕ) → Begins (ruleNumbers g) array → rulesOf array (length (g .rules)) ≡ g .rules
-rules-of g array b = table-is (ruleAt array) (g .rules) (λ r h. rule-at g array r b h)
-
--- a list from place p on
-drop-head : (l : List ℕ) (p : ℕ) {x : ℕ} {rest : List ℕ} → drop p l ≡ x ∷ rest → (getD l p 0 ≡ x) × (drop (p + 1) l ≡ rest)
-drop-head [] zero e = let z : _≡_ {A = ℕ} 0 1 = cc in absurd (omega arith)
-drop-head [] (suc p) e = let z : _≡_ {A = ℕ} 0 1 = cc in absurd (omega arith)
-drop-head (y ∷ l) zero e = (cc, cc)
-drop-head (y ∷ l) (suc p) e = let z : suc p + 1 ≡ suc (p + 1) = omega arith in rw z (drop-head l p e)
-
-candidates-of : (W least : ℕ) (cs : List Candidate) (l : List ℕ) (p : ℕ) (rest : List ℕ) → drop p l ≡ values (candidatesEntries W least cs) ++ rest
-    → (candidatesOf l (length cs) p ≡ cs) × (drop (p + 2 * length cs) l ≡ rest)
-unfolding candidatesOf candidatesEntries
-candidates-of W least [] l p rest e = let z : p + 2 * 0 ≡ p = omega arith in (refl, rw z e)
-candidates-of W least (candidate w c ∷ cs) l p rest e =
-    let (a, d) = drop-head l p e in
-    let (b, f) = drop-head l (p + 1) d in
-    let z : p + 1 + 1 ≡ p + 2 = omega arith in
-    let (r, g) = candidates-of W (suc (w .0)) cs l (p + 2) rest (rw z at f) in
-    let n : p + 2 * suc (length cs) ≡ p + 2 + 2 * length cs = omega arith in
-    (rw (a, b, r), rw n g)
-
-slots-from : (W : ℕ) (u : Utterance) (l : List ℕ) (p : ℕ) (rest : List ℕ) → drop p l ≡ slotNumbers W u ++ rest → slotsOf l (length u) p ≡ u
-unfolding slotsOf slotsEntries
-slots-from W [] l p rest e = refl
-slots-from W (cs ∷ u) l p rest e =
-    let split : values (candidatesEntries W 0 cs ++ slotsEntries W u) ++ rest ≡ values (candidatesEntries W 0 cs) ++ (slotNumbers W u ++ rest) =
-    ap (λ (z : List ℕ). z ++ rest) (map-append valueOf (candidatesEntries W 0 cs) (slotsEntries W u)) ∙ append-assoc (values (candidatesEntries W 0 cs)) (slotNumbers W u) rest in
-    let (a, d) = drop-head l p e in
-    let (b, f) = candidates-of W 0 cs l (p + 1) (slotNumbers W u ++ rest) (d ∙ split) in
-    rw (a, b, slots-from W u l (p + 1 + 2 * length cs) rest f)
-
-pub slots-of : (W : ℕ) (u : Utterance) (array : List ℕ) → Begins (slotNumbers W u) array → slotsOf array (length u) 0 ≡ u
-slots-of W u array b =
-    let ns : List ℕ = slotNumbers W u in
-    slots-from W u array 0 (drop (length ns) array) (sym (take-append-drop (length ns) array) ∙ ap (λ (z : List ℕ). z ++ drop (length ns) array) b)
-
-pub length-slots : (l : List ℕ) (n p : ℕ) → length (slotsOf l n p) ≡ n
-unfolding slotsOf
-length-slots l zero p = refl
-length-slots l (suc n) p = ap suc (length-slots l n _)
+use Rattle.checker.specs.Run.{headsOf}
 
 -- the stack
 pub length-heads : (l : List ℕ) (n : ℕ) → length (headsOf l n) ≡ n

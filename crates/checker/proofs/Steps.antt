@@ -17,10 +17,12 @@ use Rattle.packing.specs.declared.Rule.the-variants.{Pair, Word}
 use Rattle.packing.specs.Meaning.{sym as symbol}
 use Rattle.derivation.specs.Walk.{State, onward, astray, costOf, leafStep, ruleStep, step, run, ended}
 use Rattle.derivation.proofs.Walk.{run-astray}
-use Rattle.checker.specs.Run.{slotAt, behind, slotsOf, headsOf, stateOf}
+use Rattle.packing.specs.Flat.{slotsOf, slotsBy}
+use Rattle.checker.specs.Run.{slotAt, behind, headsOf, stateOf}
 use Rattle.checker.specs.declared.walk.Progress.{Progress}
 use Rattle.checker.specs.declared.walk.Step.the-variants.{Onward}
-use Rattle.checker.proofs.Arrays.{length-slots, length-heads, heads-top}
+use Rattle.packing.proofs.Flat.{length-slots-by}
+use Rattle.checker.proofs.Arrays.{length-heads, heads-top}
 
 module _ (rules : List R.Rule) (slots stack : List ℕ) (at : Progress) (r : ℕ) where
   abbrev from : State
@@ -48,12 +50,12 @@ module _ (rules : List R.Rule) (slots stack : List ℕ) (at : Progress) (r : ℕ
     unfolding step ruleStep
     pair-rule e =
         let n : suc (at .height - 1) ≡ at .height = omega arith in
-        rw (heads-top stack (at .height) h, e, length-heads stack (at .height - 1), length-slots slots (at .left) (at .place), n)
+        rw (heads-top stack (at .height) h, e, length-heads stack (at .height - 1), length-slots-by (λ (c : ℕ). c) slots (at .left) (at .place), n)
 
     pub word-rule : {x : W.Word} → at .height ≤ at .left → getElem? rules r ≡ some (Word H x w)
         → step rules from r ≡ pick (eqb (H .0) (getD stack (at .height - 1) 0))
         (leafStep (slotsOf slots (at .left - 1) (behind slots (at .place))) below (at .weight + w) (costOf x (slotAt slots (at .place)))) astray
-    unfolding step ruleStep slotsOf
+    unfolding step ruleStep slotsBy
     word-rule {x} l e =
         let n : at .left ≡ suc (at .left - 1) = omega arith in
         rw (heads-top stack (at .height) h, e) (ap (λ (m : ℕ). ruleStep (slotsOf slots m (at .place)) (symbol (getD stack (at .height - 1) 0)) below (at .weight) (some (Word H x w))) n)
@@ -77,9 +79,9 @@ module _ (rules : List R.Rule) (s : State) (walk : List ℕ) (m i : ℕ) where
 -- the walk has ended where no slot is left
 module _ (slots stack : List ℕ) (at : Progress) where
   pub at-end : at .left ≡ 0 → at .height ≤ at .left → ended (stateOf slots stack (Onward at)) ≡ some (at .weight)
-  unfolding ended slotsOf headsOf
+  unfolding ended slotsBy headsOf
   at-end e l = let n : at .height ≡ 0 = omega arith in rw (e, n)
 
   pub not-at-end : (at .left ≡ 0 → ⊥) → ended (stateOf slots stack (Onward at)) ≡ none
-  unfolding ended slotsOf
+  unfolding ended slotsBy
   not-at-end f = let n : at .left ≡ suc (at .left - 1) = omega arith in rw n

@@ -6,11 +6,11 @@ use Prim.Native.Nat.{ℕ, zero, suc, _+_, _*_, _^_, _≤_, _<_}
 use lib.Dec.{eqb}
 use lib.ListN.{length, getD}
 use Rattle.bits.specs.Bits.{pick, ended}
-use Rattle.packing.specs.Meaning.{Utterance, Candidate, candidate, Reading, sym, word}
+use Rattle.packing.specs.Meaning.{Utterance, Candidate, Reading, sym}
 use Rattle.packing.specs.Parse.{Parse, parsed, failed, Verdict, accepted, refused, _then_}
 use Rattle.packing.specs.Utterance.{utteranceBlock}
 use Rattle.packing.specs.Reading.{readingFrom}
-use Rattle.packing.specs.Flat.{ruleAt}
+use Rattle.packing.specs.Flat.{candidatesOf, slotsOf}
 use Rattle.packing.specs.declared.Sym.{Sym}
 use Rattle.packing.specs.declared.Rule as R
 use Rattle.derivation.specs.Walk.{State, onward, astray, walkWeight}
@@ -34,18 +34,6 @@ unfoldable pub underRules : ℕ → List R.Rule → List ℕ → List ℕ → Ve
 underRules W rules utterance reading =
     utteranceBlock W utterance then λ u. byRun rules u reading (readingFrom (length u) (length rules) reading)
 
--- what stands in arrays: f at 0, 1, .. n - 1; n rules; n candidates, and n slots, from place p on; n symbols, the last first
-unfoldable pub table : {A : Type 0} → (ℕ → A) → ℕ → List A
-table f zero = []
-table f (suc n) = f 0 ∷ table (λ m. f (suc m)) n
-
-abbrev pub rulesOf : List ℕ → ℕ → List R.Rule
-rulesOf l n = table (ruleAt l) n
-
-unfoldable pub candidatesOf : List ℕ → ℕ → ℕ → List Candidate
-candidatesOf l zero p = []
-candidatesOf l (suc n) p = candidate (word (getD l p 0)) (getD l (p + 1) 0) ∷ candidatesOf l n (p + 2)
-
 -- the slot at place p, and the place behind it
 abbrev pub slotAt : List ℕ → ℕ → List Candidate
 slotAt l p = candidatesOf l (getD l p 0) (p + 1)
@@ -53,10 +41,7 @@ slotAt l p = candidatesOf l (getD l p 0) (p + 1)
 abbrev pub behind : List ℕ → ℕ → ℕ
 behind l p = p + 1 + 2 * getD l p 0
 
-unfoldable pub slotsOf : List ℕ → ℕ → ℕ → Utterance
-slotsOf l zero p = []
-slotsOf l (suc n) p = slotAt l p ∷ slotsOf l n (behind l p)
-
+-- n symbols of an array, the last first
 unfoldable pub headsOf : List ℕ → ℕ → List Sym
 headsOf l zero = []
 headsOf l (suc n) = sym (getD l n 0) ∷ headsOf l n

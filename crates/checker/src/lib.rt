@@ -11,7 +11,8 @@ ghost use Rattle.packing.specs.Meaning.{Reading};
 ghost use Rattle.packing.specs.Reading.{readingFrom};
 ghost use Rattle.checker.specs.Check as definition;
 ghost use Rattle.checker.specs.Check.{answerOf};
-ghost use Rattle.checker.specs.Run.{weighed, byRun, underRules, rulesOf, slotsOf, numberOf};
+ghost use Rattle.packing.specs.Flat.{rulesOf, slotsOf};
+ghost use Rattle.checker.specs.Run.{weighed, byRun, underRules, numberOf};
 
 // What the check answers.
 pub enum Checked {

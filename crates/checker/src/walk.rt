@@ -9,7 +9,8 @@ ghost use lib.Dec.{ltb};
 ghost use lib.ListN.{length, take};
 ghost use Rattle.bits.specs.Bits.{pick};
 ghost use Rattle.derivation.specs.Walk.{onward, astray, costOf, leafStep, step, walkWeight};
-ghost use Rattle.checker.specs.Run.{rulesOf, candidatesOf, slotAt, behind, slotsOf, headsOf, numberOf, stateOf, Small, Within, Further};
+ghost use Rattle.packing.specs.Flat.{rulesOf, candidatesOf, slotsOf};
+ghost use Rattle.checker.specs.Run.{slotAt, behind, headsOf, numberOf, stateOf, Small, Within, Further};
 
 // A number, where there is one.
 pub enum Found {

@@ -1,42 +1,25 @@
 -- The array that a grammar was read into gives back the grammar: its rules, its block and its sheet.
 -- Assumes nothing.
-use mathlib.Core.Path.{_≡_, refl}
+use mathlib.Core.Path.{_≡_}
 use mathlib.Core.List.{List, [], _∷_, _++_}
-use mathlib.Core.Option.{some}
-use Prim.Native.Nat.{ℕ, suc, _+_, _*_, _<_}
-use native.Mathlib.Nat.{add-zero, zero-add}
-use native.Mathlib.Omega.{arith}
-use lib.ListN.{length, take, getElem?}
+use Prim.Native.Nat.{ℕ, _*_}
+use lib.ListN.{length, take}
 use Rattle.packing.specs.Meaning as meaning
 use Rattle.packing.specs.Parse.{Verdict, accepted, _then_}
 use Rattle.packing.specs.Grammar.{grammarEntries, blockOfGrammar, sheetOfGrammar}
-use Rattle.packing.specs.Flat.{Begins, ruleNumbers, RulesIn, ruleAt}
-use Rattle.packing.specs.declared.Rule as R
+use Rattle.packing.specs.Flat.{Begins, ruleNumbers, RulesIn}
 use Rattle.packing.proofs.Bounds.{length-rules}
-use Rattle.packing.proofs.Flat.{rule-at}
+use Rattle.packing.proofs.Flat.{rules-of}
 use Rattle.packing_grammar.specs.Answer.{answerOf}
 use Rattle.packing_grammar.specs.declared.Sizes.{Sizes}
 use Rattle.packing_grammar.specs.declared.GrammarRead.the-variants.{Grammar}
-use Rattle.packing_writing.specs.Arrays.{rulesAt, grammarFields, blockOf}
+use Rattle.packing_writing.specs.Arrays.{grammarFields, blockOf}
 use Rattle.packing_grammar.proofs.Told.{of-sizes}
 
--- rules that stand in an array, one by one
-all-rules : (rs : List R.Rule) (l : List ℕ) (k : ℕ) → ((r : ℕ) → r < length rs → getElem? rs r ≡ some (ruleAt l (k + r))) → rulesAt l k (length rs) ≡ rs
-unfolding rulesAt
-all-rules [] l k h = refl
-all-rules (r ∷ rs) l k h =
-    let e : some r ≡ some (ruleAt l k) = rw add-zero at (h 0 (omega arith)) in
-    let f : ruleAt l k ≡ r = cc in
-    let s : (i : ℕ) → k + suc i ≡ suc k + i = λ i. omega arith in
-    rw (f, all-rules rs l (suc k) (λ i b. rw s at (h (suc i) (omega arith))))
-
 module _ (g : meaning.Grammar) (l : List ℕ) (b : Begins (ruleNumbers g) l) where
-  rules-in : rulesAt l 0 (length (g .rules)) ≡ g .rules
-  rules-in = all-rules (g .rules) l 0 (λ r h. rw zero-add (rule-at g l r b h))
-
   block-is : blockOfGrammar g ≡ blockOf (grammarFields (g .symbols) (g .words) (length (g .rules)) l)
   unfolding blockOfGrammar grammarEntries
-  block-is = rw rules-in
+  block-is = rw (rules-of g l b)
 
   sheet-is : sheetOfGrammar g ≡ (g .symbols ∷ g .words ∷ length (g .rules) ∷ []) ++ take (5 * length (g .rules)) l
   unfolding sheetOfGrammar grammarEntries

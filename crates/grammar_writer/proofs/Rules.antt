@@ -9,8 +9,8 @@ use Rattle.bits.specs.Fields.{widths}
 use Rattle.bits.proofs.Fields.{widths-append}
 use Rattle.packing.specs.Source.{fldOf, flds}
 use Rattle.packing.specs.Grammar.{ruleEntries, rulesEntries}
-use Rattle.packing.specs.Flat.{ruleAt}
-use Rattle.packing_writing.specs.Arrays.{rulesAt, rulesFields}
+use Rattle.packing.specs.Flat.{ruleAt, rulesAt}
+use Rattle.packing_writing.specs.Arrays.{rulesFields}
 
 module _ (S W : ℕ) (l : List ℕ) (n i : ℕ) where
   pub rules-end : n ≤ i → rulesFields S W l i (n - i) ≡ []

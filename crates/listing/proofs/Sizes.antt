@@ -9,8 +9,9 @@ use lib.Dec.{ltb}
 use lib.ListN.{length, length-append}
 use borrow.Author.Tests.{ltb-false}
 use Rattle.bits.specs.Bits.{pick}
-use Rattle.packing.specs.Meaning.{Grammar, Utterance}
+use Rattle.packing.specs.Meaning.{Grammar, Utterance, edgesFrom}
 use Rattle.packing.specs.Parse.{refused}
+use Rattle.packing.specs.Flat.{slotsBy}
 use Rattle.packing.proofs.Widths.{length-small}
 use Rattle.packing_utterance.specs.Edges.{candidatesAt, slotsEdges, edgesIn}
 use Rattle.packing_utterance.proofs.Edges.{length-candidate-edges}
@@ -71,7 +72,7 @@ short g u N work out = picks refused (ltb N 1) (ltb 256 N) (ltb work (tableSize 
 
 -- seven edges a slot at most
 slots-few : (l : List ℕ) (n i p : ℕ) → length (slotsEdges l n i p) ≤ 7 * n
-unfolding slotsEdges
+unfolding edgesFrom slotsBy
 slots-few l zero i p = omega arith
 slots-few l (suc n) i p = rw (length-append, length-candidate-edges) (omega (arith, slots-few l n (suc i) (p + 1 + 2 * candidatesAt l p)))
 

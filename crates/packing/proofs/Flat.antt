@@ -1,17 +1,19 @@
 -- Rule r of a grammar stands in five numbers of an array that begins with the grammar's, from 5 r on, and edge e of a list in
--- four of one that begins with the list's, from 4 e on.
+-- four of one that begins with the list's, from 4 e on. Slots stand one behind the other, since a slot's count leads to the next.
 -- Assumes nothing.
 use mathlib.Core.Path.{_≡_, refl, sym, ap, _∙_}
-use mathlib.Core.List.{List, [], _∷_}
-use mathlib.Core.Option.{some}
-use Prim.Native.Nat.{ℕ, zero, suc, _+_, _*_, _<_}
+use mathlib.Core.List.{List, [], _∷_, _++_, map-append, append-assoc}
+use mathlib.Core.Option.{none, some}
+use Prim.Native.Nat.{ℕ, zero, suc, _+_, _*_, _≤_, _<_}
+use native.Mathlib.Nat.{add-zero, zero-add}
 use native.Mathlib.Omega.{arith}
-use lib.ListN.{length, getD, getElem?}
-use lib.Seq.{getD-take}
-use Rattle.packing.specs.Meaning.{word, Grammar, Edge, edge}
-use Rattle.packing.specs.Source.{values}
+use lib.ListN.{length, getD, getElem?, drop, take-append-drop}
+use lib.Seq.{getD-take, getD-drop, drop-drop}
+use Rattle.packing.specs.Meaning.{word, Grammar, Candidate, candidate, Utterance, Edge, edge}
+use Rattle.packing.specs.Source.{values, valueOf}
 use Rattle.packing.specs.Grammar.{rulesEntries}
-use Rattle.packing.specs.Flat.{Begins, ruleNumbers, ruleAt, edgeNumbers}
+use Rattle.packing.specs.Utterance.{candidatesEntries, slotsEntries}
+use Rattle.packing.specs.Flat.{Begins, ruleNumbers, ruleAt, rulesAt, rulesOf, slotNumbers, candidatesOf, slotsBy, slotsOf, edgeNumbers}
 use Rattle.packing.specs.declared.Rule as R
 use Rattle.packing.specs.declared.Rule.the-variants.{Pair, Word}
 use Rattle.packing.proofs.Bounds.{length-rules}
@@ -50,6 +52,99 @@ rule-at g array r b h =
       begins-at l array (5 * r + 4) b (omega arith),
     )
     (rules-at (g .symbols) (g .words) (g .rules) r h)
+
+-- the first rules of an array: how many they are, and each of them
+pub length-rules-at : (l : List ℕ) (k n : ℕ) → length (rulesAt l k n) ≡ n
+unfolding rulesAt
+length-rules-at l k zero = refl
+length-rules-at l k (suc n) = ap suc (length-rules-at l (suc k) n)
+
+from-rule : (l : List ℕ) (k n r : ℕ) → r < n → getElem? (rulesAt l k n) r ≡ some (ruleAt l (k + r))
+unfolding rulesAt
+from-rule l k zero r h = absurd (omega arith)
+from-rule l k (suc n) zero h = rw add-zero
+from-rule l k (suc n) (suc r) h = let z : k + suc r ≡ suc k + r = omega arith in rw z (from-rule l (suc k) n r (omega arith))
+
+pub rule-of : (l : List ℕ) (n r : ℕ) → r < n → getElem? (rulesOf l n) r ≡ some (ruleAt l r)
+rule-of l n r h = rw zero-add at (from-rule l 0 n r h)
+
+pub no-rule-of : (l : List ℕ) (k n r : ℕ) → n ≤ r → getElem? (rulesAt l k n) r ≡ none
+unfolding rulesAt
+no-rule-of l k zero r h = refl
+no-rule-of l k (suc n) zero h = absurd (omega arith)
+no-rule-of l k (suc n) (suc r) h = no-rule-of l (suc k) n r (omega arith)
+
+-- those of an array that begins with a grammar's are the grammar's
+all-rules : (rs : List R.Rule) (l : List ℕ) (k : ℕ) → ((r : ℕ) → r < length rs → getElem? rs r ≡ some (ruleAt l (k + r))) → rulesAt l k (length rs) ≡ rs
+unfolding rulesAt
+all-rules [] l k h = refl
+all-rules (r ∷ rs) l k h =
+    let e : some r ≡ some (ruleAt l k) = rw add-zero at (h 0 (omega arith)) in
+    let f : ruleAt l k ≡ r = cc in
+    let s : (i : ℕ) → k + suc i ≡ suc k + i = λ i. omega arith in
+    rw (f, all-rules rs l (suc k) (λ i b. rw s at (h (suc i) (omega arith))))
+
+pub rules-of : (g : Grammar) (array : List ℕ) → Begins (ruleNumbers g) array → rulesOf array (length (g .rules)) ≡ g .rules
+rules-of g array b = all-rules (g .rules) array 0 (λ r h. rw zero-add (rule-at g array r b h))
+
+-- slots: the number at a place of a list, and what stands behind it
+drop-head : (l : List ℕ) (p : ℕ) {x : ℕ} {rest : List ℕ} → drop p l ≡ x ∷ rest → (getD l p 0 ≡ x) × (drop (p + 1) l ≡ rest)
+drop-head l p e =
+    let a = getD-drop p l 0 0 in
+    let b = drop-drop 1 p l in
+    (sym (rw add-zero at a) ∙ ap (λ (t : List ℕ). getD t 0 0) e, sym b ∙ ap (drop 1) e)
+
+candidates-of : (W least : ℕ) (cs : List Candidate) (l : List ℕ) (p : ℕ) (rest : List ℕ) → drop p l ≡ values (candidatesEntries W least cs) ++ rest
+    → (candidatesOf l (length cs) p ≡ cs) × (drop (p + 2 * length cs) l ≡ rest)
+unfolding candidatesOf candidatesEntries
+candidates-of W least [] l p rest e = (refl, rw add-zero e)
+candidates-of W least (candidate w c ∷ cs) l p rest e =
+    let (a, d) = drop-head l p e in
+    let (b, f) = drop-head l (p + 1) d in
+    let z : p + 1 + 1 ≡ p + 2 = omega arith in
+    let (r, g) = candidates-of W (suc (w .0)) cs l (p + 2) rest (rw z at f) in
+    let n : p + 2 * suc (length cs) ≡ p + 2 + 2 * length cs = omega arith in
+    (rw (a, b, r), rw n g)
+
+-- f keeps the counts of the slots
+abbrev pub Kept : (ℕ → ℕ) → Utterance → Type 0
+Kept f [] = Unit {0}
+Kept f (cs ∷ u) = (f (length cs) ≡ length cs) × Kept f u
+
+slots-from : (f : ℕ → ℕ) (W : ℕ) (u : Utterance) (l : List ℕ) (p : ℕ) (rest : List ℕ) → Kept f u → drop p l ≡ slotNumbers W u ++ rest
+    → slotsBy f l (length u) p ≡ u
+unfolding slotsBy slotsEntries
+slots-from f W [] l p rest k e = refl
+slots-from f W (cs ∷ u) l p rest (k, ks) e =
+    let es = candidatesEntries W 0 cs in
+    let split : values (es ++ slotsEntries W u) ++ rest ≡ values es ++ (slotNumbers W u ++ rest) =
+    ap (λ (z : List ℕ). z ++ rest) (map-append valueOf es (slotsEntries W u)) ∙ append-assoc (values es) (slotNumbers W u) rest in
+    let (a, d) = drop-head l p e in
+    let (b, g) = candidates-of W 0 cs l (p + 1) (slotNumbers W u ++ rest) (d ∙ split) in
+    rw (a, k, b, slots-from f W u l (p + 1 + 2 * length cs) rest ks g)
+
+-- those of an array that begins with an utterance's are the utterance's
+pub slots-by : (f : ℕ → ℕ) (W : ℕ) (u : Utterance) (array : List ℕ) → Kept f u → Begins (slotNumbers W u) array → slotsBy f array (length u) 0 ≡ u
+slots-by f W u array k b =
+    let ns : List ℕ = slotNumbers W u in
+    slots-from f W u array 0 (drop (length ns) array) k (sym (take-append-drop (length ns) array) ∙ ap (λ (z : List ℕ). z ++ drop (length ns) array) b)
+
+pub slots-of : (W : ℕ) (u : Utterance) (array : List ℕ) → Begins (slotNumbers W u) array → slotsOf array (length u) 0 ≡ u
+slots-of W u array b = slots-by (λ c. c) W u array (all u) b
+  where
+    all : (v : Utterance) → Kept (λ c. c) v
+    all [] = tt
+    all (cs ∷ v) = (refl, all v)
+
+pub length-candidates-of : (l : List ℕ) (n p : ℕ) → length (candidatesOf l n p) ≡ n
+unfolding candidatesOf
+length-candidates-of l zero p = refl
+length-candidates-of l (suc n) p = ap suc (length-candidates-of l n (p + 2))
+
+pub length-slots-by : (f : ℕ → ℕ) (l : List ℕ) (n p : ℕ) → length (slotsBy f l n p) ≡ n
+unfolding slotsBy
+length-slots-by f l zero p = refl
+length-slots-by f l (suc n) p = ap suc (length-slots-by f l n _)
 
 -- edges
 pub length-edges : (es : List Edge) → length (edgeNumbers es) ≡ 4 * length es

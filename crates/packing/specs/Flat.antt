@@ -2,9 +2,9 @@
 -- accepted block, never on its bytes". Assumes nothing.
 use mathlib.Core.Path.{_≡_}
 use mathlib.Core.List.{List, [], _∷_}
-use Prim.Native.Nat.{ℕ, _+_, _*_}
+use Prim.Native.Nat.{ℕ, zero, suc, _+_, _*_}
 use lib.ListN.{length, getD, take}
-use Rattle.packing.specs.Meaning.{Grammar, Utterance, Edge, edge}
+use Rattle.packing.specs.Meaning.{Grammar, Candidate, candidate, Utterance, Edge, edge, word}
 use Rattle.packing.specs.Parse.{Verdict, accepted, refused}
 use Rattle.packing.specs.Source.{values}
 use Rattle.packing.specs.Grammar.{ruleOf, rulesEntries}
@@ -27,6 +27,14 @@ RulesIn (refused n) array = Unit {0}
 abbrev pub ruleAt : List ℕ → ℕ → R.Rule
 ruleAt l r = ruleOf (getD l (5 * r) 0) (getD l (5 * r + 1) 0) (getD l (5 * r + 2) 0) (getD l (5 * r + 3) 0) (getD l (5 * r + 4) 0)
 
+-- n rules of it, from rule r on, and its first n
+unfoldable pub rulesAt : List ℕ → ℕ → ℕ → List R.Rule
+rulesAt l r zero = []
+rulesAt l r (suc n) = ruleAt l r ∷ rulesAt l (suc r) n
+
+abbrev pub rulesOf : List ℕ → ℕ → List R.Rule
+rulesOf l n = rulesAt l 0 n
+
 -- for each slot its count and its words and costs, as in a sheet
 abbrev pub slotNumbers : ℕ → Utterance → List ℕ
 slotNumbers W u = values (slotsEntries W u)
@@ -34,6 +42,19 @@ slotNumbers W u = values (slotsEntries W u)
 abbrev pub SlotsIn : ℕ → Verdict Utterance → List ℕ → Type 0
 SlotsIn W (accepted u) array = Begins (slotNumbers W u) array
 SlotsIn W (refused n) array = Unit {0}
+
+-- n candidates of such an array, whose words and costs stand from place p on
+unfoldable pub candidatesOf : List ℕ → ℕ → ℕ → List Candidate
+candidatesOf l zero p = []
+candidatesOf l (suc n) p = candidate (word (getD l p 0)) (getD l (p + 1) 0) ∷ candidatesOf l n (p + 2)
+
+-- n slots of it, the first of which stands at place p, where a count c stands for f c candidates
+unfoldable pub slotsBy : (ℕ → ℕ) → List ℕ → ℕ → ℕ → Utterance
+slotsBy f l zero p = []
+slotsBy f l (suc n) p = candidatesOf l (f (getD l p 0)) (p + 1) ∷ slotsBy f l n (p + 1 + 2 * f (getD l p 0))
+
+abbrev pub slotsOf : List ℕ → ℕ → ℕ → Utterance
+slotsOf l n p = slotsBy (λ c. c) l n p
 
 -- four numbers for each edge: from, to, word, cost
 unfoldable pub edgeNumbers : List Edge → List ℕ

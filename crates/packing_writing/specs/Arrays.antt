@@ -1,35 +1,26 @@
 -- The fields of a grammar and of an utterance that stand in a flat array of numbers, for the contracts of the writers:
 -- document 01, "Packed blocks". Assumes nothing.
-use mathlib.Core.List.{List, [], _∷_, _++_}
-use Prim.Native.Nat.{ℕ, zero, suc, _+_, _-_, _*_, _/_}
-use lib.ListN.{getD}
+use mathlib.Core.List.{List, _∷_}
+use Prim.Native.Nat.{ℕ, _+_, _-_, _*_, _/_}
 use Rattle.bits.specs.Bits.{pack}
 use Rattle.bits.specs.Width.{widthOf}
 use Rattle.bits.specs.Fields.{Fld, fld, bitsOfAll}
 use Rattle.packing.specs.Source.{flds}
 use Rattle.packing.specs.Grammar.{rulesEntries}
-use Rattle.packing.specs.Flat.{ruleAt}
-use Rattle.packing.specs.declared.Rule as R
+use Rattle.packing.specs.Utterance.{candidatesEntries, slotsEntries}
+use Rattle.packing.specs.Flat.{rulesAt, candidatesOf, slotsOf}
 
--- n rules of an array, from rule r on
-unfoldable pub rulesAt : List ℕ → ℕ → ℕ → List R.Rule
-rulesAt l r zero = []
-rulesAt l r (suc n) = ruleAt l r ∷ rulesAt l (suc r) n
-
--- their fields
+-- the fields of n rules of an array, from rule r on
 abbrev pub rulesFields : ℕ → ℕ → List ℕ → ℕ → ℕ → List Fld
 rulesFields S W l r n = flds (rulesEntries S W (rulesAt l r n))
 
 -- the fields of n candidates, whose words and costs stand from place p on
-unfoldable pub candidatesFields : ℕ → List ℕ → ℕ → ℕ → List Fld
-candidatesFields W l p zero = []
-candidatesFields W l p (suc n) = fld (widthOf (W - 1)) (getD l p 0) ∷ fld 16 (getD l (p + 1) 0) ∷ candidatesFields W l (p + 2) n
+abbrev pub candidatesFields : ℕ → List ℕ → ℕ → ℕ → List Fld
+candidatesFields W l p n = flds (candidatesEntries W 0 (candidatesOf l n p))
 
 -- the fields of n slots, the first of which stands at place p
-unfoldable pub slotsFields : ℕ → List ℕ → ℕ → ℕ → List Fld
-slotsFields W l p zero = []
-slotsFields W l p (suc n) =
-    fld 3 (getD l p 0) ∷ candidatesFields W l (p + 1) (getD l p 0) ++ slotsFields W l (p + 1 + 2 * getD l p 0) n
+abbrev pub slotsFields : ℕ → List ℕ → ℕ → ℕ → List Fld
+slotsFields W l p n = flds (slotsEntries W (slotsOf l n p))
 
 -- how many bits n slots take that have m numbers together: a count each, and a word and a cost for each two of the others
 abbrev pub slotsBits : ℕ → ℕ → ℕ → ℕ

@@ -1,63 +1,29 @@
 -- The array that an utterance was read into gives back its fields, how many bits they take, its block and its sheet.
 -- Assumes nothing.
-use mathlib.Core.Path.{_≡_, refl, subst, _∙_}
+use mathlib.Core.Path.{_≡_, refl, ap, subst}
 use mathlib.Core.List.{List, [], _∷_, _++_, map-append}
 use Prim.Native.Nat.{ℕ, suc, _+_, _-_, _*_, _/_, _≤_}
-use native.Mathlib.Nat.{add-zero, zero-mul, suc-mul, add-mul}
+use native.Mathlib.Nat.{zero-mul, suc-mul, add-mul}
 use native.Mathlib.Omega.{arith}
-use lib.ListN.{length, getD, take, drop, length-append, length-map}
-use lib.Seq.{getD-drop, drop-drop}
+use lib.ListN.{length, take, length-append, length-map}
 use Rattle.bits.specs.Width.{widthOf}
 use Rattle.bits.specs.Fields.{widths}
 use Rattle.bits.proofs.Fields.{widths-append}
 use Rattle.packing.specs.Meaning.{Candidate, candidate, Utterance}
 use Rattle.packing.specs.Parse.{Verdict, accepted, refused, _then_}
-use Rattle.packing.specs.Source.{valueOf, fldOf, values, flds}
+use Rattle.packing.specs.Source.{fldOf, flds}
 use Rattle.packing.specs.Utterance.{candidatesEntries, slotsEntries, utteranceEntries, blockOfUtterance, sheetOfUtterance}
 use Rattle.packing.specs.Flat.{Begins, slotNumbers, SlotsIn}
+use Rattle.packing.proofs.Flat.{slots-of}
 use Rattle.packing.proofs.Bounds.{length-candidates}
 use Rattle.packing_utterance.specs.Answer.{answerOf}
 use Rattle.packing_utterance.specs.declared.Slots.{Slots}
 use Rattle.packing_utterance.specs.declared.UtteranceRead as R
-use Rattle.packing_writing.specs.Arrays.{candidatesFields, slotsFields, slotsBits, utteranceFields, blockOf}
-
--- the numbers at a place, one by one and in two parts
-first-in : (x : ℕ) (ns d : List ℕ) → Begins (x ∷ ns) d → (getD d 0 0 ≡ x) × Begins ns (drop 1 d)
-first-in x ns [] b = let z : _≡_ {A = ℕ} 0 1 = cc in absurd (omega arith)
-first-in x ns (y ∷ d) b = (cc, cc)
-
-first-at : (x : ℕ) (ns l : List ℕ) (p : ℕ) → Begins (x ∷ ns) (drop p l) → (getD l p 0 ≡ x) × Begins ns (drop (p + 1) l)
-first-at x ns l p b = rw (getD-drop, add-zero, drop-drop) at (first-in x ns (drop p l) b)
-
-parts-in : (ns ms d : List ℕ) → Begins (ns ++ ms) d → Begins ns d × Begins ms (drop (length ns) d)
-parts-in [] ms d b = (refl, b)
-parts-in (n ∷ ns) ms [] b = let z : _≡_ {A = ℕ} 0 1 = cc in absurd (omega arith)
-parts-in (n ∷ ns) ms (y ∷ d) b =
-    let e : take (length (ns ++ ms)) d ≡ ns ++ ms = cc in
-    let (f, g) = parts-in ns ms d e in
-    (cc, g)
+use Rattle.packing_writing.specs.Arrays.{slotsFields, slotsBits, utteranceFields, blockOf}
 
 module _ (W : ℕ) where
-  candidates-in : (cs : List Candidate) (least : ℕ) (l : List ℕ) (p : ℕ) → Begins (values (candidatesEntries W least cs)) (drop p l)
-      → candidatesFields W l p (length cs) ≡ flds (candidatesEntries W least cs)
-  unfolding candidatesEntries candidatesFields
-  candidates-in [] least l p b = refl
-  candidates-in (candidate w c ∷ cs) least l p b =
-      let rest : List ℕ = values (candidatesEntries W (suc (w .0)) cs) in
-      let (e, b1) = first-at (w .0) (c ∷ rest) l p b in
-      let (f, b2) = first-at c rest l (p + 1) b1 in
-      let q : p + 1 + 1 ≡ p + 2 = omega arith in
-      rw (e, f, candidates-in cs (suc (w .0)) l (p + 2) (rw q at b2))
-
-  slots-in : (u : Utterance) (l : List ℕ) (p : ℕ) → Begins (slotNumbers W u) (drop p l) → slotsFields W l p (length u) ≡ flds (slotsEntries W u)
-  unfolding slotsEntries slotsFields
-  slots-in [] l p b = refl
-  slots-in (cs ∷ u) l p b =
-      let es = candidatesEntries W 0 cs in
-      let (e, b1) = first-at (length cs) (values es ++ slotNumbers W u) l p (rw (map-append valueOf es (slotsEntries W u)) at b) in
-      let (b2, b3) = parts-in (values es) (slotNumbers W u) (drop (p + 1) l) b1 in
-      let n : length (values es) ≡ 2 * length cs = length-map es valueOf ∙ length-candidates W 0 cs in
-      rw (e, map-append fldOf es (slotsEntries W u), candidates-in cs 0 l (p + 1) b2, slots-in u l (p + 1 + 2 * length cs) (rw (n, drop-drop) at b3))
+  slots-in : (u : Utterance) (l : List ℕ) → Begins (slotNumbers W u) l → slotsFields W l 0 (length u) ≡ flds (slotsEntries W u)
+  slots-in u l b = ap (λ (v : Utterance). flds (slotsEntries W v)) (slots-of W u l b)
 
   -- each slot has one number and three bits, and two numbers, and a word's and 16 bits, for each candidate
   candidates-bits : (cs : List Candidate) (least : ℕ) → widths (flds (candidatesEntries W least cs)) ≡ length cs * (widthOf (W - 1) + 16)
@@ -98,13 +64,13 @@ module _ (W : ℕ) where
     pub bits-told : (z .count ≤ z .numbers) × (widths (slotsFields W l 0 (z .count)) ≡ slotsBits W (z .count) (z .numbers))
     bits-told =
         of-slots (λ y. (y .count ≤ y .numbers) × (widths (slotsFields W l 0 (y .count)) ≡ slotsBits W (y .count) (y .numbers))) v e
-        (λ u q. rw (slots-in u l 0 (rw q at b)) (slots-bits u))
+        (λ u q. rw (slots-in u l (rw q at b)) (slots-bits u))
 
     pub block-told : (v then λ u. accepted (blockOfUtterance W u)) ≡ accepted (blockOf (utteranceFields W (z .count) l))
     unfolding blockOfUtterance utteranceEntries
     block-told =
         of-slots (λ y. (v then λ u. accepted (blockOfUtterance W u)) ≡ accepted (blockOf (utteranceFields W (y .count) l))) v e
-        (λ u q. rw (q, slots-in u l 0 (rw q at b)))
+        (λ u q. rw (q, slots-in u l (rw q at b)))
 
     pub sheet-told : (v then λ u. accepted (sheetOfUtterance W u)) ≡ accepted ((z .count ∷ []) ++ take (z .numbers) l)
     unfolding sheetOfUtterance utteranceEntries

@@ -1,7 +1,7 @@
 -- The fields of an array's candidates and slots, one after the other.
 -- Assumes nothing.
 use mathlib.Core.Path.{_≡_, refl, sym, ap, _∙_}
-use mathlib.Core.List.{List, [], _∷_, _++_}
+use mathlib.Core.List.{List, [], _∷_, _++_, map-append}
 use Prim.Native.Nat.{ℕ, zero, suc, _+_, _-_, _*_, _/_, _≤_, _<_}
 use native.Mathlib.Nat.{mul-le-mul}
 use native.Mathlib.Omega.{arith}
@@ -11,6 +11,11 @@ use Rattle.bits.specs.Width.{widthOf}
 use Rattle.bits.specs.Fields.{Fld, fld, widths}
 use Rattle.bits.proofs.Fields.{length-block}
 use Rattle.bits.proofs.Remaining.{Remaining, one-written, some-within, some-written}
+use Rattle.packing.specs.Meaning.{Candidate, candidate}
+use Rattle.packing.specs.Source.{fldOf, flds}
+use Rattle.packing.specs.Utterance.{candidatesEntries, slotsEntries}
+use Rattle.packing.specs.Flat.{candidatesOf, slotsBy, slotsOf}
+use Rattle.packing.proofs.Flat.{length-candidates-of}
 use Rattle.packing.proofs.Widths.{byte-width}
 use Rattle.packing_writing.specs.Arrays.{candidatesFields, slotsFields, slotsBits, utteranceFields, blockOf}
 
@@ -28,35 +33,48 @@ module _ (W : ℕ) (l : List ℕ) (n m : ℕ) (e : widths (slotsFields W l 0 n) 
       let b : (m - n) / 2 * (widthOf (W - 1) + 16) ≤ 4320 = candidates-small (omega arith) (omega (arith, byte-width W (omega arith))) in
       omega (arith, e)
 
+-- the least word is no part of the fields
+any-least : (W least : ℕ) (cs : List Candidate) → flds (candidatesEntries W least cs) ≡ flds (candidatesEntries W 0 cs)
+unfolding candidatesEntries
+any-least W least [] = refl
+any-least W least (candidate w c ∷ cs) = refl
+
 module _ (W : ℕ) (l : List ℕ) where
-  -- each candidate takes some bits
+  -- each candidate takes some bits, whatever words may stand there
+  some-bits : (least p n : ℕ) → 2 * n ≤ widths (flds (candidatesEntries W least (candidatesOf l n p)))
+  unfolding candidatesEntries candidatesOf widths
+  some-bits least p zero = omega arith
+  some-bits least p (suc n) = omega (arith, some-bits (suc (getD l p 0)) (p + 2) n)
+
   pub candidates-some : (p n : ℕ) → 2 * n ≤ widths (candidatesFields W l p n)
-  unfolding candidatesFields widths
-  candidates-some p zero = omega arith
-  candidates-some p (suc n) = omega (arith, candidates-some (p + 2) n)
+  candidates-some p n = some-bits 0 p n
 
   module _ (p n i : ℕ) where
     pub candidates-end : n ≤ i → candidatesFields W l (p + 2 * i) (n - i) ≡ []
-    unfolding candidatesFields
+    unfolding candidatesEntries candidatesOf
     candidates-end h = let z : n - i ≡ 0 = omega arith in rw z
 
     pub candidates-more : {w : ℕ} → w ≡ widthOf (W - 1) → i < n
         → candidatesFields W l (p + 2 * i) (n - i)
         ≡ fld w (getD l (p + 2 * i) 0) ∷ fld 16 (getD l (p + 2 * i + 1) 0) ∷ candidatesFields W l (p + 2 * (i + 1)) (n - (i + 1))
-    unfolding candidatesFields
+    unfolding candidatesEntries candidatesOf
     candidates-more e h =
         let z : n - i ≡ suc (n - (i + 1)) = omega arith in
         let q : p + 2 * (i + 1) ≡ p + 2 * i + 2 = omega arith in
-        rw (e, z, q)
+        rw (e, z, q, any-least W (suc (getD l (p + 2 * i) 0)) (candidatesOf l (n - (i + 1)) (p + 2 * i + 2)))
 
     pub slots-end : n ≤ i → slotsFields W l p (n - i) ≡ []
-    unfolding slotsFields
+    unfolding slotsEntries slotsBy
     slots-end h = let z : n - i ≡ 0 = omega arith in rw z
 
     pub slots-more : {k : ℕ} → k ≡ getD l p 0 → i < n
         → slotsFields W l p (n - i) ≡ fld 3 k ∷ (candidatesFields W l (p + 1) k ++ slotsFields W l (p + 1 + 2 * k) (n - (i + 1)))
-    unfolding slotsFields
-    slots-more e h = let z : n - i ≡ suc (n - (i + 1)) = omega arith in rw (z, e)
+    unfolding slotsEntries slotsBy
+    slots-more {k} e h =
+        let z : n - i ≡ suc (n - (i + 1)) = omega arith in
+        let cs = candidatesOf l k (p + 1) in
+        let es = slotsEntries W (slotsOf l (n - (i + 1)) (p + 1 + 2 * k)) in
+        rw (z, ← e, length-candidates-of l k (p + 1), map-append fldOf (candidatesEntries W 0 cs) es)
 
 -- a slot whose fields come next: there is room for them, and behind them the next slot's remain
 module _ (W : ℕ) (l : List ℕ) (p n i : ℕ) {o out : List ℕ} {start at k : ℕ} {fs : List Fld} (e : k ≡ getD l p 0) (h : i < n)

@@ -5,7 +5,7 @@ use native.Mathlib.Omega.{arith}
 use Rattle.packing.specs.Grammar.{grammarBlock}
 use Rattle.packing_grammar.proofs.Outcome.{accepted-told, refused-told}
 use Rattle.checker.specs.Check.{check}
-use Rattle.checker.proofs.Arrays.{rules-of}
+use Rattle.packing.proofs.Flat.{rules-of}
 use Rattle.checker.proofs.Judged.{under-rules}
 use Rattle.checker.proofs.check.Statement.{statement}
 use Rattle.checker.proofs.check.Tie as tie

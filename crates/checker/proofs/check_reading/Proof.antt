@@ -4,7 +4,7 @@ use borrow.Author.Needs.{needs}
 use Rattle.packing.specs.Reading.{readingFrom}
 use Rattle.reading_reader.proofs.Outcome.{parsed-told, failed-told}
 use Rattle.checker.specs.Check.{answerOf}
-use Rattle.checker.specs.Run.{rulesOf, slotsOf}
+use Rattle.packing.specs.Flat.{rulesOf, slotsOf}
 use Rattle.checker.proofs.Answered.{walk-judged}
 use Rattle.checker.proofs.check_reading.Statement.{statement}
 use Rattle.checker.proofs.check_reading.Tie as tie

@@ -5,12 +5,12 @@ use borrow.Author.Needs.{needs}
 use native.Mathlib.Omega.{arith}
 use Rattle.packing.specs.declared.Rule as R
 use Rattle.packing.specs.Utterance.{utteranceBlock}
-use Rattle.packing.specs.Flat.{ruleAt}
+use Rattle.packing.specs.Flat.{rulesOf}
 use Rattle.packing_utterance.proofs.Outcome.{accepted-told, refused-told}
 use Rattle.packing_utterance.specs.declared.Slots.{Slots}
 use Rattle.checker.specs.Check.{answerOf}
-use Rattle.checker.specs.Run.{underRules, rulesOf}
-use Rattle.checker.proofs.Arrays.{length-table}
+use Rattle.checker.specs.Run.{underRules}
+use Rattle.packing.proofs.Flat.{length-rules-at}
 use Rattle.checker.proofs.Answered.{slots-judged}
 use Rattle.checker.proofs.check_utterance.Statement.{statement}
 use Rattle.checker.proofs.check_utterance.Tie as tie
@@ -54,7 +54,7 @@ returns-2 c =
     let rules : List R.Rule = rulesOf (a .rules .now) (a .count) in
     let (u, e, z) = accepted-told (a .words) (utteranceBlock (a .words) (a .utterance .now)) (read .ensures .0) (at-found .found .given .1) in
     let judged = slots-judged (a .words) rules (a .utterance .now) (a .reading .now) (read .last .1 .1 .0) e (read .ensures .1)
-    (ap (λ (s : Slots). s .count) z) (sym (length-table (ruleAt (a .rules .now)) (a .count))) in
+    (ap (λ (s : Slots). s .count) z) (sym (length-rules-at (a .rules .now) 0 (a .count))) in
     c .check-reading .ensures ∙ ap answerOf judged
 
 pub check-utterance-spec : {M : Type 1} → statement M

@@ -8,7 +8,7 @@ use borrow.Author.Needs.{needs}
 use Rattle.packing.specs.declared.Word as W
 use Rattle.packing.specs.Meaning.{word}
 use Rattle.derivation.specs.Walk.{costOf}
-use Rattle.checker.specs.Run.{candidatesOf}
+use Rattle.packing.specs.Flat.{candidatesOf}
 use Rattle.checker.proofs.Arrays.{cost-end, cost-here, cost-next}
 use Rattle.checker.proofs.walk.cost_of.Statement.{statement}
 use Rattle.checker.proofs.walk.cost_of.Tie as tie

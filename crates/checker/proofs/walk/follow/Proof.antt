@@ -6,9 +6,8 @@ use native.Mathlib.Omega.{arith}
 use borrow.Author.Needs.{needs}
 use borrow.Author.Tests.{eq-eqb, ne-eqb}
 use lib.ListN.{getD}
-use Rattle.packing.specs.Flat.{ruleAt}
-use Rattle.checker.specs.Run.{rulesOf}
-use Rattle.checker.proofs.Arrays.{table-at, table-past}
+use Rattle.packing.specs.Flat.{rulesOf}
+use Rattle.packing.proofs.Flat.{rule-of, no-rule-of}
 use Rattle.checker.proofs.Steps.{no-part, no-rule, pair-rule, word-rule}
 use Rattle.checker.proofs.walk.follow.Statement.{statement}
 use Rattle.checker.proofs.walk.follow.Tie as tie
@@ -21,7 +20,7 @@ returns c =
 returns-2 : tie.Need-returns-2
 returns-2 c =
     let a = c .before .before .before .before .before .args in
-    let past = table-past (ruleAt (a .rules .now)) (a .count) (a .r) (c .if2 .taken) in
+    let past = no-rule-of (a .rules .now) 0 (a .count) (a .r) (c .if2 .taken) in
     (no-rule (rulesOf (a .rules .now) (a .count)) (a .slots .now) (a .stack .now) (a .at) (a .r) past, tt)
 
 sub-top : tie.Need-sub-top
@@ -53,7 +52,7 @@ returns-3 c =
     let at-if2 = at-rule .before .before in
     let a = at-if2 .before .before .before .before .before .args in
     let is = sym (at-rule .rule-at .ensures) ∙ at-head .head .given .1 in
-    let there = table-at (ruleAt (a .rules .now)) (a .count) (a .r) (at-if2 .if2 .left) ∙ ap some is in
+    let there = rule-of (a .rules .now) (a .count) (a .r) (at-if2 .if2 .left) ∙ ap some is in
     let rule = pair-rule (rulesOf (a .rules .now) (a .count)) (a .slots .now) (a .stack .now) (a .at) (a .r) (omega arith) there in
     let same = eq-eqb (at-head .head .given .0 .0 .0) (getD (a .stack .now) (a .at .height - 1) 0) (at-step .before .before .if3 .taken) in
     (at-step .pair-step .ensures .0 (a .slots .now) ∙ sym (rw same at rule), at-step .pair-step .ensures .1)
@@ -71,7 +70,7 @@ returns-4 c =
     let at-if2 = at-rule .before .before in
     let a = at-if2 .before .before .before .before .before .args in
     let is = sym (at-rule .rule-at .ensures) ∙ at-head .head2 .given .1 in
-    let there = table-at (ruleAt (a .rules .now)) (a .count) (a .r) (at-if2 .if2 .left) ∙ ap some is in
+    let there = rule-of (a .rules .now) (a .count) (a .r) (at-if2 .if2 .left) ∙ ap some is in
     let rule = word-rule (rulesOf (a .rules .now) (a .count)) (a .slots .now) (a .stack .now) (a .at) (a .r) (omega arith) (omega arith) there in
     let same = eq-eqb (at-head .head2 .given .0 .0 .0) (getD (a .stack .now) (a .at .height - 1) 0) (c .before .if4 .taken) in
     (c .word-step .ensures .0 (a .stack .now) ∙ sym (rw same at rule), c .word-step .ensures .1)
@@ -83,7 +82,7 @@ returns-5 c =
     let at-if2 = at-rule .before .before in
     let a = at-if2 .before .before .before .before .before .args in
     let is = sym (at-rule .rule-at .ensures) ∙ at-head .head .given .1 in
-    let there = table-at (ruleAt (a .rules .now)) (a .count) (a .r) (at-if2 .if2 .left) ∙ ap some is in
+    let there = rule-of (a .rules .now) (a .count) (a .r) (at-if2 .if2 .left) ∙ ap some is in
     let rule = pair-rule (rulesOf (a .rules .now) (a .count)) (a .slots .now) (a .stack .now) (a .at) (a .r) (omega arith) there in
     let other = ne-eqb (at-head .head .given .0 .0 .0) (getD (a .stack .now) (a .at .height - 1) 0) (c .if3 .left) in
     (sym (rw other at rule), tt)
@@ -95,7 +94,7 @@ returns-6 c =
     let at-if2 = at-rule .before .before in
     let a = at-if2 .before .before .before .before .before .args in
     let is = sym (at-rule .rule-at .ensures) ∙ at-head .head2 .given .1 in
-    let there = table-at (ruleAt (a .rules .now)) (a .count) (a .r) (at-if2 .if2 .left) ∙ ap some is in
+    let there = rule-of (a .rules .now) (a .count) (a .r) (at-if2 .if2 .left) ∙ ap some is in
     let rule = word-rule (rulesOf (a .rules .now) (a .count)) (a .slots .now) (a .stack .now) (a .at) (a .r) (omega arith) (omega arith) there in
     let other = ne-eqb (at-head .head2 .given .0 .0 .0) (getD (a .stack .now) (a .at .height - 1) 0) (c .if4 .left) in
     (sym (rw other at rule), tt)

@@ -8,7 +8,8 @@ use lib.ListN.{length, take, drop}
 use Rattle.packing.specs.declared.Rule as R
 use Rattle.packing.specs.Meaning.{sym as symbol}
 use Rattle.derivation.specs.Walk.{State, onward, run, ended, walkWeight}
-use Rattle.checker.specs.Run.{rulesOf, slotsOf, headsOf, stateOf}
+use Rattle.packing.specs.Flat.{rulesOf, slotsOf}
+use Rattle.checker.specs.Run.{headsOf, stateOf}
 use Rattle.checker.specs.declared.walk.Step.the-variants.{Onward}
 use Rattle.checker.proofs.Steps.{run-more, run-lost, run-over, at-end, not-at-end}
 use Rattle.checker.proofs.walk.weight_of.Statement.{statement}
