@@ -1,7 +1,7 @@
 -- What a good table holds, and what waits in it.
 pub mod Keys
 pub mod Entries
-pub mod Slots
+pub mod Numbers
 pub mod Select
 pub mod Owners
 pub mod Queue

@@ -17,7 +17,7 @@ use Rattle.chart_table.specs.Table.{cellOf, entryOf, weightAt, tieAt, lastIn}
 use Rattle.chart_waiting.specs.Waiting.{waitingAt, waitingIn}
 use Rattle.chart_theory.proofs.Keys.{RowFits, rowKey, key-weight, key-tie, key-some}
 use Rattle.chart_theory.proofs.Entries.{Cell, cell-below, cell-one, entry-one, entry-within, past-cap, same-entry, under-cap}
-use Rattle.chart_theory.proofs.Slots.{put-weight, put-tie, put-weight-other, put-tie-other}
+use Rattle.chart_theory.proofs.Numbers.{put-weight, put-tie, put-weight-other, put-tie-other}
 use Rattle.chart_theory.proofs.Queue.{Queue, queue-kept}
 use Rattle.chart_theory.proofs.Settled.{InEntry, Stored}
 use Rattle.chart_theory.proofs.Good.{Setting, Found, Known, Parts, Ahead, Stands, Good, Grows, known-grows, parts-grow, ahead-grows, Grown}

@@ -19,7 +19,7 @@ use Rattle.chart_keys.specs.Keys.{none}
 use Rattle.chart_table.specs.Table.{entryOf, weightAt, tieAt, lastIn, putKey}
 use Rattle.chart_waiting.specs.Waiting.{waitingAt, waitingIn, putWaiting, moveWaiting, putCount, sooner, soonest, replaced, appended, settled}
 use Rattle.chart_theory.proofs.Entries.{entry-one, entry-within}
-use Rattle.chart_theory.proofs.Slots.{last-cases, put-none, keyed, put-is, put-length, put-waiting, put-count, put-last, put-last-grows, paired, paired-length, paired-weight, paired-tie, paired-same, paired-other, paired-count, paired-last, count-length, count-weight, count-tie, count-same, count-other, count-waiting, count-last}
+use Rattle.chart_theory.proofs.Numbers.{last-cases, put-none, keyed, put-is, put-length, put-waiting, put-count, put-last, put-last-grows, paired, paired-length, paired-weight, paired-tie, paired-same, paired-other, paired-count, paired-last, count-length, count-weight, count-tie, count-same, count-other, count-waiting, count-last}
 use Rattle.chart_theory.proofs.Queue.{Member, slot, low, high, Valid, keyIn, Arranged}
 use Rattle.chart_theory.proofs.Arranged.{late-arranged, early-arranged, moved-arranged}
 

@@ -25,7 +25,7 @@ use Rattle.chart_candidates.specs.Candidates.{leavesOf, seedsOf}
 use Rattle.chart.specs.Model.{followers, baseOf, renewedOf, begun, placed}
 use Rattle.chart_theory.proofs.Keys.{rowKey, key-some, key-lt, order-key}
 use Rattle.chart_theory.proofs.Entries.{cell-below}
-use Rattle.chart_theory.proofs.Slots.{put-none, put-waiting, put-count}
+use Rattle.chart_theory.proofs.Numbers.{put-none, put-waiting, put-count}
 use Rattle.chart_theory.proofs.Select.{Selects}
 use Rattle.chart_theory.proofs.Owners.{owned}
 use Rattle.chart_theory.proofs.Queue.{Queue, queue-kept, queue-first, Fresh, Member, slot, low, high, Valid, keyIn, Arranged, waits, rowOf, pool-whole, requeued}

@@ -85,46 +85,43 @@ module _ (t rules : List ℕ) (d : Dims) where
   rest-set later (suc n) m e from h =
       rw (getD-set-other later m n e 0 (λ z. omega arith), rest-set later n m e (endOf (getD later n 0)) (omega arith))
 
-  -- the loop's state: the walk so far, the stack and the part at hand, of all that is to be written into `walk₀` from `at` on
-  pub record Spells (first last : ℕ) (walk₀ : List ℕ) (at : ℕ) (all : List ℕ) (walk later : List ℕ) (n : ℕ) (p : Part) (next : ℕ) : Type 0 where
+  -- the loop's state: the walk so far, the stack and the part at hand, of all that is to be written into `walk₀`
+  pub record Spells (first last : ℕ) (walk₀ all walk later : List ℕ) (n : ℕ) (p : Part) (next : ℕ) : Type 0 where
     pub room : length later ≡ 32
     pub order : p .from < p .to
     pub within : p .to ≤ 31
     pub rank : p .rank ≤ 256
     pub kept : Kept later n (p .to) last
     pub few : n + p .to ≤ last
-    pub nodes : next + 2 * (last - p .from) ≤ at + 2 * (last - first) + n
-    pub stored : storeAll walk next (spelling t rules d p ++ rest later n (p .to)) ≡ storeAll walk₀ at all
-    pub reached : next + length (spelling t rules d p ++ rest later n (p .to)) ≡ at + length all
+    pub nodes : next + 2 * (last - p .from) ≤ 2 * (last - first) + n
+    pub stored : storeAll walk next (spelling t rules d p ++ rest later n (p .to)) ≡ storeAll walk₀ 0 all
 
-  pub starts : (walk : List ℕ) (at : ℕ) (later : List ℕ) (p : Part) → length later ≡ 32 → p .from < p .to → p .to ≤ 31 → p .rank ≤ 256
-      → Spells (p .from) (p .to) walk at (spelling t rules d p) walk later 0 p at
+  pub starts : (walk later : List ℕ) (p : Part) → length later ≡ 32 → p .from < p .to → p .to ≤ 31 → p .rank ≤ 256
+      → Spells (p .from) (p .to) walk (spelling t rules d p) walk later 0 p 0
   unfolding Kept rest
-  starts walk at later p l h w r =
-      record { room = l; order = h; within = w; rank = r; kept = omega arith; few = omega arith; nodes = omega arith; stored = rw append-nil; reached = rw append-nil }
+  starts walk later p l h w r =
+      record { room = l; order = h; within = w; rank = r; kept = omega arith; few = omega arith; nodes = omega arith; stored = rw append-nil }
 
   -- a part that is kept can be taken apart
-  pub top-low : {first last : ℕ} {walk₀ : List ℕ} {at : ℕ} {all walk later : List ℕ} {n : ℕ} {p : Part} {next : ℕ} (m : ℕ)
-      → Spells first last walk₀ at all walk later n p next → n ≡ suc m → getD later m 0 < 35184372088832
+  pub top-low : {first last : ℕ} {walk₀ all walk later : List ℕ} {n : ℕ} {p : Part} {next : ℕ} (m : ℕ)
+      → Spells first last walk₀ all walk later n p next → n ≡ suc m → getD later m 0 < 35184372088832
   unfolding Kept
   top-low {last = last} {later = later} {p = p} m s z =
       let kept : Kept later (suc m) (p .to) last = rw z at (s .kept) in
       kept .0
 
-  module _ {first last : ℕ} {walk₀ : List ℕ} {at : ℕ} {all walk later : List ℕ} {n : ℕ} {p : Part} {next : ℕ}
-      (s : Spells first last walk₀ at all walk later n p next) {tie : ℕ} (e : tie ≡ tieAt t d (cellOf d (p .head) (p .from) (p .to)) (p .rank)) where
+  module _ {first last : ℕ} {walk₀ all walk later : List ℕ} {n : ℕ} {p : Part} {next : ℕ}
+      (s : Spells first last walk₀ all walk later n p next) {tie : ℕ} (e : tie ≡ tieAt t d (cellOf d (p .head) (p .from) (p .to)) (p .rank)) where
     -- the node's number is written, and `more` is left
     written : (more : List ℕ) → spelling t rules d p ++ rest later n (p .to) ≡ ruleIn tie ∷ more
-        → (storeAll (set walk next (ruleIn tie)) (next + 1) more ≡ storeAll walk₀ at all) × (next + 1 + length more ≡ at + length all)
+        → storeAll (set walk next (ruleIn tie)) (next + 1) more ≡ storeAll walk₀ 0 all
     unfolding storeAll
-    written more f =
-        let l : next + length (ruleIn tie ∷ more) ≡ at + length all = rw f at (s .reached) in
-        (rw f at (s .stored), omega arith)
+    written more f = rw f at (s .stored)
 
     -- a node with two parts
     pub descends : {r : Rule} {h b c : Sym} {w x : ℕ} → last ≤ 31 → r ≡ Pair h b c w → r ≡ ruleWithin rules (p .from) (p .to) tie
         → x ≡ numberOf c (p .to) (rightIn tie) → x < 35184372088832
-        → Spells first last walk₀ at all (set walk next (ruleIn tie)) (set later n x) (n + 1) (part b (p .from) (splitIn tie) (leftIn tie)) (next + 1)
+        → Spells first last walk₀ all (set walk next (ruleIn tie)) (set later n x) (n + 1) (part b (p .from) (splitIn tie) (leftIn tie)) (next + 1)
     unfolding Kept rest
     descends {b = b} {c} {x = x} small is by g low =
         let f = sym is ∙ by in
@@ -136,7 +133,6 @@ module _ (t rules : List ℕ) (d : Dims) where
         let more : spelling t rules d p ++ rest later n (p .to)
         ≡ ruleIn tie ∷ (spelling t rules d (part b (p .from) (splitIn tie) (leftIn tie)) ++ rest (set later n x) (n + 1) (splitIn tie)) =
         rw (pair-spelling t rules d p (s .order) e f, add-one n, top, right, end, rest-set later n n x (p .to) (omega arith), append-assoc) in
-        let (stored, reached) = written _ more in
         record {
           room = simp length-set (s .room);
           order = l;
@@ -145,13 +141,12 @@ module _ (t rules : List ℕ) (d : Dims) where
           kept = rw (add-one n, top, end) (low, m, kept-set later n n x (p .to) last (omega arith) (s .kept));
           few = omega arith;
           nodes = omega (arith, s .nodes);
-          stored = stored;
-          reached = reached;
+          stored = written _ more;
         }
 
     -- a node with none, and a part is kept
     pub resumes : {h : Sym} {y : W.Word} {w : ℕ} {r : Rule} (m : ℕ) → r ≡ Word h y w → r ≡ ruleWithin rules (p .from) (p .to) tie → n ≡ suc m
-        → Spells first last walk₀ at all (set walk next (ruleIn tie)) later m (partOf (p .to) (getD later m 0)) (next + 1)
+        → Spells first last walk₀ all (set walk next (ruleIn tie)) later m (partOf (p .to) (getD later m 0)) (next + 1)
     unfolding Kept rest
     resumes m is by z =
         let f = sym is ∙ by in
@@ -159,7 +154,6 @@ module _ (t rules : List ℕ) (d : Dims) where
         let more : spelling t rules d p ++ rest later n (p .to)
         ≡ ruleIn tie ∷ (spelling t rules d (partOf (p .to) (getD later m 0)) ++ rest later m (endOf (getD later m 0))) =
         rw (leaf-spelling t rules d p (s .order) e f, z) in
-        let (stored, reached) = written _ more in
         record {
           room = s .room;
           order = kept .1;
@@ -167,17 +161,13 @@ module _ (t rules : List ℕ) (d : Dims) where
           rank = omega arith;
           kept = kept .2;
           few = few later m (endOf (getD later m 0)) last (kept .2);
-          nodes = nodes-up n (p .from) (p .to) last (s .order) (s .few) m next (at + 2 * (last - first)) z (s .nodes);
-          stored = stored;
-          reached = reached;
+          nodes = nodes-up n (p .from) (p .to) last (s .order) (s .few) m next (2 * (last - first)) z (s .nodes);
+          stored = written _ more;
         }
 
     -- a node with none, and nothing is kept
     pub ends : {h : Sym} {y : W.Word} {w : ℕ} {r : Rule} {walk′ : List ℕ} → r ≡ Word h y w → r ≡ ruleWithin rules (p .from) (p .to) tie → n ≡ 0
         → walk′ ≡ set walk next (ruleIn tie)
-        → (next + 1 + 1 ≤ at + 2 * (last - first)) × (walk′ ≡ storeAll walk₀ at all) × (next + 1 ≡ at + length all)
+        → walk′ ≡ storeAll walk₀ 0 all
     unfolding storeAll rest
-    ends is by z g =
-        let f = sym is ∙ by in
-        let (stored, reached) = written [] (rw (leaf-spelling t rules d p (s .order) e f, z)) in
-        (omega (arith, s .nodes, s .few, s .order), g ∙ stored, omega arith)
+    ends is by z g = let f = sym is ∙ by in g ∙ written [] (rw (leaf-spelling t rules d p (s .order) e f, z))

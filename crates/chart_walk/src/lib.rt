@@ -11,7 +11,7 @@ use packing::Word;
 ghost use mathlib.Core.Path.{_≡_};
 ghost use Prim.Native.Nat.{ℕ, _+_, _-_, _*_, _/_, _%_, _<_, _≤_};
 ghost use lib.Dec.{ltb};
-ghost use lib.ListN.{length, set};
+ghost use lib.ListN.{set};
 ghost use Rattle.bits.specs.Bits.{pick};
 ghost use Rattle.packing.specs.Meaning.{sym, word};
 ghost use Rattle.packing.specs.Flat.{ruleAt};
@@ -86,8 +86,8 @@ fn part_of(from: usize, x: usize) -> Part
     }
 }
 
-// Writes the rule numbers of a rank of a cell, node, left part, right part, from index `at` on, and answers the index
-// behind them. While a left part is spelled, the right one is kept for later.
+// Writes the rule numbers of a rank of a cell, node, left part, right part, one after another from the first place on. While
+// a left part is spelled, the right one is kept for later.
 pub fn spell(
     t: &[u32],
     rules: &[u32],
@@ -97,10 +97,9 @@ pub fn spell(
     k: usize,
     rank: usize,
     walk: &mut [u32],
-    at: usize,
-) -> usize
-    requires { ⌜ (Small d i k) × (rank ≤ 256) × (at + 2 * (k - i) < 4294967296) ⌝ }
-    ensures { λ r. ⌜ (r + 1 ≤ at + 2 * (k - i)) × ((f : ℕ) → k - i ≤ f → (now (walk .exit) ≡ storeAll (now (walk .entry)) at (spelled (now (t .entry)) (now (rules .entry)) d f a i k rank)) × (r ≡ at + length (spelled (now (t .entry)) (now (rules .entry)) d f a i k rank))) ⌝ }
+)
+    requires { ⌜ (Small d i k) × (rank ≤ 256) ⌝ }
+    ensures { λ _. ⌜ ((f : ℕ) → k - i ≤ f → now (walk .exit) ≡ storeAll (now (walk .entry)) 0 (spelled (now (t .entry)) (now (rules .entry)) d f a i k rank)) ⌝ }
 {
     let mut later = [0usize; 32];
     let mut n: usize = 0;
@@ -110,7 +109,7 @@ pub fn spell(
         to: k,
         rank,
     };
-    let mut next = at;
+    let mut next: usize = 0;
     loop {
         let tie = node(t, d, part, walk, next);
         next = next + 1;
@@ -125,7 +124,7 @@ pub fn spell(
             Rule::Word(_, _, _) => {}
         }
         if n == 0 {
-            return next;
+            return;
         }
         n = n - 1;
         part = part_of(part.to, later[n]);

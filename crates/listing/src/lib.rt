@@ -68,7 +68,7 @@ fn write_rank(t: &[u32], rules: &[u32], count: usize, d: Dims, n: usize, x: usiz
 {
     let start = Sym(0);
     let mut walk = [0u32; 48];
-    chart_walk::spell(t, rules, d, start, 0, n, x, &mut walk, 0);
+    chart_walk::spell(t, rules, d, start, 0, n, x, &mut walk);
     let stored = weight_at(t, d, cell_of(d, start, 0, n), x);
     packing_reading::write_reading(out, n, count, less_one(stored), &walk);
 }

@@ -11,14 +11,14 @@ use Rattle.chart_walk.proofs.spell.Statement.{statement}
 use Rattle.chart_walk.proofs.spell.Tie as tie
 
 abbrev Inv-loop : tie.InvT-loop
-Inv-loop t rules d i k rank walk₀ at later₀ n₀ part₀ next₀ walk later n part next =
-    (length walk ≡ length walk₀) × Spells t rules d i k walk₀ at (spelling t rules d part₀) walk later n part next
+Inv-loop t rules d i k rank walk₀ later₀ n₀ part₀ next₀ walk later n part next =
+    (length walk ≡ length walk₀) × Spells t rules d i k walk₀ (spelling t rules d part₀) walk later n part next
 
 abbrev μ-loop : tie.MeasureT-loop
-μ-loop t rules d i k rank walk₀ at later₀ n₀ part₀ next₀ walk later n part next = 2 * (k - part .from) - n
+μ-loop t rules d i k rank walk₀ later₀ n₀ part₀ next₀ walk later n part next = 2 * (k - part .from) - n
 
 loop-holds : tie.Need-loop-holds Inv-loop μ-loop
-loop-holds c = (refl, starts _ _ _ _ _ _ _ refl (c .before .before .before .pre .0 .order) (c .before .before .before .pre .0 .last) (c .before .before .before .pre .1))
+loop-holds c = (refl, starts _ _ _ _ _ _ refl (c .before .before .before .pre .0 .order) (c .before .before .before .pre .0 .last) (c .before .before .before .pre .1))
 
 node-requires : tie.Need-node-requires Inv-loop μ-loop
 node-requires c κs = search needs
@@ -69,13 +69,20 @@ enum-told : tie.Need-enum-told Inv-loop μ-loop
 enum-told c = search needs
 
 same-length : tie.Need-same-length Inv-loop μ-loop
-same-length c = c .before .before .before .before .before .before .node .kept .1 .1 .1 .0 ∙ c .before .before .before .before .before .before .before .before .loop .inv .0
+same-length c =
+    let c₆ = c .before .before .before .before .before .before in
+    c₆ .node .kept .1 .1 .1 .0 ∙ c₆ .before .before .loop .inv .0
 
 returns : tie.Need-returns Inv-loop μ-loop
-returns c =
-    let a = c .before .before .before .before .before .before .before .before .before .before .before .before .args in
-    let (short, stored, reached) = ends _ _ _ (c .before .before .before .before .before .before .before .before .loop .inv .1) (c .before .before .before .before .before .before .node .ensures .0) (c .before .enum-told .given .1) (c .before .before .before .rule-within .ensures) (c .if1 .taken) (c .before .before .before .before .before .before .node .ensures .2) in
-    (short, λ f h. rw (enough (a .t .now) (a .rules .now) (a .d) f (a .k - a .i) (a .a) (a .i) (a .k) (a .rank) (c .before .before .before .before .before .before .before .before .before .before .before .before .pre .0 .order) h (omega arith)) (stored, reached))
+returns c = λ f h.
+    let c₃ = c .before .before .before in
+    let c₆ = c₃ .before .before .before in
+    let c₈ = c₆ .before .before in
+    let c₁₂ = c₈ .before .before .before .before in
+    let a = c₁₂ .args in
+    rw (enough (a .t .now) (a .rules .now) (a .d) f (a .k - a .i) (a .a) (a .i) (a .k) (a .rank) (c₁₂ .pre .0 .order) h (omega arith))
+    (ends _ _ _ (c₈ .loop .inv .1) (c₆ .node .ensures .0) (c .before .enum-told .given .1) (c₃ .rule-within .ensures)
+    (c .if1 .taken) (c₆ .node .ensures .2))
 
 sub-n : tie.Need-sub-n Inv-loop μ-loop
 sub-n c = search needs

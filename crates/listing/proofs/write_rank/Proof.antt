@@ -46,7 +46,7 @@ returns c =
     let weighs : at-less-one .less-one .result ≡ weightAt (a .t .now) (a .d) (cellOf (a .d) (symbol 0) 0 (a .n)) (a .x) - 1 =
     at-less-one .less-one .ensures ∙ rw (at-less-one .before .before .weight-at .ensures .0, at-cell-of .cell-of .ensures .0) in
     rank-written (a .t .now) (a .rules .now) (a .d) (a .n) (a .count) (omega (arith, at-start .pre)) (a .x) (a .out .now) weighs
-    (at-spell .spell .ensures .1 (a .n) (omega arith) .0) (c .before .before .write-reading .ensures)
+    (at-spell .spell .ensures (a .n) (omega arith)) (c .before .before .write-reading .ensures)
 
 pub write-rank-spec : {M : Type 1} → statement M
 write-rank-spec =
