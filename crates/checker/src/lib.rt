@@ -2,9 +2,9 @@
 mod walk; // walk.rt: the weight of the derivation that has a walk
 
 use crate::walk::Found;
-use packing_grammar::GrammarRead;
-use packing_utterance::UtteranceRead;
+use grammar_reader::GrammarRead;
 use reading_reader::ReadingRead;
+use utterance_reader::UtteranceRead;
 ghost use mathlib.Core.Path.{_≡_};
 ghost use Prim.Native.Nat.{_^_, _≤_, _<_};
 ghost use Rattle.packing.specs.Meaning.{Reading};
@@ -73,7 +73,7 @@ fn check_utterance(
         (now (reading .entry))) ⌝ }
 {
     let mut slots = [0u32; 360];
-    match packing_utterance::read_block(utterance, words, &mut slots) {
+    match utterance_reader::read_block(utterance, words, &mut slots) {
         UtteranceRead::Refused(m) => Checked::Refused(m),
         UtteranceRead::Utterance(found) => check_reading(
             rules,
@@ -90,7 +90,7 @@ pub fn check(grammar: &[u8], utterance: &[u8], reading: &[u8]) -> Checked
     ensures { λ r. ⌜ r ≡ answerOf (definition.check (now (grammar .entry)) (now (utterance .entry)) (now (reading .entry))) ⌝ }
 {
     let mut rules = [0u32; 1280];
-    match packing_grammar::read_block(grammar, &mut rules) {
+    match grammar_reader::read_block(grammar, &mut rules) {
         GrammarRead::Refused(m) => Checked::Refused(m),
         GrammarRead::Grammar(sizes) => check_utterance(
             &rules,

@@ -10,11 +10,11 @@ use Rattle.packing.specs.Grammar.{grammarEntries, blockOfGrammar, sheetOfGramma
 use Rattle.packing.specs.Flat.{Begins, ruleNumbers, RulesIn}
 use Rattle.packing.proofs.Bounds.{length-rules}
 use Rattle.packing.proofs.Flat.{rules-of}
-use Rattle.packing_grammar.specs.Answer.{answerOf}
-use Rattle.packing_grammar.specs.declared.Sizes.{Sizes}
-use Rattle.packing_grammar.specs.declared.GrammarRead.the-variants.{Grammar}
-use Rattle.packing_writing.specs.Arrays.{grammarFields, blockOf}
-use Rattle.packing_grammar.proofs.Told.{of-sizes}
+use Rattle.grammar_reader.specs.Answer.{answerOf}
+use Rattle.grammar_reader.specs.declared.Sizes.{Sizes}
+use Rattle.grammar_reader.specs.declared.GrammarRead.the-variants.{Grammar}
+use Rattle.sheet_writer.specs.Arrays.{grammarFields, blockOf}
+use Rattle.grammar_reader.proofs.Told.{of-sizes}
 
 module _ (g : meaning.Grammar) (l : List ℕ) (b : Begins (ruleNumbers g) l) where
   block-is : blockOfGrammar g ≡ blockOf (grammarFields (g .symbols) (g .words) (length (g .rules)) l)

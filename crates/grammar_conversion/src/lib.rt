@@ -1,11 +1,11 @@
 // Grammar sheets and blocks, turned into each other.
+use grammar_reader::GrammarRead;
 use grammar_writer::write_grammar;
-use packing_grammar::GrammarRead;
-use packing_writing::Written;
-use packing_writing::sheets::write_sheet;
+use sheet_writer::Written;
+use sheet_writer::sheets::write_sheet;
 ghost use mathlib.Core.Path.{_≡_};
 ghost use Rattle.packing.specs.Conversion.{grammarToBlock, grammarToSheet, fitting, written};
-ghost use Rattle.packing_writing.specs.Answer.{writtenOf};
+ghost use Rattle.sheet_writer.specs.Answer.{writtenOf};
 
 // The block of a grammar sheet.
 pub fn grammar_to_block(sheet: &[u32], out: &mut [u8]) -> Written
@@ -13,7 +13,7 @@ pub fn grammar_to_block(sheet: &[u32], out: &mut [u8]) -> Written
         × (now (out .exit) ≡ written (fitting (grammarToBlock (now (sheet .entry))) (now (out .entry))) (now (out .entry))) ⌝ }
 {
     let mut rules = [0u32; 1280];
-    match packing_grammar::read_sheet(sheet, &mut rules) {
+    match grammar_reader::read_sheet(sheet, &mut rules) {
         GrammarRead::Refused(n) => Written::Refused(n),
         GrammarRead::Grammar(z) => {
             write_grammar(out, z.symbols, z.words, z.rules as usize, &rules)
@@ -27,7 +27,7 @@ pub fn grammar_to_sheet(block: &[u8], out: &mut [u32]) -> Written
         × (now (out .exit) ≡ written (fitting (grammarToSheet (now (block .entry))) (now (out .entry))) (now (out .entry))) ⌝ }
 {
     let mut rules = [0u32; 1280];
-    match packing_grammar::read_block(block, &mut rules) {
+    match grammar_reader::read_block(block, &mut rules) {
         GrammarRead::Refused(n) => Written::Refused(n),
         GrammarRead::Grammar(z) => {
             let head = [z.symbols, z.words, z.rules];

@@ -10,7 +10,7 @@ use Rattle.bits.proofs.Fields.{widths-append}
 use Rattle.packing.specs.Source.{fldOf, flds}
 use Rattle.packing.specs.Grammar.{ruleEntries, rulesEntries}
 use Rattle.packing.specs.Flat.{ruleAt, rulesAt}
-use Rattle.packing_writing.specs.Arrays.{rulesFields}
+use Rattle.sheet_writer.specs.Arrays.{rulesFields}
 
 module _ (S W : ℕ) (l : List ℕ) (n i : ℕ) where
   pub rules-end : n ≤ i → rulesFields S W l i (n - i) ≡ []

@@ -1,7 +1,7 @@
 // Grammar blocks, written from an array of five numbers a rule.
 use packing::Rule;
-use packing_writing::Written;
-use packing_writing::width_below;
+use sheet_writer::Written;
+use sheet_writer::width_below;
 ghost use mathlib.Core.Path.{_≡_};
 ghost use mathlib.Core.List.{[], _∷_};
 ghost use Prim.Native.Nat.{_+_, _*_, _^_, _≤_, _<_};
@@ -12,8 +12,8 @@ ghost use Rattle.packing.specs.Parse.{accepted};
 ghost use Rattle.packing.specs.Source.{flds};
 ghost use Rattle.packing.specs.Grammar.{ruleEntries};
 ghost use Rattle.packing.specs.Conversion.{written};
-ghost use Rattle.packing_writing.specs.Answer.{Writes};
-ghost use Rattle.packing_writing.specs.Arrays.{rulesFields, grammarFields, blockOf};
+ghost use Rattle.sheet_writer.specs.Answer.{Writes};
+ghost use Rattle.sheet_writer.specs.Arrays.{rulesFields, grammarFields, blockOf};
 
 // How many bits a rule takes.
 fn rule_bits(rule: Rule, symbols: u32, words: u32) -> usize

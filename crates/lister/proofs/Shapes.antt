@@ -9,8 +9,8 @@ use Rattle.packing.specs.Parse.{accepted, refused}
 use Rattle.packing.specs.Grammar.{grammarBlock}
 use Rattle.packing.specs.Utterance.{utteranceBlock}
 use Rattle.packing.proofs.Parse.{accepted-is, refused≢accepted}
-use Rattle.packing_grammar.specs.Answer.{sizes}
-use Rattle.packing_grammar.specs.declared.Sizes.{Sizes}
+use Rattle.grammar_reader.specs.Answer.{sizes}
+use Rattle.grammar_reader.specs.declared.Sizes.{Sizes}
 use Rattle.lister.specs.Lines.{Bounded, ShapeOf}
 use Rattle.lister.specs.declared.Shape.{Shape}
 

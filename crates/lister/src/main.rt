@@ -1,10 +1,10 @@
 // The lister of document 01: the eight least readings of the utterance in utterance.bin under the grammar in grammar.bin.
 use arrays::number_at;
+use grammar_reader::GrammarRead;
 use libc::STDOUT_FILENO;
 use listing::Listed;
-use packing_grammar::GrammarRead;
-use packing_utterance::UtteranceRead;
 use reading_reader::ReadingRead;
+use utterance_reader::UtteranceRead;
 ghost use Prim.Native.Nat.{_+_, _-_, _*_, _≤_};
 ghost use lib.ListN.{length};
 ghost use Rattle.io.specs.Counts.{Counts};
@@ -35,12 +35,12 @@ fn shape_of(grammar: &[u8], utterance: &[u8]) -> Shape
     ensures { λ s. ⌜ ShapeOf (now (grammar .entry)) (now (utterance .entry)) s ⌝ }
 {
     let mut rules = [0u32; 1280];
-    let read = packing_grammar::read_block(grammar, &mut rules);
+    let read = grammar_reader::read_block(grammar, &mut rules);
     let GrammarRead::Grammar(sizes) = read else {
         return Shape { slots: 1, rules: 1 };
     };
     let mut slots = [0u32; 360];
-    let read = packing_utterance::read_block(utterance, sizes.words, &mut slots);
+    let read = utterance_reader::read_block(utterance, sizes.words, &mut slots);
     let UtteranceRead::Utterance(found) = read else {
         return Shape { slots: 1, rules: 1 };
     };
@@ -57,7 +57,7 @@ fn line_of(out: &[u8], k: usize, s: Shape, walk: &mut [u32]) -> u32
 {
     let n = s.slots;
     let rules = s.rules;
-    let size = packing_reading::reading_length(n, rules);
+    let size = reading_writer::reading_length(n, rules);
     let from = k * size;
     let upto = from + size;
     let read = reading_reader::read_reading(&out[from..upto], n, rules, walk);

@@ -12,10 +12,10 @@ use Rattle.packing.specs.Valid.{ValidGrammar, ValidUtterance}
 use Rattle.packing.specs.Grammar.{grammarBlock}
 use Rattle.packing.specs.Utterance.{utteranceBlock}
 use Rattle.packing.proofs.Whole.{grammar-block-out, utterance-block-out}
-use Rattle.packing_grammar.specs.Answer.{sizes}
-use Rattle.packing_grammar.specs.declared.Sizes.{Sizes}
-use Rattle.packing_utterance.specs.Edges.{edgesIn}
-use Rattle.packing_utterance.proofs.Edges.{edges-in}
+use Rattle.grammar_reader.specs.Answer.{sizes}
+use Rattle.grammar_reader.specs.declared.Sizes.{Sizes}
+use Rattle.utterance_edges.specs.Edges.{edgesIn}
+use Rattle.utterance_edges.proofs.Edges.{edges-in}
 use Rattle.derivation.proofs.Ranges.{valid-rules, valid-sizes, valid-slots}
 use Rattle.chart_candidates.specs.Candidates.{Indexed}
 use Rattle.chart_theory.proofs.Accepted.{Holds, dims, chart-holds}

@@ -13,8 +13,8 @@ use Rattle.packing.specs.Meaning.{Grammar, Utterance, edgesFrom}
 use Rattle.packing.specs.Parse.{refused}
 use Rattle.packing.specs.Flat.{slotsBy}
 use Rattle.packing.proofs.Widths.{length-small}
-use Rattle.packing_utterance.specs.Edges.{candidatesAt, slotsEdges, edgesIn}
-use Rattle.packing_utterance.proofs.Edges.{length-candidate-edges}
+use Rattle.utterance_edges.specs.Edges.{candidatesAt, slotsEdges, edgesIn}
+use Rattle.utterance_edges.proofs.Edges.{length-candidate-edges}
 use Rattle.listing.specs.Listing.{tableSize, listed}
 use Rattle.packing.specs.Reading.{readingLength}
 use Rattle.listing.specs.Model.{firstOf, shortage}

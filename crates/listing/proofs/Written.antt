@@ -15,7 +15,7 @@ use Rattle.packing.specs.Store.{storeAll}
 use Rattle.packing.specs.Reading.{blockOfReading, readingLength}
 use Rattle.packing.proofs.Store.{length-store}
 use Rattle.packing.proofs.Widths.{length-reading}
-use Rattle.packing_reading.specs.Answer.{readingOf}
+use Rattle.reading_writer.specs.Answer.{readingOf}
 use Rattle.chart_table.specs.declared.Dims.{Dims}
 use Rattle.chart_table.specs.Table.{cellOf, weightAt}
 use Rattle.chart_walk.specs.Walk.{spelled}

@@ -14,9 +14,9 @@ use Rattle.packing.specs.Store.{storeAll}
 use Rattle.packing.specs.Utterance.{utteranceBlock}
 use Rattle.packing.specs.Reading.{blockOfReading, readingLength}
 use Rattle.packing.specs.Valid.{ValidGrammar, ValidUtterance}
-use Rattle.packing_grammar.specs.Answer.{sizes}
-use Rattle.packing_grammar.specs.declared.Sizes.{Sizes}
-use Rattle.packing_reading.specs.Answer.{readingOf}
+use Rattle.grammar_reader.specs.Answer.{sizes}
+use Rattle.grammar_reader.specs.declared.Sizes.{Sizes}
+use Rattle.reading_writer.specs.Answer.{readingOf}
 use Rattle.chart_table.specs.declared.Dims.{Dims}
 use Rattle.chart_table.specs.Table.{cellOf, weightAt, foundOf, cleared}
 use Rattle.chart_search.specs.Search.{listOf}

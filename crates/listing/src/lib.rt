@@ -4,15 +4,15 @@ use chart_table::cell_of;
 use chart_table::clearing::clear;
 use chart_table::weight_at;
 use chart_table::zero;
+use grammar_reader::GrammarRead;
+use grammar_reader::Sizes;
 use packing::Sym;
-use packing_grammar::GrammarRead;
-use packing_grammar::Sizes;
-use packing_utterance::UtteranceRead;
+use utterance_reader::UtteranceRead;
 ghost use mathlib.Core.Path.{_≡_};
 ghost use mathlib.Core.List.{_++_};
 ghost use Prim.Native.Nat.{_+_, _-_, _*_, _/_, _≤_, _<_};
 ghost use lib.ListN.{length, drop};
-ghost use Rattle.packing_grammar.specs.Answer.{Bounded};
+ghost use Rattle.grammar_reader.specs.Answer.{Bounded};
 ghost use Rattle.chart_table.specs.Table.{Small};
 ghost use Rattle.listing.specs.Listing.{list, answerOf, outputAfter, workAfter};
 ghost use Rattle.packing.specs.Reading.{readingLength};
@@ -47,7 +47,7 @@ fn shortage(symbols: usize, rules: usize, n: usize, wanted: u32, work: usize, ou
     if work < 4 * cells_of(symbols, n) * ranks {
         return 22;
     }
-    if out < ranks * packing_reading::reading_length(n, rules) {
+    if out < ranks * reading_writer::reading_length(n, rules) {
         return 23;
     }
     0
@@ -70,7 +70,7 @@ fn write_rank(t: &[u32], rules: &[u32], count: usize, d: Dims, n: usize, x: usiz
     let mut walk = [0u32; 48];
     chart_walk::spell(t, rules, d, start, 0, n, x, &mut walk);
     let stored = weight_at(t, d, cell_of(d, start, 0, n), x);
-    packing_reading::write_reading(out, n, count, less_one(stored), &walk);
+    reading_writer::write_reading(out, n, count, less_one(stored), &walk);
 }
 
 // The readings of the first m ranks, one after another.
@@ -86,7 +86,7 @@ fn write_readings(
     requires { ⌜ (Small d 0 n) × (n ≤ 24) × (1 ≤ count) × (count ≤ 256) × (m ≤ d .cap) × (m * readingLength n count ≤ length (now out)) ⌝ }
     ensures { λ _. ⌜ now (out .exit) ≡ blocksAt (now (t .entry)) (now (rules .entry)) d n count m ++ drop (m * readingLength n count) (now (out .entry)) ⌝ }
 {
-    let size = packing_reading::reading_length(n, count);
+    let size = reading_writer::reading_length(n, count);
     for x in 0..m {
         let at = x * size;
         write_rank(t, rules, count, d, n, x, &mut out[at..]);
@@ -135,7 +135,7 @@ fn list_utterance(
         return Listed::Refused(refusal);
     }
     let mut edges = [0u32; 672];
-    let edge_count = packing_utterance::edges_of(slots, n, &mut edges);
+    let edge_count = utterance_edges::edges_of(slots, n, &mut edges);
     let mut index = [0u32; 1024];
     chart_index::make_index(rules, count, symbols, &edges, edge_count, n, &mut index);
     let d = Dims {
@@ -159,7 +159,7 @@ fn list_grammar(
     ensures { λ r. ⌜ GrammarListed (now (rules .entry)) sizes (now (utterance .entry)) wanted (now (work .entry)) (now (out .entry)) r (now (work .exit)) (now (out .exit)) ⌝ }
 {
     let mut slots = [0u32; 360];
-    match packing_utterance::read_block(utterance, sizes.words, &mut slots) {
+    match utterance_reader::read_block(utterance, sizes.words, &mut slots) {
         UtteranceRead::Refused(n) => Listed::Refused(n),
         UtteranceRead::Utterance(found) => {
             list_utterance(rules, sizes, &slots, found.count, wanted, work, out)
@@ -181,7 +181,7 @@ pub fn listing(
     ensures { λ r. ⌜ now (out .exit) ≡ outputAfter (list (now (grammar .entry)) (now (utterance .entry)) wanted (length (now (work .entry))) (length (now (out .entry)))) (now (out .entry)) ⌝ }
 {
     let mut rules = [0u32; 1280];
-    match packing_grammar::read_block(grammar, &mut rules) {
+    match grammar_reader::read_block(grammar, &mut rules) {
         GrammarRead::Refused(n) => Listed::Refused(n),
         GrammarRead::Grammar(sizes) => { list_grammar(&rules, sizes, utterance, wanted, work, out) }
     }

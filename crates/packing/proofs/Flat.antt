@@ -8,19 +8,26 @@ use Prim.Native.Nat.{ℕ, zero, suc, _+_, _*_, _≤_, _<_}
 use native.Mathlib.Nat.{add-zero, zero-add}
 use native.Mathlib.Omega.{arith}
 use lib.ListN.{length, getD, getElem?, drop, take-append-drop}
-use lib.Seq.{getD-take, getD-drop, drop-drop}
+use lib.Seq.{getD-take, getD-drop, drop-drop, take-append-seam}
 use Rattle.packing.specs.Meaning.{word, Grammar, Candidate, candidate, Utterance, Edge, edge}
 use Rattle.packing.specs.Source.{values, valueOf}
 use Rattle.packing.specs.Grammar.{rulesEntries}
 use Rattle.packing.specs.Utterance.{candidatesEntries, slotsEntries}
 use Rattle.packing.specs.Flat.{Begins, ruleNumbers, ruleAt, rulesAt, rulesOf, slotNumbers, candidatesOf, slotsBy, slotsOf, edgeNumbers}
+use Rattle.packing.specs.Store.{storeAll}
 use Rattle.packing.specs.declared.Rule as R
 use Rattle.packing.specs.declared.Rule.the-variants.{Pair, Word}
 use Rattle.packing.proofs.Bounds.{length-rules}
+use Rattle.packing.proofs.Store.{store-at}
 
 -- an array that begins with l has l's elements
 pub begins-at : (l array : List ℕ) (i : ℕ) → Begins l array → i < length l → getD array i 0 ≡ getD l i 0
 begins-at l array i b h = sym (getD-take (length l) array i 0 h) ∙ ap (λ (t : List ℕ). getD t i 0) b
+
+-- an array begins with what is stored at its front
+pub stored-begins : (array ns : List ℕ) → length ns ≤ length array → Begins ns (storeAll array 0 ns)
+stored-begins array ns h =
+    rw (store-at array 0 ns (omega arith), zero-add) (take-append-seam ns (drop (length ns) array))
 
 -- five numbers further on, in a list behind five numbers
 skip-five : (a b c d e : ℕ) (l : List ℕ) (r : ℕ) → ruleAt (a ∷ b ∷ c ∷ d ∷ e ∷ l) (suc r) ≡ ruleAt l r

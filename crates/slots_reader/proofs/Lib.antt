@@ -1,5 +1,4 @@
 pub mod Told
-pub mod Stored
 pub mod Numbers
 pub mod Candidates
 pub mod Slots

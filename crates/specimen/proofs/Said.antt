@@ -6,8 +6,8 @@ use native.Mathlib.Omega.{arith}
 use lib.ListN.{length, drop}
 use Rattle.packing.specs.Meaning.{Grammar, word, sym as symbol}
 use Rattle.packing.specs.Parse.{accepted}
-use Rattle.packing_grammar.specs.declared.Sizes.{Sizes}
-use Rattle.packing_grammar.specs.Answer.{sizes}
+use Rattle.grammar_reader.specs.declared.Sizes.{Sizes}
+use Rattle.grammar_reader.specs.Answer.{sizes}
 use Rattle.specimen.specs.declared.Answered.the-variants.{Written, Nothing}
 use Rattle.packing.specs.Flat.{Begins, ruleNumbers, ruleAt}
 use Rattle.packing.specs.Valid.{ValidGrammar}

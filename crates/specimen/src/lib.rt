@@ -1,10 +1,10 @@
 // The specimen: some word string of a wanted length that a grammar derives.
 use arrays::number_at;
 use arrays::rule_at;
+use grammar_reader::GrammarRead;
+use grammar_reader::Sizes;
 use packing::Rule;
 use packing::Sym;
-use packing_grammar::GrammarRead;
-use packing_grammar::Sizes;
 ghost use mathlib.Core.Path.{_≡_};
 ghost use Prim.Native.Nat.{_≤_, _<_};
 ghost use lib.ListN.{length};
@@ -12,7 +12,7 @@ ghost use Rattle.packing.specs.Flat.{Begins, ruleNumbers, ruleAt};
 ghost use Rattle.packing.specs.Meaning.{Grammar, sym};
 ghost use Rattle.packing.specs.Parse.{accepted};
 ghost use Rattle.packing.specs.Valid.{ValidGrammar};
-ghost use Rattle.packing_grammar.specs.Answer.{Bounded, sizes as sizesOf};
+ghost use Rattle.grammar_reader.specs.Answer.{Bounded, sizes as sizesOf};
 ghost use Rattle.specimen.specs.Specimen.{asked, Answers};
 ghost use Rattle.specimen.specs.Choice.{choiceAt, orElse, splitChoice, pairChoice, ruleChoice, cellChoice, lengthFilled, filled, partBelow, wordAt, wordsWritten};
 
@@ -206,7 +206,7 @@ pub fn specimen(grammar: &[u8], wanted: u32, out: &mut [u8]) -> Answered
     ensures { λ r. ⌜ Answers (asked (now (grammar .entry)) wanted (length (now (out .entry)))) wanted (now (out .entry)) r (now (out .exit)) ⌝ }
 {
     let mut rules = [0u32; 1280];
-    let read = packing_grammar::read_block(grammar, &mut rules);
+    let read = grammar_reader::read_block(grammar, &mut rules);
     match read {
         GrammarRead::Refused(n) => Answered::Refused(n),
         GrammarRead::Grammar(sizes) => {

@@ -10,8 +10,8 @@ use mir.Syntax.{w32}
 use mir.Val.{toZ, ofZ, SFits}
 use Rattle.packing.specs.Meaning.{Reading}
 use Rattle.packing.specs.Parse.{Verdict, accepted, refused}
-use Rattle.packing_writing.specs.Answer.{writtenOf}
-use Rattle.packing_writing.specs.declared.Written as W
+use Rattle.sheet_writer.specs.Answer.{writtenOf}
+use Rattle.sheet_writer.specs.declared.Written as W
 use Rattle.checker.specs.Check as Check
 use Rattle.checker.specs.declared.Checked as C
 use Rattle.listing.specs.Listing as Listing

@@ -2,7 +2,7 @@
 // number: 0 or more is the answer, less than 0 is minus the refusal's number.
 use checker::Checked;
 use listing::Listed;
-use packing_writing::Written;
+use sheet_writer::Written;
 use specimen::Answered;
 ghost use mathlib.Core.Path.{_≡_};
 ghost use Prim.Native.Nat.{_<_};

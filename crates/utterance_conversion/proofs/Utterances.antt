@@ -16,10 +16,10 @@ use Rattle.packing.specs.Utterance.{candidatesEntries, slotsEntries, utteranceE
 use Rattle.packing.specs.Flat.{Begins, slotNumbers, SlotsIn}
 use Rattle.packing.proofs.Flat.{slots-of}
 use Rattle.packing.proofs.Bounds.{length-candidates}
-use Rattle.packing_utterance.specs.Answer.{answerOf}
-use Rattle.packing_utterance.specs.declared.Slots.{Slots}
-use Rattle.packing_utterance.specs.declared.UtteranceRead as R
-use Rattle.packing_writing.specs.Arrays.{slotsFields, slotsBits, utteranceFields, blockOf}
+use Rattle.utterance_reader.specs.Answer.{answerOf}
+use Rattle.utterance_reader.specs.declared.Slots.{Slots}
+use Rattle.utterance_reader.specs.declared.UtteranceRead as R
+use Rattle.sheet_writer.specs.Arrays.{slotsFields, slotsBits, utteranceFields, blockOf}
 
 module _ (W : ℕ) where
   slots-in : (u : Utterance) (l : List ℕ) → Begins (slotNumbers W u) l → slotsFields W l 0 (length u) ≡ flds (slotsEntries W u)

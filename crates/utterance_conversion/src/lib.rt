@@ -1,13 +1,13 @@
 // Utterance sheets and blocks, turned into each other under a grammar.
-use packing_grammar::GrammarRead;
-use packing_utterance::UtteranceRead;
-use packing_writing::Written;
-use packing_writing::sheets::write_sheet;
+use grammar_reader::GrammarRead;
+use sheet_writer::Written;
+use sheet_writer::sheets::write_sheet;
+use utterance_reader::UtteranceRead;
 use utterance_writer::write_utterance;
 ghost use mathlib.Core.Path.{_≡_};
 ghost use Prim.Native.Nat.{_≤_};
 ghost use Rattle.packing.specs.Conversion.{utteranceToBlock, utteranceToSheet, fitting, written, blockUnder, sheetUnder};
-ghost use Rattle.packing_writing.specs.Answer.{writtenOf, Writes};
+ghost use Rattle.sheet_writer.specs.Answer.{writtenOf, Writes};
 
 // The block of an utterance sheet under a grammar of `words` words.
 fn sheet_to_block(words: u32, sheet: &[u32], out: &mut [u8]) -> Written
@@ -15,7 +15,7 @@ fn sheet_to_block(words: u32, sheet: &[u32], out: &mut [u8]) -> Written
     ensures { λ r. ⌜ Writes (blockUnder words (now (sheet .entry))) (now (out .entry)) r (now (out .exit)) ⌝ }
 {
     let mut slots = [0u32; 360];
-    match packing_utterance::read_sheet(sheet, words, &mut slots) {
+    match utterance_reader::read_sheet(sheet, words, &mut slots) {
         UtteranceRead::Refused(n) => Written::Refused(n),
         UtteranceRead::Utterance(u) => write_utterance(out, words, u.count, u.numbers, &slots),
     }
@@ -27,7 +27,7 @@ fn block_to_sheet(words: u32, block: &[u8], out: &mut [u32]) -> Written
     ensures { λ r. ⌜ Writes (sheetUnder words (now (block .entry))) (now (out .entry)) r (now (out .exit)) ⌝ }
 {
     let mut slots = [0u32; 360];
-    match packing_utterance::read_block(block, words, &mut slots) {
+    match utterance_reader::read_block(block, words, &mut slots) {
         UtteranceRead::Refused(n) => Written::Refused(n),
         UtteranceRead::Utterance(u) => {
             let head = [u.count as u32];
@@ -42,7 +42,7 @@ pub fn utterance_to_block(grammar: &[u8], sheet: &[u32], out: &mut [u8]) -> Writ
         × (now (out .exit) ≡ written (fitting (utteranceToBlock (now (grammar .entry)) (now (sheet .entry))) (now (out .entry))) (now (out .entry))) ⌝ }
 {
     let mut rules = [0u32; 1280];
-    match packing_grammar::read_block(grammar, &mut rules) {
+    match grammar_reader::read_block(grammar, &mut rules) {
         GrammarRead::Refused(n) => Written::Refused(n),
         GrammarRead::Grammar(z) => sheet_to_block(z.words, sheet, out),
     }
@@ -54,7 +54,7 @@ pub fn utterance_to_sheet(grammar: &[u8], block: &[u8], out: &mut [u32]) -> Writ
         × (now (out .exit) ≡ written (fitting (utteranceToSheet (now (grammar .entry)) (now (block .entry))) (now (out .entry))) (now (out .entry))) ⌝ }
 {
     let mut rules = [0u32; 1280];
-    match packing_grammar::read_block(grammar, &mut rules) {
+    match grammar_reader::read_block(grammar, &mut rules) {
         GrammarRead::Refused(n) => Written::Refused(n),
         GrammarRead::Grammar(z) => block_to_sheet(z.words, block, out),
     }

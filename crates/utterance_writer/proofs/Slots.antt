@@ -17,7 +17,7 @@ use Rattle.packing.specs.Utterance.{candidatesEntries, slotsEntries}
 use Rattle.packing.specs.Flat.{candidatesOf, slotsBy, slotsOf}
 use Rattle.packing.proofs.Flat.{length-candidates-of}
 use Rattle.packing.proofs.Widths.{byte-width}
-use Rattle.packing_writing.specs.Arrays.{candidatesFields, slotsFields, slotsBits, utteranceFields, blockOf}
+use Rattle.sheet_writer.specs.Arrays.{candidatesFields, slotsFields, slotsBits, utteranceFields, blockOf}
 
 pub candidates-small : {m w : ℕ} → m ≤ 180 → w ≤ 24 → m * w ≤ 4320
 candidates-small h k = mul-le-mul h k

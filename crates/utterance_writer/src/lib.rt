@@ -1,8 +1,8 @@
 // Utterance blocks, written from an array that has for each slot its count and its words and costs.
 use arrays::narrow_at;
 use arrays::number_at;
-use packing_writing::Written;
-use packing_writing::width_below;
+use sheet_writer::Written;
+use sheet_writer::width_below;
 ghost use mathlib.Core.Path.{_≡_};
 ghost use Prim.Native.Nat.{_+_, _*_, _/_, _^_, _≤_, _<_};
 ghost use lib.ListN.{length};
@@ -10,8 +10,8 @@ ghost use Rattle.bits.specs.Fields.{widths};
 ghost use Rattle.bits.specs.Put.{puts};
 ghost use Rattle.packing.specs.Parse.{accepted};
 ghost use Rattle.packing.specs.Conversion.{written};
-ghost use Rattle.packing_writing.specs.Answer.{Writes};
-ghost use Rattle.packing_writing.specs.Arrays.{candidatesFields, slotsFields, slotsBits, utteranceFields, blockOf};
+ghost use Rattle.sheet_writer.specs.Answer.{Writes};
+ghost use Rattle.sheet_writer.specs.Arrays.{candidatesFields, slotsFields, slotsBits, utteranceFields, blockOf};
 
 // The n candidates whose words and costs stand from place p on, from bit `start`; the place behind them.
 fn write_candidates(

@@ -6,8 +6,8 @@ use native.Mathlib.Omega.{arith}
 use Rattle.packing.specs.declared.Rule as R
 use Rattle.packing.specs.Utterance.{utteranceBlock}
 use Rattle.packing.specs.Flat.{rulesOf}
-use Rattle.packing_utterance.proofs.Outcome.{accepted-told, refused-told}
-use Rattle.packing_utterance.specs.declared.Slots.{Slots}
+use Rattle.utterance_reader.proofs.Outcome.{accepted-told, refused-told}
+use Rattle.utterance_reader.specs.declared.Slots.{Slots}
 use Rattle.checker.specs.Check.{answerOf}
 use Rattle.checker.specs.Run.{underRules}
 use Rattle.packing.proofs.Flat.{length-rules-at}

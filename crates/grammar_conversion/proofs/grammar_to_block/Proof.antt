@@ -5,8 +5,8 @@ use borrow.Author.Needs.{needs}
 use Rattle.packing.specs.Parse.{accepted}
 use Rattle.packing.specs.Grammar.{grammarSheet, blockOfGrammar}
 use Rattle.packing.specs.Conversion.{grammarToBlock}
-use Rattle.packing_grammar.proofs.Told.{refusal-told}
-use Rattle.packing_writing.proofs.Fit.{handed-up}
+use Rattle.grammar_reader.proofs.Told.{refusal-told}
+use Rattle.sheet_writer.proofs.Fit.{handed-up}
 use Rattle.grammar_conversion.proofs.Grammars.{block-told}
 use Rattle.grammar_conversion.proofs.grammar_to_block.Statement.{statement}
 use Rattle.grammar_conversion.proofs.grammar_to_block.Tie as tie

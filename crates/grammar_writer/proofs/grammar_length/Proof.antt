@@ -5,7 +5,7 @@ use native.Mathlib.Omega.{arith}
 use borrow.Author.Needs.{needs}
 use Rattle.bits.specs.Fields.{widths}
 use Rattle.bits.proofs.Fields.{length-block}
-use Rattle.packing_writing.specs.Arrays.{grammarFields}
+use Rattle.sheet_writer.specs.Arrays.{grammarFields}
 use Rattle.grammar_writer.proofs.grammar_length.Statement.{statement}
 use Rattle.grammar_writer.proofs.grammar_length.Tie as tie
 

@@ -4,7 +4,7 @@ use Prim.Native.Nat.{_+_, _-_, _*_, _≤_}
 use native.Mathlib.Nat.{sub-zero}
 use native.Mathlib.Omega.{arith}
 use Rattle.bits.specs.Fields.{widths}
-use Rattle.packing_writing.specs.Arrays.{rulesFields}
+use Rattle.sheet_writer.specs.Arrays.{rulesFields}
 use Rattle.grammar_writer.proofs.Rules.{widths-more, rules-end}
 use Rattle.grammar_writer.proofs.rules_bits.Statement.{statement}
 use Rattle.grammar_writer.proofs.rules_bits.Tie as tie

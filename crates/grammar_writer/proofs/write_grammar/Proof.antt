@@ -1,7 +1,7 @@
 -- The block is written where its length fits.
 use borrow.Author.Needs.{needs}
-use Rattle.packing_writing.specs.Arrays.{grammarFields, blockOf}
-use Rattle.packing_writing.proofs.Fit.{no-room, room}
+use Rattle.sheet_writer.specs.Arrays.{grammarFields, blockOf}
+use Rattle.sheet_writer.proofs.Fit.{no-room, room}
 use Rattle.grammar_writer.proofs.write_grammar.Statement.{statement}
 use Rattle.grammar_writer.proofs.write_grammar.Tie as tie
 

@@ -6,7 +6,7 @@ use Rattle.bits.proofs.Remaining.{Remaining, all-remain, none-remain, some-writ
 use Rattle.packing.specs.Source.{flds}
 use Rattle.packing.specs.Grammar.{ruleEntries}
 use Rattle.packing.specs.Flat.{ruleAt}
-use Rattle.packing_writing.specs.Arrays.{rulesFields}
+use Rattle.sheet_writer.specs.Arrays.{rulesFields}
 use Rattle.grammar_writer.proofs.Rules.{rules-more, rules-end}
 use Rattle.grammar_writer.proofs.write_rules.Statement.{statement}
 use Rattle.grammar_writer.proofs.write_rules.Tie as tie

@@ -3,9 +3,9 @@ use mathlib.Core.Path.{ap}
 use borrow.Author.Needs.{needs}
 use Rattle.packing.specs.Grammar.{grammarBlock}
 use Rattle.packing.specs.Utterance.{utteranceBlock}
-use Rattle.packing_grammar.proofs.Outcome as grammar
-use Rattle.packing_utterance.proofs.Outcome as utterance
-use Rattle.packing_utterance.specs.declared.Slots.{Slots}
+use Rattle.grammar_reader.proofs.Outcome as grammar
+use Rattle.utterance_reader.proofs.Outcome as utterance
+use Rattle.utterance_reader.specs.declared.Slots.{Slots}
 use Rattle.lister.proofs.Shapes.{no-grammar, no-utterance, both-accepted}
 use Rattle.lister.proofs.shape_of.Statement.{statement}
 use Rattle.lister.proofs.shape_of.Tie as tie

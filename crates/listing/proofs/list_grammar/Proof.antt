@@ -2,8 +2,8 @@
 use mathlib.Core.Path.{ap}
 use borrow.Author.Needs.{needs}
 use Rattle.packing.specs.Utterance.{utteranceBlock}
-use Rattle.packing_utterance.proofs.Outcome.{accepted-told, refused-told}
-use Rattle.packing_utterance.specs.declared.Slots.{Slots}
+use Rattle.utterance_reader.proofs.Outcome.{accepted-told, refused-told}
+use Rattle.utterance_reader.specs.declared.Slots.{Slots}
 use Rattle.listing.proofs.Outcome.{grammar-refused, grammar-listed}
 use Rattle.listing.proofs.list_grammar.Statement.{statement}
 use Rattle.listing.proofs.list_grammar.Tie as tie

@@ -1,7 +1,7 @@
 -- What the grammar's reader says of the block decides between its refusal and the listing of what it means.
 use borrow.Author.Needs.{needs}
 use Rattle.packing.specs.Grammar.{grammarBlock}
-use Rattle.packing_grammar.proofs.Outcome.{accepted-told, refused-told}
+use Rattle.grammar_reader.proofs.Outcome.{accepted-told, refused-told}
 use Rattle.listing.proofs.Outcome.{block-refused, block-listed}
 use Rattle.listing.proofs.listing.Statement.{statement}
 use Rattle.listing.proofs.listing.Tie as tie

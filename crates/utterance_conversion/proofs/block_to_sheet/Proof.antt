@@ -4,7 +4,7 @@ use native.Mathlib.Omega.{arith}
 use borrow.Author.Needs.{needs}
 use Rattle.packing.specs.Parse.{accepted}
 use Rattle.packing.specs.Utterance.{utteranceBlock, sheetOfUtterance}
-use Rattle.packing_writing.proofs.Fit.{handed-up}
+use Rattle.sheet_writer.proofs.Fit.{handed-up}
 use Rattle.utterance_conversion.proofs.Utterances.{refusal-told, sheet-told}
 use Rattle.utterance_conversion.proofs.block_to_sheet.Statement.{statement}
 use Rattle.utterance_conversion.proofs.block_to_sheet.Tie as tie

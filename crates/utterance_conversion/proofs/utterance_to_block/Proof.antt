@@ -4,8 +4,8 @@ use native.Mathlib.Omega.{arith}
 use borrow.Author.Needs.{needs}
 use Rattle.packing.specs.Grammar.{grammarBlock}
 use Rattle.packing.specs.Conversion.{utteranceToBlock, blockUnder}
-use Rattle.packing_writing.proofs.Fit.{handed-up}
-use Rattle.packing_grammar.proofs.Told.{refusal-told, words-told}
+use Rattle.sheet_writer.proofs.Fit.{handed-up}
+use Rattle.grammar_reader.proofs.Told.{refusal-told, words-told}
 use Rattle.utterance_conversion.proofs.utterance_to_block.Statement.{statement}
 use Rattle.utterance_conversion.proofs.utterance_to_block.Tie as tie
 

@@ -3,7 +3,7 @@ use Prim.Native.Nat.{_+_, _-_, _*_, _≤_}
 use native.Mathlib.Nat.{sub-zero, add-zero}
 use native.Mathlib.Omega.{arith}
 use Rattle.bits.proofs.Remaining.{Remaining, all-remain, none-remain, one-within, one-written}
-use Rattle.packing_writing.specs.Arrays.{candidatesFields}
+use Rattle.sheet_writer.specs.Arrays.{candidatesFields}
 use Rattle.utterance_writer.proofs.Slots.{candidates-some, candidates-more, candidates-end}
 use Rattle.utterance_writer.proofs.write_candidates.Statement.{statement}
 use Rattle.utterance_writer.proofs.write_candidates.Tie as tie

@@ -4,8 +4,8 @@ use native.Mathlib.Omega.{arith}
 use borrow.Author.Needs.{needs}
 use Rattle.bits.specs.Fields.{widths}
 use Rattle.bits.proofs.Remaining.{all-remain, one-written}
-use Rattle.packing_writing.specs.Arrays.{utteranceFields}
-use Rattle.packing_writing.proofs.Block.{block-room, block-written}
+use Rattle.sheet_writer.specs.Arrays.{utteranceFields}
+use Rattle.sheet_writer.proofs.Block.{block-room, block-written}
 use Rattle.utterance_writer.proofs.write_fields.Statement.{statement}
 use Rattle.utterance_writer.proofs.write_fields.Tie as tie
 

@@ -3,7 +3,7 @@ use Prim.Native.Nat.{_-_, _≤_}
 use native.Mathlib.Nat.{sub-zero}
 use native.Mathlib.Omega.{arith}
 use Rattle.bits.proofs.Remaining.{Remaining, all-remain, none-remain}
-use Rattle.packing_writing.specs.Arrays.{slotsFields}
+use Rattle.sheet_writer.specs.Arrays.{slotsFields}
 use Rattle.utterance_writer.proofs.Slots.{slots-end, slot-within, slot-written}
 use Rattle.utterance_writer.proofs.write_slots.Statement.{statement}
 use Rattle.utterance_writer.proofs.write_slots.Tie as tie

@@ -2,8 +2,8 @@
 use mathlib.Core.Path.{_∙_}
 use native.Mathlib.Omega.{arith}
 use borrow.Author.Needs.{needs}
-use Rattle.packing_writing.specs.Arrays.{utteranceFields, blockOf}
-use Rattle.packing_writing.proofs.Fit.{no-room, room}
+use Rattle.sheet_writer.specs.Arrays.{utteranceFields, blockOf}
+use Rattle.sheet_writer.proofs.Fit.{no-room, room}
 use Rattle.utterance_writer.proofs.Slots.{block-length, slots-small}
 use Rattle.utterance_writer.proofs.write_utterance.Statement.{statement}
 use Rattle.utterance_writer.proofs.write_utterance.Tie as tie

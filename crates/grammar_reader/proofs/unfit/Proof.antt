@@ -1,0 +1,35 @@
+-- `grammar_reader::unfit` meets its contract: each arm of the match is the definition's clause for that source. Assumes nothing.
+use mathlib.Core.Path.{_≡_, refl}
+use mathlib.Core.Bool.{Bool, true, false, not}
+use Prim.Native.Nat.{_+_, _*_}
+use lib.Dec.{eqb}
+use lib.ListN.{length}
+use borrow.Author.Needs.{needs}
+use Rattle.bits.specs.Bits.{pick}
+use Rattle.grammar_reader.proofs.unfit.Statement.{statement}
+use Rattle.grammar_reader.proofs.unfit.Tie as tie
+
+enum-told : tie.Need-enum-told
+enum-told c = search needs
+
+enum-told-2 : tie.Need-enum-told-2
+enum-told-2 c = search needs
+
+mul-result : tie.Need-mul-result
+mul-result c = search needs
+
+add-result : tie.Need-add-result
+add-result c = search needs
+
+not-pick : (b : Bool) → not b ≡ pick b false true
+not-pick true = refl
+not-pick false = refl
+
+returns : tie.Need-returns
+returns c = λ block. rw (c .enum-told .given .1)
+
+returns-2 : tie.Need-returns-2
+returns-2 c = λ block. rw (c .enum-told2 .given .1) (not-pick (eqb (length (c .before .before .args .sheet .now)) (3 + 5 * c .before .before .args .rules)))
+
+pub unfit-spec : {M : Type 1} → statement M
+unfit-spec = tie.close (tie.spec enum-told enum-told-2 mul-result add-result returns returns-2)

@@ -1,0 +1,43 @@
+-- The parts of a grammar reader, for the contracts of its functions: document 01, "Packed blocks". Assumes nothing.
+use mathlib.Core.Path.{_≡_}
+use mathlib.Core.List.{List}
+use Prim.Native.Nat.{ℕ, _+_, _*_, _≤_}
+use Rattle.packing.specs.Meaning as meaning
+use Rattle.packing.specs.Parse.{Parse, parsed, failed, _⟫_}
+use Rattle.packing.specs.Source.{Source, take}
+use Rattle.packing.specs.Grammar.{size, grammarFrom}
+use Rattle.packing.specs.Flat.{Begins, ruleNumbers}
+use Rattle.grammar_reader.specs.Answer.{sizes, Bounded}
+use Rattle.grammar_reader.specs.declared.Sizes as Z
+use Rattle.grammar_reader.specs.declared.SizesRead.{SizesRead}
+use Rattle.grammar_reader.specs.declared.SizesRead.the-variants.{Sizes, Refused}
+
+-- S, W and R
+unfoldable pub sizesFrom : Source → ℕ → Parse Z.Sizes
+sizesFrom src at =
+    take src at (size 6 32) ⟫ λ S at. take src at (size 8 200) ⟫ λ W at. take src at (size 9 256) ⟫ λ R at.
+    parsed (record { symbols = S; words = W; rules = R }) at
+
+abbrev pub sizesOf : Parse Z.Sizes → SizesRead
+sizesOf (parsed z at) = Sizes z (record { at = at })
+sizesOf (failed n) = Refused n
+
+-- sizes that were read are in their ranges, and the next place is at most `most`
+abbrev pub SizesNear : ℕ → SizesRead → Type 0
+SizesNear most (Sizes z c) = Bounded z × (c .at ≤ most)
+SizesNear most (Refused n) = Unit {0}
+
+-- the sizes of a grammar that was read, and its rules in an array
+abbrev pub sizesIn : Parse meaning.Grammar → Parse Z.Sizes
+sizesIn (parsed g at) = parsed (sizes g) at
+sizesIn (failed n) = failed n
+
+abbrev pub GrammarIn : Parse meaning.Grammar → List ℕ → Type 0
+GrammarIn (parsed g at) array = Begins (ruleNumbers g) array
+GrammarIn (failed n) array = Unit {0}
+
+-- what reading a grammar from a place promises of its answer and of the array
+pub record GrammarTold (src : Source) (at : ℕ) (r : SizesRead) (array : List ℕ) : Type 0 where
+  pub answer : r ≡ sizesOf (sizesIn (grammarFrom src at))
+  pub rules : GrammarIn (grammarFrom src at) array
+  pub near : SizesNear (at + 23 + 41 * 256) r

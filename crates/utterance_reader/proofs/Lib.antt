@@ -1,0 +1,4 @@
+pub mod Told
+pub mod Utterances
+pub mod Answers
+pub mod Outcome
