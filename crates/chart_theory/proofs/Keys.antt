@@ -103,9 +103,6 @@ key-lt v v′ f f′ h = sym (key-order v v′ f f′) ∙ compare-lt (rowKey v)
 pub key-some : (v : Row) → RowFits v → rowWeight v < 16777216 → rowKey v < none
 key-some (row w r j p q) f h = omega (arith, tie-below f)
 
-pub key-positive : (v : Row) → 0 < rowKey v
-key-positive v = omega arith
-
 -- a key is of one row
 pub key-one : (v v′ : Row) → RowFits v → RowFits v′ → rowKey v ≡ rowKey v′ → v ≡ v′
 key-one v v′ f f′ e = row-same v v′ (sym (key-order v v′ f f′) ∙ rw e (compare-self (rowKey v′)))

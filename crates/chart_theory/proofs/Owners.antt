@@ -11,7 +11,7 @@ use Rattle.derivation.specs.Derivation.{Tree, weight}
 use Rattle.derivation.proofs.Comparison.{compare-same}
 use Rattle.derivation.proofs.Order.{order-lawful}
 use Rattle.derivation.proofs.Cell.{ranked-order}
-use Rattle.derivation.proofs.Rows.{Row, row, RowOf, leaf-row, node-row, row-weight, RowAt}
+use Rattle.derivation.proofs.Rows.{Row, row, RowOf, leaf-row, node-row, RowAt}
 use Rattle.derivation.proofs.Frontier.{Frontier, a-leaf, a-seed, right-follower, left-follower}
 
 module _ (g : Grammar) (es : List Edge) (a : Sym) (i k : ℕ) where
@@ -29,10 +29,6 @@ module _ (g : Grammar) (es : List Edge) (a : Sym) (i k : ℕ) where
       let e : s ≡ s′ = cc in
       let f : t ≡ t′ = cc in
       cc
-
-  pub same-weight : {w w′ r j p q : ℕ} {t t′ : Tree} → RowOf g es a i k (row w r j p q) t
-      → RowOf g es a i k (row w′ r j p q) t′ → w ≡ w′
-  same-weight o o′ = let e = row-tree o o′ in row-weight g es o ∙ rw e (sym (row-weight g es o′))
 
   pub same-rank : {w w′ r j p q : ℕ} (x x′ : ℕ) → RowAt g es a i k x (row w r j p q) → RowAt g es a i k x′ (row w′ r j p q)
       → x ≡ x′
