@@ -6,8 +6,8 @@ use borrow.Author.Needs.{needs}
 use lib.ListN.{take}
 use Rattle.sheet_writer.proofs.Copied.{length-two, copied-two}
 use Rattle.sheet_writer.proofs.Fit.{no-room, room}
-use Rattle.sheet_writer.proofs.sheets.write_sheet.Statement.{statement}
-use Rattle.sheet_writer.proofs.sheets.write_sheet.Tie as tie
+use Rattle.sheet_writer.proofs.write_sheet.Statement.{statement}
+use Rattle.sheet_writer.proofs.write_sheet.Tie as tie
 
 add-length : tie.Need-add-length
 add-length c = search needs

@@ -4,9 +4,9 @@ use borrow.Author.Tests.{leb-true, lt-ltb, le-ltb}
 use Prim.Native.Nat.{_+_, _*_, _≤_}
 use lib.ListN.{length}
 use mathlib.Core.Path.{sym, _∙_}
-use Rattle.packing.specs.Source.{take}
-use Rattle.packing.proofs.take.Statement.{statement}
-use Rattle.packing.proofs.take.Tie as tie
+use Rattle.packing.specs.Source.{fieldAt}
+use Rattle.packing.proofs.field_at.Statement.{statement}
+use Rattle.packing.proofs.field_at.Tie as tie
 
 enum-known-src : tie.Need-enum-known-src
 enum-known-src c = search needs
@@ -27,7 +27,7 @@ in-range-requires : tie.Need-in-range-requires
 in-range-requires c κs = search needs
 
 returns : tie.Need-returns
-unfolding take
+unfolding fieldAt
 returns c = rw (c .before .before .before .before .before .src .given .1, ← c .before .before .before .has-field .ensures, c .before .before .if1 .taken, ← c .before .read-field .ensures) (c .in-range .ensures)
 
 enum-told : tie.Need-enum-told
@@ -46,19 +46,19 @@ in-range-requires-2 : tie.Need-in-range-requires-2
 in-range-requires-2 c κs = search needs
 
 returns-2 : tie.Need-returns-2
-unfolding take
+unfolding fieldAt
 returns-2 c = rw (c .before .before .before .enum-told .given .1, lt-ltb _ _ (c .before .before .if2 .taken)) (c .in-range2 .ensures)
 
 returns-3 : tie.Need-returns-3
-unfolding take
+unfolding fieldAt
 returns-3 c = rw (c .before .before .before .src .given .1, ← c .before .has-field .ensures, c .if1 .left)
 
 returns-4 : tie.Need-returns-4
-unfolding take
+unfolding fieldAt
 returns-4 c = rw (c .before .enum-told .given .1, le-ltb _ _ (c .if2 .left))
 
-pub take-spec : {M : Type 1} → statement M
-take-spec =
+pub field-at-spec : {M : Type 1} → statement M
+field-at-spec =
     tie.close
     (tie.spec
     enum-known-src

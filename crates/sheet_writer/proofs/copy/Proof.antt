@@ -5,8 +5,8 @@ use native.Mathlib.Numerals.{add-one}
 use native.Mathlib.Omega.{arith}
 use lib.ListN.{length, length-set}
 use lib.Seq.{paste, paste-zero, paste-suc}
-use Rattle.sheet_writer.proofs.sheets.copy.Statement.{statement}
-use Rattle.sheet_writer.proofs.sheets.copy.Tie as tie
+use Rattle.sheet_writer.proofs.copy.Statement.{statement}
+use Rattle.sheet_writer.proofs.copy.Tie as tie
 
 abbrev Inv-loop : tie.InvT-loop
 Inv-loop out₀ at numbers n i₀ out i = (i ≤ n) × (length out ≡ length out₀) × (out ≡ paste out₀ at numbers i)
