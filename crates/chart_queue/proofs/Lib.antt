@@ -1,0 +1,2 @@
+-- The ranks that stand one behind another.
+pub mod Ranks
