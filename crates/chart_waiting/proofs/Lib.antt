@@ -1,2 +1,0 @@
--- The ranks that stand one behind another.
-pub mod Ranks
