@@ -14,7 +14,7 @@ test:
 
 bench:
 	rt staticlib spireyerba
-	cargo run --release --locked --manifest-path bench/Cargo.toml
+	cargo run --profile bench --locked --package spireyerba-bench
 
 clean:
 	rm -rf target

@@ -5,48 +5,48 @@ use crate::free;
 use crate::inputs::{greatest, Input};
 use crate::measure::{medians, micros, ratio, Plan};
 use crate::table::{print_head, print_row};
+use spireyerba::{services, Refusal};
 use spireyerba_tests::check::check;
-use spireyerba_tests::refusal::Answer;
-use spireyerba_tests::{conversions, library};
+use spireyerba_tests::{conversions, grammar, reading, utterance};
 use std::hint::black_box;
 
 const PLAN: Plan = Plan { rounds: 301, calls: 20 };
 
 pub fn print_table() {
     let Input { grammar, utterance, .. } = greatest(24);
-    let (grammar_sheet, grammar_block) = (grammar.to_sheet(), grammar.to_block());
-    let (sheet, block) = (utterance.to_sheet(), utterance.to_block(&grammar));
+    let (grammar_sheet, grammar_block) = (grammar.to_sheet(), grammar::pack(&grammar));
+    let (sheet, block) = (utterance.to_sheet(), utterance::pack(&grammar, &utterance));
     print_head("256 rules, 24 slots of 7 words", &["ours", "second", "ratio"]);
     print_call(
         "grammar sheet to block",
         &grammar_block,
-        |out| library::grammar_to_block(&grammar_sheet, out),
+        |out| services::grammar_to_block(&grammar_sheet, out),
         |out| conversions::grammar_to_block(&grammar_sheet, out),
     );
     print_call(
         "grammar block to sheet",
         &grammar_sheet,
-        |out| library::grammar_to_sheet(&grammar_block, out),
+        |out| services::grammar_to_sheet(&grammar_block, out),
         |out| conversions::grammar_to_sheet(&grammar_block, out),
     );
     print_call(
         "utterance sheet to block",
         &block,
-        |out| library::utterance_to_block(&grammar_block, &sheet, out),
+        |out| services::utterance_to_block(&grammar_block, &sheet, out),
         |out| conversions::utterance_to_block(&grammar_block, &sheet, out),
     );
     print_call(
         "utterance block to sheet",
         &sheet,
-        |out| library::utterance_to_sheet(&grammar_block, &block, out),
+        |out| services::utterance_to_sheet(&grammar_block, &block, out),
         |out| conversions::utterance_to_sheet(&grammar_block, &block, out),
     );
-    let reading = free::least(&grammar, &utterance, 1)[0].to_block(&grammar);
+    let reading = reading::pack(&grammar, &free::least(&grammar, &utterance, 1)[0]);
     print_call::<u8>(
         "check of a reading",
         &[],
-        |_| library::check(&grammar_block, &block, &reading),
-        |_| check(&grammar_block, &block, &reading),
+        |_| services::check(&grammar_block, &block, &reading).map(|()| 0),
+        |_| check(&grammar_block, &block, &reading).map(|()| 0),
     );
 }
 
@@ -54,12 +54,12 @@ pub fn print_table() {
 fn print_call<T: Copy + Default + PartialEq>(
     name: &str,
     result: &[T],
-    library: impl Fn(&mut [T]) -> i32,
-    second: impl Fn(&mut [T]) -> Answer,
+    library: impl Fn(&mut [T]) -> Result<usize, Refusal>,
+    second: impl Fn(&mut [T]) -> Result<usize, Refusal>,
 ) {
     let mut from_library = vec![T::default(); result.len()];
     let mut from_second = from_library.clone();
-    let mut call_library = || assert_eq!(library(black_box(&mut from_library)), result.len() as i32, "{name}");
+    let mut call_library = || assert!(library(black_box(&mut from_library)) == Ok(result.len()), "{name}");
     let mut call_second = || assert!(second(black_box(&mut from_second)) == Ok(result.len()), "{name}");
     let [ours, other] = medians(PLAN, [&mut call_library, &mut call_second]);
     assert!(from_library == result && from_second == result, "{name}: wrong result");

@@ -1,21 +1,20 @@
 //! The listing written freely, with heaps and vectors: the first tree of every cell bottom up, further trees of a cell
 //! only when they are asked for (Jiménez and Marzal 2000; Huang and Chiang 2005, algorithm 3).
 
-use spireyerba_tests::grammar::{Body, Grammar};
-use spireyerba_tests::reading::Reading;
-use spireyerba_tests::refusal::Answer;
-use spireyerba_tests::utterance::Utterance;
+use spireyerba::limits::reading_length;
+use spireyerba::{Body, Grammar, Reading, Refusal, Utterance};
+use spireyerba_tests::{grammar, reading, utterance};
 use std::cmp::Reverse;
 use std::collections::BinaryHeap;
 
 /// Writes the readings one after another and answers their number.
-pub fn listing(grammar: &[u8], utterance: &[u8], wanted: usize, out: &mut [u8]) -> Answer {
-    let grammar = Grammar::from_block(grammar)?;
-    let utterance = Utterance::from_block(&grammar, utterance)?;
+pub fn listing(grammar: &[u8], utterance: &[u8], wanted: usize, out: &mut [u8]) -> Result<usize, Refusal> {
+    let grammar = grammar::from_block(grammar)?;
+    let utterance = utterance::from_block(&grammar, utterance)?;
     let readings = least(&grammar, &utterance, wanted);
-    let length = Reading::block_length(&grammar, utterance.slots.len());
+    let length = reading_length(utterance.slots.len(), grammar.rules.len());
     for (place, reading) in out.chunks_exact_mut(length).zip(&readings) {
-        place.copy_from_slice(&reading.to_block(&grammar));
+        place.copy_from_slice(&reading::pack(&grammar, reading));
     }
     Ok(readings.len())
 }

@@ -1,9 +1,9 @@
 //! The grammars and utterances that the listing is measured on.
 
-use spireyerba_tests::grammar::{Body, Grammar, Rule};
+use spireyerba::{Body, Candidate, Grammar, Rule, Utterance};
+use spireyerba_tests::grammar::words_of_rules;
 use spireyerba_tests::seeded::grammars::{with_weights, Weights};
 use spireyerba_tests::seeded::rng::Rng;
-use spireyerba_tests::utterance::{Candidate, Utterance};
 
 pub struct Input {
     pub name: &'static str,
@@ -66,7 +66,7 @@ fn chain(first: u32, second: u32) -> Grammar {
 
 /// Each slot offers seven words that some rule has.
 fn utterance(rng: &mut Rng, grammar: &Grammar, slots: usize, cost: u32) -> Utterance {
-    let mut known: Vec<u32> = grammar.words_of_rules().collect();
+    let mut known: Vec<u32> = words_of_rules(grammar).collect();
     known.sort_unstable();
     known.dedup();
     let slot = |_| {
@@ -87,12 +87,12 @@ mod tests {
     #[test]
     fn each_shape_is_accepted_and_has_256_readings() {
         for input in [6, 12, 24].map(greatest).into_iter().chain(shapes()) {
-            let grammar = Grammar::from_block(&input.grammar.to_block()).expect(input.name);
-            let block = input.utterance.to_block(&grammar);
-            let utterance = Utterance::from_block(&grammar, &block).expect(input.name);
+            let Input { name, grammar, utterance } = input;
+            let block = grammar.to_block().expect(name);
+            utterance.to_block(&block).expect(name);
             let readings = free::least(&grammar, &utterance, 256);
-            assert_eq!(readings.len(), 256, "{}", input.name);
-            assert_eq!(readings, nbest::least(&grammar, &utterance, 256), "{}", input.name);
+            assert_eq!(readings.len(), 256, "{name}");
+            assert_eq!(readings, nbest::least(&grammar, &utterance, 256), "{name}");
         }
     }
 }

@@ -4,9 +4,10 @@ use crate::free;
 use crate::inputs::{greatest, shapes, Input};
 use crate::measure::{medians, micros, ratio, Plan};
 use crate::table::{print_head, print_row};
-use spireyerba_tests::library;
-use spireyerba_tests::listing::{listing, work_length};
-use spireyerba_tests::reading::Reading;
+use spireyerba::limits::{reading_length, work_length};
+use spireyerba::services;
+use spireyerba_tests::listing::listing;
+use spireyerba_tests::{grammar, utterance};
 use std::hint::black_box;
 use std::time::{Duration, Instant};
 
@@ -75,17 +76,17 @@ impl Lent {
         let Input { grammar, utterance, .. } = input;
         let slots = utterance.slots.len();
         Self {
-            grammar: grammar.to_block(),
-            utterance: utterance.to_block(grammar),
+            grammar: grammar::pack(grammar),
+            utterance: utterance::pack(grammar, utterance),
             wanted,
-            work: vec![1; work_length(grammar.symbols, slots, wanted)],
-            out: vec![0; wanted * Reading::block_length(grammar, slots)],
+            work: vec![1; work_length(grammar.symbols as usize, slots, wanted)],
+            out: vec![0; wanted * reading_length(slots, grammar.rules.len())],
         }
     }
 
     fn library(&mut self) {
         let Self { grammar, utterance, wanted, work, out } = self;
-        black_box(library::listing(grammar, utterance, *wanted as u32, work, out));
+        let _ = black_box(services::listing(grammar, utterance, *wanted as u32, work, out));
     }
 
     /// One pass over the work table, which any listing owes whatever the table held.

@@ -28,6 +28,7 @@ pub fn medians<const COUNT: usize>(plan: Plan, mut functions: [&mut dyn FnMut();
 }
 
 /// The time that this thread has had a processor so far: what else runs on the machine does not count.
+#[expect(unsafe_code, reason = "std has no clock of a thread's own time")]
 fn processor_time() -> Duration {
     #[repr(C)]
     struct Timespec {
@@ -40,6 +41,7 @@ fn processor_time() -> Duration {
     // CLOCK_THREAD_CPUTIME_ID of Linux
     const THREAD: i32 = 3;
     let mut time = Timespec { seconds: 0, nanoseconds: 0 };
+    // SAFETY: the call writes one timespec of a 64-bit Linux, which is lent to it.
     let answer = unsafe { clock_gettime(THREAD, &mut time) };
     assert_eq!(answer, 0, "no such clock");
     Duration::new(time.seconds as u64, time.nanoseconds as u32)

@@ -1,10 +1,5 @@
 //! Fields of bits, most significant bit first (document 01, "Packed blocks").
 
-/// The count of bits needed to write a number, at least 1.
-pub fn width(number: u32) -> usize {
-    (32 - number.leading_zeros()).max(1) as usize
-}
-
 /// Reads the fields of a block one after another.
 pub struct BitReader<'a> {
     block: &'a [u8],
@@ -64,12 +59,6 @@ impl BitWriter {
 #[cfg(test)]
 mod tests {
     use super::*;
-
-    #[test]
-    fn widths() {
-        let widths = [0, 1, 2, 3, 4, 7, 8, 31, 128, 199, 255].map(width);
-        assert_eq!(widths, [1, 1, 2, 2, 3, 3, 4, 5, 8, 8, 8]);
-    }
 
     #[test]
     fn written_fields_are_read_back() {

@@ -1,15 +1,13 @@
 //! The check of a reading (document 01, "Where each check stands").
 
-use crate::grammar::{Body, Grammar};
-use crate::reading::Reading;
-use crate::refusal::{Answer, Refusal};
-use crate::utterance::Utterance;
+use crate::{grammar, reading, utterance};
+use spireyerba::{Body, Grammar, Refusal, Utterance};
 
-/// Answers 0 if the reading passes.
-pub fn check(grammar: &[u8], utterance: &[u8], reading: &[u8]) -> Answer {
-    let grammar = Grammar::from_block(grammar)?;
-    let utterance = Utterance::from_block(&grammar, utterance)?;
-    let (reading, only_fill_left) = Reading::from_block(&grammar, utterance.slots.len(), reading)?;
+/// Answers that the reading passes.
+pub fn check(grammar: &[u8], utterance: &[u8], reading: &[u8]) -> Result<(), Refusal> {
+    let grammar = grammar::from_block(grammar)?;
+    let utterance = utterance::from_block(&grammar, utterance)?;
+    let (reading, only_fill_left) = reading::from_block(&grammar, utterance.slots.len(), reading)?;
     let weight = weight_of_walk(&grammar, &utterance, &reading.walk).ok_or(Refusal::ReadingWalk)?;
     if reading.weight != weight {
         return Err(Refusal::ReadingWeight);
@@ -17,7 +15,7 @@ pub fn check(grammar: &[u8], utterance: &[u8], reading: &[u8]) -> Answer {
     if !only_fill_left {
         return Err(Refusal::ReadingFill);
     }
-    Ok(0)
+    Ok(())
 }
 
 /// The weight of the derivation whose walk the numbers are, if they are one's.
@@ -44,7 +42,7 @@ impl Walker<'_> {
         let rule = self.grammar.rules.get(number as usize).filter(|rule| rule.head == head)?;
         match rule.body {
             Body::Word(word) => {
-                let cost = self.utterance.cost(self.slot, word)?;
+                let cost = utterance::cost(self.utterance, self.slot, word)?;
                 self.slot += 1;
                 Some(rule.weight + cost)
             }

@@ -1,8 +1,7 @@
 //! Derivations, their weight, their order, and all of them (document 01, "Grammars and derivations").
 
-use crate::grammar::{Body, Grammar};
-use crate::reading::Reading;
-use crate::utterance::Utterance;
+use crate::utterance;
+use spireyerba::{Body, Grammar, Reading, Utterance};
 use std::cmp::Ordering;
 use std::collections::HashMap;
 use std::rc::Rc;
@@ -83,7 +82,7 @@ impl Forest<'_> {
 
     /// A leaf spans one slot, which offers its rule's word.
     fn leaf(&self, (_, from, to): Span, number: usize, word: u32) -> Option<Rc<Tree>> {
-        let cost = self.utterance.cost(from, word).filter(|_| to == from + 1)?;
+        let cost = utterance::cost(self.utterance, from, word).filter(|_| to == from + 1)?;
         Some(Rc::new(Tree { rule: number, weight: self.grammar.rules[number].weight + cost, slots: 1, parts: None }))
     }
 

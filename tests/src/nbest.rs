@@ -3,9 +3,8 @@
 //! A cell is a head and a span. Its trees are kept as the rule, the split and the ranks of both parts in their own
 //! cells, which hold at least as many ranks as any tree among the N best can need.
 
-use crate::grammar::{Body, Grammar};
-use crate::reading::Reading;
-use crate::utterance::Utterance;
+use crate::utterance;
+use spireyerba::{Body, Grammar, Reading, Utterance};
 use std::collections::BinaryHeap;
 
 /// The readings of the `wanted` least derivations, in the order.
@@ -66,7 +65,7 @@ impl<'a> Chart<'a> {
         for (rule, of_rule) in self.grammar.rules.iter().enumerate().filter(|(_, rule)| rule.head == head) {
             match of_rule.body {
                 Body::Word(word) => {
-                    if let Some(cost) = utterance.cost(from, word).filter(|_| to == from + 1) {
+                    if let Some(cost) = utterance::cost(utterance, from, word).filter(|_| to == from + 1) {
                         best.offer(Entry { weight: of_rule.weight + cost, rule, split: 0, left: 0, right: 0 });
                     }
                 }

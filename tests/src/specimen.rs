@@ -1,14 +1,13 @@
 //! The specimen: which answers are right (document 01, "The services", "Where each check stands").
 
-use crate::grammar::{Body, Grammar};
-use crate::refusal::Refusal;
-
-const LONGEST: u32 = 24;
+use crate::grammar;
+use spireyerba::limits::MAX_SLOTS;
+use spireyerba::{Body, Grammar, Refusal};
 
 /// Whether the grammar block derives some word string of this length, or the refusal.
 pub fn exists(grammar: &[u8], length: u32, out_len: usize) -> Result<bool, Refusal> {
-    let grammar = Grammar::from_block(grammar)?;
-    if !(1..=LONGEST).contains(&length) {
+    let grammar = grammar::from_block(grammar)?;
+    if !(1..=MAX_SLOTS).contains(&length) {
         return Err(Refusal::SpecimenLength);
     }
     if out_len < length as usize {
@@ -36,8 +35,8 @@ pub fn derivable_lengths(grammar: &Grammar) -> u32 {
 
 /// The sums, up to the longest, of one length of each set.
 fn sums(first: u32, second: u32) -> u32 {
-    let all = (1..=LONGEST).filter(|length| first >> length & 1 == 1).fold(0, |all, length| all | second << length);
-    all & ((1 << (LONGEST + 1)) - 1)
+    let all = (1..=MAX_SLOTS).filter(|length| first >> length & 1 == 1).fold(0, |all, length| all | second << length);
+    all & ((1 << (MAX_SLOTS + 1)) - 1)
 }
 
 /// Whether the grammar derives a word string: the symbols of each span, from short to long.

@@ -1,20 +1,21 @@
 //! The library's check beside the second implementation, on readings of real derivations, on damaged ones and on noise.
 
+use spireyerba::limits::{nodes, READING_BLOCK_MAX};
+use spireyerba::Refusal::*;
+use spireyerba::{Grammar, Reading, Utterance};
 use spireyerba_tests::compare::check::compare;
 use spireyerba_tests::compare::{over_seeds, Tally};
-use spireyerba_tests::grammar::Grammar;
+use spireyerba_tests::grammar::rule_width;
 use spireyerba_tests::nbest::least;
-use spireyerba_tests::reading::{nodes, Reading};
-use spireyerba_tests::refusal::Refusal::*;
 use spireyerba_tests::refusal::{GRAMMAR_BLOCK, UTTERANCE_BLOCK};
 use spireyerba_tests::seeded::damage::{blocks, some_grammar_blocks, some_utterance_blocks};
 use spireyerba_tests::seeded::parsable::{case, utterance_of, Shape};
 use spireyerba_tests::seeded::parsable::{AMBIGUOUS, GREATEST, LONG, MANY_SYMBOLS, SPARSE, TINY};
 use spireyerba_tests::seeded::rng::Rng;
-use spireyerba_tests::utterance::Utterance;
+use spireyerba_tests::{grammar, reading, utterance};
 
 /// More bits than a reading has: each is turned.
-const EVERY_BIT: usize = 52 * 8;
+const EVERY_BIT: usize = 8 * READING_BLOCK_MAX;
 
 fn shape(rng: &mut Rng) -> &'static Shape {
     match rng.below(100) {
@@ -30,7 +31,7 @@ fn shape(rng: &mut Rng) -> &'static Shape {
 /// A number that some rule has, or one that its width can carry.
 fn rule_number(rng: &mut Rng, grammar: &Grammar) -> u32 {
     if rng.once_in(4) {
-        rng.within(0..=(1 << grammar.rule_width()) - 1)
+        rng.within(0..=(1 << rule_width(grammar)) - 1)
     } else {
         rng.below(grammar.rules.len()) as u32
     }
@@ -73,16 +74,16 @@ fn readings_of_derivations_damaged_ones_and_noise() {
     over_seeds(0..400, |rng| {
         let shape = shape(rng);
         let (grammar, utterance) = case(rng, shape);
-        let (grammar_block, utterance_block) = (grammar.to_block(), utterance.to_block(&grammar));
+        let (grammar_block, utterance_block) = (grammar::pack(&grammar), utterance::pack(&grammar, &utterance));
         let mut readings = early_and_late(rng, &grammar, &utterance);
         let mut inputs = Vec::new();
         for reading in least(&grammar, &utterance, 3) {
-            inputs.extend(blocks(rng, &reading.to_block(&grammar), EVERY_BIT));
+            inputs.extend(blocks(rng, &reading::pack(&grammar, &reading), EVERY_BIT));
             readings.extend(altered(rng, &grammar, &reading));
         }
         let other = utterance_of(rng, &grammar, shape);
         readings.extend(least(&grammar, &other, 5));
-        inputs.extend(readings.iter().map(|reading| reading.to_block(&grammar)));
+        inputs.extend(readings.iter().map(|reading| reading::pack(&grammar, reading)));
         inputs.extend((0..10).map(|length| rng.noise(length)));
         for reading in &inputs {
             compare(rng, &mut tally, [&grammar_block, &utterance_block, reading]);

@@ -1,15 +1,13 @@
 //! Document 01's checked examples, on the second implementation.
 
+use spireyerba::limits::reading_length;
+use spireyerba::{Reading, Refusal};
 use spireyerba_tests::check::check;
 use spireyerba_tests::conversions::{grammar_to_block, grammar_to_sheet, utterance_to_block, utterance_to_sheet};
 use spireyerba_tests::derivation::ranked;
-use spireyerba_tests::grammar::Grammar;
 use spireyerba_tests::listing::listing;
 use spireyerba_tests::nbest::least;
-use spireyerba_tests::reading::Reading;
-use spireyerba_tests::refusal::Refusal;
-use spireyerba_tests::specimen;
-use spireyerba_tests::utterance::Utterance;
+use spireyerba_tests::{grammar, reading, specimen, utterance};
 
 const G: [u8; 9] = [0x10, 0x40, 0x40, 0x40, 0x00, 0x09, 0x00, 0x00, 0x00];
 const G_SHEET: [u32; 13] = [1, 1, 2, 0, 0, 1, 0, 0, 1, 0, 0, 0, 0];
@@ -44,8 +42,8 @@ fn g_ending_in_01_is_refused() {
 
 /// Both ways to list find exactly these weights and walks.
 fn expect_list(grammar: &[u32], utterance: &[u32], wanted: usize, expected: &[(u32, &[u32])]) {
-    let grammar = Grammar::from_sheet(grammar).unwrap();
-    let utterance = Utterance::from_sheet(&grammar, utterance).unwrap();
+    let grammar = grammar::from_sheet(grammar).unwrap();
+    let utterance = utterance::from_sheet(&grammar, utterance).unwrap();
     let expected: Vec<Reading> =
         expected.iter().map(|&(weight, walk)| Reading { weight, walk: walk.to_vec() }).collect();
     assert_eq!(least(&grammar, &utterance, wanted), expected);
@@ -88,8 +86,8 @@ fn the_listing_of_g_and_u_as_bytes() {
     let mut out = [0xff; 49];
     assert_eq!(listing(&G, &U, 8, &mut work, &mut out), Ok(5));
     assert_eq!(work, [0; 321]);
-    let grammar = Grammar::from_block(&G).unwrap();
-    let blocks = WALKS.map(|walk| Reading { weight: 3, walk: walk.to_vec() }.to_block(&grammar)).concat();
+    let grammar = grammar::from_block(&G).unwrap();
+    let blocks = WALKS.map(|walk| reading::pack(&grammar, &Reading { weight: 3, walk: walk.to_vec() })).concat();
     assert_eq!(out[..30], blocks);
     assert_eq!(out[30..], [0xff; 19]);
 }
@@ -106,16 +104,16 @@ fn sizes_that_the_listing_of_g_and_u_needs() {
 
 #[test]
 fn readings_that_pass_and_fail_the_check() {
-    assert_eq!(check(&G, &U, &[0x31, 0x00, 0x00, 0x00, 0xd5, 0x80]), Ok(0));
+    assert_eq!(check(&G, &U, &[0x31, 0x00, 0x00, 0x00, 0xd5, 0x80]), Ok(()));
     assert_eq!(check(&G, &U, &[0x31, 0x00, 0x00, 0x01, 0x15, 0x80]), Err(Refusal::ReadingWeight));
 }
 
 #[test]
 fn specimens_of_g_and_of_one_word() {
     assert_eq!(specimen::exists(&G, 3, 3), Ok(true));
-    assert!(specimen::derives(&Grammar::from_block(&G).unwrap(), &[0, 0, 0]));
-    let one_word = Grammar::from_sheet(&[1, 1, 1, 1, 0, 0, 0, 0]).unwrap();
-    assert_eq!(specimen::exists(&one_word.to_block(), 2, 2), Ok(false));
+    assert!(specimen::derives(&grammar::from_block(&G).unwrap(), &[0, 0, 0]));
+    let one_word = grammar::from_sheet(&[1, 1, 1, 1, 0, 0, 0, 0]).unwrap();
+    assert_eq!(specimen::exists(&grammar::pack(&one_word), 2, 2), Ok(false));
     assert!(!specimen::derives(&one_word, &[0, 0]));
 }
 
@@ -123,11 +121,11 @@ fn specimens_of_g_and_of_one_word() {
 #[test]
 fn lengths_of_the_longest_blocks() {
     let rules = (0..256).flat_map(|number| [0, number % 32, 65_535, number / 32, 31]);
-    let grammar = Grammar::from_sheet(&[32, 200, 256].into_iter().chain(rules).collect::<Vec<u32>>()).unwrap();
-    assert_eq!(grammar.to_block().len(), 1_028);
+    let grammar = grammar::from_sheet(&[32, 200, 256].into_iter().chain(rules).collect::<Vec<u32>>()).unwrap();
+    assert_eq!(grammar::pack(&grammar).len(), 1_028);
     let slot = [7].into_iter().chain((0..7).flat_map(|word| [word, 65_535]));
     let sheet: Vec<u32> = [24].into_iter().chain((0..24).flat_map(|_| slot.clone())).collect();
-    let utterance = Utterance::from_sheet(&grammar, &sheet).unwrap();
-    assert_eq!(utterance.to_block(&grammar).len(), 515);
-    assert_eq!(Reading::block_length(&grammar, 24), 52);
+    let utterance = utterance::from_sheet(&grammar, &sheet).unwrap();
+    assert_eq!(utterance::pack(&grammar, &utterance).len(), 515);
+    assert_eq!(reading_length(24, 256), 52);
 }

@@ -1,32 +1,37 @@
 //! The four conversions of the library beside the second implementation, on seeded inputs, valid and damaged.
 
+use spireyerba::limits::{GRAMMAR_BLOCK_MAX, GRAMMAR_SHEET_MAX, UTTERANCE_BLOCK_MAX, UTTERANCE_SHEET_MAX};
+use spireyerba::services;
+use spireyerba::Refusal::*;
 use spireyerba_tests::compare::conversions::Conversion;
 use spireyerba_tests::compare::{over_seeds, Tally};
-use spireyerba_tests::refusal::Refusal::*;
 use spireyerba_tests::refusal::{GRAMMAR_BLOCK, UTTERANCE_BLOCK};
 use spireyerba_tests::seeded::damage::{blocks, repeated_rule, sheets, some_grammar_blocks};
 use spireyerba_tests::seeded::grammars::{grammar, Size};
 use spireyerba_tests::seeded::raw;
 use spireyerba_tests::seeded::rng::Rng;
 use spireyerba_tests::seeded::utterances::utterance;
-use spireyerba_tests::{conversions, library};
+use spireyerba_tests::{conversions, grammar, utterance};
 
 const GRAMMAR_TO_BLOCK: Conversion<u32, u8> = Conversion {
-    library: |_, sheet, out| library::grammar_to_block(sheet, out),
+    library: |_, sheet, out| services::grammar_to_block(sheet, out),
     second: |_, sheet, out| conversions::grammar_to_block(sheet, out),
-    longest: 1_028,
+    longest: GRAMMAR_BLOCK_MAX,
 };
 const GRAMMAR_TO_SHEET: Conversion<u8, u32> = Conversion {
-    library: |_, block, out| library::grammar_to_sheet(block, out),
+    library: |_, block, out| services::grammar_to_sheet(block, out),
     second: |_, block, out| conversions::grammar_to_sheet(block, out),
-    longest: 3 + 5 * 256,
+    longest: GRAMMAR_SHEET_MAX,
 };
-const UTTERANCE_TO_BLOCK: Conversion<u32, u8> =
-    Conversion { library: library::utterance_to_block, second: conversions::utterance_to_block, longest: 515 };
+const UTTERANCE_TO_BLOCK: Conversion<u32, u8> = Conversion {
+    library: services::utterance_to_block,
+    second: conversions::utterance_to_block,
+    longest: UTTERANCE_BLOCK_MAX,
+};
 const UTTERANCE_TO_SHEET: Conversion<u8, u32> = Conversion {
-    library: library::utterance_to_sheet,
+    library: services::utterance_to_sheet,
     second: conversions::utterance_to_sheet,
-    longest: 1 + 24 * (1 + 2 * 7),
+    longest: UTTERANCE_SHEET_MAX,
 };
 
 /// Mostly small, so that there is time for every way to damage it.
@@ -63,8 +68,8 @@ fn grammar_blocks_to_sheets() {
     over_seeds(1_000..1_300, |rng| {
         let size = size(rng);
         let grammar = grammar(rng, size);
-        let mut inputs = blocks(rng, &grammar.to_block(), 300);
-        inputs.push(repeated_rule(rng, &grammar).to_block());
+        let mut inputs = blocks(rng, &grammar::pack(&grammar), 300);
+        inputs.push(grammar::pack(&repeated_rule(rng, &grammar)));
         inputs.extend((0..50).map(|_| raw::grammar_block(rng)));
         inputs.extend((0..10).map(|length| rng.noise(length)));
         for block in inputs {
@@ -80,7 +85,7 @@ fn utterance_sheets_to_blocks() {
     over_seeds(2_000..2_300, |rng| {
         let size = size(rng);
         let grammar = grammar(rng, size);
-        let grammar_block = grammar.to_block();
+        let grammar_block = grammar::pack(&grammar);
         let sheet = utterance(rng, size, grammar.words).to_sheet();
         let mut inputs = sheets(rng, &sheet, 60);
         inputs.extend((0..50).map(|_| raw::utterance_sheet(rng, grammar.words)));
@@ -103,8 +108,8 @@ fn utterance_blocks_to_sheets() {
     over_seeds(3_000..3_300, |rng| {
         let size = size(rng);
         let grammar = grammar(rng, size);
-        let grammar_block = grammar.to_block();
-        let utterance = utterance(rng, size, grammar.words).to_block(&grammar);
+        let grammar_block = grammar::pack(&grammar);
+        let utterance = utterance::pack(&grammar, &utterance(rng, size, grammar.words));
         let mut inputs = blocks(rng, &utterance, 300);
         inputs.extend((0..50).map(|_| raw::utterance_block(rng, grammar.words)));
         inputs.extend((0..10).map(|length| rng.noise(length)));

@@ -1,8 +1,7 @@
 //! The lister as a program (document 01, "Checked examples"): over the examples, where a file is missing or too long, and
 //! where the table that it lends is short. `make` and `.ci/run` build it.
 
-use spireyerba_tests::grammar::{Body, Grammar, Rule};
-use spireyerba_tests::utterance::{Candidate, Utterance};
+use spireyerba::{Body, Candidate, Grammar, Rule, Utterance};
 use std::fs;
 use std::path::{Path, PathBuf};
 use std::process::Command;
@@ -80,7 +79,9 @@ fn printed_of_size(name: &str, symbols: u32, slots: usize) -> String {
     let rules = vec![Rule { head: 0, weight: 0, body: Body::Word(0) }];
     let grammar = Grammar { symbols, words: 1, rules };
     let utterance = Utterance { slots: vec![vec![Candidate { word: 0, cost: 0 }]; slots] };
-    printed(name, Some(&grammar.to_block()), Some(&utterance.to_block(&grammar)))
+    let grammar = grammar.to_block().expect("an accepted grammar");
+    let utterance = utterance.to_block(&grammar).expect("an accepted utterance");
+    printed(name, Some(&grammar), Some(&utterance))
 }
 
 /// The sizes just below and just above 8,192 numbers of work table for eight readings: 8,160 and 8,320.

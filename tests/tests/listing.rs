@@ -1,17 +1,16 @@
 //! The library's listing beside the second implementation.
 
+use spireyerba::limits::{reading_length, work_length};
+use spireyerba::Refusal::*;
+use spireyerba::{Grammar, Utterance};
 use spireyerba_tests::compare::listing::{compare, Call};
 use spireyerba_tests::compare::{over_seeds, Tally};
-use spireyerba_tests::grammar::Grammar;
-use spireyerba_tests::listing::work_length;
-use spireyerba_tests::reading::Reading;
-use spireyerba_tests::refusal::Refusal::*;
 use spireyerba_tests::refusal::{GRAMMAR_BLOCK, UTTERANCE_BLOCK};
 use spireyerba_tests::seeded::damage::{some_grammar_blocks, some_utterance_blocks};
 use spireyerba_tests::seeded::parsable::{case, Shape};
 use spireyerba_tests::seeded::parsable::{AMBIGUOUS, GREATEST, LONG, MANY_SYMBOLS, SPARSE, TINY};
 use spireyerba_tests::seeded::rng::Rng;
-use spireyerba_tests::utterance::Utterance;
+use spireyerba_tests::{grammar, utterance};
 use std::ops::Range;
 
 fn wanted(rng: &mut Rng) -> u32 {
@@ -26,7 +25,7 @@ fn wanted(rng: &mut Rng) -> u32 {
 /// The lengths of work table and output that a listing needs.
 fn lengths(grammar: &Grammar, utterance: &Utterance, wanted: u32) -> (usize, usize) {
     let (slots, wanted) = (utterance.slots.len(), wanted as usize);
-    (work_length(grammar.symbols, slots, wanted), wanted * Reading::block_length(grammar, slots))
+    (work_length(grammar.symbols as usize, slots, wanted), wanted * reading_length(slots, grammar.rules.len()))
 }
 
 /// Lists that were empty, that ended early, and that were as long as was wanted.
@@ -38,10 +37,10 @@ struct Lists {
 }
 
 impl Lists {
-    fn record(&mut self, found: i32, wanted: u32) {
+    fn record(&mut self, found: usize, wanted: u32) {
         match found {
             0 => self.empty += 1,
-            _ if (found as u32) < wanted => self.short += 1,
+            _ if found < wanted as usize => self.short += 1,
             _ => self.full += 1,
         }
     }
@@ -56,14 +55,14 @@ fn accepted_listings(seeds: Range<u64>, different: usize, shapes: &[&Shape], wan
         let wanted = wanted(rng);
         let (work, out) = lengths(&grammar, &utterance, wanted);
         let call = Call {
-            grammar: &grammar.to_block(),
-            utterance: &utterance.to_block(&grammar),
+            grammar: &grammar::pack(&grammar),
+            utterance: &utterance::pack(&grammar, &utterance),
             wanted,
             work_len: work + rng.pick(&[0, 0, 1, 50]),
             out_len: out + rng.pick(&[0, 0, 1, 50]),
         };
         let found = compare(rng, &mut tally, &call);
-        lists.record(found, wanted);
+        lists.record(found.expect("an accepted listing"), wanted);
     });
     tally.demand(different, &[]);
     lists
@@ -93,7 +92,7 @@ fn short_slices_and_numbers_out_of_range() {
     let mut tally = Tally::default();
     over_seeds(30_000..30_400, |rng| {
         let (grammar, utterance) = case(rng, &AMBIGUOUS);
-        let (grammar_block, utterance_block) = (grammar.to_block(), utterance.to_block(&grammar));
+        let (grammar_block, utterance_block) = (grammar::pack(&grammar), utterance::pack(&grammar, &utterance));
         let wanted = wanted(rng);
         let (work, out) = lengths(&grammar, &utterance, wanted);
         let sizes = [(wanted, work - 1, out), (wanted, work, out - 1), (wanted, work - 1, out - 1), (wanted, 0, 0)];
@@ -111,7 +110,7 @@ fn damaged_blocks() {
     let mut tally = Tally::default();
     over_seeds(40_000..40_200, |rng| {
         let (grammar, utterance) = case(rng, &SPARSE);
-        let (grammar_block, utterance_block) = (grammar.to_block(), utterance.to_block(&grammar));
+        let (grammar_block, utterance_block) = (grammar::pack(&grammar), utterance::pack(&grammar, &utterance));
         let mut inputs = Vec::new();
         inputs.extend(
             some_grammar_blocks(rng, &grammar, 10).into_iter().map(|damaged| (damaged, utterance_block.clone())),

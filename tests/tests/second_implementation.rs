@@ -1,16 +1,15 @@
 //! The second implementation beside itself: each service's quick way beside the plain definition, on small cases.
 
+use spireyerba::limits::nodes;
+use spireyerba::{Candidate, Grammar, Utterance};
 use spireyerba_tests::check::weight_of_walk;
 use spireyerba_tests::compare::over_seeds;
 use spireyerba_tests::derivation::{order, ranked};
-use spireyerba_tests::grammar::Grammar;
 use spireyerba_tests::nbest::least;
-use spireyerba_tests::reading::nodes;
 use spireyerba_tests::seeded::grammars::with_rules;
 use spireyerba_tests::seeded::parsable::{case, AMBIGUOUS, SPARSE, TINY};
 use spireyerba_tests::seeded::rng::Rng;
 use spireyerba_tests::specimen::{derivable_lengths, derives};
-use spireyerba_tests::utterance::{Candidate, Utterance};
 use std::cmp::Ordering;
 
 /// Every list of `length` numbers below `limit`.

@@ -1,9 +1,10 @@
 //! The library's specimen, held to the second implementation's recogniser.
 
+use spireyerba::Refusal::*;
+use spireyerba::{Body, Grammar, Rule};
 use spireyerba_tests::compare::specimen::compare;
 use spireyerba_tests::compare::{over_seeds, Tally};
-use spireyerba_tests::grammar::{Body, Grammar, Rule};
-use spireyerba_tests::refusal::Refusal::*;
+use spireyerba_tests::grammar::pack;
 use spireyerba_tests::refusal::GRAMMAR_BLOCK;
 use spireyerba_tests::seeded::damage::some_grammar_blocks;
 use spireyerba_tests::seeded::grammars::{grammar, with_rules, Size};
@@ -41,13 +42,13 @@ fn specimens_of_every_length() {
     let mut tally = Tally::default();
     let (mut some, mut none) = (0, 0);
     over_seeds(0..1_500, |rng| {
-        let grammar = any_grammar(rng).to_block();
+        let grammar = pack(&any_grammar(rng));
         for _ in 0..4 {
             let length = rng.within(1..=24);
             let out_len = length as usize + rng.pick(&[0, 0, 1, 40]);
             match compare(rng, &mut tally, &grammar, length, out_len) {
-                0 => none += 1,
-                _ => some += 1,
+                Some(true) => some += 1,
+                _ => none += 1,
             }
         }
     });
@@ -60,7 +61,7 @@ fn short_outputs_lengths_out_of_range_and_damaged_grammars() {
     let mut tally = Tally::default();
     over_seeds(10_000..10_300, |rng| {
         let grammar = any_grammar(rng);
-        let block = grammar.to_block();
+        let block = pack(&grammar);
         let length = rng.within(1..=24);
         for short in [0, length as usize / 2, length as usize - 1] {
             compare(rng, &mut tally, &block, length, short);

@@ -1,18 +1,16 @@
 //! The stack that include/spireyerba.h promises to suffice: every service at its greatest sizes on a thread with no more.
 //! A stack that is too short ends the whole run.
 
-use spireyerba_tests::grammar::{Body, Grammar, Rule};
-use spireyerba_tests::library;
-use spireyerba_tests::listing::work_length;
-use spireyerba_tests::reading::Reading;
-use spireyerba_tests::utterance::{Candidate, Utterance};
+use spireyerba::limits::{work_length, GRAMMAR_BLOCK_MAX, GRAMMAR_SHEET_MAX, MAX_READINGS, READING_BLOCK_MAX};
+use spireyerba::limits::{UTTERANCE_BLOCK_MAX, UTTERANCE_SHEET_MAX};
+use spireyerba::{services, Body, Candidate, Grammar, Rule, Utterance};
 use std::thread;
 
 const STACK: usize = 64 * 1024;
-const READINGS: usize = 256;
+const READINGS: usize = MAX_READINGS as usize;
 
 /// Runs a call on a thread of its own and answers what it does.
-fn on_small_stack(call: impl FnOnce() -> i32 + Send) -> i32 {
+fn on_small_stack<T: Send>(call: impl FnOnce() -> T + Send) -> T {
     thread::scope(|scope| {
         let thread = thread::Builder::new().stack_size(STACK).spawn_scoped(scope, call);
         thread.expect("a thread with a small stack").join().expect("the call returns")
@@ -36,21 +34,24 @@ fn utterance() -> Utterance {
 }
 
 fn expect_answers(grammar: &Grammar, utterance: &Utterance) {
-    let (grammar_sheet, grammar_block) = (grammar.to_sheet(), grammar.to_block());
-    let (sheet, block) = (utterance.to_sheet(), utterance.to_block(grammar));
-    let (mut numbers, mut bytes) = ([0; 1_283], [0; 1_028]);
-    let answer = on_small_stack(|| library::grammar_to_block(&grammar_sheet, &mut bytes));
-    assert_eq!(answer, grammar_block.len() as i32);
-    assert_eq!(on_small_stack(|| library::grammar_to_sheet(&grammar_block, &mut numbers)), 1_283);
-    assert_eq!(on_small_stack(|| library::utterance_to_block(&grammar_block, &sheet, &mut bytes)), 515);
-    assert_eq!(on_small_stack(|| library::utterance_to_sheet(&grammar_block, &block, &mut numbers)), 361);
-    assert_eq!(on_small_stack(|| library::specimen(&grammar_block, 24, &mut bytes)), 24);
-    let length = Reading::block_length(grammar, 24);
-    let (mut work, mut out) = (vec![7; work_length(32, 24, READINGS)], vec![0; READINGS * length]);
-    let answer = on_small_stack(|| library::listing(&grammar_block, &block, READINGS as u32, &mut work, &mut out));
-    assert_eq!(answer, READINGS as i32);
-    for reading in out.chunks_exact(length) {
-        assert_eq!(on_small_stack(|| library::check(&grammar_block, &block, reading)), 0);
+    let grammar_block = grammar.to_block().expect("an accepted grammar");
+    let block = utterance.to_block(&grammar_block).expect("an accepted utterance");
+    let (grammar_sheet, sheet) = (grammar.to_sheet(), utterance.to_sheet());
+    let (mut numbers, mut bytes) = ([0; GRAMMAR_SHEET_MAX], [0; GRAMMAR_BLOCK_MAX]);
+    let answer = on_small_stack(|| services::grammar_to_block(&grammar_sheet, &mut bytes));
+    assert_eq!(answer, Ok(grammar_block.len()));
+    let answer = on_small_stack(|| services::grammar_to_sheet(&grammar_block, &mut numbers));
+    assert_eq!(answer, Ok(GRAMMAR_SHEET_MAX));
+    let answer = on_small_stack(|| services::utterance_to_block(&grammar_block, &sheet, &mut bytes));
+    assert_eq!(answer, Ok(UTTERANCE_BLOCK_MAX));
+    let answer = on_small_stack(|| services::utterance_to_sheet(&grammar_block, &block, &mut numbers));
+    assert_eq!(answer, Ok(UTTERANCE_SHEET_MAX));
+    assert_eq!(on_small_stack(|| services::specimen(&grammar_block, 24, &mut bytes)), Ok(true));
+    let (mut work, mut out) = (vec![7; work_length(32, 24, READINGS)], vec![0; READINGS * READING_BLOCK_MAX]);
+    let answer = on_small_stack(|| services::listing(&grammar_block, &block, MAX_READINGS, &mut work, &mut out));
+    assert_eq!(answer, Ok(READINGS));
+    for reading in out.chunks_exact(READING_BLOCK_MAX) {
+        assert_eq!(on_small_stack(|| services::check(&grammar_block, &block, reading)), Ok(()));
     }
 }
 

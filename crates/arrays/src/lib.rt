@@ -2,6 +2,12 @@
 use packing::Rule;
 use packing::Sym;
 use packing::Word;
+use packing::format::NUMBERS_PER_RULE;
+use packing::format::PAIR_RULE;
+use packing::format::RULE_FIRST_AT;
+use packing::format::RULE_HEAD_AT;
+use packing::format::RULE_SECOND_AT;
+use packing::format::RULE_WEIGHT_AT;
 ghost use mathlib.Core.Path.{_≡_};
 ghost use Prim.Native.Nat.{_<_};
 ghost use lib.ListN.{getD, set};
@@ -42,12 +48,17 @@ pub fn rule_at(rules: &[u32], r: usize) -> Rule
     requires { ⌜ r < 4294967296 ⌝ }
     ensures { λ x. ⌜ x ≡ ruleAt (now (rules .entry)) r ⌝ }
 {
-    let at = 5 * r;
-    let head = Sym(narrow_at(rules, at + 1));
-    let weight = narrow_at(rules, at + 2);
-    let first = narrow_at(rules, at + 3);
-    if number_at(rules, at) == 0 {
-        Rule::Pair(head, Sym(first), Sym(narrow_at(rules, at + 4)), weight)
+    let at = NUMBERS_PER_RULE * r;
+    let head = Sym(narrow_at(rules, at + RULE_HEAD_AT));
+    let weight = narrow_at(rules, at + RULE_WEIGHT_AT);
+    let first = narrow_at(rules, at + RULE_FIRST_AT);
+    if narrow_at(rules, at) == PAIR_RULE {
+        Rule::Pair(
+            head,
+            Sym(first),
+            Sym(narrow_at(rules, at + RULE_SECOND_AT)),
+            weight,
+        )
     } else {
         Rule::Word(head, Word(first), weight)
     }

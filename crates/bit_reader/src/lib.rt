@@ -1,4 +1,5 @@
 // Fields of bits read from bytes, most significant bit first.
+use bits::MAX_FIELD_WIDTH;
 ghost use mathlib.Core.Path.{_≡_};
 ghost use Prim.Native.Nat.{_+_, _*_, _^_, _≤_, _<_};
 ghost use lib.ListN.{length};
@@ -21,7 +22,7 @@ fn bytes_from(s: &[u8], first: usize, count: usize) -> u32
 
 // The number in the `width` bits from bit `at`.
 pub fn read_field(s: &[u8], at: usize, width: usize) -> u32
-    requires { ⌜ (at < 2 ^ 32) × (width ≤ 24) × (at + width ≤ 8 * length (now s)) ⌝ }
+    requires { do ⌜ (at < 2 ^ 32) × (width ≤ (← ⟦MAX_FIELD_WIDTH⟧)) × (at + width ≤ 8 * length (now s)) ⌝ }
     ensures { λ r. ⌜ r ≡ field (now (s .entry)) at width ⌝ }
 {
     let end = at % 8 + width;

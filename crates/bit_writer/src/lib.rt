@@ -1,4 +1,5 @@
 // Fields of bits written into bytes, most significant bit first.
+use bits::MAX_FIELD_WIDTH;
 ghost use mathlib.Core.Path.{_≡_};
 ghost use Prim.Native.Nat.{_+_, _*_, _%_, _^_, _≤_, _<_, min};
 ghost use lib.ListN.{length};
@@ -25,7 +26,7 @@ fn least(a: usize, b: usize) -> usize
 
 // The `width` bits of `value`, from bit `at`; the rest of the last byte becomes zero.
 pub fn write_field(out: &mut [u8], at: usize, width: usize, value: u32)
-    requires { ⌜ (at < 2 ^ 32) × (width ≤ 24) × (at + width ≤ 8 * length (now out)) ⌝ }
+    requires { do ⌜ (at < 2 ^ 32) × (width ≤ (← ⟦MAX_FIELD_WIDTH⟧)) × (at + width ≤ 8 * length (now out)) ⌝ }
     ensures { λ _. ⌜ now (out .exit) ≡ put (now (out .entry)) at width value ⌝ }
 {
     let mut done: usize = 0;

@@ -1,5 +1,7 @@
 // The count of bits needed to write 0, 1, .., 255.
-pub const WIDTHS: [u8; 256] = [
+use crate::WIDTHS_LENGTH;
+
+pub const WIDTHS: [u8; WIDTHS_LENGTH] = [
     1,
     1,
     2,

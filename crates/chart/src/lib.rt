@@ -1,65 +1,89 @@
-// One rank of a cell (head, from, to) placed in the work table, from what the table has of it and of its parts.
-mod selection;
-
-use chart_keys::NONE;
-use chart_keys::key_of;
-use chart_table::Dims;
-use chart_table::cell_of;
-use chart_table::put_key;
-use chart_table::tie_at;
+// The chart as its callers see it: a work table laid out, the least trees of the root enumerated in it, traced back, and the
+// table cleared.
+use chart_index::INDEX_NUMBERS;
+use chart_index::make_index;
+use chart_search::search;
+use chart_table::ENTRY_NUMBERS;
+use chart_table::Layout;
+use chart_table::cell_number;
+use chart_table::clearing::clear;
+use chart_table::count_found;
+use chart_table::root;
 use chart_table::weight_at;
-use chart_waiting::settle;
-use packing::Sym;
-use selection::base;
-use selection::followers;
-use selection::renewed;
+use chart_table::zero;
+use chart_trace::trace_back;
 ghost use mathlib.Core.Path.{_≡_};
-ghost use Prim.Native.Nat.{_+_, _-_, _*_, _<_, _≤_};
-ghost use Rattle.chart_table.specs.Table.{Small};
-ghost use Rattle.chart.specs.Model.{begun, placed};
+ghost use Prim.Native.Nat.{_-_, _*_, _<_, _≤_};
+ghost use lib.ListN.{length};
+ghost use Rattle.packing.specs.Store.{storeAll};
+ghost use Rattle.chart_table.specs.Table.{lastPlace, mostRanks, Sized, clear};
+ghost use Rattle.chart.specs.Chart.{layOut, enumerate, rootsFound, rootWeight, rootWalk};
 
-// Writes the first rank of a cell: the least candidate that follows none.
-pub fn begin(
-    t: &mut [u32],
-    rules: &[u32],
-    edges: &[u32],
-    index: &[u32],
-    d: Dims,
-    a: Sym,
-    i: usize,
-    k: usize,
-)
-    requires { ⌜ Small d i k ⌝ }
-    ensures { λ _. ⌜ now (t .exit) ≡ begun (now (rules .entry)) (now (edges .entry)) (now (index .entry)) d a i k (now (t .entry)) ⌝ }
+// The layout of a table for as many ranks of each cell, over as many symbols and places.
+pub fn lay_out(symbols: usize, places: usize, ranks: usize) -> Layout
+    requires { ⌜ (symbols ≤ 32) × (places ≤ lastPlace) × (0 < ranks) × (ranks ≤ mostRanks) ⌝ }
+    ensures { λ d. ⌜ (d ≡ layOut symbols places ranks) × Sized d ⌝ }
 {
-    let key = base(&t[..], d, rules, edges, index, a, i, k, 0);
-    put_key(t, d, cell_of(d, a, i, k), 0, key);
+    Layout {
+        symbols,
+        places,
+        ranks,
+        cells: symbols * (places * (places + 1) / 2),
+    }
 }
 
-// Writes rank c of a cell, where the ranks below are found: the least of what waits, what follows rank c - 1, and what
-// takes the place of that.
-pub fn place(
+// The numbers of a table.
+pub fn table_numbers(d: Layout) -> usize
+    requires { ⌜ Sized d ⌝ }
+    ensures { λ r. ⌜ (r ≡ 4 * d .cells * d .ranks) × (r ≤ 16777216) ⌝ }
+{
+    ENTRY_NUMBERS * d.cells * d.ranks
+}
+
+// Finds the least trees of the root under the first `count` rules, over the first `arcs` edges, as many as ranks are kept, in a
+// table that may hold anything before. Answers their number.
+pub fn enumerate(
     t: &mut [u32],
     rules: &[u32],
+    count: usize,
     edges: &[u32],
-    index: &[u32],
-    d: Dims,
-    a: Sym,
-    i: usize,
-    k: usize,
-    c: usize,
-)
-    requires { ⌜ (Small d i k) × (0 < c) × (c < d .cap) ⌝ }
-    ensures { λ _. ⌜ now (t .exit) ≡ placed (now (rules .entry)) (now (edges .entry)) (now (index .entry)) d a i k c (now (t .entry)) ⌝ }
+    arcs: usize,
+    d: Layout,
+) -> usize
+    requires { ⌜ (Sized d) × (0 < d .places) × (count ≤ 256) × (arcs ≤ 256) ⌝ }
+    ensures { λ m. ⌜ now (t .exit) ≡ enumerate (now (rules .entry)) count (now (edges .entry)) arcs d (length (now (t .entry))) ⌝ }
+    ensures { λ m. ⌜ (m ≡ rootsFound (now (t .exit)) d) × (m ≤ d .ranks) ⌝ }
 {
-    let cell = cell_of(d, a, i, k);
-    let tie = tie_at(&t[..], d, cell, c - 1);
-    let floor = key_of(weight_at(&t[..], d, cell, c - 1), tie);
-    let near = followers(&t[..], d, rules, i, k, floor, NONE, tie);
-    let again = renewed(&t[..], d, rules, edges, index, a, i, k, floor, tie);
-    if again < near {
-        settle(t, d, cell, c, again, near);
-        return;
-    }
-    settle(t, d, cell, c, near, again);
+    let mut index = [0u32; INDEX_NUMBERS];
+    make_index(rules, count, d.symbols, edges, arcs, d.places, &mut index);
+    zero(t);
+    search(t, rules, edges, &index, d);
+    count_found(&t[..], d, cell_number(d, root(d)))
+}
+
+// The weight of a tree from its weight plus 1.
+fn found_weight(x: usize) -> u32
+    requires { ⌜ x < 4294967296 ⌝ }
+    ensures { λ r. ⌜ r ≡ x - 1 ⌝ }
+{
+    if x == 0 { 0 } else { (x - 1) as u32 }
+}
+
+// Writes the walk of a rank of the root from the first place on, and answers its weight.
+pub fn trace_root(t: &[u32], rules: &[u32], d: Layout, rank: usize, walk: &mut [u32]) -> u32
+    requires { ⌜ (Sized d) × (0 < d .places) × (rank < d .ranks) ⌝ }
+    ensures { λ w. ⌜ now (walk .exit) ≡ storeAll (now (walk .entry)) 0 (rootWalk (now (t .entry)) (now (rules .entry)) d rank) ⌝ }
+    ensures { λ w. ⌜ w ≡ rootWeight (now (t .entry)) d rank ⌝ }
+{
+    let c = root(d);
+    trace_back(t, rules, d, c, rank, walk);
+    found_weight(weight_at(t, d, cell_number(d, c), rank))
+}
+
+// Makes the entries of all ranks found 0. An enumerated table is 0 everywhere else.
+pub fn clear_table(t: &mut [u32], d: Layout)
+    requires { ⌜ Sized d ⌝ }
+    ensures { λ _. ⌜ now (t .exit) ≡ clear (now (t .entry)) d ⌝ }
+{
+    clear(t, d);
 }

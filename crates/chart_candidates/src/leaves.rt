@@ -3,15 +3,25 @@ use arrays::narrow_at;
 use arrays::number_at;
 use arrays::rule_at;
 use arrays::wide;
+use chart_index::EDGE_BASE;
+use chart_index::WORD_BASE;
+use chart_index::class_end;
+use chart_index::class_start;
+use chart_keys::BackPointer;
+use chart_keys::back_number;
 use chart_keys::key_of;
 use chart_keys::lesser;
-use chart_keys::tie_of;
+use chart_table::Cell;
 use packing::Rule;
-use packing::Sym;
+use packing::format::EDGE_COST_AT;
+use packing::format::EDGE_TO_AT;
+use packing::format::EDGE_WORD_AT;
+use packing::format::NUMBERS_PER_EDGE;
 ghost use mathlib.Core.Path.{_≡_};
 ghost use Prim.Native.Nat.{_+_, _-_, _*_, _<_, _≤_};
 ghost use Rattle.packing.specs.Flat.{ruleAt};
-ghost use Rattle.chart_candidates.specs.Candidates.{wordLeaf, edgeLeaves, leavesOf};
+ghost use Rattle.chart_table.specs.Table.{lastPlace};
+ghost use Rattle.chart_candidates.specs.Candidates.{wordLeaf, edgeLeaves, leaves};
 
 // The best so far and the leaf of an edge by a rule, if that is a rule of the edge's word.
 fn word_leaf(rules: &[u32], edges: &[u32], e: usize, r: usize, floor: usize, best: usize) -> usize
@@ -22,9 +32,15 @@ fn word_leaf(rules: &[u32], edges: &[u32], e: usize, r: usize, floor: usize, bes
     match rule {
         Rule::Pair(_, _, _, _) => best,
         Rule::Word(_, word, w) => {
-            if word.0 == narrow_at(edges, 4 * e + 2) {
-                let cost = number_at(edges, 4 * e + 3);
-                lesser(floor, best, key_of(wide(w) + cost + 1, tie_of(r, 0, e, 0)))
+            if word.0 == narrow_at(edges, NUMBERS_PER_EDGE * e + EDGE_WORD_AT) {
+                let cost = number_at(edges, NUMBERS_PER_EDGE * e + EDGE_COST_AT);
+                let back = back_number(BackPointer {
+                    rule: r,
+                    split: 0,
+                    left: e,
+                    right: 0,
+                });
+                lesser(floor, best, key_of(wide(w) + cost + 1, back))
             } else {
                 best
             }
@@ -32,28 +48,27 @@ fn word_leaf(rules: &[u32], edges: &[u32], e: usize, r: usize, floor: usize, bes
     }
 }
 
-// The best so far and the leaves of an edge, if it reaches k.
+// The best so far and the leaves of an edge, if it reaches the cell's last place.
 fn edge_leaves(
     rules: &[u32],
     edges: &[u32],
     index: &[u32],
-    a: Sym,
-    k: usize,
+    c: Cell,
     e: usize,
     floor: usize,
     best: usize,
 ) -> usize
     requires { ⌜ e < 4294967296 ⌝ }
-    ensures { λ x. ⌜ x ≡ edgeLeaves (now (rules .entry)) (now (edges .entry)) (now (index .entry)) a k floor best e ⌝ }
+    ensures { λ x. ⌜ x ≡ edgeLeaves (now (rules .entry)) (now (edges .entry)) (now (index .entry)) c floor best e ⌝ }
 {
-    if number_at(edges, 4 * e + 1) != k {
+    if number_at(edges, NUMBERS_PER_EDGE * e + EDGE_TO_AT) != c.to {
         return best;
     }
-    let head = wide(a.0);
-    let from = number_at(index, 40 + head);
-    let upto = number_at(index, 40 + head + 1);
+    let head = wide(c.head.0);
+    let start = class_start(index, WORD_BASE, head);
+    let end = class_end(index, WORD_BASE, head);
     let mut so_far = best;
-    for y in from..upto {
+    for y in start..end {
         so_far = word_leaf(rules, edges, e, number_at(index, y), floor, so_far);
     }
     so_far
@@ -64,29 +79,19 @@ pub fn leaves(
     rules: &[u32],
     edges: &[u32],
     index: &[u32],
-    a: Sym,
-    i: usize,
-    k: usize,
+    c: Cell,
     floor: usize,
     best: usize,
 ) -> usize
-    requires { ⌜ i ≤ 31 ⌝ }
-    ensures { λ x. ⌜ x ≡ leavesOf (now (rules .entry)) (now (edges .entry)) (now (index .entry)) a i k floor best ⌝ }
+    requires { ⌜ c .from ≤ lastPlace ⌝ }
+    ensures { λ x. ⌜ x ≡ leaves (now (rules .entry)) (now (edges .entry)) (now (index .entry)) c floor best ⌝ }
 {
-    let from = number_at(index, 80 + i);
-    let upto = number_at(index, 80 + i + 1);
+    let from = c.from;
+    let start = class_start(index, EDGE_BASE, from);
+    let end = class_end(index, EDGE_BASE, from);
     let mut so_far = best;
-    for y in from..upto {
-        so_far = edge_leaves(
-            rules,
-            edges,
-            index,
-            a,
-            k,
-            number_at(index, y),
-            floor,
-            so_far,
-        );
+    for y in start..end {
+        so_far = edge_leaves(rules, edges, index, c, number_at(index, y), floor, so_far);
     }
     so_far
 }

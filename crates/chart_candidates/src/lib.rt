@@ -1,33 +1,37 @@
-// The candidates for a rank of a cell that follow none, and the key of a pairing.
+// The candidates for a rank of a cell that follow none, leaves and seeds, and the key of a pairing.
 pub mod leaves;
 pub mod seeds;
 
+use chart_keys::BackPointer;
+use chart_keys::back_number;
 use chart_keys::join_key;
-use chart_keys::tie_of;
-use chart_table::Dims;
+use chart_table::Cell;
+use chart_table::Layout;
+use chart_table::cell_number;
 use chart_table::weight_at;
+use packing::Sym;
 ghost use mathlib.Core.Path.{_≡_};
 ghost use Prim.Native.Nat.{_<_, _≤_};
-ghost use Rattle.chart_keys.specs.Keys.{tieOf, joinKey};
-ghost use Rattle.chart_table.specs.Table.{Sized, weightAt};
+ghost use Rattle.chart_keys.specs.Keys.{splits, digits};
+ghost use Rattle.chart_table.specs.Table.{lastPlace, Sized};
+ghost use Rattle.chart_candidates.specs.Candidates.{pairKey};
 
-// The key of the tree joined from rank p of the left part and rank q of the right, given by their cells.
-pub fn pair_key(
-    t: &[u32],
-    d: Dims,
-    left: usize,
-    right: usize,
-    w: u32,
-    r: usize,
-    j: usize,
-    p: usize,
-    q: usize,
-) -> usize
-    requires { ⌜ (Sized d) × (left < 8589934592) × (right < 8589934592) ⌝ }
-    requires { ⌜ (r < 4294967296) × (j ≤ 31) × (p ≤ 256) × (q ≤ 256) ⌝ }
-    ensures { λ x. ⌜ x ≡ joinKey w (weightAt (now (t .entry)) d left p) (weightAt (now (t .entry)) d right q) (tieOf r j p q) ⌝ }
+// A pair rule: its number, its two symbols and its weight.
+pub struct PairRule {
+    pub number: usize,
+    pub first: Sym,
+    pub second: Sym,
+    pub weight: u32,
+}
+
+// The key of the tree that a rule of weight w joins from two cells, with the ranks of a back pointer.
+pub fn pair_key(t: &[u32], d: Layout, left: Cell, right: Cell, w: u32, b: BackPointer) -> usize
+    requires { ⌜ (Sized d) × (left .from ≤ lastPlace) × (0 < left .to) × (left .to ≤ lastPlace) ⌝ }
+    requires { ⌜ (right .from ≤ lastPlace) × (0 < right .to) × (right .to ≤ lastPlace) ⌝ }
+    requires { ⌜ (b .rule < 4294967296) × (b .split < splits) × (b .left ≤ digits) × (b .right ≤ digits) ⌝ }
+    ensures { λ x. ⌜ x ≡ pairKey (now (t .entry)) d left right w b ⌝ }
 {
-    let x = weight_at(t, d, left, p);
-    let y = weight_at(t, d, right, q);
-    join_key(w, x as u32, y as u32, tie_of(r, j, p, q))
+    let x = weight_at(t, d, cell_number(d, left), b.left);
+    let y = weight_at(t, d, cell_number(d, right), b.right);
+    join_key(w, x as u32, y as u32, back_number(b))
 }

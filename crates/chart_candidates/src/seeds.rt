@@ -1,45 +1,64 @@
 // The seeds of a cell: for each pair rule of its head and each split, the first of the left part with the first of the right.
+use crate::PairRule;
 use crate::pair_key;
 use arrays::number_at;
 use arrays::rule_at;
 use arrays::wide;
+use chart_index::PAIR_BASE;
+use chart_index::class_end;
+use chart_index::class_start;
+use chart_keys::BackPointer;
+use chart_keys::back_number;
 use chart_keys::join_key;
 use chart_keys::lesser;
 use chart_keys::lesser_height;
-use chart_keys::tie_of;
-use chart_table::Dims;
-use chart_table::cell_of;
+use chart_table::Cell;
+use chart_table::ENTRY_NUMBERS;
+use chart_table::Layout;
+use chart_table::cell_number;
 use chart_table::entry_of;
+use chart_table::left_part;
+use chart_table::right_part;
 use packing::Rule;
-use packing::Sym;
 ghost use mathlib.Core.Path.{_≡_};
 ghost use Prim.Native.Nat.{_+_, _-_, _*_, _<_, _≤_};
 ghost use lib.ListN.{length};
 ghost use Rattle.packing.specs.Flat.{ruleAt};
-ghost use Rattle.chart_table.specs.Table.{Small, cellOf, entryOf};
-ghost use Rattle.chart_candidates.specs.Candidates.{splitSeeds, ruleSeeds, seedsOf};
+ghost use Rattle.chart_keys.specs.Keys.{back};
+ghost use Rattle.chart_table.specs.Table.{Fits, leftPart, rightPart, cellNumber, entryOf};
+ghost use Rattle.chart_candidates.specs.Candidates.{splitSeeds, ruleSeeds, seeds};
+
+// The back pointer of the first of the left part with the first of the right.
+fn seed(r: usize, split: usize) -> BackPointer
+    ensures { λ b. ⌜ b ≡ back r split 0 0 ⌝ }
+{
+    BackPointer {
+        rule: r,
+        split,
+        left: 0,
+        right: 0,
+    }
+}
 
 // The best so far and the first with the first of a pair rule's parts, for each split.
 fn split_seeds_anywhere(
     t: &[u32],
-    d: Dims,
-    b: Sym,
-    c: Sym,
-    w: u32,
-    r: usize,
-    i: usize,
-    k: usize,
+    d: Layout,
+    rule: PairRule,
+    c: Cell,
     floor: usize,
     best: usize,
 ) -> usize
-    requires { ⌜ (Small d i k) × (r < 4294967296) ⌝ }
-    ensures { λ x. ⌜ x ≡ splitSeeds (now (t .entry)) d b c w r i k floor best ⌝ }
+    requires { ⌜ (Fits d c) × (rule .number < 4294967296) ⌝ }
+    ensures { λ x. ⌜ x ≡ splitSeeds (now (t .entry)) d rule c floor best ⌝ }
 {
     let mut so_far = best;
-    for j in i + 1..k {
-        let left = cell_of(d, b, i, j);
-        let right = cell_of(d, c, j, k);
-        so_far = lesser(floor, so_far, pair_key(t, d, left, right, w, r, j, 0, 0));
+    let end = c.to;
+    for j in c.from + 1..end {
+        let left = left_part(c, rule.first, j);
+        let right = right_part(c, rule.second, j);
+        let key = pair_key(t, d, left, right, rule.weight, seed(rule.number, j));
+        so_far = lesser(floor, so_far, key);
     }
     so_far
 }
@@ -48,26 +67,24 @@ fn split_seeds_anywhere(
 // to split by sums, so that no product stands in the way of the reads, and the reads need no test.
 fn split_seeds_within(
     t: &[u32],
-    d: Dims,
-    b: Sym,
-    c: Sym,
-    w: u32,
-    r: usize,
-    i: usize,
-    k: usize,
+    d: Layout,
+    rule: PairRule,
+    c: Cell,
     floor: usize,
     best: usize,
 ) -> usize
-    requires { ⌜ (Small d i k) × (r < 4294967296) ⌝ }
-    requires { ⌜ (floor < best) × (entryOf d (cellOf d b i (k - 1)) 0 < length (now t)) × (entryOf d (cellOf d c (k - 1) k) 0 < length (now t)) ⌝ }
-    ensures { λ x. ⌜ x ≡ splitSeeds (now (t .entry)) d b c w r i k floor best ⌝ }
+    requires { ⌜ (Fits d c) × (rule .number < 4294967296) ⌝ }
+    requires { ⌜ (floor < best) × (entryOf d (cellNumber d (leftPart c (rule .first) (c .to - 1))) 0 < length (now t)) × (entryOf d (cellNumber d (rightPart c (rule .second) (c .to - 1))) 0 < length (now t)) ⌝ }
+    ensures { λ x. ⌜ x ≡ splitSeeds (now (t .entry)) d rule c floor best ⌝ }
 {
-    let step = d.symbols * 4;
-    let mut x = entry_of(d, cell_of(d, b, i, i + 1), 0);
-    let mut y = entry_of(d, cell_of(d, c, i + 1, k), 0);
+    let step = d.symbols * ENTRY_NUMBERS;
+    let first = c.from + 1;
+    let mut x = entry_of(d, cell_number(d, left_part(c, rule.first, first)), 0);
+    let mut y = entry_of(d, cell_number(d, right_part(c, rule.second, first)), 0);
     let mut height = best - (floor + 1);
-    for j in i + 1..k {
-        let key = join_key(w, t[x], t[y], tie_of(r, j, 0, 0));
+    let end = c.to;
+    for j in first..end {
+        let key = join_key(rule.weight, t[x], t[y], back_number(seed(rule.number, j)));
         height = lesser_height(floor, height, key);
         x = x + step * j;
         y = y + step;
@@ -76,52 +93,49 @@ fn split_seeds_within(
 }
 
 // The same: no part's entry stands behind that of the last split.
-fn split_seeds(
-    t: &[u32],
-    d: Dims,
-    b: Sym,
-    c: Sym,
-    w: u32,
-    r: usize,
-    i: usize,
-    k: usize,
-    floor: usize,
-    best: usize,
-) -> usize
-    requires { ⌜ (Small d i k) × (r < 4294967296) ⌝ }
-    ensures { λ x. ⌜ x ≡ splitSeeds (now (t .entry)) d b c w r i k floor best ⌝ }
+fn split_seeds(t: &[u32], d: Layout, rule: PairRule, c: Cell, floor: usize, best: usize) -> usize
+    requires { ⌜ (Fits d c) × (rule .number < 4294967296) ⌝ }
+    ensures { λ x. ⌜ x ≡ splitSeeds (now (t .entry)) d rule c floor best ⌝ }
 {
-    if i + 1 < k {
-        let left = entry_of(d, cell_of(d, b, i, k - 1), 0);
-        let right = entry_of(d, cell_of(d, c, k - 1, k), 0);
+    let last = c.to - 1;
+    if c.from < last {
+        let left = entry_of(d, cell_number(d, left_part(c, rule.first, last)), 0);
+        let right = entry_of(d, cell_number(d, right_part(c, rule.second, last)), 0);
         if left < t.len() {
             if right < t.len() {
                 if floor < best {
-                    return split_seeds_within(t, d, b, c, w, r, i, k, floor, best);
+                    return split_seeds_within(t, d, rule, c, floor, best);
                 }
             }
         }
     }
-    split_seeds_anywhere(t, d, b, c, w, r, i, k, floor, best)
+    split_seeds_anywhere(t, d, rule, c, floor, best)
 }
 
 // The same for rule r, if it is a pair rule.
 fn rule_seeds(
     t: &[u32],
-    d: Dims,
+    d: Layout,
     rules: &[u32],
-    i: usize,
-    k: usize,
+    c: Cell,
     r: usize,
     floor: usize,
     best: usize,
 ) -> usize
-    requires { ⌜ (Small d i k) × (r < 4294967296) ⌝ }
-    ensures { λ x. ⌜ x ≡ ruleSeeds (now (t .entry)) d i k floor best r (ruleAt (now (rules .entry)) r) ⌝ }
+    requires { ⌜ (Fits d c) × (r < 4294967296) ⌝ }
+    ensures { λ x. ⌜ x ≡ ruleSeeds (now (t .entry)) d c floor best r (ruleAt (now (rules .entry)) r) ⌝ }
 {
     let rule = rule_at(rules, r);
     match rule {
-        Rule::Pair(_, b, c, w) => split_seeds(t, d, b, c, w, r, i, k, floor, best),
+        Rule::Pair(_, first, second, weight) => {
+            let pair = PairRule {
+                number: r,
+                first,
+                second,
+                weight,
+            };
+            split_seeds(t, d, pair, c, floor, best)
+        }
         Rule::Word(_, _, _) => best,
     }
 }
@@ -129,24 +143,22 @@ fn rule_seeds(
 // The best so far and the seeds of a cell.
 pub fn seeds(
     t: &[u32],
-    d: Dims,
+    d: Layout,
     rules: &[u32],
     index: &[u32],
-    a: Sym,
-    i: usize,
-    k: usize,
+    c: Cell,
     floor: usize,
     best: usize,
 ) -> usize
-    requires { ⌜ Small d i k ⌝ }
-    ensures { λ x. ⌜ x ≡ seedsOf (now (t .entry)) d (now (rules .entry)) (now (index .entry)) a i k floor best ⌝ }
+    requires { ⌜ Fits d c ⌝ }
+    ensures { λ x. ⌜ x ≡ seeds (now (t .entry)) d (now (rules .entry)) (now (index .entry)) c floor best ⌝ }
 {
-    let head = wide(a.0);
-    let from = number_at(index, head);
-    let upto = number_at(index, head + 1);
+    let head = wide(c.head.0);
+    let start = class_start(index, PAIR_BASE, head);
+    let end = class_end(index, PAIR_BASE, head);
     let mut so_far = best;
-    for y in from..upto {
-        so_far = rule_seeds(t, d, rules, i, k, number_at(index, y), floor, so_far);
+    for y in start..end {
+        so_far = rule_seeds(t, d, rules, c, number_at(index, y), floor, so_far);
     }
     so_far
 }

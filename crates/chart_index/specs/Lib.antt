@@ -1,1 +1,3 @@
+-- The index of rules and edges.
 pub mod Index
+pub mod Build

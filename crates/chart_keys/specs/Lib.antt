@@ -1,2 +1,2 @@
--- Ties and keys.
+-- Back pointers and keys.
 pub mod Keys

@@ -1,43 +1,90 @@
-// Ties and keys: a tree of a cell as a number, so that the lesser is the sooner.
+// Back pointers and keys: how a tree of a cell was made, and a tree as one number, so that the lesser comes first in the order.
 use arrays::wide;
 ghost use mathlib.Core.Path.{_≡_};
 ghost use Prim.Native.Nat.{_+_, _-_, _*_, _^_, _<_, _≤_};
-ghost use Rattle.chart_keys.specs.Keys.{tieOf, keyOf, lessOne, joinKey, lesser};
+ghost use Rattle.chart_keys.specs.Keys.{splits, digits, withRanks, backNumber, backPointer, Digits, keyOf, partWeight, joinKey, lesser};
 
-// The key of no tree: weight 2 ^ 32 - 2, which the sum of two parts of which one is missing reaches.
-pub const NONE: usize = 2305843008676823040;
+// The bases of a back pointer's digits: a split is below SPLITS, and a rank or an edge below DIGITS.
+pub const SPLITS: usize = 32;
 
-// A tie: rule, split, and the ranks of the parts; of a leaf the rule, 0, the edge, 0.
-pub fn tie_of(r: usize, j: usize, p: usize, q: usize) -> usize
-    requires { ⌜ (r < 4294967296) × (j ≤ 31) × (p < 4294967296) × (q ≤ 256) ⌝ }
-    ensures { λ x. ⌜ (x ≡ tieOf r j p q) × (x < 18014398509481984) ⌝ }
-{
-    ((r * 32 + j) * 256 + p) * 256 + q
+pub const DIGITS: usize = 256;
+
+// What one split and one rule count for in a back pointer's number, and one unit of weight in a key.
+const SPLIT_UNIT: usize = DIGITS * DIGITS;
+
+const RULE_UNIT: usize = SPLITS * SPLIT_UNIT;
+
+pub const WEIGHT_UNIT: usize = DIGITS * RULE_UNIT;
+
+// The weight of a part that is missing, and the key of no tree, which the sum of two parts of which one is missing reaches.
+const NO_WEIGHT: u32 = 4294967295;
+
+pub const NO_KEY: usize = NO_WEIGHT as usize * WEIGHT_UNIT;
+
+// How a tree was made: its rule, the place where its parts meet, and their ranks; of a leaf the rule, 0, the edge, 0.
+pub struct BackPointer {
+    pub rule: usize,
+    pub split: usize,
+    pub left: usize,
+    pub right: usize,
 }
 
-// A key: the weight plus 1, then the tie.
-pub fn key_of(w: usize, tie: usize) -> usize
-    requires { ⌜ (w < 17179869184) × (tie < 18014398509481984) ⌝ }
-    ensures { λ x. ⌜ x ≡ keyOf w tie ⌝ }
+// A back pointer with other ranks.
+pub fn with_ranks(b: BackPointer, left: usize, right: usize) -> BackPointer
+    ensures { λ r. ⌜ r ≡ withRanks b left right ⌝ }
 {
-    w * 536870912 + tie
+    BackPointer {
+        rule: b.rule,
+        split: b.split,
+        left,
+        right,
+    }
+}
+
+// A back pointer as one number.
+pub fn back_number(b: BackPointer) -> usize
+    requires { ⌜ (b .rule < 4294967296) × (b .split < splits) × (b .left < 4294967296) × (b .right ≤ digits) ⌝ }
+    ensures { λ x. ⌜ (x ≡ backNumber b) × (x < 18014398509481984) ⌝ }
+{
+    ((b.rule * SPLITS + b.split) * DIGITS + b.left) * DIGITS + b.right
+}
+
+// The back pointer that a number stands for.
+pub fn back_pointer(x: usize) -> BackPointer
+    requires { ⌜ x < 4294967296 ⌝ }
+    ensures { λ b. ⌜ (b ≡ backPointer x) × Digits b ⌝ }
+{
+    BackPointer {
+        rule: x / RULE_UNIT,
+        split: x / SPLIT_UNIT % SPLITS,
+        left: x / DIGITS % DIGITS,
+        right: x % DIGITS,
+    }
+}
+
+// A key: the weight plus 1, then the back pointer's number.
+pub fn key_of(w: usize, x: usize) -> usize
+    requires { ⌜ (w < 17179869184) × (x < 18014398509481984) ⌝ }
+    ensures { λ key. ⌜ key ≡ keyOf w x ⌝ }
+{
+    w * WEIGHT_UNIT + x
 }
 
 // The weight of a part from its weight plus 1; one that is missing weighs 2 ^ 32 - 1.
-fn less_one(x: u32) -> u32
-    ensures { λ r. ⌜ r ≡ lessOne x ⌝ }
+fn part_weight(x: u32) -> u32
+    ensures { λ r. ⌜ r ≡ partWeight x ⌝ }
 {
-    if x == 0 { 4294967295 } else { x - 1 }
+    if x == 0 { NO_WEIGHT } else { x - 1 }
 }
 
 // The key of a tree joined from two parts, given by their weights plus 1.
-pub fn join_key(w: u32, left: u32, right: u32, tie: usize) -> usize
-    requires { ⌜ tie < 18014398509481984 ⌝ }
-    ensures { λ x. ⌜ x ≡ joinKey w left right tie ⌝ }
+pub fn join_key(w: u32, left: u32, right: u32, x: usize) -> usize
+    requires { ⌜ x < 18014398509481984 ⌝ }
+    ensures { λ key. ⌜ key ≡ joinKey w left right x ⌝ }
 {
     key_of(
-        wide(w) + wide(less_one(left)) + wide(less_one(right)) + 1,
-        tie,
+        wide(w) + wide(part_weight(left)) + wide(part_weight(right)) + 1,
+        x,
     )
 }
 

@@ -1,69 +1,73 @@
-// The search: the ranked trees of every cell (head, from, to), found one after another in a lent work table.
+// The search: the ranked trees of every cell, found one after another in a lent work table.
 use arrays::rule_at;
-use chart::begin;
-use chart::place;
-use chart_table::Dims;
-use chart_table::cell_of;
-use chart_table::tie_at;
+use chart_keys::BackPointer;
+use chart_keys::back_pointer;
+use chart_ranks::first_rank;
+use chart_ranks::next_rank;
+use chart_table::Cell;
+use chart_table::Layout;
+use chart_table::back_at;
+use chart_table::cell_number;
+use chart_table::left_part;
+use chart_table::right_part;
+use chart_table::root;
 use chart_table::weight_at;
 use packing::Rule;
 use packing::Sym;
 ghost use mathlib.Core.Path.{_≡_};
 ghost use Prim.Native.Nat.{ℕ, suc, _+_, _-_, _*_, _<_, _≤_};
-ghost use Rattle.chart_table.specs.Table.{Sized, Small};
-ghost use Rattle.chart_search.specs.Search.{extended, advanced, next, headsOf, lengthOf, firstsOf, further, listOf};
+ghost use Rattle.chart_keys.specs.Keys.{Digits};
+ghost use Rattle.chart_table.specs.Table.{lastPlace, Sized, Fits};
+ghost use Rattle.chart_search.specs.Search.{extend, advancePairing, nextOfSpan, firstOfHeads, firstOfLength, firstPass, nextOfRoot, search};
 
-// Finds rank c of a cell, where the ranks below are found, with what it needs of the parts.
+// Finds a rank of a cell, where the ranks below are found, with what it needs of the parts.
 fn next_of_span(
     t: &mut [u32],
     rules: &[u32],
     edges: &[u32],
     index: &[u32],
-    d: Dims,
-    a: Sym,
-    i: usize,
-    k: usize,
-    c: usize,
+    d: Layout,
+    c: Cell,
+    rank: usize,
 )
-    requires { ⌜ (Small d i k) × (c < d .cap) ⌝ }
-    ensures { λ _. ⌜ ((f : ℕ) → k - i ≤ f → now (t .exit) ≡ next (now (rules .entry)) (now (edges .entry)) (now (index .entry)) d f (now (t .entry)) a i k c) ⌝ }
+    requires { ⌜ (Fits d c) × (rank < d .ranks) ⌝ }
+    ensures { λ _. ⌜ ((f : ℕ) → c .to - c .from ≤ f → now (t .exit) ≡ nextOfSpan (now (rules .entry)) (now (edges .entry)) (now (index .entry)) d f (now (t .entry)) c rank) ⌝ }
 {
-    if c == 0 {
-        begin(t, rules, edges, index, d, a, i, k);
+    if rank == 0 {
+        first_rank(t, rules, edges, index, d, c);
         return;
     }
-    let tie = tie_at(&t[..], d, cell_of(d, a, i, k), c - 1);
-    advance_pairing(t, rules, edges, index, d, i, k, tie);
-    place(t, rules, edges, index, d, a, i, k, c);
+    let back = back_pointer(back_at(&t[..], d, cell_number(d, c), rank - 1));
+    advance_pairing(t, rules, edges, index, d, c, back);
+    next_rank(t, rules, edges, index, d, c, rank);
 }
 
-// Sees that what may follow a found pairing stands in the table: the next of its right part, and of its left where the
+// Sees that what may succeed a found pairing stands in the table: the next of its right part, and of its left where the
 // right is first. The split is tested, since a table may hold anything.
 fn advance_pairing(
     t: &mut [u32],
     rules: &[u32],
     edges: &[u32],
     index: &[u32],
-    d: Dims,
-    i: usize,
-    k: usize,
-    tie: usize,
+    d: Layout,
+    c: Cell,
+    b: BackPointer,
 )
-    requires { ⌜ (Small d i k) × (tie < 4294967296) ⌝ }
-    ensures { λ _. ⌜ ((f : ℕ) → k - i ≤ suc f → now (t .exit) ≡ advanced (now (rules .entry)) d (next (now (rules .entry)) (now (edges .entry)) (now (index .entry)) d f) (now (t .entry)) i k tie) ⌝ }
+    requires { ⌜ (Fits d c) × Digits b ⌝ }
+    ensures { λ _. ⌜ ((f : ℕ) → c .to - c .from ≤ suc f → now (t .exit) ≡ advancePairing (now (rules .entry)) d (nextOfSpan (now (rules .entry)) (now (edges .entry)) (now (index .entry)) d f) (now (t .entry)) c b) ⌝ }
 {
-    let r = tie / 2097152;
-    let j = tie / 65536 % 32;
-    let p = tie / 256 % 256;
-    let q = tie % 256;
-    if i < j {
-        if j < k {
-            let rule = rule_at(rules, r);
+    let split = b.split;
+    let last = c.to - 1;
+    if c.from < split {
+        if split <= last {
+            let rule = rule_at(rules, b.rule);
             match rule {
-                Rule::Pair(_, b, c, _) => {
-                    extend(t, rules, edges, index, d, c, j, k, q + 1);
-                    if q == 0 {
-                        extend(t, rules, edges, index, d, b, i, j, p + 1);
+                Rule::Pair(_, first, second, _) => {
+                    let right = right_part(c, second, split);
+                    extend(t, rules, edges, index, d, right, b.right + 1);
+                    if b.right == 0 {
+                        let left = left_part(c, first, split);
+                        extend(t, rules, edges, index, d, left, b.left + 1);
                     }
                 }
                 Rule::Word(_, _, _) => {}
@@ -78,18 +82,16 @@ fn extend(
     rules: &[u32],
     edges: &[u32],
     index: &[u32],
-    d: Dims,
-    a: Sym,
-    i: usize,
-    k: usize,
+    d: Layout,
+    c: Cell,
     rank: usize,
 )
-    requires { ⌜ Small d i k ⌝ }
-    ensures { λ _. ⌜ ((f : ℕ) → k - i ≤ f → now (t .exit) ≡ extended d (next (now (rules .entry)) (now (edges .entry)) (now (index .entry)) d f) (now (t .entry)) a i k rank) ⌝ }
+    requires { ⌜ Fits d c ⌝ }
+    ensures { λ _. ⌜ ((f : ℕ) → c .to - c .from ≤ f → now (t .exit) ≡ extend d (nextOfSpan (now (rules .entry)) (now (edges .entry)) (now (index .entry)) d f) (now (t .entry)) c rank) ⌝ }
 {
-    if rank < d.cap {
-        if weight_at(&t[..], d, cell_of(d, a, i, k), rank) == 0 {
-            next_of_span(t, rules, edges, index, d, a, i, k, rank);
+    if rank < d.ranks {
+        if weight_at(&t[..], d, cell_number(d, c), rank) == 0 {
+            next_of_span(t, rules, edges, index, d, c, rank);
         }
     }
 }
@@ -100,16 +102,21 @@ fn first_of_heads(
     rules: &[u32],
     edges: &[u32],
     index: &[u32],
-    d: Dims,
-    i: usize,
-    k: usize,
+    d: Layout,
+    from: usize,
+    to: usize,
 )
-    requires { ⌜ Small d i k ⌝ }
-    ensures { λ _. ⌜ now (t .exit) ≡ headsOf (now (rules .entry)) (now (edges .entry)) (now (index .entry)) d (now (t .entry)) i k ⌝ }
+    requires { ⌜ (Sized d) × (from < to) × (to ≤ lastPlace) ⌝ }
+    ensures { λ _. ⌜ now (t .exit) ≡ firstOfHeads (now (rules .entry)) (now (edges .entry)) (now (index .entry)) d (now (t .entry)) from to ⌝ }
 {
     let n = d.symbols;
     for a in 0..n {
-        next_of_span(t, rules, edges, index, d, Sym(a as u32), i, k, 0);
+        let c = Cell {
+            head: Sym(a as u32),
+            from,
+            to,
+        };
+        next_of_span(t, rules, edges, index, d, c, 0);
     }
 }
 
@@ -119,48 +126,49 @@ fn first_of_length(
     rules: &[u32],
     edges: &[u32],
     index: &[u32],
-    d: Dims,
-    n: usize,
+    d: Layout,
     len: usize,
 )
-    requires { ⌜ (Sized d) × (n ≤ 31) × (0 < len) × (len ≤ n) ⌝ }
-    ensures { λ _. ⌜ now (t .exit) ≡ lengthOf (now (rules .entry)) (now (edges .entry)) (now (index .entry)) d n (now (t .entry)) len ⌝ }
+    requires { ⌜ (Sized d) × (0 < len) × (len ≤ d .places) ⌝ }
+    ensures { λ _. ⌜ now (t .exit) ≡ firstOfLength (now (rules .entry)) (now (edges .entry)) (now (index .entry)) d (now (t .entry)) len ⌝ }
 {
-    let m = n + 1 - len;
+    let m = d.places + 1 - len;
     for i in 0..m {
         first_of_heads(t, rules, edges, index, d, i, i + len);
     }
 }
 
-// Finds the first rank of every cell, over shorter spans first.
-fn firsts(t: &mut [u32], rules: &[u32], edges: &[u32], index: &[u32], d: Dims, n: usize)
-    requires { ⌜ (Sized d) × (n ≤ 31) ⌝ }
-    ensures { λ _. ⌜ now (t .exit) ≡ firstsOf (now (rules .entry)) (now (edges .entry)) (now (index .entry)) d n (now (t .entry)) ⌝ }
+// The first pass: finds the first rank of every cell, over shorter spans first.
+fn first_pass(t: &mut [u32], rules: &[u32], edges: &[u32], index: &[u32], d: Layout)
+    requires { ⌜ Sized d ⌝ }
+    ensures { λ _. ⌜ now (t .exit) ≡ firstPass (now (rules .entry)) (now (edges .entry)) (now (index .entry)) d (now (t .entry)) ⌝ }
 {
+    let n = d.places;
     for x in 0..n {
-        first_of_length(t, rules, edges, index, d, n, x + 1);
+        first_of_length(t, rules, edges, index, d, x + 1);
     }
 }
 
-// Finds the rank behind rank x of the whole span, if rank x is found.
-fn further(t: &mut [u32], rules: &[u32], edges: &[u32], index: &[u32], d: Dims, n: usize, x: usize)
-    requires { ⌜ (Sized d) × (0 < n) × (n ≤ 31) × (x + 1 < d .cap) ⌝ }
-    ensures { λ _. ⌜ now (t .exit) ≡ further (now (rules .entry)) (now (edges .entry)) (now (index .entry)) d n (now (t .entry)) x ⌝ }
+// Finds the rank of the root behind rank x, if rank x is found.
+fn next_of_root(t: &mut [u32], rules: &[u32], edges: &[u32], index: &[u32], d: Layout, x: usize)
+    requires { ⌜ (Sized d) × (0 < d .places) × (x + 1 < d .ranks) ⌝ }
+    ensures { λ _. ⌜ now (t .exit) ≡ nextOfRoot (now (rules .entry)) (now (edges .entry)) (now (index .entry)) d (now (t .entry)) x ⌝ }
 {
-    if weight_at(&t[..], d, cell_of(d, Sym(0), 0, n), x) == 0 {
+    let c = root(d);
+    if weight_at(&t[..], d, cell_number(d, c), x) == 0 {
         return;
     }
-    extend(t, rules, edges, index, d, Sym(0), 0, n, x + 1);
+    extend(t, rules, edges, index, d, c, x + 1);
 }
 
-// Finds the ranks of the whole span, as many as are kept.
-pub fn list(t: &mut [u32], rules: &[u32], edges: &[u32], index: &[u32], d: Dims, n: usize)
-    requires { ⌜ (Sized d) × (0 < n) × (n ≤ 31) ⌝ }
-    ensures { λ _. ⌜ now (t .exit) ≡ listOf (now (rules .entry)) (now (edges .entry)) (now (index .entry)) d n (now (t .entry)) ⌝ }
+// Finds the ranks of the root, as many as are kept.
+pub fn search(t: &mut [u32], rules: &[u32], edges: &[u32], index: &[u32], d: Layout)
+    requires { ⌜ (Sized d) × (0 < d .places) ⌝ }
+    ensures { λ _. ⌜ now (t .exit) ≡ search (now (rules .entry)) (now (edges .entry)) (now (index .entry)) d (now (t .entry)) ⌝ }
 {
-    firsts(t, rules, edges, index, d, n);
-    let m = d.cap - 1;
+    first_pass(t, rules, edges, index, d);
+    let m = d.ranks - 1;
     for x in 0..m {
-        further(t, rules, edges, index, d, n, x);
+        next_of_root(t, rules, edges, index, d, x);
     }
 }

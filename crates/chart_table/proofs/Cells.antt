@@ -9,8 +9,8 @@ use native.Mathlib.Omega.{arith}
 use lib.ListN.{getD}
 use borrow.Author.Tests.{lt-ltb}
 use Rattle.packing.specs.declared.Sym.{Sym}
-use Rattle.chart_table.specs.declared.Dims.{Dims}
-use Rattle.chart_table.specs.Table.{cellOf, entryOf, weightAt}
+use Rattle.chart_table.specs.declared.Layout.{Layout}
+use Rattle.chart_table.specs.Table.{cell, cellNumber, entryOf, weightAt}
 
 -- how many spans end before place k
 abbrev pub spans : ℕ → ℕ
@@ -25,21 +25,21 @@ spans-suc (suc m) =
     let e′ : suc m * (suc m - 1) ≡ m * m + m = rw two (simp (suc-mul) (omega arith)) in
     omega arith
 
-module _ (d : Dims) (a : Sym) (i k : ℕ) where
-  pub begin-later : entryOf d (cellOf d a (i + 1) k) 0 ≡ entryOf d (cellOf d a i k) 0 + d .symbols * 4
-  unfolding entryOf cellOf
-  begin-later =
+module _ (d : Layout) (a : Sym) (i k : ℕ) where
+  pub entry-from-suc : entryOf d (cellNumber d (cell a (i + 1) k)) 0 ≡ entryOf d (cellNumber d (cell a i k)) 0 + d .symbols * 4
+  unfolding entryOf cellNumber
+  entry-from-suc =
       let e : spans k + (i + 1) ≡ suc (spans k + i) = omega arith in
       rw (e, suc-mul) (omega arith)
 
-  pub end-later : entryOf d (cellOf d a i (k + 1)) 0 ≡ entryOf d (cellOf d a i k) 0 + d .symbols * 4 * k
-  unfolding entryOf cellOf
-  end-later =
+  pub entry-to-suc : entryOf d (cellNumber d (cell a i (k + 1))) 0 ≡ entryOf d (cellNumber d (cell a i k)) 0 + d .symbols * 4 * k
+  unfolding entryOf cellNumber
+  entry-to-suc =
       let e : spans (k + 1) + i ≡ spans k + i + k = rw (add-one k) (omega (arith, spans-suc k)) in
       let m : d .symbols * 4 * k ≡ k * d .symbols * 4 = simp (mul-assoc, mul-comm, mul-left-comm) in
       rw (e, m, add-mul (spans k + i) k (d .symbols)) (omega arith)
 
 -- the weight of a first rank, which is always kept
-pub first-weight : (t : List ℕ) (d : Dims) (cell : ℕ) → 0 < d .cap → weightAt t d cell 0 ≡ getD t (entryOf d cell 0) 0
+pub first-weight : (t : List ℕ) (d : Layout) (c : ℕ) → 0 < d .ranks → weightAt t d c 0 ≡ getD t (entryOf d c 0) 0
 unfolding weightAt
-first-weight t d cell h = rw (lt-ltb 0 (d .cap) h)
+first-weight t d c h = rw (lt-ltb 0 (d .ranks) h)

@@ -1,27 +1,27 @@
 // Clearing: the entries of the ranks that were found made 0.
-use crate::Dims;
+use crate::Layout;
 use crate::entry_of;
-use crate::last_in;
+use crate::last_rank;
 use arrays::store;
 ghost use mathlib.Core.Path.{_≡_};
 ghost use Prim.Native.Nat.{_<_, _≤_};
-ghost use Rattle.chart_table.specs.Table.{ranksIn, clearedEntry, clearedCell, cleared, Sized};
+ghost use Rattle.chart_table.specs.Table.{mostRanks, cellBound, ranksToClear, clearEntry, clearCell, clear, Sized};
 
 // How many ranks of a cell there are up to the last found, and one where none is.
-fn ranks_in(t: &[u32], d: Dims, cell: usize) -> usize
-    requires { ⌜ (Sized d) × (cell < 8589934592) ⌝ }
-    ensures { λ r. ⌜ (r ≡ ranksIn (now (t .entry)) d cell) × (r ≤ d .cap) ⌝ }
+fn ranks_to_clear(t: &[u32], d: Layout, c: usize) -> usize
+    requires { ⌜ (Sized d) × (c < cellBound) ⌝ }
+    ensures { λ r. ⌜ (r ≡ ranksToClear (now (t .entry)) d c) × (r ≤ d .ranks) ⌝ }
 {
-    let last = last_in(t, d, cell);
-    if last < d.cap { last + 1 } else { d.cap }
+    let last = last_rank(t, d, c);
+    if last < d.ranks { last + 1 } else { d.ranks }
 }
 
 // Makes the four numbers of an entry 0.
-fn clear_entry(t: &mut [u32], d: Dims, cell: usize, x: usize)
-    requires { ⌜ (Sized d) × (cell < 8589934592) × (x ≤ 256) ⌝ }
-    ensures { λ _. ⌜ now (t .exit) ≡ clearedEntry (now (t .entry)) d cell x ⌝ }
+fn clear_entry(t: &mut [u32], d: Layout, c: usize, x: usize)
+    requires { ⌜ (Sized d) × (c < cellBound) × (x ≤ mostRanks) ⌝ }
+    ensures { λ _. ⌜ now (t .exit) ≡ clearEntry (now (t .entry)) d c x ⌝ }
 {
-    let at = entry_of(d, cell, x);
+    let at = entry_of(d, c, x);
     store(t, at, 0);
     store(t, at + 1, 0);
     store(t, at + 2, 0);
@@ -29,23 +29,23 @@ fn clear_entry(t: &mut [u32], d: Dims, cell: usize, x: usize)
 }
 
 // Makes the entries of a cell's ranks up to the last found 0.
-fn clear_cell(t: &mut [u32], d: Dims, cell: usize)
-    requires { ⌜ (Sized d) × (cell < 8589934592) ⌝ }
-    ensures { λ _. ⌜ now (t .exit) ≡ clearedCell (now (t .entry)) d cell ⌝ }
+fn clear_cell(t: &mut [u32], d: Layout, c: usize)
+    requires { ⌜ (Sized d) × (c < cellBound) ⌝ }
+    ensures { λ _. ⌜ now (t .exit) ≡ clearCell (now (t .entry)) d c ⌝ }
 {
-    let m = ranks_in(&t[..], d, cell);
+    let m = ranks_to_clear(&t[..], d, c);
     for x in 0..m {
-        clear_entry(t, d, cell, x);
+        clear_entry(t, d, c, x);
     }
 }
 
 // Makes the entries of all ranks found 0, of every cell.
-pub fn clear(t: &mut [u32], d: Dims)
+pub fn clear(t: &mut [u32], d: Layout)
     requires { ⌜ Sized d ⌝ }
-    ensures { λ _. ⌜ now (t .exit) ≡ cleared (now (t .entry)) d ⌝ }
+    ensures { λ _. ⌜ now (t .exit) ≡ clear (now (t .entry)) d ⌝ }
 {
     let cells = d.cells;
-    for cell in 0..cells {
-        clear_cell(t, d, cell);
+    for c in 0..cells {
+        clear_cell(t, d, c);
     }
 }

@@ -1,22 +1,9 @@
--- What a good table holds, and what waits in it.
-pub mod Keys
-pub mod Entries
-pub mod Numbers
-pub mod Select
-pub mod Owners
+-- The floors of the theory, each over those before it: the numbers of a table, the queue of a cell, the invariant of the search,
+-- the candidates of a cell, the search; then the chart's theorem, and what its callers need of it.
+pub mod Table
 pub mod Queue
-pub mod Arranged
-pub mod Settled
-pub mod Good
--- A cell's next rank, the search, and what it finds.
+pub mod Invariant
 pub mod Candidates
-pub mod Least
-pub mod Renewed
-pub mod Placed
-pub mod Stepped
-pub mod Next
-pub mod Listing
-pub mod Spell
-pub mod Cleared
+pub mod Search
 pub mod Chart
 pub mod Accepted

@@ -9,7 +9,7 @@ use borrow.Author.Tests.{eq-eqb, ne-eqb}
 use lib.ListN.{length, getD, set, length-set}
 use lib.Seq.{getD-set-same, getD-set-other}
 use Rattle.packing.specs.declared.Word as W
-use Rattle.packing.specs.Meaning.{sym as symbol}
+use Rattle.packing.specs.Meaning.{symbolOf}
 use Rattle.packing.specs.Flat.{candidatesOf}
 use Rattle.derivation.specs.Walk.{costOf}
 use Rattle.checker.specs.Run.{headsOf}
@@ -25,12 +25,12 @@ unfolding headsOf
 heads-below l zero i v h = refl
 heads-below l (suc n) i v h = rw (getD-set-other l i n v 0 (λ e. omega arith), heads-below l n i v (omega arith))
 
-pub heads-top : (l : List ℕ) (n : ℕ) → 1 ≤ n → headsOf l n ≡ symbol (getD l (n - 1) 0) ∷ headsOf l (n - 1)
+pub heads-top : (l : List ℕ) (n : ℕ) → 1 ≤ n → headsOf l n ≡ symbolOf (getD l (n - 1) 0) ∷ headsOf l (n - 1)
 unfolding headsOf
 heads-top l zero h = absurd (omega arith)
 heads-top l (suc n) h = let z : suc n - 1 ≡ n = omega arith in rw z
 
-pub heads-pushed : (l : List ℕ) (n b c : ℕ) → 1 ≤ n → n < length l → headsOf (set (set l (n - 1) c) n b) (n + 1) ≡ symbol b ∷ symbol c ∷ headsOf l (n - 1)
+pub heads-pushed : (l : List ℕ) (n b c : ℕ) → 1 ≤ n → n < length l → headsOf (set (set l (n - 1) c) n b) (n + 1) ≡ symbolOf b ∷ symbolOf c ∷ headsOf l (n - 1)
 unfolding headsOf
 heads-pushed l zero b c h k = absurd (omega arith)
 heads-pushed l (suc n) b c h k =

@@ -11,7 +11,7 @@ use borrow.Author.Tests.{eqb-true, eq-eqb}
 use lib.Dec.{eqb}
 use lib.ListN.{length}
 use Rattle.bits.specs.Bits.{pick}
-use Rattle.packing.specs.Meaning.{sym as symbol, Grammar, Utterance, Reading, edges}
+use Rattle.packing.specs.Meaning.{symbolOf, Grammar, Utterance, Reading, edges}
 use Rattle.packing.specs.Parse.{Parse, parsed, failed, Verdict, accepted, refused, _then_}
 use Rattle.packing.specs.Grammar.{grammarBlock}
 use Rattle.packing.specs.Utterance.{utteranceBlock}
@@ -19,7 +19,8 @@ use Rattle.packing.specs.Reading.{readingFrom}
 use Rattle.packing.proofs.Parse.{picked-first}
 use Rattle.packing.proofs.Whole.{utterance-block-out}
 use Rattle.derivation.specs.Derivation.{Tree, walk, weight, Derivation}
-use Rattle.derivation.specs.List.{_∈_, trees}
+use Rattle.derivation.specs.Rank.{_∈_}
+use Rattle.derivation.specs.List.{trees}
 use Rattle.derivation.specs.Walk.{walkWeight}
 use Rattle.derivation.proofs.Ranges.{Ascending, valid-ascending}
 use Rattle.derivation.proofs.Trees.{trees-derive}
@@ -43,7 +44,7 @@ same-self [] = refl
 same-self (x ∷ a) = rw (eq-eqb x x refl) (same-self a)
 
 -- the tree that is found has the walk, and where none is found no tree has it
-abbrev Found : List ℕ → (Tree → Type 0) → Option Tree → Type 0
+abbrev pub Found : List ℕ → (Tree → Type 0) → Option Tree → Type 0
 Found rs P (some t) = P t × (walk t ≡ rs)
 Found rs P none = (t : Tree) → P t → walk t ≡ rs → ⊥
 
@@ -59,13 +60,13 @@ with-walk rs (s ∷ ts) = go (same (walk s) rs) refl (withWalk rs ts) (with-walk
         ⊎-elim (λ p. false≢true (sym h ∙ ap (λ (l : List ℕ). same l rs) (ap walk (sym p) ∙ w) ∙ same-self rs)) (λ n. f t n w) (List·Memᴰ·cases-cons m)
 
 module _ (g : Grammar) (u : Utterance) where
-  derivation-found : (rs : List ℕ) → Found rs (Derivation g u) (derivationOf g u rs)
+  pub derivation-found : (rs : List ℕ) → Found rs (Derivation g u) (derivationOf g u rs)
   unfolding derivationOf
-  derivation-found rs = go (derivationOf g u rs) (with-walk rs (trees g (edges u) (symbol 0) 0 (length u)))
+  derivation-found rs = go (derivationOf g u rs) (with-walk rs (trees g (edges u) (symbolOf 0) 0 (length u)))
     where
-      go : (o : Option Tree) → Found rs (λ t. t ∈ trees g (edges u) (symbol 0) 0 (length u)) o → Found rs (Derivation g u) o
-      go (some t) (m, w) = (trees-derive g (edges u) (symbol 0) 0 (length u) t .0 m, w)
-      go none f = λ t d. f t (trees-derive g (edges u) (symbol 0) 0 (length u) t .1 d)
+      go : (o : Option Tree) → Found rs (λ t. t ∈ trees g (edges u) (symbolOf 0) 0 (length u)) o → Found rs (Derivation g u) o
+      go (some t) (m, w) = (trees-derive g (edges u) (symbolOf 0) 0 (length u) t .0 m, w)
+      go none f = λ t d. f t (trees-derive g (edges u) (symbolOf 0) 0 (length u) t .1 d)
 
   module _ (ascending : Ascending u) where
     judged-weighed : (block : List ℕ) (d : Reading) (at : ℕ) (o : Option Tree) → Found (d .walk) (Derivation g u) o

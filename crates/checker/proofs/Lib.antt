@@ -1,5 +1,6 @@
 pub mod Judged
 pub mod Passed
+pub mod Refused
 pub mod Theorems
 pub mod Arrays
 pub mod Steps

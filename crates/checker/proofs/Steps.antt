@@ -14,8 +14,8 @@ use Rattle.packing.specs.declared.Sym.{Sym}
 use Rattle.packing.specs.declared.Word as W
 use Rattle.packing.specs.declared.Rule as R
 use Rattle.packing.specs.declared.Rule.the-variants.{Pair, Word}
-use Rattle.packing.specs.Meaning.{sym as symbol}
-use Rattle.derivation.specs.Walk.{State, onward, astray, costOf, leafStep, ruleStep, step, run, ended}
+use Rattle.packing.specs.Meaning.{symbolOf}
+use Rattle.derivation.specs.Walk.{State, onward, astray, costOf, leafStep, ruleStep, step, run, finished}
 use Rattle.derivation.proofs.Walk.{run-astray}
 use Rattle.packing.specs.Flat.{slotsOf, slotsBy}
 use Rattle.checker.specs.Run.{slotAt, behind, headsOf, stateOf}
@@ -58,7 +58,7 @@ module _ (rules : List R.Rule) (slots stack : List ℕ) (at : Progress) (r : ℕ
     unfolding step ruleStep slotsBy
     word-rule {x} l e =
         let n : at .left ≡ suc (at .left - 1) = omega arith in
-        rw (heads-top stack (at .height) h, e) (ap (λ (m : ℕ). ruleStep (slotsOf slots m (at .place)) (symbol (getD stack (at .height - 1) 0)) below (at .weight) (some (Word H x w))) n)
+        rw (heads-top stack (at .height) h, e) (ap (λ (m : ℕ). ruleStep (slotsOf slots m (at .place)) (symbolOf (getD stack (at .height - 1) 0)) below (at .weight) (some (Word H x w))) n)
 
 -- the turns of a loop over the first m numbers of a walk
 module _ (rules : List R.Rule) (s : State) (walk : List ℕ) (m i : ℕ) where
@@ -78,10 +78,10 @@ module _ (rules : List R.Rule) (s : State) (walk : List ℕ) (m i : ℕ) where
 
 -- the walk has ended where no slot is left
 module _ (slots stack : List ℕ) (at : Progress) where
-  pub at-end : at .left ≡ 0 → at .height ≤ at .left → ended (stateOf slots stack (Onward at)) ≡ some (at .weight)
-  unfolding ended slotsBy headsOf
+  pub at-end : at .left ≡ 0 → at .height ≤ at .left → finished (stateOf slots stack (Onward at)) ≡ some (at .weight)
+  unfolding finished slotsBy headsOf
   at-end e l = let n : at .height ≡ 0 = omega arith in rw (e, n)
 
-  pub not-at-end : (at .left ≡ 0 → ⊥) → ended (stateOf slots stack (Onward at)) ≡ none
-  unfolding ended slotsBy
+  pub not-at-end : (at .left ≡ 0 → ⊥) → finished (stateOf slots stack (Onward at)) ≡ none
+  unfolding finished slotsBy
   not-at-end f = let n : at .left ≡ suc (at .left - 1) = omega arith in rw n

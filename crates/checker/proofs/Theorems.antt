@@ -17,7 +17,8 @@ use Rattle.packing.specs.Reading.{blockOfReading}
 use Rattle.packing.proofs.Parse.{granted}
 use Rattle.packing.proofs.Whole.{grammar-block-out, utterance-block-out}
 use Rattle.derivation.specs.Derivation.{Tree, Derivation, reading}
-use Rattle.checker.specs.Check.{check, answerOf, OfDerivation}
+use Rattle.checker.specs.Check.{check, checkedOf, OfDerivation}
+use Rattle.checker.specs.declared.Checked.{Checked}
 use Rattle.checker.specs.declared.Checked.the-variants.{Passes}
 use Rattle.checker.proofs.Passed.{passed-out, passed-back}
 
@@ -35,16 +36,21 @@ module _ (grammar utterance block : List ℕ) (bytes : Bytes block) where
 
   -- The check passes a block exactly if there is a derivation of this grammar and this utterance whose packed reading, with its
   -- true weight, is that block.
-  pub passes : (answerOf (check grammar utterance block) ≡ Passes) ↔ OfDerivation grammar utterance block
+  pub passes : (checkedOf (check grammar utterance block) ≡ Passes) ↔ OfDerivation grammar utterance block
   unfolding check
   passes = (to (check grammar utterance block) refl, from)
     where
-      to : (v : Verdict Reading) → check grammar utterance block ≡ v → answerOf v ≡ Passes → OfDerivation grammar utterance block
+      to : (v : Verdict Reading) → check grammar utterance block ≡ v → checkedOf v ≡ Passes → OfDerivation grammar utterance block
       to (refused n) e h = let z : _≡_ {A = ℕ} 0 1 = cc in absurd (omega arith)
       to (accepted d) e h =
           granted (grammarBlock grammar) _ e λ g p f. granted (utteranceBlock (g .words) utterance) _ f λ u q _.
           let (t, c, _, b) = accepts g u p q d .0 e in
           (g, u, t, p, q, c, b)
 
-      from : OfDerivation grammar utterance block → answerOf (check grammar utterance block) ≡ Passes
-      from (g, u, t, p, q, c, b) = ap answerOf (accepts g u p q (reading g u t) .1 (t, c, refl, b))
+      from : OfDerivation grammar utterance block → checkedOf (check grammar utterance block) ≡ Passes
+      from (g, u, t, p, q, c, b) = ap checkedOf (accepts g u p q (reading g u t) .1 (t, c, refl, b))
+
+  -- so of an answer that is the definition's: the promises of `check`
+  pub promised : {r : Checked} → r ≡ checkedOf (check grammar utterance block)
+      → (r ≡ checkedOf (check grammar utterance block)) × ((r ≡ Passes) ↔ OfDerivation grammar utterance block)
+  promised e = (e, rw e passes)

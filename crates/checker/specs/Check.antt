@@ -8,7 +8,7 @@ use Prim.Native.Nat.{ℕ}
 use lib.Dec.{eqb}
 use lib.ListN.{length}
 use Rattle.bits.specs.Bits.{pick, ended}
-use Rattle.packing.specs.Meaning.{Grammar, Utterance, Reading, edges, sym}
+use Rattle.packing.specs.Meaning.{Grammar, Utterance, Reading, edges, symbolOf}
 use Rattle.packing.specs.Parse.{Parse, parsed, failed, Verdict, accepted, refused, _then_}
 use Rattle.packing.specs.Grammar.{grammarBlock}
 use Rattle.packing.specs.Utterance.{utteranceBlock}
@@ -32,7 +32,7 @@ withWalk rs (t ∷ ts) = pick (same (walk t) rs) (some t) (withWalk rs ts)
 
 -- the derivation that has the walk rs
 unfoldable pub derivationOf : Grammar → Utterance → List ℕ → Option Tree
-derivationOf g u rs = withWalk rs (trees g (edges u) (sym 0) 0 (length u))
+derivationOf g u rs = withWalk rs (trees g (edges u) (symbolOf 0) 0 (length u))
 
 -- 34, 35 and 36, in this order, of the fields that were read and the place behind them
 abbrev pub judged : Grammar → Utterance → List ℕ → Reading → ℕ → Option Tree → Verdict Reading
@@ -51,9 +51,9 @@ check grammar utterance reading =
     afterFields g u reading (readingFrom (length u) (length (g .rules)) reading)
 
 -- the code's answer
-abbrev pub answerOf : Verdict Reading → Checked
-answerOf (accepted d) = Passes
-answerOf (refused n) = Refused n
+abbrev pub checkedOf : Verdict Reading → Checked
+checkedOf (accepted d) = Passes
+checkedOf (refused n) = Refused n
 
 -- what is to pass: the block is the packed reading of a derivation, with its own weight, of what the grammar block and the
 -- utterance block mean
@@ -61,3 +61,33 @@ abbrev pub OfDerivation : List ℕ → List ℕ → List ℕ → Type 0
 OfDerivation grammar utterance block =
     (g : Grammar) × (u : Utterance) × (t : Tree) × (grammarBlock grammar ≡ accepted g)
     × (utteranceBlock (g .words) utterance ≡ accepted u) × Derivation g u t × (block ≡ blockOfReading (length (g .rules)) (reading g u t))
+
+-- both blocks are accepted and the fields of the reading block are read, and so it is of what they mean and of the place behind them
+pub record FieldsRead (grammar utterance block : List ℕ) (So : Grammar → Utterance → Reading → ℕ → Type 0) : Type 0 where
+  pub g : Grammar
+  pub u : Utterance
+  pub d : Reading
+  pub at : ℕ
+  pub grammar-accepted : grammarBlock grammar ≡ accepted g
+  pub utterance-accepted : utteranceBlock (g .words) utterance ≡ accepted u
+  pub fields : readingFrom (length u) (length (g .rules)) block ≡ parsed d at
+  pub so : So g u d at
+
+-- t is a derivation with the walk that was read
+abbrev pub HasWalk : Grammar → Utterance → Reading → Tree → Type 0
+HasWalk g u d t = Derivation g u t × (walk t ≡ d .walk)
+
+-- 34, "the 2n−1 numbers are not the walk of a derivation"
+abbrev pub NoWalk : List ℕ → List ℕ → List ℕ → Type 0
+NoWalk grammar utterance block = FieldsRead grammar utterance block (λ g u d at. (t : Tree) → ¬ HasWalk g u d t)
+
+-- 35, "weight not its own"
+abbrev pub OtherWeight : List ℕ → List ℕ → List ℕ → Type 0
+OtherWeight grammar utterance block =
+    FieldsRead grammar utterance block (λ g u d at. (t : Tree) × HasWalk g u d t × ¬ (weight g (edges u) t ≡ d .weight))
+
+-- 36, "nonzero fill or further bytes"
+abbrev pub Surplus : List ℕ → List ℕ → List ℕ → Type 0
+Surplus grammar utterance block =
+    FieldsRead grammar utterance block
+    (λ g u d at. (t : Tree) × HasWalk g u d t × (weight g (edges u) t ≡ d .weight) × (ended block at ≡ false))

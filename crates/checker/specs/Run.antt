@@ -6,7 +6,7 @@ use Prim.Native.Nat.{ℕ, zero, suc, _+_, _*_, _^_, _≤_, _<_}
 use lib.Dec.{eqb}
 use lib.ListN.{length, getD}
 use Rattle.bits.specs.Bits.{pick, ended}
-use Rattle.packing.specs.Meaning.{Utterance, Candidate, Reading, sym}
+use Rattle.packing.specs.Meaning.{Utterance, Candidate, Reading, symbolOf}
 use Rattle.packing.specs.Parse.{Parse, parsed, failed, Verdict, accepted, refused, _then_}
 use Rattle.packing.specs.Utterance.{utteranceBlock}
 use Rattle.packing.specs.Reading.{readingFrom}
@@ -44,7 +44,7 @@ behind l p = p + 1 + 2 * getD l p 0
 -- n symbols of an array, the last first
 unfoldable pub headsOf : List ℕ → ℕ → List Sym
 headsOf l zero = []
-headsOf l (suc n) = sym (getD l n 0) ∷ headsOf l n
+headsOf l (suc n) = symbolOf (getD l n 0) ∷ headsOf l n
 
 -- what the code's answers say
 abbrev pub numberOf : Found → Option ℕ

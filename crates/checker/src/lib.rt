@@ -3,14 +3,22 @@ mod walk; // walk.rt: the weight of the derivation that has a walk
 
 use crate::walk::Found;
 use grammar_reader::GrammarRead;
+use packing::format::MAX_RULES;
+use packing::format::MAX_SLOTS;
+use packing::format::MAX_WORDS;
+use packing::format::RULES_LENGTH;
+use packing::format::SLOTS_LENGTH;
+use packing::format::WALK_LENGTH;
+use packing::refused;
 use reading_reader::ReadingRead;
 use utterance_reader::UtteranceRead;
 ghost use mathlib.Core.Path.{_≡_};
+ghost use mathlib.Core.Logic.{_↔_};
 ghost use Prim.Native.Nat.{_^_, _≤_, _<_};
 ghost use Rattle.packing.specs.Meaning.{Reading};
 ghost use Rattle.packing.specs.Reading.{readingFrom};
 ghost use Rattle.checker.specs.Check as definition;
-ghost use Rattle.checker.specs.Check.{answerOf};
+ghost use Rattle.checker.specs.Check.{checkedOf, OfDerivation};
 ghost use Rattle.packing.specs.Flat.{rulesOf, slotsOf};
 ghost use Rattle.checker.specs.Run.{weighed, byRun, underRules, numberOf};
 
@@ -25,27 +33,27 @@ pub enum Checked {
 fn judge(block: &[u8], at: usize, weight: u32, own: Found) -> Checked
     requires { ⌜ at < 2 ^ 32 ⌝ }
     ensures { λ r. ⌜ ((d : Reading) → d .weight ≡ weight
-        → r ≡ answerOf (weighed (now (block .entry)) d at (numberOf own))) ⌝ }
+        → r ≡ checkedOf (weighed (now (block .entry)) d at (numberOf own))) ⌝ }
 {
     let Found::Number(w) = own else {
-        return Checked::Refused(34);
+        return Checked::Refused(refused::READING_WALK);
     };
     if w == arrays::wide(weight) {
         if bit_reader::zero_from(block, at) {
             return Checked::Passes;
         }
-        return Checked::Refused(36);
+        return Checked::Refused(refused::READING_FILL);
     }
-    Checked::Refused(35)
+    Checked::Refused(refused::READING_WEIGHT)
 }
 
 // The check under `count` rules and n slots that stand in arrays.
 fn check_reading(rules: &[u32], count: usize, slots: &[u32], n: usize, reading: &[u8]) -> Checked
-    requires { ⌜ (1 ≤ count) × (count ≤ 256) × (1 ≤ n) × (n ≤ 24) ⌝ }
-    ensures { λ r. ⌜ r ≡ answerOf (byRun (rulesOf (now (rules .entry)) count) (slotsOf (now (slots .entry)) n 0)
+    requires { do ⌜ (1 ≤ count) × (count ≤ (← ⟦MAX_RULES⟧)) × (1 ≤ n) × (n ≤ (← ⟦MAX_SLOTS⟧)) ⌝ }
+    ensures { λ r. ⌜ r ≡ checkedOf (byRun (rulesOf (now (rules .entry)) count) (slotsOf (now (slots .entry)) n 0)
         (now (reading .entry)) (readingFrom n count (now (reading .entry)))) ⌝ }
 {
-    let mut walk = [0u32; 47];
+    let mut walk = [0u32; WALK_LENGTH];
     match reading_reader::read_reading(reading, n, count, &mut walk) {
         ReadingRead::Refused(m) => Checked::Refused(m),
         ReadingRead::Reading(weight, end) => {
@@ -68,11 +76,11 @@ fn check_utterance(
     utterance: &[u8],
     reading: &[u8],
 ) -> Checked
-    requires { ⌜ (1 ≤ count) × (count ≤ 256) × (0 < words) × (words ≤ 200) ⌝ }
-    ensures { λ r. ⌜ r ≡ answerOf (underRules words (rulesOf (now (rules .entry)) count) (now (utterance .entry))
+    requires { do ⌜ (1 ≤ count) × (count ≤ (← ⟦MAX_RULES⟧)) × (0 < words) × (words ≤ (← ⟦MAX_WORDS⟧)) ⌝ }
+    ensures { λ r. ⌜ r ≡ checkedOf (underRules words (rulesOf (now (rules .entry)) count) (now (utterance .entry))
         (now (reading .entry))) ⌝ }
 {
-    let mut slots = [0u32; 360];
+    let mut slots = [0u32; SLOTS_LENGTH];
     match utterance_reader::read_block(utterance, words, &mut slots) {
         UtteranceRead::Refused(m) => Checked::Refused(m),
         UtteranceRead::Utterance(found) => check_reading(
@@ -87,9 +95,10 @@ fn check_utterance(
 
 // Whether a block is the reading of a derivation of the grammar and the utterance, with its weight.
 pub fn check(grammar: &[u8], utterance: &[u8], reading: &[u8]) -> Checked
-    ensures { λ r. ⌜ r ≡ answerOf (definition.check (now (grammar .entry)) (now (utterance .entry)) (now (reading .entry))) ⌝ }
+    ensures { λ r. ⌜ r ≡ checkedOf (definition.check (now (grammar .entry)) (now (utterance .entry)) (now (reading .entry))) ⌝ }
+    ensures { λ r. ⌜ (r ≡ Checked.Passes) ↔ OfDerivation (now (grammar .entry)) (now (utterance .entry)) (now (reading .entry)) ⌝ }
 {
-    let mut rules = [0u32; 1280];
+    let mut rules = [0u32; RULES_LENGTH];
     match grammar_reader::read_block(grammar, &mut rules) {
         GrammarRead::Refused(m) => Checked::Refused(m),
         GrammarRead::Grammar(sizes) => check_utterance(

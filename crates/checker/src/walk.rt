@@ -2,6 +2,8 @@
 use packing::Rule;
 use packing::Sym;
 use packing::Word;
+use packing::format::MAX_SLOTS;
+use packing::format::NUMBERS_PER_CANDIDATE;
 ghost use mathlib.Core.Path.{_≡_};
 ghost use mathlib.Core.List.{List, _∷_};
 ghost use Prim.Native.Nat.{ℕ, _+_, _-_, _*_, _^_, _≤_, _<_};
@@ -41,7 +43,7 @@ fn cost_of(slots: &[u32], start: usize, count: usize, word: Word) -> Found
     let wanted = arrays::wide(word.0);
     let mut k: usize = 0;
     while k < count {
-        let at = start + 2 * k;
+        let at = start + NUMBERS_PER_CANDIDATE * k;
         if arrays::number_at(slots, at) == wanted {
             return Found::Number(arrays::number_at(slots, at + 1));
         }
@@ -63,7 +65,7 @@ fn word_step(slots: &[u32], at: Progress, word: Word, weight: u32) -> Step
         return Step::Astray;
     };
     Step::Onward(Progress {
-        place: place + 1 + 2 * count,
+        place: place + 1 + NUMBERS_PER_CANDIDATE * count,
         left: at.left - 1,
         height: at.height - 1,
         weight: at.weight + arrays::wide(weight) + cost,
@@ -72,7 +74,7 @@ fn word_step(slots: &[u32], at: Progress, word: Word, weight: u32) -> Step
 
 // A pair rule: its two symbols take the place of its head, if each part to come has a slot of its own.
 fn pair_step(stack: &mut [u32], at: Progress, first: Sym, second: Sym, weight: u32) -> Step
-    requires { ⌜ (1 ≤ at .height) × Within at × (24 ≤ length (now stack)) ⌝ }
+    requires { do ⌜ (1 ≤ at .height) × Within at × ((← ⟦MAX_SLOTS⟧) ≤ length (now stack)) ⌝ }
     ensures { λ r. ⌜ ((slots : List ℕ) → stateOf slots (now (stack .exit)) r
         ≡ pick (ltb (at .height) (at .left)) (onward (slotsOf slots (at .left) (at .place))
         (first ∷ second ∷ headsOf (now (stack .entry)) (at .height - 1)) (at .weight + weight)) astray) × Further at r ⌝ }
@@ -100,7 +102,7 @@ fn follow(
     at: Progress,
     r: usize,
 ) -> Step
-    requires { ⌜ (r < 2 ^ 32) × Within at × (24 ≤ length (now stack)) ⌝ }
+    requires { do ⌜ (r < 2 ^ 32) × Within at × ((← ⟦MAX_SLOTS⟧) ≤ length (now stack)) ⌝ }
     ensures { λ s. ⌜ (stateOf (now (slots .entry)) (now (stack .exit)) s
         ≡ step (rulesOf (now (rules .entry)) count) (stateOf (now (slots .entry)) (now (stack .entry)) (Step.Onward at)) r)
         × Further at s ⌝ }
@@ -132,11 +134,11 @@ fn follow(
 // The weight of the derivation of n slots whose walk the first 2n - 1 numbers are. Each part to come has a slot of its own, so
 // where no slot is left no part is.
 pub fn weight_of(rules: &[u32], count: usize, slots: &[u32], n: usize, walk: &[u32]) -> Found
-    requires { ⌜ (1 ≤ n) × (n ≤ 24) × (2 * n - 1 ≤ length (now walk)) ⌝ }
+    requires { do ⌜ (1 ≤ n) × (n ≤ (← ⟦MAX_SLOTS⟧)) × (2 * n - 1 ≤ length (now walk)) ⌝ }
     ensures { λ r. ⌜ numberOf r ≡ walkWeight (rulesOf (now (rules .entry)) count) (slotsOf (now (slots .entry)) n 0)
         (take (2 * n - 1) (now (walk .entry))) ⌝ }
 {
-    let mut stack = [0u32; 24];
+    let mut stack = [0u32; MAX_SLOTS];
     let mut at = Progress {
         place: 0,
         left: n,

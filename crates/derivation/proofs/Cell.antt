@@ -7,7 +7,8 @@ use Rattle.packing.specs.declared.Sym.{Sym}
 use Rattle.packing.specs.Meaning.{Grammar, Edge}
 use Rattle.derivation.specs.Derivation.{At, Tree, Derives, weight}
 use Rattle.derivation.specs.Order.{order}
-use Rattle.derivation.specs.List.{_∈_, trees, ranked}
+use Rattle.derivation.specs.Rank.{_∈_}
+use Rattle.derivation.specs.List.{trees, ranked}
 use Rattle.derivation.proofs.Comparison.{Lawful}
 use Rattle.derivation.proofs.Order.{order-lawful}
 use Rattle.derivation.proofs.Lists.{mem-at, at-mem}

@@ -9,7 +9,8 @@ use native.Mathlib.Nat.{not-suc-le-zero, le-of-suc-le-suc}
 use native.Mathlib.Omega.{arith}
 use lib.Dec.{eqb, T, eqb→eq, eqb-refl}
 use Rattle.derivation.specs.Derivation.{At, Tree, node}
-use Rattle.derivation.specs.List.{_∈_, Distinct, each, below, when, only, joined}
+use Rattle.derivation.specs.Rank.{_∈_, Distinct}
+use Rattle.derivation.specs.List.{each, eachBelow, keepIf, only, combined}
 use Rattle.derivation.proofs.Lists.{none≢some, mem-at, at-mem, distinct-append, distinct-at}
 
 pub each-out : {A B : Type 0} (f : ℕ → A → List B) (l : List A) {b : B} → b ∈ each f l
@@ -36,40 +37,40 @@ each-distinct f (x ∷ l) h k =
     (λ n m y y′ z e e′ p q. omega (arith, k (suc n) (suc m) y y′ z e e′ p q)))
     (λ z p q. let (n, y, e, q′) = each-out (λ n. f (suc n)) l q in omega (arith, k 0 (suc n) x y z refl e p q′))
 
-pub below-out : {B : Type 0} (f : ℕ → List B) (n : ℕ) {b : B} → b ∈ below f n → (m : ℕ) × (m < n) × b ∈ f m
-unfolding below
+pub below-out : {B : Type 0} (f : ℕ → List B) (n : ℕ) {b : B} → b ∈ eachBelow f n → (m : ℕ) × (m < n) × b ∈ f m
+unfolding eachBelow
 below-out f zero m = absurd (List·Memᴰ·not-nil m)
 below-out f (suc n) m =
     ⊎-elim (λ h. (0, suc-le-suc zero-le, h)) (λ h. let r = below-out (λ n. f (suc n)) n h in
     (suc (r .0), suc-le-suc (r .1), r .2)) (List·Memᴰ·append-cases (f 0) m)
 
-pub below-in : {B : Type 0} (f : ℕ → List B) (n m : ℕ) {b : B} → m < n → b ∈ f m → b ∈ below f n
-unfolding below
+pub below-in : {B : Type 0} (f : ℕ → List B) (n m : ℕ) {b : B} → m < n → b ∈ f m → b ∈ eachBelow f n
+unfolding eachBelow
 below-in f zero m h k = absurd (not-suc-le-zero h)
 below-in f (suc n) zero h k = Memᴰ·append-left _ k
 below-in f (suc n) (suc m) h k = Memᴰ·append-right (f 0) (below-in (λ n. f (suc n)) n m (le-of-suc-le-suc h) k)
 
 pub below-distinct : {B : Type 0} (f : ℕ → List B) (n : ℕ) → ((m : ℕ) → Distinct (f m))
-    → ((m m′ : ℕ) (z : B) → z ∈ f m → z ∈ f m′ → m ≡ m′) → Distinct (below f n)
-unfolding below
+    → ((m m′ : ℕ) (z : B) → z ∈ f m → z ∈ f m′ → m ≡ m′) → Distinct (eachBelow f n)
+unfolding eachBelow
 below-distinct f zero h k = tt
 below-distinct f (suc n) h k =
-    distinct-append (f 0) (below (λ m. f (suc m)) n) (h 0)
+    distinct-append (f 0) (eachBelow (λ m. f (suc m)) n) (h 0)
     (below-distinct (λ m. f (suc m)) n (λ m. h (suc m)) (λ m m′ z p q. omega (arith, k (suc m) (suc m′) z p q)))
     (λ z p q. let (m, b, q′) = below-out (λ m. f (suc m)) n q in omega (arith, k 0 (suc m) z p q′))
 
-when-out : {B : Type 0} (t : Bool) {l : List B} {b : B} → b ∈ when t l → T t × b ∈ l
-unfolding when
+when-out : {B : Type 0} (t : Bool) {l : List B} {b : B} → b ∈ keepIf t l → T t × b ∈ l
+unfolding keepIf
 when-out true m = (tt, m)
 when-out false m = absurd (List·Memᴰ·not-nil m)
 
-when-in : {B : Type 0} (t : Bool) {l : List B} {b : B} → T t → b ∈ l → b ∈ when t l
-unfolding when
+when-in : {B : Type 0} (t : Bool) {l : List B} {b : B} → T t → b ∈ l → b ∈ keepIf t l
+unfolding keepIf
 when-in true h m = m
 when-in false h m = absurd h
 
-when-distinct : {B : Type 0} (t : Bool) (l : List B) → Distinct l → Distinct (when t l)
-unfolding when
+when-distinct : {B : Type 0} (t : Bool) (l : List B) → Distinct l → Distinct (keepIf t l)
+unfolding keepIf
 when-distinct true l d = d
 when-distinct false l d = tt
 
@@ -88,21 +89,21 @@ only-distinct m n l d = when-distinct (eqb m n) l d
 pub single : {B : Type 0} (x : B) → Distinct (x ∷ [])
 single x = ((λ m. List·Memᴰ·not-nil m), tt)
 
-pub joined-out : (r j : ℕ) (ls rs : List Tree) {t : Tree} → t ∈ joined r j ls rs
+pub joined-out : (r j : ℕ) (ls rs : List Tree) {t : Tree} → t ∈ combined r j ls rs
     → (a : Tree) × (b : Tree) × a ∈ ls × b ∈ rs × (t ≡ node r j a b)
-unfolding joined
+unfolding combined
 joined-out r j ls rs m =
     let (p, a, e, m₁) = each-out _ ls m in
     let (q, b, e′, m₂) = each-out _ rs m₁ in
     (a, b, at-mem ls p e, at-mem rs q e′, List·Memᴰ·eq-of-singleton m₂)
 
-pub joined-in : (r j : ℕ) (ls rs : List Tree) {a b : Tree} → a ∈ ls → b ∈ rs → node r j a b ∈ joined r j ls rs
-unfolding joined
+pub joined-in : (r j : ℕ) (ls rs : List Tree) {a b : Tree} → a ∈ ls → b ∈ rs → node r j a b ∈ combined r j ls rs
+unfolding combined
 joined-in r j ls rs m n =
     let (p, e) = mem-at m in let (q, e′) = mem-at n in each-in _ ls p e (each-in _ rs q e′ (List·Memᴰ·head refl))
 
-pub joined-distinct : (r j : ℕ) (ls rs : List Tree) → Distinct ls → Distinct rs → Distinct (joined r j ls rs)
-unfolding joined
+pub joined-distinct : (r j : ℕ) (ls rs : List Tree) → Distinct ls → Distinct rs → Distinct (combined r j ls rs)
+unfolding combined
 joined-distinct r j ls rs a b =
     each-distinct _ ls
     (λ p s e. each-distinct _ rs (λ q t f. single (node r j s t)) (λ n m x y z e′ f p′ q′.

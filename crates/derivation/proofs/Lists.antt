@@ -8,7 +8,7 @@ use native.Mathlib.Nat.{not-suc-le-zero, le-of-suc-le-suc}
 use native.Mathlib.Omega.{arith}
 use lib.ListN.{length, take}
 use Rattle.derivation.specs.Derivation.{At}
-use Rattle.derivation.specs.List.{_∈_, Distinct}
+use Rattle.derivation.specs.Rank.{_∈_, Distinct}
 
 -- a member has a number, and an element is a member
 pub mem-at : {A : Type 0} {x : A} {l : List A} → x ∈ l → (n : ℕ) × At l n x

@@ -10,7 +10,8 @@ use Rattle.packing.specs.declared.Sym.{Sym}
 use Rattle.packing.specs.Meaning.{Grammar, Edge}
 use Rattle.derivation.specs.Derivation.{At, Tree, Derives, weight}
 use Rattle.derivation.specs.Order.{order, Before}
-use Rattle.derivation.specs.List.{Number, ranked}
+use Rattle.derivation.specs.Rank.{Number}
+use Rattle.derivation.specs.List.{ranked}
 use Rattle.derivation.proofs.Comparison.{Lawful}
 use Rattle.derivation.proofs.Order.{order-lawful}
 use Rattle.derivation.proofs.Lists.{at-length}
@@ -31,18 +32,18 @@ module _ (g : Grammar) (es : List Edge) (A : Sym) (i k : ℕ) where
   pub number-all : Number (Derives g es A i k) (length (ranked g es A i k))
   unfolding all
   number-all =
-      record { list = all; once = ascending-distinct law all ascending; those = ranked-derives g es A i k; count = refl }
+      record { elements = all; once = ascending-distinct law all ascending; those = ranked-derives g es A i k; number-is = refl }
 
   pub number-before : (t : Tree) (x : ℕ) → At (ranked g es A i k) x t → Number (λ s. Derives g es A i k s × Before g es s t) x
   unfolding all
   number-before t x e = record {
-    list = take x all;
+    elements = take x all;
     once = ascending-distinct law (take x all) (take-ascending law x all ascending);
     those = λ s. (
       (λ m. let (p, q) = take-before law all x t ascending e s .0 m in (ranked-derives g es A i k s .0 p, q)),
       (λ p. take-before law all x t ascending e s .1 (ranked-derives g es A i k s .1 (p .0), p .1)),
     );
-    count = length-take-le x all (omega (arith, at-length all x e));
+    number-is = length-take-le x all (omega (arith, at-length all x e));
   }
 
   -- a tree has one place: the number of trees before it

@@ -10,7 +10,7 @@ use lib.ListN.{length, length-append}
 use Rattle.packing.specs.declared.Sym.{Sym}
 use Rattle.packing.specs.Meaning.{Grammar, Edge}
 use Rattle.derivation.specs.Derivation.{Tree, Derives, by-word, by-pair, ruleWeight, weight, walk}
-use Rattle.derivation.specs.List.{_∈_}
+use Rattle.derivation.specs.Rank.{_∈_}
 use Rattle.derivation.proofs.Lists.{at-length}
 use Rattle.derivation.proofs.Ranges.{All, all-at, Light}
 use Rattle.derivation.proofs.Rows.{leaf-weight, node-weight}

@@ -8,7 +8,7 @@ use native.Mathlib.Omega.{arith}
 use Rattle.packing.specs.declared.Word as W
 use Rattle.packing.specs.Meaning.{Utterance, Candidate, candidate, Edge, edge, slotEdges, edgesFrom, edges}
 use Rattle.derivation.specs.Derivation.{At}
-use Rattle.derivation.specs.List.{_∈_}
+use Rattle.derivation.specs.Rank.{_∈_}
 use Rattle.derivation.proofs.Lists.{none≢some, at-mem, mem-at}
 use Rattle.derivation.proofs.Ranges.{All, all-at, Cheap, AscendingFrom, Ascending}
 

@@ -7,7 +7,8 @@ use mathlib.Core.List.{List, [], _∷_, List·Memᴰ·head, List·Memᴰ·tail, 
 use Prim.Native.Nat.{ℕ, zero, suc, compare, Ordering, Ordering·lt, Ordering·eq, Ordering·gt, compare·zero-zero, compare·zero-suc, compare·suc-zero, compare·suc-suc}
 use lib.ListN.{length, take}
 use Rattle.derivation.specs.Derivation.{At}
-use Rattle.derivation.specs.List.{_∈_, Distinct, Number, put, place, sort}
+use Rattle.derivation.specs.Rank.{_∈_, Distinct, Number}
+use Rattle.derivation.specs.List.{insertBy, insert, sort}
 use Rattle.derivation.proofs.Comparison.{Lawful, turned, turn-gt, lt≢eq}
 use Rattle.derivation.proofs.Lists.{at-mem, mem-of-take, none≢some}
 
@@ -32,12 +33,12 @@ module _ {A : Type 0} {cmp : A → A → Ordering} (law : Lawful cmp) where
   turn-lt x y e = law .turn x y ∙ ap turned e
 
   -- the members of a sorted list
-  place-mem : (x : A) (l : List A) (z : A) → z ∈ place cmp x l ↔ ((z ≡ x) ⊎ (z ∈ l))
-  unfolding place
+  place-mem : (x : A) (l : List A) (z : A) → z ∈ insert cmp x l ↔ ((z ≡ x) ⊎ (z ∈ l))
+  unfolding insert
   place-mem x [] z = (List·Memᴰ·cases-cons, λ m. elim m [ inl e ↦ List·Memᴰ·head e | inr n ↦ absurd (List·Memᴰ·not-nil n) ])
   place-mem x (y ∷ l) z = go (place-mem x l z) (cmp x y) refl
     where
-      go : z ∈ place cmp x l ↔ ((z ≡ x) ⊎ (z ∈ l)) → (o : Ordering) → cmp x y ≡ o → z ∈ put o x y l (place cmp x l)
+      go : z ∈ insert cmp x l ↔ ((z ≡ x) ⊎ (z ∈ l)) → (o : Ordering) → cmp x y ≡ o → z ∈ insertBy o x y l (insert cmp x l)
           ↔ ((z ≡ x) ⊎ (z ∈ (y ∷ l)))
       go r Ordering·lt e = (List·Memᴰ·cases-cons, ⊎-elim List·Memᴰ·head List·Memᴰ·tail)
       go r Ordering·eq e = (inr, ⊎-elim (λ p. List·Memᴰ·head (p ∙ law .same x y e)) (λ m. m))
@@ -57,12 +58,12 @@ module _ {A : Type 0} {cmp : A → A → Ordering} (law : Lawful cmp) where
   )
 
   -- a sorted list ascends
-  place-ascending : (x : A) (l : List A) → Ascending cmp l → Ascending cmp (place cmp x l)
-  unfolding place
+  place-ascending : (x : A) (l : List A) → Ascending cmp l → Ascending cmp (insert cmp x l)
+  unfolding insert
   place-ascending x [] a = ((λ y m. absurd (List·Memᴰ·not-nil m)), tt)
   place-ascending x (y ∷ l) a = go (place-ascending x l (a .1)) (cmp x y) refl
     where
-      go : Ascending cmp (place cmp x l) → (o : Ordering) → cmp x y ≡ o → Ascending cmp (put o x y l (place cmp x l))
+      go : Ascending cmp (insert cmp x l) → (o : Ordering) → cmp x y ≡ o → Ascending cmp (insertBy o x y l (insert cmp x l))
       go r Ordering·lt e = ((λ z m. ⊎-elim (λ p. rw p e) (λ n. law .chain x y z e (a .0 z n)) (List·Memᴰ·cases-cons m)), a)
       go r Ordering·eq e = a
       go r Ordering·gt e = ((λ z m. ⊎-elim (λ p. rw p (turn-gt law x y e)) (a .0 z) (place-mem x l z .0 m)), r)
@@ -123,13 +124,13 @@ module _ {A : Type 0} {cmp : A → A → Ordering} (law : Lawful cmp) where
       rw (e, members-decide l m (a .1) (b .1) down up)
 
   -- sorting a list without repetitions keeps its length
-  place-length : (x : A) (l : List A) → ¬ (x ∈ l) → length (place cmp x l) ≡ suc (length l)
-  unfolding place
+  place-length : (x : A) (l : List A) → ¬ (x ∈ l) → length (insert cmp x l) ≡ suc (length l)
+  unfolding insert
   place-length x [] h = refl
   place-length x (y ∷ l) h = go (place-length x l (λ m. h (List·Memᴰ·tail m))) (cmp x y) refl
     where
-      go : length (place cmp x l) ≡ suc (length l) → (o : Ordering) → cmp x y ≡ o
-          → length (put o x y l (place cmp x l)) ≡ suc (suc (length l))
+      go : length (insert cmp x l) ≡ suc (length l) → (o : Ordering) → cmp x y ≡ o
+          → length (insertBy o x y l (insert cmp x l)) ≡ suc (suc (length l))
       go r Ordering·lt e = refl
       go r Ordering·eq e = absurd (h (List·Memᴰ·head (law .same x y e)))
       go r Ordering·gt e = ap suc r
@@ -149,5 +150,5 @@ module _ {A : Type 0} {cmp : A → A → Ordering} (law : Lawful cmp) where
   -- so a property has one number
   pub number-one : {P : A → Type 0} {m n : ℕ} → Number P m → Number P n → m ≡ n
   number-one a b =
-      sym (a .count) ∙ same-length (a .list) (b .list) (a .once) (b .once)
-      (λ z. ((λ k. b .those z .1 (a .those z .0 k)), (λ k. a .those z .1 (b .those z .0 k)))) ∙ b .count
+      sym (a .number-is) ∙ same-length (a .elements) (b .elements) (a .once) (b .once)
+      (λ z. ((λ k. b .those z .1 (a .those z .0 k)), (λ k. a .those z .1 (b .those z .0 k)))) ∙ b .number-is

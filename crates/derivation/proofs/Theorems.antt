@@ -1,6 +1,6 @@
 -- The list of demand 3 is what document 01 says of it, "The list of demand 3" and "Grammars and derivations": each theorem
 -- below renders a sentence.
--- The terms are those of specs/Derivation, Order and List; `ValidGrammar` and `ValidUtterance` are packing's, of accepted
+-- The terms are those of specs/Derivation, Order, Rank and List; `ValidGrammar` and `ValidUtterance` are packing's, of accepted
 -- blocks.
 use mathlib.Core.Path.{_≡_, refl, sym, ap, _∙_}
 use mathlib.Core.Logic.{_⊎_, inl, inr, _↔_}
@@ -9,12 +9,13 @@ use mathlib.Core.List.{List}
 use Prim.Native.Nat.{ℕ, _+_, _-_, _*_, _≤_, _<_, min, Ordering, Ordering·lt, Ordering·eq, Ordering·gt}
 use native.Mathlib.Omega.{arith}
 use lib.ListN.{length, take, length-map, length-take}
-use Rattle.packing.specs.Meaning.{sym as symbol, Grammar, Utterance, edges, Reading}
+use Rattle.packing.specs.Meaning.{symbolOf, Grammar, Utterance, edges, Reading}
 use Rattle.packing.specs.Valid.{ValidGrammar, ValidUtterance, ValidReading}
 use Rattle.packing.proofs.Widths.{reading-valid}
 use Rattle.derivation.specs.Derivation.{At, Tree, weight, walk, Derivation, reading}
 use Rattle.derivation.specs.Order.{order, Before}
-use Rattle.derivation.specs.List.{Number, Rank, trees, ranked, listing}
+use Rattle.derivation.specs.Rank.{Number, Rank}
+use Rattle.derivation.specs.List.{trees, ranked, listing}
 use Rattle.derivation.specs.Walk.{walkWeight}
 use Rattle.derivation.proofs.Comparison.{Lawful, lt≢eq, turn-gt}
 use Rattle.derivation.proofs.Order.{order-lawful}
@@ -33,15 +34,15 @@ module _ (g : Grammar) (u : Utterance) where
   law = order-lawful (weight g (edges u))
 
   abbrev least-first : List Tree
-  least-first = ranked g (edges u) (symbol 0) 0 (length u)
+  least-first = ranked g (edges u) (symbolOf 0) 0 (length u)
 
   -- "There are finitely many": the enumeration has each once and nothing else
-  pub finitely-many : Number (Derivation g u) (length (trees g (edges u) (symbol 0) 0 (length u)))
+  pub finitely-many : Number (Derivation g u) (length (trees g (edges u) (symbolOf 0) 0 (length u)))
   finitely-many = record {
-    list = trees g (edges u) (symbol 0) 0 (length u);
-    once = trees-once g (edges u) (symbol 0) 0 (length u);
-    those = trees-derive g (edges u) (symbol 0) 0 (length u);
-    count = refl;
+    elements = trees g (edges u) (symbolOf 0) 0 (length u);
+    once = trees-once g (edges u) (symbolOf 0) 0 (length u);
+    those = trees-derive g (edges u) (symbolOf 0) 0 (length u);
+    number-is = refl;
   }
 
   -- "of two different ones, one always comes before the other in the order", never itself, and no circle is possible
@@ -59,11 +60,14 @@ module _ (g : Grammar) (u : Utterance) where
   pub before-chains : (s t v : Tree) → Before g (edges u) s t → Before g (edges u) t v → Before g (edges u) s v
   before-chains s t v = law .chain s t v
 
+  pub never-both : (s t : Tree) → Before g (edges u) s t → Before g (edges u) t s → ⊥
+  never-both s t a b = never-before-itself s (before-chains s t s a b)
+
   -- "A derivation's rank is 1 plus the number of derivations that come before it": it has one
   pub has-rank : (t : Tree) → Derivation g u t → (k : ℕ) × Rank g u t k
   has-rank t d =
-      let (x, e) = derives-place g (edges u) (symbol 0) 0 (length u) d in
-      (1 + x, (x, number-before g (edges u) (symbol 0) 0 (length u) t x e, refl))
+      let (x, e) = derives-place g (edges u) (symbolOf 0) 0 (length u) d in
+      (1 + x, (x, number-before g (edges u) (symbolOf 0) 0 (length u) t x e, refl))
 
   pub one-rank : (t : Tree) (k l : ℕ) → Rank g u t k → Rank g u t l → k ≡ l
   one-rank t k l (m, a, p) (n, b, q) = let same : m ≡ n = number-one law a b in omega arith
@@ -73,7 +77,7 @@ module _ (g : Grammar) (u : Utterance) where
   unfolding listing
   list-length N m all =
       length-map (take N least-first) (reading g u) ∙ length-take N least-first
-      ∙ ap (min N) (number-one law (number-all g (edges u) (symbol 0) 0 (length u)) all)
+      ∙ ap (min N) (number-one law (number-all g (edges u) (symbolOf 0) 0 (length u)) all)
 
   -- "for every k from 1 to m the kth L bytes of the output hold the reading of the derivation with rank k"
   pub list-element : (N k : ℕ) (v : Reading) → At (listing g u N) k v
@@ -85,13 +89,13 @@ module _ (g : Grammar) (u : Utterance) where
       to e =
           let (t, f, p) = map-at (reading g u) (take N least-first) k e in
           let (h, b) = at-take N least-first k t .0 f in
-          let (d, n) = place-number g (edges u) (symbol 0) 0 (length u) t k .0 h in
+          let (d, n) = place-number g (edges u) (symbolOf 0) 0 (length u) t k .0 h in
           (t, d, (k, n, refl), b, p)
 
       from : (t : Tree) × Derivation g u t × Rank g u t (1 + k) × (k < N) × (v ≡ reading g u t) → At (listing g u N) k v
       from (t, d, (x, n, q), b, p) =
           let same : x ≡ k = omega arith in
-          let h = place-number g (edges u) (symbol 0) 0 (length u) t k .1 (d, rw same at n) in
+          let h = place-number g (edges u) (symbolOf 0) 0 (length u) t k .1 (d, rw same at n) in
           rw p (at-map (reading g u) (take N least-first) k (at-take N least-first k t .1 (h, b)))
 
   -- "Two derivations are different if their readings differ": and only then

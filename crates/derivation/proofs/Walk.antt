@@ -18,10 +18,10 @@ use Rattle.packing.specs.declared.Sym.{Sym}
 use Rattle.packing.specs.declared.Word as W
 use Rattle.packing.specs.declared.Rule as R
 use Rattle.packing.specs.declared.Rule.the-variants.{Pair, Word}
-use Rattle.packing.specs.Meaning.{sym as symbol, Grammar, Utterance, Candidate, candidate, edges}
+use Rattle.packing.specs.Meaning.{symbolOf, Grammar, Utterance, Candidate, candidate, edges}
 use Rattle.derivation.specs.Derivation.{At, Tree, node, Derives, by-word, by-pair, weight, walk, Derivation}
-use Rattle.derivation.specs.List.{_∈_}
-use Rattle.derivation.specs.Walk.{State, onward, astray, costOf, leafStep, ruleStep, step, run, ended, walkWeight}
+use Rattle.derivation.specs.Rank.{_∈_}
+use Rattle.derivation.specs.Walk.{State, onward, astray, costOf, leafStep, ruleStep, step, run, finished, walkWeight}
 use Rattle.derivation.proofs.Lists.{none≢some, mem-at, at-length}
 use Rattle.derivation.proofs.Ranges.{all-at, AscendingFrom, Ascending}
 use Rattle.derivation.proofs.Readings.{span}
@@ -158,12 +158,12 @@ module _ (g : Grammar) (u : Utterance) where
   abbrev Sound : List ℕ → Type 0
   Sound numbers =
       (slots : Utterance) (heads : List Sym) (w w′ i : ℕ) → drop i u ≡ slots → i ≤ length u
-      → ended (run (g .rules) (onward slots heads w) numbers) ≡ some w′ → (v : ℕ) × Covers heads i numbers v × (w + v ≡ w′)
+      → finished (run (g .rules) (onward slots heads w) numbers) ≡ some w′ → (v : ℕ) × Covers heads i numbers v × (w + v ≡ w′)
 
   sound-step : (slots : Utterance) (A : Sym) (heads : List Sym) (w w′ i r : ℕ) (numbers : List ℕ) → Sound numbers
       → drop i u ≡ slots → i ≤ length u → (s : State) → Stepped g slots A heads w r s
-      → ended (run (g .rules) s numbers) ≡ some w′ → (v : ℕ) × Covers (A ∷ heads) i (r ∷ numbers) v × (w + v ≡ w′)
-  unfolding ended
+      → finished (run (g .rules) s numbers) ≡ some w′ → (v : ℕ) × Covers (A ∷ heads) i (r ∷ numbers) v × (w + v ≡ w′)
+  unfolding finished
   sound-step slots A heads w w′ i r numbers below e b _ lost h = absurd (none≢some (rw (run-astray (g .rules) numbers) at h))
   sound-step slots A heads w w′ i r numbers below e b _ (paired {B} {C} {v} p room) h =
       let (v′, c, n) = below slots (B ∷ C ∷ heads) (w + v) w′ i e b h in
@@ -174,7 +174,7 @@ module _ (g : Grammar) (u : Utterance) where
       (v + c + v′, cover-word r p there m cover, omega arith)
 
   sound : (numbers : List ℕ) → Sound numbers
-  unfolding run step ended
+  unfolding run step finished
   sound [] [] [] w w′ i e b h =
       let z : length u ≡ i = omega (arith, length-drop i u, ap length e) in
       let n : w + 0 ≡ w′ = omega (arith, some-is h) in
@@ -220,7 +220,7 @@ module _ (g : Grammar) (u : Utterance) where
         ∙ complete d₂ heads (w + v + weight g (edges u) s) numbers b
         ∙ ap (λ (m : ℕ). run (g .rules) (onward (drop k u) heads m) numbers) sum
 
-    whole : {numbers : List ℕ} {v : ℕ} → Covers (symbol 0 ∷ []) 0 numbers v
+    whole : {numbers : List ℕ} {v : ℕ} → Covers (symbolOf 0 ∷ []) 0 numbers v
         → (t : Tree) × Derivation g u t × (walk t ≡ numbers) × (weight g (edges u) t ≡ v)
     whole (also {t = t} d done) = (t, d, sym (append-nil (walk t)), omega arith)
 
@@ -232,7 +232,7 @@ module _ (g : Grammar) (u : Utterance) where
       where
         to : walkWeight (g .rules) u numbers ≡ some w → (t : Tree) × Derivation g u t × (walk t ≡ numbers) × (weight g (edges u) t ≡ w)
         to h =
-            let (v, c, n) = sound numbers u (symbol 0 ∷ []) 0 w 0 refl (omega arith) h in let (t, d, n′, e) = whole c in
+            let (v, c, n) = sound numbers u (symbolOf 0 ∷ []) 0 w 0 refl (omega arith) h in let (t, d, n′, e) = whole c in
             (t, d, n′, omega arith)
 
         from : (t : Tree) × Derivation g u t × (walk t ≡ numbers) × (weight g (edges u) t ≡ w)
@@ -240,7 +240,7 @@ module _ (g : Grammar) (u : Utterance) where
         from (t, d, n, e) =
             let at-end : drop (length u) u ≡ [] = drop-length u in
             let w′ : 0 + weight g (edges u) t ≡ w = omega arith in
-            rw (← n, ← append-nil (walk t)) (ap ended (complete d [] 0 [] (omega arith)) ∙ rw (at-end, w′))
+            rw (← n, ← append-nil (walk t)) (ap finished (complete d [] 0 [] (omega arith)) ∙ rw (at-end, w′))
 
     -- and nothing else
     pub walk-none : (numbers : List ℕ) → ((t : Tree) → Derivation g u t → walk t ≡ numbers → ⊥) → walkWeight (g .rules) u numbers ≡ none

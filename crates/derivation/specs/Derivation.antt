@@ -8,7 +8,7 @@ use Rattle.packing.specs.declared.Sym.{Sym}
 use Rattle.packing.specs.declared.Word as W
 use Rattle.packing.specs.declared.Rule as R
 use Rattle.packing.specs.declared.Rule.the-variants.{Pair, Word}
-use Rattle.packing.specs.Meaning.{sym, Grammar, Utterance, Edge, edge, edges, Reading}
+use Rattle.packing.specs.Meaning.{symbolOf, Grammar, Utterance, Edge, edge, edges, Reading}
 
 -- rules and edges are named by number: a leaf is a word rule and an edge; a node is a pair rule, the place where its parts
 -- meet, and its parts
@@ -50,7 +50,7 @@ walk (node r j s t) = r ∷ walk s ++ walk t
 
 -- a derivation has head 0 and spans all slots
 abbrev pub Derivation : Grammar → Utterance → Tree → Type 0
-Derivation g u t = Derives g (edges u) (sym 0) 0 (length u) t
+Derivation g u t = Derives g (edges u) (symbolOf 0) 0 (length u) t
 
 -- its reading, with its own weight
 unfoldable pub reading : Grammar → Utterance → Tree → Reading

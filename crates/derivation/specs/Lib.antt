@@ -1,4 +1,5 @@
 pub mod Derivation
 pub mod Order
+pub mod Rank
 pub mod List
 pub mod Walk

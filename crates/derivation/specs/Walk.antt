@@ -11,7 +11,7 @@ use Rattle.packing.specs.declared.Sym.{Sym}
 use Rattle.packing.specs.declared.Word as W
 use Rattle.packing.specs.declared.Rule as R
 use Rattle.packing.specs.declared.Rule.the-variants.{Pair, Word}
-use Rattle.packing.specs.Meaning.{sym, Utterance, Candidate, candidate}
+use Rattle.packing.specs.Meaning.{symbolOf, Utterance, Candidate, candidate}
 
 -- how far a walk has come: the slots that are left, the heads of the parts that are to come, the next first, and the weight
 -- so far; or that it is none
@@ -53,13 +53,13 @@ run rules s [] = s
 run rules s (r ∷ numbers) = run rules (step rules s r) numbers
 
 -- a walk ends where no slot is left and no part is to come
-unfoldable pub ended : State → Option ℕ
-ended astray = none
-ended (onward [] [] w) = some w
-ended (onward [] (A ∷ heads) w) = none
-ended (onward (slot ∷ slots) heads w) = none
+unfoldable pub finished : State → Option ℕ
+finished astray = none
+finished (onward [] [] w) = some w
+finished (onward [] (A ∷ heads) w) = none
+finished (onward (slot ∷ slots) heads w) = none
 
 -- the weight of the derivation whose walk these numbers are, if they are one's
 unfoldable pub walkWeight : List R.Rule → Utterance → List ℕ → Option ℕ
-unfolding run ended
-walkWeight rules u numbers = ended (run rules (onward u (sym 0 ∷ []) 0) numbers)
+unfolding run finished
+walkWeight rules u numbers = finished (run rules (onward u (symbolOf 0 ∷ []) 0) numbers)

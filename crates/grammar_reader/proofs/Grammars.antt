@@ -9,9 +9,9 @@ use lib.ListN.{length}
 use Rattle.bits.specs.Bits.{pick}
 use Rattle.packing.specs.Meaning as meaning
 use Rattle.packing.specs.Parse.{Parse, parsed, failed, _⟫_, finish}
-use Rattle.packing.specs.Source.{Source, take}
+use Rattle.packing.specs.Source.{Source, fieldAt}
 use Rattle.packing.specs.Read.{refusalOf}
-use Rattle.packing.specs.Grammar.{size, unfit, rulesFrom, grammarFrom}
+use Rattle.packing.specs.Grammar.{sizeField, unfit, rulesFrom, grammarFrom}
 use Rattle.packing.specs.Flat.{RulesIn}
 use Rattle.packing.specs.declared.Rule.{Rule}
 use Rattle.packing.specs.declared.Cursor.{Cursor}
@@ -44,8 +44,8 @@ rest src z at =
 sizes-first : (src : Source) (at : ℕ) → (sizesFrom src at ⟫ rest src) ≡ grammarFrom src at
 unfolding sizesFrom grammarFrom
 sizes-first src at =
-    after-after (take src at (size 6 32)) _ (rest src)
-    ∙ after-same (take src at (size 6 32)) _ _ (λ S at. after-after (take src at (size 8 200)) _ (rest src) ∙ after-same (take src at (size 8 200)) _ _ (λ W at. after-after (take src at (size 9 256)) _ (rest src)))
+    after-after (fieldAt src at (sizeField 6 32)) _ (rest src)
+    ∙ after-same (fieldAt src at (sizeField 6 32)) _ _ (λ S at. after-after (fieldAt src at (sizeField 8 200)) _ (rest src) ∙ after-same (fieldAt src at (sizeField 8 200)) _ _ (λ W at. after-after (fieldAt src at (sizeField 9 256)) _ (rest src)))
 
 -- what a `SizesRead` says of the parse
 abbrev parseOf : SizesRead → Parse Z.Sizes

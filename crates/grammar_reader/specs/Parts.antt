@@ -4,8 +4,8 @@ use mathlib.Core.List.{List}
 use Prim.Native.Nat.{ℕ, _+_, _*_, _≤_}
 use Rattle.packing.specs.Meaning as meaning
 use Rattle.packing.specs.Parse.{Parse, parsed, failed, _⟫_}
-use Rattle.packing.specs.Source.{Source, take}
-use Rattle.packing.specs.Grammar.{size, grammarFrom}
+use Rattle.packing.specs.Source.{Source, fieldAt}
+use Rattle.packing.specs.Grammar.{sizeField, grammarFrom}
 use Rattle.packing.specs.Flat.{Begins, ruleNumbers}
 use Rattle.grammar_reader.specs.Answer.{sizes, Bounded}
 use Rattle.grammar_reader.specs.declared.Sizes as Z
@@ -15,7 +15,7 @@ use Rattle.grammar_reader.specs.declared.SizesRead.the-variants.{Sizes, 
 -- S, W and R
 unfoldable pub sizesFrom : Source → ℕ → Parse Z.Sizes
 sizesFrom src at =
-    take src at (size 6 32) ⟫ λ S at. take src at (size 8 200) ⟫ λ W at. take src at (size 9 256) ⟫ λ R at.
+    fieldAt src at (sizeField 6 32) ⟫ λ S at. fieldAt src at (sizeField 8 200) ⟫ λ W at. fieldAt src at (sizeField 9 256) ⟫ λ R at.
     parsed (record { symbols = S; words = W; rules = R }) at
 
 abbrev pub sizesOf : Parse Z.Sizes → SizesRead

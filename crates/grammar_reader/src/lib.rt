@@ -1,8 +1,15 @@
 // Grammar blocks and sheets, read into a flat array of numbers that the caller lends: five for each rule.
 use packing::Cursor;
-use packing::Field;
 use packing::Read;
 use packing::Source;
+use packing::format;
+use packing::format::GRAMMAR_SHEET_HEAD;
+use packing::format::MAX_RULES;
+use packing::format::NUMBERS_PER_RULE;
+use packing::format::RULES_LENGTH;
+use packing::format::SIZES_WIDTH;
+use packing::refused;
+use rules_reader::Vocabulary;
 ghost use mathlib.Core.Path.{_≡_};
 ghost use mathlib.Core.List.{List};
 ghost use Prim.Native.Nat.{ℕ, _+_, _^_, _≤_, _<_};
@@ -33,55 +40,22 @@ enum SizesRead {
     Refused(u32),
 }
 
-// The fields of document 01's grammar block and sheet that stand before the rules: the block's kind, S, W and R.
-const KIND: Field = Field {
-    width: 4,
-    least: 1,
-    most: 1,
-    below: 2,
-    above: 2,
-};
-
-const SYMBOLS: Field = Field {
-    width: 6,
-    least: 1,
-    most: 32,
-    below: 3,
-    above: 3,
-};
-
-const WORDS: Field = Field {
-    width: 8,
-    least: 1,
-    most: 200,
-    below: 3,
-    above: 3,
-};
-
-const RULES: Field = Field {
-    width: 9,
-    least: 1,
-    most: 256,
-    below: 3,
-    above: 3,
-};
-
 // S, W and R, from a place of the source.
 fn read_sizes(src: Source, block: &[u8], sheet: &[u32], at: usize) -> SizesRead
     requires { ⌜ at < 2 ^ 16 ⌝ }
-    ensures { λ r. ⌜ (r ≡ sizesOf (sizesFrom (sourceOf src (now (block .entry)) (now (sheet .entry))) at)) × SizesNear (at + 23) r ⌝ }
+    ensures { λ r. do ⌜ (r ≡ sizesOf (sizesFrom (sourceOf src (now (block .entry)) (now (sheet .entry))) at)) × SizesNear (at + (← ⟦SIZES_WIDTH⟧ .entry)) r ⌝ }
 {
-    let read = packing::take(src, block, sheet, at, SYMBOLS);
+    let read = packing::field_at(src, block, sheet, at, format::SYMBOLS_FIELD);
     let Read::Number(symbols, c) = read else {
         return SizesRead::Refused(packing::refusal(read));
     };
     let at = c.at;
-    let read = packing::take(src, block, sheet, at, WORDS);
+    let read = packing::field_at(src, block, sheet, at, format::WORDS_FIELD);
     let Read::Number(words, c) = read else {
         return SizesRead::Refused(packing::refusal(read));
     };
     let at = c.at;
-    let read = packing::take(src, block, sheet, at, RULES);
+    let read = packing::field_at(src, block, sheet, at, format::RULES_FIELD);
     let Read::Number(rules, c) = read else {
         return SizesRead::Refused(packing::refusal(read));
     };
@@ -95,18 +69,18 @@ fn read_sizes(src: Source, block: &[u8], sheet: &[u32], at: usize) -> SizesRead
 
 // Whether a sheet has not the numbers of its grammar's rules.
 fn unfit(src: Source, sheet: &[u32], rules: u32) -> bool
-    requires { ⌜ rules ≤ 256 ⌝ }
+    requires { do ⌜ rules ≤ (← ⟦MAX_RULES⟧) ⌝ }
     ensures { λ r. ⌜ ((block : List ℕ) → r ≡ grammar.unfit (sourceOf src block (now (sheet .entry))) rules) ⌝ }
 {
     match src {
         Source::Block(_) => false,
-        Source::Sheet => sheet.len() != 3 + 5 * (rules as usize),
+        Source::Sheet => sheet.len() != GRAMMAR_SHEET_HEAD + NUMBERS_PER_RULE * (rules as usize),
     }
 }
 
 // S, W and R and the rules, from a place of the source.
 fn read_grammar(src: Source, block: &[u8], sheet: &[u32], at: usize, rules: &mut [u32]) -> SizesRead
-    requires { ⌜ (at < 2 ^ 7) × (1280 ≤ length (now rules)) ⌝ }
+    requires { do ⌜ (at < 2 ^ 7) × ((← ⟦RULES_LENGTH⟧) ≤ length (now rules)) ⌝ }
     ensures { λ r. ⌜ GrammarTold (sourceOf src (now (block .entry)) (now (sheet .entry))) at r (now (rules .exit)) ⌝ }
 {
     let head = read_sizes(src, block, sheet, at);
@@ -114,19 +88,14 @@ fn read_grammar(src: Source, block: &[u8], sheet: &[u32], at: usize, rules: &mut
         return head;
     };
     if unfit(src, sheet, sizes.rules) {
-        return SizesRead::Refused(41);
+        return SizesRead::Refused(refused::SHEET_COUNT);
     }
     let at = c.at;
-    let body = rules_reader::read_rules(
-        src,
-        block,
-        sheet,
-        at,
-        sizes.symbols,
-        sizes.words,
-        sizes.rules,
-        rules,
-    );
+    let v = Vocabulary {
+        symbols: sizes.symbols,
+        words: sizes.words,
+    };
+    let body = rules_reader::read_rules(src, block, sheet, at, v, sizes.rules, rules);
     let Read::Number(_, c) = body else {
         return SizesRead::Refused(packing::refusal(body));
     };
@@ -135,12 +104,12 @@ fn read_grammar(src: Source, block: &[u8], sheet: &[u32], at: usize, rules: &mut
 
 // The meaning of a grammar block: its sizes, and its rules in the array.
 pub fn read_block(block: &[u8], rules: &mut [u32]) -> GrammarRead
-    requires { ⌜ 1280 ≤ length (now rules) ⌝ }
+    requires { do ⌜ (← ⟦RULES_LENGTH⟧) ≤ length (now rules) ⌝ }
     ensures { λ r. ⌜ (r ≡ answerOf (grammarBlock (now (block .entry)))) × RulesIn (grammarBlock (now (block .entry))) (now (rules .exit)) × InBounds r ⌝ }
 {
     let no_sheet = [0u32; 1];
-    let src = Source::Block(1);
-    let kind = packing::take(src, block, &no_sheet, 0, KIND);
+    let src = Source::Block(refused::GRAMMAR_END);
+    let kind = packing::field_at(src, block, &no_sheet, 0, format::GRAMMAR_KIND_FIELD);
     let Read::Number(_, c) = kind else {
         return GrammarRead::Refused(packing::refusal(kind));
     };
@@ -153,18 +122,18 @@ pub fn read_block(block: &[u8], rules: &mut [u32]) -> GrammarRead
             if bit_reader::zero_from(block, at) {
                 return GrammarRead::Grammar(sizes);
             }
-            GrammarRead::Refused(7)
+            GrammarRead::Refused(refused::GRAMMAR_FILL)
         }
     }
 }
 
 // The meaning of a grammar sheet: its sizes, and its rules in the array.
 pub fn read_sheet(sheet: &[u32], rules: &mut [u32]) -> GrammarRead
-    requires { ⌜ 1280 ≤ length (now rules) ⌝ }
+    requires { do ⌜ (← ⟦RULES_LENGTH⟧) ≤ length (now rules) ⌝ }
     ensures { λ r. ⌜ (r ≡ answerOf (grammarSheet (now (sheet .entry)))) × RulesIn (grammarSheet (now (sheet .entry))) (now (rules .exit)) × InBounds r ⌝ }
 {
-    if sheet.len() < 3 {
-        return GrammarRead::Refused(41);
+    if sheet.len() < GRAMMAR_SHEET_HEAD {
+        return GrammarRead::Refused(refused::SHEET_COUNT);
     }
     let no_block = [0u8; 1];
     let read = read_grammar(Source::Sheet, &no_block, sheet, 0, rules);

@@ -3,6 +3,9 @@ use arrays::number_at;
 use grammar_reader::GrammarRead;
 use libc::STDOUT_FILENO;
 use listing::Listed;
+use packing::format::RULES_LENGTH;
+use packing::format::SLOTS_LENGTH;
+use packing::format::WALK_LENGTH;
 use reading_reader::ReadingRead;
 use utterance_reader::UtteranceRead;
 ghost use Prim.Native.Nat.{_+_, _-_, _*_, _≤_};
@@ -10,6 +13,15 @@ ghost use lib.ListN.{length};
 ghost use Rattle.io.specs.Counts.{Counts};
 ghost use Rattle.packing.specs.Reading.{readingLength};
 ghost use Rattle.lister.specs.Lines.{ShapeOf, Bounded, Line};
+
+// What document 01 has the lister take of each file and lend to the listing, and the number of readings that it asks for.
+const BLOCK_BYTES: usize = 2048;
+
+const WORK_NUMBERS: usize = 8192;
+
+const OUTPUT_BYTES: usize = 1024;
+
+const WANTED: u32 = 8;
 
 // n and R, on which the length of a reading depends.
 struct Shape {
@@ -34,12 +46,12 @@ fn read_file(path: &[u8], bytes: &mut [u8]) -> usize
 fn shape_of(grammar: &[u8], utterance: &[u8]) -> Shape
     ensures { λ s. ⌜ ShapeOf (now (grammar .entry)) (now (utterance .entry)) s ⌝ }
 {
-    let mut rules = [0u32; 1280];
+    let mut rules = [0u32; RULES_LENGTH];
     let read = grammar_reader::read_block(grammar, &mut rules);
     let GrammarRead::Grammar(sizes) = read else {
         return Shape { slots: 1, rules: 1 };
     };
-    let mut slots = [0u32; 360];
+    let mut slots = [0u32; SLOTS_LENGTH];
     let read = utterance_reader::read_block(utterance, sizes.words, &mut slots);
     let UtteranceRead::Utterance(found) = read else {
         return Shape { slots: 1, rules: 1 };
@@ -99,7 +111,7 @@ fn print_lines(out: &[u8], m: usize, s: Shape)
     requires { ⌜ (Bounded s) × (m * readingLength (s .slots) (s .rules) ≤ length (now out)) ⌝ }
 {
     let nodes = 2 * s.slots - 1;
-    let mut walk = [0u32; 48];
+    let mut walk = [0u32; WALK_LENGTH];
     for k in 0..m {
         let weight = line_of(out, k, s, &mut walk);
         print_line(k + 1, weight as usize, &walk, nodes);
@@ -107,14 +119,14 @@ fn print_lines(out: &[u8], m: usize, s: Shape)
 }
 
 fn main() {
-    let mut grammar = [0u8; 2048];
-    let mut utterance = [0u8; 2048];
+    let mut grammar = [0u8; BLOCK_BYTES];
+    let mut utterance = [0u8; BLOCK_BYTES];
     let g = read_file(b"grammar.bin", &mut grammar);
     let u = read_file(b"utterance.bin", &mut utterance);
     let s = shape_of(&grammar[..g], &utterance[..u]);
-    let mut work = [0u32; 8192];
-    let mut out = [0u8; 1024];
-    match listing::listing(&grammar[..g], &utterance[..u], 8, &mut work, &mut out) {
+    let mut work = [0u32; WORK_NUMBERS];
+    let mut out = [0u8; OUTPUT_BYTES];
+    match listing::listing(&grammar[..g], &utterance[..u], WANTED, &mut work, &mut out) {
         Listed::Found(m) => {
             print(b"readings");
             print_further(m);

@@ -17,11 +17,12 @@ use Rattle.packing.specs.Valid.{ValidGrammar, ValidUtterance}
 use Rattle.packing.proofs.Parse.{granted, accepted-else, accepted-is}
 use Rattle.packing.proofs.Widths.{length-reading}
 use Rattle.derivation.specs.Derivation.{At, Derivation, reading}
-use Rattle.derivation.specs.List.{Number, listing}
+use Rattle.derivation.specs.Rank.{Number}
+use Rattle.derivation.specs.List.{listing}
 use Rattle.derivation.proofs.Lists.{map-at}
 use Rattle.derivation.proofs.Ranges.{All}
 use Rattle.derivation.proofs.Theorems.{list-length, list-element, nodes, greatest-weight}
-use Rattle.listing.specs.Listing.{tableSize, tooHeavy, listed, list, answerOf}
+use Rattle.listing.specs.Listing.{tableSize, tooHeavy, listed, list, listedOf}
 use Rattle.listing.specs.declared.Listed.{Listed}
 use Rattle.listing.specs.declared.Listed.the-variants.{Found}
 use Rattle.listing.proofs.Joined.{Sized}
@@ -81,9 +82,9 @@ accepted-few grammar utterance N work out e =
     let e₅ = accepted-else (tooHeavy (listing g u N)) 24 _ e₄ .1 in
     rw (← accepted-is e₅) (simp (length-map, length-take) (omega arith))
 
-pub found-few : (grammar utterance : List ℕ) (N work out : ℕ) {r : Listed} {m : ℕ} → r ≡ answerOf (list grammar utterance N work out) → r ≡ Found m → m ≤ N
+pub found-few : (grammar utterance : List ℕ) (N work out : ℕ) {r : Listed} {m : ℕ} → r ≡ listedOf (list grammar utterance N work out) → r ≡ Found m → m ≤ N
 found-few grammar utterance N work out {r} {m} p q = go (list grammar utterance N work out) refl p
   where
-    go : (v : Verdict (List (List ℕ))) → list grammar utterance N work out ≡ v → r ≡ answerOf v → m ≤ N
+    go : (v : Verdict (List (List ℕ))) → list grammar utterance N work out ≡ v → r ≡ listedOf v → m ≤ N
     go (accepted ls) e a = let same : length ls ≡ m = cc in rw (← same) (accepted-few grammar utterance N work out e)
     go (refused n) e a = let z : _≡_ {A = ℕ} 0 1 = cc in absurd (omega arith)

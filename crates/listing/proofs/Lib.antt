@@ -5,3 +5,4 @@ pub mod Blocks
 pub mod Written
 pub mod Outcome
 pub mod Demand3
+pub mod Refused

@@ -2,8 +2,7 @@
 -- is what is due.
 use mathlib.Core.Path.{_≡_, refl, sym, ap, _∙_}
 use mathlib.Core.List.{List}
-use Prim.Native.Nat.{ℕ, _+_, _*_, _/_, _≤_}
-use native.Mathlib.Omega.{arith}
+use Prim.Native.Nat.{ℕ, _*_}
 use lib.ListN.{length, replicate}
 use Rattle.packing.specs.Meaning.{Grammar, Utterance, edges}
 use Rattle.packing.specs.Parse.{accepted, refused}
@@ -16,17 +15,15 @@ use Rattle.grammar_reader.specs.Answer.{sizes}
 use Rattle.grammar_reader.specs.declared.Sizes.{Sizes}
 use Rattle.utterance_edges.specs.Edges.{edgesIn}
 use Rattle.utterance_edges.proofs.Edges.{edges-in}
-use Rattle.derivation.proofs.Ranges.{valid-rules, valid-sizes, valid-slots}
-use Rattle.chart_candidates.specs.Candidates.{Indexed}
-use Rattle.chart_theory.proofs.Accepted.{Holds, dims, chart-holds}
-use Rattle.chart_index.specs.Index.{indexOf}
-use Rattle.chart_index.proofs.Index.{indexed}
+use Rattle.chart_table.specs.declared.Layout.{Layout}
+use Rattle.chart.specs.Chart.{layOut}
+use Rattle.chart_theory.proofs.Accepted.{Holds, layout, chart-holds}
 use Rattle.listing.specs.Listing.{tableSize, joined, listed, list}
 use Rattle.packing.specs.Reading.{readingLength}
 use Rattle.listing.specs.Model.{shortage, Filled, Promised, UtteranceListed, GrammarListed}
 use Rattle.listing.specs.declared.Listed.{Listed}
 use Rattle.listing.specs.declared.Listed.the-variants.{Found, Refused}
-use Rattle.listing.proofs.Sizes.{Met, all-met, short, edges-few}
+use Rattle.listing.proofs.Sizes.{Met, all-met, short}
 use Rattle.listing.proofs.Joined.{length-joined}
 use Rattle.listing.proofs.Accepted.{blocks, sized-blocks, listing-accepts}
 use Rattle.listing.proofs.Blocks.{count-found, blocks-written}
@@ -34,15 +31,14 @@ use Rattle.listing.proofs.Blocks.{count-found, blocks-written}
 -- the table holds the N least readings
 module _ (g : Grammar) (u : Utterance) (okg : ValidGrammar g) (oku : ValidUtterance (g .words) u) (N : ℕ) (work out : List ℕ)
     (met : Met (g .symbols) (length (g .rules)) (length u) N (length work) (length out)) where
-  readings-due : (rules array index : List ℕ) (m : ℕ) (work′ out′ : List ℕ) → Begins (ruleNumbers g) rules → Begins (edgeNumbers (edges u)) array
-      → Indexed rules array index (g .symbols) (length (g .rules)) (length (edges u)) (length u)
-      → Filled rules (length (g .rules)) array index (dims g u N) (length u) work out m work′ out′
+  readings-due : (rules array : List ℕ) (m : ℕ) (work′ out′ : List ℕ) → Begins (ruleNumbers g) rules → Begins (edgeNumbers (edges u)) array
+      → Filled rules (length (g .rules)) array (length (edges u)) (layout g u N) work out m work′ out′
       → Promised (listed g u N (length work) (length out)) work out (Found m) work′ out′
-  unfolding tableSize
-  readings-due rules array index m work′ out′ begun begun′ indexed filled =
+  unfolding tableSize layOut
+  readings-due rules array m work′ out′ begun begun′ filled =
       let R = length (g .rules) in
       let ls = blocks g u N in
-      let made = chart-holds g u N okg oku (met .positive) (met .few) begun begun′ indexed (length work) (met .table) in
+      let made = chart-holds g u N okg oku (met .positive) (met .few) rules array begun begun′ (length work) (met .table) in
       let holds : Holds g u N rules (filled .table) m = rw (filled .number, filled .made) made in
       let count = count-found g u oku N rules (filled .table) m holds in
       let size : length (joined ls) ≡ m * readingLength (length u) R =
@@ -63,24 +59,15 @@ module _ (rules : List ℕ) (z : Sizes) (slots : List ℕ) (n N : ℕ) (work out
       let is = rw (ez, en) at e in
       rw (short g u N (length work) (length out) (λ none. short-of (is ∙ none)), is) (refl, (refl, refl))
 
-  pub utterance-found : (array index₀ : List ℕ) {index : List ℕ} {count cells m : ℕ} {work′ out′ : List ℕ}
-      → shortage (z .symbols) (z .rules) n N (length work) (length out) ≡ 0 → cells ≡ z .symbols * (n * (n + 1) / 2)
+  pub utterance-found : (array : List ℕ) {count m : ℕ} {d : Layout} {work′ out′ : List ℕ}
+      → shortage (z .symbols) (z .rules) n N (length work) (length out) ≡ 0 → d ≡ layOut (z .symbols) n N
       → count ≡ length (edgesIn slots n) → Begins (edgeNumbers (edgesIn slots n)) array
-      → 1024 ≤ length index₀ → index ≡ indexOf rules (z .rules) (z .symbols) array count n index₀
-      → Filled rules (z .rules) array index (record { symbols = z .symbols; cap = N; cells = cells }) n work out m work′ out′
-      → UtteranceListed rules z slots n N work out (Found m) work′ out′
-  utterance-found array index₀ {index} {m = m} {work′ = work′} {out′ = out′} none e-cells e-count has-edges long made filled g u okg oku ez en begun begun′ =
-      let S = g .symbols in
-      let R = length (g .rules) in
-      let E = length (edges u) in
-      let met = all-met S R (length u) N (length work) (length out) (rw (ez, en) at none) in
+      → Filled rules (z .rules) array count d work out m work′ out′ → UtteranceListed rules z slots n N work out (Found m) work′ out′
+  utterance-found array {m = m} {work′ = work′} {out′ = out′} none e-layout e-count has-edges filled g u okg oku ez en begun begun′ =
+      let met = all-met (g .symbols) (length (g .rules)) (length u) N (length work) (length out) (rw (ez, en) at none) in
       let es : edgesIn slots (length u) ≡ edges u = edges-in (g .words) u slots oku begun′ in
-      let few = valid-slots (g .words) u oku in
-      let e : index ≡ indexOf rules R S array E (length u) index₀ = rw (e-count, ez, en, es) at made in
-      let is = indexed rules R S array E (length u) index₀ (valid-rules g okg) (valid-sizes g okg .1)
-      (rw (← es) (omega (arith, edges-few slots few))) (omega arith) long in
-      readings-due g u okg oku N work out met rules array index m work′ out′ begun (rw (en, es) at has-edges) (rw e is)
-      (rw (e-cells, ez, en) at filled)
+      readings-due g u okg oku N work out met rules array m work′ out′ begun (rw (en, es) at has-edges)
+      (rw (e-layout, e-count, ez, en, es) at filled)
 
 -- where the rules of an accepted grammar are in an array
 module _ (rules : List ℕ) (z : Sizes) (utterance : List ℕ) (N : ℕ) (work out : List ℕ) where

@@ -1,5 +1,5 @@
 -- The sizes that the listing computes with are small, and what is short decides between a refusal and acceptance.
-use mathlib.Core.Path.{_≡_, refl}
+use mathlib.Core.Path.{_≡_, refl, _∙_}
 use mathlib.Core.Bool.{Bool, true, false}
 use mathlib.Core.List.{List}
 use Prim.Native.Nat.{ℕ, zero, suc, _+_, _*_, _/_, _≤_}
@@ -15,23 +15,20 @@ use Rattle.packing.specs.Flat.{slotsBy}
 use Rattle.packing.proofs.Widths.{length-small}
 use Rattle.utterance_edges.specs.Edges.{candidatesAt, slotsEdges, edgesIn}
 use Rattle.utterance_edges.proofs.Edges.{length-candidate-edges}
+use Rattle.chart_table.specs.declared.Layout.{Layout}
+use Rattle.chart.specs.Chart.{layOut}
 use Rattle.listing.specs.Listing.{tableSize, listed}
 use Rattle.packing.specs.Reading.{readingLength}
 use Rattle.listing.specs.Model.{firstOf, shortage}
 
-pub places-small : {n : ℕ} → n ≤ 24 → n * (n + 1) ≤ 600
-places-small {n} h = mul-le-mul {n₂ = 24} {m₂ = 25} h (omega arith)
-
-pub cells-small : {S n : ℕ} → S ≤ 32 → n ≤ 24 → S * (n * (n + 1) / 2) ≤ 9600
-cells-small {S} {n} h h′ = mul-le-mul {n₂ = 32} {m₂ = 300} h (omega (arith, places-small h′))
-
 -- four numbers for each rank of each cell
-pub table-is : (S n N : ℕ) {cells : ℕ} → cells ≡ S * (n * (n + 1) / 2) → 4 * cells * N ≡ tableSize S n N
-unfolding tableSize
-table-is S n N e = rw (e, mul-assoc 4 S (n * (n + 1) / 2))
+pub table-is : (S n N : ℕ) {d : Layout} {r : ℕ} → d ≡ layOut S n N → r ≡ 4 * d .cells * d .ranks → r ≡ tableSize S n N
+unfolding tableSize layOut
+table-is S n N e f = f ∙ rw (e, mul-assoc 4 S (n * (n + 1) / 2))
 
-pub table-small : {cells N : ℕ} → cells ≤ 9600 → N ≤ 256 → 4 * cells * N ≤ 9830400
-table-small h h′ = mul-le-mul {n₂ = 38400} {m₂ = 256} (omega arith) h′
+pub layout-is : (S n N : ℕ) {d : Layout} → d ≡ layOut S n N → (d .places ≡ n) × (d .ranks ≡ N)
+unfolding layOut
+layout-is S n N e = rw e (refl, refl)
 
 pub output-small : {n R N : ℕ} → n ≤ 24 → R ≤ 256 → N ≤ 256 → N * readingLength n R ≤ 13312
 output-small {n} {R} h h′ h″ = mul-le-mul {n₂ = 256} {m₂ = 52} h″ (length-small n R h h′)

@@ -45,9 +45,9 @@ joined [] = []
 joined (l ∷ ls) = l ++ joined ls
 
 -- the answer, the output afterwards, and the work table afterwards; a refusal changes nothing
-abbrev pub answerOf : Verdict (List (List ℕ)) → Listed
-answerOf (accepted ls) = Found (length ls)
-answerOf (refused n) = Refused n
+abbrev pub listedOf : Verdict (List (List ℕ)) → Listed
+listedOf (accepted ls) = Found (length ls)
+listedOf (refused n) = Refused n
 
 abbrev pub outputAfter : Verdict (List (List ℕ)) → List ℕ → List ℕ
 outputAfter (accepted ls) out = joined ls ++ drop (length (joined ls)) out

@@ -1,20 +1,22 @@
 // The listing of the N least readings.
-use chart_table::Dims;
-use chart_table::cell_of;
-use chart_table::clearing::clear;
-use chart_table::weight_at;
-use chart_table::zero;
+use chart_table::Layout;
+use chart_table::MOST_RANKS;
 use grammar_reader::GrammarRead;
 use grammar_reader::Sizes;
-use packing::Sym;
+use packing::format::EDGES_LENGTH;
+use packing::format::RULES_LENGTH;
+use packing::format::SLOTS_LENGTH;
+use packing::format::WALK_LENGTH;
+use packing::refused;
 use utterance_reader::UtteranceRead;
 ghost use mathlib.Core.Path.{_≡_};
 ghost use mathlib.Core.List.{_++_};
 ghost use Prim.Native.Nat.{_+_, _-_, _*_, _/_, _≤_, _<_};
 ghost use lib.ListN.{length, drop};
 ghost use Rattle.grammar_reader.specs.Answer.{Bounded};
-ghost use Rattle.chart_table.specs.Table.{Small};
-ghost use Rattle.listing.specs.Listing.{list, answerOf, outputAfter, workAfter};
+ghost use Rattle.chart_table.specs.Table.{Sized};
+ghost use Rattle.listing.specs.Listing.{list, listedOf, outputAfter, workAfter};
+ghost use Rattle.listing.specs.Demand3.{Demand3};
 ghost use Rattle.packing.specs.Reading.{readingLength};
 ghost use Rattle.listing.specs.Model.{shortage, blockAt, blocksAt, Filled, UtteranceListed, GrammarListed};
 
@@ -24,13 +26,8 @@ pub enum Listed {
     Refused(u32),
 }
 
-// The number of cells: each symbol over each span of n slots.
-fn cells_of(symbols: usize, n: usize) -> usize
-    requires { ⌜ (symbols ≤ 32) × (n ≤ 24) ⌝ }
-    ensures { λ r. ⌜ (r ≡ symbols * (n * (n + 1) / 2)) × (r ≤ 9600) ⌝ }
-{
-    symbols * (n * (n + 1) / 2)
-}
+// The most readings that can be asked for: as many as ranks are kept.
+const MAX_WANTED: u32 = MOST_RANKS as u32;
 
 // The refusal of what is asked for or lent, 0 where nothing is short.
 fn shortage(symbols: usize, rules: usize, n: usize, wanted: u32, work: usize, out: usize) -> u32
@@ -38,58 +35,41 @@ fn shortage(symbols: usize, rules: usize, n: usize, wanted: u32, work: usize, ou
     ensures { λ r. ⌜ r ≡ shortage symbols rules n wanted work out ⌝ }
 {
     if wanted < 1 {
-        return 21;
+        return refused::LISTING_WANTED;
     }
-    if 256 < wanted {
-        return 21;
+    if MAX_WANTED < wanted {
+        return refused::LISTING_WANTED;
     }
     let ranks = wanted as usize;
-    if work < 4 * cells_of(symbols, n) * ranks {
-        return 22;
+    if work < chart::table_numbers(chart::lay_out(symbols, n, ranks)) {
+        return refused::LISTING_WORK;
     }
     if out < ranks * reading_writer::reading_length(n, rules) {
-        return 23;
+        return refused::LISTING_OUTPUT;
     }
     0
 }
 
-// The weight of a tree from its weight plus 1.
-fn less_one(x: usize) -> u32
-    requires { ⌜ x < 4294967296 ⌝ }
-    ensures { λ r. ⌜ r ≡ x - 1 ⌝ }
+// The reading of a rank of the root, in front of what stands in `out` beyond it.
+fn write_rank(t: &[u32], rules: &[u32], count: usize, d: Layout, x: usize, out: &mut [u8])
+    requires { ⌜ (Sized d) × (1 ≤ d .places) × (d .places ≤ 24) × (1 ≤ count) × (count ≤ 256) × (x < d .ranks) × (readingLength (d .places) count ≤ length (now out)) ⌝ }
+    ensures { λ _. ⌜ now (out .exit) ≡ blockAt (now (t .entry)) (now (rules .entry)) d count x ++ drop (readingLength (d .places) count) (now (out .entry)) ⌝ }
 {
-    if x == 0 { 0 } else { (x - 1) as u32 }
-}
-
-// The reading of rank x of the whole span, in front of what stands in `out` beyond it.
-fn write_rank(t: &[u32], rules: &[u32], count: usize, d: Dims, n: usize, x: usize, out: &mut [u8])
-    requires { ⌜ (Small d 0 n) × (n ≤ 24) × (1 ≤ count) × (count ≤ 256) × (x < d .cap) × (readingLength n count ≤ length (now out)) ⌝ }
-    ensures { λ _. ⌜ now (out .exit) ≡ blockAt (now (t .entry)) (now (rules .entry)) d n count x ++ drop (readingLength n count) (now (out .entry)) ⌝ }
-{
-    let start = Sym(0);
-    let mut walk = [0u32; 48];
-    chart_walk::spell(t, rules, d, start, 0, n, x, &mut walk);
-    let stored = weight_at(t, d, cell_of(d, start, 0, n), x);
-    reading_writer::write_reading(out, n, count, less_one(stored), &walk);
+    let n = d.places;
+    let mut walk = [0u32; WALK_LENGTH];
+    let weight = chart::trace_root(t, rules, d, x, &mut walk);
+    reading_writer::write_reading(out, n, count, weight, &walk);
 }
 
 // The readings of the first m ranks, one after another.
-fn write_readings(
-    t: &[u32],
-    rules: &[u32],
-    count: usize,
-    d: Dims,
-    n: usize,
-    m: usize,
-    out: &mut [u8],
-)
-    requires { ⌜ (Small d 0 n) × (n ≤ 24) × (1 ≤ count) × (count ≤ 256) × (m ≤ d .cap) × (m * readingLength n count ≤ length (now out)) ⌝ }
-    ensures { λ _. ⌜ now (out .exit) ≡ blocksAt (now (t .entry)) (now (rules .entry)) d n count m ++ drop (m * readingLength n count) (now (out .entry)) ⌝ }
+fn write_readings(t: &[u32], rules: &[u32], count: usize, d: Layout, m: usize, out: &mut [u8])
+    requires { ⌜ (Sized d) × (1 ≤ d .places) × (d .places ≤ 24) × (1 ≤ count) × (count ≤ 256) × (m ≤ d .ranks) × (m * readingLength (d .places) count ≤ length (now out)) ⌝ }
+    ensures { λ _. ⌜ now (out .exit) ≡ blocksAt (now (t .entry)) (now (rules .entry)) d count m ++ drop (m * readingLength (d .places) count) (now (out .entry)) ⌝ }
 {
-    let size = reading_writer::reading_length(n, count);
+    let size = reading_writer::reading_length(d.places, count);
     for x in 0..m {
         let at = x * size;
-        write_rank(t, rules, count, d, n, x, &mut out[at..]);
+        write_rank(t, rules, count, d, x, &mut out[at..]);
     }
 }
 
@@ -98,20 +78,17 @@ fn fill(
     rules: &[u32],
     count: usize,
     edges: &[u32],
-    index: &[u32],
-    d: Dims,
-    n: usize,
+    arcs: usize,
+    d: Layout,
     work: &mut [u32],
     out: &mut [u8],
 ) -> usize
-    requires { ⌜ (Small d 0 n) × (n ≤ 24) × (1 ≤ count) × (count ≤ 256) × (d .cap * readingLength n count ≤ length (now out)) ⌝ }
-    ensures { λ r. ⌜ Filled (now (rules .entry)) count (now (edges .entry)) (now (index .entry)) d n (now (work .entry)) (now (out .entry)) r (now (work .exit)) (now (out .exit)) ⌝ }
+    requires { ⌜ (Sized d) × (1 ≤ d .places) × (d .places ≤ 24) × (1 ≤ count) × (count ≤ 256) × (arcs ≤ 256) × (d .ranks * readingLength (d .places) count ≤ length (now out)) ⌝ }
+    ensures { λ r. ⌜ Filled (now (rules .entry)) count (now (edges .entry)) arcs d (now (work .entry)) (now (out .entry)) r (now (work .exit)) (now (out .exit)) ⌝ }
 {
-    zero(work);
-    chart_search::list(work, rules, edges, index, d, n);
-    let m = chart_table::found(&work[..], d, cell_of(d, Sym(0), 0, n));
-    write_readings(&work[..], rules, count, d, n, m, out);
-    clear(work, d);
+    let m = chart::enumerate(work, rules, count, edges, arcs, d);
+    write_readings(&work[..], rules, count, d, m, out);
+    chart::clear_table(work, d);
     m
 }
 
@@ -134,16 +111,10 @@ fn list_utterance(
     if refusal != 0 {
         return Listed::Refused(refusal);
     }
-    let mut edges = [0u32; 672];
+    let mut edges = [0u32; EDGES_LENGTH];
     let edge_count = utterance_edges::edges_of(slots, n, &mut edges);
-    let mut index = [0u32; 1024];
-    chart_index::make_index(rules, count, symbols, &edges, edge_count, n, &mut index);
-    let d = Dims {
-        symbols: symbols,
-        cap: wanted as usize,
-        cells: cells_of(symbols, n),
-    };
-    Listed::Found(fill(rules, count, &edges, &index, d, n, work, out))
+    let d = chart::lay_out(symbols, n, wanted as usize);
+    Listed::Found(fill(rules, count, &edges, edge_count, d, work, out))
 }
 
 // The listing of an utterance block under an accepted grammar.
@@ -158,7 +129,7 @@ fn list_grammar(
     requires { ⌜ Bounded sizes ⌝ }
     ensures { λ r. ⌜ GrammarListed (now (rules .entry)) sizes (now (utterance .entry)) wanted (now (work .entry)) (now (out .entry)) r (now (work .exit)) (now (out .exit)) ⌝ }
 {
-    let mut slots = [0u32; 360];
+    let mut slots = [0u32; SLOTS_LENGTH];
     match utterance_reader::read_block(utterance, sizes.words, &mut slots) {
         UtteranceRead::Refused(n) => Listed::Refused(n),
         UtteranceRead::Utterance(found) => {
@@ -176,11 +147,12 @@ pub fn listing(
     work: &mut [u32],
     out: &mut [u8],
 ) -> Listed
-    ensures { λ r. ⌜ r ≡ answerOf (list (now (grammar .entry)) (now (utterance .entry)) wanted (length (now (work .entry))) (length (now (out .entry)))) ⌝ }
+    ensures { λ r. ⌜ r ≡ listedOf (list (now (grammar .entry)) (now (utterance .entry)) wanted (length (now (work .entry))) (length (now (out .entry)))) ⌝ }
     ensures { λ r. ⌜ now (work .exit) ≡ workAfter (list (now (grammar .entry)) (now (utterance .entry)) wanted (length (now (work .entry))) (length (now (out .entry)))) (now (work .entry)) ⌝ }
     ensures { λ r. ⌜ now (out .exit) ≡ outputAfter (list (now (grammar .entry)) (now (utterance .entry)) wanted (length (now (work .entry))) (length (now (out .entry)))) (now (out .entry)) ⌝ }
+    ensures { λ r. ⌜ Demand3 (now (grammar .entry)) (now (utterance .entry)) wanted (now (work .entry)) (now (out .entry)) (λ m. r ≡ Listed.Found m) (now (work .exit)) (now (out .exit)) ⌝ }
 {
-    let mut rules = [0u32; 1280];
+    let mut rules = [0u32; RULES_LENGTH];
     match grammar_reader::read_block(grammar, &mut rules) {
         GrammarRead::Refused(n) => Listed::Refused(n),
         GrammarRead::Grammar(sizes) => { list_grammar(&rules, sizes, utterance, wanted, work, out) }

@@ -7,7 +7,7 @@ use native.Mathlib.Omega.{arith}
 use lib.ListN.{length, length-append, length-map}
 use Rattle.packing.specs.Meaning.{Candidate, candidate, Utterance}
 use Rattle.packing.specs.Parse.{parsed}
-use Rattle.packing.specs.Source.{Source, bytes, numbers, take, values}
+use Rattle.packing.specs.Source.{Source, bytes, numbers, fieldAt, values}
 use Rattle.packing.specs.Grammar.{rulesEntries}
 use Rattle.packing.specs.Utterance.{candidatesEntries, slotsEntries}
 use Rattle.packing.specs.Valid.{InRange, Fits}
@@ -15,17 +15,17 @@ use Rattle.packing.specs.declared.Field.{Field}
 use Rattle.packing.specs.declared.Rule as R
 use Rattle.packing.specs.declared.Rule.the-variants.{Pair, Word}
 use Rattle.packing.proofs.Entries.{each-right}
-use Rattle.packing.proofs.Taking.{take-bytes-out, take-numbers-out}
+use Rattle.packing.proofs.Taking.{field-at-bytes-out, field-at-numbers-out}
 
 -- a field that was taken is in its range, and the next place is at most b further, where a width and a number are at most b
 module _ (f : Field) where
-  pub take-range : (src : Source) (at : ℕ) {v next : ℕ} → take src at f ≡ parsed v next → InRange f v
-  take-range (bytes missing s) at e = take-bytes-out missing s at f e .3
-  take-range (numbers s) at e = take-numbers-out s at f e .3
+  pub field-at-range : (src : Source) (at : ℕ) {v next : ℕ} → fieldAt src at f ≡ parsed v next → InRange f v
+  field-at-range (bytes missing s) at e = field-at-bytes-out missing s at f e .3
+  field-at-range (numbers s) at e = field-at-numbers-out s at f e .3
 
-  pub take-next : (src : Source) (at b : ℕ) {v next : ℕ} → f .width ≤ b → 1 ≤ b → take src at f ≡ parsed v next → (at ≤ next) × (next ≤ at + b)
-  take-next (bytes missing s) at b w o e = let n = take-bytes-out missing s at f e .2 in (omega arith, omega arith)
-  take-next (numbers s) at b w o e = let n = take-numbers-out s at f e .2 in (omega arith, omega arith)
+  pub field-at-next : (src : Source) (at b : ℕ) {v next : ℕ} → f .width ≤ b → 1 ≤ b → fieldAt src at f ≡ parsed v next → (at ≤ next) × (next ≤ at + b)
+  field-at-next (bytes missing s) at b w o e = let n = field-at-bytes-out missing s at f e .2 in (omega arith, omega arith)
+  field-at-next (numbers s) at b w o e = let n = field-at-numbers-out s at f e .2 in (omega arith, omega arith)
 
 -- five numbers for each rule
 pub length-rules : (S W : ℕ) (rs : List R.Rule) → length (values (rulesEntries S W rs)) ≡ 5 * length rs

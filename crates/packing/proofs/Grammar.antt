@@ -8,32 +8,32 @@ use native.Mathlib.Omega.{arith}
 use lib.ListN.{length}
 use Rattle.packing.specs.Meaning.{Grammar}
 use Rattle.packing.specs.Parse.{parsed}
-use Rattle.packing.specs.Source.{Source, take}
-use Rattle.packing.specs.Grammar.{ruleKind, symbol, weight, nothing, firstOf, secondOf, ruleOf, size, ruleFrom, anyAlike, rulesFrom, unfit, grammarFrom, ruleEntries, rulesEntries, grammarEntries}
+use Rattle.packing.specs.Source.{Source, fieldAt}
+use Rattle.packing.specs.Grammar.{ruleKind, symbol, weightField, nothing, firstOf, secondOf, ruleOf, sizeField, ruleFrom, anyAlike, rulesFrom, unfit, grammarFrom, ruleEntries, rulesEntries, grammarEntries}
 use Rattle.packing.specs.Valid.{Unlike}
 use Rattle.packing.specs.declared.Rule as R
 use Rattle.packing.specs.declared.Rule.the-variants.{Pair, Word}
 use Rattle.packing.proofs.Parse.{through, same-parsed, parsed-else}
-use Rattle.packing.proofs.Bounds.{take-range}
+use Rattle.packing.proofs.Bounds.{field-at-range}
 use Rattle.packing.proofs.Taken.{Taken, all, more, taken-join, taken-split}
 use Rattle.packing.proofs.Alike.{Fresh, fresh-unlike, unlike-fresh}
 
 module _ (src : Source) (S W : ℕ) where
-  fields-out : (at kind head w first second a b c d next : ℕ) → take src at ruleKind ≡ parsed kind a → take src a (symbol S) ≡ parsed head b
-      → take src b weight ≡ parsed w c → take src c (firstOf S W kind) ≡ parsed first d → take src d (secondOf S kind) ≡ parsed second next
+  fields-out : (at kind head w first second a b c d next : ℕ) → fieldAt src at ruleKind ≡ parsed kind a → fieldAt src a (symbol S) ≡ parsed head b
+      → fieldAt src b weightField ≡ parsed w c → fieldAt src c (firstOf S W kind) ≡ parsed first d → fieldAt src d (secondOf S kind) ≡ parsed second next
       → Taken src at (ruleEntries S W (ruleOf kind head w first second)) next
   fields-out at zero head w first second a b c d next p q r s t = more p (more q (more r (more s (more t all))))
   fields-out at (suc zero) head w first second a b c d next p q r s t =
-      let z : second ≡ 0 = omega (arith, take-range nothing src d t) in
+      let z : second ≡ 0 = omega (arith, field-at-range nothing src d t) in
       more p (more q (more r (more s (more (rw z at t) all))))
-  fields-out at (suc (suc k)) head w first second a b c d next p q r s t = absurd (omega (arith, take-range ruleKind src at p))
+  fields-out at (suc (suc k)) head w first second a b c d next p q r s t = absurd (omega (arith, field-at-range ruleKind src at p))
 
   pub rule-out : (at : ℕ) {r : R.Rule} {next : ℕ} → ruleFrom src S W at ≡ parsed r next → Taken src at (ruleEntries S W r) next
   unfolding ruleFrom
   rule-out at e =
-      through (take src at ruleKind) _ e λ kind a p e. through (take src a (symbol S)) _ e λ head b q e.
-      through (take src b weight) _ e λ w c r e. through (take src c (firstOf S W kind)) _ e λ first d s e.
-      through (take src d (secondOf S kind)) _ e λ second z t e.
+      through (fieldAt src at ruleKind) _ e λ kind a p e. through (fieldAt src a (symbol S)) _ e λ head b q e.
+      through (fieldAt src b weightField) _ e λ w c r e. through (fieldAt src c (firstOf S W kind)) _ e λ first d s e.
+      through (fieldAt src d (secondOf S kind)) _ e λ second z t e.
       same-parsed (λ r next. Taken src at (ruleEntries S W r) next) e (fields-out at kind head w first second a b c d z p q r s t)
 
   pub rule-back : {at : ℕ} (r : R.Rule) {next : ℕ} → Taken src at (ruleEntries S W r) next → ruleFrom src S W at ≡ parsed r next
@@ -70,8 +70,8 @@ module _ (src : Source) where
   pub grammar-out : (at : ℕ) {g : Grammar} {next : ℕ} → grammarFrom src at ≡ parsed g next → Reads src at g next
   unfolding grammarFrom grammarEntries
   grammar-out at e =
-      through (take src at (size 6 32)) _ e λ S a p e. through (take src a (size 8 200)) _ e λ W b q e.
-      through (take src b (size 9 256)) _ e λ R c r e.
+      through (fieldAt src at (sizeField 6 32)) _ e λ S a p e. through (fieldAt src a (sizeField 8 200)) _ e λ W b q e.
+      through (fieldAt src b (sizeField 9 256)) _ e λ R c r e.
       let (u, d) = parsed-else (unfit src R) _ _ e in
       through (rulesFrom src S W R c []) _ d λ rs z k e.
       let (new, x, l, fresh, t) = rules-out src S W R c [] k in

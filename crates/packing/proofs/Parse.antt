@@ -77,6 +77,12 @@ pub granted : {A B : Type 0} (x : Verdict A) (k : A → Verdict B) {b : B} {P : 
 granted (accepted a) k e f = f a refl e
 granted (refused n) k e f = absurd (refused≢accepted e)
 
+-- and of one that refuses, at the first place or behind it
+pub denied-at : {A B : Type 0} (x : Verdict A) (k : A → Verdict B) {n : ℕ} {P : Type 0} → (x then k) ≡ refused n
+    → (x ≡ refused n → P) → ((a : A) → x ≡ accepted a → k a ≡ refused n → P) → P
+denied-at (accepted a) k e f h = h a refl e
+denied-at (refused m) k {n} e f h = let same : m ≡ n = cc in f (ap refused same)
+
 -- what holds of one result holds of one that is equal
 pub same-parsed : {A : Type 0} (P : A → ℕ → Type 0) {a b : A} {m n : ℕ} → parsed a m ≡ parsed b n → P a m → P b n
 same-parsed P {a} {b} {m} {n} e h =

@@ -7,11 +7,11 @@ use native.Mathlib.Omega.{arith}
 use lib.ListN.{length}
 use Rattle.packing.specs.Meaning.{Reading}
 use Rattle.packing.specs.Parse.{parsed}
-use Rattle.packing.specs.Source.{Source, bytes, take}
+use Rattle.packing.specs.Source.{Source, bytes, fieldAt}
 use Rattle.packing.specs.Grammar.{blockKind}
 use Rattle.packing.specs.Reading.{readingSlots, readingWeight, ruleNumber, walkFrom, readingFrom, walkEntries, readingEntries}
 use Rattle.packing.proofs.Parse.{through, same-parsed}
-use Rattle.packing.proofs.Bounds.{take-range}
+use Rattle.packing.proofs.Bounds.{field-at-range}
 use Rattle.packing.proofs.Taken.{Taken, all, more}
 
 module _ (src : Source) (R : ℕ) where
@@ -23,7 +23,7 @@ module _ (src : Source) (R : ℕ) where
   unfolding walkFrom walkEntries
   walk-out zero at rs e = same-parsed (Walk at rs 0) e ([], sym (append-nil rs), refl, all)
   walk-out (suc m) at rs e =
-      through (take src at (ruleNumber R)) _ e λ r a p e.
+      through (fieldAt src at (ruleNumber R)) _ e λ r a p e.
       let (new, x, l, t) = walk-out m a (rs ++ (r ∷ [])) e in
       (r ∷ new, rw append-assoc at x, ap suc l, more p t)
 
@@ -41,11 +41,11 @@ module _ (n R : ℕ) (s : List ℕ) where
   unfolding readingFrom readingEntries
   reading-out e =
       let src : Source = bytes 31 s in
-      through (take src 0 (blockKind 3 32)) _ e λ kind a p e. through (take src a (readingSlots n)) _ e λ m b q e.
-      through (take src b readingWeight) _ e λ w c r e. through (walkFrom src R (2 * n - 1) c []) _ e λ rs z k e.
+      through (fieldAt src 0 (blockKind 3 32)) _ e λ kind a p e. through (fieldAt src a (readingSlots n)) _ e λ m b q e.
+      through (fieldAt src b readingWeight) _ e λ w c r e. through (walkFrom src R (2 * n - 1) c []) _ e λ rs z k e.
       let (new, x, l, t) = walk-out src R (2 * n - 1) c [] k in
-      let kind-is : kind ≡ 3 = omega (arith, take-range (blockKind 3 32) src 0 p) in
-      let slots-is : m ≡ n = omega (arith, take-range (readingSlots n) src a q) in
+      let kind-is : kind ≡ 3 = omega (arith, field-at-range (blockKind 3 32) src 0 p) in
+      let slots-is : m ≡ n = omega (arith, field-at-range (readingSlots n) src a q) in
       let y : Reads n src R (record { slots = n; weight = w; walk = rs }) z =
       rw x (more (rw kind-is at p) (more (rw slots-is at q) (more r t)), refl, l) in
       same-parsed (Reads n src R) e y

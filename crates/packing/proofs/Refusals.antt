@@ -1,9 +1,9 @@
--- Every refusal of a block or a sheet is a number of its row in document 01's table: the refusals of each field are, and in a
--- block a value is never above the range of a field whose range is all that its width can hold.
+-- Every refusal of a block, a sheet or a conversion is a number of its rows in document 01's table (specs/Rows): the refusals of
+-- each field are, and in a block a value is never above the range of a field whose range is all that its width can hold.
 -- Assumes nothing.
 use mathlib.Core.Bool.{Bool, true, false, false≢true}
 use mathlib.Core.List.{List, [], _∷_, _++_}
-use mathlib.Core.Logic.{_⊎_, inl, inr, ⊎-elim}
+use mathlib.Core.Logic.{inl, inr, ⊎-elim}
 use mathlib.Core.Path.{_≡_, refl}
 use Prim.Native.Nat.{ℕ, zero, suc, _+_, _-_, _*_, _^_, _≤_, _<_}
 use native.Mathlib.Omega.{arith}
@@ -16,11 +16,12 @@ use Rattle.bits.specs.Width.{widthOf}
 use Rattle.bits.proofs.Num.{field-lt}
 use Rattle.packing.specs.Meaning.{Candidate, candidate, Utterance, word}
 use Rattle.packing.specs.Parse.{Parse, parsed, failed, _⟫_, Verdict, accepted, refused, _then_, verdictOf, finish}
-use Rattle.packing.specs.Source.{Source, bytes, numbers, inRange, take, within}
-use Rattle.packing.specs.Grammar.{ruleKind, ruleWord, weight, nothing, symbol, firstOf, secondOf, ruleFrom, anyAlike, rulesFrom, unfit, grammarFrom, grammarBlock, grammarSheet}
+use Rattle.packing.specs.Source.{Source, bytes, numbers, inRange, fieldAt, within}
+use Rattle.packing.specs.Grammar.{ruleKind, ruleWord, weightField, nothing, symbol, firstOf, secondOf, ruleFrom, anyAlike, rulesFrom, unfit, grammarFrom, grammarBlock, grammarSheet}
 use Rattle.packing.specs.Utterance.{cost, candidatesFrom, slotFrom, slotsFrom, utteranceFrom, utteranceBlock, utteranceSheet}
 use Rattle.packing.specs.Reading.{ruleNumber, walkFrom, readingFrom}
 use Rattle.packing.specs.Conversion.{grammarToBlock, grammarToSheet, utteranceToBlock, utteranceToSheet, fitting}
+use Rattle.packing.specs.Rows.{Between, _∪_, GrammarBlockRow, UtteranceBlockRow, ReadingFieldsRow, GrammarSheetRow, UtteranceSheetRow, OutputRow}
 use Rattle.packing.specs.declared.Field.{Field}
 use Rattle.packing.specs.declared.Rule as R
 use Rattle.packing.proofs.Widths.{byte-width}
@@ -33,28 +34,6 @@ pub data Stops (Row : ℕ → Type 0) {A : Type 0} : Parse A → Type 0 where
 pub data Refuses (Row : ℕ → Type 0) {A : Type 0} : Verdict A → Type 0 where
   granted : {a : A} → Refuses Row (accepted a)
   denied : {n : ℕ} → Row n → Refuses Row (refused n)
-
--- the rows
-abbrev pub From : ℕ → ℕ → ℕ → Type 0
-From least most n = (least ≤ n) × (n ≤ most)
-
-abbrev pub GrammarBlock : ℕ → Type 0
-GrammarBlock n = From 1 7 n
-
-abbrev pub UtteranceBlock : ℕ → Type 0
-UtteranceBlock n = From 11 16 n
-
-abbrev pub ReadingFields : ℕ → Type 0
-ReadingFields n = From 31 33 n
-
-abbrev pub GrammarSheet : ℕ → Type 0
-GrammarSheet n = From 3 6 n ⊎ From 41 42 n
-
-abbrev pub UtteranceSheet : ℕ → Type 0
-UtteranceSheet n = From 13 15 n ⊎ From 41 42 n
-
-abbrev pub Low : ℕ → Type 0
-Low n = n < 64
 
 module _ {Row : ℕ → Type 0} where
   pub stop-number : {A : Type 0} {p : Parse A} {n : ℕ} → Stops Row p → p ≡ failed n → Row n
@@ -126,19 +105,19 @@ module _ {Row : ℕ → Type 0} where
   otherwise true n l h = h
   otherwise false n l h = stopped l
 
-  take-row : (src : Source) (at : ℕ) {f : Field} → Row (missingOf src) → Told Row src f → Stops Row (take src at f)
-  unfolding take
-  take-row (bytes missing s) at {f} m t =
+  field-at-row : (src : Source) (at : ℕ) {f : Field} → Row (missingOf src) → Told Row src f → Stops Row (fieldAt src at f)
+  unfolding fieldAt
+  field-at-row (bytes missing s) at {f} m t =
       otherwise (leb (at + f .width) (8 * length s)) missing m (in-range-row f _ _ (field-lt s at (f .width)) t)
-  take-row (numbers s) at {f} m t = otherwise (ltb at (length s)) 41 m (in-range-row f _ _ tt t)
+  field-at-row (numbers s) at {f} m t = otherwise (ltb at (length s)) 41 m (in-range-row f _ _ tt t)
 
 module _ {Row : ℕ → Type 0} (src : Source) (end : Row (missingOf src)) where
-  at-field : (at : ℕ) {f : Field} → Told Row src f → Stops Row (take src at f)
-  at-field at t = take-row src at end t
+  at-field : (at : ℕ) {f : Field} → Told Row src f → Stops Row (fieldAt src at f)
+  at-field at t = field-at-row src at end t
 
   -- grammars: the refusals of S, W and R, of symbols, words and equal rules, of what only a sheet can get wrong, and of its length
   module _ (sizes : Row 3) (symbols : Row 4) (words : Row 5) (equals : Row 6)
-      (kinds : Told Row src ruleKind) (weights : Told Row src weight) (lasts : Told Row src nothing) (count : (R : ℕ) → unfit src R ≡ true → Row 41) where
+      (kinds : Told Row src ruleKind) (weights : Told Row src weightField) (lasts : Told Row src nothing) (count : (R : ℕ) → unfit src R ≡ true → Row 41) where
     body-row : (S W kind : ℕ) → Told Row src (firstOf S W kind) × Told Row src (secondOf S kind)
     body-row S W kind = go (eqb kind 0)
       where
@@ -188,92 +167,95 @@ module _ {Row : ℕ → Type 0} (src : Source) (end : Row (missingOf src)) where
   walk-row R (suc m) at rs t = bind (at-field at t) (λ r at. walk-row R m at (rs ++ (r ∷ [])) t)
 
 -- the rows of document 01
-pub grammar-block-row : (s : List ℕ) → Refuses GrammarBlock (grammarBlock s)
+pub grammar-block-row : (s : List ℕ) → Refuses GrammarBlockRow (grammarBlock s)
 unfolding grammarBlock
 grammar-block-row s =
     let src : Source = bytes 1 s in
-    let end : GrammarBlock 1 = (omega arith, omega arith) in
-    finish-row _ 7 (omega arith, omega arith) (bind (take-row src 0 end (ranged (omega arith, omega arith))) (λ kind at.
+    let end : GrammarBlockRow 1 = (omega arith, omega arith) in
+    finish-row _ 7 (omega arith, omega arith) (bind (field-at-row src 0 end (ranged (omega arith, omega arith))) (λ kind at.
     grammar-row src end (omega arith, omega arith) (omega arith, omega arith) (omega arith, omega arith) (omega arith, omega arith)
     (as-wide (omega arith)) (as-wide (omega arith)) (as-wide (omega arith)) (λ R e. absurd (false≢true e)) at))
 
-pub grammar-sheet-row : (s : List ℕ) → Refuses GrammarSheet (grammarSheet s)
+pub grammar-sheet-row : (s : List ℕ) → Refuses GrammarSheetRow (grammarSheet s)
 unfolding grammarSheet
 grammar-sheet-row s =
     let src : Source = numbers s in
-    let short : GrammarSheet 41 = inr (omega arith, omega arith) in
-    let wrong : GrammarSheet 42 = inr (omega arith, omega arith) in
+    let short : GrammarSheetRow 41 = inr (omega arith, omega arith) in
+    let wrong : GrammarSheetRow 42 = inr (omega arith, omega arith) in
     choose-row (ltb (length s) 3) (denied short) (verdict-row
     (grammar-row src short (inl (omega arith, omega arith)) (inl (omega arith, omega arith)) (inl (omega arith, omega arith)) (inl (omega arith, omega arith))
     (ranged wrong) (ranged wrong) (ranged wrong) (λ R e. short) 0))
 
-pub utterance-block-row : (W : ℕ) (s : List ℕ) → Refuses UtteranceBlock (utteranceBlock W s)
+pub utterance-block-row : (W : ℕ) (s : List ℕ) → Refuses UtteranceBlockRow (utteranceBlock W s)
 unfolding utteranceBlock
 utterance-block-row W s =
     let src : Source = bytes 11 s in
-    let end : UtteranceBlock 11 = (omega arith, omega arith) in
-    finish-row _ 16 (omega arith, omega arith) (bind (take-row src 0 end (ranged (omega arith, omega arith))) (λ kind at.
+    let end : UtteranceBlockRow 11 = (omega arith, omega arith) in
+    finish-row _ 16 (omega arith, omega arith) (bind (field-at-row src 0 end (ranged (omega arith, omega arith))) (λ kind at.
     utterance-row src end (omega arith, omega arith) (omega arith, omega arith) (omega arith, omega arith) (as-wide (omega arith)) W at))
 
-pub utterance-sheet-row : (W : ℕ) (s : List ℕ) → Refuses UtteranceSheet (utteranceSheet W s)
+pub utterance-sheet-row : (W : ℕ) (s : List ℕ) → Refuses UtteranceSheetRow (utteranceSheet W s)
 unfolding utteranceSheet
 utterance-sheet-row W s =
-    let short : UtteranceSheet 41 = inr (omega arith, omega arith) in
+    let short : UtteranceSheetRow 41 = inr (omega arith, omega arith) in
     finish-row _ 41 short
     (utterance-row (numbers s) short (inl (omega arith, omega arith)) (inl (omega arith, omega arith)) (inl (omega arith, omega arith))
     (ranged (inr (omega arith, omega arith))) W 0)
 
 -- a rule number of at most 8 bits is at most 255
-pub reading-row : (n R : ℕ) (s : List ℕ) → R ≤ 256 → Stops ReadingFields (readingFrom n R s)
+pub reading-row : (n R : ℕ) (s : List ℕ) → R ≤ 256 → Stops ReadingFieldsRow (readingFrom n R s)
 unfolding readingFrom
 reading-row n R s h =
     let src : Source = bytes 31 s in
-    let end : ReadingFields 31 = (omega arith, omega arith) in
+    let end : ReadingFieldsRow 31 = (omega arith, omega arith) in
     let room : 2 ^ widthOf (R - 1) ≤ 255 + 1 = pow-mono (byte-width R h) in
-    bind (take-row src 0 end (ranged (omega arith, omega arith))) (λ kind at.
-    bind (take-row src at end (ranged (omega arith, omega arith))) (λ m at.
-    bind (take-row src at end (as-wide (omega arith))) (λ w at.
+    bind (field-at-row src 0 end (ranged (omega arith, omega arith))) (λ kind at.
+    bind (field-at-row src at end (ranged (omega arith, omega arith))) (λ m at.
+    bind (field-at-row src at end (as-wide (omega arith))) (λ w at.
     bind (walk-row src end R (2 * n - 1) at [] (as-wide room)) (λ rs at. going))))
 
--- so each is below 64
-lower : {Row : ℕ → Type 0} → ((n : ℕ) → Row n → Low n) → {A : Type 0} {v : Verdict A} → Refuses Row v → Refuses Low v
-lower f granted = granted
-lower f (denied {n} r) = denied (f n r)
+-- a refusal of one row is one of each wider
+pub wider : {P Q : ℕ → Type 0} → ((n : ℕ) → P n → Q n) → {A : Type 0} {v : Verdict A} → Refuses P v → Refuses Q v
+wider f granted = granted
+wider f (denied {n} r) = denied (f n r)
 
-pub grammar-block-low : (s : List ℕ) → Refuses Low (grammarBlock s)
-grammar-block-low s = lower (λ n r. omega (arith, r)) (grammar-block-row s)
+-- what is refused at one place, or at the next
+pub then-rows : {P Q : ℕ → Type 0} {A B : Type 0} {v : Verdict A} {k : A → Verdict B} → Refuses P v → ((a : A) → v ≡ accepted a → Refuses Q (k a))
+    → Refuses (P ∪ Q) (v then k)
+then-rows r h = then-row (wider (λ n. inl) r) (λ a e. wider (λ n. inr) (h a e))
 
-pub utterance-block-low : (W : ℕ) (s : List ℕ) → Refuses Low (utteranceBlock W s)
-utterance-block-low W s = lower (λ n r. omega (arith, r)) (utterance-block-row W s)
+pub three-rows : {P Q R : ℕ → Type 0} {A B C : Type 0} {v : Verdict A} {k : A → Verdict B} {l : A → B → Verdict C} → Refuses P v
+    → ((a : A) → v ≡ accepted a → Refuses Q (k a)) → ((a : A) (b : B) → v ≡ accepted a → k a ≡ accepted b → Refuses R (l a b))
+    → Refuses (P ∪ Q ∪ R) (v then λ a. k a then l a)
+three-rows r h f =
+    then-row (wider (λ n p. inl (inl p)) r) λ a e. then-row (wider (λ n q. inl (inr q)) (h a e)) λ b d. wider (λ n. inr) (f a b e d)
 
-pub reading-low : (n R : ℕ) (s : List ℕ) → R ≤ 256 → Stops Low (readingFrom n R s)
-reading-low n R s h = go (reading-row n R s h)
-  where
-    go : {A : Type 0} {p : Parse A} → Stops ReadingFields p → Stops Low p
-    go going = going
-    go (stopped {n} r) = stopped {n = n} (omega (arith, r))
-
--- and so of the conversions
-fitting-low : (v : Verdict (List ℕ)) (out : List ℕ) → Refuses Low v → Refuses Low (fitting v out)
+-- the conversions: of what is read, and of the output
+fitting-row : {Row : ℕ → Type 0} {v : Verdict (List ℕ)} (out : List ℕ) → Refuses Row v → Refuses (Row ∪ OutputRow) (fitting v out)
 unfolding fitting
-fitting-low v out l = then-row l (λ r e. choose-row (ltb (length out) (length r)) (denied (omega arith)) granted)
+fitting-row out r = then-rows r (λ l e. choose-row (ltb (length out) (length l)) (denied refl) granted)
 
-pub grammar-to-block-low : (t out : List ℕ) → Refuses Low (fitting (grammarToBlock t) out)
+pub grammar-to-block-row : (t out : List ℕ) → Refuses (GrammarSheetRow ∪ OutputRow) (fitting (grammarToBlock t) out)
 unfolding grammarToBlock
-grammar-to-block-low t out =
-    fitting-low _ out (then-row (lower (λ n. ⊎-elim (λ r. omega (arith, r)) (λ r. omega (arith, r))) (grammar-sheet-row t)) (λ g e. granted))
+grammar-to-block-row t out = fitting-row out (then-row (grammar-sheet-row t) (λ g e. granted))
 
-pub grammar-to-sheet-low : (s out : List ℕ) → Refuses Low (fitting (grammarToSheet s) out)
+pub grammar-to-sheet-row : (s out : List ℕ) → Refuses (GrammarBlockRow ∪ OutputRow) (fitting (grammarToSheet s) out)
 unfolding grammarToSheet
-grammar-to-sheet-low s out = fitting-low _ out (then-row (grammar-block-low s) (λ g e. granted))
+grammar-to-sheet-row s out = fitting-row out (then-row (grammar-block-row s) (λ g e. granted))
 
-pub utterance-to-block-low : (s t out : List ℕ) → Refuses Low (fitting (utteranceToBlock s t) out)
+pub utterance-to-block-row : (s t out : List ℕ) → Refuses (GrammarBlockRow ∪ UtteranceSheetRow ∪ OutputRow) (fitting (utteranceToBlock s t) out)
 unfolding utteranceToBlock
-utterance-to-block-low s t out =
-    fitting-low _ out (then-row (grammar-block-low s) (λ g e.
-    then-row (lower (λ n. ⊎-elim (λ r. omega (arith, r)) (λ r. omega (arith, r))) (utterance-sheet-row (g .words) t)) (λ u e. granted)))
+utterance-to-block-row s t out =
+    fitting-row out (then-rows (grammar-block-row s) (λ g e. then-row (utterance-sheet-row (g .words) t) (λ u f. granted)))
 
-pub utterance-to-sheet-low : (s t out : List ℕ) → Refuses Low (fitting (utteranceToSheet s t) out)
+pub utterance-to-sheet-row : (s t out : List ℕ) → Refuses (GrammarBlockRow ∪ UtteranceBlockRow ∪ OutputRow) (fitting (utteranceToSheet s t) out)
 unfolding utteranceToSheet
-utterance-to-sheet-low s t out =
-    fitting-low _ out (then-row (grammar-block-low s) (λ g e. then-row (utterance-block-low (g .words) t) (λ u e. granted)))
+utterance-to-sheet-row s t out =
+    fitting-row out (then-rows (grammar-block-row s) (λ g e. then-row (utterance-block-row (g .words) t) (λ u f. granted)))
+
+-- every row lies between 1 and 63
+abbrev pub Low : ℕ → Type 0
+Low n = Between 1 63 n
+
+pub low-both : {P Q : ℕ → Type 0} → ((n : ℕ) → P n → Low n) → ((n : ℕ) → Q n → Low n) → (n : ℕ) → (P ∪ Q) n → Low n
+low-both f g n = ⊎-elim (f n) (g n)

@@ -14,16 +14,16 @@ use Rattle.bits.proofs.Num.{field-lt}
 use Rattle.bits.proofs.Holds.{Holds}
 use Rattle.bits.proofs.Fields.{first-field, cons-field}
 use Rattle.packing.specs.Parse.{parsed}
-use Rattle.packing.specs.Source.{Source, bytes, numbers, take, Entry, entry, values, flds}
+use Rattle.packing.specs.Source.{Source, bytes, numbers, fieldAt, Entry, entry, values, flds}
 use Rattle.packing.specs.Valid.{InWidth, Each, Fits}
 use Rattle.packing.specs.declared.Field.{Field}
-use Rattle.packing.proofs.Taking.{take-bytes, take-bytes-out, take-numbers, take-numbers-out}
-use Rattle.packing.proofs.Bounds.{take-range}
+use Rattle.packing.proofs.Taking.{field-at-bytes, field-at-bytes-out, field-at-numbers, field-at-numbers-out}
+use Rattle.packing.proofs.Bounds.{field-at-range}
 
 -- from a place of the source to the next
 pub data Taken (src : Source) : ℕ → List Entry → ℕ → Type 0 where
   all : {at : ℕ} → Taken src at [] at
-  more : {at mid next v : ℕ} {f : Field} {es : List Entry} → take src at f ≡ parsed v mid → Taken src mid es next → Taken src at (entry f v ∷ es) next
+  more : {at mid next v : ℕ} {f : Field} {es : List Entry} → fieldAt src at f ≡ parsed v mid → Taken src mid es next → Taken src at (entry f v ∷ es) next
 
 module _ {src : Source} where
   pub taken-join : {at mid next : ℕ} {ds es : List Entry} → Taken src at ds mid → Taken src mid es next → Taken src at (ds ++ es) next
@@ -37,7 +37,7 @@ module _ {src : Source} where
 
   pub taken-fits : {at next : ℕ} {es : List Entry} → Taken src at es next → Fits es
   taken-fits all = tt
-  taken-fits {at} (more {f} p e) = (take-range f src at p, taken-fits e)
+  taken-fits {at} (more {f} p e) = (field-at-range f src at p, taken-fits e)
 
 module _ (missing : ℕ) (s : List ℕ) where
   -- entries that were taken are held
@@ -46,7 +46,7 @@ module _ (missing : ℕ) (s : List ℕ) where
   unfolding widths bitsOfAll
   taken-held {at} l all = (sym (add-zero at), tt, (omega arith, λ k h. absurd (omega arith)))
   taken-held {at} l (more {v} {f} {es} p e) =
-      let (b, x, m, r) = take-bytes-out missing s at f p in
+      let (b, x, m, r) = field-at-bytes-out missing s at f p in
       let (n, w, h) = taken-held (omega arith) e in
       (omega arith, (rw x at (field-lt s at (f .width)), w), cons-field s at (f .width) v (flds es) (sym x) (rw m h))
 
@@ -57,7 +57,7 @@ module _ (missing : ℕ) (s : List ℕ) where
   held-taken at [] r w h = rw add-zero all
   held-taken at (entry f v ∷ es) (r, rs) (w, ws) h =
       let (x, k) = first-field s at (fld (f .width) v) (flds es) w h in
-      more (rw x at (take-bytes missing s at f (omega arith) (rw x r))) (rw add-assoc at (held-taken (at + f .width) es rs ws k))
+      more (rw x at (field-at-bytes missing s at f (omega arith) (rw x r))) (rw add-assoc at (held-taken (at + f .width) es rs ws k))
 
 module _ (s : List ℕ) where
   -- entries that were taken stand in the sheet
@@ -65,7 +65,7 @@ module _ (s : List ℕ) where
       → (next ≡ at + length es) × (drop at s ≡ values es ++ drop next s)
   taken-listed {at} all = (sym (add-zero at), refl)
   taken-listed {at} (more {mid} {f} p e) =
-      let (b, x, m, r) = take-numbers-out s at f p in
+      let (b, x, m, r) = field-at-numbers-out s at f p in
       let (n, d) = taken-listed e in
       let z : suc at ≡ mid = omega arith in
       (omega arith, drop-cons s at 0 b ∙ rw (x, z, d))
@@ -79,4 +79,4 @@ module _ (s : List ℕ) where
       let x : getD s at 0 ≡ v = cc in
       let k : drop (at + 1) s ≡ values es ++ rest = rw (add-one at) (cc) in
       let z : at + 1 + length es ≡ at + suc (length es) = omega arith in
-      more (rw x at (take-numbers s at f b (rw x r))) (rw z at (listed-taken (at + 1) es rest rs k))
+      more (rw x at (field-at-numbers s at f b (rw x r))) (rw z at (listed-taken (at + 1) es rest rs k))

@@ -9,7 +9,7 @@ use lib.Dec.{ltb, leb}
 use lib.ListN.{length, getD}
 use Rattle.bits.specs.Bits.{field}
 use Rattle.packing.specs.Parse.{parsed}
-use Rattle.packing.specs.Source.{bytes, numbers, inRange, take}
+use Rattle.packing.specs.Source.{bytes, numbers, inRange, fieldAt}
 use Rattle.packing.specs.Valid.{InRange}
 use Rattle.packing.specs.declared.Field.{Field}
 use Rattle.packing.proofs.Parse.{parsed-else, parsed-then}
@@ -29,27 +29,27 @@ unfolding inRange
 in-range f v next (l, h) = rw (le-ltb (f .most) v h, le-ltb v (f .least) l)
 
 module _ (missing : ℕ) (s : List ℕ) (at : ℕ) (f : Field) where
-  pub take-bytes-out : {v next : ℕ} → take (bytes missing s) at f ≡ parsed v next
+  pub field-at-bytes-out : {v next : ℕ} → fieldAt (bytes missing s) at f ≡ parsed v next
       → (at + f .width ≤ 8 * length s) × (field s at (f .width) ≡ v) × (at + f .width ≡ next) × InRange f v
-  unfolding take
-  take-bytes-out e =
+  unfolding fieldAt
+  field-at-bytes-out e =
       let (t, r) = parsed-then (leb (at + f .width) (8 * length s)) _ _ e in
       let (i, v, n) = in-range-out f _ _ r in
       (leb-true _ _ t, v, n, i)
 
-  pub take-bytes : at + f .width ≤ 8 * length s → InRange f (field s at (f .width)) → take (bytes missing s) at f ≡ parsed (field s at (f .width)) (at + f .width)
-  unfolding take
-  take-bytes h i = rw (le-leb _ _ h) (in-range f _ _ i)
+  pub field-at-bytes : at + f .width ≤ 8 * length s → InRange f (field s at (f .width)) → fieldAt (bytes missing s) at f ≡ parsed (field s at (f .width)) (at + f .width)
+  unfolding fieldAt
+  field-at-bytes h i = rw (le-leb _ _ h) (in-range f _ _ i)
 
 module _ (s : List ℕ) (at : ℕ) (f : Field) where
-  pub take-numbers-out : {v next : ℕ} → take (numbers s) at f ≡ parsed v next
+  pub field-at-numbers-out : {v next : ℕ} → fieldAt (numbers s) at f ≡ parsed v next
       → (at < length s) × (getD s at 0 ≡ v) × (at + 1 ≡ next) × InRange f v
-  unfolding take
-  take-numbers-out e =
+  unfolding fieldAt
+  field-at-numbers-out e =
       let (t, r) = parsed-then (ltb at (length s)) _ _ e in
       let (i, v, n) = in-range-out f _ _ r in
       (ltb-true _ _ t, v, n, i)
 
-  pub take-numbers : at < length s → InRange f (getD s at 0) → take (numbers s) at f ≡ parsed (getD s at 0) (at + 1)
-  unfolding take
-  take-numbers h i = rw (lt-ltb _ _ h) (in-range f _ _ i)
+  pub field-at-numbers : at < length s → InRange f (getD s at 0) → fieldAt (numbers s) at f ≡ parsed (getD s at 0) (at + 1)
+  unfolding fieldAt
+  field-at-numbers h i = rw (lt-ltb _ _ h) (in-range f _ _ i)

@@ -6,7 +6,7 @@ use Prim.Native.Nat.{ℕ, zero, suc}
 use lib.ListN.{length}
 use Rattle.packing.specs.Meaning.{Candidate, candidate, Utterance, word}
 use Rattle.packing.specs.Parse.{parsed}
-use Rattle.packing.specs.Source.{Source, take, Entry, entry}
+use Rattle.packing.specs.Source.{Source, fieldAt, Entry, entry}
 use Rattle.packing.specs.Utterance.{slotCount, candidateCount, offered, cost, candidatesFrom, slotFrom, slotsFrom, utteranceFrom, candidatesEntries, slotsEntries, utteranceEntries}
 use Rattle.packing.proofs.Parse.{through, same-parsed}
 use Rattle.packing.proofs.Taken.{Taken, all, more, taken-join, taken-split}
@@ -24,7 +24,7 @@ module _ (src : Source) (W : ℕ) where
   unfolding candidatesFrom candidatesEntries
   candidates-out zero least at cs e = same-parsed (Offers least at cs 0) e ([], sym (append-nil cs), refl, all)
   candidates-out (suc n) least at cs e =
-      through (take src at (offered W least)) _ e λ w a p e. through (take src a cost) _ e λ c b q e.
+      through (fieldAt src at (offered W least)) _ e λ w a p e. through (fieldAt src a cost) _ e λ c b q e.
       let (new, x, l, t) = candidates-out n (suc w) b (cs ++ (candidate (word w) c ∷ [])) e in
       (candidate (word w) c ∷ new, rw append-assoc at x, ap suc l, more p (more q t))
 
@@ -38,7 +38,7 @@ module _ (src : Source) (W : ℕ) where
   slot-out : (at : ℕ) {cs : List Candidate} {next : ℕ} → slotFrom src W at ≡ parsed cs next → Taken src at (slotEntries W cs) next
   unfolding slotFrom
   slot-out at e =
-      through (take src at candidateCount) _ e λ n a p e.
+      through (fieldAt src at candidateCount) _ e λ n a p e.
       let (new, x, l, t) = candidates-out n 0 a [] e in
       rw (x, l) (more p t)
 
@@ -68,7 +68,7 @@ module _ (src : Source) (W : ℕ) where
   pub utterance-out : (at : ℕ) {u : Utterance} {next : ℕ} → utteranceFrom src W at ≡ parsed u next → Taken src at (utteranceEntries W u) next
   unfolding utteranceFrom utteranceEntries
   utterance-out at e =
-      through (take src at slotCount) _ e λ n a p e.
+      through (fieldAt src at slotCount) _ e λ n a p e.
       let (new, x, l, t) = slots-out n a [] e in
       rw (x, l) (more p t)
 

@@ -14,13 +14,13 @@ use Rattle.bits.specs.Fields.{widths, bitsOfAll}
 use Rattle.bits.proofs.Fields.{holds-block, block-ended, block-is}
 use Rattle.packing.specs.Meaning.{Grammar, Utterance, Reading}
 use Rattle.packing.specs.Parse.{Parse, parsed, _⟫_, accepted}
-use Rattle.packing.specs.Source.{bytes, numbers, take, Entry, entry, values, flds, valueOf}
+use Rattle.packing.specs.Source.{bytes, numbers, fieldAt, Entry, entry, values, flds, valueOf}
 use Rattle.packing.specs.Grammar.{blockKind, grammarFrom, grammarBlock, grammarSheet, grammarEntries, blockOfGrammar, sheetOfGrammar}
 use Rattle.packing.specs.Utterance.{utteranceFrom, utteranceBlock, utteranceSheet, utteranceEntries, blockOfUtterance, sheetOfUtterance}
 use Rattle.packing.specs.Reading.{readingFrom, readingEntries, blockOfReading}
 use Rattle.packing.specs.Valid.{Bytes, Each, InWidth, Fits, ValidGrammar, ValidUtterance, ValidReading}
 use Rattle.packing.proofs.Parse.{through, finish-out, accepted-else, verdict-out}
-use Rattle.packing.proofs.Bounds.{take-range, length-rules}
+use Rattle.packing.proofs.Bounds.{field-at-range, length-rules}
 use Rattle.packing.proofs.Taken.{Taken, more, taken-fits, taken-held, held-taken, taken-listed, listed-taken}
 use Rattle.packing.proofs.Widths.{grammar-room, utterance-room}
 use Rattle.packing.proofs.Grammar.{grammar-out, grammar-back}
@@ -46,11 +46,11 @@ sheet-taken es f = rw zero-add at (listed-taken (values es) 0 es [] f (sym (appe
 
 -- a block's kind, and what follows it
 after-kind : (missing kind n : ℕ) (s : List ℕ) {A : Type 0} (k : ℕ → Parse A) {a : A} {next : ℕ} {P : Type 0}
-    → (take (bytes missing s) 0 (blockKind kind n) ⟫ λ v at. k at) ≡ parsed a next
-    → ((at : ℕ) → take (bytes missing s) 0 (blockKind kind n) ≡ parsed kind at → k at ≡ parsed a next → P) → P
+    → (fieldAt (bytes missing s) 0 (blockKind kind n) ⟫ λ v at. k at) ≡ parsed a next
+    → ((at : ℕ) → fieldAt (bytes missing s) 0 (blockKind kind n) ≡ parsed kind at → k at ≡ parsed a next → P) → P
 after-kind missing kind n s k e f =
-    through (take (bytes missing s) 0 (blockKind kind n)) _ e λ v at p e.
-    let v-is : v ≡ kind = omega (arith, take-range (blockKind kind n) (bytes missing s) 0 p) in
+    through (fieldAt (bytes missing s) 0 (blockKind kind n)) _ e λ v at p e.
+    let v-is : v ≡ kind = omega (arith, field-at-range (blockKind kind n) (bytes missing s) 0 p) in
     f at (rw v-is at p) e
 
 -- grammars

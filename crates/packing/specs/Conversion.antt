@@ -1,8 +1,10 @@
--- The four conversions: document 01, "The services" and the row sheet or block output. Assumes nothing.
+-- The four conversions: document 01, "The services" and the row sheet or block output; and demand 2, that sheets and blocks turn
+-- into each other without change. Assumes nothing.
+use mathlib.Core.Path.{_≡_}
 use mathlib.Core.List.{List, _++_}
 use Prim.Native.Nat.{ℕ}
 use lib.Dec.{ltb}
-use lib.ListN.{length, drop}
+use lib.ListN.{length, take, drop}
 use Rattle.bits.specs.Bits.{pick}
 use Rattle.packing.specs.Parse.{Verdict, accepted, refused, _then_}
 use Rattle.packing.specs.Grammar.{grammarBlock, grammarSheet, blockOfGrammar, sheetOfGrammar}
@@ -36,3 +38,7 @@ fitting v out = v then λ l. pick (ltb (length out) (length l)) (refused 43) (ac
 abbrev pub written : Verdict (List ℕ) → List ℕ → List ℕ
 written (accepted l) out = l ++ drop (length l) out
 written (refused n) out = out
+
+-- without change: what was written, n numbers where the answer is n, turns back into what was given
+abbrev pub TurnsBack : (back : List ℕ → Verdict (List ℕ)) (given : List ℕ) (AnswerIs : ℕ → Type 0) (out : List ℕ) → Type 0
+TurnsBack back given AnswerIs out = (n : ℕ) → AnswerIs n → back (take n out) ≡ accepted given

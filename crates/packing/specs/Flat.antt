@@ -1,5 +1,5 @@
--- Accepted meanings in flat arrays of numbers, for the layers above: document 01, "The listing stands on the meaning of an
--- accepted block, never on its bytes". Assumes nothing.
+-- Accepted meanings in flat arrays of numbers, for the contracts of the layers above: document 01, "The listing stands on the meaning
+-- of an accepted block, never on its bytes". Nobody need believe this page: no service's promise names it. Assumes nothing.
 use mathlib.Core.Path.{_≡_}
 use mathlib.Core.List.{List, [], _∷_}
 use Prim.Native.Nat.{ℕ, zero, suc, _+_, _*_}

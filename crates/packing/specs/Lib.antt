@@ -6,7 +6,9 @@ pub mod Grammar
 pub mod Utterance
 pub mod Reading
 pub mod Conversion
+pub mod Rows
 pub mod Flat
 pub mod Valid
 pub mod Loop
 pub mod Store
+pub mod Ranges

@@ -6,8 +6,8 @@ use Rattle.packing.specs.declared.Word as W
 use Rattle.packing.specs.declared.Rule as R
 
 -- symbols and words are numbered apart
-abbrev pub sym : ℕ → Sym
-sym n = record { 0 = n }
+abbrev pub symbolOf : ℕ → Sym
+symbolOf n = record { 0 = n }
 
 abbrev pub word : ℕ → W.Word
 word n = record { 0 = n }

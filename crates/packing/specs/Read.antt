@@ -1,4 +1,5 @@
--- The code's enums: what a `Read` says of a parse, and which source is read. Assumes nothing.
+-- The code's enums: what a `Read` says of a parse, and which source is read. Nobody need believe this page: no service's promise names
+-- it. Assumes nothing.
 use mathlib.Core.List.{List}
 use Prim.Native.Nat.{ℕ}
 use Rattle.packing.specs.Parse.{Parse, parsed, failed}

@@ -7,7 +7,7 @@ use Rattle.bits.specs.Width.{widthOf}
 use Rattle.bits.specs.Fields.{bitsOfAll}
 use Rattle.packing.specs.Meaning.{Reading}
 use Rattle.packing.specs.Parse.{Parse, parsed, _⟫_}
-use Rattle.packing.specs.Source.{Source, bytes, take, within, Entry, entry, flds}
+use Rattle.packing.specs.Source.{Source, bytes, fieldAt, within, Entry, entry, flds}
 use Rattle.packing.specs.Grammar.{blockKind}
 use Rattle.packing.specs.declared.Field.{Field}
 
@@ -24,13 +24,13 @@ ruleNumber R = within (widthOf (R - 1)) 0 255 34
 -- m rule numbers behind the earlier ones
 unfoldable pub walkFrom : Source → ℕ → ℕ → ℕ → List ℕ → Parse (List ℕ)
 walkFrom src R zero at rs = parsed rs at
-walkFrom src R (suc m) at rs = take src at (ruleNumber R) ⟫ λ r at. walkFrom src R m at (rs ++ (r ∷ []))
+walkFrom src R (suc m) at rs = fieldAt src at (ruleNumber R) ⟫ λ r at. walkFrom src R m at (rs ++ (r ∷ []))
 
 -- a reading block's fields; what stands behind them is judged by `ended`, later
 unfoldable pub readingFrom : ℕ → ℕ → List ℕ → Parse Reading
 readingFrom n R s =
     let src = bytes 31 s in
-    take src 0 (blockKind 3 32) ⟫ λ kind at. take src at (readingSlots n) ⟫ λ m at. take src at readingWeight ⟫ λ w at.
+    fieldAt src 0 (blockKind 3 32) ⟫ λ kind at. fieldAt src at (readingSlots n) ⟫ λ m at. fieldAt src at readingWeight ⟫ λ w at.
     walkFrom src R (2 * n - 1) at [] ⟫ λ rs at. parsed (record { slots = n; weight = w; walk = rs }) at
 
 -- the fields of a reading with their values, and its block

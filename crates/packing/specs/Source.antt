@@ -19,10 +19,10 @@ unfoldable pub inRange : Field → ℕ → ℕ → Parse ℕ
 inRange f v next = pick (ltb (f .most) v) (failed (f .above)) (pick (ltb v (f .least)) (failed (f .below)) (parsed v next))
 
 -- the field at a place: a bit of a block, an index of a sheet
-unfoldable pub take : Source → ℕ → Field → Parse ℕ
-take (bytes missing s) at f =
+unfoldable pub fieldAt : Source → ℕ → Field → Parse ℕ
+fieldAt (bytes missing s) at f =
     pick (leb (at + f .width) (8 * length s)) (inRange f (field s at (f .width)) (at + f .width)) (failed missing)
-take (numbers s) at f = pick (ltb at (length s)) (inRange f (getD s at 0) (at + 1)) (failed 41)
+fieldAt (numbers s) at f = pick (ltb at (length s)) (inRange f (getD s at 0) (at + 1)) (failed 41)
 
 -- the field of one range with one refusal
 abbrev pub within : ℕ → ℕ → ℕ → ℕ → Field

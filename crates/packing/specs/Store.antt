@@ -1,4 +1,4 @@
--- Numbers stored one after another: for the models of the code above. Assumes nothing.
+-- Numbers stored one after another: for the models of the code above. Nobody need believe this page. Assumes nothing.
 use mathlib.Core.List.{List, [], _∷_}
 use Prim.Native.Nat.{ℕ, _+_}
 use lib.ListN.{set}

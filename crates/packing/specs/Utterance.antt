@@ -9,7 +9,7 @@ use Rattle.bits.specs.Width.{widthOf}
 use Rattle.bits.specs.Fields.{bitsOfAll}
 use Rattle.packing.specs.Meaning.{Candidate, candidate, Utterance, word}
 use Rattle.packing.specs.Parse.{Parse, parsed, _⟫_, Verdict, finish}
-use Rattle.packing.specs.Source.{Source, bytes, numbers, take, within, Entry, entry, values, flds}
+use Rattle.packing.specs.Source.{Source, bytes, numbers, fieldAt, within, Entry, entry, values, flds}
 use Rattle.packing.specs.Grammar.{blockKind}
 use Rattle.packing.specs.declared.Field.{Field}
 
@@ -31,11 +31,11 @@ cost = within 16 0 65535 42
 unfoldable pub candidatesFrom : Source → ℕ → ℕ → ℕ → ℕ → List Candidate → Parse (List Candidate)
 candidatesFrom src W zero least at cs = parsed cs at
 candidatesFrom src W (suc n) least at cs =
-    take src at (offered W least) ⟫ λ w at. take src at cost ⟫ λ c at.
+    fieldAt src at (offered W least) ⟫ λ w at. fieldAt src at cost ⟫ λ c at.
     candidatesFrom src W n (suc w) at (cs ++ (candidate (word w) c ∷ []))
 
 unfoldable pub slotFrom : Source → ℕ → ℕ → Parse (List Candidate)
-slotFrom src W at = take src at candidateCount ⟫ λ n at. candidatesFrom src W n 0 at []
+slotFrom src W at = fieldAt src at candidateCount ⟫ λ n at. candidatesFrom src W n 0 at []
 
 -- n slots behind the earlier ones
 unfoldable pub slotsFrom : Source → ℕ → ℕ → ℕ → Utterance → Parse Utterance
@@ -43,11 +43,11 @@ slotsFrom src W zero at u = parsed u at
 slotsFrom src W (suc n) at u = slotFrom src W at ⟫ λ cs at. slotsFrom src W n at (u ++ (cs ∷ []))
 
 unfoldable pub utteranceFrom : Source → ℕ → ℕ → Parse Utterance
-utteranceFrom src W at = take src at slotCount ⟫ λ n at. slotsFrom src W n at []
+utteranceFrom src W at = fieldAt src at slotCount ⟫ λ n at. slotsFrom src W n at []
 
 -- the meaning of an utterance block, and of an utterance sheet
 unfoldable pub utteranceBlock : ℕ → List ℕ → Verdict Utterance
-utteranceBlock W s = finish (ended s) 16 (take (bytes 11 s) 0 (blockKind 2 12) ⟫ λ kind at. utteranceFrom (bytes 11 s) W at)
+utteranceBlock W s = finish (ended s) 16 (fieldAt (bytes 11 s) 0 (blockKind 2 12) ⟫ λ kind at. utteranceFrom (bytes 11 s) W at)
 
 unfoldable pub utteranceSheet : ℕ → List ℕ → Verdict Utterance
 utteranceSheet W s = finish (λ at. eqb at (length s)) 41 (utteranceFrom (numbers s) W 0)

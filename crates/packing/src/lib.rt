@@ -1,9 +1,13 @@
 // What blocks and sheets are made of, and the reading of one number of them.
+pub mod format; // format.rt: ranges, widths and fields of the formats
+pub mod refused; // refused.rt: the numbers of document 01's table
+
+use bits::MAX_FIELD_WIDTH;
 ghost use mathlib.Core.Path.{_≡_};
 ghost use Prim.Native.Nat.{_+_, _*_, _^_, _≤_, _<_};
 ghost use lib.Dec.{leb};
 ghost use lib.ListN.{length};
-ghost use Rattle.packing.specs.Source.{inRange, take};
+ghost use Rattle.packing.specs.Source.{inRange, fieldAt};
 ghost use Rattle.packing.specs.Read.{readOf, refusalOf, sourceOf};
 
 // A symbol of the grammar, V of document 001.
@@ -41,6 +45,12 @@ pub enum Read {
     Refused(u32),
 }
 
+// What a writer answers: the length written, or the refusal.
+pub enum Written {
+    Length(usize),
+    Refused(u32),
+}
+
 // Where numbers are read from: a block, with the refusal of a field that passes its end, or a sheet.
 pub enum Source {
     Block(u32),
@@ -49,7 +59,7 @@ pub enum Source {
 
 // Whether a block has the `width` bits from bit `at`.
 fn has_field(block: &[u8], at: usize, width: usize) -> bool
-    requires { ⌜ (at < 2 ^ 32) × (width ≤ 24) ⌝ }
+    requires { do ⌜ (at < 2 ^ 32) × (width ≤ (← ⟦MAX_FIELD_WIDTH⟧)) ⌝ }
     ensures { λ r. ⌜ r ≡ leb (at + width) (8 * length (now (block .entry))) ⌝ }
 {
     (at + width + 7) / 8 <= block.len()
@@ -69,9 +79,9 @@ fn in_range(f: Field, v: u32, next: usize) -> Read
 }
 
 // The number at a place of the block or of the sheet, whichever the source is.
-pub fn take(src: Source, block: &[u8], sheet: &[u32], at: usize, f: Field) -> Read
-    requires { ⌜ (at < 2 ^ 32) × (f .width ≤ 24) ⌝ }
-    ensures { λ r. ⌜ r ≡ readOf (take (sourceOf src (now (block .entry)) (now (sheet .entry))) at f) ⌝ }
+pub fn field_at(src: Source, block: &[u8], sheet: &[u32], at: usize, f: Field) -> Read
+    requires { do ⌜ (at < 2 ^ 32) × (f .width ≤ (← ⟦MAX_FIELD_WIDTH⟧)) ⌝ }
+    ensures { λ r. ⌜ r ≡ readOf (fieldAt (sourceOf src (now (block .entry)) (now (sheet .entry))) at f) ⌝ }
 {
     match src {
         Source::Block(missing) => {
@@ -85,7 +95,7 @@ pub fn take(src: Source, block: &[u8], sheet: &[u32], at: usize, f: Field) -> Re
             if at < sheet.len() {
                 return in_range(f, sheet[at], at + 1);
             }
-            Read::Refused(41)
+            Read::Refused(refused::SHEET_COUNT)
         }
     }
 }

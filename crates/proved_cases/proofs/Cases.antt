@@ -1,31 +1,30 @@
--- Every row of the table of P cases holds: the definitions compute. Only the specimen's string, which is free, takes an argument.
+-- All rows of the table of P cases hold: the definitions compute. Only the specimen's string, which is free, takes an argument.
 use mathlib.Core.Path.{refl}
 use mathlib.Core.List.{[], _∷_}
 use native.Mathlib.Omega.{arith}
-use Rattle.packing.specs.Meaning.{sym, slotEdges, edgesFrom}
+use Rattle.packing.specs.Meaning.{symbolOf, slotEdges, edgesFrom}
 use Rattle.packing.specs.Grammar.{ruleFrom, anyAlike, rulesFrom, grammarFrom, grammarBlock, rulesEntries, grammarEntries, blockOfGrammar}
 use Rattle.packing.specs.Utterance.{candidatesFrom, slotFrom, slotsFrom, utteranceFrom, utteranceBlock, candidatesEntries, slotsEntries, utteranceEntries, blockOfUtterance}
 use Rattle.packing.specs.Reading.{walkFrom, readingFrom, walkEntries, readingEntries, blockOfReading, readingLength}
 use Rattle.bits.specs.Bits.{num, bitsOf, pack, ended}
 use Rattle.bits.specs.Width.{widthOf, widthFrom}
 use Rattle.bits.specs.Fields.{bitsOfAll}
-use Rattle.packing.specs.Source.{inRange, take}
+use Rattle.packing.specs.Source.{inRange, fieldAt}
 use Rattle.derivation.specs.Derivation.{weight, walk}
 use Rattle.derivation.specs.List.{trees, listing}
-use Rattle.listing.specs.Listing.{tableSize, tooHeavy, listed, list}
+use Rattle.listing.specs.Listing.{tableSize, tooHeavy, listed, list, joined}
 use Rattle.checker.specs.Check.{withWalk, derivationOf, check}
-use Rattle.derivation.proofs.Ranges.{All}
 use Rattle.specimen.specs.Specimen.{asked, Says}
 use Rattle.specimen.specs.declared.Answered.the-variants.{Written, Nothing}
 use Rattle.specimen.proofs.Yields.{Yields, one, two, yields-says}
 use Rattle.proved_cases.proofs.Strings.{only-word, no-pair}
-use Rattle.proved_cases.specs.Table.{Holds, specimen, table, G, one-rule}
+use Rattle.proved_cases.specs.Table.{Holds, AllHold, specimen, P-cases, G, one-rule}
 
-pub cases-hold : All Holds table
-unfolding slotEdges edgesFrom num bitsOf pack ended widthOf widthFrom bitsOfAll inRange take ruleFrom anyAlike rulesFrom grammarFrom grammarBlock rulesEntries grammarEntries blockOfGrammar candidatesFrom slotFrom slotsFrom utteranceFrom utteranceBlock candidatesEntries slotsEntries utteranceEntries blockOfUtterance walkFrom readingFrom walkEntries readingEntries blockOfReading weight walk trees listing tableSize readingLength tooHeavy listed list withWalk derivationOf check asked
-cases-hold = (refl, (refl, (refl, (refl, (refl, (refl, (refl, (refl, (refl, (refl, (refl, (refl, (zeros, (nothing, tt))))))))))))))
+pub cases-hold : AllHold P-cases
+unfolding slotEdges edgesFrom num bitsOf pack ended widthOf widthFrom bitsOfAll inRange fieldAt ruleFrom anyAlike rulesFrom grammarFrom grammarBlock rulesEntries grammarEntries blockOfGrammar candidatesFrom slotFrom slotsFrom utteranceFrom utteranceBlock candidatesEntries slotsEntries utteranceEntries blockOfUtterance walkFrom readingFrom walkEntries readingEntries blockOfReading weight walk trees listing tableSize readingLength tooHeavy listed list joined withWalk derivationOf check asked
+cases-hold = (refl, (refl, (refl, ((refl, λ out. refl), (refl, (refl, (refl, (refl, (refl, (refl, (refl, (refl, (zeros, (nothing, tt))))))))))))))
   where
-    leaf-0 : Yields G (sym 0) (0 ∷ [])
+    leaf-0 : Yields G (symbolOf 0) (0 ∷ [])
     leaf-0 = one 1 0 refl
 
     said : Says G (0 ∷ 0 ∷ 0 ∷ [])

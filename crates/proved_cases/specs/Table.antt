@@ -1,102 +1,115 @@
 -- The cases of document 01 that are marked P, "Checked examples", as one table. A row says what a service answers by its
--- definition; proofs/Cases has the one theorem, that every row holds. Assumes nothing.
+-- definition; proofs/Cases has the one theorem, that all rows hold. Assumes nothing.
 use mathlib.Core.Path.{_≡_}
-use mathlib.Core.List.{List, [], _∷_, map}
+use mathlib.Core.List.{List, [], _∷_, _++_, map}
 use Prim.Native.Nat.{ℕ}
-use lib.ListN.{length, replicate}
+use lib.ListN.{length, drop, replicate}
 use Rattle.packing.specs.declared.Rule as R
 use Rattle.packing.specs.declared.Rule.the-variants.{Pair, Word}
-use Rattle.packing.specs.Meaning.{sym, word, Grammar, Utterance, Candidate, candidate, Reading}
+use Rattle.packing.specs.Meaning.{symbolOf, word, Grammar, Utterance, Candidate, candidate, Reading}
 use Rattle.packing.specs.Parse.{Verdict, accepted, refused}
 use Rattle.packing.specs.Grammar.{blockOfGrammar}
 use Rattle.packing.specs.Utterance.{blockOfUtterance}
 use Rattle.packing.specs.Reading.{blockOfReading}
-use Rattle.listing.specs.Listing.{list}
+use Rattle.listing.specs.Listing.{list, listedOf, outputAfter}
+use Rattle.listing.specs.declared.Listed.the-variants.{Found}
 use Rattle.checker.specs.Check.{check}
 use Rattle.specimen.specs.Specimen.{asked, Answers}
 use Rattle.specimen.specs.declared.Answered.{Answered}
 use Rattle.specimen.specs.declared.Answered.the-variants.{Written, Nothing}
 
 -- a row: the block of a grammar and of an utterance; the readings that the listing finds, with the lister's work table and
--- output; the check's verdict on a reading block; what the specimen answers, and its output before and after
+-- output; its answer m, and the bytes that it writes in front of the output; the check's verdict on a reading block; what the specimen
+-- answers, and its output before and after
 pub data Case : Type 0 where
   grammar : (g : Grammar) (block : List ℕ) → Case
   utterance : (g : Grammar) (u : Utterance) (block : List ℕ) → Case
   lists : (g : Grammar) (u : Utterance) (wanted : ℕ) (readings : List Reading) → Case
+  finds : (g : Grammar) (u : Utterance) (wanted m : ℕ) (bytes : List ℕ) → Case
   checks : (g : Grammar) (u : Utterance) (block : List ℕ) (verdict : Verdict Reading) → Case
   specimen : (g : Grammar) (n : ℕ) (out : List ℕ) (answer : Answered) (after : List ℕ) → Case
+
+abbrev pub listedFor : Grammar → Utterance → ℕ → Verdict (List (List ℕ))
+listedFor g u wanted = list (blockOfGrammar g) (blockOfUtterance (g .words) u) wanted 8192 1024
 
 abbrev pub Holds : Case → Type 0
 Holds (grammar g block) = blockOfGrammar g ≡ block
 Holds (utterance g u block) = blockOfUtterance (g .words) u ≡ block
-Holds (lists g u wanted readings) =
-    list (blockOfGrammar g) (blockOfUtterance (g .words) u) wanted 8192 1024 ≡ accepted (map (blockOfReading (length (g .rules))) readings)
+Holds (lists g u wanted readings) = listedFor g u wanted ≡ accepted (map (blockOfReading (length (g .rules))) readings)
+Holds (finds g u wanted m bytes) =
+    (listedOf (listedFor g u wanted) ≡ Found m) × ((out : List ℕ) → outputAfter (listedFor g u wanted) out ≡ bytes ++ drop (length bytes) out)
 Holds (checks g u block verdict) = check (blockOfGrammar g) (blockOfUtterance (g .words) u) block ≡ verdict
 Holds (specimen g n out answer after) =
     (r : Answered) (exit : List ℕ) → Answers (asked (blockOfGrammar g) n (length out)) n out r exit → (r ≡ answer) × (exit ≡ after)
 
-abbrev pub pair : ℕ → ℕ → ℕ → ℕ → R.Rule
-pair A B C w = Pair (sym A) (sym B) (sym C) w
+abbrev pub AllHold : List Case → Type 0
+AllHold [] = Unit {0}
+AllHold (row ∷ rows) = Holds row × AllHold rows
 
-abbrev pub leaf : ℕ → ℕ → ℕ → R.Rule
-leaf A x w = Word (sym A) (word x) w
+abbrev pub pairRule : ℕ → ℕ → ℕ → ℕ → R.Rule
+pairRule A B C w = Pair (symbolOf A) (symbolOf B) (symbolOf C) w
+
+abbrev pub wordRule : ℕ → ℕ → ℕ → R.Rule
+wordRule A x w = Word (symbolOf A) (word x) w
 
 abbrev pub offer : ℕ → ℕ → Candidate
 offer x cost = candidate (word x) cost
 
-abbrev pub read : ℕ → ℕ → List ℕ → Reading
-read n w numbers = record { slots = n; weight = w; walk = numbers }
+abbrev pub readingWith : ℕ → ℕ → List ℕ → Reading
+readingWith n w numbers = record { slots = n; weight = w; walk = numbers }
 
 -- grammar G of document 01, and n slots of word 0 at cost 0, of which U has four
 abbrev pub G : Grammar
-G = record { symbols = 1; words = 1; rules = pair 0 0 0 1 ∷ leaf 0 0 0 ∷ [] }
+G = record { symbols = 1; words = 1; rules = pairRule 0 0 0 1 ∷ wordRule 0 0 0 ∷ [] }
 
 abbrev pub U : ℕ → Utterance
 U n = replicate n (offer 0 0 ∷ [])
 
 abbrev pub two-words : Grammar
-two-words = record { symbols = 1; words = 2; rules = leaf 0 0 5 ∷ leaf 0 1 3 ∷ [] }
+two-words = record { symbols = 1; words = 2; rules = wordRule 0 0 5 ∷ wordRule 0 1 3 ∷ [] }
 
 abbrev pub two-parts : Grammar
 two-parts = record {
   symbols = 3;
   words = 4;
-  rules = pair 0 1 2 0 ∷ leaf 1 0 5 ∷ leaf 1 1 3 ∷ leaf 2 2 1 ∷ leaf 2 3 3 ∷ [];
+  rules = pairRule 0 1 2 0 ∷ wordRule 1 0 5 ∷ wordRule 1 1 3 ∷ wordRule 2 2 1 ∷ wordRule 2 3 3 ∷ [];
 }
 
 abbrev pub one-rule : Grammar
-one-rule = record { symbols = 1; words = 1; rules = leaf 0 0 0 ∷ [] }
+one-rule = record { symbols = 1; words = 1; rules = wordRule 0 0 0 ∷ [] }
 
-abbrev pub first : Reading
-first = read 4 3 (0 ∷ 1 ∷ 0 ∷ 1 ∷ 0 ∷ 1 ∷ 1 ∷ [])
+abbrev pub first-reading : Reading
+first-reading = readingWith 4 3 (0 ∷ 1 ∷ 0 ∷ 1 ∷ 0 ∷ 1 ∷ 1 ∷ [])
 
-abbrev pub second : Reading
-second = read 4 3 (0 ∷ 1 ∷ 0 ∷ 0 ∷ 1 ∷ 1 ∷ 1 ∷ [])
+abbrev pub second-reading : Reading
+second-reading = readingWith 4 3 (0 ∷ 1 ∷ 0 ∷ 0 ∷ 1 ∷ 1 ∷ 1 ∷ [])
 
-abbrev pub third : Reading
-third = read 4 3 (0 ∷ 0 ∷ 1 ∷ 1 ∷ 0 ∷ 1 ∷ 1 ∷ [])
+abbrev pub third-reading : Reading
+third-reading = readingWith 4 3 (0 ∷ 0 ∷ 1 ∷ 1 ∷ 0 ∷ 1 ∷ 1 ∷ [])
 
-abbrev pub fourth : Reading
-fourth = read 4 3 (0 ∷ 0 ∷ 1 ∷ 0 ∷ 1 ∷ 1 ∷ 1 ∷ [])
+abbrev pub fourth-reading : Reading
+fourth-reading = readingWith 4 3 (0 ∷ 0 ∷ 1 ∷ 0 ∷ 1 ∷ 1 ∷ 1 ∷ [])
 
-abbrev pub fifth : Reading
-fifth = read 4 3 (0 ∷ 0 ∷ 0 ∷ 1 ∷ 1 ∷ 1 ∷ 1 ∷ [])
+abbrev pub fifth-reading : Reading
+fifth-reading = readingWith 4 3 (0 ∷ 0 ∷ 0 ∷ 1 ∷ 1 ∷ 1 ∷ 1 ∷ [])
 
-abbrev pub table : List Case
-table =
+abbrev pub P-cases : List Case
+P-cases =
     grammar G (0x10 ∷ 0x40 ∷ 0x40 ∷ 0x40 ∷ 0x00 ∷ 0x09 ∷ 0x00 ∷ 0x00 ∷ 0x00 ∷ [])
     ∷ utterance G (U 4) (0x21 ∷ 0x08 ∷ 0x00 ∷ 0x00 ∷ 0x80 ∷ 0x00 ∷ 0x08 ∷ 0x00 ∷ 0x00 ∷ 0x80 ∷ 0x00 ∷ 0x00 ∷ [])
-    ∷ lists G (U 4) 8 (first ∷ second ∷ third ∷ fourth ∷ fifth ∷ [])
-    ∷ lists G (U 4) 5 (first ∷ second ∷ third ∷ fourth ∷ fifth ∷ [])
-    ∷ lists G (U 4) 3 (first ∷ second ∷ third ∷ [])
-    ∷ lists G (U 1) 8 (read 1 0 (1 ∷ []) ∷ [])
-    ∷ lists G (U 2) 8 (read 2 1 (0 ∷ 1 ∷ 1 ∷ []) ∷ [])
-    ∷ lists G (U 3) 8 (read 3 2 (0 ∷ 1 ∷ 0 ∷ 1 ∷ 1 ∷ []) ∷ read 3 2 (0 ∷ 0 ∷ 1 ∷ 1 ∷ 1 ∷ []) ∷ [])
-    ∷ checks G (U 4) (0x31 ∷ 0x00 ∷ 0x00 ∷ 0x00 ∷ 0xD5 ∷ 0x80 ∷ []) (accepted first)
+    ∷ lists G (U 4) 8 (first-reading ∷ second-reading ∷ third-reading ∷ fourth-reading ∷ fifth-reading ∷ [])
+    ∷ finds G (U 4) 5 5
+    (0x31 ∷ 0x00 ∷ 0x00 ∷ 0x00 ∷ 0xD5 ∷ 0x80 ∷ 0x31 ∷ 0x00 ∷ 0x00 ∷ 0x00 ∷ 0xD3 ∷ 0x80 ∷ 0x31 ∷ 0x00 ∷ 0x00 ∷ 0x00 ∷ 0xCD ∷ 0x80
+    ∷ 0x31 ∷ 0x00 ∷ 0x00 ∷ 0x00 ∷ 0xCB ∷ 0x80 ∷ 0x31 ∷ 0x00 ∷ 0x00 ∷ 0x00 ∷ 0xC7 ∷ 0x80 ∷ [])
+    ∷ lists G (U 4) 3 (first-reading ∷ second-reading ∷ third-reading ∷ [])
+    ∷ lists G (U 1) 8 (readingWith 1 0 (1 ∷ []) ∷ [])
+    ∷ lists G (U 2) 8 (readingWith 2 1 (0 ∷ 1 ∷ 1 ∷ []) ∷ [])
+    ∷ lists G (U 3) 8 (readingWith 3 2 (0 ∷ 1 ∷ 0 ∷ 1 ∷ 1 ∷ []) ∷ readingWith 3 2 (0 ∷ 0 ∷ 1 ∷ 1 ∷ 1 ∷ []) ∷ [])
+    ∷ checks G (U 4) (0x31 ∷ 0x00 ∷ 0x00 ∷ 0x00 ∷ 0xD5 ∷ 0x80 ∷ []) (accepted first-reading)
     ∷ checks G (U 4) (0x31 ∷ 0x00 ∷ 0x00 ∷ 0x01 ∷ 0x15 ∷ 0x80 ∷ []) (refused 35)
-    ∷ lists two-words ((offer 0 0 ∷ offer 1 2 ∷ []) ∷ []) 8 (read 1 5 (0 ∷ []) ∷ read 1 5 (1 ∷ []) ∷ [])
+    ∷ lists two-words ((offer 0 0 ∷ offer 1 2 ∷ []) ∷ []) 8 (readingWith 1 5 (0 ∷ []) ∷ readingWith 1 5 (1 ∷ []) ∷ [])
     ∷ lists two-parts ((offer 0 0 ∷ offer 1 0 ∷ []) ∷ (offer 2 0 ∷ offer 3 0 ∷ []) ∷ []) 8
-    (read 2 4 (0 ∷ 2 ∷ 3 ∷ []) ∷ read 2 6 (0 ∷ 2 ∷ 4 ∷ []) ∷ read 2 6 (0 ∷ 1 ∷ 3 ∷ []) ∷ read 2 8 (0 ∷ 1 ∷ 4 ∷ []) ∷ [])
+    (readingWith 2 4 (0 ∷ 2 ∷ 3 ∷ []) ∷ readingWith 2 6 (0 ∷ 2 ∷ 4 ∷ []) ∷ readingWith 2 6 (0 ∷ 1 ∷ 3 ∷ []) ∷ readingWith 2 8 (0 ∷ 1 ∷ 4 ∷ []) ∷ [])
     ∷ specimen G 3 (9 ∷ 9 ∷ 9 ∷ 9 ∷ []) Written (0 ∷ 0 ∷ 0 ∷ 9 ∷ [])
     ∷ specimen one-rule 2 (9 ∷ 9 ∷ []) Nothing (9 ∷ 9 ∷ [])
     ∷ []

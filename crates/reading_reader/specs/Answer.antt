@@ -3,7 +3,7 @@ use mathlib.Core.List.{List}
 use Prim.Native.Nat.{ℕ, _^_, _<_}
 use Rattle.packing.specs.Meaning.{Reading}
 use Rattle.packing.specs.Parse.{Parse, parsed, failed, _⟫_}
-use Rattle.packing.specs.Source.{bytes, take}
+use Rattle.packing.specs.Source.{bytes, fieldAt}
 use Rattle.packing.specs.Grammar.{blockKind}
 use Rattle.packing.specs.Reading.{readingSlots, readingWeight}
 use Rattle.packing.specs.Flat.{Begins}
@@ -27,4 +27,4 @@ Near (R.the-variants.Refused n) = Unit {0}
 -- kind, n and weight
 unfoldable pub headFrom : ℕ → List ℕ → Parse ℕ
 headFrom n s =
-    take (bytes 31 s) 0 (blockKind 3 32) ⟫ λ kind at. take (bytes 31 s) at (readingSlots n) ⟫ λ m at. take (bytes 31 s) at readingWeight
+    fieldAt (bytes 31 s) 0 (blockKind 3 32) ⟫ λ kind at. fieldAt (bytes 31 s) at (readingSlots n) ⟫ λ m at. fieldAt (bytes 31 s) at readingWeight

@@ -1,6 +1,6 @@
 -- Two rules are alike where their keys are equal, since each number of a key has room in it. Assumes nothing.
 use mathlib.Core.Path.{_≡_, refl, sym, ap, _∙_}
-use mathlib.Core.Bool.{Bool, true, false}
+use mathlib.Core.Bool.{Bool, true, false, _&&_}
 use mathlib.Core.List.{List, [], _∷_, _++_}
 use Prim.Native.Nat.{ℕ, suc, _+_, _-_, _*_, _≤_, _<_}
 use native.Mathlib.Nat.{mul-le-mul-right}
@@ -12,7 +12,7 @@ use lib.Dec.{eqb}
 use lib.ListN.{length, getD, take, set}
 use lib.Seq.{take-suc, take-suc-set}
 use Rattle.bits.specs.Bits.{pick}
-use Rattle.packing.specs.Grammar.{both, alike, anyAlike}
+use Rattle.packing.specs.Grammar.{alike, anyAlike}
 use Rattle.packing.specs.declared.Rule.{Rule}
 use Rattle.rules_reader.specs.declared.RuleNumbers.{RuleNumbers}
 use Rattle.rules_reader.specs.Rules.{Sound, ruleBy, keyOf, among}
@@ -52,25 +52,21 @@ module _ (m a b x y : ℕ) (hx : x < m) (hy : y < m) where
   rest : a ≡ b → (x ≡ y → ⊥) → a * m + x ≡ b * m + y → ⊥
   rest p q e = q (omega (arith, ap (λ (n : ℕ). n * m) p))
 
-  joined : eqb (a * m + x) (b * m + y) ≡ both (eqb a b) (eqb x y)
+  joined : eqb (a * m + x) (b * m + y) ≡ (eqb a b && eqb x y)
   joined = go (ℕ-discrete a b) (ℕ-discrete x y)
     where
-      go : Dec (a ≡ b) → Dec (x ≡ y) → eqb (a * m + x) (b * m + y) ≡ both (eqb a b) (eqb x y)
+      go : Dec (a ≡ b) → Dec (x ≡ y) → eqb (a * m + x) (b * m + y) ≡ (eqb a b && eqb x y)
       go (yes p) (yes q) = rw (eq-eqb a b p, eq-eqb x y q) (eq-eqb (a * m + x) (b * m + y) (rw (p, q)))
       go (yes p) (no q) = rw (eq-eqb a b p, ne-eqb x y q) (ne-eqb (a * m + x) (b * m + y) (rest p q))
       go (no p) d = rw (ne-eqb a b p) (ne-eqb (a * m + x) (b * m + y) (parted p))
 
-both-assoc : (a b c : Bool) → both a (both b c) ≡ both (both a b) c
-both-assoc true b c = refl
-both-assoc false b c = refl
-
-both-true : (a b : Bool) → b ≡ true → a ≡ both a b
-both-true true b e = sym e
-both-true false b e = refl
+and-true : (a b : Bool) → b ≡ true → a ≡ (a && b)
+and-true true b e = sym e
+and-true false b e = refl
 
 module _ (n m : RuleNumbers) (sn : Sound n) (sm : Sound m) where
   key-parts : eqb (keyOf n) (keyOf m)
-      ≡ both (both (both (eqb (n .kind) (m .kind)) (eqb (n .head) (m .head))) (eqb (n .first) (m .first))) (eqb (n .second) (m .second))
+      ≡ (eqb (n .kind) (m .kind) && eqb (n .head) (m .head) && eqb (n .first) (m .first) && eqb (n .second) (m .second))
   key-parts =
       rw (
         joined 256 ((n .kind * 32 + n .head) * 256 + n .first) ((m .kind * 32 + m .head) * 256 + m .first) (n .second) (m .second) (omega arith) (omega arith),
@@ -82,13 +78,13 @@ module _ (n m : RuleNumbers) (sn : Sound n) (sm : Sound m) where
   alike-keys = rw key-parts (go (ℕ-discrete (n .kind) 0) (ℕ-discrete (m .kind) 0))
     where
       go : Dec (n .kind ≡ 0) → Dec (m .kind ≡ 0) → alike (ruleBy n) (ruleBy m)
-          ≡ both (both (both (eqb (n .kind) (m .kind)) (eqb (n .head) (m .head))) (eqb (n .first) (m .first))) (eqb (n .second) (m .second))
-      go (yes p) (yes q) = rw (eq-eqb (n .kind) 0 p, eq-eqb (m .kind) 0 q, eq-eqb (n .kind) (m .kind) (p ∙ sym q)) (both-assoc (eqb (n .head) (m .head)) (eqb (n .first) (m .first)) (eqb (n .second) (m .second)))
+          ≡ (eqb (n .kind) (m .kind) && eqb (n .head) (m .head) && eqb (n .first) (m .first) && eqb (n .second) (m .second))
+      go (yes p) (yes q) = rw (eq-eqb (n .kind) 0 p, eq-eqb (m .kind) 0 q, eq-eqb (n .kind) (m .kind) (p ∙ sym q))
       go (yes p) (no q) = rw (eq-eqb (n .kind) 0 p, ne-eqb (m .kind) 0 q, ne-eqb (n .kind) (m .kind) (λ (e : n .kind ≡ m .kind). q (sym e ∙ p)))
       go (no p) (yes q) = rw (ne-eqb (n .kind) 0 p, eq-eqb (m .kind) 0 q, ne-eqb (n .kind) (m .kind) (λ (e : n .kind ≡ m .kind). p (e ∙ q)))
       go (no p) (no q) =
           rw (ne-eqb (n .kind) 0 p, ne-eqb (m .kind) 0 q, eq-eqb (n .kind) (m .kind) (omega (arith, p, q)))
-          (both-true (both (eqb (n .head) (m .head)) (eqb (n .first) (m .first))) (eqb (n .second) (m .second)) (eq-eqb (n .second) (m .second) (omega (arith, p, q))))
+          (and-true (eqb (n .head) (m .head) && eqb (n .first) (m .first)) (eqb (n .second) (m .second)) (eq-eqb (n .second) (m .second) (omega (arith, p, q))))
 
 -- the keys of the rules read so far tell which of them a rule is alike
 abbrev pub Keyed : List Rule → List ℕ → Type 0

@@ -19,13 +19,6 @@ use Rattle.packing.specs.declared.Read as read
 use Rattle.rules_reader.specs.declared.RuleNumbers.{RuleNumbers}
 use Rattle.rules_reader.specs.declared.RuleRead as rule
 
--- S and W are in their ranges
-pub record Ranges (S W : ℕ) : Type 0 where
-  pub some-symbol : 1 ≤ S
-  pub symbols : S ≤ 32
-  pub some-word : 1 ≤ W
-  pub words : W ≤ 200
-
 -- the rule of five numbers, and what was read as a rule
 abbrev pub ruleBy : RuleNumbers → rules.Rule
 ruleBy n = ruleOf (n .kind) (n .head) (n .weight) (n .first) (n .second)

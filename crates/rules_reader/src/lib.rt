@@ -1,8 +1,17 @@
 // The rules of a grammar, read from a block or a sheet into a flat array of numbers that the caller lends: five for each rule.
+use bits::MAX_WIDTH;
+use bits::WIDTHS_LENGTH;
 use packing::Cursor;
 use packing::Field;
 use packing::Read;
 use packing::Source;
+use packing::format;
+use packing::format::MAX_RULE_WIDTH;
+use packing::format::MAX_RULES;
+use packing::format::NUMBERS_PER_RULE;
+use packing::format::PAIR_RULE;
+use packing::format::RULES_LENGTH;
+use packing::refused;
 ghost use mathlib.Core.Path.{_≡_};
 ghost use mathlib.Core.List.{_++_};
 ghost use Prim.Native.Nat.{_+_, _-_, _*_, _^_, _≤_, _<_};
@@ -10,8 +19,15 @@ ghost use lib.ListN.{length, take};
 ghost use Rattle.packing.specs.Source.{within};
 ghost use Rattle.packing.specs.Read.{sourceOf};
 ghost use Rattle.bits.specs.Width.{widthOf};
-ghost use Rattle.packing.specs.Grammar.{firstOf, secondOf, ruleFrom};
-ghost use Rattle.rules_reader.specs.Rules.{Ranges, ruleRead, RuleNear, Sound, row, keyOf, among, RulesTold};
+ghost use Rattle.packing.specs.Ranges.{Ranges};
+ghost use Rattle.packing.specs.Grammar.{symbol, firstOf, secondOf, ruleFrom};
+ghost use Rattle.rules_reader.specs.Rules.{ruleRead, RuleNear, Sound, row, keyOf, among, RulesTold};
+
+// S and W, on which the fields of a rule depend.
+pub struct Vocabulary {
+    pub symbols: u32,
+    pub words: u32,
+}
 
 // The five numbers of a rule. For a word rule, kind 1, the first is the word and the second 0.
 struct RuleNumbers {
@@ -28,101 +44,76 @@ enum RuleRead {
     Refused(u32),
 }
 
-// The fields of a rule that are the same for every grammar: its kind and weight, and the last number of a word rule.
-const RULE_KIND: Field = Field {
-    width: 1,
-    least: 0,
-    most: 1,
-    below: 42,
-    above: 42,
-};
-
-const WEIGHT: Field = Field {
-    width: 16,
-    least: 0,
-    most: 65535,
-    below: 42,
-    above: 42,
-};
-
-const NOTHING: Field = Field {
-    width: 0,
-    least: 0,
-    most: 0,
-    below: 42,
-    above: 42,
-};
-
 // The field of a number below n.
 fn below(n: u32, refusal: u32) -> Field
-    requires { ⌜ (1 ≤ n) × (n ≤ 256) ⌝ }
-    ensures { λ f. ⌜ (f ≡ within (widthOf (n - 1)) 0 (n - 1) refusal) × (f .width ≤ 8) ⌝ }
+    requires { do ⌜ (1 ≤ n) × (n ≤ (← ⟦WIDTHS_LENGTH⟧)) ⌝ }
+    ensures { λ f. do ⌜ (f ≡ within (widthOf (n - 1)) 0 (n - 1) refusal) × (f .width ≤ (← ⟦MAX_WIDTH⟧ .entry)) ⌝ }
 {
-    let most = n - 1;
     Field {
-        width: bits::width_of(most as usize),
+        width: bits::width_below(n as usize),
         least: 0,
-        most: most,
+        most: n - 1,
         below: refusal,
         above: refusal,
     }
 }
 
-// The field of the first number of a rule's body.
-fn first_of(symbols: u32, words: u32, kind: u32) -> Field
-    requires { ⌜ Ranges symbols words ⌝ }
-    ensures { λ f. ⌜ (f ≡ firstOf symbols words kind) × (f .width ≤ 8) ⌝ }
+// The field of a symbol.
+fn symbol_of(v: Vocabulary) -> Field
+    requires { ⌜ Ranges (v .symbols) (v .words) ⌝ }
+    ensures { λ f. do ⌜ (f ≡ symbol (v .symbols)) × (f .width ≤ (← ⟦MAX_WIDTH⟧ .entry)) ⌝ }
 {
-    if kind == 0 {
-        return below(symbols, 4);
+    below(v.symbols, refused::GRAMMAR_SYMBOL)
+}
+
+// The field of the first number of a rule's body.
+fn first_of(v: Vocabulary, kind: u32) -> Field
+    requires { ⌜ Ranges (v .symbols) (v .words) ⌝ }
+    ensures { λ f. do ⌜ (f ≡ firstOf (v .symbols) (v .words) kind) × (f .width ≤ (← ⟦MAX_WIDTH⟧ .entry)) ⌝ }
+{
+    if kind == PAIR_RULE {
+        return symbol_of(v);
     }
-    below(words, 5)
+    below(v.words, refused::GRAMMAR_WORD)
 }
 
 // The field of the second number of a rule's body.
-fn second_of(symbols: u32, kind: u32) -> Field
-    requires { ⌜ (1 ≤ symbols) × (symbols ≤ 32) ⌝ }
-    ensures { λ f. ⌜ (f ≡ secondOf symbols kind) × (f .width ≤ 8) ⌝ }
+fn second_of(v: Vocabulary, kind: u32) -> Field
+    requires { ⌜ Ranges (v .symbols) (v .words) ⌝ }
+    ensures { λ f. do ⌜ (f ≡ secondOf (v .symbols) kind) × (f .width ≤ (← ⟦MAX_WIDTH⟧ .entry)) ⌝ }
 {
-    if kind == 0 {
-        return below(symbols, 4);
+    if kind == PAIR_RULE {
+        return symbol_of(v);
     }
-    NOTHING
+    format::NOTHING_FIELD
 }
 
 // The rule at a place of the source.
-fn read_rule(
-    src: Source,
-    block: &[u8],
-    sheet: &[u32],
-    at: usize,
-    symbols: u32,
-    words: u32,
-) -> RuleRead
-    requires { ⌜ (at < 2 ^ 16) × Ranges symbols words ⌝ }
-    ensures { λ r. ⌜ (ruleRead r ≡ ruleFrom (sourceOf src (now (block .entry)) (now (sheet .entry))) symbols words at) × RuleNear (at + 41) r ⌝ }
+fn read_rule(src: Source, block: &[u8], sheet: &[u32], at: usize, v: Vocabulary) -> RuleRead
+    requires { ⌜ (at < 2 ^ 16) × Ranges (v .symbols) (v .words) ⌝ }
+    ensures { λ r. do ⌜ (ruleRead r ≡ ruleFrom (sourceOf src (now (block .entry)) (now (sheet .entry))) (v .symbols) (v .words) at) × RuleNear (at + (← ⟦MAX_RULE_WIDTH⟧ .entry)) r ⌝ }
 {
-    let read = packing::take(src, block, sheet, at, RULE_KIND);
+    let read = packing::field_at(src, block, sheet, at, format::RULE_KIND_FIELD);
     let Read::Number(kind, c) = read else {
         return RuleRead::Refused(packing::refusal(read));
     };
     let at = c.at;
-    let read = packing::take(src, block, sheet, at, below(symbols, 4));
+    let read = packing::field_at(src, block, sheet, at, symbol_of(v));
     let Read::Number(head, c) = read else {
         return RuleRead::Refused(packing::refusal(read));
     };
     let at = c.at;
-    let read = packing::take(src, block, sheet, at, WEIGHT);
+    let read = packing::field_at(src, block, sheet, at, format::WEIGHT_FIELD);
     let Read::Number(weight, c) = read else {
         return RuleRead::Refused(packing::refusal(read));
     };
     let at = c.at;
-    let read = packing::take(src, block, sheet, at, first_of(symbols, words, kind));
+    let read = packing::field_at(src, block, sheet, at, first_of(v, kind));
     let Read::Number(first, c) = read else {
         return RuleRead::Refused(packing::refusal(read));
     };
     let at = c.at;
-    let read = packing::take(src, block, sheet, at, second_of(symbols, kind));
+    let read = packing::field_at(src, block, sheet, at, second_of(v, kind));
     let Read::Number(second, c) = read else {
         return RuleRead::Refused(packing::refusal(read));
     };
@@ -136,12 +127,18 @@ fn read_rule(
     RuleRead::Rule(numbers, c)
 }
 
+// How many values a head and each number of a body have at most, in a rule's key.
+const KEY_HEADS: u32 = format::MAX_SYMBOLS as u32;
+
+const KEY_NUMBERS: u32 = 256;
+
 // Kind, head and body of a rule as one number.
 fn rule_key(numbers: RuleNumbers) -> u32
     requires { ⌜ Sound numbers ⌝ }
     ensures { λ k. ⌜ k ≡ keyOf numbers ⌝ }
 {
-    ((numbers.kind * 32 + numbers.head) * 256 + numbers.first) * 256 + numbers.second
+    let head = numbers.kind * KEY_HEADS + numbers.head;
+    (head * KEY_NUMBERS + numbers.first) * KEY_NUMBERS + numbers.second
 }
 
 // Whether `key` is one of the first n keys. It looks at all of them, which is faster than to stop early.
@@ -165,12 +162,12 @@ fn store_rule(rules: &mut [u32], i: usize, numbers: RuleNumbers)
     requires { ⌜ 5 * i + 5 ≤ length (now rules) ⌝ }
     ensures { λ _. ⌜ take (5 * i + 5) (now (rules .exit)) ≡ take (5 * i) (now (rules .entry)) ++ row numbers ⌝ }
 {
-    let at = 5 * i;
+    let at = NUMBERS_PER_RULE * i;
     rules[at] = numbers.kind;
-    rules[at + 1] = numbers.head;
-    rules[at + 2] = numbers.weight;
-    rules[at + 3] = numbers.first;
-    rules[at + 4] = numbers.second;
+    rules[at + format::RULE_HEAD_AT] = numbers.head;
+    rules[at + format::RULE_WEIGHT_AT] = numbers.weight;
+    rules[at + format::RULE_FIRST_AT] = numbers.first;
+    rules[at + format::RULE_SECOND_AT] = numbers.second;
 }
 
 // The rules, from a place of the source, with their numbers into the array: how many, and the next place.
@@ -179,20 +176,19 @@ pub fn read_rules(
     block: &[u8],
     sheet: &[u32],
     start: usize,
-    symbols: u32,
-    words: u32,
+    v: Vocabulary,
     count: u32,
     rules: &mut [u32],
 ) -> Read
-    requires { ⌜ (start < 2 ^ 8) × Ranges symbols words × (count ≤ 256) × (1280 ≤ length (now rules)) ⌝ }
-    ensures { λ r. ⌜ RulesTold (sourceOf src (now (block .entry)) (now (sheet .entry))) symbols words count start r (now (rules .exit)) ⌝ }
+    requires { do ⌜ (start < 2 ^ 8) × Ranges (v .symbols) (v .words) × (count ≤ (← ⟦MAX_RULES⟧)) × ((← ⟦RULES_LENGTH⟧) ≤ length (now rules)) ⌝ }
+    ensures { λ r. ⌜ RulesTold (sourceOf src (now (block .entry)) (now (sheet .entry))) (v .symbols) (v .words) count start r (now (rules .exit)) ⌝ }
 {
     let end = count as usize;
-    let mut keys = [0u32; 256];
+    let mut keys = [0u32; MAX_RULES];
     let mut at = start;
     let mut i: usize = 0;
     while i < end {
-        let read = read_rule(src, block, sheet, at, symbols, words);
+        let read = read_rule(src, block, sheet, at, v);
         match read {
             RuleRead::Refused(n) => {
                 return Read::Refused(n);
@@ -200,7 +196,7 @@ pub fn read_rules(
             RuleRead::Rule(numbers, c) => {
                 let key = rule_key(numbers);
                 if seen(&keys, i, key) {
-                    return Read::Refused(6);
+                    return Read::Refused(refused::GRAMMAR_REPEAT);
                 }
                 keys[i] = key;
                 store_rule(rules, i, numbers);

@@ -6,7 +6,7 @@ use Prim.Native.Nat.{ℕ}
 use lib.ListN.{length}
 use Rattle.packing.specs.Parse.{Verdict, accepted, refused}
 use Rattle.packing.specs.Conversion.{fitting, written}
-use Rattle.sheet_writer.specs.declared.Written as W
+use Rattle.packing.specs.declared.Written as W
 
 abbrev pub writtenOf : Verdict (List ℕ) → W.Written
 writtenOf (accepted l) = W.the-variants.Length (length l)

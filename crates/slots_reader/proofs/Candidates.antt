@@ -9,10 +9,10 @@ use lib.ListN.{length, length-append}
 use Rattle.packing.specs.Meaning as M
 use Rattle.packing.specs.Meaning.{candidate, word}
 use Rattle.packing.specs.Parse.{Parse, parsed, failed, _⟫_}
-use Rattle.packing.specs.Source.{Source, take}
+use Rattle.packing.specs.Source.{Source, fieldAt}
 use Rattle.packing.specs.Utterance.{offered, cost, candidatesFrom}
 use Rattle.packing.proofs.Parse.{through, same-parsed}
-use Rattle.packing.proofs.Bounds.{take-range, take-next}
+use Rattle.packing.proofs.Bounds.{field-at-range, field-at-next}
 use Rattle.packing.proofs.Widths.{byte-width}
 use Rattle.slots_reader.specs.Placed.{candidateFrom, candidateOf}
 use Rattle.slots_reader.specs.declared.CandidateRead.the-variants.{Candidate, Refused}
@@ -20,16 +20,16 @@ use Rattle.slots_reader.specs.declared.CandidateRead.the-variants.{Candi
 module _ (src : Source) (W : ℕ) where
   -- the ways out of the reading of one candidate
   module _ (least at : ℕ) where
-    pub no-word : {n : ℕ} → take src at (offered W least) ≡ failed n → Refused n ≡ candidateOf (candidateFrom src W least at)
+    pub no-word : {n : ℕ} → fieldAt src at (offered W least) ≡ failed n → Refused n ≡ candidateOf (candidateFrom src W least at)
     unfolding candidateFrom
     no-word e = rw e
 
-    module _ {w next : ℕ} (e : take src at (offered W least) ≡ parsed w next) where
-      pub no-cost : {n : ℕ} → take src next cost ≡ failed n → Refused n ≡ candidateOf (candidateFrom src W least at)
+    module _ {w next : ℕ} (e : fieldAt src at (offered W least) ≡ parsed w next) where
+      pub no-cost : {n : ℕ} → fieldAt src next cost ≡ failed n → Refused n ≡ candidateOf (candidateFrom src W least at)
       unfolding candidateFrom
       no-cost h = rw (e, h)
 
-      pub word-and-cost : {c end : ℕ} → take src next cost ≡ parsed c end
+      pub word-and-cost : {c end : ℕ} → fieldAt src next cost ≡ parsed c end
           → Candidate w c (record { at = end }) ≡ candidateOf (candidateFrom src W least at)
       unfolding candidateFrom
       word-and-cost h = rw (e, h)
@@ -40,15 +40,15 @@ module _ (src : Source) (W : ℕ) where
 
   candidates-suc : (n least at : ℕ) (cs : List M.Candidate) → candidatesFrom src W (suc n) least at cs ≡ (candidateFrom src W least at ⟫ others n cs)
   unfolding candidatesFrom candidateFrom
-  candidates-suc n least at cs = first (take src at (offered W least))
+  candidates-suc n least at cs = first (fieldAt src at (offered W least))
     where
       second : (w : ℕ) (x : Parse ℕ) → (x ⟫ λ c at. others n cs (candidate (word w) c) at) ≡ ((x ⟫ λ c at. parsed (candidate (word w) c) at) ⟫ others n cs)
       second w (parsed c at) = refl
       second w (failed m) = refl
 
-      first : (x : Parse ℕ) → (x ⟫ λ w at. take src at cost ⟫ λ c at. others n cs (candidate (word w) c) at)
-          ≡ ((x ⟫ λ w at. take src at cost ⟫ λ c at. parsed (candidate (word w) c) at) ⟫ others n cs)
-      first (parsed w at) = second w (take src at cost)
+      first : (x : Parse ℕ) → (x ⟫ λ w at. fieldAt src at cost ⟫ λ c at. others n cs (candidate (word w) c) at)
+          ≡ ((x ⟫ λ w at. fieldAt src at cost ⟫ λ c at. parsed (candidate (word w) c) at) ⟫ others n cs)
+      first (parsed w at) = second w (fieldAt src at cost)
       first (failed m) = refl
 
   -- the turns of the loop over the candidates: the ith is refused; it was read; there are no more
@@ -73,10 +73,10 @@ module _ (src : Source) (W : ℕ) where
     pub candidate-near : (least at : ℕ) {x : M.Candidate} {next : ℕ} → candidateFrom src W least at ≡ parsed x next → Near at x next
     unfolding candidateFrom
     candidate-near least at e =
-        through (take src at (offered W least)) _ e λ w a p e. through (take src a cost) _ e λ c b q e.
-        let n = take-next (offered W least) src at 8 (byte-width W (omega arith)) (omega arith) p in
-        let m = take-next cost src a 16 (omega arith) (omega arith) q in
-        same-parsed (Near at) e (take-range (offered W least) src at p .1, omega arith)
+        through (fieldAt src at (offered W least)) _ e λ w a p e. through (fieldAt src a cost) _ e λ c b q e.
+        let n = field-at-next (offered W least) src at 8 (byte-width W (omega arith)) (omega arith) p in
+        let m = field-at-next cost src a 16 (omega arith) (omega arith) q in
+        same-parsed (Near at) e (field-at-range (offered W least) src at p .1, omega arith)
 
     -- n candidates more
     pub candidates-near : (n least at : ℕ) (cs : List M.Candidate) {ds : List M.Candidate} {next : ℕ} → candidatesFrom src W n least at cs ≡ parsed ds next
@@ -84,8 +84,8 @@ module _ (src : Source) (W : ℕ) where
     unfolding candidatesFrom
     candidates-near zero least at cs e = same-parsed (λ ds next. (length ds ≡ length cs + 0) × (next ≤ at + 24 * 0)) e (omega arith, omega arith)
     candidates-near (suc n) least at cs e =
-        through (take src at (offered W least)) _ e λ w a p e. through (take src a cost) _ e λ c b q e.
-        let h = take-next (offered W least) src at 8 (byte-width W (omega arith)) (omega arith) p in
-        let k = take-next cost src a 16 (omega arith) (omega arith) q in
+        through (fieldAt src at (offered W least)) _ e λ w a p e. through (fieldAt src a cost) _ e λ c b q e.
+        let h = field-at-next (offered W least) src at 8 (byte-width W (omega arith)) (omega arith) p in
+        let k = field-at-next cost src a 16 (omega arith) (omega arith) q in
         let (l, m) = candidates-near n (suc w) b (cs ++ (candidate (word w) c ∷ [])) e in
         (omega (arith, length-append cs (candidate (word w) c ∷ [])), omega arith)

@@ -6,11 +6,11 @@ use native.Mathlib.Omega.{arith}
 use lib.ListN.{length, set, length-append}
 use Rattle.packing.specs.Meaning.{Candidate, Utterance}
 use Rattle.packing.specs.Parse.{Parse, parsed, failed}
-use Rattle.packing.specs.Source.{Source, take}
+use Rattle.packing.specs.Source.{Source, fieldAt}
 use Rattle.packing.specs.Utterance.{candidateCount, candidatesFrom, slotFrom, slotsFrom}
 use Rattle.packing.specs.Store.{storeAll}
 use Rattle.packing.proofs.Parse.{through, same-parsed}
-use Rattle.packing.proofs.Bounds.{take-range, take-next}
+use Rattle.packing.proofs.Bounds.{field-at-range, field-at-next}
 use Rattle.slots_reader.specs.Placed.{candidateNumbers, oneSlotNumbers, PlacedAs, placed, not-placed}
 use Rattle.slots_reader.specs.declared.Placed as P
 use Rattle.slots_reader.proofs.Candidates.{candidates-near}
@@ -28,11 +28,11 @@ slot-placed W (not-placed n) size = not-placed n
 module _ (src : Source) (W : ℕ) where
   -- a slot is its count, then its candidates
   module _ (at : ℕ) where
-    pub slot-stops : {n : ℕ} → take src at candidateCount ≡ failed n → slotFrom src W at ≡ failed n
+    pub slot-stops : {n : ℕ} → fieldAt src at candidateCount ≡ failed n → slotFrom src W at ≡ failed n
     unfolding slotFrom
     slot-stops e = rw e
 
-    pub slot-goes-on : {n next : ℕ} → take src at candidateCount ≡ parsed n next → slotFrom src W at ≡ candidatesFrom src W n 0 next []
+    pub slot-goes-on : {n next : ℕ} → fieldAt src at candidateCount ≡ parsed n next → slotFrom src W at ≡ candidatesFrom src W n 0 next []
     unfolding slotFrom
     slot-goes-on e = rw e
 
@@ -57,9 +57,9 @@ module _ (src : Source) (W : ℕ) where
     pub slot-near : (at : ℕ) {cs : List Candidate} {next : ℕ} → slotFrom src W at ≡ parsed cs next → (length cs ≤ 7) × (next ≤ at + 171)
     unfolding slotFrom
     slot-near at e =
-        through (take src at candidateCount) _ e λ n a p e.
-        let h = take-range candidateCount src at p in
-        let k = take-next candidateCount src at 3 (omega arith) (omega arith) p in
+        through (fieldAt src at candidateCount) _ e λ n a p e.
+        let h = field-at-range candidateCount src at p in
+        let k = field-at-next candidateCount src at 3 (omega arith) (omega arith) p in
         let (l, m) = candidates-near src W few n 0 a [] e in
         (omega arith, omega arith)
 

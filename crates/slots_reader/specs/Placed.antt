@@ -14,7 +14,7 @@ use Rattle.slots_reader.specs.declared.Placed as P
 
 -- one candidate: a word from `least` on, and its cost
 unfoldable pub candidateFrom : S.Source → ℕ → ℕ → ℕ → Parse Candidate
-candidateFrom src W least at = S.take src at (offered W least) ⟫ λ w at. S.take src at cost ⟫ λ c at. parsed (candidate (word w) c) at
+candidateFrom src W least at = S.fieldAt src at (offered W least) ⟫ λ w at. S.fieldAt src at cost ⟫ λ c at. parsed (candidate (word w) c) at
 
 abbrev pub candidateOf : Parse Candidate → C.CandidateRead
 candidateOf (parsed (candidate w c) next) = C.the-variants.Candidate (w .0) c (record { at = next })
@@ -30,5 +30,5 @@ oneSlotNumbers W cs = length cs ∷ candidateNumbers W cs
 -- a part that was parsed, of which `numbers` gives the numbers, is stored from place `to` on; a refusal is answered
 pub data PlacedAs {A : Type 0} (numbers : A → List ℕ) (before : List ℕ) (to : ℕ) (after : List ℕ) : Parse A → P.Placed → Type 0 where
   placed : (a : A) (next : ℕ) → after ≡ storeAll before to (numbers a)
-      → PlacedAs numbers before to after (parsed a next) (P.the-variants.Upto (record { at = next }) (to + length (numbers a)))
+      → PlacedAs numbers before to after (parsed a next) (P.the-variants.Upto (record { at = next; to = to + length (numbers a) }))
   not-placed : (n : ℕ) → PlacedAs numbers before to after (failed n) (P.the-variants.Refused n)

@@ -1,9 +1,18 @@
 // The slots of an utterance, read from a block or a sheet into a flat array of numbers that the caller lends: for each slot its
 // count and its words and costs.
+use bits::MAX_WIDTH;
 use packing::Cursor;
 use packing::Field;
 use packing::Read;
 use packing::Source;
+use packing::format;
+use packing::format::MAX_CANDIDATES;
+use packing::format::MAX_SLOTS;
+use packing::format::MAX_WORDS;
+use packing::format::NUMBERS_PER_CANDIDATE;
+use packing::format::SLOT_LENGTH;
+use packing::format::SLOTS_LENGTH;
+use packing::refused;
 ghost use mathlib.Core.Path.{_≡_};
 ghost use Prim.Native.Nat.{_+_, _*_, _^_, _≤_, _<_};
 ghost use lib.ListN.{length};
@@ -20,41 +29,29 @@ enum CandidateRead {
     Refused(u32),
 }
 
-// What reading a part into the array gives: the next place of the source and of the array.
+// A place of the source and a place of the array.
+pub struct Places {
+    pub at: usize,
+    pub to: usize,
+}
+
+// What reading a part into the array gives: the next places.
 pub enum Placed {
-    Upto(Cursor, usize),
+    Upto(Places),
     Refused(u32),
 }
 
-// The fields of a slot that are the same for every grammar: its count, and a cost.
-const CANDIDATES: Field = Field {
-    width: 3,
-    least: 1,
-    most: 7,
-    below: 13,
-    above: 13,
-};
-
-const COST: Field = Field {
-    width: 16,
-    least: 0,
-    most: 65535,
-    below: 42,
-    above: 42,
-};
-
 // The field of a word from `least` on.
 fn word_field(words: u32, least: u32) -> Field
-    requires { ⌜ (0 < words) × (words ≤ 200) ⌝ }
-    ensures { λ f. ⌜ (f ≡ offered words least) × (f .width ≤ 8) ⌝ }
+    requires { do ⌜ (0 < words) × (words ≤ (← ⟦MAX_WORDS⟧)) ⌝ }
+    ensures { λ f. do ⌜ (f ≡ offered words least) × (f .width ≤ (← ⟦MAX_WIDTH⟧ .entry)) ⌝ }
 {
-    let width = bits::width_of((words - 1) as usize);
     Field {
-        width: width,
+        width: bits::width_below(words as usize),
         least: least,
         most: words - 1,
-        below: 15,
-        above: 14,
+        below: refused::UTTERANCE_ORDER,
+        above: refused::UTTERANCE_WORD,
     }
 }
 
@@ -67,15 +64,15 @@ fn read_candidate(
     words: u32,
     least: u32,
 ) -> CandidateRead
-    requires { ⌜ (at < 2 ^ 31) × (0 < words) × (words ≤ 200) ⌝ }
+    requires { do ⌜ (at < 2 ^ 31) × (0 < words) × (words ≤ (← ⟦MAX_WORDS⟧)) ⌝ }
     ensures { λ r. ⌜ r ≡ candidateOf (candidateFrom (sourceOf src (now (block .entry)) (now (sheet .entry))) words least at) ⌝ }
 {
-    let first = packing::take(src, block, sheet, at, word_field(words, least));
+    let first = packing::field_at(src, block, sheet, at, word_field(words, least));
     let Read::Number(word, c) = first else {
         return CandidateRead::Refused(packing::refusal(first));
     };
     let next = c.at;
-    let second = packing::take(src, block, sheet, next, COST);
+    let second = packing::field_at(src, block, sheet, next, format::COST_FIELD);
     let Read::Number(cost, d) = second else {
         return CandidateRead::Refused(packing::refusal(second));
     };
@@ -91,21 +88,21 @@ fn store_candidate(slots: &mut [u32], p: usize, word: u32, cost: u32)
     slots[p + 1] = cost;
 }
 
-// `count` candidates, from place `start` of the source, into the array from place `to` on.
+// `count` candidates, from a place of the source on, into the array from a place of it on.
 fn read_candidates(
     src: Source,
     block: &[u8],
     sheet: &[u32],
-    start: usize,
+    p: Places,
     words: u32,
     count: usize,
     slots: &mut [u32],
-    to: usize,
 ) -> Placed
-    requires { ⌜ (start < 2 ^ 30) × (count ≤ 7) × (to + 2 * count ≤ length (now slots)) × (0 < words) × (words ≤ 200) ⌝ }
-    ensures { λ r. ⌜ PlacedAs (candidateNumbers words) (now (slots .entry)) to (now (slots .exit)) (candidatesFrom (sourceOf src (now (block .entry)) (now (sheet .entry))) words count 0 start []) r ⌝ }
+    requires { do ⌜ (p .at < 2 ^ 30) × (count ≤ (← ⟦MAX_CANDIDATES⟧)) × (p .to + 2 * count ≤ length (now slots)) × (0 < words) × (words ≤ (← ⟦MAX_WORDS⟧)) ⌝ }
+    ensures { λ r. ⌜ PlacedAs (candidateNumbers words) (now (slots .entry)) (p .to) (now (slots .exit)) (candidatesFrom (sourceOf src (now (block .entry)) (now (sheet .entry))) words count 0 (p .at) []) r ⌝ }
 {
-    let mut at = start;
+    let to = p.to;
+    let mut at = p.at;
     let mut least: u32 = 0;
     let mut i: usize = 0;
     while i < count {
@@ -114,36 +111,41 @@ fn read_candidates(
                 return Placed::Refused(n);
             }
             CandidateRead::Candidate(word, cost, c) => {
-                store_candidate(slots, to + 2 * i, word, cost);
+                store_candidate(slots, to + NUMBERS_PER_CANDIDATE * i, word, cost);
                 at = c.at;
                 least = word + 1;
                 i += 1;
             }
         }
     }
-    Placed::Upto(Cursor { at: at }, to + 2 * count)
+    let end = to + NUMBERS_PER_CANDIDATE * count;
+    Placed::Upto(Places { at: at, to: end })
 }
 
-// A slot, from place `at` of the source, into the array from place `to` on.
+// A slot, from a place of the source on, into the array from a place of it on.
 fn read_slot(
     src: Source,
     block: &[u8],
     sheet: &[u32],
-    at: usize,
+    p: Places,
     words: u32,
     slots: &mut [u32],
-    to: usize,
 ) -> Placed
-    requires { ⌜ (at < 2 ^ 29) × (to + 15 ≤ length (now slots)) × (0 < words) × (words ≤ 200) ⌝ }
-    ensures { λ r. ⌜ PlacedAs (oneSlotNumbers words) (now (slots .entry)) to (now (slots .exit)) (slotFrom (sourceOf src (now (block .entry)) (now (sheet .entry))) words at) r ⌝ }
+    requires { do ⌜ (p .at < 2 ^ 29) × (p .to + (← ⟦SLOT_LENGTH⟧) ≤ length (now slots)) × (0 < words) × (words ≤ (← ⟦MAX_WORDS⟧)) ⌝ }
+    ensures { λ r. ⌜ PlacedAs (oneSlotNumbers words) (now (slots .entry)) (p .to) (now (slots .exit)) (slotFrom (sourceOf src (now (block .entry)) (now (sheet .entry))) words (p .at)) r ⌝ }
 {
-    let counted = packing::take(src, block, sheet, at, CANDIDATES);
+    let at = p.at;
+    let to = p.to;
+    let counted = packing::field_at(src, block, sheet, at, format::CANDIDATES_FIELD);
     let Read::Number(n, c) = counted else {
         return Placed::Refused(packing::refusal(counted));
     };
     slots[to] = n;
-    let next = c.at;
-    read_candidates(src, block, sheet, next, words, n as usize, slots, to + 1)
+    let behind = Places {
+        at: c.at,
+        to: to + 1,
+    };
+    read_candidates(src, block, sheet, behind, words, n as usize, slots)
 }
 
 // `count` slots, from place `start` of the source, into the array.
@@ -156,23 +158,21 @@ pub fn read_slots(
     count: usize,
     slots: &mut [u32],
 ) -> Placed
-    requires { ⌜ (start < 2 ^ 28) × (count ≤ 24) × (360 ≤ length (now slots)) × (0 < words) × (words ≤ 200) ⌝ }
+    requires { do ⌜ (start < 2 ^ 28) × (count ≤ (← ⟦MAX_SLOTS⟧)) × ((← ⟦SLOTS_LENGTH⟧) ≤ length (now slots)) × (0 < words) × (words ≤ (← ⟦MAX_WORDS⟧)) ⌝ }
     ensures { λ r. ⌜ PlacedAs (slotNumbers words) (now (slots .entry)) 0 (now (slots .exit)) (slotsFrom (sourceOf src (now (block .entry)) (now (sheet .entry))) words count start []) r ⌝ }
 {
-    let mut at = start;
-    let mut to: usize = 0;
+    let mut p = Places { at: start, to: 0 };
     let mut i: usize = 0;
     while i < count {
-        match read_slot(src, block, sheet, at, words, slots, to) {
+        match read_slot(src, block, sheet, p, words, slots) {
             Placed::Refused(n) => {
                 return Placed::Refused(n);
             }
-            Placed::Upto(c, next) => {
-                at = c.at;
-                to = next;
+            Placed::Upto(next) => {
+                p = next;
                 i += 1;
             }
         }
     }
-    Placed::Upto(Cursor { at: at }, to)
+    Placed::Upto(p)
 }

@@ -1,11 +1,15 @@
--- What is asked of the specimen, by what the tests found. Assumes nothing.
+-- What is asked of the specimen, by what the tests found, and with which numbers it is refused. Assumes nothing.
 use mathlib.Core.Path.{_≡_, refl}
 use mathlib.Core.List.{List}
 use Prim.Native.Nat.{ℕ, _≤_, _<_}
+use native.Mathlib.Omega.{arith}
 use borrow.Author.Tests.{lt-ltb, le-ltb}
+use lib.Dec.{ltb}
 use Rattle.packing.specs.Meaning.{Grammar}
 use Rattle.packing.specs.Parse.{Verdict, accepted, refused}
 use Rattle.packing.specs.Grammar.{grammarBlock}
+use Rattle.packing.specs.Rows.{_∪_, GrammarBlockRow, SpecimenRow}
+use Rattle.packing.proofs.Refusals.{Refuses, granted, denied, choose-row, then-rows, grammar-block-row}
 use Rattle.specimen.specs.Specimen.{asked, Answers}
 use Rattle.specimen.specs.declared.Answered.the-variants.{Refused}
 
@@ -34,3 +38,11 @@ module _ (s : List ℕ) (n out : ℕ) where
 -- a refusal changes nothing
 pub answers-refused : {v : Verdict Grammar} (n : ℕ) (out : List ℕ) {m : ℕ} → v ≡ refused m → Answers v n out (Refused m) out
 answers-refused n out e = rw e (refl, refl)
+
+-- the refusals are of the rows grammar block and specimen
+pub asked-row : (s : List ℕ) (n out : ℕ) → Refuses (GrammarBlockRow ∪ SpecimenRow) (asked s n out)
+unfolding asked
+asked-row s n out =
+    then-rows (grammar-block-row s) λ g e.
+    choose-row (ltb n 1) (denied {n = 25} (omega arith, omega arith)) (choose-row (ltb 24 n) (denied {n = 25} (omega arith, omega arith))
+    (choose-row (ltb out n) (denied {n = 26} (omega arith, omega arith)) granted))

@@ -13,7 +13,7 @@ use lib.Dec.{eqb}
 use lib.ListN.{length, set, length-append, length-set}
 use lib.Seq.{getD-set-same, getD-set-other}
 use Rattle.bits.specs.Bits.{pick}
-use Rattle.packing.specs.Meaning.{Grammar, word, sym as symbol}
+use Rattle.packing.specs.Meaning.{Grammar, word, symbolOf}
 use Rattle.packing.specs.Flat.{ruleAt}
 use Rattle.packing.specs.Loop.{iter}
 use Rattle.packing.proofs.Loop.{iter-keeps}
@@ -150,7 +150,7 @@ module _ (g : Grammar) (rules : List ℕ) (S : ℕ) (few : S ≤ 32)
       where
         found : (e : h .0 ≡ a .0) → (pairChoice t b c r len 0 ≡ 0 → ⊥) → Choice t a len (pairChoice t b c r len 0)
         found e ne = ⊎-elim (λ z. absurd (ne z))
-            (λ z. let same : h ≡ a = ap (λ (n : ℕ). symbol n) e in
+            (λ z. let same : h ≡ a = ap (λ (n : ℕ). symbolOf n) e in
             rw (z .2) (split-choice b c r w (z .0 + 1) (rw same at k) (omega arith) (let l = z .1 in omega arith) (λ q. ne (z .2 ∙ q))))
             (kept-from (λ y. splitChoice t b c r len (y + 1)) 0 (len - 1))
 
@@ -160,7 +160,7 @@ module _ (g : Grammar) (rules : List ℕ) (S : ℕ) (few : S ≤ 32)
     rule-choice r (Word h x w) k ne = go (ℕ-discrete (h .0) (a .0)) (ℕ-discrete len 1) ne
       where
         go : Dec (h .0 ≡ a .0) → Dec (len ≡ 1) → (ruleChoice t a len 0 r (Word h x w) ≡ 0 → ⊥) → Choice t a len (ruleChoice t a len 0 r (Word h x w))
-        go (yes e) (yes f) ne = let same : h ≡ a = ap (λ (n : ℕ). symbol n) e in rw (eq-eqb _ _ e, eq-eqb _ _ f) (by-word r w (rw same at k) f)
+        go (yes e) (yes f) ne = let same : h ≡ a = ap (λ (n : ℕ). symbolOf n) e in rw (eq-eqb _ _ e, eq-eqb _ _ f) (by-word r w (rw same at k) f)
         go (yes e) (no f) ne = absurd (ne (rw (eq-eqb _ _ e, ne-eqb _ _ f)))
         go (no e) f ne = absurd (ne (rw (ne-eqb _ _ e)))
 
@@ -218,7 +218,7 @@ module _ (g : Grammar) (rules : List ℕ) (S : ℕ) (few : S ≤ 32)
     abbrev Row : ℕ → List ℕ → Type 0
     Row x t = (32 * (n + 1) ≤ length t) × Good t (len - 1) × ((a : Sym) → a .0 < x → Right t a len (choiceAt t a len))
 
-    row-step : (x : ℕ) (t : List ℕ) → x < S → Row x t → Row (suc x) (set t (len * 32 + x) (cellChoice t rules (length (g .rules)) (symbol x) len))
+    row-step : (x : ℕ) (t : List ℕ) → x < S → Row x t → Row (suc x) (set t (len * 32 + x) (cellChoice t rules (length (g .rules)) (symbolOf x) len))
     row-step x t l (size, good, row) = (
       rw length-set size,
       (λ b m hb p le. rw (cell-other t a b len m v (omega arith) (omega arith) (λ e f. omega arith)) (right-keeps t a len v l b m _ (omega arith) (good b m hb p le))),
@@ -226,14 +226,14 @@ module _ (g : Grammar) (rules : List ℕ) (S : ℕ) (few : S ≤ 32)
     )
       where
         a : Sym
-        a = symbol x
+        a = symbolOf x
 
         v : ℕ
         v = cellChoice t rules (length (g .rules)) a len
 
         at-cell : (b : Sym) → b .0 < suc x → Dec (b .0 ≡ x) → Right (set t (len * 32 + x) v) b len (choiceAt (set t (len * 32 + x) v) b len)
         at-cell b lb (yes e) =
-            let same : b ≡ a = ap (λ (n : ℕ). symbol n) e in
+            let same : b ≡ a = ap (λ (n : ℕ). symbolOf n) e in
             let here : choiceAt (set t (len * 32 + x) v) a len ≡ v = getD-set-same t (len * 32 + x) v 0 (omega arith) in
             rw (same, here) (right-keeps t a len v l a len v (omega arith) (cell-right t a len l good))
         at-cell b lb (no e) =
@@ -244,7 +244,7 @@ module _ (g : Grammar) (rules : List ℕ) (S : ℕ) (few : S ≤ 32)
         → (32 * (n + 1) ≤ length (lengthFilled rules (length (g .rules)) S len t)) × Good (lengthFilled rules (length (g .rules)) S len t) len
     unfolding lengthFilled
     row-filled t size good =
-        let (p, q, r) = iter-keeps Row (λ t a. set t (len * 32 + a) (cellChoice t rules (length (g .rules)) (symbol a) len)) t S (size, good, λ a l. absurd (omega arith)) row-step in
+        let (p, q, r) = iter-keeps Row (λ t a. set t (len * 32 + a) (cellChoice t rules (length (g .rules)) (symbolOf a) len)) t S (size, good, λ a l. absurd (omega arith)) row-step in
         (p, λ a m ha pm le. go a m ha pm le q r (ℕ-discrete m len))
       where
         go : {t : List ℕ} (a : Sym) (m : ℕ) → a .0 < S → 0 < m → m ≤ len → Good t (len - 1) → ((a : Sym) → a .0 < S → Right t a len (choiceAt t a len)) → Dec (m ≡ len) → Right t a m (choiceAt t a m)

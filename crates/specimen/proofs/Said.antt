@@ -4,7 +4,7 @@ use mathlib.Core.List.{List, _++_}
 use Prim.Native.Nat.{ℕ, _+_, _*_, _≤_, _<_}
 use native.Mathlib.Omega.{arith}
 use lib.ListN.{length, drop}
-use Rattle.packing.specs.Meaning.{Grammar, word, sym as symbol}
+use Rattle.packing.specs.Meaning.{Grammar, word, symbolOf}
 use Rattle.packing.specs.Parse.{accepted}
 use Rattle.grammar_reader.specs.declared.Sizes.{Sizes}
 use Rattle.grammar_reader.specs.Answer.{sizes}
@@ -42,30 +42,30 @@ module _ (g : Grammar) (v : ValidGrammar g) (rules : List ℕ) (b : Begins (rule
     good : Good g rules (g .symbols) few stored parts words full n
     good = filled-good g rules (g .symbols) few stored parts words n table room
 
-    start : symbol 0 .0 < g .symbols
+    start : symbolOf 0 .0 < g .symbols
     start = omega (arith, valid-sizes g v .0)
 
-    none-said : choiceAt full (symbol 0) n ≡ 0 → (ws : List ℕ) → length ws ≡ n → Says g ws → ⊥
-    none-said e ws h s = good (symbol 0) n start pos (omega arith) .nothing e ws h (says-yields g ws s)
+    none-said : choiceAt full (symbolOf 0) n ≡ 0 → (ws : List ℕ) → length ws ≡ n → Says g ws → ⊥
+    none-said e ws h s = good (symbolOf 0) n start pos (omega arith) .nothing e ws h (says-yields g ws s)
 
     -- the string that is written, and that it stands at the front of the output
-    one-said : (choiceAt full (symbol 0) n ≡ 0 → ⊥) → (out : List ℕ) → n ≤ length out
+    one-said : (choiceAt full (symbolOf 0) n ≡ 0 → ⊥) → (out : List ℕ) → n ≤ length out
         → (ws : List ℕ) × (length ws ≡ n) × Says g ws × (wordsWritten full rules n out ≡ ws ++ drop n out)
     unfolding wordsWritten
     one-said ne out l =
-        let (ws, e, y, at) = words-yield g rules (g .symbols) few stored parts words full n (omega arith) good n (symbol 0) n (omega arith) start pos (omega arith) ne in
+        let (ws, e, y, at) = words-yield g rules (g .symbols) few stored parts words full n (omega arith) good n (symbolOf 0) n (omega arith) start pos (omega arith) ne in
         (ws, e, yields-says g ws y, stored-front _ out ws n e l at)
 
     -- the answers, from what the code knows: the table, and its choice for the start
-    module _ (z : Sizes) (e : z ≡ sizes g) (t : List ℕ) (p : t ≡ filled rules (z .rules) (z .symbols) n table) {x : ℕ} (q : x ≡ choiceAt t (symbol 0) n) where
+    module _ (z : Sizes) (e : z ≡ sizes g) (t : List ℕ) (p : t ≡ filled rules (z .rules) (z .symbols) n table) {x : ℕ} (q : x ≡ choiceAt t (symbolOf 0) n) where
       is-full : t ≡ full
       is-full = p ∙ ap (λ (y : Sizes). filled rules (y .rules) (y .symbols) n table) e
 
       pub answers-nothing : (out : List ℕ) → x ≡ 0 → Answers (accepted g) n out Nothing out
-      answers-nothing out h = (none-said (sym (ap (λ (l : List ℕ). choiceAt l (symbol 0) n) is-full) ∙ sym q ∙ h), refl)
+      answers-nothing out h = (none-said (sym (ap (λ (l : List ℕ). choiceAt l (symbolOf 0) n) is-full) ∙ sym q ∙ h), refl)
 
       pub answers-written : (out exit : List ℕ) → (x ≡ 0 → ⊥) → n ≤ length out → exit ≡ wordsWritten t rules n out
           → Answers (accepted g) n out Written exit
       answers-written out exit h l r =
-          let (ws, e, y, w) = one-said (λ z. h (q ∙ ap (λ (l : List ℕ). choiceAt l (symbol 0) n) is-full ∙ z)) out l in
+          let (ws, e, y, w) = one-said (λ z. h (q ∙ ap (λ (l : List ℕ). choiceAt l (symbolOf 0) n) is-full ∙ z)) out l in
           (ws, e, y, r ∙ ap (λ (l : List ℕ). wordsWritten l rules n out) is-full ∙ w)

@@ -8,7 +8,7 @@ use native.Mathlib.Nat.{add-zero, zero-add}
 use native.Mathlib.Omega.{arith}
 use lib.ListN.{length, getElem?, take, drop, length-append}
 use lib.Seq.{take-length, take-add, drop-drop}
-use Rattle.packing.specs.Meaning.{Grammar, edge, slotEdges, edgesFrom, edges, word, sym as symbol}
+use Rattle.packing.specs.Meaning.{Grammar, edge, slotEdges, edgesFrom, edges, word, symbolOf}
 use Rattle.packing.specs.declared.Sym.{Sym}
 use Rattle.packing.specs.declared.Word as W
 use Rattle.packing.specs.declared.Rule.the-variants.{Pair, Word}
@@ -83,8 +83,8 @@ module _ (g : Grammar) where
       (omega arith, b₂, rw (take-drop-join ws i j k a₁ b₁ b₂) (two r w h a₃ b₃))
 
   -- a grammar says the strings that its start yields
-  pub says-yields : (ws : List ℕ) → Says g ws → Yields g (symbol 0) ws
+  pub says-yields : (ws : List ℕ) → Says g ws → Yields g (symbolOf 0) ws
   says-yields ws (t, d) = let (p, q, y) = derives-yields ws (rw length-plain at d) in let n : length ws - 0 ≡ length ws = omega arith in rw (n, take-length) at y
 
-  pub yields-says : (ws : List ℕ) → Yields g (symbol 0) ws → Says g ws
+  pub yields-says : (ws : List ℕ) → Yields g (symbolOf 0) ws → Says g ws
   yields-says ws y = let (p, (t, d)) = yields-derives y [] [] in (t, rw length-plain (rw (append-nil, zero-add) at d))

@@ -7,7 +7,7 @@ use lib.ListN.{getD, set}
 use Rattle.bits.specs.Bits.{pick}
 use Rattle.packing.specs.Flat.{ruleAt}
 use Rattle.packing.specs.Loop.{iter}
-use Rattle.packing.specs.Meaning.{sym}
+use Rattle.packing.specs.Meaning.{symbolOf}
 use Rattle.packing.specs.declared.Sym.{Sym}
 use Rattle.packing.specs.declared.Rule.{Rule}
 use Rattle.packing.specs.declared.Rule.the-variants.{Pair, Word}
@@ -37,7 +37,7 @@ cellChoice t rules R a len = iter (λ x r. ruleChoice t a len x r (ruleAt rules 
 
 -- the choices of every symbol for a length, and for all lengths up to n
 unfoldable pub lengthFilled : List ℕ → ℕ → ℕ → ℕ → List ℕ → List ℕ
-lengthFilled rules R S len t = iter (λ t a. set t (len * 32 + a) (cellChoice t rules R (sym a) len)) t S
+lengthFilled rules R S len t = iter (λ t a. set t (len * 32 + a) (cellChoice t rules R (symbolOf a) len)) t S
 
 unfoldable pub filled : List ℕ → ℕ → ℕ → ℕ → List ℕ → List ℕ
 filled rules R S n t = iter (λ t y. lengthFilled rules R S (y + 1) t) t n
@@ -66,4 +66,4 @@ wordAt t rules (suc steps) p = wordAt t rules steps (partBelow t rules p)
 
 -- an output with the n words chosen for the start
 unfoldable pub wordsWritten : List ℕ → List ℕ → ℕ → List ℕ → List ℕ
-wordsWritten t rules n out = iter (λ l x. set l x (wordAt t rules n (record { head = sym 0; len = n; place = x }))) out n
+wordsWritten t rules n out = iter (λ l x. set l x (wordAt t rules n (record { head = symbolOf 0; len = n; place = x }))) out n

@@ -27,11 +27,19 @@ asked grammar n out =
     grammarBlock grammar then λ g.
     pick (ltb n 1) (refused 25) (pick (ltb 24 n) (refused 25) (pick (ltb out n) (refused 26) (accepted g)))
 
--- what holds of the answer and of the output afterwards; the string is free but for its length and that it is derived
+-- a string stands in front of the output, free but for its length and that it is derived; bytes beyond are unchanged
+abbrev pub StringWritten : Grammar → ℕ → List ℕ → List ℕ → Type 0
+StringWritten g n out exit = (ws : List ℕ) × (length ws ≡ n) × Says g ws × (exit ≡ ws ++ drop n out)
+
+-- no string of that length is derived, and nothing is written
+abbrev pub NoString : Grammar → ℕ → List ℕ → List ℕ → Type 0
+NoString g n out exit = ((ws : List ℕ) → length ws ≡ n → Says g ws → ⊥) × (exit ≡ out)
+
+-- what holds of the answer and of the output afterwards
 abbrev pub Answers : Verdict Grammar → ℕ → List ℕ → A.Answered → List ℕ → Type 0
 Answers (refused m) n out Written exit = ⊥
 Answers (refused m) n out Nothing exit = ⊥
 Answers (refused m) n out (Refused k) exit = (k ≡ m) × (exit ≡ out)
-Answers (accepted g) n out Written exit = (ws : List ℕ) × (length ws ≡ n) × Says g ws × (exit ≡ ws ++ drop n out)
-Answers (accepted g) n out Nothing exit = ((ws : List ℕ) → length ws ≡ n → Says g ws → ⊥) × (exit ≡ out)
+Answers (accepted g) n out Written exit = StringWritten g n out exit
+Answers (accepted g) n out Nothing exit = NoString g n out exit
 Answers (accepted g) n out (Refused k) exit = ⊥

@@ -5,11 +5,16 @@ use grammar_reader::GrammarRead;
 use grammar_reader::Sizes;
 use packing::Rule;
 use packing::Sym;
+use packing::format::MAX_RULES;
+use packing::format::MAX_SLOTS;
+use packing::format::MAX_SYMBOLS;
+use packing::format::RULES_LENGTH;
+use packing::refused;
 ghost use mathlib.Core.Path.{_≡_};
 ghost use Prim.Native.Nat.{_≤_, _<_};
 ghost use lib.ListN.{length};
 ghost use Rattle.packing.specs.Flat.{Begins, ruleNumbers, ruleAt};
-ghost use Rattle.packing.specs.Meaning.{Grammar, sym};
+ghost use Rattle.packing.specs.Meaning.{Grammar, symbolOf};
 ghost use Rattle.packing.specs.Parse.{accepted};
 ghost use Rattle.packing.specs.Valid.{ValidGrammar};
 ghost use Rattle.grammar_reader.specs.Answer.{Bounded, sizes as sizesOf};
@@ -23,18 +28,34 @@ pub enum Answered {
     Refused(u32),
 }
 
+// The greatest length.
+const MAX_LENGTH: u32 = MAX_SLOTS as u32;
+
+// The table has a choice for each length and symbol.
+const ROW: usize = MAX_SYMBOLS;
+
+const CHOICES: usize = (1 + MAX_SLOTS) * ROW;
+
+// A choice is a rule's number times this, which is more than any length, plus the length of the left part.
+const LENGTHS: usize = 32;
+
+const MAX_CHOICE: usize = MAX_RULES * LENGTHS;
+
+// The values of a byte.
+const BYTES: u32 = 256;
+
 // The choice for a symbol and a length: 0 where no string was found.
 fn choice_at(table: &[u32], a: Sym, len: usize) -> usize
     requires { ⌜ len < 4294967296 ⌝ }
     ensures { λ r. ⌜ (r ≡ choiceAt (now (table .entry)) a len) × (r < 4294967296) ⌝ }
 {
-    number_at(table, len * 32 + arrays::wide(a.0))
+    number_at(table, len * ROW + arrays::wide(a.0))
 }
 
 // A pair rule with a left part of length j, where both parts have a choice.
 fn split_choice(table: &[u32], b: Sym, c: Sym, r: usize, len: usize, j: usize) -> usize
-    requires { ⌜ (r < 256) × (j < len) × (len ≤ 24) ⌝ }
-    ensures { λ x. ⌜ (x ≡ splitChoice (now (table .entry)) b c r len j) × (x ≤ 8192) ⌝ }
+    requires { do ⌜ (r < (← ⟦MAX_RULES⟧)) × (j < len) × (len ≤ (← ⟦MAX_SLOTS⟧)) ⌝ }
+    ensures { λ x. do ⌜ (x ≡ splitChoice (now (table .entry)) b c r len j) × (x ≤ (← ⟦MAX_CHOICE⟧ .entry)) ⌝ }
 {
     if choice_at(table, b, j) == 0 {
         return 0;
@@ -42,20 +63,20 @@ fn split_choice(table: &[u32], b: Sym, c: Sym, r: usize, len: usize, j: usize) -
     if choice_at(table, c, len - j) == 0 {
         return 0;
     }
-    r * 32 + j
+    r * LENGTHS + j
 }
 
 // The first choice found stays.
 fn or_else(best: usize, new: usize) -> usize
-    requires { ⌜ (best ≤ 8192) × (new ≤ 8192) ⌝ }
-    ensures { λ x. ⌜ (x ≡ orElse best new) × (x ≤ 8192) ⌝ }
+    requires { do ⌜ (best ≤ (← ⟦MAX_CHOICE⟧)) × (new ≤ (← ⟦MAX_CHOICE⟧)) ⌝ }
+    ensures { λ x. do ⌜ (x ≡ orElse best new) × (x ≤ (← ⟦MAX_CHOICE⟧ .entry)) ⌝ }
 {
     if best == 0 { new } else { best }
 }
 
 fn pair_choice(table: &[u32], b: Sym, c: Sym, r: usize, len: usize, best: usize) -> usize
-    requires { ⌜ (r < 256) × (0 < len) × (len ≤ 24) × (best ≤ 8192) ⌝ }
-    ensures { λ x. ⌜ (x ≡ pairChoice (now (table .entry)) b c r len best) × (x ≤ 8192) ⌝ }
+    requires { do ⌜ (r < (← ⟦MAX_RULES⟧)) × (0 < len) × (len ≤ (← ⟦MAX_SLOTS⟧)) × (best ≤ (← ⟦MAX_CHOICE⟧)) ⌝ }
+    ensures { λ x. do ⌜ (x ≡ pairChoice (now (table .entry)) b c r len best) × (x ≤ (← ⟦MAX_CHOICE⟧ .entry)) ⌝ }
 {
     let mut kept = best;
     for y in 0..len - 1 {
@@ -66,8 +87,8 @@ fn pair_choice(table: &[u32], b: Sym, c: Sym, r: usize, len: usize, best: usize)
 
 // What rule r adds to the choice for a symbol and a length.
 fn rule_choice(table: &[u32], rules: &[u32], a: Sym, len: usize, r: usize, best: usize) -> usize
-    requires { ⌜ (r < 256) × (0 < len) × (len ≤ 24) × (best ≤ 8192) ⌝ }
-    ensures { λ x. ⌜ (x ≡ ruleChoice (now (table .entry)) a len best r (ruleAt (now (rules .entry)) r)) × (x ≤ 8192) ⌝ }
+    requires { do ⌜ (r < (← ⟦MAX_RULES⟧)) × (0 < len) × (len ≤ (← ⟦MAX_SLOTS⟧)) × (best ≤ (← ⟦MAX_CHOICE⟧)) ⌝ }
+    ensures { λ x. do ⌜ (x ≡ ruleChoice (now (table .entry)) a len best r (ruleAt (now (rules .entry)) r)) × (x ≤ (← ⟦MAX_CHOICE⟧ .entry)) ⌝ }
 {
     let rule = rule_at(rules, r);
     match rule {
@@ -80,7 +101,7 @@ fn rule_choice(table: &[u32], rules: &[u32], a: Sym, len: usize, r: usize, best:
         Rule::Word(head, _, _) => {
             if head.0 == a.0 {
                 if len == 1 {
-                    return or_else(best, r * 32 + 1);
+                    return or_else(best, r * LENGTHS + 1);
                 }
                 return best;
             }
@@ -90,8 +111,8 @@ fn rule_choice(table: &[u32], rules: &[u32], a: Sym, len: usize, r: usize, best:
 }
 
 fn cell_choice(table: &[u32], rules: &[u32], count: usize, a: Sym, len: usize) -> usize
-    requires { ⌜ (count ≤ 256) × (0 < len) × (len ≤ 24) ⌝ }
-    ensures { λ x. ⌜ (x ≡ cellChoice (now (table .entry)) (now (rules .entry)) count a len) × (x ≤ 8192) ⌝ }
+    requires { do ⌜ (count ≤ (← ⟦MAX_RULES⟧)) × (0 < len) × (len ≤ (← ⟦MAX_SLOTS⟧)) ⌝ }
+    ensures { λ x. do ⌜ (x ≡ cellChoice (now (table .entry)) (now (rules .entry)) count a len) × (x ≤ (← ⟦MAX_CHOICE⟧ .entry)) ⌝ }
 {
     let mut best: usize = 0;
     for r in 0..count {
@@ -102,18 +123,18 @@ fn cell_choice(table: &[u32], rules: &[u32], count: usize, a: Sym, len: usize) -
 
 // The choices of every symbol for a length.
 fn fill_length(table: &mut [u32], rules: &[u32], count: usize, symbols: usize, len: usize)
-    requires { ⌜ (count ≤ 256) × (symbols ≤ 32) × (0 < len) × (len ≤ 24) ⌝ }
+    requires { do ⌜ (count ≤ (← ⟦MAX_RULES⟧)) × (symbols ≤ (← ⟦MAX_SYMBOLS⟧)) × (0 < len) × (len ≤ (← ⟦MAX_SLOTS⟧)) ⌝ }
     ensures { λ _. ⌜ now (table .exit) ≡ lengthFilled (now (rules .entry)) count symbols len (now (table .entry)) ⌝ }
 {
     for a in 0..symbols {
         let choice = cell_choice(&table[..], rules, count, Sym(a as u32), len);
-        arrays::store(table, len * 32 + a, choice as u32);
+        arrays::store(table, len * ROW + a, choice as u32);
     }
 }
 
 // The choices of every symbol for all lengths up to n, shorter ones first.
 fn fill(table: &mut [u32], rules: &[u32], count: usize, symbols: usize, n: usize)
-    requires { ⌜ (count ≤ 256) × (symbols ≤ 32) × (n ≤ 24) ⌝ }
+    requires { do ⌜ (count ≤ (← ⟦MAX_RULES⟧)) × (symbols ≤ (← ⟦MAX_SYMBOLS⟧)) × (n ≤ (← ⟦MAX_SLOTS⟧)) ⌝ }
     ensures { λ _. ⌜ now (table .exit) ≡ filled (now (rules .entry)) count symbols n (now (table .entry)) ⌝ }
 {
     for y in 0..n {
@@ -130,15 +151,15 @@ struct Part {
 
 // The same place in the left or in the right part, by the choice; a word rule has no parts.
 fn part_below(table: &[u32], rules: &[u32], p: Part) -> Part
-    requires { ⌜ (p .place < p .len) × (p .len ≤ 31) ⌝ }
-    ensures { λ r. ⌜ (r ≡ partBelow (now (table .entry)) (now (rules .entry)) p) × (r .place < r .len) × (r .len ≤ 31) ⌝ }
+    requires { do ⌜ (p .place < p .len) × (p .len < (← ⟦LENGTHS⟧)) ⌝ }
+    ensures { λ r. do ⌜ (r ≡ partBelow (now (table .entry)) (now (rules .entry)) p) × (r .place < r .len) × (r .len < (← ⟦LENGTHS⟧ .entry)) ⌝ }
 {
     let choice = choice_at(table, p.head, p.len);
-    let rule = rule_at(rules, choice / 32);
+    let rule = rule_at(rules, choice / LENGTHS);
     match rule {
         Rule::Word(_, _, _) => p,
         Rule::Pair(_, b, c, _) => {
-            let j = choice % 32;
+            let j = choice % LENGTHS;
             if p.place < j {
                 return Part {
                     head: b,
@@ -157,8 +178,8 @@ fn part_below(table: &[u32], rules: &[u32], p: Part) -> Part
 
 // The word at a place, after n steps down.
 fn word_at(table: &[u32], rules: &[u32], n: usize, place: usize) -> u8
-    requires { ⌜ (place < n) × (n ≤ 24) ⌝ }
-    ensures { λ r. ⌜ r ≡ wordAt (now (table .entry)) (now (rules .entry)) n (record { head = sym 0; len = n; place = place }) ⌝ }
+    requires { do ⌜ (place < n) × (n ≤ (← ⟦MAX_SLOTS⟧)) ⌝ }
+    ensures { λ r. ⌜ r ≡ wordAt (now (table .entry)) (now (rules .entry)) n (record { head = symbolOf 0; len = n; place = place }) ⌝ }
 {
     let mut p = Part {
         head: Sym(0),
@@ -168,16 +189,16 @@ fn word_at(table: &[u32], rules: &[u32], n: usize, place: usize) -> u8
     for y in 0..n {
         p = part_below(table, rules, p);
     }
-    let rule = rule_at(rules, choice_at(table, p.head, p.len) / 32);
+    let rule = rule_at(rules, choice_at(table, p.head, p.len) / LENGTHS);
     match rule {
-        Rule::Word(_, word, _) => (word.0 % 256) as u8,
+        Rule::Word(_, word, _) => (word.0 % BYTES) as u8,
         Rule::Pair(_, _, _, _) => 0,
     }
 }
 
 // Writes the n words chosen for the start.
 fn write_words(table: &[u32], rules: &[u32], n: usize, out: &mut [u8])
-    requires { ⌜ (n ≤ 24) × (n ≤ length (now out)) ⌝ }
+    requires { do ⌜ (n ≤ (← ⟦MAX_SLOTS⟧)) × (n ≤ length (now out)) ⌝ }
     ensures { λ _. ⌜ now (out .exit) ≡ wordsWritten (now (table .entry)) (now (rules .entry)) n (now (out .entry)) ⌝ }
 {
     for place in 0..n {
@@ -187,10 +208,10 @@ fn write_words(table: &[u32], rules: &[u32], n: usize, out: &mut [u8])
 
 // The answer for a grammar that was accepted and a length that there is room for.
 fn answer(rules: &[u32], sizes: Sizes, n: usize, out: &mut [u8]) -> Answered
-    requires { ⌜ Bounded sizes × (0 < n) × (n ≤ 24) × (n ≤ length (now out)) ⌝ }
+    requires { do ⌜ Bounded sizes × (0 < n) × (n ≤ (← ⟦MAX_SLOTS⟧)) × (n ≤ length (now out)) ⌝ }
     ensures { λ r. ⌜ ((g : Grammar) → sizes ≡ sizesOf g → ValidGrammar g → Begins (ruleNumbers g) (now (rules .entry)) → Answers (accepted g) n (now (out .entry)) r (now (out .exit))) ⌝ }
 {
-    let mut table = [0u32; 800];
+    let mut table = [0u32; CHOICES];
     let symbols = sizes.symbols as usize;
     let count = sizes.rules as usize;
     fill(&mut table, rules, count, symbols, n);
@@ -205,20 +226,20 @@ fn answer(rules: &[u32], sizes: Sizes, n: usize, out: &mut [u8]) -> Answered
 pub fn specimen(grammar: &[u8], wanted: u32, out: &mut [u8]) -> Answered
     ensures { λ r. ⌜ Answers (asked (now (grammar .entry)) wanted (length (now (out .entry)))) wanted (now (out .entry)) r (now (out .exit)) ⌝ }
 {
-    let mut rules = [0u32; 1280];
+    let mut rules = [0u32; RULES_LENGTH];
     let read = grammar_reader::read_block(grammar, &mut rules);
     match read {
         GrammarRead::Refused(n) => Answered::Refused(n),
         GrammarRead::Grammar(sizes) => {
             if wanted < 1 {
-                return Answered::Refused(25);
+                return Answered::Refused(refused::SPECIMEN_LENGTH);
             }
-            if 24 < wanted {
-                return Answered::Refused(25);
+            if MAX_LENGTH < wanted {
+                return Answered::Refused(refused::SPECIMEN_LENGTH);
             }
             let n = wanted as usize;
             if out.len() < n {
-                return Answered::Refused(26);
+                return Answered::Refused(refused::SPECIMEN_OUTPUT);
             }
             answer(&rules, sizes, n, out)
         }

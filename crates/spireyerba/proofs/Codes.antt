@@ -11,7 +11,7 @@ use mir.Val.{toZ, ofZ, SFits}
 use Rattle.packing.specs.Meaning.{Reading}
 use Rattle.packing.specs.Parse.{Verdict, accepted, refused}
 use Rattle.sheet_writer.specs.Answer.{writtenOf}
-use Rattle.sheet_writer.specs.declared.Written as W
+use Rattle.packing.specs.declared.Written as W
 use Rattle.checker.specs.Check as Check
 use Rattle.checker.specs.declared.Checked as C
 use Rattle.listing.specs.Listing as Listing
@@ -64,23 +64,23 @@ abbrev SmallChecked : C.Checked → Type 0
 SmallChecked C.the-variants.Passes = Unit {0}
 SmallChecked (C.the-variants.Refused n) = n < 2147483648
 
-checked-same : (v : Verdict Reading) → checkedCode (Check.answerOf v) ≡ codeOf (λ d. 0) v
+checked-same : (v : Verdict Reading) → checkedCode (Check.checkedOf v) ≡ codeOf (λ d. 0) v
 checked-same (accepted d) = refl
 checked-same (refused n) = refl
 
-module _ {v : Verdict Reading} (small : Small (λ d. 0) v) {r s : C.Checked} (e : r ≡ Check.answerOf v) (told : r ≡ s) where
+module _ {v : Verdict Reading} (small : Small (λ d. 0) v) {r s : C.Checked} (e : r ≡ Check.checkedOf v) (told : r ≡ s) where
   pub checked-small : SmallChecked s
   checked-small = subst SmallChecked (sym e ∙ told) (go small)
     where
-      go : {v : Verdict Reading} → Small (λ d. 0) v → SmallChecked (Check.answerOf v)
+      go : {v : Verdict Reading} → Small (λ d. 0) v → SmallChecked (Check.checkedOf v)
       go (small-size h) = tt
       go (small-refusal h) = h
 
   pub checked-code : checkedCode s ≡ codeOf (λ d. 0) v
-  checked-code = told-code Check.answerOf checkedCode checked-same {v = v} e told
+  checked-code = told-code Check.checkedOf checkedCode checked-same {v = v} e told
 
   pub checked-number : {z : ℤ} → z ≡ checkedCode s → toZ w32 (ofZ w32 z) ≡ codeOf (λ d. 0) v
-  checked-number p = told-number Check.answerOf checkedCode checked-same small e told p
+  checked-number p = told-number Check.checkedOf checkedCode checked-same small e told p
 
 -- the listing
 abbrev listedCode : L.Listed → ℤ
@@ -91,18 +91,18 @@ abbrev SmallListed : L.Listed → Type 0
 SmallListed (L.the-variants.Found m) = m < 2147483648
 SmallListed (L.the-variants.Refused n) = n < 2147483648
 
-module _ {v : Verdict (List (List ℕ))} (small : Small length v) {r s : L.Listed} (e : r ≡ Listing.answerOf v) (told : r ≡ s) where
+module _ {v : Verdict (List (List ℕ))} (small : Small length v) {r s : L.Listed} (e : r ≡ Listing.listedOf v) (told : r ≡ s) where
   pub listed-small : SmallListed s
   listed-small = subst SmallListed (sym e ∙ told) (go small)
     where
-      go : {v : Verdict (List (List ℕ))} → Small length v → SmallListed (Listing.answerOf v)
+      go : {v : Verdict (List (List ℕ))} → Small length v → SmallListed (Listing.listedOf v)
       go (small-size h) = h
       go (small-refusal h) = h
 
   pub listed-number : {z : ℤ} → z ≡ listedCode s → toZ w32 (ofZ w32 z) ≡ codeOf length v
-  listed-number p = told-number Listing.answerOf listedCode same small e told p
+  listed-number p = told-number Listing.listedOf listedCode same small e told p
     where
-      same : (v : Verdict (List (List ℕ))) → listedCode (Listing.answerOf v) ≡ codeOf length v
+      same : (v : Verdict (List (List ℕ))) → listedCode (Listing.listedOf v) ≡ codeOf length v
       same (accepted ls) = refl
       same (refused n) = refl
 

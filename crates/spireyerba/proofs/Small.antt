@@ -1,33 +1,34 @@
--- Every answer fits a C number: results are at most 1,283 long, and refusals below 64. Assumes nothing.
+-- Every answer fits a C number: results are at most 1,283 long, and refusals from 1 to 63. Assumes nothing.
 use mathlib.Core.Bool.{Bool, true, false}
-use mathlib.Core.Path.{_≡_, refl}
-use mathlib.Core.List.{List, map}
-use Prim.Native.Nat.{ℕ, _*_, _≤_}
+use mathlib.Core.Logic.{⊎-elim}
+use mathlib.Core.Path.{_≡_, refl, ap}
+use mathlib.Core.List.{List}
+use Prim.Native.Nat.{ℕ, _≤_}
 use native.Mathlib.Omega.{arith}
 use borrow.Author.Tests.{ltb-false}
-use lib.Dec.{ltb, eqb}
-use lib.ListN.{length, length-map, length-take}
-use Rattle.bits.specs.Bits.{pick, ended}
-use mathlib.Core.Option.{Option, some}
-use mathlib.Core.Option as O
-use Rattle.packing.specs.Meaning.{Grammar, Utterance, Reading, edges}
-use Rattle.packing.specs.Parse.{Parse, Verdict, accepted, refused, _then_}
+use lib.Dec.{ltb}
+use lib.ListN.{length}
+use Rattle.bits.specs.Bits.{pick}
+use Rattle.packing.specs.Meaning.{Grammar, Utterance, Reading}
+use Rattle.packing.specs.Parse.{Verdict, accepted, refused, _then_}
 use Rattle.packing.specs.Grammar.{grammarBlock, grammarSheet, grammarEntries, sheetOfGrammar}
 use Rattle.packing.specs.Utterance.{utteranceBlock, utteranceSheet, utteranceEntries, sheetOfUtterance}
 use Rattle.packing.specs.Conversion.{grammarToBlock, grammarToSheet, utteranceToBlock, utteranceToSheet, fitting}
+use Rattle.packing.specs.Rows.{Between, _∪_, GrammarBlockRow, UtteranceBlockRow}
 use Rattle.packing.specs.Valid.{ValidGrammar, ValidUtterance}
 use Rattle.packing.proofs.Bounds.{length-rules, length-slots}
+use Rattle.packing.proofs.Parse as P
 use Rattle.packing.proofs.Widths.{grammar-length, utterance-length, valid-words}
 use Rattle.packing.proofs.Whole.{grammar-block-out, grammar-sheet-out, utterance-block-out, utterance-sheet-out}
-use Rattle.packing.proofs.Refusals.{Refuses, granted, denied, Stops, going, stopped, Low, then-row, choose-row, grammar-block-low, utterance-block-low, reading-low, grammar-to-block-low, grammar-to-sheet-low, utterance-to-block-low, utterance-to-sheet-low}
-use Rattle.derivation.specs.Derivation.{Tree, weight}
-use Rattle.checker.specs.Check.{check, judged, afterFields, derivationOf}
-use Rattle.packing.specs.Reading.{blockOfReading, readingLength}
-use Rattle.derivation.specs.List.{listing}
-use Rattle.derivation.proofs.Ranges.{valid-rules}
-use Rattle.listing.specs.Listing.{list, listed, tableSize, tooHeavy}
+use Rattle.packing.proofs.Refusals.{Refuses, granted, denied, Low, wider, low-both, grammar-to-block-row, grammar-to-sheet-row, utterance-to-block-row, utterance-to-sheet-row}
+use Rattle.checker.specs.Check.{check}
+use Rattle.checker.proofs.Refused.{check-row}
+use Rattle.listing.specs.Listing.{list, listed, listedOf}
+use Rattle.listing.proofs.Accepted.{found-few}
+use Rattle.listing.proofs.Refused.{list-row}
 use Rattle.specimen.specs.declared.Answered as A
 use Rattle.specimen.specs.Specimen.{asked, Answers}
+use Rattle.specimen.proofs.Asked.{asked-row}
 use Rattle.spireyerba.proofs.Codes.{Small, small-size, small-refusal, SmallAnswered}
 
 -- a result of at most 1,283
@@ -56,6 +57,36 @@ slots-short : (W : ℕ) (u : Utterance) → ValidUtterance W u → length (sheet
 unfolding sheetOfUtterance utteranceEntries
 slots-short W u v = omega (arith, length-slots W u (v .1), v .0 .1)
 
+-- every refusal is from 1 to 63: each row is
+low-sheet : {l m : ℕ} → 1 ≤ l → m ≤ 63 → (n : ℕ) → (Between l m ∪ Between 41 42) n → Low n
+low-sheet h k n = ⊎-elim (λ r. omega (arith, r)) (λ r. omega (arith, r))
+
+pub low-grammar-to-block : (t out : List ℕ) → Refuses Low (fitting (grammarToBlock t) out)
+low-grammar-to-block t out = wider (low-both (low-sheet (omega arith) (omega arith)) (λ n r. omega (arith, r))) (grammar-to-block-row t out)
+
+pub low-grammar-to-sheet : (s out : List ℕ) → Refuses Low (fitting (grammarToSheet s) out)
+low-grammar-to-sheet s out = wider (low-both (λ n r. omega (arith, r)) (λ n r. omega (arith, r))) (grammar-to-sheet-row s out)
+
+pub low-utterance-to-block : (s t out : List ℕ) → Refuses Low (fitting (utteranceToBlock s t) out)
+low-utterance-to-block s t out =
+    wider (low-both (low-both (λ n r. omega (arith, r)) (low-sheet (omega arith) (omega arith))) (λ n r. omega (arith, r)))
+    (utterance-to-block-row s t out)
+
+low-three : {Row : ℕ → Type 0} → ((n : ℕ) → Row n → Low n) → (n : ℕ) → (GrammarBlockRow ∪ UtteranceBlockRow ∪ Row) n → Low n
+low-three f = low-both (low-both (λ n r. omega (arith, r)) (λ n r. omega (arith, r))) f
+
+pub low-utterance-to-sheet : (s t out : List ℕ) → Refuses Low (fitting (utteranceToSheet s t) out)
+low-utterance-to-sheet s t out = wider (low-three (λ n r. omega (arith, r))) (utterance-to-sheet-row s t out)
+
+pub low-list : (grammar utterance : List ℕ) (N work out : ℕ) → Refuses Low (list grammar utterance N work out)
+low-list grammar utterance N work out = wider (low-three (λ n r. omega (arith, r))) (list-row grammar utterance N work out)
+
+pub low-check : (grammar utterance reading : List ℕ) → Refuses Low (check grammar utterance reading)
+low-check grammar utterance reading = wider (low-three (λ n r. omega (arith, r))) (check-row grammar utterance reading)
+
+low-asked : (s : List ℕ) (n out : ℕ) → Refuses Low (asked s n out)
+low-asked s n out = wider (low-both (λ n r. omega (arith, r)) (λ n r. omega (arith, r))) (asked-row s n out)
+
 -- what is short, with a low refusal, is a small answer
 small : {v : Verdict (List ℕ)} → Short v → Refuses Low v → Small length v
 small (short {l} h) r = small-size {a = l} (omega arith)
@@ -65,34 +96,27 @@ pub small-grammar-block : (t out : List ℕ) → Small length (fitting (grammarT
 unfolding grammarToBlock
 small-grammar-block t out =
     small (fitting-short out (then-short (grammarSheet t) _ (λ g e. short (omega (arith, grammar-length g (grammar-sheet-out t g e .0))))))
-    (grammar-to-block-low t out)
+    (low-grammar-to-block t out)
 
 pub small-grammar-sheet : (s out : List ℕ) → Small length (fitting (grammarToSheet s) out)
 unfolding grammarToSheet
 small-grammar-sheet s out =
-    small (fitting-short out (then-short (grammarBlock s) _ (λ g e. short (sheet-short g (grammar-block-out s g e .0))))) (grammar-to-sheet-low s out)
+    small (fitting-short out (then-short (grammarBlock s) _ (λ g e. short (sheet-short g (grammar-block-out s g e .0))))) (low-grammar-to-sheet s out)
 
 pub small-utterance-block : (s t out : List ℕ) → Small length (fitting (utteranceToBlock s t) out)
 unfolding utteranceToBlock
 small-utterance-block s t out =
     small (fitting-short out (then-short (grammarBlock s) _ (λ g e. then-short (utteranceSheet (g .words) t) _ (λ u f.
     let w = valid-words g (grammar-block-out s g e .0) in
-    short (omega (arith, utterance-length (g .words) (w .0) (w .1) u (utterance-sheet-out (g .words) t u f .0))))))) (utterance-to-block-low s t out)
+    short (omega (arith, utterance-length (g .words) (w .0) (w .1) u (utterance-sheet-out (g .words) t u f .0))))))) (low-utterance-to-block s t out)
 
 pub small-utterance-sheet : (s t out : List ℕ) → Small length (fitting (utteranceToSheet s t) out)
 unfolding utteranceToSheet
 small-utterance-sheet s t out =
     small (fitting-short out (then-short (grammarBlock s) _ (λ g e. then-short (utteranceBlock (g .words) t) _ (λ u f.
-    short (slots-short (g .words) u (utterance-block-out (g .words) t u f .0)))))) (utterance-to-sheet-low s t out)
+    short (slots-short (g .words) u (utterance-block-out (g .words) t u f .0)))))) (low-utterance-to-sheet s t out)
 
--- the specimen: an accepted length is at most 24, and a refusal is low
-asked-low : (s : List ℕ) (n out : ℕ) → Refuses Low (asked s n out)
-unfolding asked
-asked-low s n out =
-    then-row (grammar-block-low s) λ g e.
-    choose-row (ltb n 1) (denied {n = 25} (omega arith)) (choose-row (ltb 24 n) (denied {n = 25} (omega arith))
-    (choose-row (ltb out n) (denied {n = 26} (omega arith)) granted))
-
+-- the specimen: an accepted length is at most 24
 asked-most : (s : List ℕ) (n out : ℕ) (g : Grammar) → asked s n out ≡ accepted g → n ≤ 24
 unfolding asked
 asked-most s n out g e = go (grammarBlock s) (ltb n 1) (ltb 24 n) (ltb out n) refl e
@@ -105,7 +129,7 @@ asked-most s n out g e = go (grammarBlock s) (ltb n 1) (ltb 24 n) (ltb out n) re
     go (accepted h) false false c p q = ltb-false _ _ p
 
 pub asked-small : (s : List ℕ) (n size : ℕ) (out exit : List ℕ) (a : A.Answered) → Answers (asked s n size) n out a exit → SmallAnswered n a
-asked-small s n size out exit a = go (asked s n size) refl (asked-low s n size) a
+asked-small s n size out exit a = go (asked s n size) refl (low-asked s n size) a
   where
     go : (v : Verdict Grammar) → asked s n size ≡ v → Refuses Low v → (a : A.Answered) → Answers v n out a exit → SmallAnswered n a
     go (accepted g) e l A.the-variants.Written b = omega (arith, asked-most s n size g e)
@@ -114,59 +138,26 @@ asked-small s n size out exit a = go (asked s n size) refl (asked-low s n size) 
     go (refused k) e l A.the-variants.Written b = absurd b
     go (refused k) e (denied l) (A.the-variants.Refused m) b = omega (arith, b .0)
 
--- the check: a refusal is low
-judged-low : (g : Grammar) (u : Utterance) (block : List ℕ) (d : Reading) (at : ℕ) (t : Option Tree) → Refuses Low (judged g u block d at t)
-judged-low g u block d at O.none = denied {n = 34} (omega arith)
-judged-low g u block d at (some t) =
-    choose-row (eqb (weight g (edges u) t) (d .weight)) (choose-row (ended block at) granted (denied {n = 36} (omega arith)))
-    (denied {n = 35} (omega arith))
-
-fields-low : (g : Grammar) (u : Utterance) (block : List ℕ) {p : Parse Reading} → Stops Low p → Refuses Low (afterFields g u block p)
-fields-low g u block (stopped l) = denied l
-fields-low g u block (going {a = d} {at = at}) = judged-low g u block d at (derivationOf g u (d .walk))
-
-check-low : (grammar utterance reading : List ℕ) → Refuses Low (check grammar utterance reading)
-unfolding check
-check-low grammar utterance reading =
-    then-row (grammar-block-low grammar) (λ g e. then-row (utterance-block-low (g .words) utterance) (λ u f.
-    fields-low g u reading (reading-low (length u) (length (g .rules)) reading (valid-rules g (grammar-block-out grammar g e .0)))))
-
+-- the check
 checked-low : {v : Verdict Reading} → Refuses Low v → Small (λ d. 0) v
 checked-low (granted {a}) = small-size {a = a} (omega arith)
 checked-low (denied {n} l) = small-refusal {n = n} (omega arith)
 
 pub check-small : (grammar utterance reading : List ℕ) → Small (λ d. 0) (check grammar utterance reading)
-check-small grammar utterance reading = checked-low (check-low grammar utterance reading)
+check-small grammar utterance reading = checked-low (low-check grammar utterance reading)
 
--- the listing: at most 256 readings, and a refusal is low
-abbrev blocks : Grammar → Utterance → ℕ → List (List ℕ)
-blocks g u N = map (blockOfReading (length (g .rules))) (listing g u N)
-
-listing-most : (g : Grammar) (u : Utterance) (N : ℕ) → length (blocks g u N) ≤ N
-unfolding listing
-listing-most g u N = simp (length-map, length-take) (omega arith)
-
-listed-small : (g : Grammar) (u : Utterance) (N work out : ℕ) → Small length (listed g u N work out)
-unfolding listed
-listed-small g u N work out =
-    go (ltb N 1) (ltb 256 N) (ltb work (tableSize (g .symbols) (length u) N))
-    (ltb out (N * readingLength (length u) (length (g .rules)))) (tooHeavy (listing g u N)) refl
-  where
-    go : (a b c d e : Bool) → ltb 256 N ≡ b → Small length
-        (pick a (refused 21) (pick b (refused 21) (pick c (refused 22) (pick d (refused 23) (pick e (refused 24) (accepted (blocks g u N)))))))
-    go true b c d e p = small-refusal {n = 21} (omega arith)
-    go false true c d e p = small-refusal {n = 21} (omega arith)
-    go false false true d e p = small-refusal {n = 22} (omega arith)
-    go false false false true e p = small-refusal {n = 23} (omega arith)
-    go false false false false true p = small-refusal {n = 24} (omega arith)
-    go false false false false false p = small-size {a = blocks g u N} (omega (arith, listing-most g u N, ltb-false 256 N p))
-
-then-small : {A : Type 0} {v : Verdict A} (k : A → Verdict (List (List ℕ))) → Refuses Low v → ((a : A) → Small length (k a))
-    → Small length (v then k)
-then-small k (granted {a}) h = h a
-then-small k (denied {n} l) h = small-refusal {n = n} (omega arith)
+-- the listing: at most 256 readings
+most-wanted : (grammar utterance : List ℕ) (N work out : ℕ) (ls : List (List ℕ)) → list grammar utterance N work out ≡ accepted ls → N ≤ 256
+unfolding list listed
+most-wanted grammar utterance N work out ls e =
+    P.granted (grammarBlock grammar) _ e λ g p e.
+    P.granted (utteranceBlock (g .words) utterance) _ e λ u q e.
+    ltb-false 256 N (P.accepted-else (ltb 256 N) 21 _ (P.accepted-else (ltb N 1) 21 _ e .1) .0)
 
 pub list-small : (grammar utterance : List ℕ) (N work out : ℕ) → Small length (list grammar utterance N work out)
-unfolding list
-list-small grammar utterance N work out =
-    then-small _ (grammar-block-low grammar) λ g. then-small _ (utterance-block-low (g .words) utterance) λ u. listed-small g u N work out
+list-small grammar utterance N work out = go refl (low-list grammar utterance N work out)
+  where
+    go : {v : Verdict (List (List ℕ))} → list grammar utterance N work out ≡ v → Refuses Low v → Small length v
+    go e (granted {a}) =
+        small-size {a = a} (omega (arith, most-wanted grammar utterance N work out a e, found-few grammar utterance N work out refl (ap listedOf e)))
+    go e (denied {n} l) = small-refusal {n = n} (omega arith)

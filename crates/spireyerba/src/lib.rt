@@ -2,7 +2,7 @@
 // number: 0 or more is the answer, less than 0 is minus the refusal's number.
 use checker::Checked;
 use listing::Listed;
-use sheet_writer::Written;
+use packing::Written;
 use specimen::Answered;
 ghost use mathlib.Core.Path.{_≡_};
 ghost use Prim.Native.Nat.{_<_};
@@ -13,6 +13,7 @@ ghost use Rattle.checker.specs.Check.{check};
 ghost use Rattle.listing.specs.Listing.{list, outputAfter, workAfter};
 ghost use Rattle.specimen.specs.Specimen.{asked};
 ghost use Rattle.spireyerba.specs.Code.{checkCode, listCode, lengthCode, AnswersCode};
+ghost use Rattle.spireyerba.specs.Demands as demands;
 ghost use Rattle.spireyerba.specs.Model.{writtenCode, SmallWritten};
 
 // A count as a C number.
@@ -47,6 +48,7 @@ fn written_code(w: Written) -> i32
 pub extern "C" fn spireyerba_grammar_to_block(sheet: &[u32], out: &mut [u8]) -> i32
     ensures { λ r. ⌜ r ≡ lengthCode (fitting (grammarToBlock (now (sheet .entry))) (now (out .entry))) ⌝ }
     ensures { λ r. ⌜ now (out .exit) ≡ written (fitting (grammarToBlock (now (sheet .entry))) (now (out .entry))) (now (out .entry)) ⌝ }
+    ensures { λ r. ⌜ demands.GrammarToBlock (now (sheet .entry)) (now (out .entry)) r (now (out .exit)) ⌝ }
 {
     written_code(grammar_conversion::grammar_to_block(sheet, out))
 }
@@ -56,6 +58,7 @@ pub extern "C" fn spireyerba_grammar_to_block(sheet: &[u32], out: &mut [u8]) -> 
 pub extern "C" fn spireyerba_grammar_to_sheet(block: &[u8], out: &mut [u32]) -> i32
     ensures { λ r. ⌜ r ≡ lengthCode (fitting (grammarToSheet (now (block .entry))) (now (out .entry))) ⌝ }
     ensures { λ r. ⌜ now (out .exit) ≡ written (fitting (grammarToSheet (now (block .entry))) (now (out .entry))) (now (out .entry)) ⌝ }
+    ensures { λ r. ⌜ demands.GrammarToSheet (now (block .entry)) (now (out .entry)) r (now (out .exit)) ⌝ }
 {
     written_code(grammar_conversion::grammar_to_sheet(block, out))
 }
@@ -69,6 +72,7 @@ pub extern "C" fn spireyerba_utterance_to_block(
 ) -> i32
     ensures { λ r. ⌜ r ≡ lengthCode (fitting (utteranceToBlock (now (grammar .entry)) (now (sheet .entry))) (now (out .entry))) ⌝ }
     ensures { λ r. ⌜ now (out .exit) ≡ written (fitting (utteranceToBlock (now (grammar .entry)) (now (sheet .entry))) (now (out .entry))) (now (out .entry)) ⌝ }
+    ensures { λ r. ⌜ demands.UtteranceToBlock (now (grammar .entry)) (now (sheet .entry)) (now (out .entry)) r (now (out .exit)) ⌝ }
 {
     written_code(utterance_conversion::utterance_to_block(grammar, sheet, out))
 }
@@ -82,6 +86,7 @@ pub extern "C" fn spireyerba_utterance_to_sheet(
 ) -> i32
     ensures { λ r. ⌜ r ≡ lengthCode (fitting (utteranceToSheet (now (grammar .entry)) (now (block .entry))) (now (out .entry))) ⌝ }
     ensures { λ r. ⌜ now (out .exit) ≡ written (fitting (utteranceToSheet (now (grammar .entry)) (now (block .entry))) (now (out .entry))) (now (out .entry)) ⌝ }
+    ensures { λ r. ⌜ demands.UtteranceToSheet (now (grammar .entry)) (now (block .entry)) (now (out .entry)) r (now (out .exit)) ⌝ }
 {
     written_code(utterance_conversion::utterance_to_sheet(grammar, block, out))
 }
@@ -98,6 +103,7 @@ pub extern "C" fn spireyerba_listing(
     ensures { λ r. ⌜ r ≡ listCode (list (now (grammar .entry)) (now (utterance .entry)) wanted (length (now (work .entry))) (length (now (out .entry)))) ⌝ }
     ensures { λ r. ⌜ now (work .exit) ≡ workAfter (list (now (grammar .entry)) (now (utterance .entry)) wanted (length (now (work .entry))) (length (now (out .entry)))) (now (work .entry)) ⌝ }
     ensures { λ r. ⌜ now (out .exit) ≡ outputAfter (list (now (grammar .entry)) (now (utterance .entry)) wanted (length (now (work .entry))) (length (now (out .entry)))) (now (out .entry)) ⌝ }
+    ensures { λ r. ⌜ demands.Listing (now (grammar .entry)) (now (utterance .entry)) wanted (now (work .entry)) (now (out .entry)) r (now (work .exit)) (now (out .exit)) ⌝ }
 {
     let answer = listing::listing(grammar, utterance, wanted, work, out);
     match answer {
@@ -110,6 +116,7 @@ pub extern "C" fn spireyerba_listing(
 #[no_mangle]
 pub extern "C" fn spireyerba_check(grammar: &[u8], utterance: &[u8], reading: &[u8]) -> i32
     ensures { λ r. ⌜ r ≡ checkCode (check (now (grammar .entry)) (now (utterance .entry)) (now (reading .entry))) ⌝ }
+    ensures { λ r. ⌜ demands.Check (now (grammar .entry)) (now (utterance .entry)) (now (reading .entry)) r ⌝ }
 {
     let answer = checker::check(grammar, utterance, reading);
     match answer {
@@ -122,6 +129,7 @@ pub extern "C" fn spireyerba_check(grammar: &[u8], utterance: &[u8], reading: &[
 #[no_mangle]
 pub extern "C" fn spireyerba_specimen(grammar: &[u8], wanted: u32, out: &mut [u8]) -> i32
     ensures { λ r. ⌜ AnswersCode (asked (now (grammar .entry)) wanted (length (now (out .entry)))) wanted (now (out .entry)) r (now (out .exit)) ⌝ }
+    ensures { λ r. ⌜ demands.Specimen (now (grammar .entry)) wanted (now (out .entry)) r (now (out .exit)) ⌝ }
 {
     let answer = specimen::specimen(grammar, wanted, out);
     match answer {

@@ -8,7 +8,7 @@ use lib.ListN.{length}
 use Rattle.bits.specs.Bits.{ended}
 use Rattle.packing.specs.Meaning.{Utterance}
 use Rattle.packing.specs.Parse.{parsed, failed, Verdict, accepted, refused}
-use Rattle.packing.specs.Source.{bytes, numbers, take}
+use Rattle.packing.specs.Source.{bytes, numbers, fieldAt}
 use Rattle.packing.specs.Grammar.{blockKind}
 use Rattle.packing.specs.Utterance.{utteranceFrom, utteranceBlock, utteranceSheet}
 use Rattle.packing.specs.Flat.{slotNumbers, Begins, SlotsIn}
@@ -32,11 +32,11 @@ promised-slots W after {u} e valid f h = rw (e, f) (refl, h, valid-size W u vali
 
 -- the ways out of a block's reader
 module _ (W : ℕ) (s : List ℕ) where
-  pub no-kind : {n : ℕ} → take (bytes 11 s) 0 (blockKind 2 12) ≡ failed n → utteranceBlock W s ≡ refused n
+  pub no-kind : {n : ℕ} → fieldAt (bytes 11 s) 0 (blockKind 2 12) ≡ failed n → utteranceBlock W s ≡ refused n
   unfolding utteranceBlock
   no-kind e = rw e
 
-  module _ {kind at : ℕ} (k : take (bytes 11 s) 0 (blockKind 2 12) ≡ parsed kind at) where
+  module _ {kind at : ℕ} (k : fieldAt (bytes 11 s) 0 (blockKind 2 12) ≡ parsed kind at) where
     pub block-stops : {n : ℕ} → utteranceFrom (bytes 11 s) W at ≡ failed n → utteranceBlock W s ≡ refused n
     unfolding utteranceBlock
     block-stops e = rw (k, e)

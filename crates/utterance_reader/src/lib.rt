@@ -1,8 +1,11 @@
 // Utterance blocks and sheets, read into a flat array of numbers.
 use packing::Cursor;
-use packing::Field;
 use packing::Read;
 use packing::Source;
+use packing::format;
+use packing::format::MAX_WORDS;
+use packing::format::SLOTS_LENGTH;
+use packing::refused;
 use slots_reader::Placed;
 ghost use mathlib.Core.Path.{_≡_};
 ghost use Prim.Native.Nat.{_+_, _*_, _^_, _≤_, _<_};
@@ -33,23 +36,6 @@ enum SlotsRead {
     Refused(u32),
 }
 
-// The fields of document 01's utterance block that stand before the slots.
-const KIND: Field = Field {
-    width: 4,
-    least: 2,
-    most: 2,
-    below: 12,
-    above: 12,
-};
-
-const SLOTS: Field = Field {
-    width: 6,
-    least: 1,
-    most: 24,
-    below: 13,
-    above: 13,
-};
-
 // n and the slots, from place `at` of the source, into the array.
 fn read_utterance(
     src: Source,
@@ -59,10 +45,10 @@ fn read_utterance(
     words: u32,
     slots: &mut [u32],
 ) -> SlotsRead
-    requires { ⌜ (at < 2 ^ 27) × (360 ≤ length (now slots)) × (0 < words) × (words ≤ 200) ⌝ }
+    requires { do ⌜ (at < 2 ^ 27) × ((← ⟦SLOTS_LENGTH⟧) ≤ length (now slots)) × (0 < words) × (words ≤ (← ⟦MAX_WORDS⟧)) ⌝ }
     ensures { λ r. ⌜ SlotsAs words (now (slots .exit)) (utteranceFrom (sourceOf src (now (block .entry)) (now (sheet .entry))) words at) r ⌝ }
 {
-    let counted = packing::take(src, block, sheet, at, SLOTS);
+    let counted = packing::field_at(src, block, sheet, at, format::SLOTS_FIELD);
     let Read::Number(n, c) = counted else {
         return SlotsRead::Refused(packing::refusal(counted));
     };
@@ -70,24 +56,24 @@ fn read_utterance(
     let count = n as usize;
     match slots_reader::read_slots(src, block, sheet, next, words, count, slots) {
         Placed::Refused(m) => SlotsRead::Refused(m),
-        Placed::Upto(d, numbers) => SlotsRead::Read(
+        Placed::Upto(end) => SlotsRead::Read(
             Slots {
                 count: count,
-                numbers: numbers,
+                numbers: end.to,
             },
-            d,
+            Cursor { at: end.at },
         ),
     }
 }
 
 // The utterance of a block under a grammar of `words` words.
 pub fn read_block(block: &[u8], words: u32, slots: &mut [u32]) -> UtteranceRead
-    requires { ⌜ (360 ≤ length (now slots)) × (0 < words) × (words ≤ 200) ⌝ }
+    requires { do ⌜ ((← ⟦SLOTS_LENGTH⟧) ≤ length (now slots)) × (0 < words) × (words ≤ (← ⟦MAX_WORDS⟧)) ⌝ }
     ensures { λ r. ⌜ (r ≡ answerOf words (utteranceBlock words (now (block .entry)))) × SlotsIn words (utteranceBlock words (now (block .entry))) (now (slots .exit)) × Sized r ⌝ }
 {
     let sheet = [0u32; 1];
-    let src = Source::Block(11);
-    let kind = packing::take(src, block, &sheet, 0, KIND);
+    let src = Source::Block(refused::UTTERANCE_END);
+    let kind = packing::field_at(src, block, &sheet, 0, format::UTTERANCE_KIND_FIELD);
     let Read::Number(_, c) = kind else {
         return UtteranceRead::Refused(packing::refusal(kind));
     };
@@ -99,14 +85,14 @@ pub fn read_block(block: &[u8], words: u32, slots: &mut [u32]) -> UtteranceRead
             if bit_reader::zero_from(block, at) {
                 return UtteranceRead::Utterance(found);
             }
-            UtteranceRead::Refused(16)
+            UtteranceRead::Refused(refused::UTTERANCE_FILL)
         }
     }
 }
 
 // The utterance of a sheet under a grammar of `words` words.
 pub fn read_sheet(sheet: &[u32], words: u32, slots: &mut [u32]) -> UtteranceRead
-    requires { ⌜ (360 ≤ length (now slots)) × (0 < words) × (words ≤ 200) ⌝ }
+    requires { do ⌜ ((← ⟦SLOTS_LENGTH⟧) ≤ length (now slots)) × (0 < words) × (words ≤ (← ⟦MAX_WORDS⟧)) ⌝ }
     ensures { λ r. ⌜ (r ≡ answerOf words (utteranceSheet words (now (sheet .entry)))) × SlotsIn words (utteranceSheet words (now (sheet .entry))) (now (slots .exit)) × Sized r ⌝ }
 {
     let block = [0u8; 1];
@@ -117,7 +103,7 @@ pub fn read_sheet(sheet: &[u32], words: u32, slots: &mut [u32]) -> UtteranceRead
             if at == sheet.len() {
                 return UtteranceRead::Utterance(found);
             }
-            UtteranceRead::Refused(41)
+            UtteranceRead::Refused(refused::SHEET_COUNT)
         }
     }
 }

@@ -1,15 +1,16 @@
 //! Packs the examples: a grammar and an utterance written with names become blocks, and their readings are listed.
 
-use spireyerba_tests::grammar::Grammar;
+use spireyerba::text::{print_list, NamedGrammar};
 use spireyerba_tests::nbest::least;
-use spireyerba_tests::text::{list, Named};
-use spireyerba_tests::utterance::Utterance;
+use std::error::Error;
 use std::fs::{read_to_string, write};
 use std::path::Path;
 use std::process::ExitCode;
 
 const USAGE: &str = "usage: pack FOLDER
 reads grammar.txt and utterance.txt there, writes grammar.bin, utterance.bin and readings.txt, the eight least readings";
+const GRAMMAR: &str = "grammar.txt";
+const UTTERANCE: &str = "utterance.txt";
 const WANTED: usize = 8;
 
 fn main() -> ExitCode {
@@ -28,20 +29,23 @@ fn main() -> ExitCode {
 }
 
 fn pack(folder: &Path) -> Result<(), String> {
-    let text = |name: &str| read_to_string(folder.join(name)).map_err(|fault| format!("{name}: {fault}"));
-    let store = |name: &str, bytes: &[u8]| write(folder.join(name), bytes).map_err(|fault| format!("{name}: {fault}"));
-    let named = Named::parse(&text("grammar.txt")?)?;
-    let utterance = named.parse_utterance(&text("utterance.txt")?)?;
-    let (grammar_block, utterance_block) = (named.grammar.to_block(), utterance.to_block(&named.grammar));
+    let text = |name| read_to_string(folder.join(name)).map_err(in_file(name));
+    let store = |name, bytes: &[u8]| write(folder.join(name), bytes).map_err(in_file(name));
+    let named = NamedGrammar::parse(&text(GRAMMAR)?).map_err(in_file(GRAMMAR))?;
+    let utterance = named.parse_utterance(&text(UTTERANCE)?).map_err(in_file(UTTERANCE))?;
     // a text can name what no block may hold
-    let refused = |refusal| format!("refused {}: {refusal:?}", refusal as u32);
-    let grammar = Grammar::from_block(&grammar_block).map_err(refused)?;
-    let utterance = Utterance::from_block(&grammar, &utterance_block).map_err(refused)?;
-    let readings = least(&grammar, &utterance, WANTED);
+    let grammar_block = named.grammar.to_block().map_err(in_file(GRAMMAR))?;
+    let utterance_block = utterance.to_block(&grammar_block).map_err(in_file(UTTERANCE))?;
+    let readings = least(&named.grammar, &utterance, WANTED);
     for (rank, reading) in readings.iter().enumerate() {
-        println!("{} {} {}", rank + 1, reading.weight, named.spell(reading));
+        println!("{} {} {}", rank + 1, reading.weight, named.spell(reading).expect("a reading under this grammar"));
     }
     store("grammar.bin", &grammar_block)?;
     store("utterance.bin", &utterance_block)?;
-    store("readings.txt", list(&readings).as_bytes())
+    store("readings.txt", print_list(&readings).as_bytes())
+}
+
+/// Says in which file something went wrong.
+fn in_file<E: Error>(name: &str) -> impl Fn(E) -> String + use<'_, E> {
+    move |fault| format!("{name}: {fault}")
 }

@@ -2,17 +2,16 @@
 
 use super::{Lent, Tally};
 use crate::check::check;
-use crate::library;
-use crate::refusal::as_c_answer;
 use crate::seeded::rng::Rng;
+use spireyerba::services;
 
 /// Compares the answer, and that no slice was changed.
 pub fn compare(rng: &mut Rng, tally: &mut Tally, blocks: [&[u8]; 3]) {
     let lent = blocks.map(|block| Lent::holding(rng, block));
     let before = lent.clone();
-    let answer = library::check(lent[0].slice(), lent[1].slice(), lent[2].slice());
-    tally.record(blocks, answer);
-    let expected = as_c_answer(check(blocks[0], blocks[1], blocks[2]));
+    let answer = services::check(lent[0].slice(), lent[1].slice(), lent[2].slice());
+    tally.record(blocks, &answer);
+    let expected = check(blocks[0], blocks[1], blocks[2]);
     assert_eq!(answer, expected, "answers of the library and of the second implementation\n{blocks:02x?}");
     assert!(lent == before, "a block was changed\n{blocks:02x?}");
 }

@@ -1,15 +1,18 @@
 //! The comparison of a conversion.
 
 use super::{Lent, Tally};
-use crate::refusal::{as_c_answer, Answer};
 use crate::seeded::rng::{Noise, Rng};
+use spireyerba::Refusal;
 use std::fmt::Debug;
 use std::hash::Hash;
 
+/// What a conversion is in either implementation: it takes a grammar block and an input, and writes an output.
+pub type Service<I, O> = fn(&[u8], &[I], &mut [O]) -> Result<usize, Refusal>;
+
 /// A conversion in both implementations. Those of grammars make nothing of the grammar block.
 pub struct Conversion<I, O> {
-    pub library: fn(&[u8], &[I], &mut [O]) -> i32,
-    pub second: fn(&[u8], &[I], &mut [O]) -> Answer,
+    pub library: Service<I, O>,
+    pub second: Service<I, O>,
     /// The length of the longest result.
     pub longest: usize,
 }
@@ -38,9 +41,9 @@ impl<I: Noise + PartialEq + Debug + Hash, O: Noise + PartialEq + Debug> Conversi
         let lent_input = Lent::holding(rng, input);
         let mut out = Lent::noise(rng, length);
         let (grammar_before, input_before, mut expected) = (lent_grammar.clone(), lent_input.clone(), out.clone());
-        let expected_answer = as_c_answer((self.second)(grammar, input, expected.slice_mut()));
+        let expected_answer = (self.second)(grammar, input, expected.slice_mut());
         let answer = (self.library)(lent_grammar.slice(), lent_input.slice(), out.slice_mut());
-        tally.record((grammar, input), answer);
+        tally.record((grammar, input), &answer);
         let context = || format!("grammar {grammar:02x?}\ninput {input:?}\noutput length {length}");
         assert_eq!(answer, expected_answer, "answers of the library and of the second implementation\n{}", context());
         assert!(out == expected, "output {:?}, expected {:?}\n{}", out.slice(), expected.slice(), context());

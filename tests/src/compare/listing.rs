@@ -1,10 +1,9 @@
 //! The comparison of the listing.
 
 use super::{Lent, Tally};
-use crate::library;
 use crate::listing::listing;
-use crate::refusal::as_c_answer;
 use crate::seeded::rng::Rng;
+use spireyerba::services;
 
 /// What a listing is asked for and lent.
 #[derive(Clone, Debug)]
@@ -16,20 +15,20 @@ pub struct Call<'a> {
     pub out_len: usize,
 }
 
-/// Compares the answer and every slice after the call, guards included; answers what both do.
-pub fn compare(rng: &mut Rng, tally: &mut Tally, call: &Call) -> i32 {
+/// Compares the answer and every slice after the call, guards included; answers how many readings both found, nothing if they refused.
+pub fn compare(rng: &mut Rng, tally: &mut Tally, call: &Call) -> Option<usize> {
     let blocks = [call.grammar, call.utterance].map(|block| Lent::holding(rng, block));
     let (mut work, mut out) = (Lent::noise(rng, call.work_len), Lent::noise(rng, call.out_len));
     let (blocks_before, mut expected_work, mut expected_out) = (blocks.clone(), work.clone(), out.clone());
     let [grammar, utterance] = &blocks;
-    let answer = library::listing(grammar.slice(), utterance.slice(), call.wanted, work.slice_mut(), out.slice_mut());
-    tally.record((call.grammar, call.utterance, call.wanted), answer);
+    let answer = services::listing(grammar.slice(), utterance.slice(), call.wanted, work.slice_mut(), out.slice_mut());
+    tally.record((call.grammar, call.utterance, call.wanted), &answer);
     let expected =
         listing(call.grammar, call.utterance, call.wanted, expected_work.slice_mut(), expected_out.slice_mut());
-    assert_eq!(answer, as_c_answer(expected), "answers of the library and of the second implementation\n{call:02x?}");
+    assert_eq!(answer, expected, "answers of the library and of the second implementation\n{call:02x?}");
     assert!(out == expected_out, "output {:02x?}\nexpected {:02x?}\n{call:02x?}", out.slice(), expected_out.slice());
     let differs = || work.slice().iter().zip(expected_work.slice()).position(|(found, expected)| found != expected);
     assert!(work == expected_work, "the work table differs at {:?}\n{call:02x?}", differs());
     assert!(blocks == blocks_before, "a block was changed\n{call:02x?}");
-    answer
+    answer.ok()
 }

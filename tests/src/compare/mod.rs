@@ -1,11 +1,12 @@
 //! One call of the library and of the second implementation on the same slices, held to each other.
+
 pub mod check;
 pub mod conversions;
 pub mod listing;
 pub mod specimen;
 
-use crate::refusal::Refusal;
 use crate::seeded::rng::{Noise, Rng};
+use spireyerba::Refusal;
 use std::collections::{BTreeMap, HashSet};
 use std::hash::{DefaultHasher, Hash, Hasher};
 use std::ops::Range;
@@ -44,17 +45,17 @@ pub struct Tally {
     /// Different inputs, by their hashes: one may be tried with slices of several lengths.
     inputs: HashSet<u64>,
     calls: usize,
-    refusals: BTreeMap<u32, usize>,
+    refusals: BTreeMap<Refusal, usize>,
 }
 
 impl Tally {
-    pub fn record(&mut self, input: impl Hash, answer: i32) {
+    pub fn record<T>(&mut self, input: impl Hash, answer: &Result<T, Refusal>) {
         let mut hasher = DefaultHasher::new();
         input.hash(&mut hasher);
         self.inputs.insert(hasher.finish());
         self.calls += 1;
-        if answer < 0 {
-            *self.refusals.entry(answer.unsigned_abs()).or_default() += 1;
+        if let Err(refusal) = answer {
+            *self.refusals.entry(*refusal).or_default() += 1;
         }
     }
 
@@ -64,9 +65,8 @@ impl Tally {
 
     /// Exactly these refusals were met, over at least so many different inputs.
     pub fn demand(&self, inputs: usize, refusals: &[Refusal]) {
-        let demanded: Vec<u32> = refusals.iter().map(|&refusal| refusal as u32).collect();
-        let met: Vec<u32> = self.refusals.keys().copied().collect();
-        assert_eq!(met, demanded, "refusals met, refusals demanded");
+        let met: Vec<Refusal> = self.refusals.keys().copied().collect();
+        assert_eq!(met, refusals, "refusals met, refusals demanded");
         println!("{} different inputs, {} calls", self.inputs.len(), self.calls);
         assert!(self.inputs.len() >= inputs, "{} different inputs, {inputs} demanded", self.inputs.len());
     }

@@ -2,8 +2,8 @@
 
 use super::raw;
 use super::rng::{Noise, Rng};
-use crate::grammar::Grammar;
-use crate::utterance::Utterance;
+use crate::{grammar, utterance};
+use spireyerba::{Grammar, Utterance};
 
 /// Every proper prefix.
 pub fn truncations<T: Clone>(whole: &[T]) -> impl Iterator<Item = Vec<T>> + '_ {
@@ -84,15 +84,15 @@ pub fn repeated_rule(rng: &mut Rng, grammar: &Grammar) -> Grammar {
 
 /// Some damaged blocks of a grammar, of each kind of damage.
 pub fn some_grammar_blocks(rng: &mut Rng, grammar: &Grammar, count: usize) -> Vec<Vec<u8>> {
-    let mut some = some_blocks(rng, &grammar.to_block(), count);
-    some.push(repeated_rule(rng, grammar).to_block());
+    let mut some = some_blocks(rng, &grammar::pack(grammar), count);
+    some.push(grammar::pack(&repeated_rule(rng, grammar)));
     some.push(raw::grammar_block(rng));
     some
 }
 
 /// Some damaged blocks of an utterance, of each kind of damage.
 pub fn some_utterance_blocks(rng: &mut Rng, grammar: &Grammar, utterance: &Utterance, count: usize) -> Vec<Vec<u8>> {
-    let mut some = some_blocks(rng, &utterance.to_block(grammar), count);
+    let mut some = some_blocks(rng, &utterance::pack(grammar, utterance), count);
     some.push(raw::utterance_block(rng, grammar.words));
     some
 }

@@ -1,7 +1,8 @@
 //! Seeded grammars.
 
 use super::rng::Rng;
-use crate::grammar::{Body, Grammar, Rule, GREATEST_WEIGHT};
+use spireyerba::limits::MAX_WEIGHT;
+use spireyerba::{Body, Grammar, Rule};
 use std::collections::HashSet;
 
 /// How large a seeded grammar or utterance is.
@@ -24,7 +25,7 @@ pub enum Weights {
 
 impl Weights {
     pub fn any(rng: &mut Rng) -> Self {
-        rng.pick(&[Self::Zero, Self::Tied, Self::Extreme, Self::UpTo(GREATEST_WEIGHT)])
+        rng.pick(&[Self::Zero, Self::Tied, Self::Extreme, Self::UpTo(MAX_WEIGHT)])
     }
 
     pub fn draw(self, rng: &mut Rng) -> u32 {

@@ -3,8 +3,8 @@
 use super::grammars::{with_rules, Weights};
 use super::rng::Rng;
 use super::utterances::slot;
-use crate::grammar::Grammar;
-use crate::utterance::Utterance;
+use crate::grammar::words_of_rules;
+use spireyerba::{Grammar, Utterance};
 use std::ops::RangeInclusive;
 
 /// From where to where the numbers of a case are drawn.
@@ -58,7 +58,7 @@ pub fn case(rng: &mut Rng, shape: &Shape) -> (Grammar, Utterance) {
 
 /// Another utterance for a grammar.
 pub fn utterance_of(rng: &mut Rng, grammar: &Grammar, shape: &Shape) -> Utterance {
-    let mut offered: Vec<u32> = grammar.words_of_rules().collect();
+    let mut offered: Vec<u32> = words_of_rules(grammar).collect();
     offered.push(rng.within(0..=grammar.words - 1));
     let costs = Weights::any(rng);
     let slots = rng.within(shape.slots.clone());

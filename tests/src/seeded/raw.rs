@@ -1,7 +1,8 @@
 //! Blocks and sheets of which each number is drawn by itself, so that any of them may be out of range.
 
 use super::rng::Rng;
-use crate::bits::{width, BitWriter};
+use crate::bits::BitWriter;
+use spireyerba::limits::width;
 
 /// Mostly `number`, at times anything of `bits` bits.
 fn mostly(rng: &mut Rng, number: u32, bits: usize) -> u32 {

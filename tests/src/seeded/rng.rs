@@ -9,7 +9,8 @@ impl Rng {
         Self(seed)
     }
 
-    pub fn next(&mut self) -> u64 {
+    /// The next 64 bits.
+    pub fn bits(&mut self) -> u64 {
         self.0 = self.0.wrapping_add(0x9e37_79b9_7f4a_7c15);
         let mut z = self.0;
         z = (z ^ (z >> 30)).wrapping_mul(0xbf58_476d_1ce4_e5b9);
@@ -19,11 +20,11 @@ impl Rng {
 
     pub fn within(&mut self, range: RangeInclusive<u32>) -> u32 {
         let count = u64::from(range.end() - range.start()) + 1;
-        range.start() + (self.next() % count) as u32
+        range.start() + (self.bits() % count) as u32
     }
 
     pub fn below(&mut self, count: usize) -> usize {
-        (self.next() % count as u64) as usize
+        (self.bits() % count as u64) as usize
     }
 
     pub fn pick<T: Copy>(&mut self, choices: &[T]) -> T {
@@ -42,7 +43,7 @@ impl Rng {
     }
 
     pub fn noise<T: Noise>(&mut self, length: usize) -> Vec<T> {
-        (0..length).map(|_| T::cut(self.next())).collect()
+        (0..length).map(|_| T::cut(self.bits())).collect()
     }
 }
 

@@ -2,7 +2,7 @@
 
 use super::grammars::{Size, Weights};
 use super::rng::Rng;
-use crate::utterance::{Candidate, Utterance};
+use spireyerba::{Candidate, Utterance};
 
 /// An utterance over the words below `words`.
 pub fn utterance(rng: &mut Rng, size: Size, words: u32) -> Utterance {

@@ -25,33 +25,33 @@ add-narrow-at-3 c = search needs
 narrow-at-requires-3 : tie.Need-narrow-at-requires-3
 narrow-at-requires-3 c κs = search needs
 
-number-at-requires : tie.Need-number-at-requires
-number-at-requires c κs = search needs
+narrow-at-requires-4 : tie.Need-narrow-at-requires-4
+narrow-at-requires-4 c κs = search needs
 
 add-narrow-at-4 : tie.Need-add-narrow-at-4
 add-narrow-at-4 c = search needs
 
-narrow-at-requires-4 : tie.Need-narrow-at-requires-4
-narrow-at-requires-4 c κs = search needs
+narrow-at-requires-5 : tie.Need-narrow-at-requires-5
+narrow-at-requires-5 c κs = search needs
 
 returns : tie.Need-returns
 returns c =
     pair-row
     (c .before .before .before .before .before .before .before .args .rules .now)
     (c .before .before .before .before .before .before .before .args .r)
-    (c .before .before .number-at .ensures .0)
+    (c .before .before .narrow-at4 .ensures)
     (c .before .before .before .before .before .narrow-at .ensures)
     (c .before .before .before .before .narrow-at2 .ensures)
     (c .before .before .before .narrow-at3 .ensures)
     (c .before .if1 .taken)
-    (c .narrow-at4 .ensures)
+    (c .narrow-at5 .ensures)
 
 returns-2 : tie.Need-returns-2
 returns-2 c =
     word-row
     (c .before .before .before .before .before .before .args .rules .now)
     (c .before .before .before .before .before .before .args .r)
-    (c .before .number-at .ensures .0)
+    (c .before .narrow-at4 .ensures)
     (c .before .before .before .before .narrow-at .ensures)
     (c .before .before .before .narrow-at2 .ensures)
     (c .before .before .narrow-at3 .ensures)
@@ -68,8 +68,8 @@ rule-at-spec =
     narrow-at-requires-2
     add-narrow-at-3
     narrow-at-requires-3
-    number-at-requires
-    add-narrow-at-4
     narrow-at-requires-4
+    add-narrow-at-4
+    narrow-at-requires-5
     returns
     returns-2)

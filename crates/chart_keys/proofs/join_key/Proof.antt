@@ -7,8 +7,8 @@ use Rattle.chart_keys.proofs.join_key.Tie as tie
 wide-requires : tie.Need-wide-requires
 wide-requires c κs = search needs
 
-less-one-requires : tie.Need-less-one-requires
-less-one-requires c κs = search needs
+part-weight-requires : tie.Need-part-weight-requires
+part-weight-requires c κs = search needs
 
 wide-requires-2 : tie.Need-wide-requires-2
 wide-requires-2 c κs = search needs
@@ -16,8 +16,8 @@ wide-requires-2 c κs = search needs
 add-key-of : tie.Need-add-key-of
 add-key-of c = search needs
 
-less-one-requires-2 : tie.Need-less-one-requires-2
-less-one-requires-2 c κs = search needs
+part-weight-requires-2 : tie.Need-part-weight-requires-2
+part-weight-requires-2 c κs = search needs
 
 wide-requires-3 : tie.Need-wide-requires-3
 wide-requires-3 c κs = search needs
@@ -41,10 +41,10 @@ returns c =
     rw (
       c .key-of .ensures,
       c .before .wide3 .ensures .0,
-      c₂ .less-one2 .ensures,
+      c₂ .part-weight2 .ensures,
       c₃ .wide2 .ensures .0,
       c₄
-          .less-one .ensures,
+          .part-weight .ensures,
       c₅ .wide .ensures .0,
     )
 
@@ -53,10 +53,10 @@ join-key-spec =
     tie.close
     (tie.spec
     wide-requires
-    less-one-requires
+    part-weight-requires
     wide-requires-2
     add-key-of
-    less-one-requires-2
+    part-weight-requires-2
     wide-requires-3
     add-key-of-2
     add-key-of-3

@@ -1,13 +1,14 @@
 -- By the span's length, which falls: `next_of_span` goes to `advance_pairing` over the same span, that to `extend` over the parts,
 -- and that to `next_of_span` again. Each promise holds for any fuel of at least that length, so the part's is taken at one less.
 use mathlib.Core.Path.{_∙_}
-use Prim.Native.Nat.{zero, suc, _+_, _-_, _*_, ℕ, _<_}
+use Prim.Native.Nat.{zero, suc, _+_, _-_, _*_}
 use native.Mathlib.Omega.{arith}
+use Rattle.chart_search.specs.Search.{nextOfSpan, extend, advancePairing, extendParts}
 use borrow.Author.Needs.{needs}
 use borrow.Author.Tests.{eq-eqb, ne-eqb, lt-ltb, le-ltb}
-use Rattle.chart_search.specs.Search.{next, extended, advanced, partsExtended}
 use borrow.Fn.Kinds.{In}
 use borrow.Fn.PlainCycle.{Measures, is, falls, and}
+use Prim.Native.Nat.{ℕ, _<_}
 use Rattle.chart_search.proofs.advance_pairing.Reads as advance-pairing
 use Rattle.chart_search.proofs.advance_pairing.Kinds as advance-pairing-kinds
 use Rattle.chart_search.proofs.+advance_pairing+extend+next_of_span.Lts-advance_pairing as advance-pairing-lts
@@ -18,22 +19,25 @@ use Rattle.chart_search.proofs.next_of_span.Reads as next-of-span
 use Rattle.chart_search.proofs.next_of_span.Kinds as next-of-span-kinds
 use Rattle.chart_search.proofs.+advance_pairing+extend+next_of_span.Lts-next_of_span as next-of-span-lts
 use Rattle.arrays.proofs.rule_at.Reads as rule-at-reads
-use Rattle.chart.proofs.begin.Reads as begin-reads
-use Rattle.chart.proofs.place.Reads as place-reads
-use Rattle.chart_table.proofs.cell_of.Reads as cell-of-reads
-use Rattle.chart_table.proofs.tie_at.Reads as tie-at-reads
+use Rattle.chart_keys.proofs.back_pointer.Reads as back-pointer-reads
+use Rattle.chart_ranks.proofs.first_rank.Reads as first-rank-reads
+use Rattle.chart_ranks.proofs.next_rank.Reads as next-rank-reads
+use Rattle.chart_table.proofs.back_at.Reads as back-at-reads
+use Rattle.chart_table.proofs.cell_number.Reads as cell-number-reads
+use Rattle.chart_table.proofs.left_part.Reads as left-part-reads
+use Rattle.chart_table.proofs.right_part.Reads as right-part-reads
 use Rattle.chart_table.proofs.weight_at.Reads as weight-at-reads
 use Rattle.chart_search.proofs.+advance_pairing+extend+next_of_span.{statement}
 use Rattle.chart_search.proofs.+advance_pairing+extend+next_of_span.Tie.{close}
 
 abbrev μ-advance-pairing : Measures 4 advance-pairing-kinds.ps ℕ
-μ-advance-pairing κs a = 3 * (a .1 .1 .1 .1 .1 .1 .0 - a .1 .1 .1 .1 .1 .0)
+μ-advance-pairing κs a = 3 * (a .1 .1 .1 .1 .1 .0 .to - a .1 .1 .1 .1 .1 .0 .from)
 
 abbrev μ-extend : Measures 4 extend-kinds.ps ℕ
-μ-extend κs a = 3 * (a .1 .1 .1 .1 .1 .1 .1 .0 - a .1 .1 .1 .1 .1 .1 .0) + 2
+μ-extend κs a = 3 * (a .1 .1 .1 .1 .1 .0 .to - a .1 .1 .1 .1 .1 .0 .from) + 2
 
 abbrev μ-next-of-span : Measures 4 next-of-span-kinds.ps ℕ
-μ-next-of-span κs a = 3 * (a .1 .1 .1 .1 .1 .1 .1 .0 - a .1 .1 .1 .1 .1 .1 .0) + 1
+μ-next-of-span κs a = 3 * (a .1 .1 .1 .1 .1 .0 .to - a .1 .1 .1 .1 .1 .0 .from) + 1
 
 abbrev advance-pairing-at : ℕ → In 4 advance-pairing-kinds.ps
 advance-pairing-at t =
@@ -70,13 +74,16 @@ next-of-span-below t =
     next-of-span.Pre
 
 abbrev advance-pairing-claims : ℕ → advance-pairing-lts.Claims
-advance-pairing-claims t = (rule-at-reads.Asked, rule-at-reads.Learnt, extend-below t, extend.Post)
+advance-pairing-claims t = (rule-at-reads.Asked, rule-at-reads.Learnt, right-part-reads.Asked, right-part-reads.Learnt, extend-below t, extend.Post, left-part-reads.Asked, left-part-reads.Learnt)
 
 abbrev extend-claims : ℕ → extend-lts.Claims
-extend-claims t = (cell-of-reads.Asked, cell-of-reads.Learnt, weight-at-reads.Asked, weight-at-reads.Learnt, next-of-span-below t, next-of-span.Post)
+extend-claims t = (cell-number-reads.Asked, cell-number-reads.Learnt, weight-at-reads.Asked, weight-at-reads.Learnt, next-of-span-below t, next-of-span.Post)
 
 abbrev next-of-span-claims : ℕ → next-of-span-lts.Claims
-next-of-span-claims t = (begin-reads.Asked, begin-reads.Learnt, cell-of-reads.Asked, cell-of-reads.Learnt, tie-at-reads.Asked, tie-at-reads.Learnt, advance-pairing-below t, advance-pairing.Post, place-reads.Asked, place-reads.Learnt)
+next-of-span-claims t = (first-rank-reads.Asked, first-rank-reads.Learnt, cell-number-reads.Asked, cell-number-reads.Learnt, back-at-reads.Asked, back-at-reads.Learnt, back-pointer-reads.Asked, back-pointer-reads.Learnt, advance-pairing-below t, advance-pairing.Post, next-rank-reads.Asked, next-rank-reads.Learnt)
+
+advance-pairing-sub-last : (t : ℕ) → advance-pairing-lts.Need-sub-last (advance-pairing-claims t) (advance-pairing-at t) advance-pairing.Post
+advance-pairing-sub-last t c = search needs
 
 advance-pairing-rule-at-requires : (t : ℕ) → advance-pairing-lts.Need-rule-at-requires (advance-pairing-claims t) (advance-pairing-at t) advance-pairing.Post
 advance-pairing-rule-at-requires t c κs = search needs
@@ -84,88 +91,112 @@ advance-pairing-rule-at-requires t c κs = search needs
 advance-pairing-enum-known-rule : (t : ℕ) → advance-pairing-lts.Need-enum-known-rule (advance-pairing-claims t) (advance-pairing-at t) advance-pairing.Post
 advance-pairing-enum-known-rule t c = search needs
 
+advance-pairing-right-part-requires : (t : ℕ) → advance-pairing-lts.Need-right-part-requires (advance-pairing-claims t) (advance-pairing-at t) advance-pairing.Post
+advance-pairing-right-part-requires t c κs = search needs
+
 advance-pairing-add-extend : (t : ℕ) → advance-pairing-lts.Need-add-extend (advance-pairing-claims t) (advance-pairing-at t) advance-pairing.Post
-advance-pairing-add-extend t c = search needs
+advance-pairing-add-extend t c = search (needs, c .before .before .before .before .before .before .before .before .before .before .before .before .before .before .before .pre .1 .1 .right)
 
 advance-pairing-extend-requires : (t : ℕ) → advance-pairing-lts.Need-extend-requires (advance-pairing-claims t) (advance-pairing-at t) advance-pairing.Post
-advance-pairing-extend-requires t c κs = search needs
+advance-pairing-extend-requires t c κs =
+    let c₂ = c .before .before in
+    let c₇ = c₂ .before .before .before .before .before in
+    let c₈ = c₇ .before in
+    let c₁₅ = c₈ .before .before .before .before .before .before .before in
+    rw (c₂ .right-part .ensures) (search (needs, c₈ .if1 .taken, c₇ .if2 .taken, c₁₅ .pre))
+
+advance-pairing-left-part-requires : (t : ℕ) → advance-pairing-lts.Need-left-part-requires (advance-pairing-claims t) (advance-pairing-at t) advance-pairing.Post
+advance-pairing-left-part-requires t c κs = search needs
 
 advance-pairing-add-extend-2 : (t : ℕ) → advance-pairing-lts.Need-add-extend-2 (advance-pairing-claims t) (advance-pairing-at t) advance-pairing.Post
-advance-pairing-add-extend-2 t c = search needs
+advance-pairing-add-extend-2 t c = search (needs, c .before .before .before .before .before .before .before .before .before .before .before .before .before .before .before .before .before .before .before .before .before .before .before .pre .1 .1 .left)
 
 advance-pairing-extend-requires-2 : (t : ℕ) → advance-pairing-lts.Need-extend-requires-2 (advance-pairing-claims t) (advance-pairing-at t) advance-pairing.Post
-advance-pairing-extend-requires-2 t c κs = search needs
+advance-pairing-extend-requires-2 t c κs =
+    let c₂ = c .before .before in
+    let c₁₅ = c₂ .before .before .before .before .before .before .before .before .before .before .before .before .before in
+    let c₁₆ = c₁₅ .before in
+    let c₂₃ = c₁₆ .before .before .before .before .before .before .before in
+    rw (c₂ .left-part .ensures) (search (needs, c₁₆ .if1 .taken, c₁₅ .if2 .taken, c₂₃ .pre))
 
 advance-pairing-enum-told : (t : ℕ) → advance-pairing-lts.Need-enum-told (advance-pairing-claims t) (advance-pairing-at t) advance-pairing.Post
 advance-pairing-enum-told t c = search needs
 
 advance-pairing-same-length : (t : ℕ) → advance-pairing-lts.Need-same-length (advance-pairing-claims t) (advance-pairing-at t) advance-pairing.Post
-advance-pairing-same-length t c = c .before .before .extend2 .kept .0 ∙ c .before .before .before .before .before .before .before .extend .kept .0
+advance-pairing-same-length t c =
+    let c₂ = c .before .before in
+    let c₁₀ = c₂ .before .before .before .before .before .before .before .before in
+    c₂ .extend2 .kept .0 ∙ c₁₀ .extend .kept .0
 
 advance-pairing-returns : (t : ℕ) → advance-pairing-lts.Need-returns (advance-pairing-claims t) (advance-pairing-at t) advance-pairing.Post
-unfolding advanced partsExtended
+unfolding advancePairing extendParts
 advance-pairing-returns t c =
     let c₂ = c .before .before in
-    let c₄ = c₂ .before .before in
-    let c₇ = c₄ .before .before .before in
-    let c₁₀ = c₇ .before .before .before in
-    let c₁₂ = c₁₀ .before .before in
-    let c₁₃ = c₁₂ .before in
-    let c₁₄ = c₁₃ .before in
+    let c₅ = c₂ .before .before .before in
+    let c₆ = c₅ .before in
+    let c₁₀ = c₆ .before .before .before .before in
+    let c₁₃ = c₁₀ .before .before .before in
+    let c₁₅ = c₁₃ .before .before in
+    let c₁₇ = c₁₅ .before .before in
+    let c₁₈ = c₁₇ .before in
+    let c₁₉ = c₁₈ .before in
+    let c₂₆ = c₁₉ .before .before .before .before .before .before .before in
     λ f h. simp (
-      lt-ltb _ _ (c₁₄ .if1 .taken),
-      lt-ltb _ _ (c₁₃ .if2 .taken),
-      ← c₁₂ .rule-at .ensures,
-      c₁₀ .rule
-          .given .1,
-      eq-eqb _ _ (c₄ .if3 .taken),
-    ) (rw (← c₇ .extend .ensures f (omega (arith, c₁₄ .if1 .taken))) (c₂
-    .extend2 .ensures f (omega (arith, c₁₄ .if1 .taken, c₁₃ .if2 .taken))))
+      lt-ltb _ _ (c₁₉ .if1 .taken),
+      lt-ltb (c₂₆ .args .b .split) (c₂₆ .args .c .to) (omega (arith, c₂₆ .pre .1 .0 .order, c₁₈ .if2 .taken)),
+      ← c₁₇ .rule-at .ensures,
+      c₁₅ .rule .given .1,
+      eq-eqb _ _ (c₆ .if3 .taken),
+    ) (rw (← (rw (c₁₃ .right-part .ensures) at (c₁₀ .extend .ensures f)) (omega (arith, c₁₉ .if1 .taken)))
+    ((rw (c₅ .left-part .ensures) at (c₂ .extend2 .ensures f)) (omega (arith, c₁₉ .if1 .taken, c₁₈ .if2 .taken))))
 
 advance-pairing-same-length-2 : (t : ℕ) → advance-pairing-lts.Need-same-length-2 (advance-pairing-claims t) (advance-pairing-at t) advance-pairing.Post
-advance-pairing-same-length-2 t c = c .before .before .before .extend .kept .0
+advance-pairing-same-length-2 t c = c .before .before .before .before .extend .kept .0
 
 advance-pairing-returns-2 : (t : ℕ) → advance-pairing-lts.Need-returns-2 (advance-pairing-claims t) (advance-pairing-at t) advance-pairing.Post
-unfolding advanced partsExtended
+unfolding advancePairing extendParts
 advance-pairing-returns-2 t c =
-    let c₃ = c .before .before .before in
-    let c₆ = c₃ .before .before .before in
-    let c₈ = c₆ .before .before in
-    let c₉ = c₈ .before in
-    let c₁₀ = c₉ .before in
+    let c₄ = c .before .before .before .before in
+    let c₇ = c₄ .before .before .before in
+    let c₉ = c₇ .before .before in
+    let c₁₁ = c₉ .before .before in
+    let c₁₂ = c₁₁ .before in
+    let c₁₃ = c₁₂ .before in
+    let c₂₀ = c₁₃ .before .before .before .before .before .before .before in
     λ f h. simp (
-      lt-ltb _ _ (c₁₀ .if1 .taken),
-      lt-ltb _ _ (c₉ .if2 .taken),
-      ← c₈ .rule-at .ensures,
-      c₆ .rule .given
-          .1,
+      lt-ltb _ _ (c₁₃ .if1 .taken),
+      lt-ltb (c₂₀ .args .b .split) (c₂₀ .args .c .to) (omega (arith, c₂₀ .pre .1 .0 .order, c₁₂ .if2 .taken)),
+      ← c₁₁ .rule-at .ensures,
+      c₉ .rule .given .1,
       ne-eqb _ _ (c .if3 .left),
-    ) (c₃ .extend .ensures f (omega (arith, c₁₀ .if1 .taken)))
+    ) ((rw (c₇ .right-part .ensures) at (c₄ .extend .ensures f)) (omega (arith, c₁₃ .if1 .taken)))
 
 advance-pairing-returns-3 : (t : ℕ) → advance-pairing-lts.Need-returns-3 (advance-pairing-claims t) (advance-pairing-at t) advance-pairing.Post
-unfolding advanced partsExtended
+unfolding advancePairing extendParts
 advance-pairing-returns-3 t c =
     let c₂ = c .before .before in
     let c₃ = c₂ .before in
     let c₄ = c₃ .before in
+    let c₁₁ = c₄ .before .before .before .before .before .before .before in
     λ f h. simp (
       lt-ltb _ _ (c₄ .if1 .taken),
-      lt-ltb _ _ (c₃ .if2 .taken),
+      lt-ltb (c₁₁ .args .b .split) (c₁₁ .args .c .to) (omega (arith, c₁₁ .pre .1 .0 .order, c₃ .if2 .taken)),
       ← c₂ .rule-at .ensures,
-      c .enum-told
-          .given .1,
+      c .enum-told .given .1,
     )
 
 advance-pairing-returns-4 : (t : ℕ) → advance-pairing-lts.Need-returns-4 (advance-pairing-claims t) (advance-pairing-at t) advance-pairing.Post
-unfolding advanced
-advance-pairing-returns-4 t c = λ f h. simp (lt-ltb _ _ (c .before .if1 .taken), le-ltb _ _ (c .if2 .left))
+unfolding advancePairing
+advance-pairing-returns-4 t c =
+    let c₈ = c .before .before .before .before .before .before .before .before in
+    λ f h. simp (lt-ltb _ _ (c .before .if1 .taken), le-ltb (c₈ .args .b .split) (c₈ .args .c .to) (omega (arith, c .if2 .left)))
 
 advance-pairing-returns-5 : (t : ℕ) → advance-pairing-lts.Need-returns-5 (advance-pairing-claims t) (advance-pairing-at t) advance-pairing.Post
-unfolding advanced
+unfolding advancePairing
 advance-pairing-returns-5 t c = λ f h. simp (le-ltb _ _ (c .if1 .left))
 
-extend-cell-of-requires : (t : ℕ) → extend-lts.Need-cell-of-requires (extend-claims t) (extend-at t) extend.Post
-extend-cell-of-requires t c κs = search needs
+extend-cell-number-requires : (t : ℕ) → extend-lts.Need-cell-number-requires (extend-claims t) (extend-at t) extend.Post
+extend-cell-number-requires t c κs = search needs
 
 extend-weight-at-requires : (t : ℕ) → extend-lts.Need-weight-at-requires (extend-claims t) (extend-at t) extend.Post
 extend-weight-at-requires t c κs = search needs
@@ -177,7 +208,7 @@ extend-same-length : (t : ℕ) → extend-lts.Need-same-length (extend-claims t)
 extend-same-length t c = c .before .before .next-of-span .kept .0
 
 extend-returns : (t : ℕ) → extend-lts.Need-returns (extend-claims t) (extend-at t) extend.Post
-unfolding extended
+unfolding extend
 extend-returns t c =
     let c₂ = c .before .before in
     let c₄ = c₂ .before .before in
@@ -186,77 +217,84 @@ extend-returns t c =
     let c₈ = c₆ .before .before in
     λ f h. simp (
       lt-ltb _ _ (c₈ .if1 .taken),
-      ← c₆ .cell-of .ensures .0,
+      ← c₆ .cell-number .ensures .0,
       ← c₅ .weight-at .ensures .0,
-      eq-eqb _ _ (c₄
-          .if2 .taken),
+      eq-eqb _ _ (c₄ .if2 .taken),
     ) (c₂ .next-of-span .ensures f h)
 
 extend-same-length-2 : (t : ℕ) → extend-lts.Need-same-length-2 (extend-claims t) (extend-at t) extend.Post
 extend-same-length-2 t c = search needs
 
 extend-returns-2 : (t : ℕ) → extend-lts.Need-returns-2 (extend-claims t) (extend-at t) extend.Post
-unfolding extended
-extend-returns-2 t c = λ f h. simp (lt-ltb _ _ (c .before .before .before .before .if1 .taken), ← c .before .before .cell-of .ensures .0, ← c .before .weight-at .ensures .0, ne-eqb _ _ (c .if2 .left))
+unfolding extend
+extend-returns-2 t c =
+    let c₂ = c .before .before in
+    let c₄ = c₂ .before .before in
+    λ f h. simp (lt-ltb _ _ (c₄ .if1 .taken), ← c₂ .cell-number .ensures .0, ← c .before .weight-at .ensures .0, ne-eqb _ _ (c .if2 .left))
 
 extend-returns-3 : (t : ℕ) → extend-lts.Need-returns-3 (extend-claims t) (extend-at t) extend.Post
-unfolding extended
+unfolding extend
 extend-returns-3 t c = λ f h. simp (le-ltb _ _ (c .if1 .left))
 
-next-of-span-begin-requires : (t : ℕ) → next-of-span-lts.Need-begin-requires (next-of-span-claims t) (next-of-span-at t) next-of-span.Post
-next-of-span-begin-requires t c κs = search needs
+next-of-span-first-rank-requires : (t : ℕ) → next-of-span-lts.Need-first-rank-requires (next-of-span-claims t) (next-of-span-at t) next-of-span.Post
+next-of-span-first-rank-requires t c κs = search needs
 
 next-of-span-same-length : (t : ℕ) → next-of-span-lts.Need-same-length (next-of-span-claims t) (next-of-span-at t) next-of-span.Post
-next-of-span-same-length t c = c .before .before .begin .kept .0
+next-of-span-same-length t c = c .before .before .first-rank .kept .0
 
 next-of-span-returns : (t : ℕ) → next-of-span-lts.Need-returns (next-of-span-claims t) (next-of-span-at t) next-of-span.Post
-unfolding next
+unfolding nextOfSpan
 next-of-span-returns t c =
     let c₂ = c .before .before in
     let c₄ = c₂ .before .before in
     let c₉ = c₄ .before .before .before .before .before in
     λ f. elim f [
       | zero ↦ λ h. absurd (omega (arith, c₉ .pre .1 .0 .order))
-      | suc g ↦ λ h. rw (eq-eqb (c₉ .args .c) 0
-          (c₄ .if1 .taken)) (c₂ .begin .ensures)
+      | suc g ↦ λ h. rw (eq-eqb (c₉ .args .rank) 0 (c₄ .if1 .taken)) (c₂ .first-rank .ensures)
     ]
 
-next-of-span-cell-of-requires : (t : ℕ) → next-of-span-lts.Need-cell-of-requires (next-of-span-claims t) (next-of-span-at t) next-of-span.Post
-next-of-span-cell-of-requires t c κs = search needs
+next-of-span-cell-number-requires : (t : ℕ) → next-of-span-lts.Need-cell-number-requires (next-of-span-claims t) (next-of-span-at t) next-of-span.Post
+next-of-span-cell-number-requires t c κs = search needs
 
-next-of-span-sub-tie-at : (t : ℕ) → next-of-span-lts.Need-sub-tie-at (next-of-span-claims t) (next-of-span-at t) next-of-span.Post
-next-of-span-sub-tie-at t c = search needs
+next-of-span-sub-back-at : (t : ℕ) → next-of-span-lts.Need-sub-back-at (next-of-span-claims t) (next-of-span-at t) next-of-span.Post
+next-of-span-sub-back-at t c = search needs
 
-next-of-span-tie-at-requires : (t : ℕ) → next-of-span-lts.Need-tie-at-requires (next-of-span-claims t) (next-of-span-at t) next-of-span.Post
-next-of-span-tie-at-requires t c κs = search needs
+next-of-span-back-at-requires : (t : ℕ) → next-of-span-lts.Need-back-at-requires (next-of-span-claims t) (next-of-span-at t) next-of-span.Post
+next-of-span-back-at-requires t c κs = search needs
+
+next-of-span-back-pointer-requires : (t : ℕ) → next-of-span-lts.Need-back-pointer-requires (next-of-span-claims t) (next-of-span-at t) next-of-span.Post
+next-of-span-back-pointer-requires t c κs = search needs
 
 next-of-span-advance-pairing-requires : (t : ℕ) → next-of-span-lts.Need-advance-pairing-requires (next-of-span-claims t) (next-of-span-at t) next-of-span.Post
 next-of-span-advance-pairing-requires t c κs = search needs
 
-next-of-span-place-requires : (t : ℕ) → next-of-span-lts.Need-place-requires (next-of-span-claims t) (next-of-span-at t) next-of-span.Post
-next-of-span-place-requires t c κs = search needs
+next-of-span-next-rank-requires : (t : ℕ) → next-of-span-lts.Need-next-rank-requires (next-of-span-claims t) (next-of-span-at t) next-of-span.Post
+next-of-span-next-rank-requires t c κs = search needs
 
 next-of-span-same-length-2 : (t : ℕ) → next-of-span-lts.Need-same-length-2 (next-of-span-claims t) (next-of-span-at t) next-of-span.Post
-next-of-span-same-length-2 t c = c .before .before .place .kept .0 ∙ c .before .before .before .before .before .before .advance-pairing .kept .0
+next-of-span-same-length-2 t c =
+    let c₂ = c .before .before in
+    let c₆ = c₂ .before .before .before .before in
+    c₂ .next-rank .kept .0 ∙ c₆ .advance-pairing .kept .0
 
 next-of-span-returns-2 : (t : ℕ) → next-of-span-lts.Need-returns-2 (next-of-span-claims t) (next-of-span-at t) next-of-span.Post
-unfolding next
+unfolding nextOfSpan
 next-of-span-returns-2 t c =
     let c₂ = c .before .before in
     let c₆ = c₂ .before .before .before .before in
     let c₈ = c₆ .before .before in
     let c₉ = c₈ .before in
-    let c₁₁ = c₉ .before .before in
-    let c₁₆ = c₁₁ .before .before .before .before .before in
+    let c₁₀ = c₉ .before in
+    let c₁₂ = c₁₀ .before .before in
+    let c₁₇ = c₁₂ .before .before .before .before .before in
     λ f. elim f [
-      | zero ↦ λ h. absurd (omega (arith, c₁₆ .pre .1 .0 .order))
-      | suc g ↦ λ h. rw (ne-eqb (c₁₆ .args .c)
-          0 (c₁₁ .if1 .left)) (rw (
-            ← c₉ .cell-of .ensures .0,
-            ← c₈ .tie-at .ensures .0,
-            ← c₆ .advance-pairing .ensures g
-                h,
-          ) (c₂ .place .ensures))
+      | zero ↦ λ h. absurd (omega (arith, c₁₇ .pre .1 .0 .order))
+      | suc g ↦ λ h. rw (ne-eqb (c₁₇ .args .rank) 0 (c₁₂ .if1 .left)) (rw (
+        ← c₁₀ .cell-number .ensures .0,
+        ← c₉ .back-at .ensures .0,
+        ← c₈ .back-pointer .ensures .0,
+        ← c₆ .advance-pairing .ensures g h,
+      ) (c₂ .next-rank .ensures))
     ]
 
 pub +advance-pairing+extend+next-of-span-spec : {M : Type 1} → statement M
@@ -264,10 +302,13 @@ pub +advance-pairing+extend+next-of-span-spec : {M : Type 1} → statement M
     close μ-advance-pairing μ-extend μ-next-of-span (λ t. advance-pairing-lts.spec (advance-pairing-claims t)
     (advance-pairing-at t)
     advance-pairing.Post
+    (advance-pairing-sub-last t)
     (advance-pairing-rule-at-requires t)
     (advance-pairing-enum-known-rule t)
+    (advance-pairing-right-part-requires t)
     (advance-pairing-add-extend t)
     (advance-pairing-extend-requires t)
+    (advance-pairing-left-part-requires t)
     (advance-pairing-add-extend-2 t)
     (advance-pairing-extend-requires-2 t)
     (advance-pairing-enum-told t)
@@ -281,7 +322,7 @@ pub +advance-pairing+extend+next-of-span-spec : {M : Type 1} → statement M
     (λ t. extend-lts.spec (extend-claims t)
     (extend-at t)
     extend.Post
-    (extend-cell-of-requires t)
+    (extend-cell-number-requires t)
     (extend-weight-at-requires t)
     (extend-next-of-span-requires t)
     (extend-same-length t)
@@ -292,13 +333,14 @@ pub +advance-pairing+extend+next-of-span-spec : {M : Type 1} → statement M
     λ t. next-of-span-lts.spec (next-of-span-claims t)
     (next-of-span-at t)
     next-of-span.Post
-    (next-of-span-begin-requires t)
+    (next-of-span-first-rank-requires t)
     (next-of-span-same-length t)
     (next-of-span-returns t)
-    (next-of-span-cell-of-requires t)
-    (next-of-span-sub-tie-at t)
-    (next-of-span-tie-at-requires t)
+    (next-of-span-cell-number-requires t)
+    (next-of-span-sub-back-at t)
+    (next-of-span-back-at-requires t)
+    (next-of-span-back-pointer-requires t)
     (next-of-span-advance-pairing-requires t)
-    (next-of-span-place-requires t)
+    (next-of-span-next-rank-requires t)
     (next-of-span-same-length-2 t)
     (next-of-span-returns-2 t)

@@ -5,15 +5,15 @@ use lib.ListN.{length}
 use borrow.Author.Needs.{needs}
 use Rattle.packing.specs.Loop.{iter}
 use Rattle.packing.proofs.Loop.{iter-more, iter-end}
-use Rattle.chart_search.specs.Search.{headsOf, lengthOf}
+use Rattle.chart_search.specs.Search.{firstOfHeads, firstOfLength}
 use Rattle.chart_search.proofs.first_of_length.Statement.{statement}
 use Rattle.chart_search.proofs.first_of_length.Tie as tie
 
 abbrev Inv-loop : tie.InvT-loop
-Inv-loop t₀ rules edges index d n len m i₀ t i = (i ≤ m) × (length t ≡ length t₀) × (t ≡ iter (λ x i. headsOf rules edges index d x i (i + len)) t₀ i)
+Inv-loop t₀ rules edges index d len m i₀ t i = (i ≤ m) × (length t ≡ length t₀) × (t ≡ iter (λ x i. firstOfHeads rules edges index d x i (i + len)) t₀ i)
 
 abbrev μ-loop : tie.MeasureT-loop
-μ-loop t₀ rules edges index d n len m i₀ t i = m - i
+μ-loop t₀ rules edges index d len m i₀ t i = m - i
 
 add-m : tie.Need-add-m Inv-loop μ-loop
 add-m c = search needs
@@ -43,15 +43,14 @@ loop-again c =
     let c₅ = c₂ .before .before .before in (
       search needs,
       c₂ .first-of-heads .kept .0 ∙ c₅ .loop .inv .1,
-      rw (iter-more, ← c₅ .loop .inv .2) (c₂
-          .first-of-heads .ensures),
+      rw (iter-more, ← c₅ .loop .inv .2) (c₂ .first-of-heads .ensures),
     )
 
 same-length : tie.Need-same-length Inv-loop μ-loop
 same-length c = c .before .loop .inv .1
 
 returns : tie.Need-returns Inv-loop μ-loop
-unfolding lengthOf
+unfolding firstOfLength
 returns c = c .before .loop .inv .2 ∙ iter-end _ _ _ _ (c .before .loop .inv .0) (c .loop-test .left)
 
 pub first-of-length-spec : {M : Type 1} → statement M

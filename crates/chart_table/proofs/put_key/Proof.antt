@@ -1,4 +1,4 @@
--- A key below NONE is its weight plus 1 and its tie, which both fit a number.
+-- A key below NO_KEY is its weight plus 1 and its back pointer, which both fit a number.
 use borrow.Author.Tests.{lt-ltb, le-ltb}
 use Rattle.chart_table.specs.Table.{putKey}
 use borrow.Author.Needs.{needs}
@@ -23,8 +23,8 @@ cast-store-2 c = search needs
 store-requires-2 : tie.Need-store-requires-2
 store-requires-2 c κs = search needs
 
-put-last-requires : tie.Need-put-last-requires
-put-last-requires c κs = search needs
+put-last-rank-requires : tie.Need-put-last-rank-requires
+put-last-rank-requires c κs = search needs
 
 same-length : tie.Need-same-length
 same-length c = search needs
@@ -38,7 +38,7 @@ returns c =
     let c₁₂ = c₁₀ .before .before in
     let c₁₃ = c₁₂ .before in
     simp (lt-ltb _ _ (c₁₃ .if1 .taken)) (rw (
-      c₂ .put-last .ensures,
+      c₂ .put-last-rank .ensures,
       c₆ .store2 .ensures,
       c₁₀ .store .ensures,
       c₁₂
@@ -59,7 +59,7 @@ put-key-spec =
     add-store
     cast-store-2
     store-requires-2
-    put-last-requires
+    put-last-rank-requires
     same-length
     returns
     returns-2)

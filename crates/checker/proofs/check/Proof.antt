@@ -1,4 +1,4 @@
--- The array's rules are those of the grammar that was accepted.
+-- The array's rules are those of the grammar that was accepted; a slice of bytes has bytes, so the theorem of what passes holds.
 use mathlib.Core.Path.{_∙_}
 use borrow.Author.Needs.{needs}
 use native.Mathlib.Omega.{arith}
@@ -7,6 +7,7 @@ use Rattle.grammar_reader.proofs.Outcome.{accepted-told, refused-told}
 use Rattle.checker.specs.Check.{check}
 use Rattle.packing.proofs.Flat.{rules-of}
 use Rattle.checker.proofs.Judged.{under-rules}
+use Rattle.checker.proofs.Theorems.{promised}
 use Rattle.checker.proofs.check.Statement.{statement}
 use Rattle.checker.proofs.check.Tie as tie
 
@@ -39,18 +40,22 @@ unfolding check
 returns c =
     let at-m = c .before in
     let at-read = at-m .before .before .before in
-    let a = at-read .before .before .before .before .before .args in
-    rw (refused-told (grammarBlock (a .grammar .now)) (at-read .read-block .ensures .0) (at-m .m .given .1))
+    let at-known = at-read .before .before in
+    let a = at-known .before .before .before .args in
+    promised (a .grammar .now) (a .utterance .now) (a .reading .now) (λ i. at-known .shared-slice-known3 .given i .fits)
+    (rw (refused-told (grammarBlock (a .grammar .now)) (at-read .read-block .ensures .0) (at-m .m .given .1)))
 
 returns-2 : tie.Need-returns-2
 returns-2 c =
     let at-sizes = c .before .before .before .before in
     let at-read = at-sizes .before .before .before in
-    let a = at-read .before .before .before .before .before .args in
+    let at-known = at-read .before .before in
+    let a = at-known .before .before .before .args in
     let read = at-read .read-block in
     let (g, p, z) = accepted-told (grammarBlock (a .grammar .now)) (read .ensures .0) (at-sizes .sizes .given .1) in
     let rules = rules-of g (read .last .1 .0) (rw p at (read .ensures .1)) in
-    c .check-utterance .ensures ∙ rw (z, rules, under-rules (a .grammar .now) (a .utterance .now) (a .reading .now) g p)
+    promised (a .grammar .now) (a .utterance .now) (a .reading .now) (λ i. at-known .shared-slice-known3 .given i .fits)
+    (c .check-utterance .ensures ∙ rw (z, rules, under-rules (a .grammar .now) (a .utterance .now) (a .reading .now) g p))
 
 pub check-spec : {M : Type 1} → statement M
 check-spec =

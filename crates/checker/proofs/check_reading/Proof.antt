@@ -3,7 +3,7 @@ use mathlib.Core.Path.{ap, _∙_}
 use borrow.Author.Needs.{needs}
 use Rattle.packing.specs.Reading.{readingFrom}
 use Rattle.reading_reader.proofs.Outcome.{parsed-told, failed-told}
-use Rattle.checker.specs.Check.{answerOf}
+use Rattle.checker.specs.Check.{checkedOf}
 use Rattle.packing.specs.Flat.{rulesOf, slotsOf}
 use Rattle.checker.proofs.Answered.{walk-judged}
 use Rattle.checker.proofs.check_reading.Statement.{statement}
@@ -49,7 +49,7 @@ returns-2 c =
     let (d, e, w) = parsed-told (readingFrom (a .n) (a .count) (a .reading .now)) (read .ensures .0) (at-weight .weight .given .1) in
     let judged = walk-judged (a .n) (a .count) (rulesOf (a .rules .now) (a .count)) (slotsOf (a .slots .now) (a .n) 0)
     (a .reading .now) (read .last .1 .1 .1 .0) e (read .ensures .1) (at-weight-of .weight-of .ensures) in
-    c .judge .ensures d w ∙ ap answerOf judged
+    c .judge .ensures d w ∙ ap checkedOf judged
 
 pub check-reading-spec : {M : Type 1} → statement M
 check-reading-spec =

@@ -8,7 +8,7 @@ use Rattle.packing.specs.Utterance.{utteranceBlock}
 use Rattle.packing.specs.Flat.{rulesOf}
 use Rattle.utterance_reader.proofs.Outcome.{accepted-told, refused-told}
 use Rattle.utterance_reader.specs.declared.Slots.{Slots}
-use Rattle.checker.specs.Check.{answerOf}
+use Rattle.checker.specs.Check.{checkedOf}
 use Rattle.checker.specs.Run.{underRules}
 use Rattle.packing.proofs.Flat.{length-rules-at}
 use Rattle.checker.proofs.Answered.{slots-judged}
@@ -55,7 +55,7 @@ returns-2 c =
     let (u, e, z) = accepted-told (a .words) (utteranceBlock (a .words) (a .utterance .now)) (read .ensures .0) (at-found .found .given .1) in
     let judged = slots-judged (a .words) rules (a .utterance .now) (a .reading .now) (read .last .1 .1 .0) e (read .ensures .1)
     (ap (λ (s : Slots). s .count) z) (sym (length-rules-at (a .rules .now) 0 (a .count))) in
-    c .check-reading .ensures ∙ ap answerOf judged
+    c .check-reading .ensures ∙ ap checkedOf judged
 
 pub check-utterance-spec : {M : Type 1} → statement M
 check-utterance-spec =

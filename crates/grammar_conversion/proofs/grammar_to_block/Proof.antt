@@ -1,4 +1,4 @@
--- What the reader answers tells what is to be written.
+-- What the reader answers tells what is to be written, and that turns back.
 use mathlib.Core.Path.{sym, _∙_}
 use native.Mathlib.Omega.{arith}
 use borrow.Author.Needs.{needs}
@@ -6,7 +6,8 @@ use Rattle.packing.specs.Parse.{accepted}
 use Rattle.packing.specs.Grammar.{grammarSheet, blockOfGrammar}
 use Rattle.packing.specs.Conversion.{grammarToBlock}
 use Rattle.grammar_reader.proofs.Told.{refusal-told}
-use Rattle.sheet_writer.proofs.Fit.{handed-up}
+use Rattle.packing.proofs.Theorems.{grammar-sheet-and-back}
+use Rattle.sheet_writer.proofs.Fit.{handed-up, and-back}
 use Rattle.grammar_conversion.proofs.Grammars.{block-told}
 use Rattle.grammar_conversion.proofs.grammar_to_block.Statement.{statement}
 use Rattle.grammar_conversion.proofs.grammar_to_block.Tie as tie
@@ -32,14 +33,16 @@ slice-aggregate-write-grammar c = search needs
 write-grammar-requires : tie.Need-write-grammar-requires
 write-grammar-requires c κs =
     let r = c .before .before .before .before .before .before .before .read-sheet in
-    omega (arith, rw (c .before .before .before .before .z .given .1) at (r .ensures .2))
+    let b = rw (c .before .before .before .before .z .given .1) at (r .ensures .2) in
+    (b .rules, record { some-symbol = b .some-symbol; symbols = b .symbols; some-word = b .some-word; words = b .words })
 
 returns : tie.Need-returns
 unfolding grammarToBlock
 returns c =
     let a = c .before .before .before .before .before .before .before .before .args in
     let r = c .before .before .before .before .read-sheet in
-    handed-up (a .out .now) (refusal-told (grammarSheet (a .sheet .now)) (λ g. accepted (blockOfGrammar g)) (sym (r .ensures .0) ∙ c .before .n .given .1))
+    and-back (grammarToBlock (a .sheet .now)) (grammar-sheet-and-back (a .sheet .now)) (a .out .now)
+    (handed-up (a .out .now) (refusal-told (grammarSheet (a .sheet .now)) (λ g. accepted (blockOfGrammar g)) (sym (r .ensures .0) ∙ c .before .n .given .1)))
 
 same-length : tie.Need-same-length
 same-length c = search needs
@@ -50,7 +53,8 @@ returns-2 c =
     let a = c .before .before .before .before .before .before .before .before .before .before .before .before .before .before .args in
     let r = c .before .before .before .before .before .before .before .before .before .before .read-sheet in
     let e = block-told (grammarSheet (a .sheet .now)) (sym (r .ensures .0) ∙ c .before .before .before .before .before .before .before .z .given .1) (r .last .1 .0) (r .ensures .1) in
-    rw e (c .before .before .write-grammar .ensures)
+    and-back (grammarToBlock (a .sheet .now)) (grammar-sheet-and-back (a .sheet .now)) (a .out .now)
+    (rw e (c .before .before .write-grammar .ensures))
 
 pub grammar-to-block-spec : {M : Type 1} → statement M
 grammar-to-block-spec =

@@ -1,4 +1,4 @@
--- What the reader answers tells what is to be written.
+-- What the reader answers tells what is to be written, and that turns back, since a slice of bytes has bytes.
 use mathlib.Core.Path.{sym, _∙_}
 use native.Mathlib.Omega.{arith}
 use borrow.Author.Needs.{needs}
@@ -6,7 +6,8 @@ use Rattle.packing.specs.Parse.{accepted}
 use Rattle.packing.specs.Grammar.{grammarBlock, sheetOfGrammar}
 use Rattle.packing.specs.Conversion.{grammarToSheet}
 use Rattle.grammar_reader.proofs.Told.{refusal-told}
-use Rattle.sheet_writer.proofs.Fit.{handed-up}
+use Rattle.packing.proofs.Theorems.{grammar-block-and-back}
+use Rattle.sheet_writer.proofs.Fit.{handed-up, and-back}
 use Rattle.grammar_conversion.proofs.Grammars.{sheet-told}
 use Rattle.grammar_conversion.proofs.grammar_to_sheet.Statement.{statement}
 use Rattle.grammar_conversion.proofs.grammar_to_sheet.Tie as tie
@@ -43,9 +44,11 @@ write-sheet-requires c κs =
 returns : tie.Need-returns
 unfolding grammarToSheet
 returns c =
-    let a = c .before .before .before .before .before .before .before .before .args in
+    let at-known = c .before .before .before .before .before .before .before in
+    let a = at-known .before .args in
     let r = c .before .before .before .before .read-block in
-    handed-up (a .out .now) (refusal-told (grammarBlock (a .block .now)) (λ g. accepted (sheetOfGrammar g)) (sym (r .ensures .0) ∙ c .before .n .given .1))
+    and-back (grammarToSheet (a .block .now)) (λ l. grammar-block-and-back (a .block .now) l (λ i. at-known .shared-slice-known .given i .fits)) (a .out .now)
+    (handed-up (a .out .now) (refusal-told (grammarBlock (a .block .now)) (λ g. accepted (sheetOfGrammar g)) (sym (r .ensures .0) ∙ c .before .n .given .1)))
 
 same-length : tie.Need-same-length
 same-length c = search needs
@@ -53,10 +56,12 @@ same-length c = search needs
 returns-2 : tie.Need-returns-2
 unfolding grammarToSheet
 returns-2 c =
-    let a = c .before .before .before .before .before .before .before .before .before .before .before .before .before .before .before .args in
+    let at-known = c .before .before .before .before .before .before .before .before .before .before .before .before .before .before in
+    let a = at-known .before .args in
     let r = c .before .before .before .before .before .before .before .before .before .before .before .read-block in
     let e = sheet-told (grammarBlock (a .block .now)) (sym (r .ensures .0) ∙ c .before .before .before .before .before .before .before .before .z .given .1) (r .last .1 .0) (r .ensures .1) in
-    rw e (c .before .before .write-sheet .ensures)
+    and-back (grammarToSheet (a .block .now)) (λ l. grammar-block-and-back (a .block .now) l (λ i. at-known .shared-slice-known .given i .fits)) (a .out .now)
+    (rw e (c .before .before .write-sheet .ensures))
 
 pub grammar-to-sheet-spec : {M : Type 1} → statement M
 grammar-to-sheet-spec =

@@ -6,7 +6,7 @@ use native.Mathlib.Omega.{arith}
 use borrow.Author.Needs.{needs}
 use Rattle.bits.specs.Bits.{ended}
 use Rattle.packing.specs.Parse.{parsed, failed, refused, finish}
-use Rattle.packing.specs.Source.{bytes, take}
+use Rattle.packing.specs.Source.{bytes, fieldAt}
 use Rattle.packing.specs.Grammar.{blockKind, grammarFrom, grammarBlock}
 use Rattle.grammar_reader.specs.Answer.{Bounded}
 use Rattle.grammar_reader.specs.Parts.{SizesNear}
@@ -15,21 +15,21 @@ use Rattle.grammar_reader.proofs.Grammars.{end-refused, end-passed, end
 use Rattle.grammar_reader.proofs.read_block.Statement.{statement}
 use Rattle.grammar_reader.proofs.read_block.Tie as tie
 
-slice-aggregate-take : tie.Need-slice-aggregate-take
-slice-aggregate-take c = search needs
+slice-aggregate-field-at : tie.Need-slice-aggregate-field-at
+slice-aggregate-field-at c = search needs
 
 -- after the kind, or without it
 module _ (s : List ℕ) where
-  no-kind : {n : ℕ} → take (bytes 1 s) 0 (blockKind 1 2) ≡ failed n → grammarBlock s ≡ refused n
+  no-kind : {n : ℕ} → fieldAt (bytes 1 s) 0 (blockKind 1 2) ≡ failed n → grammarBlock s ≡ refused n
   unfolding grammarBlock
   no-kind e = rw e
 
-  after-kind : {v at : ℕ} → take (bytes 1 s) 0 (blockKind 1 2) ≡ parsed v at → grammarBlock s ≡ finish (ended s) 7 (grammarFrom (bytes 1 s) at)
+  after-kind : {v at : ℕ} → fieldAt (bytes 1 s) 0 (blockKind 1 2) ≡ parsed v at → grammarBlock s ≡ finish (ended s) 7 (grammarFrom (bytes 1 s) at)
   unfolding grammarBlock
   after-kind e = rw e
 
-take-requires : tie.Need-take-requires
-take-requires c κs = search needs
+field-at-requires : tie.Need-field-at-requires
+field-at-requires c κs = search needs
 
 enum-known-kind : tie.Need-enum-known-kind
 enum-known-kind c = search needs
@@ -44,14 +44,14 @@ returns : tie.Need-returns
 returns c =
     let t = c .before .before .before in
     let block = t .before .before .before .before .args .block .now in
-    rw (no-kind block (missed (bytes 1 block) 0 refl (t .take .ensures) (c .before .enum-told .given .1) (c .refusal .ensures))) (refl, tt, tt)
+    rw (no-kind block (missed (bytes 1 block) 0 refl (t .field-at .ensures) (c .before .enum-told .given .1) (c .refusal .ensures))) (refl, tt, tt)
 
 -- the kind that was read
 abbrev start : tie.After-known-told → tie.Start
 start c = c .before .before .before .before .before .before .before
 
-kind-read : (c : tie.After-known-told) → take (bytes 1 (start c .args .block .now)) 0 (blockKind 1 2) ≡ parsed (c .before .kind .given .0 .0) (c .before .kind .given .0 .1 .0 .at)
-kind-read c = got (bytes 1 (start c .args .block .now)) 0 refl (c .before .before .before .take .ensures) (c .before .kind .given .1)
+kind-read : (c : tie.After-known-told) → fieldAt (bytes 1 (start c .args .block .now)) 0 (blockKind 1 2) ≡ parsed (c .before .kind .given .0 .0) (c .before .kind .given .0 .1 .0 .at)
+kind-read c = got (bytes 1 (start c .args .block .now)) 0 refl (c .before .before .before .field-at .ensures) (c .before .kind .given .1)
 
 kind-near : (c : tie.After-known-told) → c .before .kind .given .0 .1 .0 .at ≤ 4
 kind-near c = omega (arith, taken _ 4 (bytes 1 (start c .args .block .now)) 0 (omega arith) (omega arith) (kind-read c))
@@ -112,8 +112,8 @@ pub read-block-spec : {M : Type 1} → statement M
 read-block-spec =
     tie.close
     (tie.spec
-    slice-aggregate-take
-    take-requires
+    slice-aggregate-field-at
+    field-at-requires
     enum-known-kind
     enum-told
     refusal-requires

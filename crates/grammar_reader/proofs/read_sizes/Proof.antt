@@ -4,9 +4,9 @@ use Prim.Native.Nat.{_+_, _≤_}
 use native.Mathlib.Omega.{arith}
 use borrow.Author.Needs.{needs}
 use Rattle.packing.specs.Parse.{parsed}
-use Rattle.packing.specs.Source.{Source, take}
+use Rattle.packing.specs.Source.{Source, fieldAt}
 use Rattle.packing.specs.Read.{sourceOf}
-use Rattle.packing.specs.Grammar.{size}
+use Rattle.packing.specs.Grammar.{sizeField}
 use Rattle.grammar_reader.specs.Parts.{sizesFrom}
 use Rattle.rules_reader.proofs.Taken.{got, missed, taken}
 use Rattle.grammar_reader.proofs.read_sizes.Statement.{statement}
@@ -15,8 +15,8 @@ use Rattle.grammar_reader.proofs.read_sizes.Tie as tie
 abbrev source : tie.Start → Source
 source s = sourceOf (s .args .src) (s .args .block .now) (s .args .sheet .now)
 
-take-requires : tie.Need-take-requires
-take-requires c κs = search needs
+field-at-requires : tie.Need-field-at-requires
+field-at-requires c κs = search needs
 
 enum-known-read : tie.Need-enum-known-read
 enum-known-read c = search needs
@@ -31,20 +31,20 @@ returns : tie.Need-returns
 unfolding sizesFrom
 returns c =
     let t = c .before .before .before in
-    (rw (missed (source (t .before .before .before)) _ refl (t .take .ensures) (c .before .enum-told .given .1) (c .refusal .ensures)), tt)
+    (rw (missed (source (t .before .before .before)) _ refl (t .field-at .ensures) (c .before .enum-told .given .1) (c .refusal .ensures)), tt)
 
 -- S that was read
 abbrev start : tie.After-known-told → tie.Start
 start c = c .before .before .before .before .before .before
 
-symbols-read : (c : tie.After-known-told) → take (source (start c)) (start c .args .at) (size 6 32) ≡ parsed (c .before .read .given .0 .0) (c .before .read .given .0 .1 .0 .at)
-symbols-read c = got (source (start c)) _ refl (c .before .before .before .take .ensures) (c .before .read .given .1)
+symbols-read : (c : tie.After-known-told) → fieldAt (source (start c)) (start c .args .at) (sizeField 6 32) ≡ parsed (c .before .read .given .0 .0) (c .before .read .given .0 .1 .0 .at)
+symbols-read c = got (source (start c)) _ refl (c .before .before .before .field-at .ensures) (c .before .read .given .1)
 
 symbols-near : (c : tie.After-known-told) → let v = c .before .read .given .0 in (1 ≤ v .0) × (v .0 ≤ 32) × (v .1 .0 .at ≤ start c .args .at + 6)
 symbols-near c = omega (arith, taken _ 6 (source (start c)) _ (omega arith) (omega arith) (symbols-read c))
 
-take-requires-2 : tie.Need-take-requires-2
-take-requires-2 c κs = omega (arith, symbols-near c)
+field-at-requires-2 : tie.Need-field-at-requires-2
+field-at-requires-2 c κs = omega (arith, symbols-near c)
 
 enum-known-read-2 : tie.Need-enum-known-read-2
 enum-known-read-2 c = search needs
@@ -60,20 +60,20 @@ unfolding sizesFrom
 returns-2 c =
     let t = c .before .before .before in
     let s = t .before in
-    (rw (symbols-read s, missed (source (start s)) _ refl (t .take2 .ensures) (c .before .enum-told2 .given .1) (c .refusal2 .ensures)), tt)
+    (rw (symbols-read s, missed (source (start s)) _ refl (t .field-at2 .ensures) (c .before .enum-told2 .given .1) (c .refusal2 .ensures)), tt)
 
 -- W that was read
 abbrev symbols-before : tie.After-known-told2 → tie.After-known-told
 symbols-before c = c .before .before .before .before
 
-words-read : (c : tie.After-known-told2) → take (source (start (symbols-before c))) (symbols-before c .before .read .given .0 .1 .0 .at) (size 8 200) ≡ parsed (c .before .read2 .given .0 .0) (c .before .read2 .given .0 .1 .0 .at)
-words-read c = got (source (start (symbols-before c))) _ refl (c .before .before .before .take2 .ensures) (c .before .read2 .given .1)
+words-read : (c : tie.After-known-told2) → fieldAt (source (start (symbols-before c))) (symbols-before c .before .read .given .0 .1 .0 .at) (sizeField 8 200) ≡ parsed (c .before .read2 .given .0 .0) (c .before .read2 .given .0 .1 .0 .at)
+words-read c = got (source (start (symbols-before c))) _ refl (c .before .before .before .field-at2 .ensures) (c .before .read2 .given .1)
 
 words-near : (c : tie.After-known-told2) → let v = c .before .read2 .given .0 in (1 ≤ v .0) × (v .0 ≤ 200) × (v .1 .0 .at ≤ start (symbols-before c) .args .at + 14)
 words-near c = omega (arith, symbols-near (symbols-before c), taken _ 8 (source (start (symbols-before c))) _ (omega arith) (omega arith) (words-read c))
 
-take-requires-3 : tie.Need-take-requires-3
-take-requires-3 c κs = omega (arith, words-near c, start (symbols-before c) .pre)
+field-at-requires-3 : tie.Need-field-at-requires-3
+field-at-requires-3 c κs = omega (arith, words-near c, start (symbols-before c) .pre)
 
 enum-known-read-3 : tie.Need-enum-known-read-3
 enum-known-read-3 c = search needs
@@ -93,7 +93,7 @@ returns-3 c =
       rw (
         symbols-read s,
         words-read w,
-        missed (source (start s)) _ refl (t .take3 .ensures) (c .before .enum-told3 .given .1) (c .refusal3 .ensures),
+        missed (source (start s)) _ refl (t .field-at3 .ensures) (c .before .enum-told3 .given .1) (c .refusal3 .ensures),
       ),
       tt,
     )
@@ -102,8 +102,8 @@ returns-3 c =
 abbrev words-before : tie.After-known-told3 → tie.After-known-told2
 words-before c = c .before .before .before .before
 
-rules-read : (c : tie.After-known-told3) → take (source (start (symbols-before (words-before c)))) (words-before c .before .read2 .given .0 .1 .0 .at) (size 9 256) ≡ parsed (c .before .read3 .given .0 .0) (c .before .read3 .given .0 .1 .0 .at)
-rules-read c = got (source (start (symbols-before (words-before c)))) _ refl (c .before .before .before .take3 .ensures) (c .before .read3 .given .1)
+rules-read : (c : tie.After-known-told3) → fieldAt (source (start (symbols-before (words-before c)))) (words-before c .before .read2 .given .0 .1 .0 .at) (sizeField 9 256) ≡ parsed (c .before .read3 .given .0 .0) (c .before .read3 .given .0 .1 .0 .at)
+rules-read c = got (source (start (symbols-before (words-before c)))) _ refl (c .before .before .before .field-at3 .ensures) (c .before .read3 .given .1)
 
 returns-4 : tie.Need-returns-4
 unfolding sizesFrom
@@ -118,17 +118,17 @@ pub read-sizes-spec : {M : Type 1} → statement M
 read-sizes-spec =
     tie.close
     (tie.spec
-    take-requires
+    field-at-requires
     enum-known-read
     enum-told
     refusal-requires
     returns
-    take-requires-2
+    field-at-requires-2
     enum-known-read-2
     enum-told-2
     refusal-requires-2
     returns-2
-    take-requires-3
+    field-at-requires-3
     enum-known-read-3
     enum-told-3
     refusal-requires-3

@@ -14,7 +14,7 @@ unfolding widths
 write-field-requires c κs =
     let a = c .before .before .before .args in
     let fs = grammarFields (a .symbols) (a .words) (a .n) (a .rules .now) in
-    omega (arith, block-room fs (a .out .now) (c .before .before .before .pre .5))
+    omega (arith, block-room fs (a .out .now) (c .before .before .before .pre .2))
 
 write-field-requires-2 : tie.Need-write-field-requires-2
 unfolding widths
@@ -22,7 +22,7 @@ write-field-requires-2 c κs =
     let at-start = c .before .before .before .before .before .before .before in
     let a = at-start .args in
     let fs = grammarFields (a .symbols) (a .words) (a .n) (a .rules .now) in
-    omega (arith, block-room fs (a .out .now) (at-start .pre .5))
+    omega (arith, block-room fs (a .out .now) (at-start .pre .2))
 
 write-field-requires-3 : tie.Need-write-field-requires-3
 unfolding widths
@@ -30,7 +30,7 @@ write-field-requires-3 c κs =
     let at-start = c .before .before .before .before .before .before .before .before .before .before .before in
     let a = at-start .args in
     let fs = grammarFields (a .symbols) (a .words) (a .n) (a .rules .now) in
-    omega (arith, block-room fs (a .out .now) (at-start .pre .5))
+    omega (arith, block-room fs (a .out .now) (at-start .pre .2))
 
 cast-write-field : tie.Need-cast-write-field
 cast-write-field c = search needs
@@ -41,7 +41,7 @@ write-field-requires-4 c κs =
     let at-start = c .before .before .before .before .before .before .before .before .before .before .before .before .before .before .before in
     let a = at-start .args in
     let fs = grammarFields (a .symbols) (a .words) (a .n) (a .rules .now) in
-    omega (arith, block-room fs (a .out .now) (at-start .pre .5))
+    omega (arith, block-room fs (a .out .now) (at-start .pre .2))
 
 write-rules-requires : tie.Need-write-rules-requires
 unfolding widths
@@ -49,7 +49,7 @@ write-rules-requires c κs =
     let at-start = c .before .before .before .before .before .before .before .before .before .before .before .before .before .before .before .before .before .before .before in
     let a = at-start .args in
     let fs = grammarFields (a .symbols) (a .words) (a .n) (a .rules .now) in
-    omega (arith, block-room fs (a .out .now) (at-start .pre .5))
+    omega (arith, block-room fs (a .out .now) (at-start .pre .2))
 
 same-length : tie.Need-same-length
 same-length c = search needs
@@ -68,7 +68,7 @@ returns c =
     let f2 = one-written f1 (at-write-field2 .write-field2 .ensures) in
     let f3 = one-written f2 (at-write-field3 .write-field3 .ensures) in
     let f4 = one-written f3 (at-write-field4 .write-field4 .ensures) in
-    block-written fs (a .out .now) (at-start .pre .5) (λ i. at-slice-known .slice-known .given i .fits) (c .before .before .write-rules .ensures ∙ f4 .rest)
+    block-written fs (a .out .now) (at-start .pre .2) (λ i. at-slice-known .slice-known .given i .fits) (c .before .before .write-rules .ensures ∙ f4 .rest)
 
 pub write-fields-spec : {M : Type 1} → statement M
 write-fields-spec =

@@ -17,14 +17,14 @@ write-start-requires : tie.Need-write-start-requires
 unfolding widths
 write-start-requires c κs =
     let at-start = c .before .before .before .before .before .before in
-    omega (arith, rw (c .before .before .rule .given .1) at (at-start .pre .5))
+    omega (arith, rw (c .before .before .rule .given .1) at (at-start .pre .2))
 
 write-field-requires : tie.Need-write-field-requires
 unfolding widths
 write-field-requires c κs =
     let at-rule = c .before .before .before .before .before .before in
     let at-start = at-rule .before .before .before .before in
-    omega (arith, rw (at-rule .rule .given .1) at (at-start .pre .5))
+    omega (arith, rw (at-rule .rule .given .1) at (at-start .pre .2))
 
 add-at : tie.Need-add-at
 add-at c = search needs
@@ -34,7 +34,7 @@ unfolding widths
 write-field-requires-2 c κs =
     let at-rule = c .before .before .before .before .before .before .before .before .before .before in
     let at-start = at-rule .before .before .before .before in
-    omega (arith, rw (at-rule .rule .given .1) at (at-start .pre .5))
+    omega (arith, rw (at-rule .rule .given .1) at (at-start .pre .2))
 
 add-result : tie.Need-add-result
 add-result c = search needs
@@ -46,7 +46,7 @@ write-start-requires-2 : tie.Need-write-start-requires-2
 unfolding widths
 write-start-requires-2 c κs =
     let at-start = c .before .before .before .before .before .before in
-    omega (arith, rw (c .before .before .rule2 .given .1) at (at-start .pre .5))
+    omega (arith, rw (c .before .before .rule2 .given .1) at (at-start .pre .2))
 
 width-below-requires-2 : tie.Need-width-below-requires-2
 width-below-requires-2 c κs = search needs
@@ -56,7 +56,7 @@ unfolding widths
 write-field-requires-3 c κs =
     let at-rule2 = c .before .before .before .before .before .before .before in
     let at-start = at-rule2 .before .before .before .before in
-    omega (arith, rw (at-rule2 .rule2 .given .1) at (at-start .pre .5))
+    omega (arith, rw (at-rule2 .rule2 .given .1) at (at-start .pre .2))
 
 add-result-2 : tie.Need-add-result-2
 add-result-2 c = search needs

@@ -10,7 +10,7 @@ use Rattle.lister.proofs.print_lines.Statement.{statement}
 use Rattle.lister.proofs.print_lines.Tie as tie
 
 abbrev Inv-loop : tie.InvT-loop
-Inv-loop out m s nodes walk₀ k₀ walk k = (k ≤ m) × (length walk ≡ 48)
+Inv-loop out m s nodes walk₀ k₀ walk k = (k ≤ m) × (length walk ≡ 47)
 
 abbrev μ-loop : tie.MeasureT-loop
 μ-loop out m s nodes walk₀ k₀ walk k = m - k

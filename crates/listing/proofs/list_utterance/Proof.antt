@@ -3,9 +3,9 @@ use mathlib.Core.Path.{_≡_, sym, _∙_}
 use Prim.Native.Nat.{_≤_}
 use native.Mathlib.Omega.{arith}
 use borrow.Author.Needs.{needs}
-use lib.ListN.{length, replicate}
+use lib.ListN.{length}
 use Rattle.listing.specs.Model.{shortage}
-use Rattle.listing.proofs.Sizes.{all-met, edges-few}
+use Rattle.listing.proofs.Sizes.{all-met, edges-few, layout-is}
 use Rattle.listing.proofs.Outcome.{utterance-refused, utterance-found}
 use Rattle.listing.proofs.list_utterance.Statement.{statement}
 use Rattle.listing.proofs.list_utterance.Tie as tie
@@ -38,44 +38,33 @@ slice-aggregate-edges-of c = search needs
 edges-of-requires : tie.Need-edges-of-requires
 edges-of-requires c κs = search needs
 
-slice-aggregate-make-index : tie.Need-slice-aggregate-make-index
-slice-aggregate-make-index c = search needs
-
-slice-aggregate-make-index-2 : tie.Need-slice-aggregate-make-index-2
-slice-aggregate-make-index-2 c = search needs
-
-make-index-requires : tie.Need-make-index-requires
-make-index-requires c κs =
-    let at-edges-of = c .before .before .before in
-    let at-start = at-edges-of .before .before .before .before .before .before .before .before .before .before in
-    let few : at-edges-of .edges-of .result ≤ 168 = rw (at-edges-of .edges-of .ensures .0) (edges-few (at-start .args .slots .now) (at-start .pre .2)) in
-    (at-start .pre .0 .rules, at-start .pre .0 .symbols, omega arith, omega (arith, at-start .pre .2))
-
-cells-of-requires : tie.Need-cells-of-requires
-cells-of-requires c κs = search needs
+lay-out-requires : tie.Need-lay-out-requires
+lay-out-requires c κs =
+    let at-if1 = c .before .before .before in
+    let at-start = at-if1 .before .before .before .before .before .before .before .before in
+    let met = all-met _ _ _ _ _ _ (nothing-short at-if1) in
+    (at-start .pre .0 .symbols, omega (arith, at-start .pre .2), met .positive, met .few)
 
 slice-aggregate-fill : tie.Need-slice-aggregate-fill
 slice-aggregate-fill c = search needs
 
-slice-aggregate-fill-2 : tie.Need-slice-aggregate-fill-2
-slice-aggregate-fill-2 c = search needs
-
 fill-requires : tie.Need-fill-requires
 fill-requires c κs =
-    let at-cells-of = c .before .before .before .before in
-    let at-if1 = at-cells-of .before .before .before .before .before .before .before .before in
+    let at-lay-out = c .before .before .before in
+    let at-edges-of = at-lay-out .before .before in
+    let at-if1 = at-edges-of .before .before in
     let at-start = at-if1 .before .before .before .before .before .before .before .before in
+    let a = at-start .args in
     let met = all-met _ _ _ _ _ _ (nothing-short at-if1) in
-    let few : at-cells-of .cells-of .result ≤ 16384 = omega (arith, at-cells-of .cells-of .ensures .1) in (
-      record {
-        sized = record { symbols = at-start .pre .0 .symbols; cap = met .few; kept = met .positive; cells = few };
-        order = at-start .pre .1;
-        last = omega (arith, at-start .pre .2);
-      },
-      at-start .pre .2,
+    let (places, ranks) = layout-is (a .sizes .symbols) (a .n) (a .wanted) (at-lay-out .lay-out .ensures .0) in
+    let few : at-edges-of .edges-of .result ≤ 168 = rw (at-edges-of .edges-of .ensures .0) (edges-few (a .slots .now) (at-start .pre .2)) in (
+      at-lay-out .lay-out .ensures .1,
+      omega (arith, at-start .pre .1, places),
+      omega (arith, at-start .pre .2, places),
       at-start .pre .0 .some-rule,
       at-start .pre .0 .rules,
-      met .room,
+      omega arith,
+      rw (places, ranks) (met .room),
     )
 
 same-length : tie.Need-same-length
@@ -87,15 +76,13 @@ same-length-2 c = search needs
 returns-2 : tie.Need-returns-2
 returns-2 c =
     let at-fill = c .before .before .before .before in
-    let at-cells-of = at-fill .before .before .before .before .before in
-    let at-make-index = at-cells-of .before .before in
-    let at-edges-of = at-make-index .before .before .before .before in
+    let at-lay-out = at-fill .before .before .before .before in
+    let at-edges-of = at-lay-out .before .before in
     let at-if1 = at-edges-of .before .before in
     let at-start = at-if1 .before .before .before .before .before .before .before .before in
     let a = at-start .args in
-    utterance-found (a .rules .now) (a .sizes) (a .slots .now) (a .n) (a .wanted) (a .work .now) (a .out .now) _ (replicate 1024 0)
-    (nothing-short at-if1) (at-cells-of .cells-of .ensures .0) (at-edges-of .edges-of .ensures .0)
-    (at-edges-of .edges-of .ensures .1) (omega arith) (at-make-index .make-index .ensures) (at-fill .fill .ensures)
+    utterance-found (a .rules .now) (a .sizes) (a .slots .now) (a .n) (a .wanted) (a .work .now) (a .out .now) _ (nothing-short at-if1)
+    (at-lay-out .lay-out .ensures .0) (at-edges-of .edges-of .ensures .0) (at-edges-of .edges-of .ensures .1) (at-fill .fill .ensures)
 
 pub list-utterance-spec : {M : Type 1} → statement M
 list-utterance-spec =
@@ -107,12 +94,8 @@ list-utterance-spec =
     returns
     slice-aggregate-edges-of
     edges-of-requires
-    slice-aggregate-make-index
-    slice-aggregate-make-index-2
-    make-index-requires
-    cells-of-requires
+    lay-out-requires
     slice-aggregate-fill
-    slice-aggregate-fill-2
     fill-requires
     same-length
     same-length-2

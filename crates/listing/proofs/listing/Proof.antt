@@ -1,8 +1,10 @@
--- What the grammar's reader says of the block decides between its refusal and the listing of what it means.
+-- What the grammar's reader says of the block decides between its refusal and the listing of what it means. Both are what is due,
+-- so demand 3 is met.
 use borrow.Author.Needs.{needs}
 use Rattle.packing.specs.Grammar.{grammarBlock}
 use Rattle.grammar_reader.proofs.Outcome.{accepted-told, refused-told}
 use Rattle.listing.proofs.Outcome.{block-refused, block-listed}
+use Rattle.listing.proofs.Demand3.{promised}
 use Rattle.listing.proofs.listing.Statement.{statement}
 use Rattle.listing.proofs.listing.Tie as tie
 
@@ -31,8 +33,9 @@ returns c =
     let at-read-block = c .before .before .before .before in
     let at-start = at-read-block .before .before .before .before .before .before in
     let a = at-start .args in
-    block-refused (a .grammar .now) (a .utterance .now) (a .wanted) (a .work .now) (a .out .now)
-    (refused-told (grammarBlock (a .grammar .now)) (at-read-block .read-block .ensures .0) (c .before .n .given .1))
+    promised (a .grammar .now) (a .utterance .now) (a .wanted) (a .work .now) (a .out .now) _ _ _
+    (block-refused (a .grammar .now) (a .utterance .now) (a .wanted) (a .work .now) (a .out .now)
+    (refused-told (grammarBlock (a .grammar .now)) (at-read-block .read-block .ensures .0) (c .before .n .given .1)))
 
 same-length : tie.Need-same-length
 same-length c = search needs
@@ -48,8 +51,9 @@ returns-2 c =
     let at-start = at-read-block .before .before .before .before .before .before in
     let a = at-start .args in
     let (g, v, z) = accepted-told (grammarBlock (a .grammar .now)) (at-read-block .read-block .ensures .0) (at-sizes .sizes .given .1) in
-    block-listed (a .grammar .now) (a .utterance .now) (a .wanted) (a .work .now) (a .out .now) (at-read-block .read-block .last .1 .0) g v z
-    (rw v at (at-read-block .read-block .ensures .1)) (at-list-grammar .list-grammar .ensures)
+    promised (a .grammar .now) (a .utterance .now) (a .wanted) (a .work .now) (a .out .now) _ _ _
+    (block-listed (a .grammar .now) (a .utterance .now) (a .wanted) (a .work .now) (a .out .now) (at-read-block .read-block .last .1 .0) g v z
+    (rw v at (at-read-block .read-block .ensures .1)) (at-list-grammar .list-grammar .ensures))
 
 pub listing-spec : {M : Type 1} → statement M
 listing-spec =

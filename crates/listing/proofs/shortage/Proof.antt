@@ -1,14 +1,23 @@
 -- Each test of the code is one of the definition's.
+use mathlib.Core.Path.{_≡_}
 use Prim.Native.Nat.{_*_, _≤_, _<_}
 use native.Mathlib.Omega.{arith}
 use borrow.Author.Needs.{needs}
 use borrow.Author.Tests.{lt-ltb, le-ltb}
-use Rattle.listing.specs.Listing.{tableSize}
 use Rattle.packing.specs.Reading.{readingLength}
+use Rattle.listing.specs.Listing.{tableSize}
 use Rattle.listing.specs.Model.{shortage}
-use Rattle.listing.proofs.Sizes.{table-is, table-small, output-small}
+use Rattle.listing.proofs.Sizes.{table-is, output-small}
 use Rattle.listing.proofs.shortage.Statement.{statement}
 use Rattle.listing.proofs.shortage.Tie as tie
+
+-- the numbers of the table that is laid out for what is asked for
+numbers : (c : tie.After-table-numbers)
+    → let a = c .before .before .before .before .args in
+    c .table-numbers .result ≡ tableSize (a .symbols) (a .n) (a .wanted)
+numbers c =
+    let a = c .before .before .before .before .args in
+    table-is (a .symbols) (a .n) (a .wanted) (c .before .lay-out .ensures .0) (c .table-numbers .ensures .0)
 
 returns : tie.Need-returns
 unfolding shortage
@@ -20,22 +29,18 @@ returns-2 c =
     let wanted = c .before .before .args .wanted in
     rw (le-ltb wanted 1 (c .before .if1 .left), lt-ltb 256 wanted (c .if2 .taken))
 
-cells-of-requires : tie.Need-cells-of-requires
-cells-of-requires c κs = search needs
+lay-out-requires : tie.Need-lay-out-requires
+lay-out-requires c κs = search needs
 
-mul-if3 : tie.Need-mul-if3
-mul-if3 c = search needs
-
-mul-if3-2 : tie.Need-mul-if3-2
-mul-if3-2 c = omega (arith, table-small (c .cells-of .ensures .1) (c .before .if2 .left))
+table-numbers-requires : tie.Need-table-numbers-requires
+table-numbers-requires c κs = search needs
 
 returns-3 : tie.Need-returns-3
 unfolding shortage
 returns-3 c =
-    let at-if2 = c .before .before in
+    let at-if2 = c .before .before .before in
     let a = at-if2 .before .before .args in
-    let short : a .work < tableSize (a .symbols) (a .n) (a .wanted) =
-    rw (table-is (a .symbols) (a .n) (a .wanted) (c .before .cells-of .ensures .0)) at (c .if3 .taken) in
+    let short : a .work < tableSize (a .symbols) (a .n) (a .wanted) = rw (numbers (c .before)) at (c .if3 .taken) in
     rw (le-ltb (a .wanted) 1 (at-if2 .before .if1 .left), le-ltb 256 (a .wanted) (at-if2 .if2 .left), lt-ltb _ _ short)
 
 reading-length-requires : tie.Need-reading-length-requires
@@ -43,7 +48,7 @@ reading-length-requires c κs = search needs
 
 mul-if4 : tie.Need-mul-if4
 mul-if4 c =
-    let at-if2 = c .before .before .before in
+    let at-if2 = c .before .before .before .before in
     let a = at-if2 .before .before .args in
     rw (c .reading-length .ensures) (omega (arith, output-small {n = a .n} {R = a .rules} {N = a .wanted} (omega arith) (omega arith) (at-if2 .if2 .left)))
 
@@ -51,10 +56,9 @@ returns-4 : tie.Need-returns-4
 unfolding shortage
 returns-4 c =
     let at-if3 = c .before .before in
-    let at-if2 = at-if3 .before .before in
+    let at-if2 = at-if3 .before .before .before in
     let a = at-if2 .before .before .args in
-    let table : tableSize (a .symbols) (a .n) (a .wanted) ≤ a .work =
-    rw (table-is (a .symbols) (a .n) (a .wanted) (at-if3 .before .cells-of .ensures .0)) at (at-if3 .if3 .left) in
+    let table : tableSize (a .symbols) (a .n) (a .wanted) ≤ a .work = rw (numbers (at-if3 .before)) at (at-if3 .if3 .left) in
     let short : a .out < a .wanted * readingLength (a .n) (a .rules) = rw (c .before .reading-length .ensures) at (c .if4 .taken) in
     rw (le-ltb (a .wanted) 1 (at-if2 .before .if1 .left), le-ltb 256 (a .wanted) (at-if2 .if2 .left), le-ltb _ _ table, lt-ltb _ _ short)
 
@@ -62,10 +66,9 @@ returns-5 : tie.Need-returns-5
 unfolding shortage
 returns-5 c =
     let at-if3 = c .before .before in
-    let at-if2 = at-if3 .before .before in
+    let at-if2 = at-if3 .before .before .before in
     let a = at-if2 .before .before .args in
-    let table : tableSize (a .symbols) (a .n) (a .wanted) ≤ a .work =
-    rw (table-is (a .symbols) (a .n) (a .wanted) (at-if3 .before .cells-of .ensures .0)) at (at-if3 .if3 .left) in
+    let table : tableSize (a .symbols) (a .n) (a .wanted) ≤ a .work = rw (numbers (at-if3 .before)) at (at-if3 .if3 .left) in
     let room : a .wanted * readingLength (a .n) (a .rules) ≤ a .out = rw (c .before .reading-length .ensures) at (c .if4 .left) in
     rw (le-ltb (a .wanted) 1 (at-if2 .before .if1 .left), le-ltb 256 (a .wanted) (at-if2 .if2 .left), le-ltb _ _ table, le-ltb _ _ room)
 
@@ -75,9 +78,8 @@ shortage-spec =
     (tie.spec
     returns
     returns-2
-    cells-of-requires
-    mul-if3
-    mul-if3-2
+    lay-out-requires
+    table-numbers-requires
     returns-3
     reading-length-requires
     mul-if4

@@ -14,11 +14,11 @@ use Rattle.listing.proofs.write_readings.Statement.{statement}
 use Rattle.listing.proofs.write_readings.Tie as tie
 
 abbrev Inv-loop : tie.InvT-loop
-Inv-loop t rules count d n m out₀ size x₀ out x =
-    (x ≤ m) × (length out ≡ length out₀) × (out ≡ blocksAt t rules d n count x ++ drop (x * readingLength n count) out₀)
+Inv-loop t rules count d m out₀ size x₀ out x =
+    (x ≤ m) × (length out ≡ length out₀) × (out ≡ blocksAt t rules d count x ++ drop (x * readingLength (d .places) count) out₀)
 
 abbrev μ-loop : tie.MeasureT-loop
-μ-loop t rules count d n m out₀ size x₀ out x = m - x
+μ-loop t rules count d m out₀ size x₀ out x = m - x
 
 -- a turn's block lies within the output
 within : (c : tie.In-loop Inv-loop μ-loop)
@@ -28,8 +28,8 @@ within c =
     let at-reading-length = at-loop .before in
     let at-start = at-reading-length .before .before .before .before in
     let a = at-start .args in
-    let all : (at-loop .loop .x + 1) * readingLength (a .n) (a .count) ≤ a .m * readingLength (a .n) (a .count) =
-    mul-le-mul-right (readingLength (a .n) (a .count)) (omega (arith, c .loop-test .taken)) in
+    let all : (at-loop .loop .x + 1) * readingLength (a .d .places) (a .count) ≤ a .m * readingLength (a .d .places) (a .count) =
+    mul-le-mul-right (readingLength (a .d .places) (a .count)) (omega (arith, c .loop-test .taken)) in
     rw (at-reading-length .reading-length .ensures) (omega (arith, at-start .pre))
 
 reading-length-requires : tie.Need-reading-length-requires Inv-loop μ-loop
@@ -56,8 +56,9 @@ write-rank-requires c κs =
     let at-loop = c .before .before in
     let at-start = at-loop .before .before .before .before .before in
     let a = at-start .args in
-    let size : readingLength (a .n) (a .count) ≡ at-loop .before .reading-length .result = sym (at-loop .before .reading-length .ensures) in (
+    let size : readingLength (a .d .places) (a .count) ≡ at-loop .before .reading-length .result = sym (at-loop .before .reading-length .ensures) in (
       at-start .pre .0,
+      omega (arith, at-start .pre),
       omega (arith, at-start .pre),
       omega (arith, at-start .pre),
       omega (arith, at-start .pre),
@@ -79,10 +80,10 @@ loop-again c =
     let a = at-start .args in
     let l = at-loop .loop in
     let size = at-loop .before .reading-length .result in
-    let part = at-write-rank .write-rank .last .1 .1 .1 .1 .1 .1 .0 in (
+    let part = at-write-rank .write-rank .last .1 .1 .1 .1 .1 .0 in (
       omega (arith, at-write-rank .before .before .loop-test .taken),
-      same-len-mid (l .x * size) (length (l .out) - l .x * size) (l .out) part (at-write-rank .write-rank .kept .1 .1 .1 .1 .1 .1 .0) ∙ l .inv .1,
-      written-more (a .t .now) (a .rules .now) (a .d) (a .n) (a .count) (omega (arith, at-start .pre)) (l .x) size (a .out .now)
+      same-len-mid (l .x * size) (length (l .out) - l .x * size) (l .out) part (at-write-rank .write-rank .kept .1 .1 .1 .1 .1 .0) ∙ l .inv .1,
+      written-more (a .t .now) (a .rules .now) (a .d) (a .count) (omega (arith, at-start .pre)) (l .x) size (a .out .now)
           (at-loop .before .reading-length .ensures) (l .inv .2) (at-write-rank .write-rank .ensures),
     )
 

@@ -4,11 +4,11 @@ use Prim.Native.Nat.{_+_, _≤_}
 use native.Mathlib.Omega.{arith}
 use borrow.Author.Needs.{needs}
 use Rattle.packing.specs.Parse.{parsed}
-use Rattle.packing.specs.Source.{Source, bytes, take}
+use Rattle.packing.specs.Source.{Source, bytes, fieldAt}
 use Rattle.packing.specs.Grammar.{blockKind}
 use Rattle.packing.specs.Reading.{readingSlots}
 use Rattle.packing.proofs.Parse.{number-told, refused-out}
-use Rattle.packing.proofs.Bounds.{take-next}
+use Rattle.packing.proofs.Bounds.{field-at-next}
 use Rattle.reading_reader.specs.Answer.{headFrom}
 use Rattle.reading_reader.proofs.read_head.Statement.{statement}
 use Rattle.reading_reader.proofs.read_head.Tie as tie
@@ -28,18 +28,18 @@ enum-told c = search needs
 returns : tie.Need-returns
 unfolding headFrom
 returns c =
-    let e = refused-out (take (source (c .before .before .before .before)) 0 (blockKind 3 32)) (sym (c .before .before .number .ensures) ∙ c .enum-told .given .1) in
+    let e = refused-out (fieldAt (source (c .before .before .before .before)) 0 (blockKind 3 32)) (sym (c .before .before .number .ensures) ∙ c .enum-told .given .1) in
     rw e (c .enum-told .given .1)
 
 -- the kind that was read
 abbrev start : tie.After-known-told → tie.Start
 start c = c .before .before .before .before .before
 
-kind-read : (c : tie.After-known-told) → take (source (start c)) 0 (blockKind 3 32) ≡ parsed (c .before .kind .given .0 .0) (c .before .kind .given .0 .1 .0 .at)
+kind-read : (c : tie.After-known-told) → fieldAt (source (start c)) 0 (blockKind 3 32) ≡ parsed (c .before .kind .given .0 .0) (c .before .kind .given .0 .1 .0 .at)
 kind-read c = number-told _ (c .before .before .before .number .ensures) (c .before .kind .given .1)
 
 kind-near : (c : tie.After-known-told) → c .before .kind .given .0 .1 .0 .at ≤ 4
-kind-near c = omega (arith, take-next (blockKind 3 32) (source (start c)) 0 4 (omega arith) (omega arith) (kind-read c))
+kind-near c = omega (arith, field-at-next (blockKind 3 32) (source (start c)) 0 4 (omega arith) (omega arith) (kind-read c))
 
 cast-t11 : tie.Need-cast-t11
 cast-t11 c = search needs
@@ -60,7 +60,7 @@ returns-2 : tie.Need-returns-2
 unfolding headFrom
 returns-2 c =
     let k = c .before .before .before in
-    let e = refused-out (take (source (start k)) _ (readingSlots (start k .args .n))) (sym (c .before .before .number2 .ensures) ∙ c .enum-told2 .given .1) in
+    let e = refused-out (fieldAt (source (start k)) _ (readingSlots (start k .args .n))) (sym (c .before .before .number2 .ensures) ∙ c .enum-told2 .given .1) in
     rw (kind-read k, e) (c .enum-told2 .given .1)
 
 -- n that was read
@@ -69,13 +69,13 @@ kind-before c = c .before .before .before .before
 
 slots-read : (c : tie.After-known-told2) →
     let k = kind-before c in
-    take (source (start k)) (k .before .kind .given .0 .1 .0 .at) (readingSlots (start k .args .n)) ≡ parsed (c .before .found .given .0 .0) (c .before .found .given .0 .1 .0 .at)
+    fieldAt (source (start k)) (k .before .kind .given .0 .1 .0 .at) (readingSlots (start k .args .n)) ≡ parsed (c .before .found .given .0 .0) (c .before .found .given .0 .1 .0 .at)
 slots-read c = number-told _ (c .before .before .before .number2 .ensures) (c .before .found .given .1)
 
 number-requires-3 : tie.Need-number-requires-3
 number-requires-3 c κs =
     let k = kind-before c in
-    omega (arith, kind-near k, take-next (readingSlots (start k .args .n)) (source (start k)) _ 6 (omega arith) (omega arith) (slots-read c))
+    omega (arith, kind-near k, field-at-next (readingSlots (start k .args .n)) (source (start k)) _ 6 (omega arith) (omega arith) (slots-read c))
 
 returns-3 : tie.Need-returns-3
 unfolding headFrom

@@ -5,13 +5,13 @@ use Prim.Native.Nat.{_+_, _-_, _*_, _≤_}
 use native.Mathlib.Nat.{sub-zero}
 use native.Mathlib.Omega.{arith}
 use borrow.Author.Needs.{needs}
-use lib.ListN.{length, take as front, length-set}
+use lib.ListN.{length, take, length-set}
 use lib.Seq.{length-take-le}
-use Rattle.packing.specs.Source.{bytes, take}
+use Rattle.packing.specs.Source.{bytes, fieldAt}
 use Rattle.packing.specs.Read.{refusalOf}
 use Rattle.packing.specs.Reading.{ruleNumber, walkFrom}
 use Rattle.packing.proofs.Parse.{number-out, refused-out}
-use Rattle.packing.proofs.Bounds.{take-next}
+use Rattle.packing.proofs.Bounds.{field-at-next}
 use Rattle.packing.proofs.Widths.{byte-width}
 use Rattle.reading_reader.specs.Answer.{headFrom}
 use Rattle.reading_reader.specs.declared.ReadingRead.the-variants.{Refused}
@@ -22,7 +22,7 @@ use Rattle.reading_reader.proofs.read_reading.Tie as tie
 abbrev Inv-loop : tie.InvT-loop
 Inv-loop block n rules walk₀ weight count at₀ i₀ walk at i =
     (i ≤ count) × (length walk ≡ length walk₀) × (at ≤ 34 + 8 * i)
-    × (walkFrom (bytes 31 block) rules (count - i) at (front i walk) ≡ walkFrom (bytes 31 block) rules count at₀ [])
+    × (walkFrom (bytes 31 block) rules (count - i) at (take i walk) ≡ walkFrom (bytes 31 block) rules count at₀ [])
 
 abbrev μ-loop : tie.MeasureT-loop
 μ-loop block n rules walk₀ weight count at₀ i₀ walk at i = count - i
@@ -87,7 +87,7 @@ returns-2 c =
     let s = a .block .now in
     let l = at-loop .loop in
     let h = number-out (headFrom (a .n) s) (sym (at-read-head .read-head .ensures) ∙ at-head .head .given .1) in
-    let e = refused-out (take (bytes 31 s) (l .at) (ruleNumber (a .rules))) (sym (c .before .before .before .read-number .ensures) ∙ c .before .enum-told2 .given .1) in
+    let e = refused-out (fieldAt (bytes 31 s) (l .at) (ruleNumber (a .rules))) (sym (c .before .before .before .read-number .ensures) ∙ c .before .enum-told2 .given .1) in
     let f = walk-failed (a .rules) s (2 * a .n - 1) (l .i) (l .at) (l .walk) (at-loop-test .loop-test .taken) e in
     rw (head-parsed (a .n) (a .rules) s h (sym (l .inv .3) ∙ f)) (ap Refused (c .refusal2 .ensures ∙ ap refusalOf (c .before .enum-told2 .given .1)), tt, tt)
 
@@ -111,9 +111,9 @@ loop-again c =
     let a = at-start .args in
     let s = a .block .now in
     let l = at-loop .loop in
-    let e = number-out (take (bytes 31 s) (l .at) (ruleNumber (a .rules))) (sym (c .before .before .before .read-number .ensures) ∙ c .before .found .given .1) in
+    let e = number-out (fieldAt (bytes 31 s) (l .at) (ruleNumber (a .rules))) (sym (c .before .before .before .read-number .ensures) ∙ c .before .found .given .1) in
     let w = byte-width (a .rules) (omega arith) in
-    let n = take-next (ruleNumber (a .rules)) (bytes 31 s) (l .at) 8 w (omega arith) e in (
+    let n = field-at-next (ruleNumber (a .rules)) (bytes 31 s) (l .at) 8 w (omega arith) e in (
       omega arith,
       simp length-set (l .inv .1),
       omega arith,

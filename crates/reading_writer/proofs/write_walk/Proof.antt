@@ -17,11 +17,8 @@ Inv-loop out₀ start rules walk n width at₀ i₀ out at i =
 abbrev μ-loop : tie.MeasureT-loop
 μ-loop out₀ start rules walk n width at₀ i₀ out at i = n - i
 
-sub-width-of : tie.Need-sub-width-of Inv-loop μ-loop
-sub-width-of c = omega arith
-
-width-of-requires : tie.Need-width-of-requires Inv-loop μ-loop
-width-of-requires c κs = omega arith
+width-below-requires : tie.Need-width-below-requires Inv-loop μ-loop
+width-below-requires c κs = omega arith
 
 loop-holds : tie.Need-loop-holds Inv-loop μ-loop
 loop-holds c = (omega arith, omega arith, rw sub-zero all-remain)
@@ -34,11 +31,11 @@ shared-slice-read-write-field c = omega arith
 
 write-field-requires : tie.Need-write-field-requires Inv-loop μ-loop
 write-field-requires c κs =
-    let at-width-of = c .before .before .before .before in
-    let at-start = at-width-of .before .before .before in
+    let at-width-below = c .before .before .before .before in
+    let at-start = at-width-below .before .before .before in
     let a = at-start .args in
     let l = c .before .before .before .loop in
-    omega (arith, one-within (rw (rest-more (a .rules) (a .walk .now) (a .n) (l .i) (at-width-of .width-of .ensures .0) (omega arith) (omega arith)) at (l .inv .2)))
+    omega (arith, one-within (rw (rest-more (a .rules) (a .walk .now) (a .n) (l .i) (at-width-below .width-below .ensures .0) (omega arith) (omega arith)) at (l .inv .2)))
 
 add-at : tie.Need-add-at Inv-loop μ-loop
 add-at c = omega arith
@@ -52,11 +49,11 @@ loop-less c = omega arith
 loop-again : tie.Need-loop-again Inv-loop μ-loop
 loop-again c =
     let at-loop = c .before .before .before .before .before .before in
-    let at-width-of = at-loop .before in
-    let at-start = at-width-of .before .before .before in
+    let at-width-below = at-loop .before in
+    let at-start = at-width-below .before .before .before in
     let a = at-start .args in
     let l = at-loop .loop in
-    (omega arith, omega arith, one-written (rw (rest-more (a .rules) (a .walk .now) (a .n) (l .i) (at-width-of .width-of .ensures .0) (omega arith) (omega arith)) at (l .inv .2)) (c .before .before .write-field .ensures))
+    (omega arith, omega arith, one-written (rw (rest-more (a .rules) (a .walk .now) (a .n) (l .i) (at-width-below .width-below .ensures .0) (omega arith) (omega arith)) at (l .inv .2)) (c .before .before .write-field .ensures))
 
 same-length : tie.Need-same-length Inv-loop μ-loop
 same-length c = omega arith
@@ -74,8 +71,7 @@ write-walk-spec =
     (tie.spec
     Inv-loop
     μ-loop
-    sub-width-of
-    width-of-requires
+    width-below-requires
     loop-holds
     mul-write-field
     shared-slice-read-write-field

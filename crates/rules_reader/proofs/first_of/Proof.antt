@@ -4,17 +4,17 @@ use borrow.Author.Needs.{needs}
 use Rattle.rules_reader.proofs.first_of.Statement.{statement}
 use Rattle.rules_reader.proofs.first_of.Tie as tie
 
+symbol-of-requires : tie.Need-symbol-of-requires
+symbol-of-requires c κs = search needs
+
+returns : tie.Need-returns
+returns c = rw (eq-eqb _ _ (c .before .if1 .taken)) (c .symbol-of .ensures)
+
 below-requires : tie.Need-below-requires
 below-requires c κs = search needs
 
-returns : tie.Need-returns
-returns c = rw (eq-eqb _ _ (c .before .if1 .taken)) (c .below .ensures)
-
-below-requires-2 : tie.Need-below-requires-2
-below-requires-2 c κs = search needs
-
 returns-2 : tie.Need-returns-2
-returns-2 c = rw (ne-eqb _ _ (c .before .if1 .left)) (c .below2 .ensures)
+returns-2 c = rw (ne-eqb _ _ (c .before .if1 .left)) (c .below .ensures)
 
 pub first-of-spec : {M : Type 1} → statement M
-first-of-spec = tie.close (tie.spec below-requires returns below-requires-2 returns-2)
+first-of-spec = tie.close (tie.spec symbol-of-requires returns below-requires returns-2)

@@ -4,9 +4,9 @@ use Prim.Native.Nat.{_+_, _-_, _*_, _≤_}
 use native.Mathlib.Omega.{arith}
 use borrow.Author.Needs.{needs}
 use Rattle.packing.specs.Parse.{parsed}
-use Rattle.packing.specs.Source.{Source, take}
+use Rattle.packing.specs.Source.{Source, fieldAt}
 use Rattle.packing.specs.Read.{sourceOf}
-use Rattle.packing.specs.Grammar.{ruleFrom, ruleKind, symbol, weight, firstOf, secondOf}
+use Rattle.packing.specs.Grammar.{ruleFrom, ruleKind, symbol, weightField, firstOf, secondOf}
 use Rattle.rules_reader.proofs.Taken.{got, missed, taken}
 use Rattle.rules_reader.proofs.Fields.{symbol-taken, first-taken, second-taken}
 use Rattle.rules_reader.proofs.read_rule.Statement.{statement}
@@ -15,8 +15,8 @@ use Rattle.rules_reader.proofs.read_rule.Tie as tie
 abbrev source : tie.Start → Source
 source s = sourceOf (s .args .src) (s .args .block .now) (s .args .sheet .now)
 
-take-requires : tie.Need-take-requires
-take-requires c κs = search needs
+field-at-requires : tie.Need-field-at-requires
+field-at-requires c κs = search needs
 
 enum-known-read : tie.Need-enum-known-read
 enum-known-read c = search needs
@@ -31,23 +31,23 @@ returns : tie.Need-returns
 unfolding ruleFrom
 returns c =
     let t = c .before .before .before in
-    (rw (missed (source (t .before .before .before)) _ refl (t .take .ensures) (c .before .enum-told .given .1) (c .refusal .ensures)), tt)
+    (rw (missed (source (t .before .before .before)) _ refl (t .field-at .ensures) (c .before .enum-told .given .1) (c .refusal .ensures)), tt)
 
 -- the kind that was read, in its range
 abbrev start : tie.After-known-told → tie.Start
 start c = c .before .before .before .before .before .before
 
-kind-read : (c : tie.After-known-told) → take (source (start c)) (start c .args .at) ruleKind ≡ parsed (c .before .read .given .0 .0) (c .before .read .given .0 .1 .0 .at)
-kind-read c = got (source (start c)) _ refl (c .before .before .before .take .ensures) (c .before .read .given .1)
+kind-read : (c : tie.After-known-told) → fieldAt (source (start c)) (start c .args .at) ruleKind ≡ parsed (c .before .read .given .0 .0) (c .before .read .given .0 .1 .0 .at)
+kind-read c = got (source (start c)) _ refl (c .before .before .before .field-at .ensures) (c .before .read .given .1)
 
 kind-near : (c : tie.After-known-told) → (c .before .read .given .0 .0 ≤ 1) × (c .before .read .given .0 .1 .0 .at ≤ start c .args .at + 1)
 kind-near c = omega (arith, taken _ 1 (source (start c)) _ (omega arith) (omega arith) (kind-read c))
 
-below-requires : tie.Need-below-requires
-below-requires c κs = search needs
+symbol-of-requires : tie.Need-symbol-of-requires
+symbol-of-requires c κs = search needs
 
-take-requires-2 : tie.Need-take-requires-2
-take-requires-2 c κs = omega (arith, kind-near (c .before))
+field-at-requires-2 : tie.Need-field-at-requires-2
+field-at-requires-2 c κs = omega (arith, kind-near (c .before))
 
 enum-known-read-2 : tie.Need-enum-known-read-2
 enum-known-read-2 c = search needs
@@ -63,7 +63,7 @@ unfolding ruleFrom
 returns-2 c =
     let t = c .before .before .before in
     let k = t .before .before in
-    (rw (kind-read k, missed (source (start k)) _ (t .before .below .ensures .0) (t .take2 .ensures) (c .before .enum-told2 .given .1) (c .refusal2 .ensures)), tt)
+    (rw (kind-read k, missed (source (start k)) _ (t .before .symbol-of .ensures .0) (t .field-at2 .ensures) (c .before .enum-told2 .given .1) (c .refusal2 .ensures)), tt)
 
 -- the head that was read, in its range
 abbrev kind-before : tie.After-known-told2 → tie.After-known-told
@@ -72,16 +72,16 @@ kind-before c = c .before .before .before .before .before
 abbrev start-2 : tie.After-known-told2 → tie.Start
 start-2 c = start (kind-before c)
 
-head-read : (c : tie.After-known-told2) → take (source (start-2 c)) (kind-before c .before .read .given .0 .1 .0 .at) (symbol (start-2 c .args .symbols)) ≡ parsed (c .before .read2 .given .0 .0) (c .before .read2 .given .0 .1 .0 .at)
+head-read : (c : tie.After-known-told2) → fieldAt (source (start-2 c)) (kind-before c .before .read .given .0 .1 .0 .at) (symbol (start-2 c .args .v .symbols)) ≡ parsed (c .before .read2 .given .0 .0) (c .before .read2 .given .0 .1 .0 .at)
 head-read c =
     let t = c .before .before .before in
-    got (source (start-2 c)) _ (t .before .below .ensures .0) (t .take2 .ensures) (c .before .read2 .given .1)
+    got (source (start-2 c)) _ (t .before .symbol-of .ensures .0) (t .field-at2 .ensures) (c .before .read2 .given .1)
 
 head-near : (c : tie.After-known-told2) → (c .before .read2 .given .0 .0 ≤ 31) × (c .before .read2 .given .0 .1 .0 .at ≤ start-2 c .args .at + 9)
 head-near c = omega (arith, kind-near (kind-before c), symbol-taken (start-2 c .pre .1) (source (start-2 c)) _ (head-read c))
 
-take-requires-3 : tie.Need-take-requires-3
-take-requires-3 c κs = omega (arith, head-near c, start-2 c .pre)
+field-at-requires-3 : tie.Need-field-at-requires-3
+field-at-requires-3 c κs = omega (arith, head-near c, start-2 c .pre)
 
 enum-known-read-3 : tie.Need-enum-known-read-3
 enum-known-read-3 c = search needs
@@ -97,7 +97,7 @@ unfolding ruleFrom
 returns-3 c =
     let t = c .before .before .before in
     let h = t .before in
-    (rw (kind-read (kind-before h), head-read h, missed (source (start-2 h)) _ refl (t .take3 .ensures) (c .before .enum-told3 .given .1) (c .refusal3 .ensures)), tt)
+    (rw (kind-read (kind-before h), head-read h, missed (source (start-2 h)) _ refl (t .field-at3 .ensures) (c .before .enum-told3 .given .1) (c .refusal3 .ensures)), tt)
 
 -- the weight that was read
 abbrev head-before : tie.After-known-told3 → tie.After-known-told2
@@ -106,8 +106,8 @@ head-before c = c .before .before .before .before
 abbrev start-3 : tie.After-known-told3 → tie.Start
 start-3 c = start-2 (head-before c)
 
-weight-read : (c : tie.After-known-told3) → take (source (start-3 c)) (head-before c .before .read2 .given .0 .1 .0 .at) weight ≡ parsed (c .before .read3 .given .0 .0) (c .before .read3 .given .0 .1 .0 .at)
-weight-read c = got (source (start-3 c)) _ refl (c .before .before .before .take3 .ensures) (c .before .read3 .given .1)
+weight-read : (c : tie.After-known-told3) → fieldAt (source (start-3 c)) (head-before c .before .read2 .given .0 .1 .0 .at) weightField ≡ parsed (c .before .read3 .given .0 .0) (c .before .read3 .given .0 .1 .0 .at)
+weight-read c = got (source (start-3 c)) _ refl (c .before .before .before .field-at3 .ensures) (c .before .read3 .given .1)
 
 weight-near : (c : tie.After-known-told3) → c .before .read3 .given .0 .1 .0 .at ≤ start-3 c .args .at + 25
 weight-near c = omega (arith, head-near (head-before c), taken _ 16 (source (start-3 c)) _ (omega arith) (omega arith) (weight-read c))
@@ -115,8 +115,8 @@ weight-near c = omega (arith, head-near (head-before c), taken _ 16 (source (sta
 first-of-requires : tie.Need-first-of-requires
 first-of-requires c κs = start-3 c .pre .1
 
-take-requires-4 : tie.Need-take-requires-4
-take-requires-4 c κs = omega (arith, weight-near (c .before), start-3 (c .before) .pre)
+field-at-requires-4 : tie.Need-field-at-requires-4
+field-at-requires-4 c κs = omega (arith, weight-near (c .before), start-3 (c .before) .pre)
 
 enum-known-read-4 : tie.Need-enum-known-read-4
 enum-known-read-4 c = search needs
@@ -137,7 +137,7 @@ returns-4 c =
         kind-read (kind-before h),
         head-read h,
         weight-read w,
-        missed (source (start-3 w)) _ (t .before .first-of .ensures .0) (t .take4 .ensures) (c .before .enum-told4 .given .1) (c .refusal4 .ensures),
+        missed (source (start-3 w)) _ (t .before .first-of .ensures .0) (t .field-at4 .ensures) (c .before .enum-told4 .given .1) (c .refusal4 .ensures),
       ),
       tt,
     )
@@ -151,10 +151,10 @@ kind-4 c = kind-before (head-before (weight-before c))
 
 first-read : (c : tie.After-known-told4) →
     let s = start (kind-4 c) in
-    take (source s) (weight-before c .before .read3 .given .0 .1 .0 .at) (firstOf (s .args .symbols) (s .args .words) (kind-4 c .before .read .given .0 .0)) ≡ parsed (c .before .read4 .given .0 .0) (c .before .read4 .given .0 .1 .0 .at)
+    fieldAt (source s) (weight-before c .before .read3 .given .0 .1 .0 .at) (firstOf (s .args .v .symbols) (s .args .v .words) (kind-4 c .before .read .given .0 .0)) ≡ parsed (c .before .read4 .given .0 .0) (c .before .read4 .given .0 .1 .0 .at)
 first-read c =
     let t = c .before .before .before in
-    got (source (start (kind-4 c))) _ (t .before .first-of .ensures .0) (t .take4 .ensures) (c .before .read4 .given .1)
+    got (source (start (kind-4 c))) _ (t .before .first-of .ensures .0) (t .field-at4 .ensures) (c .before .read4 .given .1)
 
 first-near : (c : tie.After-known-told4) → (c .before .read4 .given .0 .0 ≤ 199) × (c .before .read4 .given .0 .1 .0 .at ≤ start (kind-4 c) .args .at + 33)
 first-near c =
@@ -162,10 +162,10 @@ first-near c =
     omega (arith, weight-near (weight-before c), first-taken (s .pre .1) (source s) _ (kind-4 c .before .read .given .0 .0) (first-read c))
 
 second-of-requires : tie.Need-second-of-requires
-second-of-requires c κs = let r = start (kind-4 c) .pre .1 in (r .some-symbol, r .symbols)
+second-of-requires c κs = start (kind-4 c) .pre .1
 
-take-requires-5 : tie.Need-take-requires-5
-take-requires-5 c κs = omega (arith, first-near (c .before), start (kind-4 (c .before)) .pre)
+field-at-requires-5 : tie.Need-field-at-requires-5
+field-at-requires-5 c κs = omega (arith, first-near (c .before), start (kind-4 (c .before)) .pre)
 
 enum-known-read-5 : tie.Need-enum-known-read-5
 enum-known-read-5 c = search needs
@@ -187,7 +187,7 @@ returns-5 c =
         head-read (head-before w),
         weight-read w,
         first-read f,
-        missed (source (start (kind-4 f))) _ (t .before .second-of .ensures .0) (t .take5 .ensures) (c .before .enum-told5 .given .1) (c .refusal5 .ensures),
+        missed (source (start (kind-4 f))) _ (t .before .second-of .ensures .0) (t .field-at5 .ensures) (c .before .enum-told5 .given .1) (c .refusal5 .ensures),
       ),
       tt,
     )
@@ -201,10 +201,10 @@ kind-5 c = kind-4 (first-before c)
 
 second-read : (c : tie.After-known-told5) →
     let s = start (kind-5 c) in
-    take (source s) (first-before c .before .read4 .given .0 .1 .0 .at) (secondOf (s .args .symbols) (kind-5 c .before .read .given .0 .0)) ≡ parsed (c .before .read5 .given .0 .0) (c .before .read5 .given .0 .1 .0 .at)
+    fieldAt (source s) (first-before c .before .read4 .given .0 .1 .0 .at) (secondOf (s .args .v .symbols) (kind-5 c .before .read .given .0 .0)) ≡ parsed (c .before .read5 .given .0 .0) (c .before .read5 .given .0 .1 .0 .at)
 second-read c =
     let t = c .before .before .before in
-    got (source (start (kind-5 c))) _ (t .before .second-of .ensures .0) (t .take5 .ensures) (c .before .read5 .given .1)
+    got (source (start (kind-5 c))) _ (t .before .second-of .ensures .0) (t .field-at5 .ensures) (c .before .read5 .given .1)
 
 second-near : (c : tie.After-known-told5) → (c .before .read5 .given .0 .0 ≤ 31 * (1 - kind-5 c .before .read .given .0 .0)) × (c .before .read5 .given .0 .1 .0 .at ≤ start (kind-5 c) .args .at + 41)
 second-near c =
@@ -226,30 +226,30 @@ pub read-rule-spec : {M : Type 1} → statement M
 read-rule-spec =
     tie.close
     (tie.spec
-    take-requires
+    field-at-requires
     enum-known-read
     enum-told
     refusal-requires
     returns
-    below-requires
-    take-requires-2
+    symbol-of-requires
+    field-at-requires-2
     enum-known-read-2
     enum-told-2
     refusal-requires-2
     returns-2
-    take-requires-3
+    field-at-requires-3
     enum-known-read-3
     enum-told-3
     refusal-requires-3
     returns-3
     first-of-requires
-    take-requires-4
+    field-at-requires-4
     enum-known-read-4
     enum-told-4
     refusal-requires-4
     returns-4
     second-of-requires
-    take-requires-5
+    field-at-requires-5
     enum-known-read-5
     enum-told-5
     refusal-requires-5

@@ -12,12 +12,12 @@ use Rattle.rules_reader.proofs.read_rules.Statement.{statement}
 use Rattle.rules_reader.proofs.read_rules.Tie as tie
 
 abbrev Inv-loop : tie.InvT-loop
-Inv-loop src block sheet start symbols words count rules₀ end keys₀ at₀ i₀ rules keys at i =
+Inv-loop src block sheet start v count rules₀ end keys₀ at₀ i₀ rules keys at i =
     (i ≤ end) × (at ≤ start + 41 * i) × (length keys ≡ 256) × (length rules ≡ length rules₀)
-    × Passed (sourceOf src block sheet) symbols words count start i at keys rules
+    × Passed (sourceOf src block sheet) (v .symbols) (v .words) count start i at keys rules
 
 abbrev μ-loop : tie.MeasureT-loop
-μ-loop src block sheet start symbols words count rules₀ end keys₀ at₀ i₀ rules keys at i = end - i
+μ-loop src block sheet start v count rules₀ end keys₀ at₀ i₀ rules keys at i = end - i
 
 loop-holds : tie.Need-loop-holds Inv-loop μ-loop
 loop-holds c = (omega arith, omega arith, refl, refl, none-passed _ _ _ _ _ _ _)

@@ -2,11 +2,11 @@
 use mathlib.Core.Path.{_≡_, ap, _∙_}
 use native.Mathlib.Omega.{arith}
 use Rattle.packing.specs.Parse.{parsed}
-use Rattle.packing.specs.Source.{Source, take}
+use Rattle.packing.specs.Source.{Source, fieldAt}
 use Rattle.packing.specs.Read.{readOf, sourceOf}
 use Rattle.packing.specs.Utterance.{offered}
 use Rattle.packing.specs.declared.Field.{Field}
-use Rattle.packing.proofs.Bounds.{take-next}
+use Rattle.packing.proofs.Bounds.{field-at-next}
 use Rattle.packing.proofs.Widths.{byte-width}
 use Rattle.packing.proofs.Parse.{number-told, refusal-told}
 use Rattle.slots_reader.proofs.Candidates.{no-word, no-cost, word-and-cost}
@@ -18,25 +18,25 @@ abbrev source : tie.Start → Source
 source c = sourceOf (c .args .src) (c .args .block .now) (c .args .sheet .now)
 
 -- the word's field is the definition's
-first : (c : tie.After-take) →
+first : (c : tie.After-field-at) →
     let a = c .before .before .before .before .args in
-    c .take .result ≡ readOf (take (source (c .before .before .before .before)) (a .at) (offered (a .words) (a .least)))
+    c .field-at .result ≡ readOf (fieldAt (source (c .before .before .before .before)) (a .at) (offered (a .words) (a .least)))
 first c =
     let s = c .before .before .before .before in
-    c .take .ensures ∙ ap (λ (f : Field). readOf (take (source s) (s .args .at) f)) (c .before .word-field .ensures .0)
+    c .field-at .ensures ∙ ap (λ (f : Field). readOf (fieldAt (source s) (s .args .at) f)) (c .before .word-field .ensures .0)
 
 -- the word that was read
 word-read : (c : tie.After-known-told) →
     let s = c .before .before .before .before .before .before .before in
     let x = c .before .first .given .0 in
-    take (source s) (s .args .at) (offered (s .args .words) (s .args .least)) ≡ parsed (x .0) (x .1 .0 .at)
+    fieldAt (source s) (s .args .at) (offered (s .args .words) (s .args .least)) ≡ parsed (x .0) (x .1 .0 .at)
 word-read c = number-told _ (first (c .before .before .before)) (c .before .first .given .1)
 
 word-field-requires : tie.Need-word-field-requires
 word-field-requires c κs = search needs
 
-take-requires : tie.Need-take-requires
-take-requires c κs = search needs
+field-at-requires : tie.Need-field-at-requires
+field-at-requires c κs = search needs
 
 enum-known-first : tie.Need-enum-known-first
 enum-known-first c = search needs
@@ -50,10 +50,10 @@ refusal-requires c κs = search needs
 returns : tie.Need-returns
 returns c = no-word _ _ _ _ (refusal-told _ (first (c .before .before .before)) (c .before .enum-told .given .1) (c .refusal .ensures))
 
-take-requires-2 : tie.Need-take-requires-2
-take-requires-2 c κs =
+field-at-requires-2 : tie.Need-field-at-requires-2
+field-at-requires-2 c κs =
     let s = c .before .before .before .before .before .before .before in
-    omega (arith, take-next (offered (s .args .words) (s .args .least)) (source s) (s .args .at) 8 (byte-width (s .args .words) (omega (arith, s .pre))) (omega arith) (word-read c))
+    omega (arith, field-at-next (offered (s .args .words) (s .args .least)) (source s) (s .args .at) 8 (byte-width (s .args .words) (omega (arith, s .pre))) (omega arith) (word-read c))
 
 enum-known-second : tie.Need-enum-known-second
 enum-known-second c = search needs
@@ -65,22 +65,22 @@ refusal-requires-2 : tie.Need-refusal-requires-2
 refusal-requires-2 c κs = search needs
 
 returns-2 : tie.Need-returns-2
-returns-2 c = no-cost _ _ _ _ (word-read (c .before .before .before .before)) (refusal-told _ (c .before .before .before .take2 .ensures) (c .before .enum-told2 .given .1) (c .refusal2 .ensures))
+returns-2 c = no-cost _ _ _ _ (word-read (c .before .before .before .before)) (refusal-told _ (c .before .before .before .field-at2 .ensures) (c .before .enum-told2 .given .1) (c .refusal2 .ensures))
 
 returns-3 : tie.Need-returns-3
-returns-3 c = word-and-cost _ _ _ _ (word-read (c .before .before .before .before)) (number-told _ (c .before .before .before .take2 .ensures) (c .before .second .given .1))
+returns-3 c = word-and-cost _ _ _ _ (word-read (c .before .before .before .before)) (number-told _ (c .before .before .before .field-at2 .ensures) (c .before .second .given .1))
 
 pub read-candidate-spec : {M : Type 1} → statement M
 read-candidate-spec =
     tie.close
     (tie.spec
     word-field-requires
-    take-requires
+    field-at-requires
     enum-known-first
     enum-told
     refusal-requires
     returns
-    take-requires-2
+    field-at-requires-2
     enum-known-second
     enum-told-2
     refusal-requires-2

@@ -20,13 +20,13 @@ use Rattle.slots_reader.proofs.read_candidates.Statement.{statement}
 use Rattle.slots_reader.proofs.read_candidates.Tie as tie
 
 abbrev Inv-loop : tie.InvT-loop
-Inv-loop src block sheet start words count slots₀ to at₀ least₀ i₀ slots at least i =
-    (i ≤ count) × (at ≤ start + 24 * i) × (length slots ≡ length slots₀)
+Inv-loop src block sheet words count slots₀ to at₀ least₀ i₀ slots at least i =
+    (i ≤ count) × (at ≤ at₀ + 24 * i) × (length slots ≡ length slots₀)
     × ((cs : List Candidate) × (length cs ≡ i) × (slots ≡ storeAll slots₀ to (candidateNumbers words cs))
-    × (candidatesFrom (sourceOf src block sheet) words (count - i) least at cs ≡ candidatesFrom (sourceOf src block sheet) words count 0 start []))
+    × (candidatesFrom (sourceOf src block sheet) words (count - i) least at cs ≡ candidatesFrom (sourceOf src block sheet) words count 0 at₀ []))
 
 abbrev μ-loop : tie.MeasureT-loop
-μ-loop src block sheet start words count slots₀ to at₀ least₀ i₀ slots at least i = count - i
+μ-loop src block sheet words count slots₀ to at₀ least₀ i₀ slots at least i = count - i
 
 abbrev source : tie.Start Inv-loop μ-loop → Source
 source c = sourceOf (c .args .src) (c .args .block .now) (c .args .sheet .now)
@@ -104,16 +104,16 @@ loop-again c =
       (
         cs ++ (candidate (word (x .0)) (x .1 .0) ∷ []),
         simp length-append (omega arith),
-        candidate-stored (a .slots .now) (a .to) (a .words) (l .i) (x .0) (x .1 .0) cs (l .inv .3 .1) (l .inv .3 .2) (c .before .before .store-candidate .ensures),
+        candidate-stored (a .slots .now) (a .p .to) (a .words) (l .i) (x .0) (x .1 .0) cs (l .inv .3 .1) (l .inv .3 .2) (c .before .before .store-candidate .ensures),
         sym (candidates-go-on (source (c .before .before .before .before .before .before .before .before .before .before .before .before .before)) _ _ (l .i) (l .least) (l .at) cs (c .before .before .before .before .before .before .before .before .loop-test .taken) (read k)) ∙ l .inv .3 .3,
       ),
     )
 
-mul-t24 : tie.Need-mul-t24 Inv-loop μ-loop
-mul-t24 c = omega arith
+mul-end : tie.Need-mul-end Inv-loop μ-loop
+mul-end c = omega arith
 
-add-t25 : tie.Need-add-t25 Inv-loop μ-loop
-add-t25 c = omega arith
+add-end : tie.Need-add-end Inv-loop μ-loop
+add-end c = omega arith
 
 same-length-2 : tie.Need-same-length-2 Inv-loop μ-loop
 same-length-2 c = c .before .loop .inv .2
@@ -123,7 +123,7 @@ returns-2 c =
     let l = c .before .loop in
     let a = c .before .before .before .before .before .args in
     let cs = l .inv .3 .0 in
-    let n : a .to + 2 * a .count ≡ a .to + length (candidateNumbers (a .words) cs) = omega (arith, length-numbers (a .words) cs) in
+    let n : a .p .to + 2 * a .count ≡ a .p .to + length (candidateNumbers (a .words) cs) = omega (arith, length-numbers (a .words) cs) in
     let end = candidates-end (source (c .before .before .before .before .before)) (a .words) (a .count) (l .i) (l .least) (l .at) cs (omega arith) in
     rw (sym (l .inv .3 .3) ∙ end, n) (placed cs (l .at) (l .inv .3 .2))
 
@@ -146,7 +146,7 @@ read-candidates-spec =
     add-i
     loop-less
     loop-again
-    mul-t24
-    add-t25
+    mul-end
+    add-end
     same-length-2
     returns-2)

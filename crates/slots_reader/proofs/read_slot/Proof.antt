@@ -4,10 +4,10 @@ use mathlib.Core.List.{[]}
 use native.Mathlib.Omega.{arith}
 use lib.ListN.{length-set}
 use Rattle.packing.specs.Parse.{parsed}
-use Rattle.packing.specs.Source.{Source, take}
+use Rattle.packing.specs.Source.{Source, fieldAt}
 use Rattle.packing.specs.Read.{sourceOf}
 use Rattle.packing.specs.Utterance.{candidateCount}
-use Rattle.packing.proofs.Bounds.{take-range, take-next}
+use Rattle.packing.proofs.Bounds.{field-at-range, field-at-next}
 use Rattle.slots_reader.specs.Placed.{not-placed}
 use Rattle.packing.proofs.Parse.{number-told, refusal-told}
 use Rattle.slots_reader.proofs.Candidates.{candidates-near}
@@ -23,11 +23,11 @@ source c = sourceOf (c .args .src) (c .args .block .now) (c .args .sheet .now)
 count : (c : tie.After-known-told) →
     let s = c .before .before .before .before .before .before .before in
     let x = c .before .counted .given .0 in
-    take (source s) (s .args .at) candidateCount ≡ parsed (x .0) (x .1 .0 .at)
-count c = number-told _ (c .before .before .before .take .ensures) (c .before .counted .given .1)
+    fieldAt (source s) (s .args .p .at) candidateCount ≡ parsed (x .0) (x .1 .0 .at)
+count c = number-told _ (c .before .before .before .field-at .ensures) (c .before .counted .given .1)
 
-take-requires : tie.Need-take-requires
-take-requires c κs = search needs
+field-at-requires : tie.Need-field-at-requires
+field-at-requires c κs = search needs
 
 enum-known-counted : tie.Need-enum-known-counted
 enum-known-counted c = search needs
@@ -39,7 +39,7 @@ refusal-requires : tie.Need-refusal-requires
 refusal-requires c κs = search needs
 
 returns : tie.Need-returns
-returns c = rw (slot-stops (source (c .before .before .before .before .before .before .before)) _ _ (refusal-told _ (c .before .before .before .take .ensures) (c .before .enum-told .given .1) (c .refusal .ensures))) (not-placed _)
+returns c = rw (slot-stops (source (c .before .before .before .before .before .before .before)) _ _ (refusal-told _ (c .before .before .before .field-at .ensures) (c .before .enum-told .given .1) (c .refusal .ensures))) (not-placed _)
 
 mul-slots : tie.Need-mul-slots
 mul-slots c = search needs
@@ -57,7 +57,7 @@ read-candidates-requires : tie.Need-read-candidates-requires
 read-candidates-requires c κs =
     let s = c .before .before .before .before .before .before .before .before in
     simp length-set
-    (omega (arith, take-range candidateCount (source s) (s .args .at) (count (c .before)), take-next candidateCount (source s) (s .args .at) 3 (omega arith) (omega arith) (count (c .before))))
+    (omega (arith, field-at-range candidateCount (source s) (s .args .p .at) (count (c .before)), field-at-next candidateCount (source s) (s .args .p .at) 3 (omega arith) (omega arith) (count (c .before))))
 
 same-length : tie.Need-same-length
 same-length c = c .before .before .read-candidates .kept .1 .1 .1 .1 .1 .1 .0 ∙ simp length-set
@@ -74,15 +74,15 @@ pub read-slot-spec : {M : Type 1} → statement M
 read-slot-spec =
     tie.close
     (tie.spec
-    take-requires
+    field-at-requires
     enum-known-counted
     enum-told
     refusal-requires
     returns
     mul-slots
     slice-write-slots
-    cast-read-candidates
     add-read-candidates
+    cast-read-candidates
     read-candidates-requires
     same-length
     returns-2)

@@ -12,21 +12,21 @@ use Rattle.packing.specs.Read.{sourceOf}
 use Rattle.packing.specs.Utterance.{slotsFrom, slotsEntries}
 use Rattle.packing.specs.Flat.{slotNumbers}
 use Rattle.packing.specs.Store.{storeAll}
-use Rattle.slots_reader.specs.Placed.{placed, not-placed}
-use Rattle.slots_reader.proofs.Told.{placed-told, not-placed-told}
+use Rattle.slots_reader.specs.Placed.{not-placed}
+use Rattle.slots_reader.proofs.Told.{placed-at, placed-told, not-placed-told}
 use Rattle.slots_reader.proofs.Numbers.{length-numbers, slot-more, slot-stored}
 use Rattle.slots_reader.proofs.Slots.{slots-stop, slots-go-on, slots-end, slot-near}
 use Rattle.slots_reader.proofs.read_slots.Statement.{statement}
 use Rattle.slots_reader.proofs.read_slots.Tie as tie
 
 abbrev Inv-loop : tie.InvT-loop
-Inv-loop src block sheet start words count slots₀ at₀ to₀ i₀ slots at to i =
-    (i ≤ count) × (at ≤ start + 171 * i) × (to ≤ 15 * i) × (length slots ≡ length slots₀)
-    × ((u : Utterance) × (length u ≡ i) × (to ≡ 0 + length (slotNumbers words u)) × (slots ≡ storeAll slots₀ 0 (slotNumbers words u))
-    × (slotsFrom (sourceOf src block sheet) words (count - i) at u ≡ slotsFrom (sourceOf src block sheet) words count start []))
+Inv-loop src block sheet start words count slots₀ p₀ i₀ slots p i =
+    (i ≤ count) × (p .at ≤ start + 171 * i) × (p .to ≤ 15 * i) × (length slots ≡ length slots₀)
+    × ((u : Utterance) × (length u ≡ i) × (p .to ≡ 0 + length (slotNumbers words u)) × (slots ≡ storeAll slots₀ 0 (slotNumbers words u))
+    × (slotsFrom (sourceOf src block sheet) words (count - i) (p .at) u ≡ slotsFrom (sourceOf src block sheet) words count start []))
 
 abbrev μ-loop : tie.MeasureT-loop
-μ-loop src block sheet start words count slots₀ at₀ to₀ i₀ slots at to i = count - i
+μ-loop src block sheet start words count slots₀ p₀ i₀ slots p i = count - i
 
 abbrev source : tie.Start Inv-loop μ-loop → Source
 source c = sourceOf (c .args .src) (c .args .block .now) (c .args .sheet .now)
@@ -50,11 +50,11 @@ same-length c = c .before .before .before .before .before .read-slot .kept .1 .1
 returns : tie.Need-returns Inv-loop μ-loop
 returns c =
     let l = c .before .before .before .before .before .before .before .before .loop in
-    let stops = slots-stop (source (c .before .before .before .before .before .before .before .before .before .before .before .before)) _ _ (l .i) (l .at) (l .inv .4 .0) (c .before .before .before .before .before .before .before .loop-test .taken) (not-placed-told (c .before .before .before .before .before .read-slot .ensures) (c .before .n .given .1)) in
+    let stops = slots-stop (source (c .before .before .before .before .before .before .before .before .before .before .before .before)) _ _ (l .i) (l .p .at) (l .inv .4 .0) (c .before .before .before .before .before .before .before .loop-test .taken) (not-placed-told (c .before .before .before .before .before .read-slot .ensures) (c .before .n .given .1)) in
     rw (sym (l .inv .4 .4) ∙ stops) (not-placed _)
 
-enum-known-c : tie.Need-enum-known-c Inv-loop μ-loop
-enum-known-c c = search needs
+enum-known-next : tie.Need-enum-known-next Inv-loop μ-loop
+enum-known-next c = search needs
 
 add-i : tie.Need-add-i Inv-loop μ-loop
 add-i c = omega arith
@@ -67,8 +67,8 @@ loop-again c =
     let l = c .before .before .before .before .before .before .before .before .loop in
     let a = c .before .before .before .before .before .before .before .before .before .before .before .before .args in
     let u = l .inv .4 .0 in
-    let r = placed-told (c .before .before .before .before .before .read-slot .ensures) (c .before .c .given .1) in
-    let n = slot-near (source (c .before .before .before .before .before .before .before .before .before .before .before .before)) (a .words) (omega arith) (l .at) (r .1) in
+    let r = placed-told (c .before .before .before .before .before .read-slot .ensures) (c .before .next .given .1) in
+    let n = slot-near (source (c .before .before .before .before .before .before .before .before .before .before .before .before)) (a .words) (omega arith) (l .p .at) (r .1) in
     let m = length-numbers (a .words) (r .0) in (
       omega arith,
       omega arith,
@@ -79,7 +79,7 @@ loop-again c =
         simp length-append (omega arith),
         rw (slot-more (a .words) u (r .0), length-append) (omega arith),
         slot-stored (a .slots .now) (a .words) u (r .0) (l .inv .4 .2) (l .inv .4 .3) (r .3),
-        sym (slots-go-on (source (c .before .before .before .before .before .before .before .before .before .before .before .before)) _ _ (l .i) (l .at) u (c .before .before .before .before .before .before .before .loop-test .taken) (r .1)) ∙ l .inv .4 .4,
+        sym (slots-go-on (source (c .before .before .before .before .before .before .before .before .before .before .before .before)) _ _ (l .i) (l .p .at) u (c .before .before .before .before .before .before .before .loop-test .taken) (r .1)) ∙ l .inv .4 .4,
       ),
     )
 
@@ -91,8 +91,8 @@ returns-2 c =
     let l = c .before .loop in
     let a = c .before .before .before .before .before .args in
     let u = l .inv .4 .0 in
-    let end = slots-end (source (c .before .before .before .before .before)) (a .words) (a .count) (l .i) (l .at) u (omega arith) in
-    rw (sym (l .inv .4 .4) ∙ end, l .inv .4 .2) (placed u (l .at) (l .inv .4 .3))
+    let end = slots-end (source (c .before .before .before .before .before)) (a .words) (a .count) (l .i) (l .p .at) u (omega arith) in
+    rw (sym (l .inv .4 .4) ∙ end) (placed-at u (l .p) (l .inv .4 .2) (l .inv .4 .3))
 
 pub read-slots-spec : {M : Type 1} → statement M
 read-slots-spec =
@@ -105,7 +105,7 @@ read-slots-spec =
     enum-known-n
     same-length
     returns
-    enum-known-c
+    enum-known-next
     add-i
     loop-less
     loop-again

@@ -2,7 +2,7 @@
 use mathlib.Core.Path.{_≡_, _∙_}
 use Prim.Native.Nat.{_+_, _-_, _*_, _≤_}
 use lib.ListN.{length, set}
-use Rattle.packing.specs.Meaning.{sym}
+use Rattle.packing.specs.Meaning.{symbolOf}
 use Rattle.packing.specs.Loop.{iter}
 use Rattle.packing.proofs.Loop.{iter-more, iter-end}
 use Rattle.specimen.specs.Choice.{cellChoice, lengthFilled}
@@ -11,7 +11,7 @@ use Rattle.specimen.proofs.fill_length.Statement.{statement}
 use Rattle.specimen.proofs.fill_length.Tie as tie
 
 abbrev Inv-loop : tie.InvT-loop
-Inv-loop table₀ rules count symbols len a₀ table a = (a ≤ symbols) × (length table ≡ length table₀) × (table ≡ iter (λ t a. set t (len * 32 + a) (cellChoice t rules count (sym a) len)) table₀ a)
+Inv-loop table₀ rules count symbols len a₀ table a = (a ≤ symbols) × (length table ≡ length table₀) × (table ≡ iter (λ t a. set t (len * 32 + a) (cellChoice t rules count (symbolOf a) len)) table₀ a)
 
 abbrev μ-loop : tie.MeasureT-loop
 μ-loop table₀ rules count symbols len a₀ table a = symbols - a

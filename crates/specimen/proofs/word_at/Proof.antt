@@ -11,7 +11,7 @@ use Rattle.specimen.proofs.word_at.Tie as tie
 
 abbrev Inv-loop : tie.InvT-loop
 Inv-loop table rules n place p₀ y₀ p y =
-    (y ≤ n) × (p .place < p .len) × (p .len ≤ 31) × (wordAt table rules (n - y) p ≡ wordAt table rules n p₀)
+    (y ≤ n) × (p .place < p .len) × (p .len < 32) × (wordAt table rules (n - y) p ≡ wordAt table rules n p₀)
 
 abbrev μ-loop : tie.MeasureT-loop
 μ-loop table rules n place p₀ y₀ p y = n - y

@@ -4,7 +4,7 @@ use Prim.Native.Nat.{_-_, _≤_}
 use borrow.Author.Needs.{needs}
 use lib.ListN.{length, set}
 use Rattle.packing.specs.Loop.{iter}
-use Rattle.packing.specs.Meaning.{sym}
+use Rattle.packing.specs.Meaning.{symbolOf}
 use Rattle.packing.proofs.Loop.{iter-more, iter-end}
 use Rattle.specimen.specs.Choice.{wordAt, wordsWritten}
 use Rattle.specimen.proofs.write_words.Statement.{statement}
@@ -13,7 +13,7 @@ use Rattle.specimen.proofs.write_words.Tie as tie
 abbrev Inv-loop : tie.InvT-loop
 Inv-loop table rules n out₀ place₀ out place =
     (place ≤ n) × (length out ≡ length out₀)
-    × (out ≡ iter (λ l x. set l x (wordAt table rules n (record { head = sym 0; len = n; place = x }))) out₀ place)
+    × (out ≡ iter (λ l x. set l x (wordAt table rules n (record { head = symbolOf 0; len = n; place = x }))) out₀ place)
 
 abbrev μ-loop : tie.MeasureT-loop
 μ-loop table rules n out₀ place₀ out place = n - place

@@ -1,9 +1,10 @@
--- Each arm is the definition's code of that answer. Assumes nothing.
+-- Each arm is the definition's code of that answer; so the demands are met. Assumes nothing.
 use mathlib.Core.Path.{sym, ap}
 use borrow.Author.Needs.{needs}
 use Rattle.spireyerba.specs.Code.{answerCode}
 use Rattle.spireyerba.proofs.Small.{asked-small}
 use Rattle.spireyerba.proofs.Codes.{answered-small, answered-number}
+use Rattle.spireyerba.proofs.Demands.{with-demands}
 use Rattle.spireyerba.proofs.spireyerba_specimen.Statement.{statement}
 use Rattle.spireyerba.proofs.spireyerba_specimen.Tie as tie
 
@@ -31,7 +32,7 @@ same-length c = search needs
 returns : tie.Need-returns
 returns c =
     let s = c .before .before .before .before .before .specimen in
-    (s .result, answered-number _ (asked-small _ _ _ _ _ _ (s .ensures)) (c .before .enum-told .given .1) (c .count .ensures), s .ensures)
+    with-demands _ _ _ (s .result, answered-number _ (asked-small _ _ _ _ _ _ (s .ensures)) (c .before .enum-told .given .1) (c .count .ensures), s .ensures)
 
 same-length-2 : tie.Need-same-length-2
 same-length-2 c = search needs
@@ -39,7 +40,7 @@ same-length-2 c = search needs
 returns-2 : tie.Need-returns-2
 returns-2 c =
     let s = c .before .before .before .before .specimen in
-    (s .result, sym (ap (answerCode _) (c .enum-told2 .given .1)), s .ensures)
+    with-demands _ _ _ (s .result, sym (ap (answerCode _) (c .enum-told2 .given .1)), s .ensures)
 
 same-length-3 : tie.Need-same-length-3
 same-length-3 c = search needs
@@ -47,7 +48,7 @@ same-length-3 c = search needs
 returns-3 : tie.Need-returns-3
 returns-3 c =
     let s = c .before .before .before .before .before .before .specimen in
-    (s .result, answered-number _ (asked-small _ _ _ _ _ _ (s .ensures)) (c .before .before .answer .given .1) (c .refusal .ensures), s .ensures)
+    with-demands _ _ _ (s .result, answered-number _ (asked-small _ _ _ _ _ _ (s .ensures)) (c .before .before .answer .given .1) (c .refusal .ensures), s .ensures)
 
 pub spireyerba-specimen-spec : {M : Type 1} → statement M
 spireyerba-specimen-spec =

@@ -1,10 +1,11 @@
--- The grammar block is read for its words, and the utterance converted under them.
+-- The grammar block is read for its words, and the utterance converted under them; what is written turns back.
 use mathlib.Core.Path.{sym, _∙_}
 use native.Mathlib.Omega.{arith}
 use borrow.Author.Needs.{needs}
 use Rattle.packing.specs.Grammar.{grammarBlock}
 use Rattle.packing.specs.Conversion.{utteranceToBlock, blockUnder}
-use Rattle.sheet_writer.proofs.Fit.{handed-up}
+use Rattle.packing.proofs.Theorems.{utterance-sheet-and-back}
+use Rattle.sheet_writer.proofs.Fit.{handed-up, and-back}
 use Rattle.grammar_reader.proofs.Told.{refusal-told, words-told}
 use Rattle.utterance_conversion.proofs.utterance_to_block.Statement.{statement}
 use Rattle.utterance_conversion.proofs.utterance_to_block.Tie as tie
@@ -32,7 +33,8 @@ returns c =
     let at-read-block = c .before .before .before .before in
     let at-start = at-read-block .before .before .before .before .before in
     let a = at-start .args in
-    handed-up (a .out .now) (refusal-told (grammarBlock (a .grammar .now)) (λ g. blockUnder (g .words) (a .sheet .now)) (sym (at-read-block .read-block .ensures .0) ∙ c .before .n .given .1))
+    and-back (utteranceToBlock (a .grammar .now) (a .sheet .now)) (utterance-sheet-and-back (a .grammar .now) (a .sheet .now)) (a .out .now)
+    (handed-up (a .out .now) (refusal-told (grammarBlock (a .grammar .now)) (λ g. blockUnder (g .words) (a .sheet .now)) (sym (at-read-block .read-block .ensures .0) ∙ c .before .n .given .1)))
 
 same-length : tie.Need-same-length
 same-length c = search needs
@@ -44,7 +46,8 @@ returns-2 c =
     let at-read-block = at-z .before .before .before in
     let at-start = at-read-block .before .before .before .before .before in
     let a = at-start .args in
-    rw (words-told (grammarBlock (a .grammar .now)) (sym (at-read-block .read-block .ensures .0) ∙ at-z .z .given .1) (λ W. blockUnder W (a .sheet .now))) (c .before .before .sheet-to-block .ensures)
+    and-back (utteranceToBlock (a .grammar .now) (a .sheet .now)) (utterance-sheet-and-back (a .grammar .now) (a .sheet .now)) (a .out .now)
+    (rw (words-told (grammarBlock (a .grammar .now)) (sym (at-read-block .read-block .ensures .0) ∙ at-z .z .given .1) (λ W. blockUnder W (a .sheet .now))) (c .before .before .sheet-to-block .ensures))
 
 pub utterance-to-block-spec : {M : Type 1} → statement M
 utterance-to-block-spec =

@@ -1,10 +1,12 @@
--- The grammar block is read for its words, and the utterance converted under them.
+-- The grammar block is read for its words, and the utterance converted under them; what is written turns back, since a slice of
+-- bytes has bytes.
 use mathlib.Core.Path.{sym, _∙_}
 use native.Mathlib.Omega.{arith}
 use borrow.Author.Needs.{needs}
 use Rattle.packing.specs.Grammar.{grammarBlock}
 use Rattle.packing.specs.Conversion.{utteranceToSheet, sheetUnder}
-use Rattle.sheet_writer.proofs.Fit.{handed-up}
+use Rattle.packing.proofs.Theorems.{utterance-block-and-back}
+use Rattle.sheet_writer.proofs.Fit.{handed-up, and-back}
 use Rattle.grammar_reader.proofs.Told.{refusal-told, words-told}
 use Rattle.utterance_conversion.proofs.utterance_to_sheet.Statement.{statement}
 use Rattle.utterance_conversion.proofs.utterance_to_sheet.Tie as tie
@@ -30,9 +32,10 @@ returns : tie.Need-returns
 unfolding utteranceToSheet
 returns c =
     let at-read-block = c .before .before .before .before in
-    let at-start = at-read-block .before .before .before .before .before in
-    let a = at-start .args in
-    handed-up (a .out .now) (refusal-told (grammarBlock (a .grammar .now)) (λ g. sheetUnder (g .words) (a .block .now)) (sym (at-read-block .read-block .ensures .0) ∙ c .before .n .given .1))
+    let at-known = at-read-block .before .before .before in
+    let a = at-known .before .before .args in
+    and-back (utteranceToSheet (a .grammar .now) (a .block .now)) (λ l. utterance-block-and-back (a .grammar .now) (a .block .now) l (λ i. at-known .shared-slice-known2 .given i .fits)) (a .out .now)
+    (handed-up (a .out .now) (refusal-told (grammarBlock (a .grammar .now)) (λ g. sheetUnder (g .words) (a .block .now)) (sym (at-read-block .read-block .ensures .0) ∙ c .before .n .given .1)))
 
 same-length : tie.Need-same-length
 same-length c = search needs
@@ -42,9 +45,10 @@ unfolding utteranceToSheet
 returns-2 c =
     let at-z = c .before .before .before .before .before in
     let at-read-block = at-z .before .before .before in
-    let at-start = at-read-block .before .before .before .before .before in
-    let a = at-start .args in
-    rw (words-told (grammarBlock (a .grammar .now)) (sym (at-read-block .read-block .ensures .0) ∙ at-z .z .given .1) (λ W. sheetUnder W (a .block .now))) (c .before .before .block-to-sheet .ensures)
+    let at-known = at-read-block .before .before .before in
+    let a = at-known .before .before .args in
+    and-back (utteranceToSheet (a .grammar .now) (a .block .now)) (λ l. utterance-block-and-back (a .grammar .now) (a .block .now) l (λ i. at-known .shared-slice-known2 .given i .fits)) (a .out .now)
+    (rw (words-told (grammarBlock (a .grammar .now)) (sym (at-read-block .read-block .ensures .0) ∙ at-z .z .given .1) (λ W. sheetUnder W (a .block .now))) (c .before .before .block-to-sheet .ensures))
 
 pub utterance-to-sheet-spec : {M : Type 1} → statement M
 utterance-to-sheet-spec =

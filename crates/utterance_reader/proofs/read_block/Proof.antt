@@ -3,9 +3,9 @@ use mathlib.Core.Path.{_≡_, sym, _∙_}
 use Prim.Native.Nat.{_≤_}
 use native.Mathlib.Omega.{arith}
 use Rattle.packing.specs.Parse.{parsed}
-use Rattle.packing.specs.Source.{bytes, take}
+use Rattle.packing.specs.Source.{bytes, fieldAt}
 use Rattle.packing.specs.Grammar.{blockKind}
-use Rattle.packing.proofs.Bounds.{take-next}
+use Rattle.packing.proofs.Bounds.{field-at-next}
 use Rattle.packing.proofs.Parse.{number-told, refusal-told}
 use Rattle.utterance_reader.proofs.Told.{slots-told, no-slots-told}
 use Rattle.utterance_reader.proofs.Utterances.{utterance-near}
@@ -17,19 +17,19 @@ use Rattle.utterance_reader.proofs.read_block.Tie as tie
 -- the kind that was read, and where it ends
 kind : (c : tie.After-known-told) →
     let x = c .before .kind .given .0 in
-    take (bytes 11 (c .before .before .before .before .before .before .before .args .block .now)) 0 (blockKind 2 12) ≡ parsed (x .0) (x .1 .0 .at)
-kind c = number-told _ (c .before .before .before .take .ensures) (c .before .kind .given .1)
+    fieldAt (bytes 11 (c .before .before .before .before .before .before .before .args .block .now)) 0 (blockKind 2 12) ≡ parsed (x .0) (x .1 .0 .at)
+kind c = number-told _ (c .before .before .before .field-at .ensures) (c .before .kind .given .1)
 
 near : (c : tie.After-known-told) → c .before .kind .given .0 .1 .0 .at ≤ 4
 near c =
     let s = c .before .before .before .before .before .before .before in
-    omega (arith, take-next (blockKind 2 12) (bytes 11 (s .args .block .now)) 0 4 (omega arith) (omega arith) (kind c))
+    omega (arith, field-at-next (blockKind 2 12) (bytes 11 (s .args .block .now)) 0 4 (omega arith) (omega arith) (kind c))
 
-slice-aggregate-take : tie.Need-slice-aggregate-take
-slice-aggregate-take c = search needs
+slice-aggregate-field-at : tie.Need-slice-aggregate-field-at
+slice-aggregate-field-at c = search needs
 
-take-requires : tie.Need-take-requires
-take-requires c κs = search needs
+field-at-requires : tie.Need-field-at-requires
+field-at-requires c κs = search needs
 
 enum-known-kind : tie.Need-enum-known-kind
 enum-known-kind c = search needs
@@ -41,7 +41,7 @@ refusal-requires : tie.Need-refusal-requires
 refusal-requires c κs = search needs
 
 returns : tie.Need-returns
-returns c = promised-refusal _ _ (no-kind _ _ (refusal-told _ (c .before .before .before .take .ensures) (c .before .enum-told .given .1) (c .refusal .ensures)))
+returns c = promised-refusal _ _ (no-kind _ _ (refusal-told _ (c .before .before .before .field-at .ensures) (c .before .enum-told .given .1) (c .refusal .ensures)))
 
 slice-aggregate-read-utterance : tie.Need-slice-aggregate-read-utterance
 slice-aggregate-read-utterance c = search needs
@@ -93,8 +93,8 @@ pub read-block-spec : {M : Type 1} → statement M
 read-block-spec =
     tie.close
     (tie.spec
-    slice-aggregate-take
-    take-requires
+    slice-aggregate-field-at
+    field-at-requires
     enum-known-kind
     enum-told
     refusal-requires

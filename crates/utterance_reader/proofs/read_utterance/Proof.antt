@@ -3,10 +3,10 @@ use mathlib.Core.Path.{_≡_, _∙_}
 use mathlib.Core.List.{[]}
 use native.Mathlib.Omega.{arith}
 use Rattle.packing.specs.Parse.{parsed}
-use Rattle.packing.specs.Source.{Source, take}
+use Rattle.packing.specs.Source.{Source, fieldAt}
 use Rattle.packing.specs.Read.{sourceOf}
 use Rattle.packing.specs.Utterance.{slotCount}
-use Rattle.packing.proofs.Bounds.{take-range, take-next}
+use Rattle.packing.proofs.Bounds.{field-at-range, field-at-next}
 use Rattle.packing.proofs.Taken.{taken-fits}
 use Rattle.packing.proofs.Utterance.{utterance-out}
 use Rattle.utterance_reader.specs.Parts.{no-slots}
@@ -26,11 +26,11 @@ source c = sourceOf (c .args .src) (c .args .block .now) (c .args .sheet .now)
 count : (c : tie.After-known-told) →
     let s = c .before .before .before .before .before .before .before in
     let x = c .before .counted .given .0 in
-    take (source s) (s .args .at) slotCount ≡ parsed (x .0) (x .1 .0 .at)
-count c = number-told _ (c .before .before .before .take .ensures) (c .before .counted .given .1)
+    fieldAt (source s) (s .args .at) slotCount ≡ parsed (x .0) (x .1 .0 .at)
+count c = number-told _ (c .before .before .before .field-at .ensures) (c .before .counted .given .1)
 
-take-requires : tie.Need-take-requires
-take-requires c κs = search needs
+field-at-requires : tie.Need-field-at-requires
+field-at-requires c κs = search needs
 
 enum-known-counted : tie.Need-enum-known-counted
 enum-known-counted c = search needs
@@ -42,7 +42,7 @@ refusal-requires : tie.Need-refusal-requires
 refusal-requires c κs = search needs
 
 returns : tie.Need-returns
-returns c = rw (utterance-stops (source (c .before .before .before .before .before .before .before)) _ _ (refusal-told _ (c .before .before .before .take .ensures) (c .before .enum-told .given .1) (c .refusal .ensures))) (no-slots _)
+returns c = rw (utterance-stops (source (c .before .before .before .before .before .before .before)) _ _ (refusal-told _ (c .before .before .before .field-at .ensures) (c .before .enum-told .given .1) (c .refusal .ensures))) (no-slots _)
 
 cast-count : tie.Need-cast-count
 cast-count c = search needs
@@ -50,13 +50,13 @@ cast-count c = search needs
 read-slots-requires : tie.Need-read-slots-requires
 read-slots-requires c κs =
     let s = c .before .before .before .before .before .before .before .before in
-    omega (arith, take-range slotCount (source s) (s .args .at) (count (c .before)), take-next slotCount (source s) (s .args .at) 6 (omega arith) (omega arith) (count (c .before)))
+    omega (arith, field-at-range slotCount (source s) (s .args .at) (count (c .before)), field-at-next slotCount (source s) (s .args .at) 6 (omega arith) (omega arith) (count (c .before)))
 
 enum-known-m : tie.Need-enum-known-m
 enum-known-m c = search needs
 
-enum-known-d : tie.Need-enum-known-d
-enum-known-d c = search needs
+enum-known-end : tie.Need-enum-known-end
+enum-known-end c = search needs
 
 same-length : tie.Need-same-length
 same-length c = search needs
@@ -75,7 +75,7 @@ returns-3 c =
     let n = c .before .before .before .before .before .before .before .before .counted .given .0 in
     let k = c .before .before .before .before .before .before .before in
     rw (utterance-goes-on (source s) _ _ (count k))
-    (slots-placed (s .args .words) (n .0) (c .before .before .before .before .before .read-slots .ensures) (c .before .d .given .1)
+    (slots-placed (s .args .words) (n .0) (c .before .before .before .before .before .read-slots .ensures) (c .before .end .given .1)
     (λ u next e.
     let at = utterance-goes-on (source s) (s .args .words) (s .args .at) (count k) ∙ e in
     let size = valid-size (s .args .words) u (taken-fits (utterance-out (source s) (s .args .words) (s .args .at) at)) in
@@ -86,7 +86,7 @@ pub read-utterance-spec : {M : Type 1} → statement M
 read-utterance-spec =
     tie.close
     (tie.spec
-    take-requires
+    field-at-requires
     enum-known-counted
     enum-told
     refusal-requires
@@ -94,7 +94,7 @@ read-utterance-spec =
     cast-count
     read-slots-requires
     enum-known-m
-    enum-known-d
+    enum-known-end
     same-length
     returns-2
     same-length-2

@@ -12,35 +12,26 @@ width-below-requires c κs = search needs
 sub-candidates : tie.Need-sub-candidates
 sub-candidates c = search needs
 
-mul-result : tie.Need-mul-result
-mul-result c = search needs
+small : (c : tie.After-width-below) → let a = c .before .args in (a .numbers - a .n) / 2 * (c .width-below .result + 16) ≤ 4320
+small c = candidates-small (omega arith) (omega arith)
+
+mul-slots : tie.Need-mul-slots
+mul-slots c = search needs
+
+add-slots : tie.Need-add-slots
+add-slots c = search needs
+
+mul-slots-2 : tie.Need-mul-slots-2
+mul-slots-2 c = omega (arith, small c)
+
+add-slots-2 : tie.Need-add-slots-2
+add-slots-2 c = omega (arith, small c)
 
 add-result : tie.Need-add-result
-add-result c = search needs
-
-mul-result-2 : tie.Need-mul-result-2
-mul-result-2 c =
-    let a = c .before .args in
-    let m : (a .numbers - a .n) / 2 * (c .width-below .result + 16) ≤ 4320 = candidates-small (omega arith) (omega arith) in
-    omega arith
+add-result c = omega (arith, small c)
 
 add-result-2 : tie.Need-add-result-2
-add-result-2 c =
-    let a = c .before .args in
-    let m : (a .numbers - a .n) / 2 * (c .width-below .result + 16) ≤ 4320 = candidates-small (omega arith) (omega arith) in
-    omega arith
-
-add-result-3 : tie.Need-add-result-3
-add-result-3 c =
-    let a = c .before .args in
-    let m : (a .numbers - a .n) / 2 * (c .width-below .result + 16) ≤ 4320 = candidates-small (omega arith) (omega arith) in
-    omega arith
-
-add-result-4 : tie.Need-add-result-4
-add-result-4 c =
-    let a = c .before .args in
-    let m : (a .numbers - a .n) / 2 * (c .width-below .result + 16) ≤ 4320 = candidates-small (omega arith) (omega arith) in
-    omega arith
+add-result-2 c = omega (arith, small c)
 
 returns : tie.Need-returns
 returns c = rw (c .width-below .ensures .0)
@@ -51,10 +42,10 @@ utterance-length-spec =
     (tie.spec
     width-below-requires
     sub-candidates
-    mul-result
+    mul-slots
+    add-slots
+    mul-slots-2
+    add-slots-2
     add-result
-    mul-result-2
     add-result-2
-    add-result-3
-    add-result-4
     returns)

@@ -7,17 +7,17 @@ use borrow.Author.Tests.{eq-eqb, ne-eqb}
 use borrow.Author.Needs.{needs}
 use Rattle.packing.specs.Flat.{ruleAt}
 use Rattle.packing.specs.Loop.{over}
-use Rattle.chart_candidates.specs.Candidates.{wordLeaf, edgeLeaves}
 use Rattle.packing.proofs.Loop.{iter-end}
+use Rattle.chart_candidates.specs.Candidates.{wordLeaf, edgeLeaves}
 use Rattle.chart_candidates.proofs.Loops.{from-none, from-more, from-turn}
 use Rattle.chart_candidates.proofs.leaves.edge_leaves.Statement.{statement}
 use Rattle.chart_candidates.proofs.leaves.edge_leaves.Tie as tie
 
 abbrev Inv-loop : tie.InvT-loop
-Inv-loop rules edges index k e floor best head from upto so-far₀ y₀ so-far y = (from ≤ y) × (y - from ≤ upto - from) × (so-far ≡ over (λ x y. wordLeaf edges e floor x (getD index y 0) (ruleAt rules (getD index y 0))) best from y)
+Inv-loop rules edges index e floor best head start end so-far₀ y₀ so-far y = (start ≤ y) × (y - start ≤ end - start) × (so-far ≡ over (λ x y. wordLeaf edges e floor x (getD index y 0) (ruleAt rules (getD index y 0))) best start y)
 
 abbrev μ-loop : tie.MeasureT-loop
-μ-loop rules edges index k e floor best head from upto so-far₀ y₀ so-far y = upto - y
+μ-loop rules edges index e floor best head start end so-far₀ y₀ so-far y = end - y
 
 mul-number-at : tie.Need-mul-number-at Inv-loop μ-loop
 mul-number-at c = search needs
@@ -30,31 +30,22 @@ number-at-requires c κs = search needs
 
 returns : tie.Need-returns Inv-loop μ-loop
 unfolding edgeLeaves
-returns c = simp (← c .before .number-at .ensures .0, ne-eqb _ _ (c .if1 .taken))
+returns c = simp (← c .before .before .number-at .ensures .0, ne-eqb _ _ (c .if1 .taken))
 
 wide-requires : tie.Need-wide-requires Inv-loop μ-loop
 wide-requires c κs = search needs
 
-add-number-at-2 : tie.Need-add-number-at-2 Inv-loop μ-loop
-add-number-at-2 c = search needs
+class-start-requires : tie.Need-class-start-requires Inv-loop μ-loop
+class-start-requires c κs = search needs
 
-number-at-requires-2 : tie.Need-number-at-requires-2 Inv-loop μ-loop
-number-at-requires-2 c κs = search needs
-
-add-number-at-3 : tie.Need-add-number-at-3 Inv-loop μ-loop
-add-number-at-3 c = search needs
-
-add-number-at-4 : tie.Need-add-number-at-4 Inv-loop μ-loop
-add-number-at-4 c = search needs
-
-number-at-requires-3 : tie.Need-number-at-requires-3 Inv-loop μ-loop
-number-at-requires-3 c κs = search needs
+class-end-requires : tie.Need-class-end-requires Inv-loop μ-loop
+class-end-requires c κs = search needs
 
 loop-holds : tie.Need-loop-holds Inv-loop μ-loop
 loop-holds c = (search needs, search needs, sym (from-none _ _ _))
 
-number-at-requires-4 : tie.Need-number-at-requires-4 Inv-loop μ-loop
-number-at-requires-4 c κs = search needs
+number-at-requires-2 : tie.Need-number-at-requires-2 Inv-loop μ-loop
+number-at-requires-2 c κs = search needs
 
 word-leaf-requires : tie.Need-word-leaf-requires Inv-loop μ-loop
 word-leaf-requires c κs = search needs
@@ -67,17 +58,10 @@ loop-less c = search needs
 
 loop-again : tie.Need-loop-again Inv-loop μ-loop
 loop-again c =
-    let c₃ = c .before .before .before in
-    let h = c₃ .loop .inv .0 in (
+    let h = c .before .before .before .loop .inv .0 in (
       search needs,
       search needs,
-      rw (
-        from-more,
-        from-turn,
-        ← c₃ .loop .inv .2,
-        ← c
-            .before .number-at4 .ensures .0,
-      ) (c .word-leaf .ensures),
+      rw (from-more, from-turn, ← c .before .before .before .loop .inv .2, ← c .before .number-at2 .ensures .0) (c .word-leaf .ensures),
     )
 
 returns-2 : tie.Need-returns-2 Inv-loop μ-loop
@@ -87,16 +71,14 @@ returns-2 c =
     let c₃ = c₂ .before in
     let c₄ = c₃ .before in
     let c₅ = c₄ .before in
-    let c₆ = c₅ .before in
+    let c₇ = c₅ .before .before in
     simp (
-      ← c₆ .number-at .ensures .0,
+      ← c₇ .number-at .ensures .0,
       eq-eqb _ _ (c₅ .if1 .left),
       ← c₄ .wide .ensures .0,
-      ← c₃ .number-at2 .ensures
-          .0,
-      ← c₂ .number-at3 .ensures .0,
-    ) (c .before .loop .inv .2 ∙ iter-end _ _ _ _ (c .before .loop .inv .1) (omega
-    arith))
+      ← c₃ .class-start .ensures .0,
+      ← c₂ .class-end .ensures .0,
+    ) (c .before .loop .inv .2 ∙ iter-end _ _ _ _ (c .before .loop .inv .1) (omega arith))
 
 pub edge-leaves-spec : {M : Type 1} → statement M
 edge-leaves-spec =
@@ -109,13 +91,10 @@ edge-leaves-spec =
     number-at-requires
     returns
     wide-requires
-    add-number-at-2
-    number-at-requires-2
-    add-number-at-3
-    add-number-at-4
-    number-at-requires-3
+    class-start-requires
+    class-end-requires
     loop-holds
-    number-at-requires-4
+    number-at-requires-2
     word-leaf-requires
     add-y
     loop-less

@@ -32,6 +32,9 @@ add-number-at c = search needs
 number-at-requires : tie.Need-number-at-requires
 number-at-requires c κs = search needs
 
+back-number-requires : tie.Need-back-number-requires
+back-number-requires c κs = search needs
+
 wide-requires : tie.Need-wide-requires
 wide-requires c κs = search needs
 
@@ -40,9 +43,6 @@ add-key-of c = search needs
 
 add-key-of-2 : tie.Need-add-key-of-2
 add-key-of-2 c = search needs
-
-tie-of-requires : tie.Need-tie-of-requires
-tie-of-requires c κs = search needs
 
 key-of-requires : tie.Need-key-of-requires
 key-of-requires c κs = search needs
@@ -65,13 +65,11 @@ returns-2 c =
     let c₉ = c₇ .before .before in
     let c₁₁ = c₉ .before .before in
     simp (← c₁₁ .rule-at .ensures, c₉ .rule .given .1, ← c₇ .narrow-at .ensures, eq-eqb _ _ (c₅ .if1 .taken)) (rw (
-      c
-          .lesser .ensures,
+      c .lesser .ensures,
       c .before .key-of .ensures,
-      c₂ .tie-of .ensures .0,
-      c₃ .wide .ensures .0,
-      c₄ .number-at
-          .ensures .0,
+      c₃ .back-number .ensures .0,
+      c₂ .wide .ensures .0,
+      c₄ .number-at .ensures .0,
     ))
 
 returns-3 : tie.Need-returns-3
@@ -95,10 +93,10 @@ word-leaf-spec =
     mul-number-at
     add-number-at
     number-at-requires
+    back-number-requires
     wide-requires
     add-key-of
     add-key-of-2
-    tie-of-requires
     key-of-requires
     lesser-requires
     returns

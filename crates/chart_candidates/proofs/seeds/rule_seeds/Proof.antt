@@ -18,7 +18,10 @@ enum-told c = search needs
 
 returns : tie.Need-returns
 unfolding ruleSeeds
-returns c = simp (← c .before .before .before .before .rule-at .ensures, c .before .before .rule .given .1) (c .split-seeds .ensures)
+returns c =
+    let c₂ = c .before .before in
+    let c₄ = c₂ .before .before in
+    simp (← c₄ .rule-at .ensures, c₂ .rule .given .1) (c .split-seeds .ensures)
 
 returns-2 : tie.Need-returns-2
 unfolding ruleSeeds

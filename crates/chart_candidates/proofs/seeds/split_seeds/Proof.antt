@@ -3,23 +3,23 @@ use borrow.Author.Needs.{needs}
 use Rattle.chart_candidates.proofs.seeds.split_seeds.Statement.{statement}
 use Rattle.chart_candidates.proofs.seeds.split_seeds.Tie as tie
 
-add-if1 : tie.Need-add-if1
-add-if1 c = search needs
+sub-last : tie.Need-sub-last
+sub-last c = search needs
 
-sub-cell-of : tie.Need-sub-cell-of
-sub-cell-of c = search needs
+left-part-requires : tie.Need-left-part-requires
+left-part-requires c κs = search needs
 
-cell-of-requires : tie.Need-cell-of-requires
-cell-of-requires c κs = search needs
+cell-number-requires : tie.Need-cell-number-requires
+cell-number-requires c κs = rw (c .left-part .ensures) (search needs)
 
 entry-of-requires : tie.Need-entry-of-requires
 entry-of-requires c κs = search needs
 
-sub-cell-of-2 : tie.Need-sub-cell-of-2
-sub-cell-of-2 c = search needs
+right-part-requires : tie.Need-right-part-requires
+right-part-requires c κs = search needs
 
-cell-of-requires-2 : tie.Need-cell-of-requires-2
-cell-of-requires-2 c κs = search needs
+cell-number-requires-2 : tie.Need-cell-number-requires-2
+cell-number-requires-2 c κs = rw (c .right-part .ensures) (search needs)
 
 entry-of-requires-2 : tie.Need-entry-of-requires-2
 entry-of-requires-2 c κs = search needs
@@ -30,16 +30,14 @@ split-seeds-within-requires c κs =
     let c₄ = c₃ .before in
     let c₅ = c₄ .before in
     let c₆ = c₅ .before in
-    let c₉ = c₆ .before .before .before in (
-      c₉ .pre,
+    let c₇ = c₆ .before in
+    let c₈ = c₇ .before in
+    let c₁₃ = c₈ .before .before .before .before .before in (
+      c₁₃ .pre,
       (
         search needs,
-        rw (← c₆ .cell-of .ensures .0, ← c₅ .entry-of .ensures .0) (search needs),
-        rw (
-          ← c₄
-              .cell-of2 .ensures .0,
-          ← c₃ .entry-of2 .ensures .0,
-        ) (search needs),
+        rw (← c₈ .left-part .ensures, ← c₇ .cell-number .ensures .0, ← c₆ .entry-of .ensures .0) (search needs),
+        rw (← c₅ .right-part .ensures, ← c₄ .cell-number2 .ensures .0, ← c₃ .entry-of2 .ensures .0) (search needs),
       ),
     )
 
@@ -56,12 +54,12 @@ pub split-seeds-spec : {M : Type 1} → statement M
 split-seeds-spec =
     tie.close
     (tie.spec
-    add-if1
-    sub-cell-of
-    cell-of-requires
+    sub-last
+    left-part-requires
+    cell-number-requires
     entry-of-requires
-    sub-cell-of-2
-    cell-of-requires-2
+    right-part-requires
+    cell-number-requires-2
     entry-of-requires-2
     split-seeds-within-requires
     returns

@@ -4,16 +4,16 @@ use Prim.Native.Nat.{_-_, _≤_}
 use lib.ListN.{length}
 use Rattle.packing.specs.Loop.{iter}
 use Rattle.packing.proofs.Loop.{iter-more, iter-end}
-use Rattle.chart_table.specs.Table.{clearedCell, cleared}
+use Rattle.chart_table.specs.Table.{clearCell, clear}
 use borrow.Author.Needs.{needs}
 use Rattle.chart_table.proofs.clearing.clear.Statement.{statement}
 use Rattle.chart_table.proofs.clearing.clear.Tie as tie
 
 abbrev Inv-loop : tie.InvT-loop
-Inv-loop t₀ d cells cell₀ t cell = (cell ≤ d .cells) × (length t ≡ length t₀) × (t ≡ iter (λ u cell. clearedCell u d cell) t₀ cell)
+Inv-loop t₀ d cells c₀ t c = (c ≤ d .cells) × (length t ≡ length t₀) × (t ≡ iter (λ u c. clearCell u d c) t₀ c)
 
 abbrev μ-loop : tie.MeasureT-loop
-μ-loop t₀ d cells cell₀ t cell = d .cells - cell
+μ-loop t₀ d cells c₀ t c = d .cells - c
 
 loop-holds : tie.Need-loop-holds Inv-loop μ-loop
 unfolding iter
@@ -22,8 +22,8 @@ loop-holds c = (search needs, refl, refl)
 clear-cell-requires : tie.Need-clear-cell-requires Inv-loop μ-loop
 clear-cell-requires c κs = search needs
 
-add-cell : tie.Need-add-cell Inv-loop μ-loop
-add-cell c = search needs
+add-c : tie.Need-add-c Inv-loop μ-loop
+add-c c = search needs
 
 loop-less : tie.Need-loop-less Inv-loop μ-loop
 loop-less c = search needs
@@ -42,7 +42,7 @@ same-length : tie.Need-same-length Inv-loop μ-loop
 same-length c = c .before .loop .inv .1
 
 returns : tie.Need-returns Inv-loop μ-loop
-unfolding cleared
+unfolding clear
 returns c = c .before .loop .inv .2 ∙ iter-end _ _ _ _ (c .before .loop .inv .0) (c .loop-test .left)
 
 pub clear-spec : {M : Type 1} → statement M
@@ -53,7 +53,7 @@ clear-spec =
     μ-loop
     loop-holds
     clear-cell-requires
-    add-cell
+    add-c
     loop-less
     loop-again
     same-length

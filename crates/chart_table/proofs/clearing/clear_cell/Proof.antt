@@ -4,19 +4,19 @@ use Prim.Native.Nat.{_-_, _≤_}
 use lib.ListN.{length}
 use Rattle.packing.specs.Loop.{iter}
 use Rattle.packing.proofs.Loop.{iter-more, iter-end}
-use Rattle.chart_table.specs.Table.{clearedEntry, clearedCell}
+use Rattle.chart_table.specs.Table.{clearEntry, clearCell}
 use borrow.Author.Needs.{needs}
 use Rattle.chart_table.proofs.clearing.clear_cell.Statement.{statement}
 use Rattle.chart_table.proofs.clearing.clear_cell.Tie as tie
 
 abbrev Inv-loop : tie.InvT-loop
-Inv-loop t₀ d cell m x₀ t x = (x ≤ m) × (length t ≡ length t₀) × (t ≡ iter (λ u x. clearedEntry u d cell x) t₀ x)
+Inv-loop t₀ d c m x₀ t x = (x ≤ m) × (length t ≡ length t₀) × (t ≡ iter (λ u x. clearEntry u d c x) t₀ x)
 
 abbrev μ-loop : tie.MeasureT-loop
-μ-loop t₀ d cell m x₀ t x = m - x
+μ-loop t₀ d c m x₀ t x = m - x
 
-ranks-in-requires : tie.Need-ranks-in-requires Inv-loop μ-loop
-ranks-in-requires c κs = search needs
+ranks-to-clear-requires : tie.Need-ranks-to-clear-requires Inv-loop μ-loop
+ranks-to-clear-requires c κs = search needs
 
 loop-holds : tie.Need-loop-holds Inv-loop μ-loop
 unfolding iter
@@ -45,8 +45,8 @@ same-length : tie.Need-same-length Inv-loop μ-loop
 same-length c = c .before .loop .inv .1
 
 returns : tie.Need-returns Inv-loop μ-loop
-unfolding clearedCell
-returns c = rw (← c .before .before .ranks-in .ensures .0) (c .before .loop .inv .2 ∙ iter-end _ _ _ _ (c .before .loop .inv .0) (c .loop-test .left))
+unfolding clearCell
+returns c = rw (← c .before .before .ranks-to-clear .ensures .0) (c .before .loop .inv .2 ∙ iter-end _ _ _ _ (c .before .loop .inv .0) (c .loop-test .left))
 
 pub clear-cell-spec : {M : Type 1} → statement M
 clear-cell-spec =
@@ -54,7 +54,7 @@ clear-cell-spec =
     (tie.spec
     Inv-loop
     μ-loop
-    ranks-in-requires
+    ranks-to-clear-requires
     loop-holds
     clear-entry-requires
     add-x

@@ -1,5 +1,5 @@
 -- Four stores.
-use Rattle.chart_table.specs.Table.{clearedEntry}
+use Rattle.chart_table.specs.Table.{clearEntry}
 use borrow.Author.Needs.{needs}
 use Rattle.chart_table.proofs.clearing.clear_entry.Statement.{statement}
 use Rattle.chart_table.proofs.clearing.clear_entry.Tie as tie
@@ -32,7 +32,7 @@ same-length : tie.Need-same-length
 same-length c = search needs
 
 returns : tie.Need-returns
-unfolding clearedEntry
+unfolding clearEntry
 returns c =
     let c₂ = c .before .before in
     let c₆ = c₂ .before .before .before .before in

@@ -6,8 +6,8 @@ use native.Mathlib.Omega.{arith}
 use borrow.Author.Needs.{needs}
 use lib.ListN.{length, take, drop}
 use Rattle.packing.specs.declared.Rule as R
-use Rattle.packing.specs.Meaning.{sym as symbol}
-use Rattle.derivation.specs.Walk.{State, onward, run, ended, walkWeight}
+use Rattle.packing.specs.Meaning.{symbolOf}
+use Rattle.derivation.specs.Walk.{State, onward, run, finished, walkWeight}
 use Rattle.packing.specs.Flat.{rulesOf, slotsOf}
 use Rattle.checker.specs.Run.{headsOf, stateOf}
 use Rattle.checker.specs.declared.walk.Step.the-variants.{Onward}
@@ -20,7 +20,7 @@ Inv-loop rules count slots n walk stack₀ at₀ numbers i₀ stack at i =
     (i ≤ numbers) × (length stack ≡ 24) × (at .height ≤ at .left) × (at .left ≤ 24) × (at .place ≤ 2 ^ 33 * i)
     × (at .weight ≤ 2 ^ 33 * i)
     × (run (rulesOf rules count) (stateOf slots stack (Onward at)) (drop i (take numbers walk))
-    ≡ run (rulesOf rules count) (onward (slotsOf slots n 0) (symbol 0 ∷ []) 0) (take numbers walk))
+    ≡ run (rulesOf rules count) (onward (slotsOf slots n 0) (symbolOf 0 ∷ []) 0) (take numbers walk))
 
 abbrev μ-loop : tie.MeasureT-loop
 μ-loop rules count slots n walk stack₀ at₀ numbers i₀ stack at i = numbers - i
@@ -51,7 +51,7 @@ enum-told : tie.Need-enum-told Inv-loop μ-loop
 enum-told c = search needs
 
 returns : tie.Need-returns Inv-loop μ-loop
-unfolding walkWeight ended
+unfolding walkWeight finished
 returns c =
     let at-follow = c .before .before .before in
     let at-test = at-follow .before .before .before in
@@ -64,7 +64,7 @@ returns c =
     let next = sym (ap (stateOf (a .slots .now) (followed .last .1 .1 .1 .0)) (c .enum-told .given .1)) ∙ followed .ensures .0 in
     let lost = run-lost rules from (a .walk .now) (2 * a .n - 1) (l .i) (omega arith) (at-test .loop-test .taken)
     (at-follow .before .number-at .ensures .0) next in
-    ap ended (sym lost ∙ l .inv .6)
+    ap finished (sym lost ∙ l .inv .6)
 
 add-i : tie.Need-add-i Inv-loop μ-loop
 add-i c = omega arith
@@ -100,7 +100,7 @@ returns-2 c =
     let rules : List R.Rule = rulesOf (a .rules .now) (a .count) in
     let from : State = stateOf (a .slots .now) (l .stack) (Onward (l .at)) in
     let over = run-over rules from (a .walk .now) (2 * a .n - 1) (l .i) (at-test .loop-test .left) in
-    sym (at-end (a .slots .now) (l .stack) (l .at) (c .if1 .taken) (l .inv .2)) ∙ ap ended (sym over ∙ l .inv .6)
+    sym (at-end (a .slots .now) (l .stack) (l .at) (c .if1 .taken) (l .inv .2)) ∙ ap finished (sym over ∙ l .inv .6)
 
 returns-3 : tie.Need-returns-3 Inv-loop μ-loop
 unfolding walkWeight
@@ -112,7 +112,7 @@ returns-3 c =
     let rules : List R.Rule = rulesOf (a .rules .now) (a .count) in
     let from : State = stateOf (a .slots .now) (l .stack) (Onward (l .at)) in
     let over = run-over rules from (a .walk .now) (2 * a .n - 1) (l .i) (at-test .loop-test .left) in
-    sym (not-at-end (a .slots .now) (l .stack) (l .at) (c .if1 .left)) ∙ ap ended (sym over ∙ l .inv .6)
+    sym (not-at-end (a .slots .now) (l .stack) (l .at) (c .if1 .left)) ∙ ap finished (sym over ∙ l .inv .6)
 
 pub weight-of-spec : {M : Type 1} → statement M
 weight-of-spec =

@@ -1,0 +1,58 @@
+-- Each call has the meaning of its part of the promise, from an index and a table of zeros.
+use Rattle.chart.specs.Chart.{enumerate, rootsFound}
+use borrow.Author.Needs.{needs}
+use Rattle.chart.proofs.enumerate.Statement.{statement}
+use Rattle.chart.proofs.enumerate.Tie as tie
+
+slice-aggregate-make-index : tie.Need-slice-aggregate-make-index
+slice-aggregate-make-index c = search needs
+
+make-index-requires : tie.Need-make-index-requires
+make-index-requires c κs = search needs
+
+zero-requires : tie.Need-zero-requires
+zero-requires c κs = search needs
+
+slice-aggregate-search : tie.Need-slice-aggregate-search
+slice-aggregate-search c = search needs
+
+search-requires : tie.Need-search-requires
+search-requires c κs = search needs
+
+root-requires : tie.Need-root-requires
+root-requires c κs = search needs
+
+cell-number-requires : tie.Need-cell-number-requires
+cell-number-requires c κs = rw (c .root .ensures) (search needs)
+
+count-found-requires : tie.Need-count-found-requires
+count-found-requires c κs = search needs
+
+same-length : tie.Need-same-length
+same-length c = search needs
+
+returns : tie.Need-returns
+unfolding enumerate rootsFound
+returns c =
+    let c₂ = c .before .before in
+    let c₆ = c₂ .before .before .before .before in
+    let c₁₁ = c₆ .before .before .before .before .before in
+    let c₁₄ = c₁₁ .before .before .before in (
+      rw (← c₁₄ .make-index .ensures, ← c₁₁ .zero .ensures) (c₆ .search .ensures),
+      (rw (← c₂ .root .ensures, ← c .before .cell-number .ensures .0) (c .count-found .ensures .0), c .count-found .ensures .1),
+    )
+
+pub enumerate-spec : {M : Type 1} → statement M
+enumerate-spec =
+    tie.close
+    (tie.spec
+    slice-aggregate-make-index
+    make-index-requires
+    zero-requires
+    slice-aggregate-search
+    search-requires
+    root-requires
+    cell-number-requires
+    count-found-requires
+    same-length
+    returns)

@@ -1,0 +1,30 @@
+-- The chart as its callers see it: laid out, enumerated, traced back, cleared.
+-- Nobody need believe this page: the theorems of chart_theory join it to the derivations. Assumes nothing.
+use mathlib.Core.List.{List}
+use Prim.Native.Nat.{ℕ, _+_, _-_, _*_, _/_}
+use lib.ListN.{replicate}
+use Rattle.chart_table.specs.declared.Layout.{Layout}
+use Rattle.chart_table.specs.Table.{root, cellNumber, weightAt, countFound}
+use Rattle.chart_index.specs.Index.{indexNumbers}
+use Rattle.chart_index.specs.Build.{makeIndex}
+use Rattle.chart_search.specs.Search.{search}
+use Rattle.chart_trace.specs.Trace.{traceBack}
+
+-- the layout of a table for N ranks of each cell, over S symbols and n places
+unfoldable pub layOut : ℕ → ℕ → ℕ → Layout
+layOut S n N = record { symbols = S; places = n; ranks = N; cells = S * (n * (n + 1) / 2) }
+
+-- the table of a size that the search makes of zeros, with an index of the first R rules and the first E edges
+unfoldable pub enumerate : List ℕ → ℕ → List ℕ → ℕ → Layout → ℕ → List ℕ
+enumerate rules R edges E d size =
+    search rules edges (makeIndex rules R (d .symbols) edges E (d .places) (replicate indexNumbers 0)) d (replicate size 0)
+
+-- how many ranks of the root a table has, and of one of them the weight, which is stored plus 1, and the walk
+unfoldable pub rootsFound : List ℕ → Layout → ℕ
+rootsFound t d = countFound t d (cellNumber d (root d))
+
+unfoldable pub rootWeight : List ℕ → Layout → ℕ → ℕ
+rootWeight t d rank = weightAt t d (cellNumber d (root d)) rank - 1
+
+unfoldable pub rootWalk : List ℕ → List ℕ → Layout → ℕ → List ℕ
+rootWalk t rules d rank = traceBack t rules d (d .places) (root d) rank

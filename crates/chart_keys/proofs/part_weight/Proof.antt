@@ -1,0 +1,25 @@
+-- By the test, as in the definition.
+use borrow.Author.Tests.{eq-eqb, ne-eqb}
+use Rattle.chart_keys.specs.Keys.{partWeight}
+use borrow.Author.Needs.{needs}
+use Rattle.chart_keys.proofs.part_weight.Statement.{statement}
+use Rattle.chart_keys.proofs.part_weight.Tie as tie
+
+sub-result : tie.Need-sub-result
+sub-result c = search needs
+
+returns : tie.Need-returns
+unfolding partWeight
+returns c = search (needs, eq-eqb)
+
+returns-2 : tie.Need-returns-2
+unfolding partWeight
+returns-2 c = search (needs, ne-eqb)
+
+pub part-weight-spec : {M : Type 1} → statement M
+part-weight-spec =
+    tie.close
+    (tie.spec
+    sub-result
+    returns
+    returns-2)

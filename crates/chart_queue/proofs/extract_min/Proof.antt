@@ -1,0 +1,96 @@
+-- By whether the queue has a key and whether that is less, as in the definition.
+use mathlib.Core.Logic.{⊎-elim}
+use borrow.Author.Tests.{lt-ltb, le-ltb}
+use Rattle.chart_queue.specs.Queue.{extractMin}
+use borrow.Author.Needs.{needs}
+use Rattle.chart_queue.proofs.extract_min.Statement.{statement}
+use Rattle.chart_queue.proofs.extract_min.Tie as tie
+
+queue-length-requires : tie.Need-queue-length-requires
+queue-length-requires c κs = search needs
+
+least-place-requires : tie.Need-least-place-requires
+least-place-requires c κs = search needs
+
+queued-key-requires : tie.Need-queued-key-requires
+queued-key-requires c κs = search needs
+
+put-key-requires : tie.Need-put-key-requires
+put-key-requires c κs = search needs
+
+replace-requires : tie.Need-replace-requires
+replace-requires c κs = search needs
+
+push-requires : tie.Need-push-requires
+push-requires c κs = search needs
+
+same-length : tie.Need-same-length
+same-length c = search needs
+
+returns : tie.Need-returns
+unfolding extractMin
+returns c =
+    let c₂ = c .before .before in
+    let c₆ = c₂ .before .before .before .before in
+    let c₁₀ = c₆ .before .before .before .before in
+    let c₁₂ = c₁₀ .before .before in
+    let c₁₃ = c₁₂ .before in
+    let c₁₄ = c₁₃ .before in
+    let c₁₆ = c₁₄ .before .before in
+    let c₁₈ = c₁₆ .before .before in
+    simp (
+      ← c₁₈ .queue-length .ensures .0,
+      ← c₁₆ .least-place .ensures .0,
+      ← c₁₄ .queued-key .ensures,
+      lt-ltb _ _ (c₁₃
+          .if1 .taken),
+      lt-ltb _ _ (c₁₂ .if2 .taken),
+    ) (rw (
+      c₂ .push .ensures,
+      c₆ .replace .ensures,
+      c₁₀ .put-key
+          .ensures,
+    ))
+
+put-key-requires-2 : tie.Need-put-key-requires-2
+put-key-requires-2 c κs = search needs
+
+push-requires-2 : tie.Need-push-requires-2
+push-requires-2 c κs = search needs
+
+same-length-2 : tie.Need-same-length-2
+same-length-2 c = search needs
+
+returns-2 : tie.Need-returns-2
+unfolding extractMin
+returns-2 c =
+    let c₂ = c .before .before in
+    let c₆ = c₂ .before .before .before .before in
+    let c₈ = c₆ .before .before in
+    let c₉ = c₈ .before in
+    let c₁₁ = c₉ .before .before in
+    let c₁₃ = c₁₁ .before .before in
+    rw (c₂ .push2 .ensures, c₆ .put-key2 .ensures) (simp (
+      ← c₁₃ .queue-length .ensures .0,
+      ← c₁₁ .least-place .ensures
+          .0,
+      ← c₉ .queued-key .ensures,
+    ) (⊎-elim (λ w. simp (lt-ltb _ _ (w .0 .taken), le-ltb _ _ (w .1 .left))) (λ w.
+    simp (le-ltb _ _ (w .left))) (c₈ .if1 .came)))
+
+pub extract-min-spec : {M : Type 1} → statement M
+extract-min-spec =
+    tie.close
+    (tie.spec
+    queue-length-requires
+    least-place-requires
+    queued-key-requires
+    put-key-requires
+    replace-requires
+    push-requires
+    same-length
+    returns
+    put-key-requires-2
+    push-requires-2
+    same-length-2
+    returns-2)

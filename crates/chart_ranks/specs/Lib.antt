@@ -1,0 +1,2 @@
+-- The next rank of a cell.
+pub mod Ranks

@@ -1,0 +1,75 @@
+// One rank of a cell written into the work table, from what the table has of it and of its parts.
+mod selection;
+
+use chart_keys::BackPointer;
+use chart_keys::NO_KEY;
+use chart_keys::back_pointer;
+use chart_keys::key_of;
+use chart_queue::extract_min;
+use chart_table::Cell;
+use chart_table::Layout;
+use chart_table::back_at;
+use chart_table::cell_number;
+use chart_table::put_key;
+use chart_table::weight_at;
+use selection::least_initial;
+use selection::replacement;
+use selection::successors;
+ghost use mathlib.Core.Path.{_≡_};
+ghost use Prim.Native.Nat.{_+_, _-_, _*_, _<_, _≤_};
+ghost use Rattle.chart_keys.specs.Keys.{Digits};
+ghost use Rattle.chart_table.specs.Table.{Fits, Sized, mostRanks, cellBound};
+ghost use Rattle.chart_ranks.specs.Ranks.{foundAt, firstRank, nextRank};
+
+// A rank that is found: its key and its back pointer.
+pub struct Found {
+    pub key: usize,
+    pub back: BackPointer,
+}
+
+// A rank that is found, of a cell given by its number.
+fn found_at(t: &[u32], d: Layout, c: usize, rank: usize) -> Found
+    requires { ⌜ (Sized d) × (c < cellBound) × (rank ≤ mostRanks) ⌝ }
+    ensures { λ r. ⌜ (r ≡ foundAt (now (t .entry)) d c rank) × Digits (r .back) ⌝ }
+{
+    let back = back_at(t, d, c, rank);
+    let pointer = back_pointer(back);
+    Found {
+        key: key_of(weight_at(t, d, c, rank), back),
+        back: pointer,
+    }
+}
+
+// Writes the first rank of a cell: the least candidate that follows none.
+pub fn first_rank(t: &mut [u32], rules: &[u32], edges: &[u32], index: &[u32], d: Layout, c: Cell)
+    requires { ⌜ Fits d c ⌝ }
+    ensures { λ _. ⌜ now (t .exit) ≡ firstRank (now (rules .entry)) (now (edges .entry)) (now (index .entry)) d c (now (t .entry)) ⌝ }
+{
+    let key = least_initial(&t[..], d, rules, edges, index, c, 0);
+    put_key(t, d, cell_number(d, c), 0, key);
+}
+
+// Writes a further rank of a cell, where the ranks below are found: the least of the queue, the successors of the rank before
+// it, and what replaces that.
+pub fn next_rank(
+    t: &mut [u32],
+    rules: &[u32],
+    edges: &[u32],
+    index: &[u32],
+    d: Layout,
+    c: Cell,
+    rank: usize,
+)
+    requires { ⌜ (Fits d c) × (0 < rank) × (rank < d .ranks) ⌝ }
+    ensures { λ _. ⌜ now (t .exit) ≡ nextRank (now (rules .entry)) (now (edges .entry)) (now (index .entry)) d c rank (now (t .entry)) ⌝ }
+{
+    let number = cell_number(d, c);
+    let last = found_at(&t[..], d, number, rank - 1);
+    let near = successors(&t[..], d, rules, c, last, NO_KEY);
+    let other = replacement(&t[..], d, rules, edges, index, c, last);
+    if other < near {
+        extract_min(t, d, number, rank, other, near);
+        return;
+    }
+    extract_min(t, d, number, rank, near, other);
+}

@@ -1,0 +1,204 @@
+-- From a table of zeros the first pass knows the first rank of every cell, for it goes by the length of spans; after it each
+-- further rank of the root is found, or there is none, and so all that are kept are known.
+use mathlib.Core.Path.{_≡_, refl, ap, subst}
+use mathlib.Core.Logic.{⊎-elim, _↔_}
+use mathlib.Core.Bool.{Bool, true, false}
+use mathlib.Core.List.{List}
+use Prim.Native.Nat.{ℕ, suc, _+_, _-_, _*_, _≤_, _<_, min}
+use native.Mathlib.Nat.{le-refl, eq-or-lt-of-le}
+use native.Mathlib.Numerals.{add-one}
+use native.Mathlib.Decide.{decLt}
+use native.Mathlib.Omega.{arith}
+use lib.ListN.{length, getD}
+use lib.Dec.{ltb, eqb}
+use borrow.Author.Tests.{eqb-true, ltb-false}
+use Rattle.bits.specs.Bits.{pick}
+use Rattle.packing.specs.Meaning.{symbolOf, Grammar, Edge}
+use Rattle.packing.proofs.Loop.{iter-keeps}
+use Rattle.chart_table.specs.declared.Cell.{Cell}
+use Rattle.chart_table.specs.declared.Layout.{Layout}
+use Rattle.chart_table.specs.Table.{cell, root, entryOf, weightAt, countFound}
+use Rattle.chart_queue.specs.Queue.{queueLength}
+use Rattle.chart_search.specs.Search.{extend, nextOfSpan, firstOfHeads, firstOfLength, firstPass, nextOfRoot, search}
+use Rattle.chart_theory.proofs.Table.Cells.{InChart, span, rankedIn, rank-below}
+use Rattle.chart_theory.proofs.Table.Entries.{found-test}
+use Rattle.chart_theory.proofs.Invariant.{Setting, weightIn, Found, Known, Invariant, known-grows, Grown, grown-refl, grown-trans}
+use Rattle.chart_theory.proofs.Search.NextOfSpan.{Wanted, next-finds, extend-done}
+
+abbrev pub Zeros : List ℕ → Type 0
+Zeros t = (y : ℕ) → getD t y 0 ≡ 0
+
+module _ (d : Layout) (t : List ℕ) (zeros : Zeros t) where
+  none-found : (c x : ℕ) → 0 < weightAt t d c x → ⊥
+  unfolding weightAt
+  none-found c x = go (ltb x (d .ranks))
+    where
+      go : (b : Bool) → 0 < pick b (getD t (entryOf d c x) 0) 0 → ⊥
+      go true h = omega (arith, zeros (entryOf d c x))
+      go false h = omega arith
+
+  none-queued : (c : ℕ) → queueLength t d c ≡ 0
+  unfolding queueLength
+  none-queued c = rw (zeros (entryOf d c 0 + 1)) (go (ltb 0 (d .ranks)) refl)
+    where
+      go : (b : Bool) → ltb 0 (d .ranks) ≡ b → pick b 0 (d .ranks) ≡ 0
+      go true e = refl
+      go false e = omega (arith, ltb-false 0 (d .ranks) e)
+
+  pub zeros-invariant : (g : Grammar) (es : List Edge) → 4 * (d .cells * d .ranks) ≤ length t → Invariant g es d 1 t
+  zeros-invariant g es room = record {
+    room = room;
+    holds = λ x in-chart h. absurd (none-found _ x h);
+    prefix-closed = λ x in-chart h. absurd (none-found _ (suc x) h);
+    first-known = λ in-chart l. absurd (omega (arith, in-chart .order));
+    successors-known = λ x in-chart h. absurd (none-found _ (suc x) h);
+    nonzero-found = λ z h. absurd (omega (arith, zeros z));
+    last = λ x in-chart h. absurd (none-found _ x h);
+    no-queue = λ in-chart e. none-queued _;
+    queued = λ x in-chart h. absurd (none-found _ x h);
+  }
+
+module _ {g : Grammar} {es : List Edge} {rules edges index : List ℕ} {d : Layout} (s : Setting g es rules edges index d) where
+  -- the first rank of each head below x is known over a span
+  record Heads (m : ℕ) (t : List ℕ) (i k x : ℕ) (u : List ℕ) : Type 0 where
+    grown : Grown g es d m t u
+    known : (a : ℕ) → a < x → Known g es d u (cell (symbolOf a) i k) 0
+
+  heads-known : (m : ℕ) (t : List ℕ) (i k : ℕ) → Invariant g es d m t → i < k → k ≤ d .places → k - i ≤ m
+      → Heads m t i k (d .symbols) (firstOfHeads rules edges index d t i k)
+  unfolding firstOfHeads
+  heads-known m t i k invariant order within due =
+      iter-keeps (Heads m t i k) _ t (d .symbols) (record { grown = grown-refl invariant; known = λ a l. absurd (omega arith) }) step
+    where
+      step : (x : ℕ) (u : List ℕ) → x < d .symbols → Heads m t i k x u
+          → Heads m t i k (suc x) (nextOfSpan rules edges index d (k - i) u (cell (symbolOf x) i k) 0)
+      step x u l heads =
+          let wanted : Wanted s m u (cell (symbolOf x) i k) 0 = record {
+            invariant = heads .grown .invariant;
+            in-chart = record { symbol = l; order = order; within = within };
+            due = due;
+            kept = s .kept;
+            all = λ y h. absurd (omega arith);
+            new = λ h. absurd (omega arith);
+          } in
+          let done = next-finds s m (k - i) .finds wanted (omega arith) in
+          record {
+            grown = grown-trans (heads .grown) (done .grown);
+            known = λ a h. ⊎-elim (λ e. rw e (done .here))
+                (λ less. known-grows g es (done .grown .grows) (cell (symbolOf a) i k) 0 (heads .known a less))
+                (eq-or-lt-of-le {n = a} {m = x} (omega arith));
+          }
+
+  -- the first rank of each head is known over the first x spans of a length
+  record Lengths (len x : ℕ) (u : List ℕ) : Type 0 where
+    invariant : Invariant g es d len u
+    known : (i a : ℕ) → i < x → a < d .symbols → Known g es d u (cell (symbolOf a) i (i + len)) 0
+
+  length-known : (t : List ℕ) (len : ℕ) → Invariant g es d len t → 0 < len → len ≤ d .places
+      → Invariant g es d (suc len) (firstOfLength rules edges index d t len)
+  unfolding firstOfLength
+  length-known t len invariant positive within =
+      longer _
+      (iter-keeps (Lengths len) _ t (d .places + 1 - len) (record { invariant = invariant; known = λ i a l. absurd (omega arith) }) step)
+    where
+      step : (x : ℕ) (u : List ℕ) → x < d .places + 1 - len → Lengths len x u
+          → Lengths len (suc x) (firstOfHeads rules edges index d u x (x + len))
+      step x u l lengths =
+          let heads = heads-known len u x (x + len) (lengths .invariant) (omega arith) (omega arith) (omega arith) in
+          record {
+            invariant = heads .grown .invariant;
+            known = λ i a h below. ⊎-elim (λ e. rw e (heads .known a below))
+                (λ less. known-grows g es (heads .grown .grows) (cell (symbolOf a) i (i + len)) 0 (lengths .known i a less below))
+                (eq-or-lt-of-le {n = i} {m = x} (omega arith));
+          }
+
+      first : (u : List ℕ) → Lengths len (d .places + 1 - len) u → (c : Cell) → InChart d c → span c ≡ len → Known g es d u c 0
+      first u lengths c in-chart e =
+          let last : c .from + len ≡ c .to = omega (arith, in-chart .order) in
+          subst (λ b. Known g es d u b 0) (ap (cell (c .head) (c .from)) last)
+          (lengths .known (c .from) (c .head .0) (omega (arith, in-chart .order, in-chart .within)) (in-chart .symbol))
+
+      longer : (u : List ℕ) → Lengths len (d .places + 1 - len) u → Invariant g es d (suc len) u
+      longer u lengths = record {
+        room = lengths .invariant .room;
+        holds = lengths .invariant .holds;
+        prefix-closed = lengths .invariant .prefix-closed;
+        first-known = λ {c} in-chart h. ⊎-elim (λ e. first u lengths c in-chart e)
+            (λ less. lengths .invariant .first-known in-chart less) (eq-or-lt-of-le {n = span c} {m = len} (omega arith));
+        successors-known = lengths .invariant .successors-known;
+        nonzero-found = lengths .invariant .nonzero-found;
+        last = lengths .invariant .last;
+        no-queue = lengths .invariant .no-queue;
+        queued = lengths .invariant .queued;
+      }
+
+  first-pass-known : (t : List ℕ) → Invariant g es d 1 t → Invariant g es d (suc (d .places)) (firstPass rules edges index d t)
+  unfolding firstPass
+  first-pass-known t invariant =
+      iter-keeps (λ x u. Invariant g es d (suc x) u) _ t (d .places) invariant (λ x u l before.
+      rw (add-one x) (length-known u (suc x) before (omega arith) l))
+
+  -- the ranks of the root are known up to x
+  pub record Listed (x : ℕ) (u : List ℕ) : Type 0 where
+    pub invariant : Invariant g es d (suc (d .places)) u
+    pub known : (y : ℕ) → y ≤ x → Known g es d u (root d) y
+
+  module _ (in-root : InChart d (root d)) where
+    next-known : (x : ℕ) (u : List ℕ) → x < d .ranks - 1 → Listed x u → Listed (suc x) (nextOfRoot rules edges index d u x)
+    unfolding nextOfRoot
+    next-known x u l listed = rw (add-one x) (go (eqb weight 0) refl)
+      where
+        weight : ℕ
+        weight = weightIn d u (root d) x
+
+        -- x is the last rank, so that there is none behind it
+        at-end : weight ≡ 0 → suc x < length (rankedIn g es (root d)) → ⊥
+        at-end absent more = omega (arith, listed .known x (le-refl x) (omega arith) (omega arith))
+
+        go : (b : Bool) → eqb weight 0 ≡ b
+            → Listed (suc x) (pick b u (extend d (nextOfSpan rules edges index d (d .places)) u (root d) (suc x)))
+        go true e = record {
+          invariant = listed .invariant;
+          known = λ y h. ⊎-elim (λ same. rw same (λ kept more. absurd (at-end (eqb-true weight 0 e) more)))
+              (λ less. listed .known y (omega arith)) (eq-or-lt-of-le h);
+        }
+        go false e =
+            let done = extend-done s (suc (d .places)) (next-finds s (suc (d .places)) (d .places)) x (listed .invariant) in-root
+            (omega arith) (omega arith) (found-test weight e) in
+            record {
+              invariant = done .grown .invariant;
+              known = λ y h. ⊎-elim (λ same. rw same (done .here))
+                  (λ less. known-grows g es (done .grown .grows) (root d) y (listed .known y (omega arith))) (eq-or-lt-of-le h);
+            }
+
+    pub search-known : (t : List ℕ) → Invariant g es d 1 t → Listed (d .ranks - 1) (search rules edges index d t)
+    unfolding search
+    search-known t invariant =
+        let after = first-pass-known t invariant in
+        let first : (y : ℕ) → y ≤ 0 → Known g es d (firstPass rules edges index d t) (root d) y =
+        λ y h. let same : y ≡ 0 = omega arith in rw same (after .first-known in-root (omega arith)) in
+        iter-keeps Listed (nextOfRoot rules edges index d) (firstPass rules edges index d t) (d .ranks - 1)
+        (record { invariant = after; known = first }) next-known
+
+    -- so a rank that is kept is found exactly if there is one
+    pub found-exactly : (u : List ℕ) → Listed (d .ranks - 1) u → (x : ℕ) → x < d .ranks
+        → Found d u (root d) x ↔ (x < length (rankedIn g es (root d)))
+    found-exactly u listed x kept = (
+      (λ h. let (v, held) = listed .invariant .holds x in-root h in rank-below g es (root d) x (held .place)),
+      listed .known x (omega arith) kept,
+    )
+
+-- where the found ranks are those below a number, their count is that number, or all that are kept
+pub count-found : (t : List ℕ) (d : Layout) (c total : ℕ)
+    → ((x : ℕ) → x < d .ranks → (0 < weightAt t d c x) ↔ (x < total)) → countFound t d c ≡ min (d .ranks) total
+unfolding countFound
+count-found t d c total exactly = iter-keeps (λ x count. count ≡ min x total) _ 0 (d .ranks) (omega arith) step
+  where
+    step : (x count : ℕ) → x < d .ranks → count ≡ min x total
+        → pick (eqb (weightAt t d c x) 0) count (count + 1) ≡ min (suc x) total
+    step x count l e = go (eqb (weightAt t d c x) 0) refl (decLt x total)
+      where
+        go : (b : Bool) → eqb (weightAt t d c x) 0 ≡ b → Dec (x < total) → pick b count (count + 1) ≡ min (suc x) total
+        go true h (yes less) = absurd (omega (arith, exactly x l .1 less, eqb-true (weightAt t d c x) 0 h))
+        go true h (no over) = omega arith
+        go false h less = omega (arith, exactly x l .0 (found-test (weightAt t d c x) h))

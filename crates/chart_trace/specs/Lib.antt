@@ -1,0 +1,2 @@
+-- The back trace.
+pub mod Trace

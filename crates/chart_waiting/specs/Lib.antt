@@ -1,2 +1,0 @@
--- What waits.
-pub mod Waiting

@@ -1,2 +1,0 @@
--- The spelling of a tree.
-pub mod Walk

@@ -1,0 +1,43 @@
+-- The numbers that each place can refuse with: document 01's table "Where each check stands", row by row. Assumes nothing.
+use mathlib.Core.Logic.{_⊎_}
+use mathlib.Core.Path.{_≡_}
+use Prim.Native.Nat.{ℕ, _≤_}
+
+infixl 2 _∪_
+-- from one number to another
+abbrev pub Between : ℕ → ℕ → ℕ → Type 0
+Between least most n = (least ≤ n) × (n ≤ most)
+
+-- of one row or of another
+abbrev pub _∪_ : (ℕ → Type 0) → (ℕ → Type 0) → ℕ → Type 0
+(P ∪ Q) n = P n ⊎ Q n
+
+abbrev pub GrammarBlockRow : ℕ → Type 0
+GrammarBlockRow n = Between 1 7 n
+
+abbrev pub UtteranceBlockRow : ℕ → Type 0
+UtteranceBlockRow n = Between 11 16 n
+
+-- 24, "a weight that passes 24 bits", never comes
+abbrev pub ListingRow : ℕ → Type 0
+ListingRow n = Between 21 23 n
+
+abbrev pub SpecimenRow : ℕ → Type 0
+SpecimenRow n = Between 25 26 n
+
+-- up to the last field, and whole
+abbrev pub ReadingFieldsRow : ℕ → Type 0
+ReadingFieldsRow n = Between 31 33 n
+
+abbrev pub ReadingBlockRow : ℕ → Type 0
+ReadingBlockRow n = Between 31 36 n
+
+-- "41 ..; 42 ..; else 3 to 6 or 13 to 15 as in blocks"
+abbrev pub GrammarSheetRow : ℕ → Type 0
+GrammarSheetRow n = (Between 3 6 ∪ Between 41 42) n
+
+abbrev pub UtteranceSheetRow : ℕ → Type 0
+UtteranceSheetRow n = (Between 13 15 ∪ Between 41 42) n
+
+abbrev pub OutputRow : ℕ → Type 0
+OutputRow n = n ≡ 43

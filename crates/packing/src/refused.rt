@@ -1,0 +1,61 @@
+// The refusals of document 01's table "Where each check stands", under the names that include/spireyerba.h has for them.
+
+// Of a grammar.
+pub const GRAMMAR_END: u32 = 1; // a field passes the end of the block
+
+pub const GRAMMAR_KIND: u32 = 2; // the block's kind
+
+pub const GRAMMAR_RANGE: u32 = 3; // S, W or R out of range
+
+pub const GRAMMAR_SYMBOL: u32 = 4; // a symbol not below S
+
+pub const GRAMMAR_WORD: u32 = 5; // a word not below W
+
+pub const GRAMMAR_REPEAT: u32 = 6; // kind, head and body equal an earlier rule's
+
+pub const GRAMMAR_FILL: u32 = 7; // nonzero fill or further bytes
+
+// Of an utterance.
+pub const UTTERANCE_END: u32 = 11; // a field passes the end of the block
+
+pub const UTTERANCE_KIND: u32 = 12; // the block's kind
+
+pub const UTTERANCE_RANGE: u32 = 13; // n or a count out of range
+
+pub const UTTERANCE_WORD: u32 = 14; // a word not below W
+
+pub const UTTERANCE_ORDER: u32 = 15; // a word not above the one before it in its slot
+
+pub const UTTERANCE_FILL: u32 = 16; // nonzero fill or further bytes
+
+// Of the listing.
+pub const LISTING_WANTED: u32 = 21; // N out of range
+
+pub const LISTING_WORK: u32 = 22; // work table short
+
+pub const LISTING_OUTPUT: u32 = 23; // output short
+
+// Of the specimen.
+pub const SPECIMEN_LENGTH: u32 = 25; // length out of range
+
+pub const SPECIMEN_OUTPUT: u32 = 26; // output shorter than the length
+
+// Of a reading.
+pub const READING_END: u32 = 31; // a field passes the end of the block
+
+pub const READING_KIND: u32 = 32; // the block's kind
+
+pub const READING_SLOTS: u32 = 33; // n not the utterance's
+
+pub const READING_WALK: u32 = 34; // the numbers are not the walk of a derivation
+
+pub const READING_WEIGHT: u32 = 35; // weight not its own
+
+pub const READING_FILL: u32 = 36; // nonzero fill or further bytes
+
+// Of a sheet, and of the output of a conversion.
+pub const SHEET_COUNT: u32 = 41; // numbers missing or left over
+
+pub const SHEET_VALUE: u32 = 42; // kind, weight, cost or last number out of range
+
+pub const OUTPUT_SHORT: u32 = 43; // shorter than the result

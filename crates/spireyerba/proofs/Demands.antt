@@ -1,0 +1,169 @@
+-- The demands (specs/Demands), from what the services promise. A refusal's number is not 0, so a code tells an answer from a refusal.
+use mathlib.Core.Path.{_≡_, refl, sym, ap, _∙_}
+use mathlib.Core.Logic.{_⊎_, inl, inr, _↔_, Iff·trans}
+use mathlib.Core.List.{List, _++_}
+use Prim.Native.Nat.{ℕ, zero, suc, _≤_}
+use native.Mathlib.Omega.{arith}
+use borrow.Author.Tests.{le-ltb}
+use lib.IntN.{ℤ, pos, negℤ}
+use lib.ListN.{length, take, drop}
+use Rattle.packing.specs.Meaning.{Grammar, Reading}
+use Rattle.packing.specs.Parse.{Verdict, accepted, refused}
+use Rattle.packing.specs.Conversion.{grammarToBlock, grammarToSheet, utteranceToBlock, utteranceToSheet, fitting, written, TurnsBack}
+use Rattle.packing.proofs.Parse.{refused≢accepted, accepted-is}
+use Rattle.packing.proofs.Refusals.{Refuses, granted, denied, Low, grammar-to-block-row, grammar-to-sheet-row, utterance-to-block-row, utterance-to-sheet-row}
+use Rattle.sheet_writer.specs.Answer.{writtenOf}
+use Rattle.packing.specs.declared.Written as W
+use Rattle.checker.specs.Check.{check, checkedOf, OfDerivation}
+use Rattle.checker.specs.declared.Checked as C
+use Rattle.checker.proofs.Refused.{check-row, refused-34, refused-35, refused-36}
+use Rattle.listing.specs.Listing.{list, outputAfter, workAfter}
+use Rattle.listing.proofs.Demand3.{demand-3}
+use Rattle.listing.proofs.Refused.{list-row}
+use Rattle.specimen.specs.Specimen.{asked, Answers, StringWritten, NoString}
+use Rattle.specimen.specs.declared.Answered as A
+use Rattle.specimen.proofs.Asked.{asked-row}
+use Rattle.spireyerba.specs.Code.{codeOf, answerCode, AnswersCode}
+use Rattle.spireyerba.specs.Demands as D
+use Rattle.spireyerba.specs.Demands.{Demand1, answers, refuses, Converts, RoundTrip, Demand2}
+use Rattle.spireyerba.proofs.Small.{low-grammar-to-block, low-grammar-to-sheet, low-utterance-to-block, low-utterance-to-sheet, low-check}
+
+-- the code of an answer is not a refusal's, and the other way round
+low-code : (m n : ℕ) → 1 ≤ m → negℤ (pos m) ≡ pos n → ⊥
+low-code zero n l e = omega arith
+low-code (suc m) n l e = let z : _≡_ {A = ℕ} 0 1 = cc in omega arith
+
+same-refusal : (m n : ℕ) → negℤ (pos m) ≡ negℤ (pos n) → m ≡ n
+same-refusal zero zero e = refl
+same-refusal zero (suc n) e = let z : _≡_ {A = ℕ} 0 1 = cc in absurd (omega arith)
+same-refusal (suc m) zero e = let z : _≡_ {A = ℕ} 0 1 = cc in absurd (omega arith)
+same-refusal (suc m) (suc n) e = let h : m ≡ n = cc in ap suc h
+
+module _ {A : Type 0} (size : A → ℕ) {code : ℤ} where
+  accepted-code : {v : Verdict A} → Refuses Low v → code ≡ codeOf size v → {n : ℕ} → code ≡ pos n → (a : A) × (v ≡ accepted a) × (size a ≡ n)
+  accepted-code (granted {a}) e {n} h = let same : size a ≡ n = cc in (a, refl, same)
+  accepted-code (denied {n = m} l) e {n} h = absurd (low-code m n (l .0) (sym e ∙ h))
+
+  refused-code : {v : Verdict A} → Refuses Low v → code ≡ codeOf size v → {n : ℕ} → 1 ≤ n → (code ≡ negℤ (pos n)) ↔ (v ≡ refused n)
+  refused-code (granted {a}) e {n} l = (λ h. absurd (low-code n (size a) l (sym h ∙ e)), λ h. absurd (refused≢accepted (sym h)))
+  refused-code (denied {n = m} r) e {n} l = (
+    λ h. ap refused (same-refusal m n (sym e ∙ h)),
+    λ h. let same : m ≡ n = cc in e ∙ ap (λ (k : ℕ). negℤ (pos k)) same,
+  )
+
+  -- demand 1, from the code and what it says of the slices
+  first : {v : Verdict A} {Row : ℕ → Type 0} {Answer : A → ℕ → Type 0} {Unchanged : Type 0} → Refuses Row v → code ≡ codeOf size v
+      → ((a : A) → v ≡ accepted a → Answer a (size a)) → ((n : ℕ) → v ≡ refused n → Unchanged) → Demand1 v Answer Row Unchanged code
+  first (granted {a}) e f h = rw e (answers refl (f a refl))
+  first (denied {n} r) e f h = rw e (refuses refl r (h n refl))
+
+-- the conversions
+converts : (turn : List ℕ → Verdict (List ℕ)) {back : List ℕ → Verdict (List ℕ)} {Row : ℕ → Type 0} (given out : List ℕ) {out′ : List ℕ} {code : ℤ} {r : W.Written}
+    → Refuses Row (fitting (turn given) out) → Refuses Low (fitting (turn given) out)
+    → code ≡ codeOf length (fitting (turn given) out) → out′ ≡ written (fitting (turn given) out) out
+    → r ≡ writtenOf (fitting (turn given) out) → TurnsBack back given (λ n. r ≡ W.the-variants.Length n) out′
+    → Converts turn back Row given out code out′
+converts turn given out rows low e w told back = record {
+  demand-1 = first length rows e (λ l p. (refl, rw p at w)) (λ n p. rw p at w);
+  demand-2 = λ n h. let (l, p, m) = accepted-code length low e h in back n (told ∙ ap writtenOf p ∙ ap W.the-variants.Length m);
+}
+
+pub grammar-to-block : (sheet out : List ℕ) {out′ : List ℕ} {code : ℤ} {r : W.Written} → code ≡ codeOf length (fitting (grammarToBlock sheet) out)
+    → out′ ≡ written (fitting (grammarToBlock sheet) out) out → r ≡ writtenOf (fitting (grammarToBlock sheet) out)
+    → TurnsBack grammarToSheet sheet (λ n. r ≡ W.the-variants.Length n) out′ → D.GrammarToBlock sheet out code out′
+grammar-to-block sheet out = converts grammarToBlock sheet out (grammar-to-block-row sheet out) (low-grammar-to-block sheet out)
+
+pub grammar-to-sheet : (block out : List ℕ) {out′ : List ℕ} {code : ℤ} {r : W.Written} → code ≡ codeOf length (fitting (grammarToSheet block) out)
+    → out′ ≡ written (fitting (grammarToSheet block) out) out → r ≡ writtenOf (fitting (grammarToSheet block) out)
+    → TurnsBack grammarToBlock block (λ n. r ≡ W.the-variants.Length n) out′ → D.GrammarToSheet block out code out′
+grammar-to-sheet block out = converts grammarToSheet block out (grammar-to-sheet-row block out) (low-grammar-to-sheet block out)
+
+pub utterance-to-block : (grammar sheet out : List ℕ) {out′ : List ℕ} {code : ℤ} {r : W.Written}
+    → code ≡ codeOf length (fitting (utteranceToBlock grammar sheet) out) → out′ ≡ written (fitting (utteranceToBlock grammar sheet) out) out
+    → r ≡ writtenOf (fitting (utteranceToBlock grammar sheet) out)
+    → TurnsBack (utteranceToSheet grammar) sheet (λ n. r ≡ W.the-variants.Length n) out′ → D.UtteranceToBlock grammar sheet out code out′
+utterance-to-block grammar sheet out =
+    converts (utteranceToBlock grammar) sheet out (utterance-to-block-row grammar sheet out) (low-utterance-to-block grammar sheet out)
+
+pub utterance-to-sheet : (grammar block out : List ℕ) {out′ : List ℕ} {code : ℤ} {r : W.Written}
+    → code ≡ codeOf length (fitting (utteranceToSheet grammar block) out) → out′ ≡ written (fitting (utteranceToSheet grammar block) out) out
+    → r ≡ writtenOf (fitting (utteranceToSheet grammar block) out)
+    → TurnsBack (utteranceToBlock grammar) block (λ n. r ≡ W.the-variants.Length n) out′ → D.UtteranceToSheet grammar block out code out′
+utterance-to-sheet grammar block out =
+    converts (utteranceToSheet grammar) block out (utterance-to-sheet-row grammar block out) (low-utterance-to-sheet grammar block out)
+
+-- the listing
+module _ (grammar utterance : List ℕ) (N : ℕ) (work out : List ℕ) where
+  abbrev due : Verdict (List (List ℕ))
+  due = list grammar utterance N (length work) (length out)
+
+  pub lists : {code : ℤ} {work′ out′ : List ℕ} → code ≡ codeOf length due → work′ ≡ workAfter due work → out′ ≡ outputAfter due out
+      → D.Listing grammar utterance N work out code work′ out′
+  lists {code} {work′} {out′} e works writes = record {
+    demand-1 = first length (list-row grammar utterance N (length work) (length out)) e (λ ls p. (refl, rw p at writes, rw p at works))
+        (λ n p. (rw p at works, rw p at writes));
+    demand-3 = demand-3 grammar utterance N work out (λ m. code ≡ pos m) (λ ls p. e ∙ ap (codeOf length) p) work′ out′ works writes;
+  }
+
+-- the check
+passed : (v : Verdict Reading) → checkedOf v ≡ C.the-variants.Passes → codeOf (λ d. 0) v ≡ pos 0
+passed (accepted d) e = refl
+passed (refused n) e = let z : _≡_ {A = ℕ} 0 1 = cc in absurd (omega arith)
+
+module _ (grammar utterance reading : List ℕ) where
+  pub checks : {code : ℤ} {r : C.Checked} → code ≡ codeOf (λ d. 0) (check grammar utterance reading)
+      → r ≡ checkedOf (check grammar utterance reading) → (r ≡ C.the-variants.Passes) ↔ OfDerivation grammar utterance reading
+      → D.Check grammar utterance reading code
+  checks {code} {r} e told passes =
+      let low = low-check grammar utterance reading in record {
+        demand-1 = first (λ d. 0) (check-row grammar utterance reading) e (λ d p. refl) (λ n p. tt);
+        demand-2 = (
+          λ h. let (d, p, m) = accepted-code (λ d. 0) low e h in passes .0 (told ∙ ap checkedOf p),
+          λ o. e ∙ passed (check grammar utterance reading) (sym told ∙ passes .1 o),
+        );
+        no-walk = Iff·trans (refused-code (λ d. 0) low e (omega arith)) (refused-34 grammar utterance reading);
+        other-weight = Iff·trans (refused-code (λ d. 0) low e (omega arith)) (refused-35 grammar utterance reading);
+        surplus = Iff·trans (refused-code (λ d. 0) low e (omega arith)) (refused-36 grammar utterance reading);
+      }
+
+-- the specimen
+module _ (grammar : List ℕ) (n : ℕ) (out : List ℕ) where
+  specifies : {code : ℤ} {out′ : List ℕ} → AnswersCode (asked grammar n (length out)) n out code out′ → D.Specimen grammar n out code out′
+  specifies {code} {out′} (a, e, h) = record { demand-1 = go (asked-row grammar n (length out)) a e h }
+    where
+      go : {Row : ℕ → Type 0} {v : Verdict Grammar} → Refuses Row v → (a : A.Answered) → code ≡ answerCode n a → Answers v n out a out′
+          → Demand1 v (λ g m. ((m ≡ n) × StringWritten g n out out′) ⊎ ((m ≡ 0) × NoString g n out out′)) Row (out′ ≡ out) code
+      go granted A.the-variants.Written e h = rw e (answers refl (inl (refl, h)))
+      go granted A.the-variants.Nothing e h = rw e (answers refl (inr (refl, h)))
+      go granted (A.the-variants.Refused k) e h = absurd h
+      go (denied r) A.the-variants.Written e h = absurd h
+      go (denied r) A.the-variants.Nothing e h = absurd h
+      go (denied r) (A.the-variants.Refused k) e (same, unchanged) = rw (e, same) (refuses refl r unchanged)
+
+  pub with-demands : {code : ℤ} {out′ : List ℕ} → AnswersCode (asked grammar n (length out)) n out code out′
+      → AnswersCode (asked grammar n (length out)) n out code out′ × D.Specimen grammar n out code out′
+  with-demands h = (h, specifies h)
+
+-- two calls: what the first wrote turns back, and there is room for it
+round-trip : (turn back : List ℕ → Verdict (List ℕ)) (Row Row′ : ℕ → Type 0) → RoundTrip (Converts turn back Row) (Converts back turn Row′)
+unfolding fitting
+round-trip turn back Row Row′ given out out′ n there room room′ code h call = go (call .demand-1)
+  where
+    due : fitting (back (take n out′)) room ≡ accepted given
+    due = rw (there .demand-2 n refl, le-ltb (length room) (length given) h)
+
+    go : {code : ℤ} → Demand1 (fitting (back (take n out′)) room) (λ l k. (k ≡ length l) × (room′ ≡ l ++ drop k room)) Row′ (room′ ≡ room) code
+        → (code ≡ pos (length given)) × (room′ ≡ given ++ drop (length given) room)
+    go (answers {a} {n = k} p (m, w)) =
+        let same : a ≡ given = accepted-is (sym p ∙ due) in
+        (ap pos (m ∙ ap length same), rw (m, same) at w)
+    go (refuses p r u) = absurd (refused≢accepted (sym p ∙ due))
+
+-- Demand 2, of two calls.
+pub demand-2 : Demand2
+demand-2 = record {
+  grammar-sheets = round-trip grammarToBlock grammarToSheet _ _;
+  grammar-blocks = round-trip grammarToSheet grammarToBlock _ _;
+  utterance-sheets = λ grammar. round-trip (utteranceToBlock grammar) (utteranceToSheet grammar) _ _;
+  utterance-blocks = λ grammar. round-trip (utteranceToSheet grammar) (utteranceToBlock grammar) _ _;
+}

@@ -1,0 +1,105 @@
+//! Grammars as values.
+
+use crate::limits::{reading_length, work_length, GRAMMAR_BLOCK_MAX, GRAMMAR_SHEET_MAX, MAX_READINGS};
+use crate::services::{grammar_to_block, grammar_to_sheet, listing};
+use crate::{Reading, Refusal, Utterance};
+
+/// What a rule puts in the place of its head.
+#[derive(Clone, Copy, Debug, PartialEq, Eq, Hash)]
+pub enum Body {
+    /// Two symbols, over adjoining spans.
+    Pair(u32, u32),
+    /// One word, over one slot.
+    Word(u32),
+}
+
+/// A rule, which costs its weight wherever a derivation uses it.
+#[derive(Clone, Copy, Debug, PartialEq, Eq, Hash)]
+pub struct Rule {
+    /// The symbol that the rule derives from.
+    pub head: u32,
+    /// What its use costs.
+    pub weight: u32,
+    /// What it derives.
+    pub body: Body,
+}
+
+/// A grammar in Chomsky normal form, as plain numbers. Nothing is checked until it is packed.
+#[derive(Clone, Debug, PartialEq, Eq, Hash)]
+pub struct Grammar {
+    /// How many symbols there are; symbol 0 is the start.
+    pub symbols: u32,
+    /// How many words there are, numbered apart from the symbols.
+    pub words: u32,
+    /// The rules, numbered from 0.
+    pub rules: Vec<Rule>,
+}
+
+/// The numbers of a sheet before its rules, and of each rule.
+const SHEET_HEAD: usize = 3;
+const SHEET_RULE: usize = 5;
+/// The first number of a rule.
+const PAIR_RULE: u32 = 0;
+const WORD_RULE: u32 = 1;
+
+impl Grammar {
+    /// Reads a sheet, or refuses it as [`grammar_to_block`] does.
+    pub fn from_sheet(sheet: &[u32]) -> Result<Self, Refusal> {
+        grammar_to_block(sheet, &mut [0; GRAMMAR_BLOCK_MAX])?;
+        Ok(Self::of_accepted(sheet))
+    }
+
+    /// The sheet: plain numbers, written out as they are.
+    pub fn to_sheet(&self) -> Vec<u32> {
+        let mut sheet = Vec::with_capacity(SHEET_HEAD + SHEET_RULE * self.rules.len());
+        sheet.extend([self.symbols, self.words, self.rules.len() as u32]);
+        for &Rule { head, weight, body } in &self.rules {
+            sheet.extend(match body {
+                Body::Pair(first, second) => [PAIR_RULE, head, weight, first, second],
+                Body::Word(word) => [WORD_RULE, head, weight, word, 0],
+            });
+        }
+        sheet
+    }
+
+    /// Unpacks a block, or refuses it as [`grammar_to_sheet`] does.
+    pub fn from_block(block: &[u8]) -> Result<Self, Refusal> {
+        let mut sheet = [0; GRAMMAR_SHEET_MAX];
+        let length = grammar_to_sheet(block, &mut sheet)?;
+        Ok(Self::of_accepted(&sheet[..length]))
+    }
+
+    /// Packs the grammar, or refuses it as [`grammar_to_block`] refuses its sheet.
+    pub fn to_block(&self) -> Result<Vec<u8>, Refusal> {
+        let mut block = vec![0; GRAMMAR_BLOCK_MAX];
+        let length = grammar_to_block(&self.to_sheet(), &mut block)?;
+        block.truncate(length);
+        Ok(block)
+    }
+
+    /// The `wanted` least readings of an utterance, the least first; fewer if there are no more. Refuses as
+    /// [`grammar_to_block`] and [`utterance_to_block`](crate::services::utterance_to_block) do, then with
+    /// [`Refusal::ListingWanted`].
+    ///
+    /// A call sizes and zeroes a work table of its own; to keep one between calls, use [`listing`].
+    pub fn list(&self, utterance: &Utterance, wanted: u32) -> Result<Vec<Reading>, Refusal> {
+        let grammar = self.to_block()?;
+        let block = utterance.to_block(&grammar)?;
+        let (slots, rules) = (utterance.slots.len(), self.rules.len());
+        let (most, length) = (wanted.min(MAX_READINGS) as usize, reading_length(slots, rules));
+        let mut work = vec![0; work_length(self.symbols as usize, slots, most)];
+        let mut out = vec![0; most * length];
+        let found = listing(&grammar, &block, wanted, &mut work, &mut out)?;
+        Ok(out.chunks_exact(length).take(found).map(|block| Reading::of_accepted(block, slots, rules)).collect())
+    }
+
+    /// The grammar of a sheet that the library accepted or wrote.
+    fn of_accepted(sheet: &[u32]) -> Self {
+        let (head, rules) = sheet.split_at(SHEET_HEAD);
+        let rule = |&[kind, head, weight, first, second]: &[u32; SHEET_RULE]| {
+            let body = if kind == PAIR_RULE { Body::Pair(first, second) } else { Body::Word(first) };
+            Rule { head, weight, body }
+        };
+        Self { symbols: head[0], words: head[1], rules: rules.as_chunks().0.iter().map(rule).collect() }
+    }
+}

@@ -1,0 +1,53 @@
+//! The least readings of a spoken utterance under a weighted grammar, cheapest first, none left out.
+//!
+//! A recogniser hears an utterance: slots, each with candidate words and their costs. An office has a weighted grammar in
+//! Chomsky normal form. A reading is a derivation of the utterance: which rule made each phrase, and so which word was said
+//! in each slot. Its weight is the sum of its rules' weights and its words' costs.
+//!
+//! This crate calls the library that the repository proves, `target/staticlib/libspireyerba.a`. Whatever is searched,
+//! weighed or checked, the library does it: here are its functions for Rust, values in place of numbers, and a text form.
+//! `rt staticlib spireyerba` builds the library, which has to stand there before this crate is linked.
+//!
+//! | module | has |
+//! |---|---|
+//! | [`services`] | the library's functions over lent slices, with no allocation |
+//! | [`Refusal`] | why one of them refused, by number and in words |
+//! | [`Grammar`], [`Utterance`], [`Reading`] | values that turn into blocks and sheets and back; [`Grammar::list`] |
+//! | [`limits`] | how large things may be, and how much is to be lent |
+//! | [`text`] | grammars and utterances with names |
+//!
+//! # Example
+//!
+//! ```
+//! use spireyerba::{Body, Candidate, Grammar, Rule, Utterance};
+//!
+//! // two phrases make a phrase, at weight 1; word 0 is a phrase
+//! let rules = vec![
+//!     Rule { head: 0, weight: 1, body: Body::Pair(0, 0) },
+//!     Rule { head: 0, weight: 0, body: Body::Word(0) },
+//! ];
+//! let grammar = Grammar { symbols: 1, words: 1, rules };
+//! // three slots, each of which offers word 0
+//! let utterance = Utterance { slots: vec![vec![Candidate { word: 0, cost: 0 }]; 3] };
+//!
+//! let readings = grammar.list(&utterance, 8)?;
+//! assert_eq!(readings.len(), 2);
+//! assert_eq!((readings[0].weight, &readings[0].walk[..]), (2, &[0, 1, 0, 1, 1][..]));
+//! # Ok::<(), spireyerba::Refusal>(())
+//! ```
+
+#![warn(missing_docs)]
+
+pub mod limits;
+pub mod services;
+pub mod text;
+
+mod grammar;
+mod reading;
+mod refusal;
+mod utterance;
+
+pub use grammar::{Body, Grammar, Rule};
+pub use reading::Reading;
+pub use refusal::Refusal;
+pub use utterance::{Candidate, Utterance};

@@ -1,0 +1,77 @@
+//! How large things may be, and how much is to be lent.
+
+/// A grammar has 1 to so many symbols; symbol 0 is the start.
+pub const MAX_SYMBOLS: u32 = 32;
+/// A grammar has 1 to so many words, which are numbered apart from the symbols.
+pub const MAX_WORDS: u32 = 200;
+/// A grammar has 1 to so many rules.
+pub const MAX_RULES: u32 = 256;
+/// An utterance has 1 to so many slots.
+pub const MAX_SLOTS: u32 = 24;
+/// A slot offers 1 to so many words.
+pub const MAX_CANDIDATES: u32 = 7;
+/// The greatest weight of a rule, and the greatest cost of a word.
+pub const MAX_WEIGHT: u32 = 65_535;
+/// A listing answers 1 to so many readings.
+pub const MAX_READINGS: u32 = 256;
+
+/// No grammar block that is accepted has more bytes.
+pub const GRAMMAR_BLOCK_MAX: usize = 1_028;
+/// No utterance block that is accepted has more bytes.
+pub const UTTERANCE_BLOCK_MAX: usize = 515;
+/// No reading block has more bytes.
+pub const READING_BLOCK_MAX: usize = 52;
+/// No grammar sheet that is accepted has more numbers.
+pub const GRAMMAR_SHEET_MAX: usize = 1_283;
+/// No utterance sheet that is accepted has more numbers.
+pub const UTTERANCE_SHEET_MAX: usize = 361;
+
+/// The bits needed to write a number, at least 1. In a block a symbol's field has `width(S - 1)` bits for S symbols; words
+/// and rule numbers likewise.
+pub const fn width(number: u32) -> usize {
+    match number {
+        0 => 1,
+        _ => number.ilog2() as usize + 1,
+    }
+}
+
+/// The nodes of a derivation over so many slots, at least one.
+pub const fn nodes(slots: usize) -> usize {
+    2 * slots - 1
+}
+
+/// The bytes of a reading's block over so many slots under a grammar of so many rules, at least one of each.
+pub const fn reading_length(slots: usize, rules: usize) -> usize {
+    (READING_HEAD_WIDTH + nodes(slots) * width(rules as u32 - 1)).div_ceil(8)
+}
+
+/// The numbers of work table that a listing of so many readings needs.
+pub const fn work_length(symbols: usize, slots: usize, wanted: usize) -> usize {
+    NUMBERS_OF_ENTRY * symbols * (slots * (slots + 1) / 2) * wanted
+}
+
+/// The bits of a reading's kind, of its number of slots and of its weight.
+pub(crate) const READING_KIND_WIDTH: usize = 4;
+pub(crate) const READING_SLOTS_WIDTH: usize = 6;
+pub(crate) const READING_WEIGHT_WIDTH: usize = 24;
+const READING_HEAD_WIDTH: usize = READING_KIND_WIDTH + READING_SLOTS_WIDTH + READING_WEIGHT_WIDTH;
+
+/// The work table has an entry for each rank of each symbol over each span.
+const NUMBERS_OF_ENTRY: usize = 4;
+
+#[cfg(test)]
+mod tests {
+    use super::*;
+
+    #[test]
+    fn widths() {
+        let widths = [0, 1, 2, 3, 4, 7, 8, 31, 128, 199, 255].map(width);
+        assert_eq!(widths, [1, 1, 2, 2, 3, 3, 4, 5, 8, 8, 8]);
+    }
+
+    #[test]
+    fn lengths_that_document_01_names() {
+        assert_eq!((work_length(1, 4, 8), 8 * reading_length(4, 2)), (320, 48));
+        assert_eq!(reading_length(MAX_SLOTS as usize, MAX_RULES as usize), READING_BLOCK_MAX);
+    }
+}

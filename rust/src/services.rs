@@ -1,0 +1,228 @@
+//! The services of the proved library over lent slices, as include/spireyerba.h has them.
+//!
+//! Each function takes any bytes and any numbers, and either answers or refuses. An answer leaves its result at the front
+//! of `out`, everything behind it as it was, and all of `work` zero, whatever both held before; a refusal changes nothing.
+//! All of this is proved, for every input. The library allocates nothing and keeps nothing: calls may run at once on any
+//! threads. 64 KiB of stack suffice (measured, not proved).
+//!
+//! A *block* is packed bits, a *sheet* the same as plain 32-bit numbers; the header says field by field what they hold.
+//! [`Grammar`](crate::Grammar), [`Utterance`](crate::Utterance) and [`Reading`](crate::Reading) are made from them and
+//! turn into them, and [`limits`](crate::limits) says how long they are.
+
+#![expect(unsafe_code, reason = "the library has a C interface")]
+
+use crate::Refusal;
+
+extern "C" {
+    fn spireyerba_grammar_to_block(sheet: *const u32, sheet_len: usize, out: *mut u8, out_len: usize) -> i32;
+    fn spireyerba_grammar_to_sheet(block: *const u8, block_len: usize, out: *mut u32, out_len: usize) -> i32;
+    fn spireyerba_utterance_to_block(
+        grammar: *const u8,
+        grammar_len: usize,
+        sheet: *const u32,
+        sheet_len: usize,
+        out: *mut u8,
+        out_len: usize,
+    ) -> i32;
+    fn spireyerba_utterance_to_sheet(
+        grammar: *const u8,
+        grammar_len: usize,
+        block: *const u8,
+        block_len: usize,
+        out: *mut u32,
+        out_len: usize,
+    ) -> i32;
+    fn spireyerba_check(
+        grammar: *const u8,
+        grammar_len: usize,
+        utterance: *const u8,
+        utterance_len: usize,
+        reading: *const u8,
+        reading_len: usize,
+    ) -> i32;
+    fn spireyerba_specimen(grammar: *const u8, grammar_len: usize, length: u32, out: *mut u8, out_len: usize) -> i32;
+    fn spireyerba_listing(
+        grammar: *const u8,
+        grammar_len: usize,
+        utterance: *const u8,
+        utterance_len: usize,
+        wanted: u32,
+        work: *mut u32,
+        work_len: usize,
+        out: *mut u8,
+        out_len: usize,
+    ) -> i32;
+}
+
+/// What an exported function returns: 0 or more is its answer, less is minus a refusal's number.
+fn answer(code: i32) -> Result<usize, Refusal> {
+    let refusal = |_| Refusal::from_number(code.unsigned_abs()).expect("the library refuses with no other number");
+    usize::try_from(code).map_err(refusal)
+}
+
+/// Packs a grammar's sheet.
+///
+/// Takes the sheet: S, W, R, then five numbers for each rule, which are 0, head, weight, first and second symbol for a pair
+/// rule, and 1, head, weight, word and 0 for a word rule. Answers the bytes written to `out`, at most
+/// [`GRAMMAR_BLOCK_MAX`](crate::limits::GRAMMAR_BLOCK_MAX).
+///
+/// Refuses with [`SheetCount`](Refusal::SheetCount) for fewer than three numbers, then with
+/// [`GrammarRange`](Refusal::GrammarRange), then with `SheetCount` unless there are 3 + 5R numbers; then, rule by rule and
+/// field by field, with [`SheetValue`](Refusal::SheetValue), [`GrammarSymbol`](Refusal::GrammarSymbol),
+/// [`GrammarWord`](Refusal::GrammarWord) or [`GrammarRepeat`](Refusal::GrammarRepeat); last with
+/// [`OutputShort`](Refusal::OutputShort).
+///
+/// ```
+/// // two phrases make a phrase, at weight 1; the word is a phrase, at weight 0
+/// let sheet = [1, 1, 2, 0, 0, 1, 0, 0, 1, 0, 0, 0, 0];
+/// let mut out = [0xff; 12];
+/// assert_eq!(spireyerba::services::grammar_to_block(&sheet, &mut out), Ok(9));
+/// assert_eq!(out, [0x10, 0x40, 0x40, 0x40, 0x00, 0x09, 0x00, 0x00, 0x00, 0xff, 0xff, 0xff]);
+/// ```
+pub fn grammar_to_block(sheet: &[u32], out: &mut [u8]) -> Result<usize, Refusal> {
+    // SAFETY: the slices are borrowed until the call returns, `out` for it alone.
+    answer(unsafe { spireyerba_grammar_to_block(sheet.as_ptr(), sheet.len(), out.as_mut_ptr(), out.len()) })
+}
+
+/// Unpacks a grammar's block.
+///
+/// Takes the block, and answers the numbers of its sheet that were written to `out`, at most
+/// [`GRAMMAR_SHEET_MAX`](crate::limits::GRAMMAR_SHEET_MAX). Packed again, they are the block.
+///
+/// Refuses with 1 to 7, [`GrammarEnd`](Refusal::GrammarEnd) to [`GrammarFill`](Refusal::GrammarFill), then with
+/// [`OutputShort`](Refusal::OutputShort).
+pub fn grammar_to_sheet(block: &[u8], out: &mut [u32]) -> Result<usize, Refusal> {
+    // SAFETY: the slices are borrowed until the call returns, `out` for it alone.
+    answer(unsafe { spireyerba_grammar_to_sheet(block.as_ptr(), block.len(), out.as_mut_ptr(), out.len()) })
+}
+
+/// Packs an utterance's sheet under a grammar.
+///
+/// Takes the grammar's block and the sheet: n, then for each slot its count, and word and cost of each candidate, words
+/// ascending. Answers the bytes written to `out`, at most
+/// [`UTTERANCE_BLOCK_MAX`](crate::limits::UTTERANCE_BLOCK_MAX).
+///
+/// Refuses with 1 to 7 for the grammar; then, field by field, with [`UtteranceRange`](Refusal::UtteranceRange),
+/// [`UtteranceWord`](Refusal::UtteranceWord), [`UtteranceOrder`](Refusal::UtteranceOrder),
+/// [`SheetValue`](Refusal::SheetValue), or [`SheetCount`](Refusal::SheetCount) where a number is missing, and at the end
+/// where some are left over; last with [`OutputShort`](Refusal::OutputShort).
+pub fn utterance_to_block(grammar: &[u8], sheet: &[u32], out: &mut [u8]) -> Result<usize, Refusal> {
+    // SAFETY: the slices are borrowed until the call returns, `out` for it alone.
+    answer(unsafe {
+        spireyerba_utterance_to_block(
+            grammar.as_ptr(),
+            grammar.len(),
+            sheet.as_ptr(),
+            sheet.len(),
+            out.as_mut_ptr(),
+            out.len(),
+        )
+    })
+}
+
+/// Unpacks an utterance's block under a grammar.
+///
+/// Takes both blocks, and answers the numbers of the utterance's sheet that were written to `out`, at most
+/// [`UTTERANCE_SHEET_MAX`](crate::limits::UTTERANCE_SHEET_MAX). Packed again, they are the utterance's block.
+///
+/// Refuses with 1 to 7 for the grammar; then with 11 to 16, [`UtteranceEnd`](Refusal::UtteranceEnd) to
+/// [`UtteranceFill`](Refusal::UtteranceFill); then with [`OutputShort`](Refusal::OutputShort).
+pub fn utterance_to_sheet(grammar: &[u8], block: &[u8], out: &mut [u32]) -> Result<usize, Refusal> {
+    // SAFETY: the slices are borrowed until the call returns, `out` for it alone.
+    answer(unsafe {
+        spireyerba_utterance_to_sheet(
+            grammar.as_ptr(),
+            grammar.len(),
+            block.as_ptr(),
+            block.len(),
+            out.as_mut_ptr(),
+            out.len(),
+        )
+    })
+}
+
+/// Checks a reading of an utterance under a grammar.
+///
+/// Takes the three blocks, and answers that the reading passes: it is the reading of a derivation, with its true weight. A
+/// derivation has symbol 0 as its head and spans all slots. Nothing is written.
+///
+/// Refuses with 1 to 7 for the grammar and 11 to 16 for the utterance; then with [`ReadingEnd`](Refusal::ReadingEnd),
+/// [`ReadingKind`](Refusal::ReadingKind) or [`ReadingSlots`](Refusal::ReadingSlots); then, after all fields are read and in
+/// this order, with [`ReadingWalk`](Refusal::ReadingWalk), [`ReadingWeight`](Refusal::ReadingWeight),
+/// [`ReadingFill`](Refusal::ReadingFill).
+pub fn check(grammar: &[u8], utterance: &[u8], reading: &[u8]) -> Result<(), Refusal> {
+    // SAFETY: the slices are borrowed until the call returns.
+    let passes = answer(unsafe {
+        spireyerba_check(
+            grammar.as_ptr(),
+            grammar.len(),
+            utterance.as_ptr(),
+            utterance.len(),
+            reading.as_ptr(),
+            reading.len(),
+        )
+    })?;
+    debug_assert_eq!(passes, 0, "the answer of a reading that passes");
+    Ok(())
+}
+
+/// Finds some word string of a wanted length that a grammar derives.
+///
+/// Takes the grammar's block and the length, and answers whether there is such a string. If so, one is written to `out`, a
+/// word number a byte; which of several is not said. If not, nothing is written.
+///
+/// Refuses with 1 to 7 for the grammar, then with [`SpecimenLength`](Refusal::SpecimenLength), then with
+/// [`SpecimenOutput`](Refusal::SpecimenOutput).
+pub fn specimen(grammar: &[u8], length: u32, out: &mut [u8]) -> Result<bool, Refusal> {
+    // SAFETY: the slices are borrowed until the call returns, `out` for it alone.
+    let written =
+        answer(unsafe { spireyerba_specimen(grammar.as_ptr(), grammar.len(), length, out.as_mut_ptr(), out.len()) })?;
+    debug_assert!(written == 0 || written == length as usize, "the answer is the length or 0");
+    Ok(written != 0)
+}
+
+/// Lists the readings of least weight of an utterance under a grammar, the least first.
+///
+/// Takes both blocks and the number `wanted`, at most [`MAX_READINGS`](crate::limits::MAX_READINGS); as scratch memory
+/// `work`, which may hold anything, of at least [`work_length`](crate::limits::work_length) numbers; and `out`, of at
+/// least `wanted` times L bytes, where L is [`reading_length`](crate::limits::reading_length). Answers m, the number of
+/// readings found and written one after another, L bytes each. If m is less than `wanted` there are no more; it is 0 if
+/// the grammar does not derive the utterance. All of `work` is zero afterwards, also beyond the length needed.
+///
+/// Where weights are equal the lower rule number comes first, then the tree with fewer slots in its left part, then the
+/// lesser left part by this same order, weight included, then the lesser right part.
+///
+/// Refuses with 1 to 7 for the grammar and 11 to 16 for the utterance; then with
+/// [`ListingWanted`](Refusal::ListingWanted), [`ListingWork`](Refusal::ListingWork),
+/// [`ListingOutput`](Refusal::ListingOutput).
+///
+/// ```
+/// let grammar = [0x10, 0x40, 0x40, 0x40, 0x00, 0x09, 0x00, 0x00, 0x00];
+/// let utterance = [0x21, 0x08, 0x00, 0x00, 0x80, 0x00, 0x08, 0x00, 0x00, 0x80, 0x00, 0x00];
+/// let (mut work, mut out) = ([0; 320], [0; 48]);
+/// // one symbol, four slots, two rules: five readings of six bytes each
+/// assert_eq!(spireyerba::services::listing(&grammar, &utterance, 8, &mut work, &mut out), Ok(5));
+/// assert_eq!(out[..6], [0x31, 0x00, 0x00, 0x00, 0xd5, 0x80]);
+/// ```
+pub fn listing(
+    grammar: &[u8],
+    utterance: &[u8],
+    wanted: u32,
+    work: &mut [u32],
+    out: &mut [u8],
+) -> Result<usize, Refusal> {
+    // SAFETY: the slices are borrowed until the call returns, `work` and `out` for it alone.
+    answer(unsafe {
+        spireyerba_listing(
+            grammar.as_ptr(),
+            grammar.len(),
+            utterance.as_ptr(),
+            utterance.len(),
+            wanted,
+            work.as_mut_ptr(),
+            work.len(),
+            out.as_mut_ptr(),
+            out.len(),
+        )
+    })
+}

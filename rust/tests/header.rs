@@ -1,0 +1,67 @@
+//! The refusals and sizes of this crate are those of include/spireyerba.h.
+
+use spireyerba::limits::*;
+use spireyerba::Refusal;
+use std::collections::BTreeMap;
+
+const HEADER: &str = include_str!("../../include/spireyerba.h");
+const PREFIX: &str = "SPIREYERBA_";
+
+/// The names that the header gives a number: `PREFIX_NAME = NUMBER` to refusals, `#define PREFIX_NAME NUMBER` to sizes.
+fn numbers(of_refusals: bool) -> BTreeMap<String, usize> {
+    let of_line = |line: &str| {
+        let (name, rest) = match line.trim().strip_prefix("#define ") {
+            Some(definition) if !of_refusals => definition.split_once(' ')?,
+            None if of_refusals => line.trim().split_once(" = ")?,
+            _ => return None,
+        };
+        let digits = rest.split(|letter: char| !letter.is_ascii_digit()).next()?;
+        Some((name.strip_prefix(PREFIX)?.to_owned(), digits.parse().ok()?))
+    };
+    HEADER.lines().filter_map(of_line).collect()
+}
+
+/// `GrammarEnd` as `GRAMMAR_END`.
+fn name_in_c(refusal: Refusal) -> String {
+    let mut name = String::new();
+    for letter in format!("{refusal:?}").chars() {
+        if letter.is_uppercase() && !name.is_empty() {
+            name.push('_');
+        }
+        name.push(letter.to_ascii_uppercase());
+    }
+    name
+}
+
+#[test]
+fn refusals() {
+    let refusals = Refusal::ALL.iter().map(|&refusal| (name_in_c(refusal), refusal.number() as usize));
+    assert_eq!(refusals.collect::<BTreeMap<_, _>>(), numbers(true));
+    assert!(Refusal::ALL.is_sorted());
+    for &refusal in Refusal::ALL {
+        assert_eq!(Refusal::from_number(refusal.number()), Some(refusal));
+    }
+    assert_eq!((0..100).filter_map(Refusal::from_number).count(), Refusal::ALL.len());
+}
+
+#[test]
+fn sizes() {
+    let limits = [
+        ("MAX_SYMBOLS", MAX_SYMBOLS),
+        ("MAX_WORDS", MAX_WORDS),
+        ("MAX_RULES", MAX_RULES),
+        ("MAX_SLOTS", MAX_SLOTS),
+        ("MAX_CANDIDATES", MAX_CANDIDATES),
+        ("MAX_WEIGHT", MAX_WEIGHT),
+        ("MAX_READINGS", MAX_READINGS),
+    ];
+    let lengths = [
+        ("GRAMMAR_BLOCK_MAX", GRAMMAR_BLOCK_MAX),
+        ("UTTERANCE_BLOCK_MAX", UTTERANCE_BLOCK_MAX),
+        ("READING_BLOCK_MAX", READING_BLOCK_MAX),
+        ("GRAMMAR_SHEET_MAX", GRAMMAR_SHEET_MAX),
+        ("UTTERANCE_SHEET_MAX", UTTERANCE_SHEET_MAX),
+    ];
+    let all = limits.map(|(name, number)| (name, number as usize)).into_iter().chain(lengths);
+    assert_eq!(all.map(|(name, number)| (name.to_owned(), number)).collect::<BTreeMap<_, _>>(), numbers(false));
+}
