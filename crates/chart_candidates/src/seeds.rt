@@ -25,7 +25,7 @@ ghost use Prim.Native.Nat.{_+_, _-_, _*_, _<_, _≤_};
 ghost use lib.ListN.{length};
 ghost use Rattle.packing.specs.Flat.{ruleAt};
 ghost use Rattle.chart_keys.specs.Keys.{back};
-ghost use Rattle.chart_table.specs.Table.{Fits, leftPart, rightPart, cellNumber, entryOf};
+ghost use Rattle.chart_table.specs.Table.{InTable, leftPart, rightPart, cellNumber, entryOf};
 ghost use Rattle.chart_candidates.specs.Candidates.{splitSeeds, ruleSeeds, seeds};
 
 // The back pointer of the first of the left part with the first of the right.
@@ -49,7 +49,7 @@ fn split_seeds_anywhere(
     floor: usize,
     best: usize,
 ) -> usize
-    requires { ⌜ (Fits d c) × (rule .number < 4294967296) ⌝ }
+    requires { ⌜ (InTable d c) × (rule .number < 4294967296) ⌝ }
     ensures { λ x. ⌜ x ≡ splitSeeds (now (t .entry)) d rule c floor best ⌝ }
 {
     let mut so_far = best;
@@ -73,7 +73,7 @@ fn split_seeds_within(
     floor: usize,
     best: usize,
 ) -> usize
-    requires { ⌜ (Fits d c) × (rule .number < 4294967296) ⌝ }
+    requires { ⌜ (InTable d c) × (rule .number < 4294967296) ⌝ }
     requires { ⌜ (floor < best) × (entryOf d (cellNumber d (leftPart c (rule .first) (c .to - 1))) 0 < length (now t)) × (entryOf d (cellNumber d (rightPart c (rule .second) (c .to - 1))) 0 < length (now t)) ⌝ }
     ensures { λ x. ⌜ x ≡ splitSeeds (now (t .entry)) d rule c floor best ⌝ }
 {
@@ -94,7 +94,7 @@ fn split_seeds_within(
 
 // The same: no part's entry stands behind that of the last split.
 fn split_seeds(t: &[u32], d: Layout, rule: PairRule, c: Cell, floor: usize, best: usize) -> usize
-    requires { ⌜ (Fits d c) × (rule .number < 4294967296) ⌝ }
+    requires { ⌜ (InTable d c) × (rule .number < 4294967296) ⌝ }
     ensures { λ x. ⌜ x ≡ splitSeeds (now (t .entry)) d rule c floor best ⌝ }
 {
     let last = c.to - 1;
@@ -122,7 +122,7 @@ fn rule_seeds(
     floor: usize,
     best: usize,
 ) -> usize
-    requires { ⌜ (Fits d c) × (r < 4294967296) ⌝ }
+    requires { ⌜ (InTable d c) × (r < 4294967296) ⌝ }
     ensures { λ x. ⌜ x ≡ ruleSeeds (now (t .entry)) d c floor best r (ruleAt (now (rules .entry)) r) ⌝ }
 {
     let rule = rule_at(rules, r);
@@ -150,7 +150,7 @@ pub fn seeds(
     floor: usize,
     best: usize,
 ) -> usize
-    requires { ⌜ Fits d c ⌝ }
+    requires { ⌜ InTable d c ⌝ }
     ensures { λ x. ⌜ x ≡ seeds (now (t .entry)) d (now (rules .entry)) (now (index .entry)) c floor best ⌝ }
 {
     let head = wide(c.head.0);

@@ -34,20 +34,20 @@ withRanks b p q = back (b .rule) (b .split) p q
 abbrev pub backNumber : BackPointer → ℕ
 backNumber b = ((b .rule * splits + b .split) * digits + b .left) * digits + b .right
 
-abbrev pub ruleOf : ℕ → ℕ
-ruleOf x = x / ruleUnit
+abbrev pub ruleDigit : ℕ → ℕ
+ruleDigit x = x / ruleUnit
 
-abbrev pub splitOf : ℕ → ℕ
-splitOf x = x / splitUnit % splits
+abbrev pub splitDigit : ℕ → ℕ
+splitDigit x = x / splitUnit % splits
 
-abbrev pub leftOf : ℕ → ℕ
-leftOf x = x / digits % digits
+abbrev pub leftDigit : ℕ → ℕ
+leftDigit x = x / digits % digits
 
-abbrev pub rightOf : ℕ → ℕ
-rightOf x = x % digits
+abbrev pub rightDigit : ℕ → ℕ
+rightDigit x = x % digits
 
 abbrev pub backPointer : ℕ → BackPointer
-backPointer x = back (ruleOf x) (splitOf x) (leftOf x) (rightOf x)
+backPointer x = back (ruleDigit x) (splitDigit x) (leftDigit x) (rightDigit x)
 
 -- what its numbers are bounded by
 pub record Digits (b : BackPointer) : Type 0 where

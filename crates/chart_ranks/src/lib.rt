@@ -18,7 +18,7 @@ use selection::successors;
 ghost use mathlib.Core.Path.{_≡_};
 ghost use Prim.Native.Nat.{_+_, _-_, _*_, _<_, _≤_};
 ghost use Rattle.chart_keys.specs.Keys.{Digits};
-ghost use Rattle.chart_table.specs.Table.{Fits, Sized, mostRanks, cellBound};
+ghost use Rattle.chart_table.specs.Table.{InTable, Sized, mostRanks, cellBound};
 ghost use Rattle.chart_ranks.specs.Ranks.{foundAt, firstRank, nextRank};
 
 // A rank that is found: its key and its back pointer.
@@ -42,7 +42,7 @@ fn found_at(t: &[u32], d: Layout, c: usize, rank: usize) -> Found
 
 // Writes the first rank of a cell: the least candidate that follows none.
 pub fn first_rank(t: &mut [u32], rules: &[u32], edges: &[u32], index: &[u32], d: Layout, c: Cell)
-    requires { ⌜ Fits d c ⌝ }
+    requires { ⌜ InTable d c ⌝ }
     ensures { λ _. ⌜ now (t .exit) ≡ firstRank (now (rules .entry)) (now (edges .entry)) (now (index .entry)) d c (now (t .entry)) ⌝ }
 {
     let key = least_initial(&t[..], d, rules, edges, index, c, 0);
@@ -60,7 +60,7 @@ pub fn next_rank(
     c: Cell,
     rank: usize,
 )
-    requires { ⌜ (Fits d c) × (0 < rank) × (rank < d .ranks) ⌝ }
+    requires { ⌜ (InTable d c) × (0 < rank) × (rank < d .ranks) ⌝ }
     ensures { λ _. ⌜ now (t .exit) ≡ nextRank (now (rules .entry)) (now (edges .entry)) (now (index .entry)) d c rank (now (t .entry)) ⌝ }
 {
     let number = cell_number(d, c);

@@ -15,13 +15,13 @@ use packing::Rule;
 ghost use mathlib.Core.Path.{_≡_};
 ghost use Prim.Native.Nat.{_+_, _-_, _*_, _<_, _≤_};
 ghost use Rattle.chart_keys.specs.Keys.{Digits};
-ghost use Rattle.chart_table.specs.Table.{Fits};
+ghost use Rattle.chart_table.specs.Table.{InTable};
 ghost use Rattle.chart_ranks.specs.Ranks.{successors, sibling, leastInitial, replacement};
 
 // The best so far and the successors of a found pairing: the next of its right part, and where that was the first, the next of
 // its left part. A leaf has no split and no successors.
 pub fn successors(t: &[u32], d: Layout, rules: &[u32], c: Cell, last: Found, best: usize) -> usize
-    requires { ⌜ (Fits d c) × Digits (last .back) ⌝ }
+    requires { ⌜ (InTable d c) × Digits (last .back) ⌝ }
     ensures { λ x. ⌜ x ≡ successors (now (t .entry)) d (now (rules .entry)) c last best ⌝ }
 {
     let floor = last.key;
@@ -48,7 +48,7 @@ pub fn successors(t: &[u32], d: Layout, rules: &[u32], c: Cell, last: Found, bes
 
 // The other successor of the pairing that a successor follows, where that has two and the other is above the floor.
 fn sibling(t: &[u32], d: Layout, rules: &[u32], c: Cell, last: Found) -> usize
-    requires { ⌜ (Fits d c) × Digits (last .back) × (0 < last .back .split) ⌝ }
+    requires { ⌜ (InTable d c) × Digits (last .back) × (0 < last .back .split) ⌝ }
     ensures { λ x. ⌜ x ≡ sibling (now (t .entry)) d (now (rules .entry)) c last ⌝ }
 {
     let floor = last.key;
@@ -84,7 +84,7 @@ pub fn least_initial(
     c: Cell,
     floor: usize,
 ) -> usize
-    requires { ⌜ Fits d c ⌝ }
+    requires { ⌜ InTable d c ⌝ }
     ensures { λ x. ⌜ x ≡ leastInitial (now (t .entry)) d (now (rules .entry)) (now (edges .entry)) (now (index .entry)) c floor ⌝ }
 {
     let leaf = leaves(rules, edges, index, c, floor, NO_KEY);
@@ -101,7 +101,7 @@ pub fn replacement(
     c: Cell,
     last: Found,
 ) -> usize
-    requires { ⌜ (Fits d c) × Digits (last .back) ⌝ }
+    requires { ⌜ (InTable d c) × Digits (last .back) ⌝ }
     ensures { λ x. ⌜ x ≡ replacement (now (t .entry)) d (now (rules .entry)) (now (edges .entry)) (now (index .entry)) c last ⌝ }
 {
     let b = last.back;

@@ -17,7 +17,7 @@ use packing::Sym;
 ghost use mathlib.Core.Path.{_≡_};
 ghost use Prim.Native.Nat.{ℕ, suc, _+_, _-_, _*_, _<_, _≤_};
 ghost use Rattle.chart_keys.specs.Keys.{Digits};
-ghost use Rattle.chart_table.specs.Table.{lastPlace, Sized, Fits};
+ghost use Rattle.chart_table.specs.Table.{lastPlace, Sized, InTable};
 ghost use Rattle.chart_search.specs.Search.{extend, advancePairing, nextOfSpan, firstOfHeads, firstOfLength, firstPass, nextOfRoot, search};
 
 // Finds a rank of a cell, where the ranks below are found, with what it needs of the parts.
@@ -30,7 +30,7 @@ fn next_of_span(
     c: Cell,
     rank: usize,
 )
-    requires { ⌜ (Fits d c) × (rank < d .ranks) ⌝ }
+    requires { ⌜ (InTable d c) × (rank < d .ranks) ⌝ }
     ensures { λ _. ⌜ ((f : ℕ) → c .to - c .from ≤ f → now (t .exit) ≡ nextOfSpan (now (rules .entry)) (now (edges .entry)) (now (index .entry)) d f (now (t .entry)) c rank) ⌝ }
 {
     if rank == 0 {
@@ -53,7 +53,7 @@ fn advance_pairing(
     c: Cell,
     b: BackPointer,
 )
-    requires { ⌜ (Fits d c) × Digits b ⌝ }
+    requires { ⌜ (InTable d c) × Digits b ⌝ }
     ensures { λ _. ⌜ ((f : ℕ) → c .to - c .from ≤ suc f → now (t .exit) ≡ advancePairing (now (rules .entry)) d (nextOfSpan (now (rules .entry)) (now (edges .entry)) (now (index .entry)) d f) (now (t .entry)) c b) ⌝ }
 {
     let split = b.split;
@@ -86,7 +86,7 @@ fn extend(
     c: Cell,
     rank: usize,
 )
-    requires { ⌜ Fits d c ⌝ }
+    requires { ⌜ InTable d c ⌝ }
     ensures { λ _. ⌜ ((f : ℕ) → c .to - c .from ≤ f → now (t .exit) ≡ extend d (nextOfSpan (now (rules .entry)) (now (edges .entry)) (now (index .entry)) d f) (now (t .entry)) c rank) ⌝ }
 {
     if rank < d.ranks {

@@ -92,7 +92,7 @@ pub record Sized (d : Layout) : Type 0 where
   pub cells : d .cells ≤ 16384
 
 -- a cell that it has room for
-pub record Fits (d : Layout) (c : Cell) : Type 0 where
+pub record InTable (d : Layout) (c : Cell) : Type 0 where
   pub sized : Sized d
   pub order : c .from < c .to
   pub last : c .to ≤ lastPlace

@@ -24,7 +24,7 @@ ghost use Rattle.packing.specs.Flat.{ruleAt};
 ghost use Rattle.packing.specs.Store.{storeAll};
 ghost use Rattle.packing.specs.declared.Rule.the-variants as Rule;
 ghost use Rattle.chart_keys.specs.Keys.{backPointer, Digits};
-ghost use Rattle.chart_table.specs.Table.{mostRanks, cell, Fits, cellNumber, backAt};
+ghost use Rattle.chart_table.specs.Table.{mostRanks, cell, InTable, cellNumber, backAt};
 ghost use Rattle.chart_trace.specs.Trace.{traceBack};
 
 // A part of a tree: a rank of a cell.
@@ -35,7 +35,7 @@ struct Part {
 
 // Writes the rule number of a part's node and answers its back pointer.
 fn trace_node(t: &[u32], d: Layout, part: Part, walk: &mut [u32], at: usize) -> BackPointer
-    requires { ⌜ (Fits d (part .cell)) × (part .rank ≤ mostRanks) ⌝ }
+    requires { ⌜ (InTable d (part .cell)) × (part .rank ≤ mostRanks) ⌝ }
     ensures { λ b. ⌜ (b ≡ backPointer (backAt (now (t .entry)) d (cellNumber d (part .cell)) (part .rank))) × (Digits b) × (now (walk .exit) ≡ set (now (walk .entry)) at (b .rule)) ⌝ }
 {
     let cell = part.cell;
@@ -84,7 +84,7 @@ fn part_of(from: usize, x: usize) -> Part
 // Writes the rule numbers of a rank of a cell, node, left part, right part, one after another from the first place on. While
 // a left part is traced, the right one is kept on a stack.
 pub fn trace_back(t: &[u32], rules: &[u32], d: Layout, c: Cell, rank: usize, walk: &mut [u32])
-    requires { ⌜ (Fits d c) × (rank ≤ mostRanks) ⌝ }
+    requires { ⌜ (InTable d c) × (rank ≤ mostRanks) ⌝ }
     ensures { λ _. ⌜ ((f : ℕ) → c .to - c .from ≤ f → now (walk .exit) ≡ storeAll (now (walk .entry)) 0 (traceBack (now (t .entry)) (now (rules .entry)) d f c rank)) ⌝ }
 {
     let mut stack = [0usize; SPLITS];

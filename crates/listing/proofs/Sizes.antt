@@ -19,7 +19,7 @@ use Rattle.chart_table.specs.declared.Layout.{Layout}
 use Rattle.chart.specs.Chart.{layOut}
 use Rattle.listing.specs.Listing.{tableSize, listed}
 use Rattle.packing.specs.Reading.{readingLength}
-use Rattle.listing.specs.Model.{firstOf, shortage}
+use Rattle.listing.specs.Model.{firstRefusal, shortage}
 
 -- four numbers for each rank of each cell
 pub table-is : (S n N : ℕ) {d : Layout} {r : ℕ} → d ≡ layOut S n N → r ≡ 4 * d .cells * d .ranks → r ≡ tableSize S n N
@@ -45,7 +45,7 @@ unfolding shortage
 all-met S R n N work out = go (ltb N 1) (ltb 256 N) (ltb work (tableSize S n N)) (ltb out (N * readingLength n R)) refl refl refl refl
   where
     go : (a b c d : Bool) → ltb N 1 ≡ a → ltb 256 N ≡ b → ltb work (tableSize S n N) ≡ c → ltb out (N * readingLength n R) ≡ d
-        → firstOf a b c d ≡ 0 → Met S R n N work out
+        → firstRefusal a b c d ≡ 0 → Met S R n N work out
     go true b c d p q r s e = absurd (omega arith)
     go false true c d p q r s e = absurd (omega arith)
     go false false true d p q r s e = absurd (omega arith)
@@ -53,8 +53,8 @@ all-met S R n N work out = go (ltb N 1) (ltb 256 N) (ltb work (tableSize S n N))
     go false false false false p q r s e = record { positive = ltb-false N 1 p; few = ltb-false 256 N q; table = ltb-false _ _ r; room = ltb-false _ _ s }
 
 -- where something is
-picks : {A : Type 0} (f : ℕ → A) (a b c d : Bool) (rest : A) → (firstOf a b c d ≡ 0 → ⊥)
-    → pick a (f 21) (pick b (f 21) (pick c (f 22) (pick d (f 23) rest))) ≡ f (firstOf a b c d)
+picks : {A : Type 0} (f : ℕ → A) (a b c d : Bool) (rest : A) → (firstRefusal a b c d ≡ 0 → ⊥)
+    → pick a (f 21) (pick b (f 21) (pick c (f 22) (pick d (f 23) rest))) ≡ f (firstRefusal a b c d)
 picks f true b c d rest h = refl
 picks f false true c d rest h = refl
 picks f false false true d rest h = refl

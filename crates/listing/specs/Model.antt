@@ -24,12 +24,12 @@ use Rattle.listing.specs.Listing.{tableSize, listed, listedOf, outputAft
 use Rattle.listing.specs.declared.Listed.{Listed}
 
 -- the refusal of the first test that holds: none asked for, too many, the table short, the output short; 0 where none holds
-abbrev pub firstOf : (none many table output : Bool) → ℕ
-firstOf none many table output = pick none 21 (pick many 21 (pick table 22 (pick output 23 0)))
+abbrev pub firstRefusal : (none many table output : Bool) → ℕ
+firstRefusal none many table output = pick none 21 (pick many 21 (pick table 22 (pick output 23 0)))
 
 -- the refusal of what is asked for and lent, for S symbols, R rules and n slots
 unfoldable pub shortage : (S R n N work out : ℕ) → ℕ
-shortage S R n N work out = firstOf (ltb N 1) (ltb 256 N) (ltb work (tableSize S n N)) (ltb out (N * readingLength n R))
+shortage S R n N work out = firstRefusal (ltb N 1) (ltb 256 N) (ltb work (tableSize S n N)) (ltb out (N * readingLength n R))
 
 -- the reading of rank x of the root of a table, whose walk is traced into an array of zeros
 unfoldable pub readingAt : List ℕ → List ℕ → Layout → ℕ → Reading

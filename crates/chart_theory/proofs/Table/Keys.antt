@@ -10,7 +10,7 @@ use Rattle.derivation.specs.Order.{_▸_}
 use Rattle.derivation.proofs.Comparison.{compare-lawful, compare-self, compare-same, compare-lt, compare-gt, compare-below, turn-gt}
 use Rattle.derivation.proofs.Rows.{Row, row, rowWeight, rowOrder, row-same}
 use Rattle.chart_keys.specs.declared.BackPointer.{BackPointer}
-use Rattle.chart_keys.specs.Keys.{weightUnit, back, backNumber, ruleOf, splitOf, leftOf, rightOf, backPointer, keyOf, noKey}
+use Rattle.chart_keys.specs.Keys.{weightUnit, back, backNumber, ruleDigit, splitDigit, leftDigit, rightDigit, backPointer, keyOf, noKey}
 
 -- the back pointer of a row, and its key
 abbrev pub rowBack : Row → BackPointer
@@ -65,16 +65,16 @@ module _ (b : BackPointer) (fits : HasKey b) where
   pub decoded : backPointer (backNumber b) ≡ b
   decoded = rw (rule-is, split-is, left-is, right-is)
     where
-      rule-is : ruleOf (backNumber b) ≡ b .rule
+      rule-is : ruleDigit (backNumber b) ≡ b .rule
       rule-is = omega (arith, fits .rule, fits .split, fits .left, fits .right)
 
-      split-is : splitOf (backNumber b) ≡ b .split
+      split-is : splitDigit (backNumber b) ≡ b .split
       split-is = omega (arith, fits .rule, fits .split, fits .left, fits .right)
 
-      left-is : leftOf (backNumber b) ≡ b .left
+      left-is : leftDigit (backNumber b) ≡ b .left
       left-is = omega (arith, fits .rule, fits .split, fits .left, fits .right)
 
-      right-is : rightOf (backNumber b) ≡ b .right
+      right-is : rightDigit (backNumber b) ≡ b .right
       right-is = omega (arith, fits .right)
 
 -- the weight and the back pointer of a key
