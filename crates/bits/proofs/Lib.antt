@@ -5,5 +5,5 @@ pub mod End
 pub mod Pack
 pub mod Fields
 pub mod Width
-pub mod Table
+pub mod Examples
 pub mod Remaining

@@ -1,7 +1,4 @@
 // Numbers of bits: the width of a number, and its lower bits.
-mod widths;
-
-use widths::WIDTHS;
 ghost use mathlib.Core.Path.{_≡_};
 ghost use Prim.Native.Nat.{_-_, _%_, _^_, _≤_, _<_};
 ghost use Rattle.bits.specs.Width.{widthOf};
@@ -9,10 +6,13 @@ ghost use Rattle.bits.specs.Width.{widthOf};
 // The greatest width of a field that is read or written.
 pub const MAX_FIELD_WIDTH: usize = 24;
 
-// How many widths the table has, those of the numbers below this, and the greatest of them.
-pub const WIDTHS_LENGTH: usize = 256;
+// The numbers below this are those of which a width is taken, and the greatest of their widths.
+pub const MAX_BELOW: usize = 256;
 
 pub const MAX_WIDTH: usize = 8;
+
+// The bits of a u32.
+const BITS: u32 = 32;
 
 // The lower `width` bits of a number.
 pub fn lower(value: u32, width: usize) -> u32
@@ -22,18 +22,21 @@ pub fn lower(value: u32, width: usize) -> u32
     value % (1 << width)
 }
 
-// How many bits x needs, at least 1.
+// How many bits x needs, at least 1: those behind its leading zeros.
 fn width_of(x: usize) -> usize
-    requires { do ⌜ x < (← ⟦WIDTHS_LENGTH⟧) ⌝ }
+    requires { do ⌜ x < (← ⟦MAX_BELOW⟧) ⌝ }
     ensures { λ r. do ⌜ (r ≡ widthOf x) × (r ≤ (← ⟦MAX_WIDTH⟧ .entry)) ⌝ }
 {
-    let w = WIDTHS[x];
-    w as usize
+    if x == 0 {
+        return 1;
+    }
+    let n = x as u32;
+    (BITS - u32::leading_zeros(n)) as usize
 }
 
 // The width of a number below n.
 pub fn width_below(n: usize) -> usize
-    requires { do ⌜ (1 ≤ n) × (n ≤ (← ⟦WIDTHS_LENGTH⟧)) ⌝ }
+    requires { do ⌜ (1 ≤ n) × (n ≤ (← ⟦MAX_BELOW⟧)) ⌝ }
     ensures { λ r. do ⌜ (r ≡ widthOf (n - 1)) × (r ≤ (← ⟦MAX_WIDTH⟧ .entry)) ⌝ }
 {
     width_of(n - 1)

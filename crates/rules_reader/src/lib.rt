@@ -1,6 +1,6 @@
 // The rules of a grammar, read from a block or a sheet into a flat array of numbers that the caller lends: five for each rule.
+use bits::MAX_BELOW;
 use bits::MAX_WIDTH;
-use bits::WIDTHS_LENGTH;
 use packing::Cursor;
 use packing::Field;
 use packing::Read;
@@ -46,7 +46,7 @@ enum RuleRead {
 
 // The field of a number below n.
 fn below(n: u32, refusal: u32) -> Field
-    requires { do ⌜ (1 ≤ n) × (n ≤ (← ⟦WIDTHS_LENGTH⟧)) ⌝ }
+    requires { do ⌜ (1 ≤ n) × (n ≤ (← ⟦MAX_BELOW⟧)) ⌝ }
     ensures { λ f. do ⌜ (f ≡ within (widthOf (n - 1)) 0 (n - 1) refusal) × (f .width ≤ (← ⟦MAX_WIDTH⟧ .entry)) ⌝ }
 {
     Field {
