@@ -1,6 +1,6 @@
 -- The loop over the splits of a cell: where the first entries of the two parts stand at split j, and the best so far. The loop
 -- itself knows only where they stand at the first split and by how much they go on, so what it keeps is said of every layout
--- and every cell that it can have begun with.
+-- and every cell that it can have after-first with.
 use mathlib.Core.Path.{_≡_, sym, _∙_}
 use mathlib.Core.List.{List}
 use Prim.Native.Nat.{ℕ, zero, suc, _+_, _-_, _*_, _≤_, _<_}
@@ -20,7 +20,7 @@ use Rattle.chart_candidates.proofs.Loops.{from-none, from-more, from-tu
 
 -- what keeps the loop's sums in range
 pub record InRange (step first end j x y : ℕ) : Type 0 where
-  pub begun : first ≤ j
+  pub after-first : first ≤ j
   pub turns : j - first ≤ end - first
   pub last : end ≤ lastPlace
   pub apart : step ≤ 128
@@ -71,7 +71,7 @@ module _ (t : List ℕ) (rule : PairRule) (floor best step first end x₀ y₀ :
   pub record Long : Type 0 where
     pub d : Layout
     pub c : Cell
-    pub begun : From d c
+    pub from-first : From d c
     pub last : end ≡ c .to
     pub left : entryOf d (cellNumber d (leftPart c (rule .first) (c .to - 1))) 0 < length t
     pub right : entryOf d (cellNumber d (rightPart c (rule .second) (c .to - 1))) 0 < length t
@@ -108,7 +108,7 @@ module _ (t : List ℕ) (rule : PairRule) (floor best step first end x₀ y₀ :
     left-read =
         omega (
           arith,
-          kept _ _ (long .begun) .left,
+          kept _ _ (long .from-first) .left,
           to-in-order (long .d) (rule .first) (long .c .from) j (long .c .to - 1) (omega (arith, long .last)),
           long .left,
         )
@@ -117,7 +117,7 @@ module _ (t : List ℕ) (rule : PairRule) (floor best step first end x₀ y₀ :
     right-read =
         omega (
           arith,
-          kept _ _ (long .begun) .right,
+          kept _ _ (long .from-first) .right,
           from-in-order (long .d) (rule .second) j (long .c .to - 1) (long .c .to) (omega (arith, long .last)),
           long .right,
         )

@@ -74,6 +74,6 @@ module _ (rules edges index : List ℕ) (d : Layout) where
   unfoldable pub nextRank : Cell → ℕ → List ℕ → List ℕ
   nextRank c rank t =
       let last = foundAt t d (cellNumber d c) (rank - 1) in
-      let near = successors t d rules c last noKey in
+      let successor = successors t d rules c last noKey in
       let other = replacement t d rules edges index c last in
-      extractMin t d (cellNumber d c) rank (pick (ltb other near) other near) (pick (ltb other near) near other)
+      extractMin t d (cellNumber d c) rank (pick (ltb other successor) other successor) (pick (ltb other successor) successor other)

@@ -65,11 +65,11 @@ pub fn next_rank(
 {
     let number = cell_number(d, c);
     let last = found_at(&t[..], d, number, rank - 1);
-    let near = successors(&t[..], d, rules, c, last, NO_KEY);
+    let successor = successors(&t[..], d, rules, c, last, NO_KEY);
     let other = replacement(&t[..], d, rules, edges, index, c, last);
-    if other < near {
-        extract_min(t, d, number, rank, other, near);
+    if other < successor {
+        extract_min(t, d, number, rank, other, successor);
         return;
     }
-    extract_min(t, d, number, rank, near, other);
+    extract_min(t, d, number, rank, successor, other);
 }

@@ -58,7 +58,7 @@ loop-holds c =
       record {
         d = c₉ .args .d;
         c = c₉ .args .c;
-        begun = record {
+        from-first = record {
           kept = c₉ .pre .0 .0 .sized .kept;
           apart = refl;
           left = rw (← c₅ .left-part .ensures, ← c₄ .cell-number .ensures .0) (c₃ .entry-of .ensures .0);
@@ -127,7 +127,7 @@ loop-again c =
     let r = c₇ .loop .inv .0 in
     let s = step-small r (c₆ .loop-test .taken) in (
       record {
-        begun = omega arith;
+        after-first = omega arith;
         turns = omega arith;
         last = r .last;
         apart = r .apart;
@@ -140,7 +140,7 @@ loop-again c =
         c .before .join-key .ensures,
         c₂ .back-number .ensures .0,
         c₃ .seed .ensures,
-      ) (at-next _ _ _ _ _ _ _ _ _ _ _ _ _ (r .begun) (c₇ .loop .inv .2)),
+      ) (at-next _ _ _ _ _ _ _ _ _ _ _ _ _ (r .after-first) (c₇ .loop .inv .2)),
       c₇ .loop .inv .3,
     )
 
