@@ -35,7 +35,10 @@ pub enum Step {
     Astray,
 }
 
-// The cost of a word among `count` candidates, from place `start` on.
+// The cost of a word that was not heard: such a word is not offered.
+const NOT_HEARD: usize = 65535;
+
+// The cost of a word among `count` candidates, from place `start` on, if it is offered.
 fn cost_of(slots: &[u32], start: usize, count: usize, word: Word) -> Found
     requires { ⌜ (start < 2 ^ 40) × (count < 2 ^ 32) ⌝ }
     ensures { λ r. ⌜ (numberOf r ≡ costOf word (candidatesOf (now (slots .entry)) count start)) × Small r ⌝ }
@@ -45,7 +48,11 @@ fn cost_of(slots: &[u32], start: usize, count: usize, word: Word) -> Found
     while k < count {
         let at = start + NUMBERS_PER_CANDIDATE * k;
         if arrays::number_at(slots, at) == wanted {
-            return Found::Number(arrays::number_at(slots, at + 1));
+            let cost = arrays::number_at(slots, at + 1);
+            if cost < NOT_HEARD {
+                return Found::Number(cost);
+            }
+            return Found::Nothing;
         }
         k += 1;
     }
