@@ -11,9 +11,8 @@ use lib.ListN.{length, getD, set, length-set}
 use lib.Seq.{getD-set-same, getD-set-other}
 use Rattle.bits.specs.Bits.{pick}
 use Rattle.packing.specs.declared.Word as W
-use Rattle.packing.specs.Meaning.{symbolOf}
+use Rattle.packing.specs.Meaning.{notHeard, symbolOf}
 use Rattle.packing.specs.Flat.{candidatesOf}
-use Rattle.derivation.specs.Derivation.{notHeard}
 use Rattle.derivation.specs.Walk.{costOf}
 use Rattle.checker.specs.Run.{headsOf}
 

@@ -3,6 +3,7 @@ use packing::Rule;
 use packing::Sym;
 use packing::Word;
 use packing::format::MAX_SLOTS;
+use packing::format::NOT_HEARD;
 use packing::format::NUMBERS_PER_CANDIDATE;
 ghost use mathlib.Core.Path.{_≡_};
 ghost use mathlib.Core.List.{List, _∷_};
@@ -35,9 +36,6 @@ pub enum Step {
     Astray,
 }
 
-// The cost of a word that was not heard: such a word is not offered.
-const NOT_HEARD: usize = 65535;
-
 // The cost of a word among `count` candidates, from place `start` on, if it is offered.
 fn cost_of(slots: &[u32], start: usize, count: usize, word: Word) -> Found
     requires { ⌜ (start < 2 ^ 40) × (count < 2 ^ 32) ⌝ }
@@ -49,7 +47,7 @@ fn cost_of(slots: &[u32], start: usize, count: usize, word: Word) -> Found
         let at = start + NUMBERS_PER_CANDIDATE * k;
         if arrays::number_at(slots, at) == wanted {
             let cost = arrays::number_at(slots, at + 1);
-            if cost < NOT_HEARD {
+            if cost < NOT_HEARD as usize {
                 return Found::Number(cost);
             }
             return Found::Nothing;

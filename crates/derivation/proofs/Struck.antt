@@ -15,10 +15,10 @@ use Rattle.packing.specs.declared.Sym.{Sym}
 use Rattle.packing.specs.declared.Word as W
 use Rattle.packing.specs.declared.Rule as R
 use Rattle.packing.specs.declared.Rule.the-variants.{Pair, Word}
-use Rattle.packing.specs.Meaning.{symbolOf, Grammar, Utterance, Candidate, candidate, Edge, edge, edges, Reading}
+use Rattle.packing.specs.Meaning.{notHeard, symbolOf, Grammar, Utterance, Candidate, candidate, Edge, edge, edges, Reading}
 use Rattle.packing.specs.Valid.{ValidUtterance}
-use Rattle.derivation.specs.Derivation.{At, notHeard, Offered, Tree, Derivation, reading}
-use Rattle.derivation.specs.List.{_∈_}
+use Rattle.derivation.specs.Derivation.{At, Offered, Tree, Derivation, reading}
+use Rattle.derivation.specs.Rank.{_∈_}
 use Rattle.derivation.specs.Walk.{State, onward, astray, costOf, leafStep, ruleStep, step, run, finished, walkWeight}
 use Rattle.derivation.specs.Struck.{heard, struckOut}
 use Rattle.derivation.proofs.Lists.{none≢some, at-mem, map-at}

@@ -8,7 +8,7 @@ use Rattle.packing.specs.declared.Sym.{Sym}
 use Rattle.packing.specs.declared.Word as W
 use Rattle.packing.specs.declared.Rule as R
 use Rattle.packing.specs.declared.Rule.the-variants.{Pair, Word}
-use Rattle.packing.specs.Meaning.{symbolOf, Grammar, Utterance, Edge, edge, edges, Reading}
+use Rattle.packing.specs.Meaning.{notHeard, symbolOf, Grammar, Utterance, Edge, edge, edges, Reading}
 
 -- rules and edges are named by number: a leaf is a word rule and an edge; a node is a pair rule, the place where its parts
 -- meet, and its parts
@@ -19,10 +19,6 @@ pub data Tree : Type 0 where
 -- element n of l is there and is x
 abbrev pub At : {A : Type 0} → List A → ℕ → A → Type 0
 At l n x = getElem? l n ≡ some x
-
--- a recogniser writes this cost for a word that was not heard: document 02, N3. Such a word is not offered
-abbrev pub notHeard : ℕ
-notHeard = 65535
 
 -- edge e is there and its word was heard
 abbrev pub Offered : List Edge → ℕ → Edge → Type 0

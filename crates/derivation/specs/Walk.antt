@@ -1,6 +1,6 @@
 -- When rule numbers are the walk of a derivation, and its weight, found number by number: document 01, "Where each check
 -- stands", 34 and 35.
--- Stands on packing's Meaning, and on the cost of a word that was not heard. Nobody need believe this page: proofs/Walk says that it agrees with Derivation.
+-- Stands on packing's Meaning alone. Nobody need believe this page: proofs/Walk says that it agrees with Derivation.
 use mathlib.Core.Option.{Option, none, some}
 use mathlib.Core.List.{List, [], _∷_}
 use Prim.Native.Nat.{ℕ, suc, _+_}
@@ -11,8 +11,7 @@ use Rattle.packing.specs.declared.Sym.{Sym}
 use Rattle.packing.specs.declared.Word as W
 use Rattle.packing.specs.declared.Rule as R
 use Rattle.packing.specs.declared.Rule.the-variants.{Pair, Word}
-use Rattle.packing.specs.Meaning.{symbolOf, Utterance, Candidate, candidate}
-use Rattle.derivation.specs.Derivation.{notHeard}
+use Rattle.packing.specs.Meaning.{notHeard, symbolOf, Utterance, Candidate, candidate}
 
 -- how far a walk has come: the slots that are left, the heads of the parts that are to come, the next first, and the weight
 -- so far; or that it is none

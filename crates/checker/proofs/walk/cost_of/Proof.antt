@@ -9,8 +9,7 @@ use borrow.Author.Tests.{lt-ltb, le-ltb}
 use lib.Dec.{ltb}
 use Rattle.bits.specs.Bits.{pick}
 use Rattle.packing.specs.declared.Word as W
-use Rattle.packing.specs.Meaning.{word}
-use Rattle.derivation.specs.Derivation.{notHeard}
+use Rattle.packing.specs.Meaning.{notHeard, word}
 use Rattle.derivation.specs.Walk.{costOf}
 use Rattle.packing.specs.Flat.{candidatesOf}
 use Rattle.checker.proofs.Arrays.{cost-end, cost-here, cost-next}
