@@ -36,6 +36,9 @@ pub enum Step {
     Astray,
 }
 
+// The cost of a word that was not heard, in the width of an index. Such a word is not offered.
+const UNHEARD: usize = NOT_HEARD as usize;
+
 // The cost of a word among `count` candidates, from place `start` on, if it is offered.
 fn cost_of(slots: &[u32], start: usize, count: usize, word: Word) -> Found
     requires { ⌜ (start < 2 ^ 40) × (count < 2 ^ 32) ⌝ }
@@ -47,7 +50,7 @@ fn cost_of(slots: &[u32], start: usize, count: usize, word: Word) -> Found
         let at = start + NUMBERS_PER_CANDIDATE * k;
         if arrays::number_at(slots, at) == wanted {
             let cost = arrays::number_at(slots, at + 1);
-            if cost < NOT_HEARD as usize {
+            if cost < UNHEARD {
                 return Found::Number(cost);
             }
             return Found::Nothing;

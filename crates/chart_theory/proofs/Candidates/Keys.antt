@@ -14,7 +14,7 @@ use Rattle.packing.specs.declared.Sym.{Sym}
 use Rattle.packing.specs.declared.Word as W
 use Rattle.packing.specs.declared.Rule.{Rule}
 use Rattle.packing.specs.declared.Rule.the-variants.{Pair, Word}
-use Rattle.packing.specs.Meaning.{notHeard, word, Grammar, Edge, edge}
+use Rattle.packing.specs.Meaning.{word, Grammar, Edge, edge}
 use Rattle.packing.specs.Flat.{ruleAt}
 use Rattle.derivation.specs.Derivation.{At, Offered, Tree}
 use Rattle.derivation.proofs.Lists.{at-length}
@@ -24,7 +24,7 @@ use Rattle.chart_keys.specs.Keys.{back, backNumber, keyOf}
 use Rattle.chart_table.specs.declared.Cell.{Cell}
 use Rattle.chart_table.specs.declared.Layout.{Layout}
 use Rattle.chart_table.specs.Table.{leftPart, rightPart, cellNumber}
-use Rattle.chart_index.specs.Index.{wordBase, pairBase, edgeBase, WordWith, PairWith}
+use Rattle.chart_index.specs.Index.{wordBase, pairBase, edgeBase, WordWith, PairWith, Leaves}
 use Rattle.chart_candidates.specs.Candidates.{pairKey, wordLeaf, edgeLeaves, leaves, splitSeeds, ruleSeeds, seeds}
 use Rattle.chart_ranks.specs.declared.Found.{Found}
 use Rattle.chart_ranks.specs.Ranks.{foundAt, pairSuccessors, successors}
@@ -134,7 +134,7 @@ module _ {g : Grammar} {es : List Edge} {rules edges index : List ℕ} {d : Layo
 
     -- leaves
     abbrev Leaving : ℕ → Type 0
-    Leaving e = (e < length es) × (getD edges (4 * e) 0 ≡ c .from) × (getD edges (4 * e + 3) 0 < notHeard)
+    Leaving e = (e < length es) × Leaves edges e (c .from)
 
     abbrev Words : ℕ → Type 0
     Words r = (r < length (g .rules)) × WordWith (c .head) (ruleAt rules r)
@@ -147,7 +147,7 @@ module _ {g : Grammar} {es : List Edge} {rules edges index : List ℕ} {d : Layo
     leaf-sound : (e r key : ℕ) (rule : Rule) → Leaving e → getD edges (4 * e + 1) 0 ≡ c .to → At (g .rules) r rule
         → WordWith (c .head) rule → LeafKey edges e r rule key → Key 0 key
     leaf-sound e r key (Pair h B C w) leaving u p z l = absurd z
-    leaf-sound e r key (Word h x w) (le, f, heard) u p z (l, is) =
+    leaf-sound e r key (Word h x w) (le, (f, heard)) u p z (l, is) =
         let x-is : word (getD edges (4 * e + 2) 0) ≡ x = ap word (sym (eqb-true _ _ l)) in
         rw is (leaf-key r e (rw z at p) (rw (f, u, x-is) at (s .edge-at e le), heard))
 
@@ -157,7 +157,7 @@ module _ {g : Grammar} {es : List Edge} {rules edges index : List ℕ} {d : Layo
         let is = edge-is e (q .0) in
         let has-word : Words r = (at-length (g .rules) r p, rw (rule-is r p) refl) in (
           e,
-          (at-length es e (q .0), is .from, rw (is .costs) (q .1)),
+          (at-length es e (q .0), (is .from, rw (is .costs) (q .1))),
           (
             eq-eqb _ _ (is .upto),
             (r, has-word, rw (rule-is r p) (eq-eqb _ _ (sym (is .carries)), rw (is .costs) refl)),
