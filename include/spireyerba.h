@@ -50,8 +50,9 @@ extern "C" {
 #define SPIREYERBA_MAX_WORDS 200       /* W is 1 to 200                       */
 #define SPIREYERBA_MAX_RULES 256       /* R is 1 to 256                       */
 #define SPIREYERBA_MAX_SLOTS 24        /* n is 1 to 24                        */
-#define SPIREYERBA_MAX_CANDIDATES 7    /* words that a slot offers: 1 to 7    */
-#define SPIREYERBA_MAX_WEIGHT 65535    /* of a rule, and the cost of a word   */
+#define SPIREYERBA_MAX_CANDIDATES 7    /* of a slot: 1 to 7                   */
+#define SPIREYERBA_MAX_WEIGHT 65535    /* of a rule, and cost of a candidate  */
+#define SPIREYERBA_NOT_HEARD 65535     /* cost of a candidate: not offered    */
 
 /*
 ** SIZES. No accepted block or sheet is longer; an output of this length is
@@ -102,7 +103,8 @@ enum {
 **               weight, first symbol, second symbol; or 1 (word rule), head,
 **               weight, word, 0
 **   utterance   n, then for each slot its count, and word and cost of each
-**               candidate, words ascending
+**               candidate, words ascending; a cost of 65,535 (NOT_HEARD) says
+**               that the word was not heard, and is carried unchanged
 **
 ** A grammar block has the fields kind (4 bits, 1), S (6), W (8), R (9), then of
 ** each rule 0 or 1 (1 bit), head, weight (16), and two symbols or one word. An
@@ -171,7 +173,8 @@ enum {
 ** then the rule number of each of the 2n - 1 nodes of a derivation: a node, its
 ** left part, its right part. A rule number has as many bits as R - 1 needs, at
 ** least 1. A derivation has symbol 0 as its head and spans all slots; its
-** weight is the sum of its rules' weights and of the costs of its words.
+** weight is the sum of its rules' weights and of the costs of its words. It
+** uses only words that are offered: candidates of a cost below NOT_HEARD.
 **
 ** Answers 0 if the block is the reading of a derivation of this utterance under
 ** this grammar, with its true weight. Refuses with any of GRAMMAR_..., any of
@@ -233,8 +236,9 @@ static inline size_t spireyerba_work_length(uint32_t symbols, uint32_t slots, ui
 ** lesser right part.
 **
 ** Answers the number found, m, which is 0 if the grammar does not derive the
-** utterance. The first m * L bytes of out are the m readings, each a block of
-** the same length L = spireyerba_reading_length(n, R).
+** utterance. A candidate of cost NOT_HEARD is not offered and so in no reading;
+** if a slot has no other, m is 0. The first m * L bytes of out are the m
+** readings, each a block of the same length L = spireyerba_reading_length(n, R).
 **
 ** work is scratch memory of at least spireyerba_work_length(S, n, wanted)
 ** numbers, whatever it holds; after an answer all of it is zero, also what is

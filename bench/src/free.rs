@@ -77,6 +77,7 @@ struct Chart {
     pairs: Vec<Vec<PairRule>>,
     words: Vec<Vec<WordRule>>,
     parts: Vec<(usize, usize)>,
+    /// Of each slot, the cost of each word that it offers.
     costs: Vec<Vec<Option<u32>>>,
     /// The weight of each cell's first tree, side by side for the first pass.
     first: Vec<Option<u32>>,
@@ -111,7 +112,7 @@ impl Chart {
             }
         }
         for (costs, slot) in chart.costs.iter_mut().zip(&utterance.slots) {
-            for candidate in slot {
+            for candidate in slot.iter().filter(|candidate| candidate.is_offered()) {
                 costs[candidate.word as usize] = Some(candidate.cost);
             }
         }

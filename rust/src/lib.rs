@@ -1,8 +1,9 @@
 //! The least readings of a spoken utterance under a weighted grammar, cheapest first, none left out.
 //!
-//! A recogniser hears an utterance: slots, each with candidate words and their costs. An office has a weighted grammar in
-//! Chomsky normal form. A reading is a derivation of the utterance: which rule made each phrase, and so which word was said
-//! in each slot. Its weight is the sum of its rules' weights and its words' costs.
+//! A recogniser hears an utterance: slots, each with candidate words and their costs; a cost of 65,535 says that the word
+//! was not heard, and no reading uses it there. An office has a weighted grammar in Chomsky normal form. A reading is a
+//! derivation of the utterance: which rule made each phrase, and so which word was said in each slot. Its weight is the sum
+//! of its rules' weights and its words' costs.
 //!
 //! This crate calls the library that the repository proves, `target/staticlib/libspireyerba.a`. Whatever is searched,
 //! weighed or checked, the library does it: here are its functions for Rust, values in place of numbers, and a text form.

@@ -8,10 +8,13 @@ pub const MAX_WORDS: u32 = 200;
 pub const MAX_RULES: u32 = 256;
 /// An utterance has 1 to so many slots.
 pub const MAX_SLOTS: u32 = 24;
-/// A slot offers 1 to so many words.
+/// A slot has 1 to so many candidates.
 pub const MAX_CANDIDATES: u32 = 7;
-/// The greatest weight of a rule, and the greatest cost of a word.
+/// The greatest weight of a rule, and the greatest cost that a candidate can be given.
 pub const MAX_WEIGHT: u32 = 65_535;
+/// The cost that says that a candidate's word was not heard: the slot does not offer it
+/// ([`Candidate::is_offered`](crate::Candidate::is_offered)). As the weight of a rule the number is like any other.
+pub const NOT_HEARD: u32 = 65_535;
 /// A listing answers 1 to so many readings.
 pub const MAX_READINGS: u32 = 256;
 

@@ -99,8 +99,8 @@ pub fn grammar_to_sheet(block: &[u8], out: &mut [u32]) -> Result<usize, Refusal>
 /// Packs an utterance's sheet under a grammar.
 ///
 /// Takes the grammar's block and the sheet: n, then for each slot its count, and word and cost of each candidate, words
-/// ascending. Answers the bytes written to `out`, at most
-/// [`UTTERANCE_BLOCK_MAX`](crate::limits::UTTERANCE_BLOCK_MAX).
+/// ascending. The cost [`NOT_HEARD`](crate::limits::NOT_HEARD) is packed like any other. Answers the bytes written to
+/// `out`, at most [`UTTERANCE_BLOCK_MAX`](crate::limits::UTTERANCE_BLOCK_MAX).
 ///
 /// Refuses with 1 to 7 for the grammar; then, field by field, with [`UtteranceRange`](Refusal::UtteranceRange),
 /// [`UtteranceWord`](Refusal::UtteranceWord), [`UtteranceOrder`](Refusal::UtteranceOrder),
@@ -144,7 +144,8 @@ pub fn utterance_to_sheet(grammar: &[u8], block: &[u8], out: &mut [u32]) -> Resu
 /// Checks a reading of an utterance under a grammar.
 ///
 /// Takes the three blocks, and answers that the reading passes: it is the reading of a derivation, with its true weight. A
-/// derivation has symbol 0 as its head and spans all slots. Nothing is written.
+/// derivation has symbol 0 as its head, spans all slots and uses only words that are
+/// [offered](crate::Candidate::is_offered). Nothing is written.
 ///
 /// Refuses with 1 to 7 for the grammar and 11 to 16 for the utterance; then with [`ReadingEnd`](Refusal::ReadingEnd),
 /// [`ReadingKind`](Refusal::ReadingKind) or [`ReadingSlots`](Refusal::ReadingSlots); then, after all fields are read and in
@@ -187,7 +188,8 @@ pub fn specimen(grammar: &[u8], length: u32, out: &mut [u8]) -> Result<bool, Ref
 /// `work`, which may hold anything, of at least [`work_length`](crate::limits::work_length) numbers; and `out`, of at
 /// least `wanted` times L bytes, where L is [`reading_length`](crate::limits::reading_length). Answers m, the number of
 /// readings found and written one after another, L bytes each. If m is less than `wanted` there are no more; it is 0 if
-/// the grammar does not derive the utterance. All of `work` is zero afterwards, also beyond the length needed.
+/// the grammar does not derive the utterance. A candidate of cost [`NOT_HEARD`](crate::limits::NOT_HEARD) is not offered and
+/// so in no reading; if a slot has no other, m is 0. All of `work` is zero afterwards, also beyond the length needed.
 ///
 /// Where weights are equal the lower rule number comes first, then the tree with fewer slots in its left part, then the
 /// lesser left part by this same order, weight included, then the lesser right part.

@@ -2,7 +2,8 @@
 //!
 //! A grammar's text has a line `symbols` with the names of the symbols, the start first, a line `words` with the words,
 //! and then a line for each rule, `HEAD -> FIRST SECOND WEIGHT` or `HEAD -> WORD WEIGHT`. An utterance's text has a line
-//! for each slot with its candidates, `WORD:COST`, in any order. What follows a `#` is passed over, and so are empty lines.
+//! for each slot with its candidates, `WORD:COST`, in any order; a cost of 65535 says that the word was not heard. What
+//! follows a `#` is passed over, and so are empty lines.
 //!
 //! Only names and numbers are looked at here. What a block cannot hold, such as a 33rd symbol, is refused when it is packed.
 //!

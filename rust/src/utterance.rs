@@ -1,22 +1,39 @@
 //! Utterances as values.
 
-use crate::limits::{UTTERANCE_BLOCK_MAX, UTTERANCE_SHEET_MAX};
+use crate::limits::{NOT_HEARD, UTTERANCE_BLOCK_MAX, UTTERANCE_SHEET_MAX};
 use crate::services::{utterance_to_block, utterance_to_sheet};
 use crate::Refusal;
 
-/// A word that a slot offers.
+/// A word of a slot. The slot offers it if its cost is below [`NOT_HEARD`].
+///
+/// Recognisers write that cost for a word that was not heard. Such a candidate counts, must ascend and is carried unchanged
+/// like any other, but it is in no reading; if a slot has no other, the utterance has no reading.
+///
+/// ```
+/// use spireyerba::{limits::NOT_HEARD, Candidate};
+///
+/// assert!(Candidate { word: 0, cost: NOT_HEARD - 1 }.is_offered());
+/// assert!(!Candidate { word: 0, cost: NOT_HEARD }.is_offered());
+/// ```
 #[derive(Clone, Copy, Debug, PartialEq, Eq, Hash)]
 pub struct Candidate {
     /// The word's number.
     pub word: u32,
-    /// What taking it costs.
+    /// What taking it costs, or [`NOT_HEARD`].
     pub cost: u32,
+}
+
+impl Candidate {
+    /// Whether a reading can use it: the word was heard.
+    pub const fn is_offered(self) -> bool {
+        self.cost < NOT_HEARD
+    }
 }
 
 /// What was heard, as plain numbers. Nothing is checked until it is packed.
 #[derive(Clone, Debug, PartialEq, Eq, Hash)]
 pub struct Utterance {
-    /// The slots, numbered from 0, each with what it offers, words ascending.
+    /// The slots, numbered from 0, each with its candidates, words ascending.
     pub slots: Vec<Vec<Candidate>>,
 }
 

@@ -53,6 +53,7 @@ fn sizes() {
         ("MAX_SLOTS", MAX_SLOTS),
         ("MAX_CANDIDATES", MAX_CANDIDATES),
         ("MAX_WEIGHT", MAX_WEIGHT),
+        ("NOT_HEARD", NOT_HEARD),
         ("MAX_READINGS", MAX_READINGS),
     ];
     let lengths = [

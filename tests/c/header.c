@@ -16,6 +16,9 @@ static uint8_t block[SPIREYERBA_GRAMMAR_BLOCK_MAX];
 static uint32_t sheet[SPIREYERBA_GRAMMAR_SHEET_MAX];
 static const uint8_t reading[] = {0x31, 0x00, 0x00, 0x00, 0xd5, 0x80};
 static const uint8_t specimen[] = {0, 0, 0};
+/* One slot, whose word was not heard. */
+static const uint32_t silent_sheet[] = {1, 1, 0, SPIREYERBA_NOT_HEARD};
+static uint8_t silent_block[4];
 static uint32_t work[320];
 static int failures;
 
@@ -82,6 +85,14 @@ int main(void) {
     expect(answer == 5 && memcmp(block, reading, LENGTH(reading)) == 0 && block[5 * LENGTH(reading)] == 0xa5,
            "the listing finds five readings of U under G, the known one first");
     expect(work[0] == 0 && work[LENGTH(work) - 1] == 0, "the listing leaves its work table zero");
+
+    answer = spireyerba_utterance_to_block(g_block, LENGTH(g_block), silent_sheet, LENGTH(silent_sheet), silent_block,
+                                           LENGTH(silent_block));
+    expect(answer == (int32_t)LENGTH(silent_block), "an utterance of which nothing was heard packs as any other");
+    fill_outputs();
+    answer = spireyerba_listing(g_block, LENGTH(g_block), silent_block, LENGTH(silent_block), 8, work, LENGTH(work), block,
+                                LENGTH(block));
+    expect(answer == 0 && block[0] == 0xa5, "it has no reading");
 
     return failures != 0;
 }

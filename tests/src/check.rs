@@ -1,4 +1,4 @@
-//! The check of a reading (document 01, "Where each check stands").
+//! The check of a reading (document 01, "Where each check stands"; document 02, N3).
 
 use crate::{grammar, reading, utterance};
 use spireyerba::{Body, Grammar, Refusal, Utterance};
@@ -20,13 +20,14 @@ pub fn check(grammar: &[u8], utterance: &[u8], reading: &[u8]) -> Result<(), Ref
 
 /// The weight of the derivation whose walk the numbers are, if they are one's.
 pub fn weight_of_walk(grammar: &Grammar, utterance: &Utterance, walk: &[u32]) -> Option<u32> {
+    let utterance = &utterance::struck_out(utterance);
     let mut walker = Walker { grammar, utterance, walk, slot: 0 };
     let weight = walker.part(0)?;
     let whole = walker.walk.is_empty() && walker.slot == utterance.slots.len();
     whole.then_some(weight)
 }
 
-/// What is left of a walk, and the first slot that is not yet spanned.
+/// What is left of a walk over an utterance that is struck out, and the first slot that is not yet spanned.
 struct Walker<'a> {
     grammar: &'a Grammar,
     utterance: &'a Utterance,

@@ -1,4 +1,4 @@
-//! Derivations, their weight, their order, and all of them (document 01, "Grammars and derivations").
+//! Derivations, their weight, their order, and all of them (document 01, "Grammars and derivations"; document 02, N3).
 
 use crate::utterance;
 use spireyerba::{Body, Grammar, Reading, Utterance};
@@ -48,13 +48,14 @@ type Span = (u32, usize, usize);
 
 /// All derivations of an utterance, in the order; nothing if there are more than `most` trees to make on the way.
 pub fn ranked(grammar: &Grammar, utterance: &Utterance, most: usize) -> Option<Vec<Rc<Tree>>> {
+    let utterance = &utterance::struck_out(utterance);
     let mut forest = Forest { grammar, utterance, trees: HashMap::new(), left: most };
     let mut derivations = forest.trees((0, 0, utterance.slots.len()))?.to_vec();
     derivations.sort_by(|a, b| order(a, b));
     Some(derivations)
 }
 
-/// The trees made so far, by head and span.
+/// The trees made so far over an utterance that is struck out, by head and span.
 struct Forest<'a> {
     grammar: &'a Grammar,
     utterance: &'a Utterance,

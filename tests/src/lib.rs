@@ -1,6 +1,6 @@
-//! A second implementation of the services, written from document 01 (README.md) and not from the Rattle code, and what
-//! is needed to compare the proved library with it. Values, sizes and the names of the refusals are those of the crate
-//! `spireyerba`, through which the library is called.
+//! A second implementation of the services, written from documents 01 and 02 (docs/DECISIONS.md) and not from the Rattle
+//! code, and what is needed to compare the proved library with it. Values, sizes and the names of the refusals are those of
+//! the crate `spireyerba`, through which the library is called.
 //!
 //! | modules | hold |
 //! |---|---|

@@ -9,7 +9,7 @@ use std::collections::BinaryHeap;
 
 /// The readings of the `wanted` least derivations, in the order.
 pub fn least(grammar: &Grammar, utterance: &Utterance, wanted: usize) -> Vec<Reading> {
-    let chart = Chart::fill(grammar, utterance, wanted);
+    let chart = Chart::fill(grammar, &utterance::struck_out(utterance), wanted);
     let cell = chart.cell(0, 0, utterance.slots.len());
     let reading = |rank: usize| {
         let mut walk = Vec::new();
@@ -36,6 +36,7 @@ struct Chart<'a> {
 }
 
 impl<'a> Chart<'a> {
+    /// All cells, over an utterance that is struck out.
     fn fill(grammar: &'a Grammar, utterance: &Utterance, wanted: usize) -> Self {
         let slots = utterance.slots.len();
         let mut chart = Self { grammar, slots, cells: Vec::new() };

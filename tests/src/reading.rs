@@ -2,11 +2,27 @@
 
 use crate::bits::{BitReader, BitWriter};
 use crate::grammar::rule_width;
-use spireyerba::limits::nodes;
-use spireyerba::{Grammar, Reading, Refusal};
+use spireyerba::limits::{nodes, NOT_HEARD};
+use spireyerba::{Body, Candidate, Grammar, Reading, Refusal, Utterance};
 
 const KIND: u32 = 3;
 const WEIGHT_WIDTH: usize = 24;
+
+/// The word of each slot in a walk of rules of a grammar.
+pub fn words(grammar: &Grammar, walk: &[u32]) -> Vec<u32> {
+    let word = |&number: &u32| match grammar.rules[number as usize].body {
+        Body::Word(word) => Some(word),
+        Body::Pair(..) => None,
+    };
+    walk.iter().filter_map(word).collect()
+}
+
+/// How many words of a walk their slots have, but did not hear.
+pub fn count_not_heard(grammar: &Grammar, utterance: &Utterance, walk: &[u32]) -> usize {
+    let words = words(grammar, walk);
+    let pairs = utterance.slots.iter().zip(words);
+    pairs.filter(|&(slot, word)| slot.contains(&Candidate { word, cost: NOT_HEARD })).count()
+}
 
 /// Packs a reading. Nothing is checked: numbers out of range are cut to their width.
 pub fn pack(grammar: &Grammar, reading: &Reading) -> Vec<u8> {

@@ -1,4 +1,5 @@
-//! The blocks and sheets of utterances (document 01, "Grammars and derivations", "Packed blocks").
+//! The blocks and sheets of utterances (document 01, "Grammars and derivations", "Packed blocks"), and what they offer
+//! (document 02, N3).
 
 use crate::bits::{BitReader, BitWriter};
 use crate::grammar::word_width;
@@ -8,7 +9,15 @@ use spireyerba::{Candidate, Grammar, Refusal, Utterance};
 const KIND: u32 = 2;
 const COST_WIDTH: usize = 16;
 
-/// The cost of a word in a slot, if the slot exists and offers it.
+/// The utterance without the words that were not heard. A slot may be left with none, which no block can hold.
+///
+/// Listing, check and enumeration all strike out first and then go by document 01 alone.
+pub fn struck_out(utterance: &Utterance) -> Utterance {
+    let offered = |slot: &Vec<Candidate>| slot.iter().copied().filter(|candidate| candidate.is_offered()).collect();
+    Utterance { slots: utterance.slots.iter().map(offered).collect() }
+}
+
+/// The cost of a word in a slot of an utterance that is struck out, if the slot exists and offers it.
 pub fn cost(utterance: &Utterance, slot: usize, word: u32) -> Option<u32> {
     let candidate = utterance.slots.get(slot)?.iter().find(|candidate| candidate.word == word)?;
     Some(candidate.cost)

@@ -1,17 +1,19 @@
 //! The library's check beside the second implementation, on readings of real derivations, on damaged ones and on noise.
 
-use spireyerba::limits::{nodes, READING_BLOCK_MAX};
+use spireyerba::limits::{nodes, NOT_HEARD, READING_BLOCK_MAX};
 use spireyerba::Refusal::*;
 use spireyerba::{Grammar, Reading, Utterance};
 use spireyerba_tests::compare::check::compare;
 use spireyerba_tests::compare::{over_seeds, Tally};
 use spireyerba_tests::grammar::rule_width;
 use spireyerba_tests::nbest::least;
+use spireyerba_tests::reading::{count_not_heard, words};
 use spireyerba_tests::refusal::{GRAMMAR_BLOCK, UTTERANCE_BLOCK};
-use spireyerba_tests::seeded::damage::{blocks, some_grammar_blocks, some_utterance_blocks};
+use spireyerba_tests::seeded::damage::{blocks, some_grammar_blocks, some_utterance_blocks, surplus};
 use spireyerba_tests::seeded::parsable::{case, utterance_of, Shape};
 use spireyerba_tests::seeded::parsable::{AMBIGUOUS, GREATEST, LONG, MANY_SYMBOLS, SPARSE, TINY};
 use spireyerba_tests::seeded::rng::Rng;
+use spireyerba_tests::seeded::utterances::{heard_at, unheard};
 use spireyerba_tests::{grammar, reading, utterance};
 
 /// More bits than a reading has: each is turned.
@@ -68,6 +70,26 @@ fn early_and_late(rng: &mut Rng, grammar: &Grammar, utterance: &Utterance) -> Ve
     all
 }
 
+/// Readings of derivations but that they use words which were not heard: with the weight that has the costs of these in it,
+/// and with the weight that has not.
+fn of_words_not_heard(grammar: &Grammar, utterance: &Utterance) -> Vec<Reading> {
+    let mut all = Vec::new();
+    for reading in least(grammar, &heard_at(0, utterance), 3) {
+        let not_heard = count_not_heard(grammar, utterance, &reading.walk) as u32;
+        if not_heard > 0 {
+            all.push(Reading { weight: reading.weight + not_heard * NOT_HEARD, ..reading.clone() });
+            all.push(reading);
+        }
+    }
+    all
+}
+
+/// The utterance in which a word that the reading uses was not heard.
+fn without_a_word(rng: &mut Rng, grammar: &Grammar, utterance: &Utterance, reading: &Reading) -> Utterance {
+    let slot = rng.below(utterance.slots.len());
+    unheard(utterance, slot, words(grammar, &reading.walk)[slot])
+}
+
 #[test]
 fn readings_of_derivations_damaged_ones_and_noise() {
     let mut tally = Tally::default();
@@ -77,9 +99,10 @@ fn readings_of_derivations_damaged_ones_and_noise() {
         let (grammar_block, utterance_block) = (grammar::pack(&grammar), utterance::pack(&grammar, &utterance));
         let mut readings = early_and_late(rng, &grammar, &utterance);
         let mut inputs = Vec::new();
-        for reading in least(&grammar, &utterance, 3) {
-            inputs.extend(blocks(rng, &reading::pack(&grammar, &reading), EVERY_BIT));
-            readings.extend(altered(rng, &grammar, &reading));
+        let not_heard = of_words_not_heard(&grammar, &utterance);
+        for reading in least(&grammar, &utterance, 3).iter().chain(not_heard.first()) {
+            inputs.extend(blocks(rng, &reading::pack(&grammar, reading), EVERY_BIT));
+            readings.extend(altered(rng, &grammar, reading));
         }
         let other = utterance_of(rng, &grammar, shape);
         readings.extend(least(&grammar, &other, 5));
@@ -99,4 +122,29 @@ fn readings_of_derivations_damaged_ones_and_noise() {
     let row = [ReadingEnd, ReadingKind, ReadingSlots, ReadingWalk, ReadingWeight, ReadingFill];
     tally.demand(20_000, &[GRAMMAR_BLOCK.as_slice(), &UTTERANCE_BLOCK, &row].concat());
     assert!(tally.accepted() > 1_000, "{} readings passed", tally.accepted());
+}
+
+/// They would pass, or be refused for their weight or their fill, if the word were offered.
+#[test]
+fn readings_that_use_a_word_not_heard_are_no_walks() {
+    let mut tally = Tally::default();
+    over_seeds(10_000..12_000, |rng| {
+        let shape = rng.pick(&[&TINY, &AMBIGUOUS, &SPARSE]);
+        let (grammar, utterance) = case(rng, shape);
+        let mut inputs: Vec<(Utterance, Reading)> =
+            of_words_not_heard(&grammar, &utterance).into_iter().map(|reading| (utterance.clone(), reading)).collect();
+        for reading in least(&grammar, &utterance, 3) {
+            inputs.push((without_a_word(rng, &grammar, &utterance, &reading), reading));
+        }
+        let grammar_block = grammar::pack(&grammar);
+        for (utterance, reading) in inputs {
+            let (utterance, reading) = (utterance::pack(&grammar, &utterance), reading::pack(&grammar, &reading));
+            compare(rng, &mut tally, [&grammar_block, &utterance, &reading]);
+            for longer in surplus(rng, &reading) {
+                compare(rng, &mut tally, [&grammar_block, &utterance, &longer]);
+            }
+        }
+    });
+    tally.demand(10_000, &[ReadingWalk]);
+    assert_eq!(tally.accepted(), 0, "readings that passed");
 }

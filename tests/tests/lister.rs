@@ -1,6 +1,7 @@
 //! The lister as a program (document 01, "Checked examples"): over the examples, where a file is missing or too long, and
 //! where the table that it lends is short. `make` and `.ci/run` build it.
 
+use spireyerba::limits::NOT_HEARD;
 use spireyerba::{Body, Candidate, Grammar, Rule, Utterance};
 use std::fs;
 use std::path::{Path, PathBuf};
@@ -72,6 +73,24 @@ fn of_a_long_file_the_first_bytes_count() {
     let [late_g, late_u] = [&g, &u].map(|block| [[0; MOST_BYTES].as_slice(), block].concat());
     assert_eq!(printed("late_grammar", Some(&late_g), Some(&u)), "refused 2\n");
     assert_eq!(printed("late_utterance", Some(&g), Some(&late_u)), "refused 12\n");
+}
+
+/// 0 to word 0, weight 5, and 0 to word 1, weight 3; one slot of both words.
+fn printed_of_costs(name: &str, costs: [u32; 2]) -> String {
+    let rule = |word, weight| Rule { head: 0, weight, body: Body::Word(word) };
+    let grammar = Grammar { symbols: 1, words: 2, rules: vec![rule(0, 5), rule(1, 3)] };
+    let slot = [0, 1].map(|word| Candidate { word, cost: costs[word as usize] });
+    let grammar = grammar.to_block().expect("an accepted grammar");
+    let utterance = Utterance { slots: vec![slot.into()] }.to_block(&grammar).expect("an accepted utterance");
+    printed(name, Some(&grammar), Some(&utterance))
+}
+
+/// They are in no reading, and where nothing was heard there is none, which is no refusal (document 02, N3).
+#[test]
+fn words_that_were_not_heard() {
+    assert_eq!(printed_of_costs("one_heard", [0, NOT_HEARD]), "readings 1\n1 5 0\n");
+    assert_eq!(printed_of_costs("none_heard", [NOT_HEARD, NOT_HEARD]), "readings 0\n");
+    assert_eq!(printed_of_costs("both_heard", [0, NOT_HEARD - 1]), "readings 2\n1 5 0\n2 65537 1\n");
 }
 
 /// So many symbols of which only the start has a rule, for one word, and so many slots that offer it.

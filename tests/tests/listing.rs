@@ -28,16 +28,22 @@ fn lengths(grammar: &Grammar, utterance: &Utterance, wanted: u32) -> (usize, usi
     (work_length(grammar.symbols as usize, slots, wanted), wanted * reading_length(slots, grammar.rules.len()))
 }
 
-/// Lists that were empty, that ended early, and that were as long as was wanted.
+/// Lists that were empty, that ended early, and that were as long as was wanted; and those of utterances with a word that was
+/// not heard, and with a slot of only such words.
 #[derive(Debug, Default)]
 struct Lists {
     empty: usize,
     short: usize,
     full: usize,
+    not_heard: usize,
+    silent: usize,
 }
 
 impl Lists {
-    fn record(&mut self, found: usize, wanted: u32) {
+    fn record(&mut self, utterance: &Utterance, found: usize, wanted: u32) {
+        let struck_out = utterance::struck_out(utterance);
+        self.not_heard += usize::from(struck_out != *utterance);
+        self.silent += usize::from(struck_out.slots.contains(&Vec::new()));
         match found {
             0 => self.empty += 1,
             _ if found < wanted as usize => self.short += 1,
@@ -62,7 +68,7 @@ fn accepted_listings(seeds: Range<u64>, different: usize, shapes: &[&Shape], wan
             out_len: out + rng.pick(&[0, 0, 1, 50]),
         };
         let found = compare(rng, &mut tally, &call);
-        lists.record(found.expect("an accepted listing"), wanted);
+        lists.record(&utterance, found.expect("an accepted listing"), wanted);
     });
     tally.demand(different, &[]);
     lists
@@ -72,6 +78,7 @@ fn accepted_listings(seeds: Range<u64>, different: usize, shapes: &[&Shape], wan
 fn small_lists() {
     let lists = accepted_listings(0..8_000, 5_000, &[&TINY, &TINY, &AMBIGUOUS, &AMBIGUOUS, &SPARSE], wanted);
     assert!(lists.empty > 1_000 && lists.short > 1_000 && lists.full > 1_000, "{lists:?}");
+    assert!(lists.not_heard > 2_000 && lists.silent > 300, "{lists:?}");
 }
 
 #[test]

@@ -1,14 +1,16 @@
 //! The second implementation beside itself: each service's quick way beside the plain definition, on small cases.
 
-use spireyerba::limits::nodes;
-use spireyerba::{Candidate, Grammar, Utterance};
+use spireyerba::limits::{nodes, NOT_HEARD};
+use spireyerba::{Candidate, Grammar, Reading, Utterance};
 use spireyerba_tests::check::weight_of_walk;
 use spireyerba_tests::compare::over_seeds;
 use spireyerba_tests::derivation::{order, ranked};
 use spireyerba_tests::nbest::least;
+use spireyerba_tests::reading::count_not_heard;
 use spireyerba_tests::seeded::grammars::with_rules;
 use spireyerba_tests::seeded::parsable::{case, AMBIGUOUS, SPARSE, TINY};
 use spireyerba_tests::seeded::rng::Rng;
+use spireyerba_tests::seeded::utterances::heard_at;
 use spireyerba_tests::specimen::{derivable_lengths, derives};
 use std::cmp::Ordering;
 
@@ -32,6 +34,27 @@ fn the_n_best_are_the_first_of_all_derivations_sorted() {
         cut += usize::from(all.len() > wanted);
     });
     assert!(compared > 2_000 && cut > 500, "{compared} lists with a reading, {cut} cut");
+}
+
+/// Words that were not heard are struck out before anything is derived; here instead they are heard, and the derivations that
+/// use one are left out afterwards.
+#[test]
+fn the_derivations_are_those_over_all_words_without_those_that_use_one_not_heard() {
+    let (mut some, mut every) = (0, 0);
+    over_seeds(6_000..12_000, |rng| {
+        let shape = rng.pick(&[&TINY, &AMBIGUOUS, &SPARSE]);
+        let (grammar, utterance) = case(rng, shape);
+        let all_heard = heard_at(rng.pick(&[0, NOT_HEARD - 1]), &utterance);
+        let Some(all) = ranked(&grammar, &all_heard, 2_000) else { return };
+        let uses_one = |reading: &Reading| count_not_heard(&grammar, &utterance, &reading.walk) > 0;
+        let (out, expected): (Vec<_>, Vec<_>) = all.iter().map(|tree| tree.reading()).partition(uses_one);
+        let found = ranked(&grammar, &utterance, 2_000).expect("no more than over all words");
+        assert!(found.iter().map(|tree| tree.reading()).eq(expected.iter().cloned()), "{grammar:?} {utterance:?}");
+        assert_eq!(least(&grammar, &utterance, all.len().max(1)), expected, "{grammar:?} {utterance:?}");
+        some += usize::from(!out.is_empty() && !expected.is_empty());
+        every += usize::from(!out.is_empty() && expected.is_empty());
+    });
+    assert!(some > 300 && every > 150, "some were left out in {some} cases, every one in {every}");
 }
 
 #[test]

@@ -6,10 +6,12 @@ use Prim.Native.Nat.{ℕ, zero, suc, _+_, _-_, _*_, _≤_, _<_}
 use native.Mathlib.Numerals.{add-one}
 use native.Mathlib.Omega.{arith}
 use borrow.Author.Tests.{eq-eqb, ne-eqb}
+use lib.Dec.{ltb}
 use lib.ListN.{length, getD, set, length-set}
 use lib.Seq.{getD-set-same, getD-set-other}
+use Rattle.bits.specs.Bits.{pick}
 use Rattle.packing.specs.declared.Word as W
-use Rattle.packing.specs.Meaning.{symbolOf}
+use Rattle.packing.specs.Meaning.{notHeard, symbolOf}
 use Rattle.packing.specs.Flat.{candidatesOf}
 use Rattle.derivation.specs.Walk.{costOf}
 use Rattle.checker.specs.Run.{headsOf}
@@ -53,7 +55,9 @@ module _ (x : W.Word) (l : List ℕ) (start count k : ℕ) where
   cost-end h = let z : count - k ≡ 0 = omega arith in rw z
 
   module _ (h : k < count) where
-    pub cost-here : getD l (start + 2 * k) 0 ≡ x .0 → costOf x (candidatesOf l (count - k) (start + 2 * k)) ≡ some (getD l (start + 2 * k + 1) 0)
+    pub cost-here : getD l (start + 2 * k) 0 ≡ x .0
+        → costOf x (candidatesOf l (count - k) (start + 2 * k))
+        ≡ pick (ltb (getD l (start + 2 * k + 1) 0) notHeard) (some (getD l (start + 2 * k + 1) 0)) none
     unfolding costOf candidatesOf
     cost-here e = let z : count - k ≡ suc (count - (k + 1)) = omega arith in rw (z, eq-eqb _ _ e)
 

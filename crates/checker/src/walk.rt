@@ -3,6 +3,7 @@ use packing::Rule;
 use packing::Sym;
 use packing::Word;
 use packing::format::MAX_SLOTS;
+use packing::format::NOT_HEARD;
 use packing::format::NUMBERS_PER_CANDIDATE;
 ghost use mathlib.Core.Path.{_≡_};
 ghost use mathlib.Core.List.{List, _∷_};
@@ -35,7 +36,10 @@ pub enum Step {
     Astray,
 }
 
-// The cost of a word among `count` candidates, from place `start` on.
+// The cost of a word that was not heard, in the width of an index. Such a word is not offered.
+const UNHEARD: usize = NOT_HEARD as usize;
+
+// The cost of a word among `count` candidates, from place `start` on, if it is offered.
 fn cost_of(slots: &[u32], start: usize, count: usize, word: Word) -> Found
     requires { ⌜ (start < 2 ^ 40) × (count < 2 ^ 32) ⌝ }
     ensures { λ r. ⌜ (numberOf r ≡ costOf word (candidatesOf (now (slots .entry)) count start)) × Small r ⌝ }
@@ -45,7 +49,11 @@ fn cost_of(slots: &[u32], start: usize, count: usize, word: Word) -> Found
     while k < count {
         let at = start + NUMBERS_PER_CANDIDATE * k;
         if arrays::number_at(slots, at) == wanted {
-            return Found::Number(arrays::number_at(slots, at + 1));
+            let cost = arrays::number_at(slots, at + 1);
+            if cost < UNHEARD {
+                return Found::Number(cost);
+            }
+            return Found::Nothing;
         }
         k += 1;
     }

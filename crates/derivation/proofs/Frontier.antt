@@ -12,7 +12,7 @@ use Rattle.packing.specs.declared.Sym.{Sym}
 use Rattle.packing.specs.declared.Word as W
 use Rattle.packing.specs.declared.Rule.the-variants.{Pair, Word}
 use Rattle.packing.specs.Meaning.{Grammar, Edge, edge}
-use Rattle.derivation.specs.Derivation.{At, Tree, leaf, node, Derives, weight}
+use Rattle.derivation.specs.Derivation.{At, Offered, Tree, leaf, node, Derives, weight}
 use Rattle.derivation.specs.Order.{order, Before}
 use Rattle.derivation.specs.List.{ranked}
 use Rattle.derivation.proofs.Comparison.{compare-self, compare-lt, compare-below, ▸-le, ▸-first, ▸-second}
@@ -79,7 +79,7 @@ module _ (g : Grammar) (es : List Edge) where
 
     -- the frontier at place m, of N places: leaves, first with first, and both followers of each row before place m
     pub data Frontier (N m : ℕ) : Row → Type 0 where
-      a-leaf : {x : W.Word} {r e w c : ℕ} → At (g .rules) r (Word A x w) → At es e (edge i k x c)
+      a-leaf : {x : W.Word} {r e w c : ℕ} → At (g .rules) r (Word A x w) → Offered es e (edge i k x c)
           → Frontier N m (row (w + c) r 0 e 0)
       a-seed : {B C : Sym} {r w j : ℕ} {vl vr : Row} → At (g .rules) r (Pair A B C w) → i < j → j < k → RowAt g es B i j 0 vl
           → RowAt g es C j k 0 vr → Frontier N m (row (w + rowWeight vl + rowWeight vr) r j 0 0)

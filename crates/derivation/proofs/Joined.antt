@@ -59,32 +59,32 @@ below-distinct f (suc n) h k =
     (below-distinct (λ m. f (suc m)) n (λ m. h (suc m)) (λ m m′ z p q. omega (arith, k (suc m) (suc m′) z p q)))
     (λ z p q. let (m, b, q′) = below-out (λ m. f (suc m)) n q in omega (arith, k 0 (suc m) z p q′))
 
-when-out : {B : Type 0} (t : Bool) {l : List B} {b : B} → b ∈ keepIf t l → T t × b ∈ l
+pub keep-out : {B : Type 0} (t : Bool) {l : List B} {b : B} → b ∈ keepIf t l → T t × b ∈ l
 unfolding keepIf
-when-out true m = (tt, m)
-when-out false m = absurd (List·Memᴰ·not-nil m)
+keep-out true m = (tt, m)
+keep-out false m = absurd (List·Memᴰ·not-nil m)
 
-when-in : {B : Type 0} (t : Bool) {l : List B} {b : B} → T t → b ∈ l → b ∈ keepIf t l
+pub keep-in : {B : Type 0} (t : Bool) {l : List B} {b : B} → T t → b ∈ l → b ∈ keepIf t l
 unfolding keepIf
-when-in true h m = m
-when-in false h m = absurd h
+keep-in true h m = m
+keep-in false h m = absurd h
 
-when-distinct : {B : Type 0} (t : Bool) (l : List B) → Distinct l → Distinct (keepIf t l)
+pub keep-distinct : {B : Type 0} (t : Bool) (l : List B) → Distinct l → Distinct (keepIf t l)
 unfolding keepIf
-when-distinct true l d = d
-when-distinct false l d = tt
+keep-distinct true l d = d
+keep-distinct false l d = tt
 
 pub only-out : {B : Type 0} (m n : ℕ) {l : List B} {b : B} → b ∈ only m n l → (m ≡ n) × b ∈ l
 unfolding only
-only-out m n k = let r = when-out (eqb m n) k in (eqb→eq m n (r .0), r .1)
+only-out m n k = let r = keep-out (eqb m n) k in (eqb→eq m n (r .0), r .1)
 
 pub only-in : {B : Type 0} (n : ℕ) {l : List B} {b : B} → b ∈ l → b ∈ only n n l
 unfolding only
-only-in n k = when-in (eqb n n) (eqb-refl n) k
+only-in n k = keep-in (eqb n n) (eqb-refl n) k
 
 pub only-distinct : {B : Type 0} (m n : ℕ) (l : List B) → Distinct l → Distinct (only m n l)
 unfolding only
-only-distinct m n l d = when-distinct (eqb m n) l d
+only-distinct m n l d = keep-distinct (eqb m n) l d
 
 pub single : {B : Type 0} (x : B) → Distinct (x ∷ [])
 single x = ((λ m. List·Memᴰ·not-nil m), tt)

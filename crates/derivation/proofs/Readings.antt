@@ -29,7 +29,7 @@ module _ (g : Grammar) (es : List Edge) (apart : Apart es) where
       (by-word {x = x′} {r = r′} {e = e′} {c = c′} p′ q′) a b h =
       let hr : r ≡ r′ = cc in
       let hx : x′ ≡ x = cc in
-      let he : e ≡ e′ = apart e e′ i k l c c′ x q (rw hx at q′) in
+      let he : e ≡ e′ = apart e e′ i k l c c′ x (q .0) (rw hx at (q′ .0)) in
       record { tree = rw (hr, he); end = cc; rest = cc }
   walk-decides (by-word {r = r} p q) (by-pair {r = r′} p′ h₁ h₂ d₁ d₂) a b h =
       let hr : r ≡ r′ = cc in let z : _≡_ {A = ℕ} 0 1 = cc in absurd (omega arith)
@@ -61,13 +61,13 @@ walk-rules {g = g} (by-pair {r = r} {s = s} p h₁ h₂ d₁ d₂) m =
 
 -- a tree spans something, and over slots its nodes are counted by its span
 pub span : {g : Grammar} {es : List Edge} {A : Sym} {i k : ℕ} {t : Tree} → Short es → Derives g es A i k t → i < k
-span short (by-word {x = x} {e = e} {c = c} {i = i} {k = k} p q) = omega (arith, short e i k c x q)
+span short (by-word {x = x} {e = e} {c = c} {i = i} {k = k} p q) = omega (arith, short e i k c x (q .0))
 span short (by-pair p h₁ h₂ d₁ d₂) = omega arith
 
 module _ (g : Grammar) (es : List Edge) (short : Short es) where
   pub walk-length : {A : Sym} {i k : ℕ} {t : Tree} → Derives g es A i k t → suc (length (walk t)) ≡ 2 * (k - i)
   unfolding walk
-  walk-length (by-word {x = x} {e = e} {c = c} {i = i} {k = k} p q) = omega (arith, short e i k c x q)
+  walk-length (by-word {x = x} {e = e} {c = c} {i = i} {k = k} p q) = omega (arith, short e i k c x (q .0))
   walk-length (by-pair {i = i} {j = j} {k = k} {s = s} {t = t} p h₁ h₂ d₁ d₂) =
       omega (arith, walk-length d₁, walk-length d₂, length-append (walk s) (walk t))
 
@@ -76,6 +76,6 @@ module _ (g : Grammar) (es : List Edge) (short : Short es) where
     pub weight-bound : {A : Sym} {i k : ℕ} {t : Tree} → Derives g es A i k t → weight g es t + 65535 ≤ 196605 * (k - i)
     unfolding ruleWeight
     weight-bound (by-word {x = x} {r = r} {e = e} {c = c} {i = i} {k = k} p q) =
-        rw (leaf-weight g es r e p q) (omega (arith, short e i k c x q, all-at Light (g .rules) r light p, cheap e i k c x q))
+        rw (leaf-weight g es r e p q) (omega (arith, short e i k c x (q .0), all-at Light (g .rules) r light p, cheap e i k c x (q .0)))
     weight-bound (by-pair {r = r} {i = i} {j = j} {k = k} {s = s} {t = t} p h₁ h₂ d₁ d₂) =
         rw (node-weight g es r j s t p) (omega (arith, all-at Light (g .rules) r light p, weight-bound d₁, weight-bound d₂))

@@ -10,7 +10,7 @@ use Rattle.packing.specs.declared.Sym.{Sym}
 use Rattle.packing.specs.declared.Word as W
 use Rattle.packing.specs.declared.Rule.the-variants.{Pair, Word}
 use Rattle.packing.specs.Meaning.{Grammar, Edge, edge}
-use Rattle.derivation.specs.Derivation.{At, Tree, leaf, node, Derives, by-word, by-pair, ruleWeight, edgeCost, weight}
+use Rattle.derivation.specs.Derivation.{At, Offered, Tree, leaf, node, Derives, by-word, by-pair, ruleWeight, edgeCost, weight}
 use Rattle.derivation.specs.Order.{_▸_, order}
 use Rattle.derivation.specs.List.{ranked}
 use Rattle.derivation.proofs.Comparison.{compare-same, compare-lt, compare-gt, ▸-eq, ▸-cong, ▸-first, ▸-gt, ▸-between}
@@ -44,10 +44,10 @@ row-same (row w r j p q) (row w′ r′ j′ p′ q′) h =
     )
 
 module _ (g : Grammar) (es : List Edge) where
-  pub leaf-weight : {A : Sym} {x : W.Word} {i k w c : ℕ} (r e : ℕ) → At (g .rules) r (Word A x w) → At es e (edge i k x c)
+  pub leaf-weight : {A : Sym} {x : W.Word} {i k w c : ℕ} (r e : ℕ) → At (g .rules) r (Word A x w) → Offered es e (edge i k x c)
       → weight g es (leaf r e) ≡ w + c
   unfolding weight ruleWeight edgeCost
-  leaf-weight r e p q = rw (p, q)
+  leaf-weight r e p q = rw (p, q .0)
 
   pub node-weight : {A B C : Sym} {w : ℕ} (r j : ℕ) (s t : Tree) → At (g .rules) r (Pair A B C w)
       → weight g es (node r j s t) ≡ w + weight g es s + weight g es t
@@ -56,7 +56,7 @@ module _ (g : Grammar) (es : List Edge) where
 
   -- RowOf A i k v t: v is the row of the tree t in the cell
   pub data RowOf (A : Sym) (i k : ℕ) : Row → Tree → Type 0 where
-    leaf-row : {x : W.Word} {r e w c : ℕ} → At (g .rules) r (Word A x w) → At es e (edge i k x c)
+    leaf-row : {x : W.Word} {r e w c : ℕ} → At (g .rules) r (Word A x w) → Offered es e (edge i k x c)
         → RowOf A i k (row (w + c) r 0 e 0) (leaf r e)
     node-row : {B C : Sym} {r w j p q : ℕ} {s t : Tree} → At (g .rules) r (Pair A B C w) → i < j → j < k
         → At (ranked g es B i j) p s → At (ranked g es C j k) q t

@@ -33,7 +33,7 @@ slot-in i (candidate y d ∷ slot) {c} {x} m =
     (λ n. List·Memᴰ·tail (slot-in i slot n)) (List·Memᴰ·cases-cons m)
 
 -- an edge of slots that are numbered from i on is a candidate of one of them
-pub record Offered (i : ℕ) (u : Utterance) (from upto : ℕ) (x : W.Word) (c : ℕ) : Type 0 where
+pub record InSlot (i : ℕ) (u : Utterance) (from upto : ℕ) (x : W.Word) (c : ℕ) : Type 0 where
   pub number : ℕ
   pub slot : List Candidate
   pub start : from ≡ i + number
@@ -42,18 +42,18 @@ pub record Offered (i : ℕ) (u : Utterance) (from upto : ℕ) (x : W.Word) (c :
   pub offers : candidate x c ∈ slot
 
 pub edges-out : (i : ℕ) (u : Utterance) {from upto c : ℕ} {x : W.Word} → edge from upto x c ∈ edgesFrom i u
-    → Offered i u from upto x c
+    → InSlot i u from upto x c
 unfolding edgesFrom
 edges-out i [] m = absurd (List·Memᴰ·not-nil m)
 edges-out i (slot ∷ u) {from} {upto} {c} {x} m =
     ⊎-elim here (λ n. later (edges-out (suc i) u n)) (List·Memᴰ·append-cases (slotEdges i slot) m)
   where
-    here : edge from upto x c ∈ slotEdges i slot → Offered i (slot ∷ u) from upto x c
+    here : edge from upto x c ∈ slotEdges i slot → InSlot i (slot ∷ u) from upto x c
     here n =
         let (p, q, o) = slot-out i slot n in
         record { number = 0; slot = slot; start = omega arith; end = omega arith; there = refl; offers = o }
 
-    later : Offered (suc i) u from upto x c → Offered i (slot ∷ u) from upto x c
+    later : InSlot (suc i) u from upto x c → InSlot i (slot ∷ u) from upto x c
     later o =
         let s : from ≡ i + suc (o .number) = omega (arith, o .start) in
         record { number = suc (o .number); slot = o .slot; start = s; end = o .end; there = o .there; offers = o .offers }

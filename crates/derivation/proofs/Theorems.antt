@@ -24,7 +24,7 @@ use Rattle.derivation.proofs.Sorted.{number-one}
 use Rattle.derivation.proofs.Trees.{trees-derive, trees-once}
 use Rattle.derivation.proofs.Cell.{derives-place}
 use Rattle.derivation.proofs.Ranks.{number-all, number-before, place-number}
-use Rattle.derivation.proofs.Ranges.{valid-rules, valid-light, valid-ascending, valid-cheap, valid-slots}
+use Rattle.derivation.proofs.Ranges.{Ascending, valid-rules, valid-light, valid-ascending, valid-cheap, valid-slots}
 use Rattle.derivation.proofs.Slots.{edges-apart, edges-short, edges-cheap}
 use Rattle.derivation.proofs.Walk.{walk-weight}
 use Rattle.derivation.proofs.Readings.{walk-one, walk-rules, walk-length, weight-bound}
@@ -131,15 +131,15 @@ module _ (g : Grammar) (u : Utterance) where
 
   -- 34 and 35, "the 2n−1 numbers are not the walk of a derivation", "weight not its own": a reading passes exactly if it is
   -- some derivation's
-  pub reading-passes : ValidUtterance (g .words) u → (v : Reading)
+  pub reading-found : Ascending u → (v : Reading)
       → ((v .slots ≡ length u) × (walkWeight (g .rules) u (v .walk) ≡ some (v .weight)))
       ↔ ((t : Tree) × Derivation g u t × (v ≡ reading g u t))
   unfolding reading
-  reading-passes ok v = (to, from)
+  reading-found ascending v = (to, from)
     where
       runs : (walkWeight (g .rules) u (v .walk) ≡ some (v .weight))
           ↔ ((t : Tree) × Derivation g u t × (walk t ≡ v .walk) × (weight g (edges u) t ≡ v .weight))
-      runs = walk-weight g u (valid-ascending (g .words) u ok) (v .walk) (v .weight)
+      runs = walk-weight g u ascending (v .walk) (v .weight)
 
       to : (v .slots ≡ length u) × (walkWeight (g .rules) u (v .walk) ≡ some (v .weight))
           → (t : Tree) × Derivation g u t × (v ≡ reading g u t)
@@ -153,3 +153,8 @@ module _ (g : Grammar) (u : Utterance) where
           let numbers = sym (ap (λ (r : Reading). r .walk) e) in
           let w = sym (ap (λ (r : Reading). r .weight) e) in
           (ap (λ (r : Reading). r .slots) e, runs .1 (t, d, numbers, w))
+
+  pub reading-passes : ValidUtterance (g .words) u → (v : Reading)
+      → ((v .slots ≡ length u) × (walkWeight (g .rules) u (v .walk) ≡ some (v .weight)))
+      ↔ ((t : Tree) × Derivation g u t × (v ≡ reading g u t))
+  reading-passes ok = reading-found (valid-ascending (g .words) u ok)

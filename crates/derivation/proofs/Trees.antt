@@ -6,16 +6,17 @@ use mathlib.Core.List.{List, _++_, List·Memᴰ·head, List·Memᴰ·not-nil, Me
 use Prim.Native.Nat.{ℕ, zero, suc, _+_, _-_, _≤_, _<_}
 use native.Mathlib.Nat.{le-refl}
 use native.Mathlib.Omega.{arith}
+use lib.Dec.{ltb, ltb→lt, lt→ltb}
 use Rattle.packing.specs.declared.Sym.{Sym}
 use Rattle.packing.specs.declared.Word as W
 use Rattle.packing.specs.declared.Rule as R
 use Rattle.packing.specs.declared.Rule.the-variants.{Pair, Word}
-use Rattle.packing.specs.Meaning.{symbolOf, word, Grammar, Edge, edge}
-use Rattle.derivation.specs.Derivation.{At, Tree, leaf, node, Derives, by-word, by-pair}
+use Rattle.packing.specs.Meaning.{notHeard, symbolOf, word, Grammar, Edge, edge}
+use Rattle.derivation.specs.Derivation.{At, Offered, Tree, leaf, node, Derives, by-word, by-pair}
 use Rattle.derivation.specs.Rank.{_∈_, Distinct}
 use Rattle.derivation.specs.List.{leafOf, leavesOfRule, combined, nodesOfRule, treesWithin, trees}
 use Rattle.derivation.proofs.Lists.{distinct-append}
-use Rattle.derivation.proofs.Joined.{each-out, each-in, each-distinct, below-out, below-in, below-distinct, only-out, only-in, only-distinct, single, joined-out, joined-in, joined-distinct}
+use Rattle.derivation.proofs.Joined.{each-out, each-in, each-distinct, below-out, below-in, below-distinct, only-out, only-in, only-distinct, keep-out, keep-in, keep-distinct, single, joined-out, joined-in, joined-distinct}
 
 -- a symbol and a word are their numbers
 pub same-sym : (A B : Sym) → A .0 ≡ B .0 → A ≡ B
@@ -35,9 +36,10 @@ module _ (g : Grammar) (es : List Edge) where
       let m₂ = only-out f i (m₁ .1) in
       let m₃ = only-out h k (m₂ .1) in
       let m₄ = only-out (x .0) (y .0) (m₃ .1) in
-      let z : t ≡ leaf r e = List·Memᴰ·eq-of-singleton (m₄ .1) in
+      let m₅ = keep-out (ltb c notHeard) (m₄ .1) in
+      let z : t ≡ leaf r e = List·Memᴰ·eq-of-singleton (m₅ .1) in
       let q′ : At es e (edge f h x c) = rw (same-word x y (m₄ .0)) q in
-      rw (z, ← same-sym H A (m₁ .0), ← m₂ .0, ← m₃ .0) (by-word p q′)
+      rw (z, ← same-sym H A (m₁ .0), ← m₂ .0, ← m₃ .0) (by-word p (q′, ltb→lt c notHeard (m₅ .0)))
 
   leaves-sound : (A : Sym) (i k r : ℕ) (rule : R.Rule) {t : Tree} → At (g .rules) r rule → t ∈ leavesOfRule es A i k r rule
       → Derives g es A i k t
@@ -67,15 +69,15 @@ module _ (g : Grammar) (es : List Edge) where
 
 -- what derives is enumerated
 module _ (g : Grammar) (es : List Edge) where
-  leaf-complete : {A : Sym} {x : W.Word} {i k w c : ℕ} (r e n : ℕ) → At (g .rules) r (Word A x w) → At es e (edge i k x c)
+  leaf-complete : {A : Sym} {x : W.Word} {i k w c : ℕ} (r e n : ℕ) → At (g .rules) r (Word A x w) → Offered es e (edge i k x c)
       → leaf r e ∈ treesWithin g es n A i k
   unfolding treesWithin leavesOfRule leafOf
   leaf-complete {A} {x} {i} {k} {w} {c} r e n p q = go n
     where
       here : leaf r e ∈ leavesOfRule es A i k r (Word A x w)
       here =
-          each-in (leafOf A i k r (Word A x w)) es e q (only-in (A .0)
-          (only-in i (only-in k (only-in (x .0) (List·Memᴰ·head refl)))))
+          each-in (leafOf A i k r (Word A x w)) es e (q .0) (only-in (A .0)
+          (only-in i (only-in k (only-in (x .0) (keep-in (ltb c notHeard) (lt→ltb c notHeard (q .1)) (List·Memᴰ·head refl))))))
 
       go : (n : ℕ) → leaf r e ∈ treesWithin g es n A i k
       go zero = each-in (leavesOfRule es A i k) (g .rules) r p here
@@ -115,14 +117,15 @@ leafOf-is : (A : Sym) (i k r : ℕ) (rule : R.Rule) (e : ℕ) (a : Edge) {z : Tr
 unfolding leafOf
 leafOf-is A i k r (Pair H B C w) e a m = absurd (List·Memᴰ·not-nil m)
 leafOf-is A i k r (Word H x w) e (edge f h y c) m =
-    List·Memᴰ·eq-of-singleton (only-out (x .0) (y .0) (only-out h k (only-out f i (only-out (H .0) (A .0) m .1) .1) .1) .1)
+    List·Memᴰ·eq-of-singleton
+    (keep-out (ltb c notHeard) (only-out (x .0) (y .0) (only-out h k (only-out f i (only-out (H .0) (A .0) m .1) .1) .1) .1) .1)
 
 leafOf-distinct : (A : Sym) (i k r : ℕ) (rule : R.Rule) (e : ℕ) (a : Edge) → Distinct (leafOf A i k r rule e a)
 unfolding leafOf
 leafOf-distinct A i k r (Pair H B C w) e a = tt
 leafOf-distinct A i k r (Word H x w) e (edge f h y c) =
     only-distinct (H .0) (A .0) _ (only-distinct f i _
-    (only-distinct h k _ (only-distinct (x .0) (y .0) _ (single (leaf r e)))))
+    (only-distinct h k _ (only-distinct (x .0) (y .0) _ (keep-distinct (ltb c notHeard) _ (single (leaf r e))))))
 
 module _ (es : List Edge) (A : Sym) (i k r : ℕ) (rule : R.Rule) where
   leaves-is : {z : Tree} → z ∈ leavesOfRule es A i k r rule → (e : ℕ) × (z ≡ leaf r e)

@@ -18,7 +18,7 @@ use Rattle.packing.specs.declared.Sym.{Sym}
 use Rattle.packing.specs.declared.Word as W
 use Rattle.packing.specs.declared.Rule as R
 use Rattle.packing.specs.declared.Rule.the-variants.{Pair, Word}
-use Rattle.packing.specs.Meaning.{symbolOf, Grammar, Utterance, Candidate, candidate, edges}
+use Rattle.packing.specs.Meaning.{notHeard, symbolOf, Grammar, Utterance, Candidate, candidate, edges}
 use Rattle.derivation.specs.Derivation.{At, Tree, node, Derives, by-word, by-pair, weight, walk, Derivation}
 use Rattle.derivation.specs.Rank.{_∈_}
 use Rattle.derivation.specs.Walk.{State, onward, astray, costOf, leafStep, ruleStep, step, run, finished, walkWeight}
@@ -30,33 +30,37 @@ use Rattle.derivation.proofs.Slots.{ascending-least, edges-in, edge-slo
 use Rattle.derivation.proofs.Trees.{same-sym, same-word}
 
 -- a cost that is found is offered, and where words ascend one that is offered is found
-cost-out : (x : W.Word) (slot : List Candidate) {c : ℕ} → costOf x slot ≡ some c → candidate x c ∈ slot
+cost-out : (x : W.Word) (slot : List Candidate) {c : ℕ} → costOf x slot ≡ some c → candidate x c ∈ slot × (c < notHeard)
 unfolding costOf
 cost-out x [] e = absurd (none≢some e)
-cost-out x (candidate y d ∷ slot) {c} e = go (eqb (y .0) (x .0)) refl (cost-out x slot) e
+cost-out x (candidate y d ∷ slot) {c} e = go (eqb (y .0) (x .0)) refl (ltb d notHeard) refl (cost-out x slot) e
   where
-    go : (t : Bool) → eqb (y .0) (x .0) ≡ t → (costOf x slot ≡ some c → candidate x c ∈ slot)
-        → pick t (some d) (costOf x slot) ≡ some c → candidate x c ∈ (candidate y d ∷ slot)
-    go true h more f =
+    go : (t : Bool) → eqb (y .0) (x .0) ≡ t → (b : Bool) → ltb d notHeard ≡ b
+        → (costOf x slot ≡ some c → candidate x c ∈ slot × (c < notHeard))
+        → pick t (pick b (some d) none) (costOf x slot) ≡ some c → candidate x c ∈ (candidate y d ∷ slot) × (c < notHeard)
+    go true h true l more f =
         let p : x ≡ y = sym (same-word y x (eqb-true (y .0) (x .0) h)) in
+        let r : d ≡ c = cc in
         let q : candidate x c ≡ candidate y d = cc in
-        List·Memᴰ·head q
-    go false h more f = List·Memᴰ·tail (more f)
+        (List·Memᴰ·head q, omega (arith, ltb-true d notHeard l))
+    go true h false l more f = absurd (none≢some f)
+    go false h b l more f = let r = more f in (List·Memᴰ·tail (r .0), r .1)
 
-cost-in : (b : ℕ) (x : W.Word) (slot : List Candidate) {c : ℕ} → AscendingFrom b slot → candidate x c ∈ slot
+cost-in : (b : ℕ) (x : W.Word) (slot : List Candidate) {c : ℕ} → AscendingFrom b slot → candidate x c ∈ slot → c < notHeard
     → costOf x slot ≡ some c
 unfolding costOf
-cost-in b x [] a m = absurd (List·Memᴰ·not-nil m)
-cost-in b x (candidate y d ∷ slot) {c} (h, a) m = ⊎-elim here (later (cost-in (suc (y .0)) x slot a)) (List·Memᴰ·cases-cons m)
+cost-in b x [] a m o = absurd (List·Memᴰ·not-nil m)
+cost-in b x (candidate y d ∷ slot) {c} (h, a) m o =
+    ⊎-elim here (later (λ n. cost-in (suc (y .0)) x slot a n o)) (List·Memᴰ·cases-cons m)
   where
-    here : candidate x c ≡ candidate y d → pick (eqb (y .0) (x .0)) (some d) (costOf x slot) ≡ some c
+    here : candidate x c ≡ candidate y d → pick (eqb (y .0) (x .0)) (pick (ltb d notHeard) (some d) none) (costOf x slot) ≡ some c
     here e =
         let p : y ≡ x = cc in
         let q : d ≡ c = cc in
-        rw (eq-eqb (y .0) (x .0) (ap (λ (z : W.Word). z .0) p), q)
+        rw (eq-eqb (y .0) (x .0) (ap (λ (z : W.Word). z .0) p), q, lt-ltb c notHeard o)
 
     later : (candidate x c ∈ slot → costOf x slot ≡ some c) → candidate x c ∈ slot
-        → pick (eqb (y .0) (x .0)) (some d) (costOf x slot) ≡ some c
+        → pick (eqb (y .0) (x .0)) (pick (ltb d notHeard) (some d) none) (costOf x slot) ≡ some c
     later more n = rw (ne-eqb (y .0) (x .0) (λ e. omega (arith, ascending-least (suc (y .0)) slot a n))) (more n)
 
 some-is : {m n : ℕ} → some m ≡ some n → m ≡ n
@@ -88,7 +92,7 @@ module _ (g : Grammar) where
       paired : {B C : Sym} {v : ℕ} → At (g .rules) r (Pair A B C v) → suc (length heads) < length slots
           → Stepped (onward slots (B ∷ C ∷ heads) (w + v))
       worded : {x : W.Word} {v c : ℕ} {slot : List Candidate} {more : Utterance} → At (g .rules) r (Word A x v)
-          → slots ≡ slot ∷ more → candidate x c ∈ slot → Stepped (onward more heads (w + v + c))
+          → slots ≡ slot ∷ more → candidate x c ∈ slot × (c < notHeard) → Stepped (onward more heads (w + v + c))
 
     pair-stepped : (H B C : Sym) (v : ℕ) → At (g .rules) r (Pair H B C v)
         → Stepped (ruleStep slots A heads w (some (Pair H B C v)))
@@ -145,14 +149,14 @@ module _ (g : Grammar) (u : Utterance) where
       rw (n, m) at whole
 
   cover-word : {A : Sym} {x : W.Word} {heads : List Sym} {i v c w : ℕ} {numbers : List ℕ} {slot : List Candidate} (r : ℕ)
-      → At (g .rules) r (Word A x v) → At u i slot → candidate x c ∈ slot → Covers heads (suc i) numbers w
+      → At (g .rules) r (Word A x v) → At u i slot → candidate x c ∈ slot × (c < notHeard) → Covers heads (suc i) numbers w
       → Covers (A ∷ heads) i (r ∷ numbers) (v + c + w)
   unfolding walk
   cover-word {i = i} {v} {c} {w} r p h m rest =
       let z : 0 + i ≡ i = omega arith in
-      let (e, q) = mem-at (rw z at (edges-in 0 u i h m)) in
-      let whole = also (by-word p q) rest in
-      rw (leaf-weight g (edges u) r e p q) at whole
+      let (e, q) = mem-at (rw z at (edges-in 0 u i h (m .0))) in
+      let whole = also (by-word p (q, m .1)) rest in
+      rw (leaf-weight g (edges u) r e p (q, m .1)) at whole
 
   -- what the run accepts is covered
   abbrev Sound : List ℕ → Type 0
@@ -205,8 +209,8 @@ module _ (g : Grammar) (u : Utterance) where
         ≡ run (g .rules) (onward (drop k u) heads (w + weight g (edges u) t)) numbers
     unfolding walk run
     complete (by-word {x = x} {r = r} {e = e} {w = v} {c = c} {i = i} {k = k} p q) heads w numbers b =
-        let (slot, there, offers, end) = edge-slot u e q in
-        let cost = cost-in 0 x slot (all-at (AscendingFrom 0) u i ascending there) offers in
+        let (slot, there, offers, end) = edge-slot u e (q .0) in
+        let cost = cost-in 0 x slot (all-at (AscendingFrom 0) u i ascending there) offers (q .1) in
         let sum : w + (v + c) ≡ w + v + c = omega arith in
         let leaves = leaf-weight g (edges u) r e p q in
         rw (drop-cons-at u i there, word-step slot (drop (suc i) u) heads w r p cost, leaves, end, sum)

@@ -8,7 +8,7 @@ use Rattle.packing.specs.declared.Sym.{Sym}
 use Rattle.packing.specs.declared.Word as W
 use Rattle.packing.specs.declared.Rule as R
 use Rattle.packing.specs.declared.Rule.the-variants.{Pair, Word}
-use Rattle.packing.specs.Meaning.{symbolOf, Grammar, Utterance, Edge, edge, edges, Reading}
+use Rattle.packing.specs.Meaning.{notHeard, symbolOf, Grammar, Utterance, Edge, edge, edges, Reading}
 
 -- rules and edges are named by number: a leaf is a word rule and an edge; a node is a pair rule, the place where its parts
 -- meet, and its parts
@@ -20,9 +20,13 @@ pub data Tree : Type 0 where
 abbrev pub At : {A : Type 0} → List A → ℕ → A → Type 0
 At l n x = getElem? l n ≡ some x
 
+-- edge e is there and its word was heard
+abbrev pub Offered : List Edge → ℕ → Edge → Type 0
+Offered es e (edge i k x c) = At es e (edge i k x c) × (c < notHeard)
+
 -- Derives g es A i k t: t is a tree with head A over the span from place i to place k
 pub data Derives (g : Grammar) (es : List Edge) : Sym → ℕ → ℕ → Tree → Type 0 where
-  by-word : {A : Sym} {x : W.Word} {r e w c i k : ℕ} → At (g .rules) r (Word A x w) → At es e (edge i k x c)
+  by-word : {A : Sym} {x : W.Word} {r e w c i k : ℕ} → At (g .rules) r (Word A x w) → Offered es e (edge i k x c)
       → Derives g es A i k (leaf r e)
   by-pair : {A B C : Sym} {r w i j k : ℕ} {s t : Tree} → At (g .rules) r (Pair A B C w) → i < j → j < k → Derives g es B i j s
       → Derives g es C j k t → Derives g es A i k (node r j s t)

@@ -3,3 +3,4 @@ pub mod Order
 pub mod Rank
 pub mod List
 pub mod Walk
+pub mod Struck

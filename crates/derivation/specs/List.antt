@@ -5,11 +5,11 @@ use mathlib.Core.Bool.{Bool, true, false}
 use mathlib.Core.List.{List, [], _∷_, _++_, map}
 use Prim.Native.Nat.{ℕ, zero, suc, _+_, _-_, Ordering, Ordering·lt, Ordering·eq, Ordering·gt}
 use lib.ListN.{length, take}
-use lib.Dec.{eqb}
+use lib.Dec.{eqb, ltb}
 use Rattle.packing.specs.declared.Sym.{Sym}
 use Rattle.packing.specs.declared.Rule as R
 use Rattle.packing.specs.declared.Rule.the-variants.{Pair, Word}
-use Rattle.packing.specs.Meaning.{symbolOf, Grammar, Utterance, Edge, edge, edges, Reading}
+use Rattle.packing.specs.Meaning.{notHeard, symbolOf, Grammar, Utterance, Edge, edge, edges, Reading}
 use Rattle.derivation.specs.Derivation.{Tree, leaf, node, weight, reading}
 use Rattle.derivation.specs.Order.{_▸_, order}
 
@@ -34,10 +34,10 @@ only m n l = keepIf (eqb m n) l
 
 -- the leaf of a rule and an edge, if it has head A and spans i to k
 unfoldable pub leafOf : Sym → ℕ → ℕ → ℕ → R.Rule → ℕ → Edge → List Tree
-unfolding only
+unfolding only keepIf
 leafOf A i k r (Pair H B C w) e a = []
 leafOf A i k r (Word H x w) e (edge from upto y c) =
-    only (H .0) (A .0) (only from i (only upto k (only (x .0) (y .0) (leaf r e ∷ []))))
+    only (H .0) (A .0) (only from i (only upto k (only (x .0) (y .0) (keepIf (ltb c notHeard) (leaf r e ∷ [])))))
 
 unfoldable pub leavesOfRule : List Edge → Sym → ℕ → ℕ → ℕ → R.Rule → List Tree
 unfolding each leafOf

@@ -11,7 +11,7 @@ use Rattle.packing.specs.declared.Sym.{Sym}
 use Rattle.packing.specs.declared.Word as W
 use Rattle.packing.specs.declared.Rule as R
 use Rattle.packing.specs.declared.Rule.the-variants.{Pair, Word}
-use Rattle.packing.specs.Meaning.{symbolOf, Utterance, Candidate, candidate}
+use Rattle.packing.specs.Meaning.{notHeard, symbolOf, Utterance, Candidate, candidate}
 
 -- how far a walk has come: the slots that are left, the heads of the parts that are to come, the next first, and the weight
 -- so far; or that it is none
@@ -22,7 +22,7 @@ pub data State : Type 0 where
 -- the cost of a word in a slot that offers it
 unfoldable pub costOf : W.Word → List Candidate → Option ℕ
 costOf x [] = none
-costOf x (candidate y c ∷ slot) = pick (eqb (y .0) (x .0)) (some c) (costOf x slot)
+costOf x (candidate y c ∷ slot) = pick (eqb (y .0) (x .0)) (pick (ltb c notHeard) (some c) none) (costOf x slot)
 
 unfoldable pub leafStep : Utterance → List Sym → ℕ → Option ℕ → State
 leafStep slots heads w none = astray

@@ -26,6 +26,10 @@ pub data Candidate : Type 0 where
 abbrev pub Utterance : Type 0
 Utterance = List (List Candidate)
 
+-- a recogniser writes this cost for a word that was not heard: document 02, N3. Such a word is not offered
+abbrev pub notHeard : ℕ
+notHeard = 65535
+
 -- from a place to a later one, by a word with its cost
 pub data Edge : Type 0 where
   edge : (from upto : ℕ) (w : W.Word) (cost : ℕ) → Edge

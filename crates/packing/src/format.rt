@@ -16,6 +16,8 @@ pub const MAX_CANDIDATES: usize = 7; // of a slot
 
 pub const MAX_WEIGHT: u32 = 65535; // of a rule, and a word's cost
 
+pub const NOT_HEARD: u32 = MAX_WEIGHT; // the cost of a word that was not heard, and so is not offered
+
 pub const MAX_READING_WEIGHT: u32 = 16777215; // that its field has room for
 
 pub const MAX_RULE_NUMBER: u32 = MAX_RULES as u32 - 1; // of a reading

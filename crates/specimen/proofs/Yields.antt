@@ -57,7 +57,7 @@ module _ (g : Grammar) where
   yields-derives (one {x = x} r w h) us vs =
       let e = edge-at 0 us x vs in
       let n : length us + 1 ≡ suc (length us) = omega arith in
-      (omega arith, (leaf r (length us), rw n (by-word {e = length us} {w = w} {c = 0} {i = length us} {k = suc (length us)} h (rw zero-add at e))))
+      (omega arith, (leaf r (length us), rw n (by-word {e = length us} {w = w} {c = 0} {i = length us} {k = suc (length us)} h (rw zero-add at e, omega arith))))
   yields-derives (two {us = bs} {vs = cs} r w h l m) us vs =
       let (p, (s, d)) = yields-derives l us (cs ++ vs) in
       let (q, (t, f)) = yields-derives m (us ++ bs) vs in
@@ -72,7 +72,7 @@ module _ (g : Grammar) where
   -- and a derivation over a part of a string: what stands before, the part, and what stands behind
   pub derives-yields : (ws : List ℕ) {A : Sym} {i k : ℕ} {t : Tree} → Derives g (edges (plain ws)) A i k t → (i < k) × (k ≤ length ws) × Yields g A (take (k - i) (drop i ws))
   derives-yields ws (by-word {x = x} {r} {e} {w} {c} {i} {k} h q) =
-      let (p₁, p₂, p₃) = edge-is 0 ws e i k x c q in
+      let (p₁, p₂, p₃) = edge-is 0 ws e i k x c (q .0) in
       let n : i ≡ e = omega arith in
       let m : k - i ≡ 1 = omega arith in
       let l = at-length ws e p₃ in

@@ -2,6 +2,7 @@
 
 use super::raw;
 use super::rng::{Noise, Rng};
+use super::utterances::unheard;
 use crate::{grammar, utterance};
 use spireyerba::{Grammar, Utterance};
 
@@ -37,8 +38,8 @@ pub fn flips(rng: &mut Rng, block: &[u8], most: usize) -> Vec<Vec<u8>> {
 
 /// The sheet with one number replaced by another at the end of some range, or near the one it replaces.
 pub fn replaced(rng: &mut Rng, sheet: &[u32], at: usize) -> Vec<u32> {
-    const ENDS: [u32; 20] =
-        [0, 1, 2, 3, 4, 7, 8, 24, 25, 31, 32, 33, 199, 200, 201, 256, 257, 65_535, 65_536, u32::MAX];
+    const ENDS: [u32; 21] =
+        [0, 1, 2, 3, 4, 7, 8, 24, 25, 31, 32, 33, 199, 200, 201, 256, 257, 65_534, 65_535, 65_536, u32::MAX];
     let mut damaged = sheet.to_vec();
     let before = damaged[at];
     damaged[at] = match rng.below(4) {
@@ -93,6 +94,9 @@ pub fn some_grammar_blocks(rng: &mut Rng, grammar: &Grammar, count: usize) -> Ve
 /// Some damaged blocks of an utterance, of each kind of damage.
 pub fn some_utterance_blocks(rng: &mut Rng, grammar: &Grammar, utterance: &Utterance, count: usize) -> Vec<Vec<u8>> {
     let mut some = some_blocks(rng, &utterance::pack(grammar, utterance), count);
+    let slot = rng.below(utterance.slots.len());
+    let word = rng.pick(&utterance.slots[slot]).word;
+    some.push(utterance::pack(grammar, &unheard(utterance, slot, word)));
     some.push(raw::utterance_block(rng, grammar.words));
     some
 }

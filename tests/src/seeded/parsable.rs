@@ -1,8 +1,8 @@
 //! Seeded grammars with utterances that they are likely to derive, in the shapes that matter to a chart.
 
-use super::grammars::{with_rules, Weights};
+use super::grammars::with_rules;
 use super::rng::Rng;
-use super::utterances::slot;
+use super::utterances::{slot, Costs};
 use crate::grammar::words_of_rules;
 use spireyerba::{Grammar, Utterance};
 use std::ops::RangeInclusive;
@@ -46,7 +46,7 @@ pub const GREATEST: Shape = Shape {
     candidates: 7..=7,
 };
 
-/// A grammar, and an utterance whose slots offer mostly words that some rule has.
+/// A grammar, and an utterance whose slots have mostly words that some rule has.
 pub fn case(rng: &mut Rng, shape: &Shape) -> (Grammar, Utterance) {
     let mut draw = |range: &RangeInclusive<u32>| rng.within(range.clone());
     let (symbols, words) = (draw(&shape.symbols), draw(&shape.words));
@@ -58,13 +58,13 @@ pub fn case(rng: &mut Rng, shape: &Shape) -> (Grammar, Utterance) {
 
 /// Another utterance for a grammar.
 pub fn utterance_of(rng: &mut Rng, grammar: &Grammar, shape: &Shape) -> Utterance {
-    let mut offered: Vec<u32> = words_of_rules(grammar).collect();
-    offered.push(rng.within(0..=grammar.words - 1));
-    let costs = Weights::any(rng);
+    let mut known: Vec<u32> = words_of_rules(grammar).collect();
+    known.push(rng.within(0..=grammar.words - 1));
+    let costs = Costs::any(rng);
     let slots = rng.within(shape.slots.clone());
     let slots = (0..slots).map(|_| {
         let candidates = rng.within(shape.candidates.clone());
-        slot(rng, &offered, candidates as usize, costs)
+        slot(rng, &known, candidates as usize, costs)
     });
     Utterance { slots: slots.collect() }
 }

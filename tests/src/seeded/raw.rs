@@ -2,7 +2,7 @@
 
 use super::rng::Rng;
 use crate::bits::BitWriter;
-use spireyerba::limits::width;
+use spireyerba::limits::{width, MAX_WEIGHT};
 
 /// Mostly `number`, at times anything of `bits` bits.
 fn mostly(rng: &mut Rng, number: u32, bits: usize) -> u32 {
@@ -19,6 +19,16 @@ fn around(rng: &mut Rng, limit: u32) -> u32 {
         0 => limit,
         1 => limit + rng.within(0..=70_000),
         _ => rng.within(0..=limit - 1),
+    }
+}
+
+/// A weight or a cost: often the greatest, which as a cost says that the word was not heard, or the one before it; at times
+/// past the greatest, of which a block takes the low bits.
+fn weight(rng: &mut Rng) -> u32 {
+    if rng.once_in(3) {
+        rng.pick(&[MAX_WEIGHT - 1, MAX_WEIGHT])
+    } else {
+        around(rng, MAX_WEIGHT + 1)
     }
 }
 
@@ -42,7 +52,7 @@ pub fn grammar_block(rng: &mut Rng) -> Vec<u8> {
         let is_word = rng.within(0..=1);
         writer.field(1, is_word);
         writer.field(width(symbols - 1), around(rng, symbols));
-        writer.field(16, rng.within(0..=65_535));
+        writer.field(16, weight(rng));
         if is_word == 1 {
             writer.field(width(words - 1), around(rng, words));
         } else {
@@ -68,7 +78,7 @@ pub fn utterance_block(rng: &mut Rng, words: u32) -> Vec<u8> {
         writer.field(3, mostly(rng, count, 3));
         for _ in 0..count {
             writer.field(width(words - 1), around(rng, words));
-            writer.field(16, rng.within(0..=65_535));
+            writer.field(16, weight(rng));
         }
     }
     if rng.once_in(2) {
@@ -83,7 +93,7 @@ pub fn grammar_sheet(rng: &mut Rng) -> Vec<u32> {
     let mut sheet = vec![mostly(rng, symbols, 6), mostly(rng, words, 8), mostly(rng, rules, 9)];
     for _ in 0..mostly(rng, rules, 3) {
         let kind = around(rng, 2);
-        sheet.extend([kind, around(rng, symbols), around(rng, 65_536)]);
+        sheet.extend([kind, around(rng, symbols), weight(rng)]);
         if kind == 1 {
             sheet.extend([around(rng, words), mostly(rng, 0, 4)]);
         } else {
@@ -101,7 +111,7 @@ pub fn utterance_sheet(rng: &mut Rng, words: u32) -> Vec<u32> {
         let count = rng.within(1..=3);
         sheet.push(mostly(rng, count, 4));
         for _ in 0..mostly(rng, count, 3) {
-            sheet.extend([around(rng, words), around(rng, 65_536)]);
+            sheet.extend([around(rng, words), weight(rng)]);
         }
     }
     sheet

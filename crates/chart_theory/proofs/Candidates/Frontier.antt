@@ -166,7 +166,7 @@ module _ {g : Grammar} {es : List Edge} {rules edges index : List ℕ} {d : Layo
     frontier-fits (a-leaf {r = r} {e = e} p q) = record {
       rule = omega (arith, at-length (g .rules) r p, s .few-rules);
       split = omega arith;
-      left = omega (arith, at-length es e q, s .few-edges);
+      left = omega (arith, at-length es e (q .0), s .few-edges);
       right = omega arith;
     }
     frontier-fits (a-seed {r = r} p h₁ h₂ l m) = record {

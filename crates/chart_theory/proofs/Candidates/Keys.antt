@@ -16,7 +16,7 @@ use Rattle.packing.specs.declared.Rule.{Rule}
 use Rattle.packing.specs.declared.Rule.the-variants.{Pair, Word}
 use Rattle.packing.specs.Meaning.{word, Grammar, Edge, edge}
 use Rattle.packing.specs.Flat.{ruleAt}
-use Rattle.derivation.specs.Derivation.{At, Tree}
+use Rattle.derivation.specs.Derivation.{At, Offered, Tree}
 use Rattle.derivation.proofs.Lists.{at-length}
 use Rattle.derivation.proofs.Rows.{Row, row, leaf-row, node-row}
 use Rattle.chart_keys.specs.declared.BackPointer.{BackPointer}
@@ -24,7 +24,7 @@ use Rattle.chart_keys.specs.Keys.{back, backNumber, keyOf}
 use Rattle.chart_table.specs.declared.Cell.{Cell}
 use Rattle.chart_table.specs.declared.Layout.{Layout}
 use Rattle.chart_table.specs.Table.{leftPart, rightPart, cellNumber}
-use Rattle.chart_index.specs.Index.{wordBase, pairBase, edgeBase, WordWith, PairWith}
+use Rattle.chart_index.specs.Index.{wordBase, pairBase, edgeBase, WordWith, PairWith, Leaves}
 use Rattle.chart_candidates.specs.Candidates.{pairKey, wordLeaf, edgeLeaves, leaves, splitSeeds, ruleSeeds, seeds}
 use Rattle.chart_ranks.specs.declared.Found.{Found}
 use Rattle.chart_ranks.specs.Ranks.{foundAt, pairSuccessors, successors}
@@ -53,7 +53,7 @@ module _ (g : Grammar) (es : List Edge) (c : Cell) where
 
   module _ (d : Layout) (t : List ℕ) where
     pub data Candidate : (o key : ℕ) → Type 0 where
-      leaf-key : {x : W.Word} {w cost : ℕ} (r e : ℕ) → At (g .rules) r (Word (c .head) x w) → At es e (edge (c .from) (c .to) x cost)
+      leaf-key : {x : W.Word} {w cost : ℕ} (r e : ℕ) → At (g .rules) r (Word (c .head) x w) → Offered es e (edge (c .from) (c .to) x cost)
           → Candidate 0 (keyOf (w + cost + 1) (backNumber (back r 0 e 0)))
       pair-key : {B C : Sym} {r w j o p q : ℕ} → Splits g c B C r w j → Reached r j o p q
           → Candidate o (joinedKey t d c B C w (back r j p q))
@@ -134,7 +134,7 @@ module _ {g : Grammar} {es : List Edge} {rules edges index : List ℕ} {d : Layo
 
     -- leaves
     abbrev Leaving : ℕ → Type 0
-    Leaving e = (e < length es) × (getD edges (4 * e) 0 ≡ c .from)
+    Leaving e = (e < length es) × Leaves edges e (c .from)
 
     abbrev Words : ℕ → Type 0
     Words r = (r < length (g .rules)) × WordWith (c .head) (ruleAt rules r)
@@ -144,20 +144,20 @@ module _ {g : Grammar} {es : List Edge} {rules edges index : List ℕ} {d : Layo
         Among Leaving (λ e key.
         (eqb (getD edges (4 * e + 1) 0) (c .to) ≡ true) × Among Words (λ r. LeafKey edges e r (ruleAt rules r)) key)
 
-    leaf-sound : (e r key : ℕ) (rule : Rule) → e < length es → getD edges (4 * e) 0 ≡ c .from → getD edges (4 * e + 1) 0 ≡ c .to
-        → At (g .rules) r rule → WordWith (c .head) rule → LeafKey edges e r rule key → Key 0 key
-    leaf-sound e r key (Pair h B C w) le f u p z l = absurd z
-    leaf-sound e r key (Word h x w) le f u p z (l, is) =
+    leaf-sound : (e r key : ℕ) (rule : Rule) → Leaving e → getD edges (4 * e + 1) 0 ≡ c .to → At (g .rules) r rule
+        → WordWith (c .head) rule → LeafKey edges e r rule key → Key 0 key
+    leaf-sound e r key (Pair h B C w) leaving u p z l = absurd z
+    leaf-sound e r key (Word h x w) (le, (f, heard)) u p z (l, is) =
         let x-is : word (getD edges (4 * e + 2) 0) ≡ x = ap word (sym (eqb-true _ _ l)) in
-        rw is (leaf-key r e (rw z at p) (rw (f, u, x-is) at (s .edge-at e le)))
+        rw is (leaf-key r e (rw z at p) (rw (f, u, x-is) at (s .edge-at e le), heard))
 
     leaf-complete : (r e : ℕ) {x : W.Word} {w cost : ℕ} → At (g .rules) r (Word (c .head) x w)
-        → At es e (edge (c .from) (c .to) x cost) → Leaf (keyOf (w + cost + 1) (backNumber (back r 0 e 0)))
+        → Offered es e (edge (c .from) (c .to) x cost) → Leaf (keyOf (w + cost + 1) (backNumber (back r 0 e 0)))
     leaf-complete r e p q =
-        let is = edge-is e q in
+        let is = edge-is e (q .0) in
         let has-word : Words r = (at-length (g .rules) r p, rw (rule-is r p) refl) in (
           e,
-          (at-length es e q, is .from),
+          (at-length es e (q .0), (is .from, rw (is .costs) (q .1))),
           (
             eq-eqb _ _ (is .upto),
             (r, has-word, rw (rule-is r p) (eq-eqb _ _ (sym (is .carries)), rw (is .costs) refl)),
@@ -185,8 +185,8 @@ module _ {g : Grammar} {es : List Edge} {rules edges index : List ℕ} {d : Layo
     initial-sound key =
         ⊎-elim
         (λ l.
-        let (e, (le, f), (u, (r, (lr, z), m))) = l in
-        leaf-sound e r key (ruleAt rules r) le f (eqb-true _ _ u) (s .rule-at r lr) z m)
+        let (e, leaving, (u, (r, (lr, z), m))) = l in
+        leaf-sound e r key (ruleAt rules r) leaving (eqb-true _ _ u) (s .rule-at r lr) z m)
         (λ l. let (r, (lr, z), m) = l in seed-sound r key (ruleAt rules r) (s .rule-at r lr) z m)
 
     initial-complete : (key : ℕ) → Key 0 key → Leaf key ⊎ Seed key

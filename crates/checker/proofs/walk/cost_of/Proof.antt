@@ -1,12 +1,15 @@
 -- What is left of the candidates after k turns costs the word what all of them do.
 use mathlib.Core.Path.{_≡_, sym, ap, _∙_}
-use mathlib.Core.Option.{some}
-use Prim.Native.Nat.{_+_, _-_, _*_, _≤_}
+use mathlib.Core.Option.{Option, none, some}
+use Prim.Native.Nat.{ℕ, _+_, _-_, _*_, _≤_}
 use native.Mathlib.Nat.{sub-zero, add-zero}
 use native.Mathlib.Omega.{arith}
 use borrow.Author.Needs.{needs}
+use borrow.Author.Tests.{lt-ltb, le-ltb}
+use lib.Dec.{ltb}
+use Rattle.bits.specs.Bits.{pick}
 use Rattle.packing.specs.declared.Word as W
-use Rattle.packing.specs.Meaning.{word}
+use Rattle.packing.specs.Meaning.{notHeard, word}
 use Rattle.derivation.specs.Walk.{costOf}
 use Rattle.packing.specs.Flat.{candidatesOf}
 use Rattle.checker.proofs.Arrays.{cost-end, cost-here, cost-next}
@@ -42,8 +45,13 @@ add-number-at c = omega arith
 number-at-requires-2 : tie.Need-number-at-requires-2 Inv-loop μ-loop
 number-at-requires-2 c κs = search needs
 
-returns : tie.Need-returns Inv-loop μ-loop
-returns c =
+-- the word is there, and what it costs decides
+listed : (c : tie.After-number-at2 Inv-loop μ-loop) (o : Option ℕ)
+    → pick (ltb (c .number-at2 .result) notHeard) (some (c .number-at2 .result)) none ≡ o
+    → let at-wide = c .before .before .before .before .before in
+    let a = at-wide .before .before .args in
+    o ≡ costOf (a .word) (candidatesOf (a .slots .now) (a .count) (a .start))
+listed c o e =
     let at-test = c .before .before .before in
     let at-loop = at-test .before in
     let at-wide = at-loop .before in
@@ -53,7 +61,13 @@ returns c =
     let same : x ≡ a .word = ap word (at-wide .wide .ensures .0) in
     let is = sym (c .before .before .number-at .ensures .0) ∙ c .before .if1 .taken in
     let here = cost-here x (a .slots .now) (a .start) (a .count) (l .k) (at-test .loop-test .taken) is in
-    rw (← same) (ap some (c .number-at2 .ensures .0) ∙ sym here ∙ l .inv .1, c .number-at2 .ensures .1)
+    rw (← same) (sym e ∙ rw (c .number-at2 .ensures .0) (sym here ∙ l .inv .1))
+
+returns : tie.Need-returns Inv-loop μ-loop
+returns c = (listed (c .before) _ (rw (lt-ltb _ _ (c .if2 .taken))), c .before .number-at2 .ensures .1)
+
+returns-2 : tie.Need-returns-2 Inv-loop μ-loop
+returns-2 c = (listed (c .before) _ (rw (le-ltb _ _ (c .if2 .left))), tt)
 
 add-k : tie.Need-add-k Inv-loop μ-loop
 add-k c = omega arith
@@ -73,8 +87,8 @@ loop-again c =
     (λ e. c .if1 .left (c .before .number-at .ensures .0 ∙ e)) in
     (omega arith, next ∙ l .inv .1)
 
-returns-2 : tie.Need-returns-2 Inv-loop μ-loop
-returns-2 c =
+returns-3 : tie.Need-returns-3 Inv-loop μ-loop
+returns-3 c =
     let at-loop = c .before in
     let at-wide = at-loop .before in
     let a = at-wide .before .before .args in
@@ -98,7 +112,8 @@ cost-of-spec =
     add-number-at
     number-at-requires-2
     returns
+    returns-2
     add-k
     loop-less
     loop-again
-    returns-2)
+    returns-3)
