@@ -3,7 +3,8 @@ use mathlib.Core.Path.{refl}
 use mathlib.Core.List.{[], _∷_}
 use native.Mathlib.Omega.{arith}
 use Rattle.packing.specs.Meaning.{symbolOf, slotEdges, edgesFrom}
-use Rattle.packing.specs.Grammar.{ruleFrom, anyAlike, rulesFrom, grammarFrom, grammarBlock, rulesEntries, grammarEntries, blockOfGrammar}
+use Rattle.packing.specs.Alike.{anyLike, unlikeFrom}
+use Rattle.packing.specs.Grammar.{ruleFrom, grammarFrom, grammarBlock, rulesEntries, grammarEntries, blockOfGrammar}
 use Rattle.packing.specs.Utterance.{candidatesFrom, slotFrom, slotsFrom, utteranceFrom, utteranceBlock, candidatesEntries, slotsEntries, utteranceEntries, blockOfUtterance}
 use Rattle.packing.specs.Reading.{walkFrom, readingFrom, walkEntries, readingEntries, blockOfReading, readingLength}
 use Rattle.bits.specs.Bits.{num, bitsOf, pack, ended}
@@ -21,7 +22,7 @@ use Rattle.proved_cases.proofs.Strings.{only-word, no-pair}
 use Rattle.proved_cases.specs.Table.{Holds, AllHold, specimen, P-cases, G, one-rule}
 
 pub cases-hold : AllHold P-cases
-unfolding slotEdges edgesFrom num bitsOf pack ended widthOf widthFrom bitsOfAll inRange fieldAt ruleFrom anyAlike rulesFrom grammarFrom grammarBlock rulesEntries grammarEntries blockOfGrammar candidatesFrom slotFrom slotsFrom utteranceFrom utteranceBlock candidatesEntries slotsEntries utteranceEntries blockOfUtterance walkFrom readingFrom walkEntries readingEntries blockOfReading weight walk trees listing tableSize readingLength tooHeavy listed list joined withWalk derivationOf check asked
+unfolding slotEdges edgesFrom num bitsOf pack ended widthOf widthFrom bitsOfAll inRange fieldAt ruleFrom anyLike unlikeFrom grammarFrom grammarBlock rulesEntries grammarEntries blockOfGrammar candidatesFrom slotFrom slotsFrom utteranceFrom utteranceBlock candidatesEntries slotsEntries utteranceEntries blockOfUtterance walkFrom readingFrom walkEntries readingEntries blockOfReading weight walk trees listing tableSize readingLength tooHeavy listed list joined withWalk derivationOf check asked
 cases-hold = (refl, (refl, (refl, ((refl, λ out. refl), (refl, (refl, (refl, (refl, (refl, (refl, (refl, (refl, (zeros, (nothing, tt))))))))))))))
   where
     leaf-0 : Yields G (symbolOf 0) (0 ∷ [])
