@@ -14,8 +14,8 @@ use Rattle.packing.specs.Valid.{ValidGrammar, ValidGraph, ValidHeard}
 use Rattle.derivation.specs.Derivation as D
 use Rattle.derivation.specs.Derivation.{At, Tree, leaf, Derives, weight, walk, reading}
 use Rattle.derivation.specs.Order.{order, Before}
-use Rattle.derivation.specs.List as L
-use Rattle.derivation.specs.List.{Number}
+use Rattle.derivation.specs.Rank as L
+use Rattle.derivation.specs.Rank.{Number}
 use Rattle.derivation.specs.Heard.{Derivation, pathLength, trace, ownBlock, outputLength, packed, Rank}
 use Rattle.derivation.specs.HeardList.{derivations, leastDerivations}
 use Rattle.derivation.proofs.Comparison.{Lawful, lt≢eq, turn-gt}

@@ -9,7 +9,7 @@ use Rattle.packing.specs.Reading.{blockOfReading, readingLength}
 use Rattle.packing.specs.GraphReading.{blockOfGraphReading, graphReadingLength, padded}
 use Rattle.derivation.specs.Derivation.{Tree, leaf, node, Derives, weight, reading}
 use Rattle.derivation.specs.Order.{Before}
-use Rattle.derivation.specs.List.{Number}
+use Rattle.derivation.specs.Rank.{Number}
 
 -- "A leaf spans an edge and a derivation spans a path from place 0 to P−1": of slots, all of them. Its head is 0
 abbrev pub Derivation : Grammar → Heard → Tree → Type 0

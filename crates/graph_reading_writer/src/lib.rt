@@ -25,7 +25,7 @@ pub fn graph_reading_length(n: usize, rules: usize) -> usize
     requires { do ⌜ (1 ≤ n) × (n ≤ (← ⟦MAX_PATH_EDGES⟧)) × (1 ≤ rules) × (rules ≤ (← ⟦MAX_RULES⟧)) ⌝ }
     ensures { λ r. ⌜ r ≡ graphReadingLength n rules ⌝ }
 {
-    let width = bits::width_of(rules - 1);
+    let width = bits::width_below(rules);
     (GRAPH_READING_HEAD + (2 * n - 1) * width + EDGE_NUMBER_WIDTH * n + 7) / 8
 }
 
@@ -67,7 +67,7 @@ fn write_trace(out: &mut [u8], rules: &[u32], count: usize, trace: &[u32], n: us
           × (34 + widths (flds (traceEntries count (nodesIn (now rules) (take (2 * n) (now trace))))) ≤ 8 * length (now out)) ⌝ }
     ensures { λ _. ⌜ now (out .exit) ≡ puts (now (out .entry)) 34 (flds (traceEntries count (nodesIn (now (rules .entry)) (take (2 * n) (now (trace .entry)))))) ⌝ }
 {
-    let width = bits::width_of(count - 1);
+    let width = bits::width_below(count);
     let mut at = GRAPH_READING_HEAD;
     let mut i: usize = 0;
     while i < n {
