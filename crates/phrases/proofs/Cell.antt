@@ -65,7 +65,7 @@ module _ {O : Type 0} (Is : Property → O → Type 0)
   module _ (g : Grammar) (v : ValidGrammar g) (rule : ℕ → Rule) (stored : Stored g rule)
       (addSplit : Sym → Sym → ℕ → O → O) (addWord : ℕ → O → O) (A : Sym) (m : ℕ)
       (splits : (B C : Sym) (j : ℕ) → B .0 < g .symbols → C .0 < g .symbols → 0 < j → j < m
-          → Adds Is (Joined (Of g B j) (Of g C (m - j))) (addSplit B C j))
+      → Adds Is (Joined (Of g B j) (Of g C (m - j))) (addSplit B C j))
       (words : (x : ℕ) → x < g .words → m ≡ 1 → Adds Is (λ t. t ≡ x ∷ []) (addWord x)) where
     -- what a rule makes of words and of derived parts
     abbrev By : Rule → Property

@@ -72,14 +72,19 @@ module _ {K : Type 0} {W most : ℕ} {keeping : Keeping K} {Codes : Code K} (law
       → Adds (Held (i + j)) (Joined P Q) (keeping .addJoin i j x y)
   join-held i j p q h {P} {Q} {x} {y} (sized, (a, l, k)) (sized′, (b, l′, k′)) R c (whole, (o, lo, ko)) = (
     (λ t. ⊎-elim (whole t) (joined t)),
-    (lesserOf o (joinOf a b), lesser-least lo (join-least i (λ s z. sized s z .0) l l′),
-        law .of-join i j a b o x y c p q h (each sized l) (each sized′ l′) (each whole lo) k k′ ko),
+    (
+      lesserOf o (joinOf a b),
+      lesser-least lo (join-least i (λ s z. sized s z .0) l l′),
+      law .of-join i j a b o x y c p q h (each sized l) (each sized′ l′) (each whole lo) k k′ ko,
+    ),
   )
     where
       joined : (t : List ℕ) → Joined P Q t → Sized W (i + j) t
       joined t (us, vs, z, z′, e) =
-          rw e ((let n = sized us z .0 in let n′ = sized′ vs z′ .0 in simp length-append (omega arith)),
-          below-append W us vs (sized us z .1) (sized′ vs z′ .1))
+          rw e (
+            (let n = sized us z .0 in let n′ = sized′ vs z′ .0 in simp length-append (omega arith)),
+            below-append W us vs (sized us z .1) (sized′ vs z′ .1),
+          )
 
 module _ (g : Grammar) (v : ValidGrammar g) where
   pub sized-of : (A : Sym) (m : ℕ) (t : List ℕ) → Of g A m t → Sized (g .words) m t

@@ -53,7 +53,14 @@ fn place_of(a: Sym, len: usize) -> usize
 }
 
 // The lesser of the best string and of those with a left part of length j, by the least of both parts.
-fn lesser_split(table: &[u8], b: Sym, c: Sym, len: usize, j: usize, best: [u8; MAX_SLOTS]) -> [u8; MAX_SLOTS]
+fn lesser_split(
+    table: &[u8],
+    b: Sym,
+    c: Sym,
+    len: usize,
+    j: usize,
+    best: [u8; MAX_SLOTS],
+) -> [u8; MAX_SLOTS]
     requires { do ⌜ (length (now table) ≡ (← ⟦TABLE_LENGTH⟧)) × (b .0 < (← ⟦SYMBOLS⟧)) × (c .0 < (← ⟦SYMBOLS⟧)) × (0 < j) × (j < len) × (len ≤ (← ⟦MAX_SLOTS⟧)) ⌝ }
     ensures { λ r. ⌜ r ≡ lesserSplit (now (table .entry)) len b c j best ⌝ }
 {
@@ -78,7 +85,14 @@ fn lesser_pair(table: &[u8], b: Sym, c: Sym, len: usize, best: [u8; MAX_SLOTS]) 
 }
 
 // The lesser of the best string of a symbol and a length and of those that rule r makes. The remainders change no accepted rule.
-fn lesser_rule(table: &[u8], rules: &[u32], a: Sym, len: usize, r: usize, best: [u8; MAX_SLOTS]) -> [u8; MAX_SLOTS]
+fn lesser_rule(
+    table: &[u8],
+    rules: &[u32],
+    a: Sym,
+    len: usize,
+    r: usize,
+    best: [u8; MAX_SLOTS],
+) -> [u8; MAX_SLOTS]
     requires { do ⌜ (length (now table) ≡ (← ⟦TABLE_LENGTH⟧)) × (r < (← ⟦MAX_RULES⟧)) × (0 < len) × (len ≤ (← ⟦MAX_SLOTS⟧)) ⌝ }
     ensures { λ x. ⌜ x ≡ lesserRule (now (table .entry)) a len best (fitted (ruleAt (now (rules .entry)) r)) ⌝ }
 {

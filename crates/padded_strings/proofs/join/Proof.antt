@@ -22,8 +22,10 @@ copy-requires-2 c κs = search needs
 
 returns : tie.Need-returns
 returns c =
-    let a = c .before .before .before .before .before .before .before .before .args in
-    rw (c .before .copy2 .ensures, c .before .before .before .before .copy .ensures) (two-copies (a .a .now) (a .b .now) (a .i) (search needs) (search needs) (search needs) _ refl)
+    let at-copy = c .before .before .before .before in
+    let at-start = at-copy .before .before .before .before in
+    let a = at-start .args in
+    rw (c .before .copy2 .ensures, at-copy .copy .ensures) (two-copies (a .a .now) (a .b .now) (a .i) (search needs) (search needs) (search needs) _ refl)
 
 pub join-spec : {M : Type 1} → statement M
 join-spec =

@@ -28,15 +28,23 @@ shared-slice-read-q c = search needs
 
 returns : tie.Need-returns Inv-loop μ-loop
 returns c =
-    let a = c .before .before .before .before .before .before .before .before .args in
+    let at-join-at = c .before .before in
+    let at-loop-test = at-join-at .before in
+    let at-loop = at-loop-test .before in
+    let at-start = at-loop .before .before .before .before in
+    let a = at-start .args in
     let n = join-size (a .a .now) (a .b .now) (a .i) (search needs) (search needs) (search needs) in
-    compared-less (join (a .a .now) (a .b .now) (a .i)) (a .best .now) (c .before .before .before .before .loop .x) (c .before .before .before .before .loop .inv .1) (omega (arith, n, c .before .before .before .loop-test .taken)) (search needs) (omega (arith, c .before .before .join-at .ensures, c .if1 .taken))
+    compared-less (join (a .a .now) (a .b .now) (a .i)) (a .best .now) (at-loop .loop .x) (at-loop .loop .inv .1) (omega (arith, n, at-loop-test .loop-test .taken)) (search needs) (omega (arith, at-join-at .join-at .ensures, c .if1 .taken))
 
 returns-2 : tie.Need-returns-2 Inv-loop μ-loop
 returns-2 c =
-    let a = c .before .before .before .before .before .before .before .before .before .args in
+    let at-join-at = c .before .before .before in
+    let at-loop-test = at-join-at .before in
+    let at-loop = at-loop-test .before in
+    let at-start = at-loop .before .before .before .before in
+    let a = at-start .args in
     let n = join-size (a .a .now) (a .b .now) (a .i) (search needs) (search needs) (search needs) in
-    compared-more (join (a .a .now) (a .b .now) (a .i)) (a .best .now) (c .before .before .before .before .before .loop .x) (c .before .before .before .before .before .loop .inv .1) (omega (arith, n, c .before .before .before .before .loop-test .taken)) (search needs) (omega (arith, c .before .before .before .join-at .ensures, c .if2 .taken))
+    compared-more (join (a .a .now) (a .b .now) (a .i)) (a .best .now) (at-loop .loop .x) (at-loop .loop .inv .1) (omega (arith, n, at-loop-test .loop-test .taken)) (search needs) (omega (arith, at-join-at .join-at .ensures, c .if2 .taken))
 
 add-x : tie.Need-add-x Inv-loop μ-loop
 add-x c = search needs
@@ -46,9 +54,13 @@ loop-less c = search needs
 
 loop-again : tie.Need-loop-again Inv-loop μ-loop
 loop-again c =
-    let a = c .before .before .before .before .before .before .before .before .before .args in
+    let at-join-at = c .before .before .before in
+    let at-loop-test = at-join-at .before in
+    let at-loop = at-loop-test .before in
+    let at-start = at-loop .before .before .before .before in
+    let a = at-start .args in
     let n = join-size (a .a .now) (a .b .now) (a .i) (search needs) (search needs) (search needs) in
-    (search needs, compared-on (join (a .a .now) (a .b .now) (a .i)) (a .best .now) (c .before .before .before .before .before .loop .x) (c .before .before .before .before .before .loop .inv .1) (omega (arith, n, c .before .before .before .before .loop-test .taken)) (search needs) (omega (arith, c .before .before .before .join-at .ensures, c .before .if1 .left)) (omega (arith, c .before .before .before .join-at .ensures, c .if2 .left)))
+    (search needs, compared-on (join (a .a .now) (a .b .now) (a .i)) (a .best .now) (at-loop .loop .x) (at-loop .loop .inv .1) (omega (arith, n, at-loop-test .loop-test .taken)) (search needs) (omega (arith, at-join-at .join-at .ensures, c .before .if1 .left)) (omega (arith, at-join-at .join-at .ensures, c .if2 .left)))
 
 returns-3 : tie.Need-returns-3 Inv-loop μ-loop
 returns-3 c =

@@ -30,11 +30,18 @@ join-requires c κs = search needs
 
 returns-3 : tie.Need-returns-3
 unfolding lesserJoin
-returns-3 c = rw (ne-eqb _ _ (c .before .before .before .before .before .before .if1 .left), ne-eqb _ _ (c .before .before .before .before .if2 .left), ← c .before .before .join-precedes .ensures, c .before .if3 .taken) (c .join .ensures)
+returns-3 c =
+    let at-join-precedes = c .before .before in
+    let at-if2 = at-join-precedes .before .before in
+    let at-if1 = at-if2 .before .before in
+    rw (ne-eqb _ _ (at-if1 .if1 .left), ne-eqb _ _ (at-if2 .if2 .left), ← at-join-precedes .join-precedes .ensures, c .before .if3 .taken) (c .join .ensures)
 
 returns-4 : tie.Need-returns-4
 unfolding lesserJoin
-returns-4 c = rw (ne-eqb _ _ (c .before .before .before .before .before .if1 .left), ne-eqb _ _ (c .before .before .before .if2 .left), ← c .before .join-precedes .ensures, c .if3 .left)
+returns-4 c =
+    let at-if2 = c .before .before .before in
+    let at-if1 = at-if2 .before .before in
+    rw (ne-eqb _ _ (at-if1 .if1 .left), ne-eqb _ _ (at-if2 .if2 .left), ← c .before .join-precedes .ensures, c .if3 .left)
 
 pub lesser-join-spec : {M : Type 1} → statement M
 lesser-join-spec =

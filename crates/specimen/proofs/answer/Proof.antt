@@ -22,8 +22,10 @@ array-read-if1 c = search needs
 
 returns : tie.Need-returns
 returns c = λ g e v b.
-    let a = c .before .before .before .before .before .before .before .before .args in
-    nothing-said g v (a .rules .now) b (a .n) (search needs) (search needs) (a .sizes) e _ refl (c .before .before .before .fill-table .ensures) (c .before .place-of .ensures .0) _ (c .if1 .taken)
+    let at-fill-table = c .before .before .before in
+    let at-start = at-fill-table .before .before .before .before .before in
+    let a = at-start .args in
+    nothing-said g v (a .rules .now) b (a .n) (search needs) (search needs) (a .sizes) e _ refl (at-fill-table .fill-table .ensures) (c .before .place-of .ensures .0) _ (c .if1 .taken)
 
 add-end : tie.Need-add-end
 add-end c = search needs
@@ -45,8 +47,13 @@ same-length c = search needs
 
 returns-2 : tie.Need-returns-2
 returns-2 c = λ g e v b.
-    let a = c .before .before .before .before .before .before .before .before .before .before .before .before .before .before .args in
-    string-said g v (a .rules .now) b (a .n) (search needs) (search needs) (a .sizes) e _ refl (c .before .before .before .before .before .before .before .before .before .fill-table .ensures) (c .before .before .before .before .before .before .before .place-of .ensures .0) _ (c .before .before .before .before .before .before .if1 .left) (c .before .before .copy .ensures)
+    let at-copy = c .before .before in
+    let at-if1 = at-copy .before .before .before .before in
+    let at-place-of = at-if1 .before in
+    let at-fill-table = at-place-of .before .before in
+    let at-start = at-fill-table .before .before .before .before .before in
+    let a = at-start .args in
+    string-said g v (a .rules .now) b (a .n) (search needs) (search needs) (a .sizes) e _ refl (at-fill-table .fill-table .ensures) (at-place-of .place-of .ensures .0) _ (at-if1 .if1 .left) (at-copy .copy .ensures)
 
 pub answer-spec : {M : Type 1} → statement M
 answer-spec =
