@@ -238,17 +238,16 @@ module _ (g : Grammar) (es : List Edge) (src : Source) where
         ∙ complete d₂ t₂ heads (w + v + weight g es s) n m room
         ∙ ap (λ (x : ℕ). runs m (onward k n heads x) end) sum)
 
--- what stands from bit 34 on
+-- t is a tree from the first place to the last, of n edges, and its nodes stand in the block from bit 34 on
+pub record Stands (g : Grammar) (es : List Edge) (last n : ℕ) (s : List ℕ) (t : Tree) : Type 0 where
+  pub derives : Derives g es (symbolOf 0) 0 last t
+  pub edges : pathLength t ≡ n
+  pub nodes : TraceIn (length (g .rules)) (trace t) s
+
 module _ (g : Grammar) (es : List Edge) (forward : Forward es) (few : length es ≤ 128) (small : length (g .rules) ≤ 256) (last n : ℕ) (s : List ℕ)
     (long : 34 ≤ 8 * length s) where
   abbrev src : Source
   src = bytes 31 s
-
-  -- t is a tree from the first place to the last, of n edges, and its nodes stand in the block
-  pub record Stands (t : Tree) : Type 0 where
-    pub derives : Derives g es (symbolOf 0) 0 last t
-    pub edges : pathLength t ≡ n
-    pub nodes : TraceIn (length (g .rules)) (trace t) s
 
   nodes-taken : {A : Sym} {i k : ℕ} {t : Tree} → Derives g es A i k t → TraceIn (length (g .rules)) (trace t) s
       → (next : ℕ) × Taken src 34 (traceEntries (length (g .rules)) (trace t)) next
@@ -256,24 +255,24 @@ module _ (g : Grammar) (es : List Edge) (forward : Forward es) (few : length es 
       let (f, w) = trace-fits (length (g .rules)) small (trace t) (trace-below g es few d) in
       (_, held-taken 31 s 34 (traceEntries (length (g .rules)) (trace t)) f w h)
 
-  whole : {v : ℕ} → Covers g es src forward last (symbolOf 0 ∷ []) 0 n 34 v → (t : Tree) × Stands t × (weight g es t ≡ v)
+  whole : {v : ℕ} → Covers g es src forward last (symbolOf 0 ∷ []) 0 n 34 v → (t : Tree) × Stands g es last n s t × (weight g es t ≡ v)
   whole c = go n refl c
     where
-      go : (m : ℕ) → m ≡ n → {v : ℕ} → Covers g es src forward last (symbolOf 0 ∷ []) 0 m 34 v → (t : Tree) × Stands t × (weight g es t ≡ v)
+      go : (m : ℕ) → m ≡ n → {v : ℕ} → Covers g es src forward last (symbolOf 0 ∷ []) 0 m 34 v → (t : Tree) × Stands g es last n s t × (weight g es t ≡ v)
       go _ e (also {t = t} d k done) = (t, record { derives = d; edges = omega arith; nodes = taken-held 31 s long k .2 }, omega arith)
 
   -- the run accepts exactly these trees, with their weight
-  pub path-weight : (w : ℕ) → (pathWeight (g .rules) es last n s ≡ some w) ↔ ((t : Tree) × Stands t × (weight g es t ≡ w))
+  pub path-weight : (w : ℕ) → (pathWeight (g .rules) es last n s ≡ some w) ↔ ((t : Tree) × Stands g es last n s t × (weight g es t ≡ w))
   unfolding pathWeight runFrom finished
   path-weight w = (to, from)
     where
-      to : pathWeight (g .rules) es last n s ≡ some w → (t : Tree) × Stands t × (weight g es t ≡ w)
+      to : pathWeight (g .rules) es last n s ≡ some w → (t : Tree) × Stands g es last n s t × (weight g es t ≡ w)
       to h =
           let (v, c, k) = sound g es src forward last (2 * n - 1) 0 n (symbolOf 0 ∷ []) 0 w 34 h in
           let (t, d, e) = whole c in
           (t, d, omega arith)
 
-      from : (t : Tree) × Stands t × (weight g es t ≡ w) → pathWeight (g .rules) es last n s ≡ some w
+      from : (t : Tree) × Stands g es last n s t × (weight g es t ≡ w) → pathWeight (g .rules) es last n s ≡ some w
       from (t, d, e) =
           let (next, k) = nodes-taken (d .derives) (d .nodes) in
           let steps : length (trace t) + 0 ≡ 2 * n - 1 = omega (arith, trace-length t, d .edges) in
@@ -282,7 +281,7 @@ module _ (g : Grammar) (es : List Edge) (forward : Forward es) (few : length es 
           rw (← steps, ← edges) (ap (weightAt last) (complete g es src forward last (d .derives) k [] 0 0 0 (omega arith)) ∙ rw (eq-eqb last last refl, sum))
 
   -- and nothing else
-  pub path-none : ((t : Tree) → Stands t → ⊥) → pathWeight (g .rules) es last n s ≡ none
+  pub path-none : ((t : Tree) → ¬ Stands g es last n s t) → pathWeight (g .rules) es last n s ≡ none
   path-none h = go (pathWeight (g .rules) es last n s) refl
     where
       go : (o : Option ℕ) → pathWeight (g .rules) es last n s ≡ o → pathWeight (g .rules) es last n s ≡ none
@@ -290,7 +289,7 @@ module _ (g : Grammar) (es : List Edge) (forward : Forward es) (few : length es 
       go (some w) e = let (t, d, p) = path-weight w .0 e in absurd (h t d)
 
   -- there is one at most
-  pub stands-one : (t t′ : Tree) → Stands t → Stands t′ → t ≡ t′
+  pub stands-one : (t t′ : Tree) → Stands g es last n s t → Stands g es last n s t′ → t ≡ t′
   stands-one t t′ a b =
       let l : length (trace t) ≡ length (trace t′) = omega (arith, trace-length t, trace-length t′, a .edges, b .edges) in
       trace-one g es (a .derives) (b .derives)
