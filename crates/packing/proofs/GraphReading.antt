@@ -70,7 +70,7 @@ NodesBelow R (byPair r ∷ xs) = (r < R) × NodesBelow R xs
 NodesBelow R (byWord r e ∷ xs) = (r < R) × (e < 128) × NodesBelow R xs
 
 module _ (R : ℕ) (h : R ≤ 256) where
-  trace-fits : (xs : List Node) → NodesBelow R xs → Fits (traceEntries R xs) × Each InWidth (traceEntries R xs)
+  pub trace-fits : (xs : List Node) → NodesBelow R xs → Fits (traceEntries R xs) × Each InWidth (traceEntries R xs)
   unfolding traceEntries
   trace-fits [] b = (tt, tt)
   trace-fits (byPair r ∷ xs) (l, b) =
@@ -94,7 +94,7 @@ Kinded isWord (byPair r ∷ xs) = (isWord r ≡ false) × Kinded isWord xs
 Kinded isWord (byWord r e ∷ xs) = (isWord r ≡ true) × Kinded isWord xs
 
 module _ (isWord : ℕ → Bool) (src : Source) (R : ℕ) where
-  trace-decided : (xs ys : List Node) {at m n : ℕ} → Kinded isWord xs → Kinded isWord ys → length xs ≡ length ys
+  pub trace-decided : (xs ys : List Node) {at m n : ℕ} → Kinded isWord xs → Kinded isWord ys → length xs ≡ length ys
       → Taken src at (traceEntries R xs) m → Taken src at (traceEntries R ys) n → xs ≡ ys
   unfolding traceEntries
   trace-decided [] [] k l e t u = refl
