@@ -1,4 +1,4 @@
--- The back pointer is the one that the cell has, and the number written is its rule.
+-- The back pointer is the one that the cell has, and the numbers written are its rule's and its left part's.
 use borrow.Author.Needs.{needs}
 use Rattle.chart_trace.proofs.trace_node.Statement.{statement}
 use Rattle.chart_trace.proofs.trace_node.Tie as tie
