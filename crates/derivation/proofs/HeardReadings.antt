@@ -14,8 +14,8 @@ use Rattle.packing.proofs.Whole.{reading-block-back}
 use Rattle.packing.proofs.Widths.{length-reading, length-small}
 use Rattle.packing.proofs.Graph.{valid-places, valid-edge-count, valid-edge, one-edge}
 use Rattle.packing.proofs.GraphReading.{length-graph-reading, length-less, length-padded, graph-length-small, graph-reading-valid, graph-reading-decided}
-use Rattle.derivation.specs.Derivation.{Tree, leaf, Derives, by-word, weight, reading}
-use Rattle.derivation.specs.Heard.{Derivation, pathLength, trace, graphReading, ownBlock, outputLength, packed}
+use Rattle.derivation.specs.Derivation.{Tree, leaf, Derives, by-word, weight, Derivation, reading}
+use Rattle.derivation.specs.Heard.{pathLength, trace, graphReading, ownBlock, outputLength, packed}
 use Rattle.derivation.proofs.Ranges.{valid-rules, valid-light, valid-ascending, valid-cheap, valid-slots}
 use Rattle.derivation.proofs.Slots.{CheapEdges, edges-apart, edges-short, edges-cheap}
 use Rattle.derivation.proofs.Paths.{Forward, path-bound, forward-weight}

@@ -8,15 +8,12 @@ use native.Mathlib.Omega.{arith}
 use lib.ListN.{length, length-take}
 use Rattle.packing.specs.declared.Sym.{Sym}
 use Rattle.packing.specs.Meaning.{symbolOf, Grammar, Utterance, Graph, Heard, slots, graph, lastPlace, heardEdges, redrawn}
-use Rattle.packing.specs.Reading.{blockOfReading}
 use Rattle.packing.specs.GraphReading.{graphReadingLength}
 use Rattle.packing.specs.Valid.{ValidGrammar, ValidGraph, ValidHeard}
-use Rattle.derivation.specs.Derivation as D
-use Rattle.derivation.specs.Derivation.{At, Tree, leaf, Derives, weight, walk, reading}
+use Rattle.derivation.specs.Derivation.{At, Tree, leaf, Derives, weight, walk, Derivation}
 use Rattle.derivation.specs.Order.{order, Before}
-use Rattle.derivation.specs.Rank as L
-use Rattle.derivation.specs.Rank.{Number}
-use Rattle.derivation.specs.Heard.{Derivation, pathLength, trace, ownBlock, outputLength, packed, Rank}
+use Rattle.derivation.specs.Rank.{Number, Rank}
+use Rattle.derivation.specs.Heard.{pathLength, trace, ownBlock, outputLength, packed}
 use Rattle.derivation.specs.HeardList.{derivations, leastDerivations}
 use Rattle.derivation.proofs.Comparison.{Lawful, lt≢eq, turn-gt}
 use Rattle.derivation.proofs.Order.{order-lawful}
@@ -27,17 +24,6 @@ use Rattle.derivation.proofs.Ranks.{number-all, number-before, place-nu
 use Rattle.derivation.proofs.Paths.{walk-path}
 use Rattle.derivation.proofs.Trace.{trace-one}
 use Rattle.derivation.proofs.HeardReadings.{heard-one-edge, path, heard-weight, graph-own-length, own-decided, packed-decided, packed-length, output-small}
-
--- On slots, all is as document 01 has it.
-module _ (g : Grammar) (u : Utterance) (t : Tree) where
-  pub slots-derivation : _≡_ {A = Type 0} (Derivation g (slots u) t) (D.Derivation g u t)
-  slots-derivation = refl
-
-  pub slots-rank : (k : ℕ) → _≡_ {A = Type 0} (Rank g (slots u) t k) (L.Rank g u t k)
-  slots-rank k = refl
-
-  pub slots-packed : packed g (slots u) t ≡ blockOfReading (length (g .rules)) (reading g u t)
-  slots-packed = refl
 
 -- "slots .. redrawn as a graph, give the same derivations in the same order".
 module _ (g : Grammar) (u : Utterance) where

@@ -9,7 +9,7 @@ use mathlib.Core.List.{List}
 use Prim.Native.Nat.{ℕ, _+_, _-_, _*_, _≤_, _<_, min, Ordering, Ordering·lt, Ordering·eq, Ordering·gt}
 use native.Mathlib.Omega.{arith}
 use lib.ListN.{length, take, length-map, length-take}
-use Rattle.packing.specs.Meaning.{symbolOf, Grammar, Utterance, edges, Reading}
+use Rattle.packing.specs.Meaning.{symbolOf, Grammar, Utterance, edges, Reading, slots}
 use Rattle.packing.specs.Valid.{ValidGrammar, ValidUtterance, ValidReading}
 use Rattle.packing.proofs.Widths.{reading-valid}
 use Rattle.derivation.specs.Derivation.{At, Tree, weight, walk, Derivation, reading}
@@ -37,7 +37,7 @@ module _ (g : Grammar) (u : Utterance) where
   least-first = ranked g (edges u) (symbolOf 0) 0 (length u)
 
   -- "There are finitely many": the enumeration has each once and nothing else
-  pub finitely-many : Number (Derivation g u) (length (trees g (edges u) (symbolOf 0) 0 (length u)))
+  pub finitely-many : Number (Derivation g (slots u)) (length (trees g (edges u) (symbolOf 0) 0 (length u)))
   finitely-many = record {
     elements = trees g (edges u) (symbolOf 0) 0 (length u);
     once = trees-once g (edges u) (symbolOf 0) 0 (length u);
@@ -64,16 +64,16 @@ module _ (g : Grammar) (u : Utterance) where
   never-both s t a b = never-before-itself s (before-chains s t s a b)
 
   -- "A derivation's rank is 1 plus the number of derivations that come before it": it has one
-  pub has-rank : (t : Tree) → Derivation g u t → (k : ℕ) × Rank g u t k
+  pub has-rank : (t : Tree) → Derivation g (slots u) t → (k : ℕ) × Rank g (slots u) t k
   has-rank t d =
       let (x, e) = derives-place g (edges u) (symbolOf 0) 0 (length u) d in
       (1 + x, (x, number-before g (edges u) (symbolOf 0) 0 (length u) t x e, refl))
 
-  pub one-rank : (t : Tree) (k l : ℕ) → Rank g u t k → Rank g u t l → k ≡ l
+  pub one-rank : (t : Tree) (k l : ℕ) → Rank g (slots u) t k → Rank g (slots u) t l → k ≡ l
   one-rank t k l (m, a, p) (n, b, q) = let same : m ≡ n = number-one law a b in omega arith
 
   -- "m is the lesser of N and the number of all derivations"
-  pub list-length : (N m : ℕ) → Number (Derivation g u) m → length (listing g u N) ≡ min N m
+  pub list-length : (N m : ℕ) → Number (Derivation g (slots u)) m → length (listing g u N) ≡ min N m
   unfolding listing
   list-length N m all =
       length-map (take N least-first) (reading g u) ∙ length-take N least-first
@@ -81,25 +81,25 @@ module _ (g : Grammar) (u : Utterance) where
 
   -- "for every k from 1 to m the kth L bytes of the output hold the reading of the derivation with rank k"
   pub list-element : (N k : ℕ) (v : Reading) → At (listing g u N) k v
-      ↔ ((t : Tree) × Derivation g u t × Rank g u t (1 + k) × (k < N) × (v ≡ reading g u t))
+      ↔ ((t : Tree) × Derivation g (slots u) t × Rank g (slots u) t (1 + k) × (k < N) × (v ≡ reading g u t))
   unfolding listing
   list-element N k v = (to, from)
     where
-      to : At (listing g u N) k v → (t : Tree) × Derivation g u t × Rank g u t (1 + k) × (k < N) × (v ≡ reading g u t)
+      to : At (listing g u N) k v → (t : Tree) × Derivation g (slots u) t × Rank g (slots u) t (1 + k) × (k < N) × (v ≡ reading g u t)
       to e =
           let (t, f, p) = map-at (reading g u) (take N least-first) k e in
           let (h, b) = at-take N least-first k t .0 f in
           let (d, n) = place-number g (edges u) (symbolOf 0) 0 (length u) t k .0 h in
           (t, d, (k, n, refl), b, p)
 
-      from : (t : Tree) × Derivation g u t × Rank g u t (1 + k) × (k < N) × (v ≡ reading g u t) → At (listing g u N) k v
+      from : (t : Tree) × Derivation g (slots u) t × Rank g (slots u) t (1 + k) × (k < N) × (v ≡ reading g u t) → At (listing g u N) k v
       from (t, d, (x, n, q), b, p) =
           let same : x ≡ k = omega arith in
           let h = place-number g (edges u) (symbolOf 0) 0 (length u) t k .1 (d, rw same at n) in
           rw p (at-map (reading g u) (take N least-first) k (at-take N least-first k t .1 (h, b)))
 
   -- "Two derivations are different if their readings differ": and only then
-  pub readings-differ : ValidUtterance (g .words) u → (s t : Tree) → Derivation g u s → Derivation g u t
+  pub readings-differ : ValidUtterance (g .words) u → (s t : Tree) → Derivation g (slots u) s → Derivation g (slots u) t
       → (reading g u s ≡ reading g u t) ↔ (s ≡ t)
   unfolding reading
   readings-differ ok s t a b =
@@ -107,11 +107,11 @@ module _ (g : Grammar) (u : Utterance) where
       (λ e. walk-one g (edges u) apart a b (ap (λ (v : Reading). v .walk) e), ap (reading g u))
 
   -- "It has 2n − 1 nodes."
-  pub nodes : (t : Tree) → Derivation g u t → length (walk t) ≡ 2 * length u - 1
+  pub nodes : (t : Tree) → Derivation g (slots u) t → length (walk t) ≡ 2 * length u - 1
   nodes t d = omega (arith, walk-length g (edges u) (edges-short u) d)
 
   -- "The greatest weight is 47 × 65,535 + 24 × 65,535 = 4,652,985."
-  pub greatest-weight : ValidGrammar g → ValidUtterance (g .words) u → (t : Tree) → Derivation g u t
+  pub greatest-weight : ValidGrammar g → ValidUtterance (g .words) u → (t : Tree) → Derivation g (slots u) t
       → weight g (edges u) t ≤ 4652985
   greatest-weight ok ok′ t d =
       let cheap = edges-cheap u (valid-cheap (g .words) u ok′) in
@@ -120,7 +120,7 @@ module _ (g : Grammar) (u : Utterance) where
       omega arith
 
   -- "A derivation's reading is its packed block": it can be packed
-  pub reading-packs : ValidGrammar g → ValidUtterance (g .words) u → (t : Tree) → Derivation g u t
+  pub reading-packs : ValidGrammar g → ValidUtterance (g .words) u → (t : Tree) → Derivation g (slots u) t
       → ValidReading (length (g .rules)) (reading g u t)
   unfolding reading
   reading-packs ok ok′ t d =
@@ -133,21 +133,21 @@ module _ (g : Grammar) (u : Utterance) where
   -- some derivation's
   pub reading-found : Ascending u → (v : Reading)
       → ((v .slots ≡ length u) × (walkWeight (g .rules) u (v .walk) ≡ some (v .weight)))
-      ↔ ((t : Tree) × Derivation g u t × (v ≡ reading g u t))
+      ↔ ((t : Tree) × Derivation g (slots u) t × (v ≡ reading g u t))
   unfolding reading
   reading-found ascending v = (to, from)
     where
       runs : (walkWeight (g .rules) u (v .walk) ≡ some (v .weight))
-          ↔ ((t : Tree) × Derivation g u t × (walk t ≡ v .walk) × (weight g (edges u) t ≡ v .weight))
+          ↔ ((t : Tree) × Derivation g (slots u) t × (walk t ≡ v .walk) × (weight g (edges u) t ≡ v .weight))
       runs = walk-weight g u ascending (v .walk) (v .weight)
 
       to : (v .slots ≡ length u) × (walkWeight (g .rules) u (v .walk) ≡ some (v .weight))
-          → (t : Tree) × Derivation g u t × (v ≡ reading g u t)
+          → (t : Tree) × Derivation g (slots u) t × (v ≡ reading g u t)
       to (n, p) =
           let (t, d, e, w) = runs .0 p in
           (t, d, λ i. record { slots = n i; weight = sym w i; walk = sym e i })
 
-      from : (t : Tree) × Derivation g u t × (v ≡ reading g u t)
+      from : (t : Tree) × Derivation g (slots u) t × (v ≡ reading g u t)
           → (v .slots ≡ length u) × (walkWeight (g .rules) u (v .walk) ≡ some (v .weight))
       from (t, d, e) =
           let numbers = sym (ap (λ (r : Reading). r .walk) e) in
@@ -156,5 +156,5 @@ module _ (g : Grammar) (u : Utterance) where
 
   pub reading-passes : ValidUtterance (g .words) u → (v : Reading)
       → ((v .slots ≡ length u) × (walkWeight (g .rules) u (v .walk) ≡ some (v .weight)))
-      ↔ ((t : Tree) × Derivation g u t × (v ≡ reading g u t))
+      ↔ ((t : Tree) × Derivation g (slots u) t × (v ≡ reading g u t))
   reading-passes ok = reading-found (valid-ascending (g .words) u ok)

@@ -1,19 +1,12 @@
--- Derivations of what was heard, slots or a graph, their readings and their ranks: document 02, N1, and document 01, "Grammars and
--- derivations" and "The list of demand 3". Stands on packing's Meaning and its readings' blocks, on Derivation, Order and List.
-use mathlib.Core.Path.{_≡_}
+-- The readings of derivations of what was heard, slots or a graph, as blocks: document 02, N1, and document 01, "The list of demand 3".
+-- Stands on packing's Meaning and its readings' blocks, and on Derivation.
 use mathlib.Core.List.{List, [], _∷_, _++_}
 use Prim.Native.Nat.{ℕ, _+_, _-_}
 use lib.ListN.{length}
-use Rattle.packing.specs.Meaning.{symbolOf, Grammar, Graph, Heard, slots, graph, lastPlace, heardEdges, Node, byPair, byWord, GraphReading}
+use Rattle.packing.specs.Meaning.{Grammar, Graph, Heard, slots, graph, Node, byPair, byWord, GraphReading}
 use Rattle.packing.specs.Reading.{blockOfReading, readingLength}
 use Rattle.packing.specs.GraphReading.{blockOfGraphReading, graphReadingLength, padded}
-use Rattle.derivation.specs.Derivation.{Tree, leaf, node, Derives, weight, reading}
-use Rattle.derivation.specs.Order.{Before}
-use Rattle.derivation.specs.Rank.{Number}
-
--- "A leaf spans an edge and a derivation spans a path from place 0 to P−1": of slots, all of them. Its head is 0
-abbrev pub Derivation : Grammar → Heard → Tree → Type 0
-Derivation g h t = Derives g (heardEdges h) (symbolOf 0) 0 (lastPlace h) t
+use Rattle.derivation.specs.Derivation.{Tree, leaf, node, weight, reading}
 
 -- "the path's edge count"
 unfoldable pub pathLength : Tree → ℕ
@@ -43,8 +36,3 @@ outputLength g (graph h) = graphReadingLength (h .places - 1) (length (g .rules)
 abbrev pub packed : Grammar → Heard → Tree → List ℕ
 packed g (slots u) t = ownBlock g (slots u) t
 packed g (graph h) t = padded (outputLength g (graph h)) (ownBlock g (graph h) t)
-
--- a derivation's rank is 1 plus the number of derivations that come before it. In the order, "fewer slots in the left part" is "lower end
--- place"
-abbrev pub Rank : Grammar → Heard → Tree → ℕ → Type 0
-Rank g h t k = (n : ℕ) × Number (λ s. Derivation g h s × Before g (heardEdges h) s t) n × (k ≡ 1 + n)

@@ -3,7 +3,7 @@
 -- Assumes nothing.
 use mathlib.Core.Path.{_≡_, refl, ap, _∙_}
 use mathlib.Core.Bool.{true}
-use mathlib.Core.Logic.{_↔_, _⊎_}
+use mathlib.Core.Logic.{_↔_}
 use mathlib.Core.List.{List, []}
 use Prim.Native.Nat.{ℕ, _≤_}
 use native.Mathlib.Omega.{arith}
@@ -15,6 +15,7 @@ use Rattle.packing.specs.Utterance.{utteranceBlock, blockOfUtterance}
 use Rattle.packing.specs.Graph.{graphBlock, blockOfGraph}
 use Rattle.packing.specs.Heard.{heardBlock, blockOfHeard}
 use Rattle.packing.specs.GraphReading.{blockOfGraphReading, graphReadingBits, graphHeadFrom, TraceIn}
+use Rattle.packing.specs.Rows.{GraphBlockRow, HeardBlockRow, ReadingFieldsRow}
 use Rattle.packing.specs.Valid.{Bytes, ValidUtterance, ValidGraph, ValidHeard, ValidGraphReading}
 use Rattle.packing.proofs.Refusals.{refusal-number, stop-number}
 use Rattle.packing.proofs.Graph.{graph-length}
@@ -42,10 +43,10 @@ module _ (W : ℕ) where
   longest-graph s g l h y e = let (v, p) = graph-block-out W s g e in rw (p y) (graph-length W l h g v)
 
   -- A refusal is a number of its row: "11 to 14, 16 .. apply likewise", and 51 and 52. 15 and 42 do not come in a graph.
-  pub graph-block-refused : (s : List ℕ) (n : ℕ) → graphBlock W s ≡ refused n → ((11 ≤ n) × (n ≤ 14)) ⊎ ((n ≡ 16) ⊎ ((51 ≤ n) × (n ≤ 52)))
+  pub graph-block-refused : (s : List ℕ) (n : ℕ) → graphBlock W s ≡ refused n → GraphBlockRow n
   graph-block-refused s n = refusal-number (graph-block-row W s)
 
-  pub heard-block-refused : (s : List ℕ) (n : ℕ) → heardBlock W s ≡ refused n → ((11 ≤ n) × (n ≤ 16)) ⊎ ((51 ≤ n) × (n ≤ 52))
+  pub heard-block-refused : (s : List ℕ) (n : ℕ) → heardBlock W s ≡ refused n → HeardBlockRow n
   heard-block-refused s n = refusal-number (heard-block-row W s)
 
   -- An empty block has no kind; a kind other than 2 and 5 gives 12; and "elsewhere .. 5 gives 12".
@@ -80,5 +81,5 @@ pub longest-graph-reading : (R : ℕ) (d : GraphReading) → R ≤ 256 → d .ed
 longest-graph-reading R d r n v = rw (length-graph-reading R d (v .2) (v .3)) (graph-length-small (d .edges) R n r)
 
 -- Up to the weight it is refused with 31 to 33.
-pub graph-reading-refused : (most R : ℕ) (s : List ℕ) (n : ℕ) → graphHeadFrom most R s ≡ failed n → (31 ≤ n) × (n ≤ 33)
+pub graph-reading-refused : (most R : ℕ) (s : List ℕ) (n : ℕ) → graphHeadFrom most R s ≡ failed n → ReadingFieldsRow n
 graph-reading-refused most R s n = stop-number (graph-head-row most R s)

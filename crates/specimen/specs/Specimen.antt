@@ -6,7 +6,7 @@ use Prim.Native.Nat.{ℕ}
 use lib.Dec.{ltb}
 use lib.ListN.{length, drop}
 use Rattle.bits.specs.Bits.{pick}
-use Rattle.packing.specs.Meaning.{Grammar, Utterance, candidate, word}
+use Rattle.packing.specs.Meaning.{Grammar, Utterance, candidate, word, slots}
 use Rattle.packing.specs.Parse.{Verdict, accepted, refused, _then_}
 use Rattle.packing.specs.Grammar.{grammarBlock}
 use Rattle.derivation.specs.Derivation.{Tree, Derivation}
@@ -19,7 +19,7 @@ plain ws = map (λ w. candidate (word w) 0 ∷ []) ws
 
 -- the grammar derives the word string ws
 abbrev pub Says : Grammar → List ℕ → Type 0
-Says g ws = (t : Tree) × Derivation g (plain ws) t
+Says g ws = (t : Tree) × Derivation g (slots (plain ws)) t
 
 -- the grammar, or the refusal
 unfoldable pub asked : List ℕ → ℕ → ℕ → Verdict Grammar
