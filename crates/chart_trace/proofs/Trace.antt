@@ -22,7 +22,7 @@ use Rattle.chart_table.specs.Table.{leftPart, rightPart, cellNumber, backAt}
 use Rattle.chart_trace.specs.Trace.{traceParts, traceBack}
 
 -- the rule of a node whose split is within, and else one that has no parts
-abbrev noParts : Rule
+abbrev pub noParts : Rule
 noParts = Word (symbolOf 0) (word 0) 0
 
 abbrev pub ruleWithin : List ℕ → Cell → BackPointer → Rule
@@ -50,7 +50,7 @@ abbrev pub backOf : List ℕ → Layout → Cell → ℕ → BackPointer
 backOf t d c x = backPointer (backAt t d (cellNumber d c) x)
 
 module _ (t rules : List ℕ) (d : Layout) where
-  trace-suc : (f : ℕ) (c : Cell) (x : ℕ) → let b = backOf t d c x in
+  pub trace-suc : (f : ℕ) (c : Cell) (x : ℕ) → let b = backOf t d c x in
       traceBack t rules d (suc f) c x ≡ b .rule ∷ b .left ∷ traceParts (traceBack t rules d f) c b (ruleWithin rules c b)
   unfolding traceBack
   trace-suc f c x =
