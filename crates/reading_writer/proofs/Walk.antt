@@ -20,7 +20,7 @@ use Rattle.reading_writer.specs.Answer.{walkIn, readingOf}
 pub walk-small : {m w : ℕ} → m ≤ 47 → w ≤ 8 → m * w ≤ 376
 walk-small h k = mul-le-mul h k
 
-walk-length : (n : ℕ) (l : List ℕ) → length l ≡ 2 * n → length (walkIn l) ≡ n
+pub walk-length : (n : ℕ) (l : List ℕ) → length l ≡ 2 * n → length (walkIn l) ≡ n
 unfolding walkIn
 walk-length n [] e = omega arith
 walk-length n (r ∷ []) e = absurd (omega arith)
