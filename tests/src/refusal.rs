@@ -1,4 +1,4 @@
-//! Rows of the table of refusals (document 01, "Where each check stands").
+//! Rows of the table of refusals (document 01, "Where each check stands"; document 02, N1).
 
 use spireyerba::Refusal;
 
@@ -21,4 +21,15 @@ pub const UTTERANCE_BLOCK: [Refusal; 6] = [
     Refusal::UtteranceWord,
     Refusal::UtteranceOrder,
     Refusal::UtteranceFill,
+];
+
+/// The refusals of a word graph's block.
+pub const GRAPH_BLOCK: [Refusal; 7] = [
+    Refusal::UtteranceEnd,
+    Refusal::UtteranceKind,
+    Refusal::UtteranceRange,
+    Refusal::UtteranceWord,
+    Refusal::UtteranceFill,
+    Refusal::EdgePlaces,
+    Refusal::EdgeRepeat,
 ];
