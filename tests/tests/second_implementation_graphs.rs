@@ -16,6 +16,7 @@ use spireyerba_tests::seeded::parsable::{case, graph_case, Shape, AMBIGUOUS, MAN
 use spireyerba_tests::{grammar, graph};
 use std::cmp::Ordering;
 use std::collections::HashMap;
+use std::ops::Range;
 use std::rc::Rc;
 
 #[test]
@@ -173,19 +174,25 @@ fn expect_all_bits(grammar: &Grammar, graph: &Graph, edges: usize, width: usize)
     weights.len()
 }
 
-#[test]
-fn the_bits_that_pass_are_those_of_the_derivations() {
-    let small = Shape { symbols: 1..=2, words: 1..=2, pair_rules: 1..=2, word_rules: 1..=3, ..TINY };
-    let mut passed = [0; 2];
-    over_seeds(40_000..40_400, |rng| {
-        let (grammar, graph) = graph_case(rng, &small);
-        for edges in [1, 2] {
+/// How many derivations of so many edges there were among cases of a shape, all of whose bits were tried.
+fn derivations_of_all_bits(seeds: Range<u64>, shape: &Shape, edges: usize) -> usize {
+    let mut passed = 0;
+    over_seeds(seeds, |rng| {
+        let (grammar, graph) = graph_case(rng, shape);
+        if graph.places as usize > edges {
             let width = nodes(edges) * rule_width(&grammar) + 7 * edges;
-            if graph.places as usize > edges && (width < 12 || width < 18 && rng.once_in(8)) {
-                passed[edges - 1] += expect_all_bits(&grammar, &graph, edges, width);
-            }
+            passed += expect_all_bits(&grammar, &graph, edges, width);
         }
     });
+    passed
+}
+
+#[test]
+fn the_bits_that_pass_are_those_of_the_derivations() {
+    let of_one = Shape { symbols: 1..=2, words: 1..=2, pair_rules: 1..=2, word_rules: 1..=3, ..TINY };
+    let of_two = Shape { symbols: 1..=1, words: 1..=1, pair_rules: 1..=1, word_rules: 1..=1, ..TINY };
+    let passed =
+        [derivations_of_all_bits(40_000..40_400, &of_one, 1), derivations_of_all_bits(41_000..41_016, &of_two, 2)];
     assert!(passed[0] > 50 && passed[1] > 5, "{passed:?} derivations of one and of two edges");
 }
 
