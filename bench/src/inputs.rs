@@ -40,9 +40,9 @@ pub fn graphs() -> Vec<Input> {
     let few = random_grammar(&mut Rng::new(4), 4, 32, 32, WEIGHT);
     vec![
         with("32 symbols, 256 rules, short edges", greatest_grammar(), 3),
-        with("32 symbols, 256 rules, any edges", greatest_grammar(), 24),
+        with("32 symbols, 256 rules, long edges", greatest_grammar(), 8),
         with("4 symbols, 64 rules, short edges", few.clone(), 3),
-        with("4 symbols, 64 rules, any edges", few, 24),
+        with("4 symbols, 64 rules, long edges", few, 8),
     ]
 }
 
