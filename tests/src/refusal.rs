@@ -23,13 +23,5 @@ pub const UTTERANCE_BLOCK: [Refusal; 6] = [
     Refusal::UtteranceFill,
 ];
 
-/// The refusals of a word graph's block.
-pub const GRAPH_BLOCK: [Refusal; 7] = [
-    Refusal::UtteranceEnd,
-    Refusal::UtteranceKind,
-    Refusal::UtteranceRange,
-    Refusal::UtteranceWord,
-    Refusal::UtteranceFill,
-    Refusal::EdgePlaces,
-    Refusal::EdgeRepeat,
-];
+/// The refusals that a word graph's block adds to them.
+pub const GRAPH_BLOCK: [Refusal; 2] = [Refusal::EdgePlaces, Refusal::EdgeRepeat];
