@@ -46,6 +46,7 @@ tests_of_both! {
     the_greatest_sizes
     sizes_that_the_listing_needs
     refusals_of_a_block
+    the_end_of_a_block
     refusals_of_a_reading
     another_mix_of_rules
     numbers_that_are_no_walk
@@ -209,61 +210,76 @@ fn fields(head: [u32; 3], edges: &[[u32; 4]]) -> Vec<(usize, u32)> {
     head.chain(edges.iter().flat_map(|&edge| [5, 5, 2, 16].into_iter().zip(edge))).collect()
 }
 
-/// The refusal that each block meets, under a grammar of three words: also in the check, whatever the reading.
+/// The answers of a listing of no readings, and of the check of an empty reading, under a grammar of three words.
+fn answers(services: &Services, graph: &[u8]) -> [Option<Refusal>; 2] {
+    let grammar = grammar::from_sheet(&[1, 3, 1, 1, 0, 0, 2, 0]).expect("an accepted grammar");
+    let grammar = grammar::pack(&grammar);
+    let listed = (services.listing)(&grammar, graph, 0, &mut [7], &mut [7]);
+    [listed.err(), (services.check)(&grammar, graph, &[]).err()]
+}
+
+/// An edge that is accepted.
+const GOOD: [u32; 4] = [0, 1, 2, 9];
+
+/// The refusal that a head and edges meet.
+type Row<'a> = ([u32; 3], &'a [[u32; 4]], Refusal);
+
+/// The numbers that are refused, field by field.
+const REFUSED: [Row; 22] = [
+    ([4, 2, 1], &[GOOD], UtteranceKind),
+    ([6, 2, 1], &[GOOD], UtteranceKind),
+    ([13, 0, 0], &[], UtteranceKind),
+    ([5, 0, 1], &[GOOD], UtteranceRange),
+    ([5, 1, 0], &[], UtteranceRange),
+    ([5, 26, 1], &[GOOD], UtteranceRange),
+    ([5, 31, 127], &[GOOD], UtteranceRange),
+    ([5, 2, 0], &[], UtteranceRange),
+    ([5, 2, 97], &[GOOD], UtteranceRange),
+    ([5, 2, 127], &[GOOD], UtteranceRange),
+    ([5, 3, 1], &[[1, 1, 2, 9]], EdgePlaces),
+    ([5, 3, 1], &[[2, 1, 2, 9]], EdgePlaces),
+    ([5, 3, 1], &[[0, 3, 2, 9]], EdgePlaces),
+    ([5, 25, 1], &[[0, 25, 3, 9]], EdgePlaces),
+    ([5, 25, 1], &[[30, 31, 3, 9]], EdgePlaces),
+    ([5, 3, 2], &[GOOD, [31, 0, 3, 9]], EdgePlaces),
+    ([5, 3, 1], &[[0, 2, 3, 9]], UtteranceWord),
+    ([5, 3, 2], &[GOOD, [0, 1, 3, 9]], UtteranceWord),
+    ([5, 3, 2], &[GOOD, GOOD], EdgeRepeat),
+    ([5, 3, 2], &[GOOD, [0, 1, 2, 65_535]], EdgeRepeat),
+    ([5, 3, 3], &[GOOD, [0, 2, 2, 9], [0, 1, 2, 0]], EdgeRepeat),
+    ([5, 3, 3], &[GOOD, GOOD, [1, 1, 3, 9]], EdgeRepeat),
+];
+
 fn refusals_of_a_block(services: &Services) {
-    let grammar = grammar::pack(&grammar::from_sheet(&[1, 3, 1, 1, 0, 0, 2, 0]).expect("an accepted grammar"));
-    let good = [0, 1, 2, 9];
-    let rows: [([u32; 3], &[[u32; 4]], Refusal); 22] = [
-        ([4, 2, 1], &[good], UtteranceKind),
-        ([6, 2, 1], &[good], UtteranceKind),
-        ([13, 0, 0], &[], UtteranceKind),
-        ([5, 0, 1], &[good], UtteranceRange),
-        ([5, 1, 0], &[], UtteranceRange),
-        ([5, 26, 1], &[good], UtteranceRange),
-        ([5, 31, 127], &[good], UtteranceRange),
-        ([5, 2, 0], &[], UtteranceRange),
-        ([5, 2, 97], &[good], UtteranceRange),
-        ([5, 2, 127], &[good], UtteranceRange),
-        ([5, 3, 1], &[[1, 1, 2, 9]], EdgePlaces),
-        ([5, 3, 1], &[[2, 1, 2, 9]], EdgePlaces),
-        ([5, 3, 1], &[[0, 3, 2, 9]], EdgePlaces),
-        ([5, 25, 1], &[[0, 25, 3, 9]], EdgePlaces),
-        ([5, 25, 1], &[[30, 31, 3, 9]], EdgePlaces),
-        ([5, 3, 2], &[good, [31, 0, 3, 9]], EdgePlaces),
-        ([5, 3, 1], &[[0, 2, 3, 9]], UtteranceWord),
-        ([5, 3, 2], &[good, [0, 1, 3, 9]], UtteranceWord),
-        ([5, 3, 2], &[good, good], EdgeRepeat),
-        ([5, 3, 2], &[good, [0, 1, 2, 65_535]], EdgeRepeat),
-        ([5, 3, 3], &[good, [0, 2, 2, 9], [0, 1, 2, 0]], EdgeRepeat),
-        ([5, 3, 3], &[good, good, [1, 1, 3, 9]], EdgeRepeat),
-    ];
-    let answers = |graph: &[u8]| {
-        let listed = (services.listing)(&grammar, graph, 0, &mut [7], &mut [7]).map(|_| ());
-        (listed, (services.check)(&grammar, graph, &[]))
-    };
-    for (head, edges, refusal) in rows {
-        let fields = fields(head, edges);
-        assert_eq!(answers(&block(&fields)), (Err(refusal), Err(refusal)), "{head:?} {edges:?}");
+    for (head, edges, refusal) in REFUSED {
+        let refused = block(&fields(head, edges));
+        assert_eq!(answers(services, &refused), [Some(refusal); 2], "{head:?} {edges:?}");
         // what stands behind makes no difference
-        let longer = [block(&fields), vec![0xff; 3]].concat();
-        assert_eq!(answers(&longer), (Err(refusal), Err(refusal)), "{head:?} {edges:?}");
+        let longer = [refused, vec![0xff; 3]].concat();
+        assert_eq!(answers(services, &longer), [Some(refusal); 2], "{head:?} {edges:?}");
     }
+}
+
+/// What passes the end is met where it stands: 52 behind the cost, 51 before the word, 13 of P before the number of edges.
+fn the_end_of_a_block(services: &Services) {
+    let answers = |graph: &[u8]| answers(services, graph);
     // other words over one span, and one word over other spans
-    let whole = fields([5, 3, 4], &[good, [0, 1, 1, 9], [0, 2, 2, 9], [1, 2, 2, 9]]);
+    let whole = fields([5, 3, 4], &[GOOD, [0, 1, 1, 9], [0, 2, 2, 9], [1, 2, 2, 9]]);
     let accepted = block(&whole);
-    assert_eq!(answers(&accepted), (Err(ListingWanted), Err(ReadingEnd)));
+    assert_eq!(answers(&accepted), [Some(ListingWanted), Some(ReadingEnd)]);
     for length in 0..accepted.len() {
-        assert_eq!(answers(&accepted[..length]), (Err(UtteranceEnd), Err(UtteranceEnd)), "{length} bytes");
+        assert_eq!(answers(&accepted[..length]), [Some(UtteranceEnd); 2], "{length} bytes");
     }
-    assert_eq!(answers(&[&accepted[..], &[0]].concat()), (Err(UtteranceFill), Err(UtteranceFill)));
-    let fill = [whole, vec![(1, 1)]].concat();
-    assert_eq!(answers(&block(&fill)), (Err(UtteranceFill), Err(UtteranceFill)));
-    // 52 stands behind the cost, 51 before the word, 13 of P before the number of edges
-    let cut = |head, edges: &[[u32; 4]], length| block(&fields(head, edges))[..length].to_vec();
-    assert_eq!(answers(&cut([5, 3, 2], &[good, good], 7)), (Err(UtteranceEnd), Err(UtteranceEnd)));
-    assert_eq!(answers(&cut([5, 3, 2], &[good, [1, 1, 0, 0]], 7)), (Err(EdgePlaces), Err(EdgePlaces)));
-    assert_eq!(answers(&cut([5, 0, 0], &[], 1)), (Err(UtteranceEnd), Err(UtteranceEnd)));
-    assert_eq!(answers(&block(&[(4, 5), (5, 26)])[..]), (Err(UtteranceRange), Err(UtteranceRange)));
+    assert_eq!(answers(&[&accepted[..], &[0]].concat()), [Some(UtteranceFill); 2]);
+    assert_eq!(answers(&block(&[whole, vec![(1, 1)]].concat())), [Some(UtteranceFill); 2]);
+    let twice = block(&fields([5, 3, 2], &[GOOD, GOOD]));
+    assert_eq!(answers(&twice[..twice.len() - 1]), [Some(UtteranceEnd); 2]);
+    let backwards = block(&fields([5, 3, 2], &[GOOD, [1, 1, 0, 0]]));
+    // 16 bits, 28 of the first edge, and 10 of the second
+    assert_eq!(answers(&backwards[..7]), [Some(EdgePlaces); 2]);
+    assert_eq!(answers(&backwards[..6]), [Some(UtteranceEnd); 2]);
+    assert_eq!(answers(&block(&[(4, 5), (5, 26)])), [Some(UtteranceRange); 2]);
+    assert_eq!(answers(&[0x50]), [Some(UtteranceEnd); 2]);
 }
 
 /// A reading of two edges of `TWO_LENGTHS` under G.
