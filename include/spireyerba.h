@@ -81,7 +81,7 @@ enum {
     SPIREYERBA_GRAMMAR_FILL = 7      /* nonzero fill in the last byte, or further bytes */
 };
 
-/* Refusals of an utterance, of slots or a word graph. From a sheet: RANGE, WORD, ORDER only. Of a graph: all but ORDER. */
+/* Refusals of an utterance, of slots or a word graph. From a sheet: RANGE, WORD, ORDER only; of a graph all but ORDER. */
 enum {
     SPIREYERBA_UTTERANCE_END = 11,   /* a field passes the end of the block       */
     SPIREYERBA_UTTERANCE_KIND = 12,  /* the block's kind is not 2, nor 5 where a graph is taken */
