@@ -6,3 +6,4 @@ pub mod Walk
 pub mod Struck
 pub mod Heard
 pub mod HeardList
+pub mod Path

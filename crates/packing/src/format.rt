@@ -30,6 +30,8 @@ pub const MAX_RULE_NUMBER: u32 = MAX_RULES as u32 - 1; // of a reading
 
 pub const MAX_PLACE_NUMBER: u32 = 31; // that a place's field has room for
 
+pub const MAX_EDGE_NUMBER: u32 = 127; // that an edge number's field has room for
+
 // The kinds of blocks and of rules.
 pub const GRAMMAR_BLOCK: u32 = 1;
 
@@ -290,4 +292,21 @@ pub const START_FIELD: Field = Field {
     most: MAX_PLACE_NUMBER,
     below: refused::EDGE_PLACES,
     above: refused::EDGE_PLACES,
+};
+
+// The fields of a graph's reading that are the same for every grammar and graph: the block's kind, an edge's number.
+pub const GRAPH_READING_KIND_FIELD: Field = Field {
+    width: KIND_WIDTH,
+    least: GRAPH_READING_BLOCK,
+    most: GRAPH_READING_BLOCK,
+    below: refused::READING_KIND,
+    above: refused::READING_KIND,
+};
+
+pub const EDGE_NUMBER_FIELD: Field = Field {
+    width: EDGE_NUMBER_WIDTH,
+    least: 0,
+    most: MAX_EDGE_NUMBER,
+    below: refused::READING_WALK,
+    above: refused::READING_WALK,
 };
