@@ -10,7 +10,7 @@ use Rattle.bits.specs.Fields.{bitsOfAll}
 use Rattle.packing.specs.Source.{inRange, fieldAt}
 use Rattle.packing.specs.Alike.{anyLike, unlikeFrom}
 use Rattle.derivation.specs.Derivation.{weight, walk}
-use Rattle.derivation.specs.List.{trees, listing}
+use Rattle.derivation.specs.List.{trees}
 use Rattle.listing.specs.Listing.{tableSize, tooHeavy, listed, list, joined}
 use Rattle.checker.specs.Check.{withWalk, derivationOf, check}
 use Rattle.phrases.specs.Enumeration.{firstPhrase}
@@ -18,5 +18,5 @@ use Rattle.specimen.specs.Specimen.{specimen}
 use Rattle.proved_cases.specs.Table.{AllHold, P-cases}
 
 pub cases-hold : AllHold P-cases
-unfolding slotEdges edgesFrom num bitsOf pack ended widthOf widthFrom bitsOfAll inRange fieldAt ruleFrom anyLike unlikeFrom grammarFrom grammarBlock rulesEntries grammarEntries blockOfGrammar candidatesFrom slotFrom slotsFrom utteranceFrom utteranceBlock candidatesEntries slotsEntries utteranceEntries blockOfUtterance walkFrom readingFrom walkEntries readingEntries blockOfReading weight walk trees listing tableSize readingLength tooHeavy listed list joined withWalk derivationOf check firstPhrase specimen
+unfolding slotEdges edgesFrom num bitsOf pack ended widthOf widthFrom bitsOfAll inRange fieldAt ruleFrom anyLike unlikeFrom grammarFrom grammarBlock rulesEntries grammarEntries blockOfGrammar candidatesFrom slotFrom slotsFrom utteranceFrom utteranceBlock candidatesEntries slotsEntries utteranceEntries blockOfUtterance walkFrom readingFrom walkEntries readingEntries blockOfReading weight walk trees tableSize readingLength tooHeavy listed list joined withWalk derivationOf check firstPhrase specimen
 cases-hold = (refl, (refl, (refl, ((refl, λ out. refl), (refl, (refl, (refl, (refl, (refl, (refl, (refl, (refl, ((refl, refl), ((refl, refl), (refl, ((refl, refl), (refl, ((refl, refl), ((refl, refl), ((refl, refl), tt))))))))))))))))))))
