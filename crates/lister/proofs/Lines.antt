@@ -65,9 +65,9 @@ module _ (g : Grammar) (es : List Edge) (src : Source) where
   abbrev behind : List ℕ → Parse (List ℕ) → Parse (List ℕ)
   behind front p = p ⟫ λ l at. parsed (front ++ l) at
 
-  behind-join : (front more : List ℕ) (p : Parse (List ℕ)) → behind front (behind more p) ≡ behind (front ++ more) p
-  behind-join front more (parsed l at) = rw append-assoc
-  behind-join front more (failed n) = refl
+  behind-join : (front next : List ℕ) (p : Parse (List ℕ)) → behind front (behind next p) ≡ behind (front ++ next) p
+  behind-join front next (parsed l at) = rw append-assoc
+  behind-join front next (failed n) = refl
 
   walk-read : {A : Sym} {i k : ℕ} {t : Tree} → Derives g es A i k t → {at mid : ℕ} → Taken src at (traceEntries (length (g .rules)) (trace t)) mid → (m : ℕ)
       → reads (length (trace t) + m) at ≡ behind (walk t) (reads m mid)
@@ -83,14 +83,14 @@ module _ (g : Grammar) (es : List Edge) (src : Source) where
       rw (steps, q, p, walk-read d₁ t₁ (length (trace t) + m), walk-read d₂ t₂ m, behind-join (walk s) (walk t) (reads m end))
       (behind-join (r ∷ []) (walk s ++ walk t) (reads m end))
 
-room : (bits bytes : ℕ) → (bits + 7) / 8 ≤ bytes → bits ≤ 8 * bytes
-room bits bytes h = omega arith
+room : (b n : ℕ) → (b + 7) / 8 ≤ n → b ≤ 8 * n
+room b n h = omega arith
 
 module _ (rules : List ℕ) (s : Shape) (block : List ℕ) (r : Line) (array : List ℕ) where
   graph-says : GraphSays rules s block r array → (g : Grammar) (h : Graph) (t : Tree) → ValidGrammar g → ValidGraph (g .words) h → Begins (ruleNumbers g) rules
       → s ≡ shapeOf g (graph h) → Derivation g (graph h) t → block ≡ packed g (graph h) t
       → (r .weight ≡ weight g (h .edges) t) × (r .nodes ≡ length (walk t)) × Begins (walk t) array
-  unfolding graphReading graphReadingLength
+  unfolding graphReading graphReadingLength rulesRead
   graph-says say g h t ok valid stand shape d is =
       let R : ℕ = length (g .rules) in
       let L : ℕ = outputLength g (graph h) in
@@ -101,9 +101,16 @@ module _ (rules : List ℕ) (s : Shape) (block : List ℕ) (r : Line) (array : L
       let taken = rw (← is) at (padded-taken R L (graphReading g h t) v) in
       let (head, nodes) = head-read (h .places - 1) R block (graphReading g h t) fits most taken in
       let size : 2 * pathLength t - 1 ≡ length (trace t) + 0 = omega (arith, trace-length t) in
-      let walked = walk-read g (h .edges) (bytes 31 block) d nodes 0 in
-      let (a, b, c) = say (record { edges = pathLength t; weight = weight g (h .edges) t }) (walk t ++ []) _ (rw shape head) (rw (shape, rules-of g rules stand, size) walked) in
-      (a, b ∙ omega (arith, walk-path t), rw append-nil at c)
+      go size head nodes
+    where
+      go : 2 * pathLength t - 1 ≡ length (trace t) + 0
+          → graphHeadFrom (h .places - 1) (length (g .rules)) block ≡ parsed (record { edges = pathLength t; weight = weight g (h .edges) t }) 34
+          → {mid : ℕ} → Taken (bytes 31 block) 34 (traceEntries (length (g .rules)) (trace t)) mid
+          → (r .weight ≡ weight g (h .edges) t) × (r .nodes ≡ length (walk t)) × Begins (walk t) array
+      go size head {mid} nodes =
+          let walked = walk-read g (h .edges) (bytes 31 block) d nodes 0 in
+          let (a, b, c) = say (record { edges = pathLength t; weight = weight g (h .edges) t }) (walk t ++ []) mid (rw shape head) (rw (shape, rules-of g rules stand, size) walked) in
+          (a, b ∙ omega (arith, walk-path t), rw append-nil at c)
 
   slots-says : SlotsSay s block r array → (g : Grammar) (u : Utterance) (t : Tree) → ValidGrammar g → ValidUtterance (g .words) u → s ≡ shapeOf g (slots u)
       → Derivation g (slots u) t → block ≡ packed g (slots u) t
