@@ -37,7 +37,7 @@ use Rattle.derivation.proofs.Trace.{isWordRule, trace-one, trace-length
 some-is : {m n : ℕ} → some m ≡ some n → m ≡ n
 some-is e = cc
 
-astray-none : (rules : List R.Rule) (es : List Edge) (src : Source) (last m at : ℕ) → weightAt last (runFrom rules es src m astray at) ≡ none
+pub astray-none : (rules : List R.Rule) (es : List Edge) (src : Source) (last m at : ℕ) → weightAt last (runFrom rules es src m astray at) ≡ none
 unfolding runFrom step finished
 astray-none rules es src last zero at = refl
 astray-none rules es src last (suc m) at = go (nodeFrom rules src at) (astray-none rules es src last m)
