@@ -9,7 +9,7 @@ use borrow.Author.Tests.{eqb-true, eq-eqb}
 use lib.Dec.{eqb}
 use lib.ListN.{length}
 use Rattle.bits.specs.Bits.{pick, ended}
-use Rattle.packing.specs.Meaning.{Grammar, Utterance, Reading, edges, Graph, Heard, slots, graph, heardEdges, GraphReading}
+use Rattle.packing.specs.Meaning.{Grammar, Utterance, Reading, edges, Graph, Heard, slots, graph, heardEdges}
 use Rattle.packing.specs.Parse.{Parse, parsed, failed, Verdict, accepted, refused}
 use Rattle.packing.specs.Reading.{readingFrom, blockOfReading}
 use Rattle.packing.specs.GraphReading.{GraphHead, graphHeadFrom, graphReadingBits}
@@ -18,8 +18,8 @@ use Rattle.packing.proofs.Parse.{refused≢accepted, picked-first, accepted-is}
 use Rattle.packing.proofs.Theorems.{reading-block-accepted}
 use Rattle.packing.proofs.GraphTheorems.{graph-reading-accepted}
 use Rattle.derivation.specs.Derivation.{Tree, Derivation, walk, weight, reading}
-use Rattle.derivation.specs.Heard.{pathLength, trace, graphReading, ownBlock}
-use Rattle.derivation.proofs.Theorems.{reading-packs, nodes}
+use Rattle.derivation.specs.Heard.{pathLength, graphReading, ownBlock}
+use Rattle.derivation.proofs.Theorems.{reading-packs}
 use Rattle.derivation.proofs.HeardReadings.{path, graph-reading-packs}
 use Rattle.checker.specs.Check.{Fields, walked, headed, weightRead, fieldsFrom, derivationOf, judged, afterFields, Has}
 use Rattle.checker.proofs.Judged.{Found, derivation-found, has-one, slots-fields, graph-fields, head-read}
@@ -66,9 +66,11 @@ module _ (g : Grammar) (h : Heard) (block : List ℕ) (okg : ValidGrammar g) (ok
 module _ (g : Grammar) (u : Utterance) (block : List ℕ) (okg : ValidGrammar g) (ok : ValidUtterance (g .words) u) (bytes : Bytes block) where
   slots-own : (t : Tree) → Read g (slots u) block t → Derivation g (slots u) t × (block ≡ ownBlock g (slots u) t)
   unfolding reading
-  slots-own t r =
-      (r .has .0, slots-fields g u block (λ d at. Has block g (slots u) d t → weight g (edges u) t ≡ weightRead d → ended block at ≡ true → block ≡ ownBlock g (slots u) t)
-      (r .fields) own (r .has) (r .weighs) (r .ends))
+  slots-own t r = (
+    r .has .0,
+    slots-fields g u block (λ d at. Has block g (slots u) d t → weight g (edges u) t ≡ weightRead d → ended block at ≡ true → block ≡ ownBlock g (slots u) t)
+        (r .fields) own (r .has) (r .weighs) (r .ends),
+  )
     where
       own : (d : Reading) (at : ℕ) → readingFrom (length u) (length (g .rules)) block ≡ parsed d at → Has block g (slots u) (walked d) t
           → weight g (edges u) t ≡ d .weight → ended block at ≡ true → block ≡ blockOfReading (length (g .rules)) (reading g u t)
@@ -87,9 +89,11 @@ module _ (g : Grammar) (u : Utterance) (block : List ℕ) (okg : ValidGrammar g)
 module _ (g : Grammar) (h : Graph) (block : List ℕ) (okg : ValidGrammar g) (ok : ValidGraph (g .words) h) (bytes : Bytes block) where
   graph-own : (t : Tree) → Read g (graph h) block t → Derivation g (graph h) t × (block ≡ ownBlock g (graph h) t)
   unfolding graphReading
-  graph-own t r =
-      (r .has .0, graph-fields g h block (λ d at. Has block g (graph h) d t → weight g (h .edges) t ≡ weightRead d → ended block at ≡ true → block ≡ ownBlock g (graph h) t)
-      (r .fields) own (r .has) (r .weighs) (r .ends))
+  graph-own t r = (
+    r .has .0,
+    graph-fields g h block (λ d at. Has block g (graph h) d t → weight g (h .edges) t ≡ weightRead d → ended block at ≡ true → block ≡ ownBlock g (graph h) t)
+        (r .fields) own (r .has) (r .weighs) (r .ends),
+  )
     where
       own : (d : GraphHead) (at : ℕ) → graphHeadFrom (h .places - 1) (length (g .rules)) block ≡ parsed d at → Has block g (graph h) (headed d) t
           → weight g (h .edges) t ≡ d .weight → ended block (graphReadingBits (d .edges) (length (g .rules))) ≡ true → block ≡ ownBlock g (graph h) t

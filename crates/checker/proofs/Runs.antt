@@ -1,9 +1,9 @@
 -- The check by the runs: the weight of the derivation that was found is the run's, and where none is found the run has none.
-use mathlib.Core.Path.{_≡_, refl, ap}
+use mathlib.Core.Path.{_≡_, refl}
 use mathlib.Core.Bool.{Bool, true, false}
 use mathlib.Core.List.{List}
 use mathlib.Core.Option.{Option, none, some}
-use Prim.Native.Nat.{ℕ, _+_, _-_, _*_, _≤_}
+use Prim.Native.Nat.{ℕ, _-_, _*_, _≤_}
 use native.Mathlib.Omega.{arith}
 use lib.Dec.{eqb}
 use lib.ListN.{length}
@@ -20,14 +20,14 @@ use Rattle.packing.specs.Valid.{ValidGrammar, ValidUtterance, ValidGraph}
 use Rattle.packing.proofs.Whole.{grammar-block-out, utterance-block-out}
 use Rattle.packing.proofs.Heard.{graph-block-out}
 use Rattle.packing.proofs.Graph.{valid-edge-count}
-use Rattle.derivation.specs.Derivation.{Tree, weight, Derivation}
+use Rattle.derivation.specs.Derivation.{Tree, weight}
 use Rattle.derivation.specs.Walk.{walkWeight}
 use Rattle.derivation.specs.Path.{pathWeight}
 use Rattle.derivation.proofs.Ranges.{valid-ascending, valid-rules}
 use Rattle.derivation.proofs.Walk.{walk-weight, walk-none}
 use Rattle.derivation.proofs.HeardReadings.{heard-forward}
 use Rattle.derivation.proofs.Path.{path-weight, path-none}
-use Rattle.checker.specs.Check.{Fields, walked, headed, fieldsFrom, derivationOf, judged, afterFields, check, checkedOf, Has}
+use Rattle.checker.specs.Check.{walked, headed, fieldsFrom, derivationOf, judged, afterFields, check, checkedOf, Has}
 use Rattle.checker.specs.Run.{weighed, byWalk, byPath, onAccepted, underRules}
 use Rattle.checker.specs.declared.Checked.the-variants.{Passes, Refused}
 use Rattle.checker.proofs.Judged.{Found, derivation-found, head-read}

@@ -15,7 +15,7 @@ use Rattle.packing.specs.declared.Sym.{Sym}
 use Rattle.packing.specs.declared.Word as W
 use Rattle.packing.specs.declared.Rule as R
 use Rattle.packing.specs.declared.Rule.the-variants.{Pair, Word}
-use Rattle.packing.specs.Meaning.{symbolOf, Utterance, Candidate}
+use Rattle.packing.specs.Meaning.{symbolOf, Utterance}
 use Rattle.packing.specs.Flat.{slotsOf, slotsBy}
 use Rattle.packing.proofs.Flat.{length-slots-by}
 use Rattle.derivation.specs.Walk.{State, onward, astray, costOf, leafStep, ruleStep, step, run, finished}
@@ -78,8 +78,14 @@ module _ (rules : List R.Rule) (slots stack : List ℕ) (at : Progress) (r : ℕ
   pair-step f =
       let (h, there) = pair-there rules stack (at .height) r f in
       let n : suc (at .height - 1) ≡ at .height = omega arith in
-      rw (heads-top stack (at .height) h, there, eq-eqb (getD stack (at .height - 1) 0) (getD stack (at .height - 1) 0) refl,
-      length-heads stack (at .height - 1), length-slots-by (λ (c : ℕ). c) slots (at .left) (at .place), n)
+      rw (
+        heads-top stack (at .height) h,
+        there,
+        eq-eqb (getD stack (at .height - 1) 0) (getD stack (at .height - 1) 0) refl,
+        length-heads stack (at .height - 1),
+        length-slots-by (λ (c : ℕ). c) slots (at .left) (at .place),
+        n,
+      )
 
   pub pair-fits : {B C : Sym} {v : ℕ} (after : List ℕ) (s : Step) → fitOf rules (headsOf stack (at .height)) r ≡ F.the-variants.Pair B C v
       → standing after s ≡ pick (ltb (at .height) (at .left)) (P.onward (at .place) (at .left) (B ∷ C ∷ below) (at .weight + v)) P.astray

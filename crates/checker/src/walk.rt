@@ -77,7 +77,13 @@ fn follow(
 {
     match parts_stack::fitting(rules, count, stack, at.height, r) {
         Fit::Nothing => Step::Astray,
-        Fit::Pair(first, second, weight) => parts_stack::pair_step(stack, at, first, second, weight),
+        Fit::Pair(first, second, weight) => parts_stack::pair_step(
+            stack,
+            at,
+            first,
+            second,
+            weight,
+        ),
         Fit::Word(word, weight) => word_step(slots, at, word, weight),
     }
 }

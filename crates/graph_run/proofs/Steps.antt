@@ -3,10 +3,10 @@ use mathlib.Core.Path.{_≡_, refl, sym, ap, _∙_}
 use mathlib.Core.Bool.{Bool, true, false}
 use mathlib.Core.List.{List, [], _∷_}
 use mathlib.Core.Option.{Option, none, some}
-use Prim.Native.Nat.{ℕ, zero, suc, _+_, _-_, _*_, _≤_, _<_}
+use Prim.Native.Nat.{ℕ, zero, suc, _+_, _-_, _≤_, _<_}
 use native.Mathlib.Omega.{arith}
 use native.Mathlib.Decide.{decLt}
-use borrow.Author.Tests.{eq-eqb, ne-eqb}
+use borrow.Author.Tests.{eq-eqb}
 use lib.Dec.{eqb, ltb}
 use lib.ListN.{length, getD, getElem?}
 use Rattle.bits.specs.Bits.{pick}
@@ -14,7 +14,7 @@ use Rattle.packing.specs.declared.Sym.{Sym}
 use Rattle.packing.specs.declared.Word as W
 use Rattle.packing.specs.declared.Rule as R
 use Rattle.packing.specs.declared.Rule.the-variants.{Pair, Word}
-use Rattle.packing.specs.Meaning.{symbolOf, Edge, Node, byPair, byWord}
+use Rattle.packing.specs.Meaning.{symbolOf, Edge, Node}
 use Rattle.packing.specs.Parse.{parsed, failed}
 use Rattle.packing.specs.Source.{Source}
 use Rattle.packing.specs.Flat.{ruleAt, rulesOf, nodeBy}
@@ -30,7 +30,7 @@ use Rattle.parts_stack.proofs.Heads.{length-heads, heads-top}
 use Rattle.parts_stack.proofs.Fits.{pair-there, word-there}
 
 -- where no rule fits, whatever its kind
-module _ (es : List Edge) (place left : ℕ) (A : Sym) (heads : List Sym) (w : ℕ) where
+module _ (place left : ℕ) (A : Sym) (heads : List Sym) (w : ℕ) where
   pair-lost : (o : Option R.Rule) → withHead A o ≡ F.the-variants.Nothing → pairStep place left A heads w o ≡ astray
   unfolding pairStep
   pair-lost none e = refl
@@ -58,8 +58,8 @@ pub nothing-fits : (rules : List R.Rule) (es : List Edge) (rule : R.Rule) (place
     → fitOf rules heads r ≡ F.the-variants.Nothing → astray ≡ step rules es (onward place left heads w) (nodeBy rule r e)
 unfolding step
 nothing-fits rules es rule place left [] w r e f = refl
-nothing-fits rules es (Pair H B C v) place left (A ∷ heads) w r e f = sym (pair-lost es place left A heads w (getElem? rules r) f)
-nothing-fits rules es (Word H x v) place left (A ∷ heads) w r e f = sym (word-lost es place left A heads w (getElem? rules r) (getElem? es e) f)
+nothing-fits rules es (Pair H B C v) place left (A ∷ heads) w r e f = sym (pair-lost place left A heads w (getElem? rules r) f)
+nothing-fits rules es (Word H x v) place left (A ∷ heads) w r e f = sym (word-lost place left A heads w (getElem? rules r) (getElem? es e) f)
 
 -- the rule of an array that is there is the one at its number
 rule-is : (l : List ℕ) (n r : ℕ) {rule : R.Rule} → getElem? (rulesOf l n) r ≡ some rule → ruleAt l r ≡ rule
@@ -87,8 +87,14 @@ module _ (array : List ℕ) (count : ℕ) (es : List Edge) (stack : List ℕ) (a
   pair-fits f =
       let (h, there) = pair-there rules stack (at .height) r f in
       let n : suc (at .height - 1) ≡ at .height = omega arith in
-      rw (rule-is array count r there, heads-top stack (at .height) h, there, eq-eqb (getD stack (at .height - 1) 0) (getD stack (at .height - 1) 0) refl,
-      length-heads stack (at .height - 1), n)
+      rw (
+        rule-is array count r there,
+        heads-top stack (at .height) h,
+        there,
+        eq-eqb (getD stack (at .height - 1) 0) (getD stack (at .height - 1) 0) refl,
+        length-heads stack (at .height - 1),
+        n,
+      )
 
   pub word-fits : {x : W.Word} {v : ℕ} → at .height ≤ at .left → fitOf rules (headsOf stack (at .height)) r ≡ F.the-variants.Word x v
       → step rules es (standing stack (Onward at)) node ≡ edgeStep x (at .place) (at .left - 1) below (at .weight + v) (getElem? es e)

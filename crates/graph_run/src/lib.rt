@@ -101,9 +101,7 @@ fn follow(
         Fit::Pair(first, second, weight) => {
             parts_stack::pair_step(stack, at, first, second, weight)
         }
-        Fit::Word(word, weight) => {
-            edge_step(edges, graph.edges, at, word, weight, node.edge)
-        }
+        Fit::Word(word, weight) => { edge_step(edges, graph.edges, at, word, weight, node.edge) }
     }
 }
 
@@ -131,7 +129,8 @@ pub fn weight_of(
     let mut bit = GRAPH_READING_HEAD;
     let mut i: usize = 0;
     while i < nodes {
-        let NodeRead::Node(node, c) = graph_reading_reader::read_node(rules, count, block, bit) else {
+        let NodeRead::Node(node, c) = graph_reading_reader::read_node(rules, count, block, bit)
+        else {
             return Found::Nothing;
         };
         let Step::Onward(next) = follow(rules, count, edges, graph, &mut stack, at, node) else {

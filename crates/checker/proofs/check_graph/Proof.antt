@@ -1,5 +1,5 @@
 -- The array's edges are those of the graph that was accepted.
-use mathlib.Core.Path.{_≡_, sym, ap, _∙_}
+use mathlib.Core.Path.{sym, ap, _∙_}
 use Prim.Native.Nat.{_-_}
 use native.Mathlib.Omega.{arith}
 use Rattle.packing.specs.Graph.{graphBlock}

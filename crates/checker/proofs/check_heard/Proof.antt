@@ -1,5 +1,5 @@
 -- The block's first bits say which kind it has.
-use mathlib.Core.Path.{_≡_, sym, _∙_}
+use mathlib.Core.Path.{sym, _∙_}
 use borrow.Author.Needs.{needs}
 use Rattle.checker.proofs.check_heard.Statement.{statement}
 use Rattle.checker.proofs.check_heard.Tie as tie

@@ -1,5 +1,5 @@
 -- The nodes stand in the block that was read, so the weight of the derivation that has them is that of the reading's path.
-use mathlib.Core.Path.{_≡_, sym, _∙_}
+use mathlib.Core.Path.{sym, _∙_}
 use native.Mathlib.Omega.{arith}
 use Rattle.packing.specs.Flat.{rulesOf}
 use Rattle.packing.proofs.Flat.{length-rules-at}

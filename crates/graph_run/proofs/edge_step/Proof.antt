@@ -1,7 +1,7 @@
 -- The edge's cost, if it has one, is what the run takes, and the edge's end is where the path then stands. Assumes nothing.
 use mathlib.Core.Path.{_≡_, sym, ap, _∙_}
 use mathlib.Core.Option.{none, some}
-use Prim.Native.Nat.{_+_, _-_, _*_}
+use Prim.Native.Nat.{_+_, _-_}
 use native.Mathlib.Omega.{arith}
 use lib.ListN.{getElem?}
 use Rattle.parts_stack.specs.Stack.{headsOf, numberOf}
@@ -58,9 +58,10 @@ returns-2 c =
     let e : costAt (a .word) (a .at .place) (getElem? (edgesOf (a .edges .now) (a .count)) (a .edge)) ≡ some (c .before .before .before .before .before .before .cost .given .0 .0) =
     sym (c .before .before .before .before .before .before .before .before .cost-of .ensures .0) ∙ ap numberOf (c .before .before .before .before .before .before .cost .given .1) in
     let there = edge-there (a .word) (a .at .place) (a .edges .now) (a .count) (a .edge) e in
-    let small = rw (c .before .before .before .before .before .before .cost .given .1) at (c .before .before .before .before .before .before .before .before .cost-of .ensures .1) in
-    (λ stack. rw (c .before .before .before .before .number-at .ensures .0, c .before .wide .ensures .0, there) (sym (taken (a .word) (a .at .place) (a .at .left - 1) (headsOf stack (a .at .height - 1)) (a .at .weight + a .weight) _ _ _ _ _ (rw there at e))),
-    omega (arith, small, c .before .wide .ensures .1, c .before .before .before .before .number-at .ensures .1))
+    let small = rw (c .before .before .before .before .before .before .cost .given .1) at (c .before .before .before .before .before .before .before .before .cost-of .ensures .1) in (
+      λ stack. rw (c .before .before .before .before .number-at .ensures .0, c .before .wide .ensures .0, there) (sym (taken (a .word) (a .at .place) (a .at .left - 1) (headsOf stack (a .at .height - 1)) (a .at .weight + a .weight) _ _ _ _ _ (rw there at e))),
+      omega (arith, small, c .before .wide .ensures .1, c .before .before .before .before .number-at .ensures .1),
+    )
 
 pub edge-step-spec : {M : Type 1} → statement M
 edge-step-spec =

@@ -1,5 +1,5 @@
 -- Each way out is one of the run's: no rule fits, a pair rule does, a word rule does. Assumes nothing.
-use mathlib.Core.Path.{_≡_, sym, _∙_}
+use mathlib.Core.Path.{sym, _∙_}
 use native.Mathlib.Omega.{arith}
 use Rattle.packing.specs.Flat.{ruleAt, rulesOf}
 use Rattle.parts_stack.specs.Stack.{headsOf}
@@ -40,9 +40,11 @@ same-length c = search needs
 returns : tie.Need-returns
 returns c =
     let a = c .before .before .before .before .before .before .before .args in
-    let fit = sym (c .before .before .fitting .ensures) ∙ c .enum-told .given .1 in
-    (nothing-fits (rulesOf (a .rules .now) (a .count)) (edgesOf (a .edges .now) (a .graph .edges)) (ruleAt (a .rules .now) (a .node .rule)) (a .at .place) (a .at .left)
-    (headsOf (a .stack .now) (a .at .height)) (a .at .weight) (a .node .rule) (a .node .edge) fit, tt)
+    let fit = sym (c .before .before .fitting .ensures) ∙ c .enum-told .given .1 in (
+      nothing-fits (rulesOf (a .rules .now) (a .count)) (edgesOf (a .edges .now) (a .graph .edges)) (ruleAt (a .rules .now) (a .node .rule)) (a .at .place) (a .at .left)
+          (headsOf (a .stack .now) (a .at .height)) (a .at .weight) (a .node .rule) (a .node .edge) fit,
+      tt,
+    )
 
 same-length-2 : tie.Need-same-length-2
 same-length-2 c = search needs

@@ -1,19 +1,17 @@
 -- After i nodes the numbers and the stack hold the state that the run has come to, with no more parts than edges are left.
 use mathlib.Core.Path.{_≡_, refl, sym, ap, _∙_}
-use mathlib.Core.List.{List, [], _∷_}
-use mathlib.Core.Option.{none, some}
-use Prim.Native.Nat.{_+_, _-_, _*_, _^_, _≤_, _<_}
+use mathlib.Core.List.{List}
+use Prim.Native.Nat.{_+_, _-_, _*_, _^_, _≤_}
 use native.Mathlib.Nat.{sub-zero}
 use native.Mathlib.Omega.{arith}
 use borrow.Author.Needs.{needs}
 use borrow.Author.Tests.{eq-eqb, ne-eqb}
 use lib.ListN.{length}
 use Rattle.packing.specs.declared.Rule as R
-use Rattle.packing.specs.Meaning.{symbolOf, Edge}
+use Rattle.packing.specs.Meaning.{Edge}
 use Rattle.packing.specs.Source.{bytes}
 use Rattle.packing.specs.Flat.{rulesOf}
-use Rattle.derivation.specs.Path.{State, onward, runFrom, finished, weightAt, pathWeight}
-use Rattle.graph_reading_reader.specs.Answer.{NodeAs}
+use Rattle.derivation.specs.Path.{State, runFrom, weightAt, pathWeight}
 use Rattle.parts_stack.specs.Stack.{headsOf, standing}
 use Rattle.parts_stack.specs.declared.Step.the-variants.{Onward}
 use Rattle.graph_run.specs.Edges.{edgesOf}

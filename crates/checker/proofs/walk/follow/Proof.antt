@@ -1,5 +1,5 @@
 -- Each way out is one of the run's: no rule fits, a pair rule does, a word rule does.
-use mathlib.Core.Path.{_≡_, sym, _∙_}
+use mathlib.Core.Path.{sym, _∙_}
 use native.Mathlib.Omega.{arith}
 use Rattle.packing.specs.Flat.{rulesOf, slotsOf}
 use Rattle.parts_stack.specs.Stack.{headsOf}
