@@ -96,12 +96,7 @@ pub fn write_graph_reading(
         ++ drop size (now (out .entry)) ⌝ }
 {
     clear(out, size);
-    bit_writer::write_field(
-        out,
-        0,
-        format::KIND_WIDTH,
-        format::GRAPH_READING_BLOCK,
-    );
+    bit_writer::write_field(out, 0, format::KIND_WIDTH, format::GRAPH_READING_BLOCK);
     bit_writer::write_field(
         out,
         format::PATH_EDGES_AT,

@@ -122,26 +122,29 @@ holds-longer s z bs (l, h) = (
   λ k b. ap (λ (v : ℕ). bitOf 8 v ((0 + k) % 8)) (List·getD-append s z 0 ((0 + k) / 8) (omega arith)) ∙ h k b,
 )
 
-module _ (isWord : ℕ → Bool) (R L : ℕ) (d e : GraphReading) where
+module _ (R L : ℕ) where
   abbrev out : GraphReading → List ℕ
   out d = padded L (blockOfGraphReading R d)
 
-  taken : (d : GraphReading) → ValidGraphReading R d → Taken (bytes 31 (out d)) 0 (graphReadingEntries R d) (0 + widths (flds (graphReadingEntries R d)))
+  pub padded-taken : (d : GraphReading) → ValidGraphReading R d → Taken (bytes 31 (out d)) 0 (graphReadingEntries R d) (0 + widths (flds (graphReadingEntries R d)))
   unfolding padded blockOfGraphReading
-  taken d (f, w, l, k) =
+  padded-taken d (f, w, l, k) =
       let es : List Entry = graphReadingEntries R d in
       let block : List ℕ = pack (bitsOfAll (flds es)) in
       let zeros : List ℕ = replicate (L - length block) 0 in
       held-taken 31 (block ++ zeros) 0 es f w (holds-longer block zeros (bitsOfAll (flds es)) (holds-block (flds es)))
 
-  -- "each reading taken with its zeros"
-  pub graph-reading-decided : ValidGraphReading R d → ValidGraphReading R e → Kinded isWord (d .trace) → Kinded isWord (e .trace) → out d ≡ out e → d ≡ e
+-- "each reading taken with its zeros"
+module _ (isWord : ℕ → Bool) (R L : ℕ) (d e : GraphReading) where
+  pub graph-reading-decided : ValidGraphReading R d → ValidGraphReading R e → Kinded isWord (d .trace) → Kinded isWord (e .trace) → out R L d ≡ out R L e
+      → d ≡ e
   unfolding graphReadingEntries
   graph-reading-decided v u k l same =
-      go (taken d v) (subst (λ s. Taken (bytes 31 s) 0 (graphReadingEntries R e) (0 + widths (flds (graphReadingEntries R e)))) (sym same) (taken e u))
+      go (padded-taken R L d v)
+      (subst (λ s. Taken (bytes 31 s) 0 (graphReadingEntries R e) (0 + widths (flds (graphReadingEntries R e)))) (sym same) (padded-taken R L e u))
     where
       s : List ℕ
-      s = out d
+      s = out R L d
 
       go : {m n : ℕ} → Taken (bytes 31 s) 0 (graphReadingEntries R d) m → Taken (bytes 31 s) 0 (graphReadingEntries R e) n → d ≡ e
       go {n = n} (more {mid = a} p (more {mid = b} q (more {mid = c} r t))) (more {mid = a′} p′ (more {mid = b′} q′ (more {mid = c′} r′ t′))) =
@@ -170,17 +173,25 @@ module _ (most R : ℕ) (s : List ℕ) (d : GraphReading) where
       (graphHeadFrom most R s ≡ parsed (record { edges = d .edges; weight = d .weight }) 34) × TraceIn R (d .trace) s
       × (ended s (graphReadingBits (d .edges) R) ≡ true)
 
-  stands : length s ≡ (graphReadingBits (d .edges) R + 7) / 8 → ended s (graphReadingBits (d .edges) R) ≡ true → d .edges ≤ most → {n : ℕ}
-      → Taken (bytes 31 s) 0 (graphReadingEntries R d) n → Stands
+  -- where its entries are taken and there is room, its head is read, and its nodes are taken behind it
+  pub head-read : graphReadingBits (d .edges) R ≤ 8 * length s → d .edges ≤ most → {n : ℕ} → Taken (bytes 31 s) 0 (graphReadingEntries R d) n
+      → (graphHeadFrom most R s ≡ parsed (record { edges = d .edges; weight = d .weight }) 34) × Taken (bytes 31 s) 34 (traceEntries R (d .trace)) n
   unfolding graphReadingEntries graphHeadFrom
-  stands long end h (more {mid = a} p (more {mid = b} q (more {mid = c} r t))) =
+  head-read room h {n} (more {mid = a} p (more {mid = b} q (more {mid = c} r t))) =
       let x = field-at-bytes-out 31 s 0 (blockKind 6 32) p in
       let y = field-at-bytes-out 31 s a (pathEdges (d .edges)) q in
       let z = field-at-bytes-out 31 s b readingWeight r in
-      let at : c ≡ 34 = omega (arith, x .2, y .2, z .2) in
+      let at : c ≡ 34 = omega (arith, x .2, y .2, z .2) in (
+        rw (p, path-field a (d .edges) most h q, le-ltb (8 * length s) (graphReadingBits (d .edges) R) room, r, at),
+        subst (λ i. Taken (bytes 31 s) i (traceEntries R (d .trace)) n) at t,
+      )
+
+  stands : length s ≡ (graphReadingBits (d .edges) R + 7) / 8 → ended s (graphReadingBits (d .edges) R) ≡ true → d .edges ≤ most → {n : ℕ}
+      → Taken (bytes 31 s) 0 (graphReadingEntries R d) n → Stands
+  stands long end h t =
       let room : graphReadingBits (d .edges) R ≤ 8 * length s = omega (arith, long) in
-      let held = taken-held 31 s (omega (arith, z .0, z .2)) t .2 in
-      (rw (p, path-field a (d .edges) most h q, le-ltb (8 * length s) (graphReadingBits (d .edges) R) room, r, at), rw at at held, end)
+      let (head, nodes) = head-read room h t in
+      (head, taken-held 31 s (omega arith) nodes .2, end)
 
   pub graph-reading-back : ValidGraphReading R d → d .edges ≤ most → s ≡ blockOfGraphReading R d → Stands
   unfolding blockOfGraphReading

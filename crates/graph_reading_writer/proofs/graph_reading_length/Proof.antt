@@ -7,11 +7,8 @@ use Rattle.graph_reading_writer.proofs.Trace.{walk-small}
 use Rattle.graph_reading_writer.proofs.graph_reading_length.Statement.{statement}
 use Rattle.graph_reading_writer.proofs.graph_reading_length.Tie as tie
 
-sub-width-of : tie.Need-sub-width-of
-sub-width-of c = search needs
-
-width-of-requires : tie.Need-width-of-requires
-width-of-requires c κs = search needs
+width-below-requires : tie.Need-width-below-requires
+width-below-requires c κs = search needs
 
 mul-result : tie.Need-mul-result
 mul-result c = search needs
@@ -20,30 +17,29 @@ sub-result : tie.Need-sub-result
 sub-result c = search needs
 
 mul-result-2 : tie.Need-mul-result-2
-mul-result-2 c = omega (arith, walk-small {m = 2 * c .before .args .n - 1} {w = c .width-of .result} (omega arith) (omega arith))
+mul-result-2 c = omega (arith, walk-small {m = 2 * c .before .args .n - 1} {w = c .width-below .result} (omega arith) (omega arith))
 
 add-result : tie.Need-add-result
-add-result c = omega (arith, walk-small {m = 2 * c .before .args .n - 1} {w = c .width-of .result} (omega arith) (omega arith))
+add-result c = omega (arith, walk-small {m = 2 * c .before .args .n - 1} {w = c .width-below .result} (omega arith) (omega arith))
 
 mul-result-3 : tie.Need-mul-result-3
 mul-result-3 c = search needs
 
 add-result-2 : tie.Need-add-result-2
-add-result-2 c = omega (arith, walk-small {m = 2 * c .before .args .n - 1} {w = c .width-of .result} (omega arith) (omega arith))
+add-result-2 c = omega (arith, walk-small {m = 2 * c .before .args .n - 1} {w = c .width-below .result} (omega arith) (omega arith))
 
 add-result-3 : tie.Need-add-result-3
-add-result-3 c = omega (arith, walk-small {m = 2 * c .before .args .n - 1} {w = c .width-of .result} (omega arith) (omega arith))
+add-result-3 c = omega (arith, walk-small {m = 2 * c .before .args .n - 1} {w = c .width-below .result} (omega arith) (omega arith))
 
 returns : tie.Need-returns
 unfolding graphReadingLength
-returns c = rw (c .width-of .ensures .0)
+returns c = rw (c .width-below .ensures .0)
 
 pub graph-reading-length-spec : {M : Type 1} → statement M
 graph-reading-length-spec =
     tie.close
     (tie.spec
-    sub-width-of
-    width-of-requires
+    width-below-requires
     mul-result
     sub-result
     mul-result-2

@@ -19,11 +19,8 @@ Inv-loop out₀ rules count trace n width at₀ i₀ out at i =
 abbrev μ-loop : tie.MeasureT-loop
 μ-loop out₀ rules count trace n width at₀ i₀ out at i = n - i
 
-sub-width-of : tie.Need-sub-width-of Inv-loop μ-loop
-sub-width-of c = omega arith
-
-width-of-requires : tie.Need-width-of-requires Inv-loop μ-loop
-width-of-requires c κs = omega arith
+width-below-requires : tie.Need-width-below-requires Inv-loop μ-loop
+width-below-requires c κs = omega arith
 
 loop-holds : tie.Need-loop-holds Inv-loop μ-loop
 loop-holds c = (omega arith, omega arith, rw sub-zero all-remain)
@@ -50,10 +47,10 @@ write-node-requires : tie.Need-write-node-requires Inv-loop μ-loop
 write-node-requires c κs =
     let a = c .before .before .before .before .before .before .before .before .before .args in
     let l = c .before .before .before .before .loop in
-    let w = c .before .before .before .before .before .width-of .result in
+    let w = c .before .before .before .before .before .width-below .result in
     let node = nodeAt (a .count) (a .rules .now) (a .trace .now) (l .i) in
     let left = rest (a .count) (a .rules .now) (a .trace .now) (a .n) (l .i + 1) in
-    let r = node-remains (a .count) (a .rules .now) (a .trace .now) (a .n) (l .i) (c .before .before .before .before .before .width-of .ensures .0) (omega arith) (omega arith) (l .inv .2) in
+    let r = node-remains (a .count) (a .rules .now) (a .trace .now) (a .n) (l .i) (c .before .before .before .before .before .width-below .ensures .0) (omega arith) (omega arith) (l .inv .2) in
     (omega arith, omega arith, omega (arith, some-within (nodeFields w node) left r, r .size))
 
 add-i : tie.Need-add-i Inv-loop μ-loop
@@ -66,10 +63,10 @@ loop-again : tie.Need-loop-again Inv-loop μ-loop
 loop-again c =
     let a = c .before .before .before .before .before .before .before .before .before .before .before .before .args in
     let l = c .before .before .before .before .before .before .before .loop in
-    let w = c .before .before .before .before .before .before .before .before .width-of .result in
+    let w = c .before .before .before .before .before .before .before .before .width-below .result in
     let node = nodeAt (a .count) (a .rules .now) (a .trace .now) (l .i) in
     let left = rest (a .count) (a .rules .now) (a .trace .now) (a .n) (l .i + 1) in
-    let r = node-remains (a .count) (a .rules .now) (a .trace .now) (a .n) (l .i) (c .before .before .before .before .before .before .before .before .width-of .ensures .0) (omega arith) (omega arith) (l .inv .2) in
+    let r = node-remains (a .count) (a .rules .now) (a .trace .now) (a .n) (l .i) (c .before .before .before .before .before .before .before .before .width-below .ensures .0) (omega arith) (omega arith) (l .inv .2) in
     let e = c .before .before .write-node .ensures in
     (omega arith, omega (arith, e .1, node-width w node (omega arith)), some-written (nodeFields w node) left r (e .0) (e .1))
 
@@ -88,8 +85,7 @@ write-trace-spec =
     (tie.spec
     Inv-loop
     μ-loop
-    sub-width-of
-    width-of-requires
+    width-below-requires
     loop-holds
     mul-p
     mul-write-node
