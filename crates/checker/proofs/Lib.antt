@@ -6,3 +6,4 @@ pub mod Arrays
 pub mod Steps
 pub mod Answered
 pub mod Runs
+pub mod GraphExamples
