@@ -3,7 +3,7 @@
 use mathlib.Core.Path.{_≡_, refl, sym, ap, _∙_}
 use mathlib.Core.Bool.{Bool, true, false}
 use mathlib.Core.List.{List, [], _∷_, List·Memᴰ·head, List·Memᴰ·tail, List·Memᴰ·cases-cons, List·Memᴰ·not-nil}
-use mathlib.Core.Logic.{_↔_, ⊎-elim}
+use mathlib.Core.Logic.{⊎-elim}
 use mathlib.Core.Option.{Option, none, some}
 use Prim.Native.Nat.{ℕ, zero, suc, _+_, _-_, _*_, _≤_, _<_}
 use native.Mathlib.Nat.{add-zero}
@@ -24,7 +24,7 @@ use Rattle.packing.specs.Valid.{ValidGrammar, ValidHeard}
 use Rattle.packing.proofs.Parse.{picked-first, through, same-parsed, parsed-else}
 use Rattle.packing.proofs.Taking.{field-at-bytes-out}
 use Rattle.packing.proofs.Graph.{valid-edge-count}
-use Rattle.derivation.specs.Derivation.{Tree, walk, weight, Derivation}
+use Rattle.derivation.specs.Derivation.{Tree, walk}
 use Rattle.derivation.specs.Heard.{pathLength, trace}
 use Rattle.derivation.specs.Rank.{_∈_}
 use Rattle.derivation.specs.List.{trees}
@@ -33,7 +33,7 @@ use Rattle.derivation.proofs.Slots.{edges-apart}
 use Rattle.derivation.proofs.Readings.{walk-one}
 use Rattle.derivation.proofs.Trees.{trees-derive}
 use Rattle.derivation.proofs.HeardReadings.{heard-forward}
-use Rattle.derivation.proofs.Path.{Stands, stands-one}
+use Rattle.derivation.proofs.Path.{stands-one}
 use Rattle.checker.specs.Check.{same, hasBits, Fields, walked, headed, fieldsFrom, fits, HasNodes, firstWith, derivationOf, Has}
 
 false≢true : false ≡ true → ⊥

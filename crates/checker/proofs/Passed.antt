@@ -9,7 +9,7 @@ use borrow.Author.Tests.{eqb-true, eq-eqb}
 use lib.Dec.{eqb}
 use lib.ListN.{length}
 use Rattle.bits.specs.Bits.{pick, ended}
-use Rattle.packing.specs.Meaning.{Grammar, Utterance, Reading, edges, Graph, Heard, slots, graph, heardEdges, GraphReading}
+use Rattle.packing.specs.Meaning.{Grammar, Utterance, Reading, edges, Graph, Heard, slots, graph, heardEdges}
 use Rattle.packing.specs.Parse.{Parse, parsed, failed, Verdict, accepted, refused}
 use Rattle.packing.specs.Reading.{readingFrom, blockOfReading}
 use Rattle.packing.specs.GraphReading.{GraphHead, graphHeadFrom, graphReadingBits}
@@ -18,8 +18,8 @@ use Rattle.packing.proofs.Parse.{refused≢accepted, picked-first, accepted-is}
 use Rattle.packing.proofs.Theorems.{reading-block-accepted}
 use Rattle.packing.proofs.GraphTheorems.{graph-reading-accepted}
 use Rattle.derivation.specs.Derivation.{Tree, Derivation, walk, weight, reading}
-use Rattle.derivation.specs.Heard.{pathLength, trace, graphReading, ownBlock}
-use Rattle.derivation.proofs.Theorems.{reading-packs, nodes}
+use Rattle.derivation.specs.Heard.{pathLength, graphReading, ownBlock}
+use Rattle.derivation.proofs.Theorems.{reading-packs}
 use Rattle.derivation.proofs.HeardReadings.{path, graph-reading-packs}
 use Rattle.checker.specs.Check.{Fields, walked, headed, weightRead, fieldsFrom, derivationOf, judged, afterFields, Has}
 use Rattle.checker.proofs.Judged.{Found, derivation-found, has-one, slots-fields, graph-fields, head-read}

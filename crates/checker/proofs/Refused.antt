@@ -1,9 +1,9 @@
 -- The refusals of the check. Those of the blocks and of the fields are of their rows (packing's Refusals). After the fields, 34, 35 and
 -- 36 each come exactly where specs/Check says: the derivation with the nodes that were read is found if there is one, and there is one
 -- at most.
-use mathlib.Core.Path.{_≡_, refl, sym, _∙_}
+use mathlib.Core.Path.{_≡_, refl, _∙_}
 use mathlib.Core.Bool.{Bool, true, false}
-use mathlib.Core.Logic.{_↔_, ⊎-elim, _⊎_, inl, inr}
+use mathlib.Core.Logic.{_↔_, ⊎-elim}
 use mathlib.Core.List.{List}
 use mathlib.Core.Option.{Option, none, some}
 use Prim.Native.Nat.{ℕ, _-_, _≤_}

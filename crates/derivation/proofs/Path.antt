@@ -1,13 +1,12 @@
 -- The run over a graph's reading accepts exactly the derivations whose nodes stand in the block, with their weight: a state's heads are
 -- covered, from its place and its bit on, by one tree each, whose paths have the edges that are left.
 -- No path is without an edge, so the test for room never turns a derivation away.
-use mathlib.Core.Path.{_≡_, refl, sym, ap, _∙_, subst}
+use mathlib.Core.Path.{_≡_, refl, sym, ap, _∙_}
 use mathlib.Core.Logic.{_↔_}
 use mathlib.Core.Bool.{Bool, true, false}
 use mathlib.Core.Option.{Option, none, some}
 use mathlib.Core.List.{List, [], _∷_, _++_, append-assoc}
 use Prim.Native.Nat.{ℕ, zero, suc, _+_, _-_, _*_, _≤_, _<_}
-use native.Mathlib.Nat.{add-zero}
 use native.Mathlib.Omega.{arith}
 use borrow.Author.Tests.{eqb-true, ltb-true, eq-eqb, lt-ltb}
 use lib.Dec.{eqb, ltb}
@@ -25,7 +24,7 @@ use Rattle.packing.specs.GraphReading.{edgeNumber, nodeEntries, traceEntries, T
 use Rattle.packing.proofs.Parse.{through, same-parsed}
 use Rattle.packing.proofs.Taken.{Taken, all, more, taken-join, taken-split, taken-held, held-taken}
 use Rattle.packing.proofs.GraphReading.{trace-fits, trace-decided}
-use Rattle.derivation.specs.Derivation.{At, Offered, Tree, leaf, node, Derives, by-word, by-pair, weight}
+use Rattle.derivation.specs.Derivation.{At, Offered, Tree, node, Derives, by-word, by-pair, weight}
 use Rattle.derivation.specs.Heard.{pathLength, trace}
 use Rattle.derivation.specs.Path.{State, onward, astray, edgeStep, pairStep, wordStep, step, nodeBy, nodeFrom, runFrom, finished, weightAt, pathWeight}
 use Rattle.derivation.proofs.Lists.{none≢some}
@@ -37,7 +36,7 @@ use Rattle.derivation.proofs.Trace.{isWordRule, trace-one, trace-length
 some-is : {m n : ℕ} → some m ≡ some n → m ≡ n
 some-is e = cc
 
-astray-none : (rules : List R.Rule) (es : List Edge) (src : Source) (last m at : ℕ) → weightAt last (runFrom rules es src m astray at) ≡ none
+pub astray-none : (rules : List R.Rule) (es : List Edge) (src : Source) (last m at : ℕ) → weightAt last (runFrom rules es src m astray at) ≡ none
 unfolding runFrom step finished
 astray-none rules es src last zero at = refl
 astray-none rules es src last (suc m) at = go (nodeFrom rules src at) (astray-none rules es src last m)

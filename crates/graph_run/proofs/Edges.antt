@@ -1,13 +1,14 @@
 -- The edges of an array that begins with a graph's are the graph's, and an edge's cost decides whether it is taken. Assumes nothing.
-use mathlib.Core.Path.{_≡_, refl, sym}
+use mathlib.Core.Path.{_≡_, refl, sym, ap, _∙_}
 use mathlib.Core.Bool.{Bool, true, false}
 use mathlib.Core.List.{List, [], _∷_}
 use mathlib.Core.Option.{Option, none, some}
-use Prim.Native.Nat.{ℕ, zero, suc, _+_, _*_, _≤_, _<_}
+use Prim.Native.Nat.{ℕ, zero, suc, _+_, _≤_, _<_}
 use native.Mathlib.Nat.{add-zero, zero-add}
 use native.Mathlib.Omega.{arith}
+use native.Mathlib.Decide.{decLt}
 use lib.Dec.{eqb, ltb}
-use lib.ListN.{length, getD, getElem?}
+use lib.ListN.{length, getElem?}
 use Rattle.bits.specs.Bits.{pick}
 use Rattle.packing.specs.declared.Sym.{Sym}
 use Rattle.packing.specs.declared.Word as W
@@ -15,6 +16,7 @@ use Rattle.packing.specs.Meaning.{notHeard, Edge, edge}
 use Rattle.packing.specs.Flat.{Begins, edgeNumbers}
 use Rattle.packing.proofs.Flat.{edge-at}
 use Rattle.derivation.specs.Path.{onward, astray, edgeStep}
+use Rattle.derivation.proofs.Lists.{none≢some}
 use Rattle.graph_run.specs.Edges.{edgeAt, edgesAt, edgesOf, costAt}
 
 -- each of them
@@ -71,3 +73,12 @@ module _ (x : W.Word) (place left : ℕ) (heads : List Sym) (w : ℕ) where
       go true false t e = let z : _≡_ {A = ℕ} 0 1 = cc in absurd (omega arith)
       go true true false e = let z : _≡_ {A = ℕ} 0 1 = cc in absurd (omega arith)
       go true true true e = let z : c ≡ d = cc in rw z
+
+-- one that costs is there
+pub edge-there : (x : W.Word) (place : ℕ) (l : List ℕ) (n e : ℕ) {d : ℕ} → costAt x place (getElem? (edgesOf l n) e) ≡ some d
+    → getElem? (edgesOf l n) e ≡ some (edgeAt l e)
+edge-there x place l n e {d} h = go (decLt e n)
+  where
+    go : Dec (e < n) → getElem? (edgesOf l n) e ≡ some (edgeAt l e)
+    go (yes k) = edge-of l n e k
+    go (no k) = absurd (none≢some (sym (ap (costAt x place) (no-edge-of l 0 n e (omega arith))) ∙ h))

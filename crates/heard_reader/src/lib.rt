@@ -28,7 +28,7 @@ pub enum HeardRead {
 }
 
 // Whether a block's kind is a graph's.
-fn is_graph(block: &[u8]) -> bool
+pub fn is_graph(block: &[u8]) -> bool
     ensures { λ r. ⌜ r ≡ eqb (field (now (block .entry)) 0 4) 5 ⌝ }
 {
     if block.len() == 0 {

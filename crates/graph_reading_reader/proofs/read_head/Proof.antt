@@ -1,6 +1,5 @@
 -- Each field is the next of the definition; where one is refused, so is the head. Assumes nothing.
-use mathlib.Core.Path.{_≡_, refl, sym, _∙_}
-use Prim.Native.Nat.{ℕ, _≤_, _<_}
+use mathlib.Core.Path.{refl, sym, _∙_}
 use native.Mathlib.Omega.{arith}
 use Rattle.packing.specs.Source.{bytes, fieldAt}
 use Rattle.packing.specs.Grammar.{blockKind}

@@ -1,5 +1,5 @@
 -- At most 47 rule numbers of at most 8 bits and 24 edge numbers of 7 stay far below the largest number. Assumes nothing.
-use Prim.Native.Nat.{_-_, _*_, _≤_}
+use Prim.Native.Nat.{_-_, _*_}
 use native.Mathlib.Nat.{mul-le-mul}
 use native.Mathlib.Omega.{arith}
 use borrow.Author.Needs.{needs}

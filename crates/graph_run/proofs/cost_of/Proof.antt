@@ -1,58 +1,69 @@
+-- Each way out is the one that the tests on the number, the start, the word and the cost choose. Assumes nothing.
+use mathlib.Core.Path.{sym, _∙_}
+use Prim.Native.Nat.{_+_, _*_}
+use borrow.Author.Tests.{eq-eqb, ne-eqb, lt-ltb, le-ltb}
+use lib.ListN.{getD}
+use Rattle.graph_run.proofs.Edges.{edge-of, no-edge-of}
 use borrow.Author.Needs.{needs}
 use Rattle.graph_run.proofs.cost_of.Statement.{statement}
 use Rattle.graph_run.proofs.cost_of.Tie as tie
-use Rattle.graph_run.proofs.cost_of.Reads as reads
-use Rattle.graph_run.proofs.cost_of.Lts as lts
-use Rattle.arrays.proofs.number_at.Reads as number-at-reads
-use Rattle.arrays.proofs.wide.Reads as wide-reads
 
--- src/lib.rt:42:9
 returns : tie.Need-returns
-returns c = ?
+returns c =
+    let a = c .before .before .args in
+    (rw (no-edge-of (a .edges .now) 0 (a .count) (a .edge) (c .if1 .taken)), tt)
 
--- src/lib.rt:44:14
 mul-at : tie.Need-mul-at
 mul-at c = search needs
 
--- src/lib.rt:45:8
 number-at-requires : tie.Need-number-at-requires
 number-at-requires c κs = search needs
 
--- src/lib.rt:46:37
 add-number-at : tie.Need-add-number-at
 add-number-at c = search needs
 
--- src/lib.rt:46:12
 number-at-requires-2 : tie.Need-number-at-requires-2
 number-at-requires-2 c κs = search needs
 
--- src/lib.rt:46:59
 wide-requires : tie.Need-wide-requires
 wide-requires c κs = search needs
 
--- src/lib.rt:47:49
 add-number-at-2 : tie.Need-add-number-at-2
 add-number-at-2 c = search needs
 
--- src/lib.rt:47:17
 number-at-requires-3 : tie.Need-number-at-requires-3
 number-at-requires-3 c κs = search needs
 
--- src/lib.rt:49:17
 returns-2 : tie.Need-returns-2
-returns-2 c = ?
+returns-2 c =
+    let a = c .before .before .before .before .before .before .before .before .before .args in
+    let there = edge-of (a .edges .now) (a .count) (a .edge) (c .before .before .before .before .before .before .before .if1 .left) in
+    let starts = eq-eqb (getD (a .edges .now) (4 * a .edge) 0) (a .place) (sym (c .before .before .before .before .before .before .number-at .ensures .0) ∙ c .before .before .before .before .before .if2 .taken) in
+    let carries = eq-eqb (getD (a .edges .now) (4 * a .edge + 2) 0) (a .word .0) (sym (c .before .before .before .before .number-at2 .ensures .0) ∙ c .before .before .if3 .taken ∙ c .before .before .before .wide .ensures .0) in
+    (rw (there, starts, carries, ← c .before .number-at3 .ensures .0, lt-ltb _ _ (c .if4 .taken)), c .before .number-at3 .ensures .1)
 
--- src/lib.rt:51:13
 returns-3 : tie.Need-returns-3
-returns-3 c = ?
+returns-3 c =
+    let a = c .before .before .before .before .before .before .before .before .before .args in
+    let there = edge-of (a .edges .now) (a .count) (a .edge) (c .before .before .before .before .before .before .before .if1 .left) in
+    let starts = eq-eqb (getD (a .edges .now) (4 * a .edge) 0) (a .place) (sym (c .before .before .before .before .before .before .number-at .ensures .0) ∙ c .before .before .before .before .before .if2 .taken) in
+    let carries = eq-eqb (getD (a .edges .now) (4 * a .edge + 2) 0) (a .word .0) (sym (c .before .before .before .before .number-at2 .ensures .0) ∙ c .before .before .if3 .taken ∙ c .before .before .before .wide .ensures .0) in
+    (rw (there, starts, carries, ← c .before .number-at3 .ensures .0, le-ltb _ _ (c .if4 .left)), tt)
 
--- src/lib.rt:53:9
 returns-4 : tie.Need-returns-4
-returns-4 c = ?
+returns-4 c =
+    let a = c .before .before .before .before .before .before .before .args in
+    let there = edge-of (a .edges .now) (a .count) (a .edge) (c .before .before .before .before .before .if1 .left) in
+    let starts = eq-eqb (getD (a .edges .now) (4 * a .edge) 0) (a .place) (sym (c .before .before .before .before .number-at .ensures .0) ∙ c .before .before .before .if2 .taken) in
+    let other = ne-eqb (getD (a .edges .now) (4 * a .edge + 2) 0) (a .word .0) (λ e. c .if3 .left (c .before .before .number-at2 .ensures .0 ∙ e ∙ sym (c .before .wide .ensures .0))) in
+    (rw (there, starts, other), tt)
 
--- src/lib.rt:37:1
 returns-5 : tie.Need-returns-5
-returns-5 c = ?
+returns-5 c =
+    let a = c .before .before .before .before .args in
+    let there = edge-of (a .edges .now) (a .count) (a .edge) (c .before .before .if1 .left) in
+    let other = ne-eqb (getD (a .edges .now) (4 * a .edge) 0) (a .place) (λ e. c .if2 .left (c .before .number-at .ensures .0 ∙ e)) in
+    (rw (there, other), tt)
 
 pub cost-of-spec : {M : Type 1} → statement M
 cost-of-spec =

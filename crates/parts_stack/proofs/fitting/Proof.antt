@@ -1,5 +1,5 @@
 -- Each way out is the one that the tests on the stack, on the number and on the rule's head choose.
-use mathlib.Core.Path.{_≡_, sym, ap, _∙_}
+use mathlib.Core.Path.{sym, ap, _∙_}
 use mathlib.Core.Option.{some}
 use Prim.Native.Nat.{_-_}
 use native.Mathlib.Omega.{arith}

@@ -1,13 +1,12 @@
 -- The numbers read stand in front, so the weight of the derivation that has them is that of the reading's walk.
-use mathlib.Core.Path.{ap, _∙_}
+use mathlib.Core.Path.{_∙_}
 use borrow.Author.Needs.{needs}
 use Rattle.packing.specs.Reading.{readingFrom}
 use Rattle.reading_reader.proofs.Outcome.{parsed-told, failed-told}
-use Rattle.checker.specs.Check.{checkedOf}
 use Rattle.packing.specs.Flat.{rulesOf, slotsOf}
 use Rattle.checker.proofs.Answered.{walk-judged}
-use Rattle.checker.proofs.check_reading.Statement.{statement}
-use Rattle.checker.proofs.check_reading.Tie as tie
+use Rattle.checker.proofs.check_walk.Statement.{statement}
+use Rattle.checker.proofs.check_walk.Tie as tie
 
 slice-aggregate-read-reading : tie.Need-slice-aggregate-read-reading
 slice-aggregate-read-reading c = search needs
@@ -49,10 +48,10 @@ returns-2 c =
     let (d, e, w) = parsed-told (readingFrom (a .n) (a .count) (a .reading .now)) (read .ensures .0) (at-weight .weight .given .1) in
     let judged = walk-judged (a .n) (a .count) (rulesOf (a .rules .now) (a .count)) (slotsOf (a .slots .now) (a .n) 0)
     (a .reading .now) (read .last .1 .1 .1 .0) e (read .ensures .1) (at-weight-of .weight-of .ensures) in
-    c .judge .ensures d w ∙ ap checkedOf judged
+    c .judge .ensures ∙ rw (← w) judged
 
-pub check-reading-spec : {M : Type 1} → statement M
-check-reading-spec =
+pub check-walk-spec : {M : Type 1} → statement M
+check-walk-spec =
     tie.close
     (tie.spec
     slice-aggregate-read-reading

@@ -8,12 +8,10 @@ use Rattle.packing.specs.Utterance.{utteranceBlock}
 use Rattle.packing.specs.Flat.{rulesOf}
 use Rattle.utterance_reader.proofs.Outcome.{accepted-told, refused-told}
 use Rattle.utterance_reader.specs.declared.Slots.{Slots}
-use Rattle.checker.specs.Check.{checkedOf}
-use Rattle.checker.specs.Run.{underRules}
 use Rattle.packing.proofs.Flat.{length-rules-at}
 use Rattle.checker.proofs.Answered.{slots-judged}
-use Rattle.checker.proofs.check_utterance.Statement.{statement}
-use Rattle.checker.proofs.check_utterance.Tie as tie
+use Rattle.checker.proofs.check_slots.Statement.{statement}
+use Rattle.checker.proofs.check_slots.Tie as tie
 
 slice-aggregate-read-block : tie.Need-slice-aggregate-read-block
 slice-aggregate-read-block c = search needs
@@ -27,23 +25,22 @@ enum-known-m c = search needs
 enum-known-found : tie.Need-enum-known-found
 enum-known-found c = search needs
 
-slice-aggregate-check-reading : tie.Need-slice-aggregate-check-reading
-slice-aggregate-check-reading c = search needs
+slice-aggregate-check-walk : tie.Need-slice-aggregate-check-walk
+slice-aggregate-check-walk c = search needs
 
-check-reading-requires : tie.Need-check-reading-requires
-check-reading-requires c κs =
+check-walk-requires : tie.Need-check-walk-requires
+check-walk-requires c κs =
     let at-found = c .before .before in
     let at-read = at-found .before .before .before in
     let sized = rw (at-found .found .given .1) at (at-read .read-block .ensures .2) in
     omega (arith, at-read .before .before .before .before .before .pre)
 
 returns : tie.Need-returns
-unfolding underRules
 returns c =
     let at-m = c .before in
     let at-read = at-m .before .before .before in
     let a = at-read .before .before .before .before .before .args in
-    rw (refused-told (a .words) (utteranceBlock (a .words) (a .utterance .now)) (at-read .read-block .ensures .0) (at-m .m .given .1))
+    rw (refused-told (a .words) (utteranceBlock (a .words) (a .heard .now)) (at-read .read-block .ensures .0) (at-m .m .given .1))
 
 returns-2 : tie.Need-returns-2
 returns-2 c =
@@ -52,20 +49,20 @@ returns-2 c =
     let a = at-read .before .before .before .before .before .args in
     let read = at-read .read-block in
     let rules : List R.Rule = rulesOf (a .rules .now) (a .count) in
-    let (u, e, z) = accepted-told (a .words) (utteranceBlock (a .words) (a .utterance .now)) (read .ensures .0) (at-found .found .given .1) in
-    let judged = slots-judged (a .words) rules (a .utterance .now) (a .reading .now) (read .last .1 .1 .0) e (read .ensures .1)
+    let (u, e, z) = accepted-told (a .words) (utteranceBlock (a .words) (a .heard .now)) (read .ensures .0) (at-found .found .given .1) in
+    let judged = slots-judged (a .words) rules (a .heard .now) (a .reading .now) (read .last .1 .1 .0) e (read .ensures .1)
     (ap (λ (s : Slots). s .count) z) (sym (length-rules-at (a .rules .now) 0 (a .count))) in
-    c .check-reading .ensures ∙ ap checkedOf judged
+    c .check-walk .ensures ∙ judged
 
-pub check-utterance-spec : {M : Type 1} → statement M
-check-utterance-spec =
+pub check-slots-spec : {M : Type 1} → statement M
+check-slots-spec =
     tie.close
     (tie.spec
     slice-aggregate-read-block
     read-block-requires
     enum-known-m
     enum-known-found
-    slice-aggregate-check-reading
-    check-reading-requires
+    slice-aggregate-check-walk
+    check-walk-requires
     returns
     returns-2)
