@@ -9,11 +9,17 @@ use lib.Seq.{take-suc-set, length-take-le}
 use Rattle.packing.specs.Meaning.{Node}
 use Rattle.packing.specs.Parse.{Parse, parsed, failed, _⟫_}
 use Rattle.packing.specs.Source.{Source}
-use Rattle.packing.specs.Flat.{Begins}
+use Rattle.packing.specs.Flat.{Begins, nodeBy}
 use Rattle.packing.specs.declared.Rule as R
+use Rattle.packing.specs.declared.Rule.the-variants.{Pair, Word}
 use Rattle.packing.proofs.Parse.{through, same-parsed}
 use Rattle.derivation.specs.Path.{nodeFrom}
 use Rattle.lister.specs.Model.{nodeRule, rulesRead}
+
+-- the rule of a node
+pub by-rule : (x : R.Rule) (r e : ℕ) → nodeRule (nodeBy x r e) ≡ r
+by-rule (Pair h y z w) r e = refl
+by-rule (Word h y w) r e = refl
 
 module _ (rules : List R.Rule) (src : Source) (nodes : ℕ) where
   -- i nodes were read and the next is at a place
@@ -25,7 +31,7 @@ module _ (rules : List R.Rule) (src : Source) (nodes : ℕ) where
   pub none-read : (array : List ℕ) → Remaining 0 34 array
   none-read array l next e = let z : nodes - 0 ≡ nodes = omega arith in (l, rw z e, refl)
 
-  module _ {i at : ℕ} {array : List ℕ} (h : Remaining i at array) where
+  module _ (i at : ℕ) (array : List ℕ) (h : Remaining i at array) where
     one-more : i < nodes → (l : List ℕ) (next : ℕ) → rulesRead rules src nodes 34 ≡ parsed l next
         → (x : Node) × (mid : ℕ) × (rest : List ℕ) × (nodeFrom rules src at ≡ parsed x mid) × (rulesRead rules src (nodes - (i + 1)) mid ≡ parsed rest next)
         × (take i array ++ (nodeRule x ∷ rest) ≡ l)
