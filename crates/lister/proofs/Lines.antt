@@ -29,9 +29,12 @@ use Rattle.derivation.proofs.Theorems.{nodes, reading-packs}
 use Rattle.derivation.proofs.Trace.{trace-length}
 use Rattle.derivation.proofs.HeardReadings.{path, graph-reading-packs, packed-length}
 use Rattle.reading_reader.specs.Answer.{answerOf, WalkIn}
+use Rattle.graph_reading_reader.specs.Answer as graph-answer
+use Rattle.graph_reading_reader.specs.declared.GraphHead as heads
+use Rattle.graph_reading_reader.specs.declared.HeadRead as graphs
 use Rattle.reading_reader.specs.declared.ReadingRead as read
 use Rattle.lister.specs.Lines.{shapeOf, Says}
-use Rattle.lister.specs.Model.{SlotsSay, rulesRead, GraphSays}
+use Rattle.lister.specs.Model.{SlotsSay, rulesRead, WalkRead, GraphSays}
 use Rattle.lister.specs.declared.Line.{Line}
 use Rattle.lister.specs.declared.Shape.{Shape}
 
@@ -82,6 +85,23 @@ module _ (g : Grammar) (es : List Edge) (src : Source) where
       rw (length-append (trace s) (trace t)) (omega arith) in
       rw (steps, q, p, walk-read d₁ t₁ (length (trace t) + m), walk-read d₂ t₂ m, behind-join (walk s) (walk t) (reads m end))
       (behind-join (r ∷ []) (walk s ++ walk t) (reads m end))
+
+-- what the reader of a graph's reading says
+module _ (rules : List ℕ) (s : Shape) (block array : List ℕ) {r : graphs.HeadRead}
+    (answered : r ≡ graph-answer.answerOf (s .rules) (graphHeadFrom (s .last) (s .rules) block)) where
+  pub graph-refused : {m : ℕ} → r ≡ graphs.the-variants.Refused m → {line : Line} → GraphSays rules s block line array
+  graph-refused {m} told d l next head nodes =
+      let same : graphs.the-variants.Refused m ≡ graph-answer.answerOf (s .rules) (parsed d 34) = sym told ∙ answered ∙ ap (graph-answer.answerOf (s .rules)) head in
+      let z : _≡_ {A = ℕ} 0 1 = cc in
+      absurd (omega arith)
+
+  pub graph-read : {x : heads.GraphHead} {c : Cursor} → r ≡ graphs.the-variants.Head x c → WalkRead rules (s .rules) (2 * x .edges - 1) block array
+      → GraphSays rules s block (record { weight = x .weight; nodes = 2 * x .edges - 1 }) array
+  graph-read {x} {c} told walked d l next head nodes =
+      let same : graphs.the-variants.Head x c ≡ graph-answer.answerOf (s .rules) (parsed d 34) = sym told ∙ answered ∙ ap (graph-answer.answerOf (s .rules)) head in
+      let weights : x .weight ≡ d .weight = cc in
+      let edges : x .edges ≡ d .edges = cc in
+      (weights, rw edges, walked l next (rw edges nodes))
 
 room : (b n : ℕ) → (b + 7) / 8 ≤ n → b ≤ 8 * n
 room b n h = omega arith

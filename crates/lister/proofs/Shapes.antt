@@ -1,6 +1,6 @@
 -- A block has one meaning, so the shape is that of whatever meaning it is accepted with.
 use mathlib.Core.Path.{_≡_, sym, ap, _∙_}
-use mathlib.Core.Bool.{false}
+use mathlib.Core.Bool.{Bool, true, false}
 use mathlib.Core.List.{List}
 use Prim.Native.Nat.{ℕ, _≤_}
 use native.Mathlib.Omega.{arith}
@@ -9,13 +9,18 @@ use Rattle.packing.specs.Meaning.{Grammar, Heard}
 use Rattle.packing.specs.Parse.{accepted, refused}
 use Rattle.packing.specs.Grammar.{grammarBlock}
 use Rattle.packing.specs.Heard.{heardBlock}
+use Rattle.bits.specs.Bits.{pick}
+use Rattle.packing.specs.Reading.{readingLength}
+use Rattle.packing.specs.GraphReading.{graphReadingLength}
 use Rattle.packing.specs.Flat.{Begins, ruleNumbers, RulesIn}
+use Rattle.packing.proofs.Widths.{length-small}
+use Rattle.packing.proofs.GraphReading.{graph-length-small}
 use Rattle.packing.proofs.Parse.{accepted-is, refused≢accepted}
 use Rattle.grammar_reader.specs.Answer.{sizes}
 use Rattle.grammar_reader.specs.declared.Sizes.{Sizes}
 use Rattle.heard_reader.specs.Answer.{heardSize}
 use Rattle.heard_reader.specs.declared.HeardSize.{HeardSize}
-use Rattle.lister.specs.Lines.{Bounded, ShapeOf, shapeOf}
+use Rattle.lister.specs.Lines.{Bounded, ShapeOf, shapeOf, sizeOf}
 use Rattle.lister.specs.declared.Shape.{Shape}
 
 -- slots, 1 and 1
@@ -51,3 +56,11 @@ module _ (grammar heard rules : List ℕ) where
             let same : g ≡ g′ = accepted-is (sym e ∙ a) in
             let one : h ≡ h′ = accepted-is (sym (rw (f, same) at p) ∙ b) in
             (rw (q, f, same, one), rw a at stand)
+
+-- a reading has at most 73 bytes
+pub size-small : (s : Shape) → Bounded s → sizeOf s ≤ 73
+size-small s b = go (s .graph)
+  where
+    go : (t : Bool) → pick t (graphReadingLength (s .last) (s .rules)) (readingLength (s .last) (s .rules)) ≤ 73
+    go true = graph-length-small (s .last) (s .rules) (b .places) (b .rules)
+    go false = omega (arith, length-small (s .last) (s .rules) (b .places) (b .rules))

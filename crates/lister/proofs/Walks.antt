@@ -59,7 +59,7 @@ module _ (rules : List R.Rule) (src : Source) (nodes : ℕ) where
         (rest, rw place at more, rw (add-one i, take-suc-set array i r room, append-assoc, k, ← same) is)
 
     pub no-node : i < nodes → {n : ℕ} → nodeFrom rules src at ≡ failed n → (l : List ℕ) (next : ℕ) → rulesRead rules src nodes 34 ≡ parsed l next → Begins l array
-    no-node b p l next e = 
+    no-node b p l next e =
         let (x, mid, rest, q, more, is) = one-more b l next e in
         let z : _≡_ {A = ℕ} 0 1 = cc in
         absurd (omega arith)
@@ -74,5 +74,5 @@ module _ (rules : List R.Rule) (src : Source) (nodes : ℕ) where
         go : (rest : List ℕ) → take i array ++ rest ≡ l → parsed [] at ≡ parsed rest next → Begins l array
         go rest q p =
             let none : [] ≡ rest = cc in
-            let is : take i array ≡ l = sym append-nil ∙ ap (λ r. take i array ++ r) none ∙ q in
+            let is : take i array ≡ l = sym (append-nil (take i array)) ∙ ap (λ r. take i array ++ r) none ∙ q in
             rw (← is, length-take-le i array room) refl

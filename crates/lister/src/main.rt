@@ -129,7 +129,10 @@ fn graph_line(block: &[u8], rules: &[u32], s: Shape, walk: &mut [u32]) -> Line
     ensures { λ r. ⌜ (Few r) × GraphSays (now (rules .entry)) s (now (block .entry)) r (now (walk .exit)) ⌝ }
 {
     let HeadRead::Head(head, _) = read_head(block, s.last, s.rules) else {
-        return Line { weight: 0, nodes: 0 };
+        return Line {
+            weight: 0,
+            nodes: 0,
+        };
     };
     let nodes = 2 * head.edges - 1;
     read_walk(block, rules, s.rules, nodes, walk);

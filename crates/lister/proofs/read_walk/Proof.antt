@@ -9,9 +9,6 @@ use Rattle.packing.specs.Flat.{rulesOf, ruleAt}
 use Rattle.lister.proofs.Walks.{by-rule, Remaining, none-read, node-read, no-node, all-read}
 use Rattle.lister.proofs.read_walk.Statement.{statement}
 use Rattle.lister.proofs.read_walk.Tie as tie
-use Rattle.lister.proofs.read_walk.Reads as reads
-use Rattle.lister.proofs.read_walk.Lts as lts
-use Rattle.graph_reading_reader.proofs.read_node.Reads as read-node-reads
 
 abbrev Inv-loop : tie.InvT-loop
 Inv-loop block rules count nodes walk₀ at₀ i₀ walk at i =
@@ -20,67 +17,52 @@ Inv-loop block rules count nodes walk₀ at₀ i₀ walk at i =
 abbrev μ-loop : tie.MeasureT-loop
 μ-loop block rules count nodes walk₀ at₀ i₀ walk at i = nodes - i
 
--- src/main.rt:117:5
 loop-holds : tie.Need-loop-holds Inv-loop μ-loop
 loop-holds c = (omega arith, refl, omega arith, none-read (rulesOf (c .before .before .before .args .rules .now) (c .before .before .before .args .count)) (bytes 31 (c .before .before .before .args .block .now)) (c .before .before .before .args .nodes) (c .before .before .before .args .walk .now))
 
--- src/main.rt:118:36
 read-node-requires : tie.Need-read-node-requires Inv-loop μ-loop
 read-node-requires c κs = (omega (arith, c .before .loop .inv .0, c .before .loop .inv .2, c .before .before .before .before .before .pre .2), c .before .before .before .before .before .pre .0, c .before .before .before .before .before .pre .1)
 
--- src/main.rt:118:28
 enum-known-x : tie.Need-enum-known-x Inv-loop μ-loop
 enum-known-x c = search needs
 
--- src/main.rt:119:13
 enum-told : tie.Need-enum-told Inv-loop μ-loop
 enum-told c = search needs
 
--- src/main.rt:119:13
 same-length : tie.Need-same-length Inv-loop μ-loop
 same-length c = search (needs, c .before .before .before .before .loop .inv .1)
 
--- src/main.rt:119:13
 returns : tie.Need-returns Inv-loop μ-loop
 returns c = let (n, p) = rw (c .enum-told .given .1) at (c .before .before .read-node .ensures) in no-node (rulesOf (c .before .before .before .before .before .before .before .before .args .rules .now) (c .before .before .before .before .before .before .before .before .args .count)) (bytes 31 (c .before .before .before .before .before .before .before .before .args .block .now)) (c .before .before .before .before .before .before .before .before .args .nodes) (c .before .before .before .before .loop .i) (c .before .before .before .before .loop .at) (c .before .before .before .before .loop .walk) (c .before .before .before .before .loop .inv .3) (omega (arith, c .before .before .before .loop-test .taken)) p
 
--- src/main.rt:121:19
 cast-walk : tie.Need-cast-walk Inv-loop μ-loop
 cast-walk c = let (p, near, small, few) = rw (c .before .before .x .given .1) at (c .before .before .before .before .read-node .ensures) in search (needs, small)
 
--- src/main.rt:121:9
 mul-walk : tie.Need-mul-walk Inv-loop μ-loop
 mul-walk c = omega (arith, c .before .before .before .before .before .before .loop .inv .0, c .before .before .before .before .before .before .before .before .before .before .pre .2)
 
--- src/main.rt:121:9
 slice-write-walk : tie.Need-slice-write-walk Inv-loop μ-loop
 slice-write-walk c = omega (arith, c .before .before .before .before .before .before .loop .inv .0, c .before .before .before .before .before .before .loop .inv .1, c .before .before .before .before .before .loop-test .taken, c .before .before .before .before .before .before .before .before .before .before .pre .2, c .before .before .before .before .before .before .before .before .before .before .pre .3)
 
--- src/main.rt:117:9
 add-i : tie.Need-add-i Inv-loop μ-loop
 add-i c = omega (arith, c .before .before .before .before .before .before .loop .inv .0, c .before .before .before .before .before .loop-test .taken)
 
--- src/main.rt:117:5
 loop-less : tie.Need-loop-less Inv-loop μ-loop
 loop-less c = omega (arith, c .before .before .before .before .before .loop-test .taken)
 
--- src/main.rt:117:5
 loop-again : tie.Need-loop-again Inv-loop μ-loop
-loop-again c = 
-    let (p, near, small, few) = rw (c .before .before .x .given .1) at (c .before .before .before .before .read-node .ensures) in
-    (
+loop-again c =
+    let (p, near, small, few) = rw (c .before .before .x .given .1) at (c .before .before .before .before .read-node .ensures) in (
       omega (arith, c .before .before .before .before .before .loop-test .taken),
       length-set (c .before .before .before .before .before .before .loop .walk) (c .before .before .before .before .before .before .loop .i) (c .before .before .x .given .0 .0 .rule) ∙ c .before .before .before .before .before .before .loop .inv .1,
       omega (arith, c .before .before .before .before .before .before .loop .inv .2, near),
       node-read (rulesOf (c .before .before .before .before .before .before .before .before .before .before .args .rules .now) (c .before .before .before .before .before .before .before .before .before .before .args .count)) (bytes 31 (c .before .before .before .before .before .before .before .before .before .before .args .block .now)) (c .before .before .before .before .before .before .before .before .before .before .args .nodes) (c .before .before .before .before .before .before .loop .i) (c .before .before .before .before .before .before .loop .at) (c .before .before .before .before .before .before .loop .walk) (c .before .before .before .before .before .before .loop .inv .3) (omega (arith, c .before .before .before .before .before .loop-test .taken)) (omega (arith, c .before .before .before .before .before .before .loop .inv .1, c .before .before .before .before .before .loop-test .taken, c .before .before .before .before .before .before .before .before .before .before .pre .2, c .before .before .before .before .before .before .before .before .before .before .pre .3)) p
-      (sym (by-rule (ruleAt (c .before .before .before .before .before .before .before .before .before .before .args .rules .now) (c .before .before .x .given .0 .0 .rule)) (c .before .before .x .given .0 .0 .rule) (c .before .before .x .given .0 .0 .edge))),
+          (sym (by-rule (ruleAt (c .before .before .before .before .before .before .before .before .before .before .args .rules .now) (c .before .before .x .given .0 .0 .rule)) (c .before .before .x .given .0 .0 .rule) (c .before .before .x .given .0 .0 .edge))),
     )
 
--- src/main.rt:112:1
 same-length-2 : tie.Need-same-length-2 Inv-loop μ-loop
 same-length-2 c = search (needs, c .before .loop .inv .1)
 
--- src/main.rt:112:1
 returns-2 : tie.Need-returns-2 Inv-loop μ-loop
 returns-2 c = all-read (rulesOf (c .before .before .before .before .before .args .rules .now) (c .before .before .before .before .before .args .count)) (bytes 31 (c .before .before .before .before .before .args .block .now)) (c .before .before .before .before .before .args .nodes) (c .before .loop .i) (c .before .loop .at) (c .before .loop .walk) (c .before .loop .inv .3) (omega (arith, c .loop-test .left)) (omega (arith, c .before .loop .inv .0, c .before .loop .inv .1, c .before .before .before .before .before .pre .2, c .before .before .before .before .before .pre .3)) (c .before .loop .inv .0)
 

@@ -7,52 +7,37 @@ use Rattle.lister.proofs.Shapes.{no-grammar, no-heard, both-accepted}
 use borrow.Author.Needs.{needs}
 use Rattle.lister.proofs.shape_of.Statement.{statement}
 use Rattle.lister.proofs.shape_of.Tie as tie
-use Rattle.lister.proofs.shape_of.Reads as reads
-use Rattle.lister.proofs.shape_of.Lts as lts
-use Rattle.grammar_reader.proofs.read_block.Reads as read-block-reads
-use Rattle.heard_reader.proofs.read_heard.Reads as read-heard-reads
 
--- src/main.rt:70:9
 read-block-requires : tie.Need-read-block-requires
 read-block-requires c κs = search needs
 
--- src/main.rt:71:30
 enum-known-read : tie.Need-enum-known-read
 enum-known-read c = search needs
 
--- src/main.rt:72:9
 enum-told : tie.Need-enum-told
 enum-told c = search needs
 
--- src/main.rt:72:9
 same-length : tie.Need-same-length
 same-length c = search needs
 
--- src/main.rt:72:9
 returns : tie.Need-returns
 returns c = no-grammar (c .before .before .before .before .before .before .before .before .before .args .grammar .now) (c .before .before .before .before .before .before .before .before .before .args .utterance .now) (c .before .before .before .before .read-block .last .1 .0) (grammar.refused-told (grammarBlock (c .before .before .before .before .before .before .before .before .before .args .grammar .now)) (c .before .before .before .before .read-block .ensures .0) (c .enum-told .given .1))
 
--- src/main.rt:75:66
 slice-aggregate-read-heard : tie.Need-slice-aggregate-read-heard
 slice-aggregate-read-heard c = search needs
 
--- src/main.rt:75:9
 read-heard-requires : tie.Need-read-heard-requires
 read-heard-requires c κs = let bounded = rw (c .before .before .read .given .1) at (c .before .before .before .before .before .before .read-block .ensures .2) in (bounded .some-word, bounded .words, search needs)
 
--- src/main.rt:76:26
 enum-known-heard : tie.Need-enum-known-heard
 enum-known-heard c = search needs
 
--- src/main.rt:77:9
 enum-told-2 : tie.Need-enum-told-2
 enum-told-2 c = search needs
 
--- src/main.rt:77:9
 same-length-2 : tie.Need-same-length-2
 same-length-2 c = search needs
 
--- src/main.rt:77:9
 returns-2 : tie.Need-returns-2
 returns-2 c =
     let (g, v, z) = grammar.accepted-told (grammarBlock (c .before .before .before .before .before .before .before .before .before .before .before .before .before .before .before .args .grammar .now)) (c .before .before .before .before .before .before .before .before .before .before .read-block .ensures .0) (c .before .before .before .before .before .before .read .given .1) in
@@ -60,15 +45,12 @@ returns-2 c =
     no-heard (c .before .before .before .before .before .before .before .before .before .before .before .before .before .before .before .args .grammar .now) (c .before .before .before .before .before .before .before .before .before .before .before .before .before .before .before .args .utterance .now) (c .before .before .before .before .before .before .before .before .before .before .read-block .last .1 .0) g v z
     (heard.refused-told (heardBlock W (c .before .before .before .before .before .before .before .before .before .before .before .before .before .before .before .args .utterance .now)) (c .before .before .before .read-heard .ensures .answer) (c .enum-told2 .given .1))
 
--- src/main.rt:82:16
 cast-t14 : tie.Need-cast-t14
 cast-t14 c = search needs
 
--- src/main.rt:61:1
 same-length-3 : tie.Need-same-length-3
 same-length-3 c = search needs
 
--- src/main.rt:61:1
 returns-3 : tie.Need-returns-3
 returns-3 c =
     let (g, v, z) = grammar.accepted-told (grammarBlock (c .before .before .before .before .before .before .before .before .before .before .before .before .before .before .before .before .before .args .grammar .now)) (c .before .before .before .before .before .before .before .before .before .before .before .before .read-block .ensures .0) (c .before .before .before .before .before .before .before .before .read .given .1) in

@@ -1,24 +1,16 @@
 use borrow.Author.Needs.{needs}
 use Rattle.lister.proofs.size_of.Statement.{statement}
 use Rattle.lister.proofs.size_of.Tie as tie
-use Rattle.lister.proofs.size_of.Reads as reads
-use Rattle.lister.proofs.size_of.Lts as lts
-use Rattle.graph_reading_writer.proofs.graph_reading_length.Reads as graph-reading-length-reads
-use Rattle.reading_writer.proofs.reading_length.Reads as reading-length-reads
 
--- src/main.rt:92:9
 graph-reading-length-requires : tie.Need-graph-reading-length-requires
 graph-reading-length-requires c κs = search needs
 
--- src/main.rt:92:9
 returns : tie.Need-returns
 returns c = rw (c .before .if1 .taken) (c .graph-reading-length .ensures)
 
--- src/main.rt:94:5
 reading-length-requires : tie.Need-reading-length-requires
 reading-length-requires c κs = search needs
 
--- src/main.rt:87:1
 returns-2 : tie.Need-returns-2
 returns-2 c = rw (c .before .if1 .left) (c .reading-length .ensures)
 

@@ -4,43 +4,31 @@ use Rattle.lister.proofs.Lines.{slots-read, slots-refused}
 use borrow.Author.Needs.{needs}
 use Rattle.lister.proofs.slots_line.Statement.{statement}
 use Rattle.lister.proofs.slots_line.Tie as tie
-use Rattle.lister.proofs.slots_line.Reads as reads
-use Rattle.lister.proofs.slots_line.Lts as lts
-use Rattle.reading_reader.proofs.read_reading.Reads as read-reading-reads
 
--- src/main.rt:103:9
 read-reading-requires : tie.Need-read-reading-requires
 read-reading-requires c κs = search needs
 
--- src/main.rt:104:17
 mul-nodes : tie.Need-mul-nodes
 mul-nodes c = search needs
 
--- src/main.rt:104:17
 sub-nodes : tie.Need-sub-nodes
 sub-nodes c = search needs
 
--- src/main.rt:105:30
 enum-known-read : tie.Need-enum-known-read
 enum-known-read c = search needs
 
--- src/main.rt:106:9
 enum-told : tie.Need-enum-told
 enum-told c = search needs
 
--- src/main.rt:106:9
 same-length : tie.Need-same-length
 same-length c = search needs
 
--- src/main.rt:106:9
 returns : tie.Need-returns
 returns c = (omega (arith, c .before .before .before .before .before .before .before .before .pre .0), slots-refused (c .before .before .before .before .before .before .before .before .args .s) (c .before .before .before .before .before .before .before .before .args .block .now) (c .before .before .before .before .read-reading .last .1 .1 .1 .0) (c .before .before .before .before .read-reading .result) (c .before .before .before .before .read-reading .ensures .0) (c .before .before .before .before .read-reading .ensures .1) (c .enum-told .given .1))
 
--- src/main.rt:98:1
 same-length-2 : tie.Need-same-length-2
 same-length-2 c = search needs
 
--- src/main.rt:98:1
 returns-2 : tie.Need-returns-2
 returns-2 c = (omega (arith, c .before .before .before .before .before .before .before .before .before .pre .0), slots-read (c .before .before .before .before .before .before .before .before .before .args .s) (c .before .before .before .before .before .before .before .before .before .args .block .now) (c .before .before .before .before .before .read-reading .last .1 .1 .1 .0) (c .before .before .before .before .before .read-reading .result) (c .before .before .before .before .before .read-reading .ensures .0) (c .before .before .before .before .before .read-reading .ensures .1) (c .before .read .given .1))
 
