@@ -20,4 +20,4 @@ use Rattle.proved_cases.specs.Table.{AllHold, P-cases}
 
 pub cases-hold : AllHold P-cases
 unfolding slotEdges edgesFrom num bitsOf pack ended widthOf widthFrom bitsOfAll inRange fieldAt ruleFrom anyLike unlikeFrom grammarFrom grammarBlock rulesEntries grammarEntries blockOfGrammar candidatesFrom slotFrom slotsFrom utteranceFrom utteranceBlock heardBlock candidatesEntries slotsEntries utteranceEntries blockOfUtterance walkFrom readingFrom walkEntries readingEntries blockOfReading weight walk reading trees ranked tableSize readingLength tooHeavy listed list joined fieldsFrom firstWith derivationOf check firstPhrase specimen
-cases-hold = (refl, (refl, (refl, ((refl, λ out. refl), (refl, (refl, (refl, (refl, (refl, (refl, (refl, (refl, ((refl, refl), ((refl, refl), (refl, ((refl, refl), (refl, ((refl, refl), ((refl, refl), ((refl, refl), tt))))))))))))))))))))
+cases-hold = (refl, (refl, (refl, ((refl, λ out. refl), (refl, (refl, (refl, (refl, ((refl, refl), (refl, (refl, (refl, ((refl, refl), ((refl, refl), (refl, ((refl, refl), (refl, ((refl, refl), ((refl, refl), ((refl, refl), tt))))))))))))))))))))
