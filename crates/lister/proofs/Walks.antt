@@ -9,17 +9,11 @@ use lib.Seq.{take-suc-set, length-take-le}
 use Rattle.packing.specs.Meaning.{Node}
 use Rattle.packing.specs.Parse.{Parse, parsed, failed, _⟫_}
 use Rattle.packing.specs.Source.{Source}
-use Rattle.packing.specs.Flat.{Begins, nodeBy}
+use Rattle.packing.specs.Flat.{Begins, nodeRule}
 use Rattle.packing.specs.declared.Rule as R
-use Rattle.packing.specs.declared.Rule.the-variants.{Pair, Word}
 use Rattle.packing.proofs.Parse.{through, same-parsed}
 use Rattle.derivation.specs.Path.{nodeFrom}
-use Rattle.lister.specs.Model.{nodeRule, rulesRead}
-
--- the rule of a node
-pub by-rule : (x : R.Rule) (r e : ℕ) → nodeRule (nodeBy x r e) ≡ r
-by-rule (Pair h y z w) r e = refl
-by-rule (Word h y w) r e = refl
+use Rattle.lister.specs.Model.{rulesRead}
 
 module _ (rules : List R.Rule) (src : Source) (nodes : ℕ) where
   -- i nodes were read and the next is at a place

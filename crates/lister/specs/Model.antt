@@ -3,12 +3,12 @@ use mathlib.Core.Path.{_≡_}
 use mathlib.Core.List.{List, [], _∷_}
 use Prim.Native.Nat.{ℕ, zero, suc, _-_, _*_}
 use lib.ListN.{length}
-use Rattle.packing.specs.Meaning.{Reading, Node, byPair, byWord}
+use Rattle.packing.specs.Meaning.{Reading}
 use Rattle.packing.specs.Parse.{Parse, parsed, _⟫_}
 use Rattle.packing.specs.Source.{Source, bytes}
 use Rattle.packing.specs.Reading.{blockOfReading}
 use Rattle.packing.specs.GraphReading.{GraphHead, graphHeadFrom}
-use Rattle.packing.specs.Flat.{Begins, rulesOf}
+use Rattle.packing.specs.Flat.{Begins, rulesOf, nodeRule}
 use Rattle.packing.specs.Valid.{ValidReading}
 use Rattle.packing.specs.declared.Rule as R
 use Rattle.derivation.specs.Path.{nodeFrom}
@@ -22,10 +22,6 @@ SlotsSay s block r array =
     → (r .weight ≡ d .weight) × (r .nodes ≡ 2 * d .slots - 1) × Begins (d .walk) array
 
 -- the rule numbers of m nodes of a graph's reading, from bit `at` on
-abbrev pub nodeRule : Node → ℕ
-nodeRule (byPair r) = r
-nodeRule (byWord r e) = r
-
 unfoldable pub rulesRead : List R.Rule → Source → ℕ → ℕ → Parse (List ℕ)
 rulesRead rules src zero at = parsed [] at
 rulesRead rules src (suc m) at = nodeFrom rules src at ⟫ λ x at. rulesRead rules src m at ⟫ λ l at. parsed (nodeRule x ∷ l) at

@@ -6,12 +6,11 @@ use Prim.Native.Nat.{ℕ, zero, suc, _+_, _-_, _*_, _≤_, _<_}
 use native.Mathlib.Omega.{arith}
 use lib.ListN.{length, take, getD, length-map}
 use lib.Seq.{take-suc, take-length}
-use Rattle.packing.specs.Meaning.{Grammar, Heard, slots, graph, lastPlace, Node, byPair, byWord}
-use Rattle.packing.specs.Flat.{ruleAt, nodeBy, nodesIn}
+use Rattle.packing.specs.Meaning.{Grammar, Heard, slots, graph, lastPlace}
+use Rattle.packing.specs.Flat.{ruleAt, nodeRule, nodesIn}
 use Rattle.packing.specs.Loop.{iter}
 use Rattle.packing.specs.Valid.{ValidGrammar, ValidHeard}
-use Rattle.packing.specs.declared.Rule.{Rule}
-use Rattle.packing.specs.declared.Rule.the-variants.{Pair, Word}
+use Rattle.packing.proofs.Flat.{by-rule}
 use Rattle.derivation.specs.Derivation.{At, Tree, leaf, node, Derivation, walk, reading}
 use Rattle.derivation.specs.Heard.{pathLength, trace, graphReading, packed}
 use Rattle.derivation.specs.HeardList.{leastDerivations}
@@ -46,14 +45,6 @@ loop-joined f ls h (suc m) l =
     rw (loop-joined f ls h m (omega arith), take-suc ls m [] l, at-is ls m [] (h m l)) (sym (joined-more (take m ls) (f m)))
 
 -- a trace's rule numbers are the walk
-abbrev nodeRule : Node → ℕ
-nodeRule (byPair r) = r
-nodeRule (byWord r e) = r
-
-by-rule : (x : Rule) (r e : ℕ) → nodeRule (nodeBy x r e) ≡ r
-by-rule (Pair h y z w) r e = refl
-by-rule (Word h y w) r e = refl
-
 walk-nodes : (rules l : List ℕ) → walkIn l ≡ map nodeRule (nodesIn rules l)
 unfolding walkIn nodesIn
 walk-nodes rules [] = refl

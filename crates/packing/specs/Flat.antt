@@ -68,6 +68,10 @@ abbrev pub nodeBy : R.Rule → ℕ → ℕ → Node
 nodeBy (Pair h x y w) r e = byPair r
 nodeBy (Word h x w) r e = byWord r e
 
+abbrev pub nodeRule : Node → ℕ
+nodeRule (byPair r) = r
+nodeRule (byWord r e) = r
+
 unfoldable pub nodesIn : List ℕ → List ℕ → List Node
 nodesIn rules [] = []
 nodesIn rules (r ∷ []) = []

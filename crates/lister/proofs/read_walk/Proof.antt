@@ -6,7 +6,8 @@ use borrow.Author.Needs.{needs}
 use lib.ListN.{length, length-set}
 use Rattle.packing.specs.Source.{bytes}
 use Rattle.packing.specs.Flat.{rulesOf, ruleAt}
-use Rattle.lister.proofs.Walks.{by-rule, Remaining, none-read, node-read, no-node, all-read}
+use Rattle.packing.proofs.Flat.{by-rule}
+use Rattle.lister.proofs.Walks.{Remaining, none-read, node-read, no-node, all-read}
 use Rattle.lister.proofs.read_walk.Statement.{statement}
 use Rattle.lister.proofs.read_walk.Tie as tie
 
