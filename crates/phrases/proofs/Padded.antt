@@ -20,8 +20,8 @@ use Rattle.packing.specs.declared.Rule.{Rule}
 use Rattle.derivation.proofs.Comparison.{compare-lt, compare-below, compare-same, compare-lawful, turn-gt, ▸-first}
 use Rattle.derivation.proofs.Ranges.{valid-sizes}
 use Rattle.phrases.specs.Phrases.{wordOrder, Precedes}
-use Rattle.phrases.specs.Enumeration.{firstPhrase}
-use Rattle.phrases.specs.Recursion.{isLess, lesserOf, joinOf, fill, cellOf, leastAt}
+use Rattle.phrases.specs.Enumeration.{firstPhrase, isLess}
+use Rattle.phrases.specs.Recursion.{lesserOf, joinOf, fill, cellOf, leastAt}
 use Rattle.phrases.specs.Padded.{oneWord, noString, join, lesserWord, lesserJoin, padded, stringAt, putString}
 use Rattle.phrases.proofs.Order.{order-lawful, order-join, ▸-last}
 use Rattle.phrases.proofs.Theorems.{below-append}

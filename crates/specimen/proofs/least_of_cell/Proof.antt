@@ -6,7 +6,7 @@ use Rattle.packing.specs.Loop.{iter}
 use Rattle.packing.specs.Meaning.{symbolOf}
 use Rattle.packing.proofs.Loop.{iter-more, iter-end}
 use Rattle.phrases.specs.Padded.{noString}
-use Rattle.phrases.specs.Recursion.{byRules, leastOf, leastAt}
+use Rattle.phrases.specs.Recursion.{byRules, leastOver, leastOf, leastAt}
 use Rattle.specimen.specs.Table.{fittedAt, lesserSplit, lesserRule}
 use Rattle.specimen.proofs.least_of_cell.Statement.{statement}
 use Rattle.specimen.proofs.least_of_cell.Tie as tie
@@ -44,7 +44,7 @@ loop-again : tie.Need-loop-again Inv-loop μ-loop
 loop-again c = (search needs, rw iter-more (cc))
 
 returns : tie.Need-returns Inv-loop μ-loop
-unfolding leastAt leastOf byRules lesserRule lesserSplit
+unfolding leastAt leastOf leastOver byRules lesserRule lesserSplit
 returns c = c .before .loop .inv .1 ∙ iter-end _ _ _ _ (c .before .loop .inv .0) (search needs)
 
 pub least-of-cell-spec : {M : Type 1} → statement M
