@@ -1,11 +1,11 @@
 -- What is read where: a cell's string is a part of the table, and a rule of an accepted grammar is read as it is. Assumes nothing.
-use mathlib.Core.Path.{_≡_, sym}
+use mathlib.Core.Path.{_≡_, sym, _∙_}
 use mathlib.Core.List.{List}
 use Prim.Native.Nat.{ℕ, _+_, _-_, _*_, _%_, _≤_}
-use native.Mathlib.Nat.{mod-eq-of-lt}
+use native.Mathlib.Nat.{add-zero, mod-eq-of-lt}
 use native.Mathlib.Omega.{arith}
-use lib.ListN.{take, drop}
-use lib.Seq.{slice}
+use lib.ListN.{getD, take, drop}
+use lib.Seq.{slice, getD-drop, getD-take}
 use Rattle.packing.specs.declared.Sym.{Sym}
 use Rattle.packing.specs.declared.Rule.{Rule}
 use Rattle.packing.specs.declared.Rule.the-variants.{Pair, Word}
@@ -21,6 +21,9 @@ lent t at = take (at + 24 - at) (drop at t)
 
 pub lent-is : (t : List ℕ) (at : ℕ) → lent t at ≡ slice at (at + 24) t
 lent-is t at = let e : at + 24 - at ≡ 24 = omega arith in rw e (sym (take-drop at 24 t))
+
+pub first-byte : (t : List ℕ) (at : ℕ) → getD (slice at (at + 24) t) 0 0 ≡ getD t at 0
+first-byte t at = getD-drop at _ 0 0 ∙ rw (add-zero at) (getD-take (at + 24) t at 0 (omega arith))
 
 pub split-is : (t : List ℕ) (m : ℕ) (b c : Sym) (j : ℕ) (best : List ℕ) {x y : ℕ} {r : List ℕ} → x ≡ 24 * cellOf b j → y ≡ 24 * cellOf c (m - j)
     → r ≡ lesserJoin best (lent t x) (lent t y) j → r ≡ lesserSplit t m b c j best

@@ -3,10 +3,10 @@ use mathlib.Core.Path.{_≡_, refl, sym, ap, _∙_}
 use mathlib.Core.Option.{Option, none, some}
 use mathlib.Core.List.{List, _++_}
 use Prim.Native.Nat.{ℕ, _+_, _-_, _*_, _≤_, _<_}
-use native.Mathlib.Nat.{add-zero, zero-add}
+use native.Mathlib.Nat.{zero-add}
 use native.Mathlib.Omega.{arith}
 use lib.ListN.{length, getD, replicate}
-use lib.Seq.{slice, paste, take-at, getD-drop, getD-take}
+use lib.Seq.{slice, paste, take-at}
 use Rattle.packing.specs.Meaning.{Grammar, symbolOf}
 use Rattle.packing.specs.Parse.{accepted}
 use Rattle.packing.specs.Flat.{Begins, ruleNumbers, ruleAt}
@@ -25,7 +25,7 @@ use Rattle.phrases.proofs.Padded.{Pads, word-first, first-filled}
 use Rattle.specimen.specs.Specimen.{answeredOf, outputOf}
 use Rattle.specimen.specs.Table.{fittedAt, fillTable}
 use Rattle.specimen.specs.declared.Answered.the-variants.{Written, Nothing}
-use Rattle.specimen.proofs.Parts.{lent, lent-is, fitted-is}
+use Rattle.specimen.proofs.Parts.{lent, lent-is, first-byte, fitted-is}
 
 -- the answer and the output, from the padded string that stands for o
 module _ (W n : ℕ) (w : W ≤ 200) (pos : 0 < n) where
@@ -61,15 +61,12 @@ module _ (g : Grammar) (v : ValidGrammar g) (rules : List ℕ) (b : Begins (rule
     all-sized : Each (Sized (g .words) n) (firstPhrase g n)
     all-sized = each (λ t p. (p .0, yields-below g v (says-yields g t (p .1)))) (firstPhrase-least g n v)
 
-    first-byte : getD (slice at (at + 24) full) 0 0 ≡ getD full at 0
-    first-byte = getD-drop at _ 0 0 ∙ rw (add-zero at) (getD-take (at + 24) full at 0 (omega arith))
-
     pub nothing-said : (out : List ℕ) → getD full at 0 ≡ 255
         → (Nothing ≡ answeredOf (accepted (firstPhrase g n))) × (out ≡ outputOf (accepted (firstPhrase g n)) out)
-    nothing-said out h = nothing-told (g .words) n (valid-sizes g v .3) pos (firstPhrase g n) _ out all-sized found (first-byte ∙ h)
+    nothing-said out h = nothing-told (g .words) n (valid-sizes g v .3) pos (firstPhrase g n) _ out all-sized found (first-byte full at ∙ h)
 
     pub string-said : (out : List ℕ) {exit : List ℕ} → (getD full at 0 ≡ 255 → ⊥) → exit ≡ paste out 0 (lent full at) n
         → (Written ≡ answeredOf (accepted (firstPhrase g n))) × (exit ≡ outputOf (accepted (firstPhrase g n)) out)
     string-said out h x =
-        let (told, shown) = written-told (g .words) n (valid-sizes g v .3) pos (firstPhrase g n) _ out all-sized found (λ y. h (sym first-byte ∙ y)) in
+        let (told, shown) = written-told (g .words) n (valid-sizes g v .3) pos (firstPhrase g n) _ out all-sized found (λ y. h (sym (first-byte full at) ∙ y)) in
         (told, x ∙ ap (λ (l : List ℕ). paste out 0 l n) (lent-is full at) ∙ shown)
