@@ -77,8 +77,7 @@ module _ (g : Grammar) (v : ValidGrammar g) (rules : List ℕ) (b : Begins (rule
             let few = valid-sizes g v .1 in
             let found = leastOver-is g v (fittedAt rules) (stored g v rules b) (padded-keeps (g .words) (valid-sizes g v .3)) (allows s p)
             (symbolOf (c % 32)) (c / 32 % 6) (c / 192 + 1) (omega arith) (omega arith) (λ B q j. stringAt t (cellOver B q j))
-            (λ B q j k r z w. of-cell B q j (omega arith) r (omega arith) (done (cellOver B q j) (omega arith))) in
-            (
+            (λ B q j k r z w. of-cell B q j (omega arith) r (omega arith) (done (cellOver B q j) (omega arith))) in (
               string-fits (g .words) (c / 192 + 1) (found .0) _ (omega arith) (each (λ t o. sized-of g v (symbolOf (c % 32)) (c / 192 + 1) t (o .0)) (found .1)) (found .2),
               λ h. found,
             )
@@ -113,8 +112,8 @@ module _ (g : Grammar) (v : ValidGrammar g) (rules : List ℕ) (b : Begins (rule
   some-here q h t ((o, f), l) = (
     (o, (q, omega arith, fits-differs s q t f)),
     (λ u z. ⊎-elim
-    (λ (a, (p, k, d)). inr (differs-order s t u q p (sym (o .0)) (sym (a .0)) k (let e = o .0 in omega arith) (fits-differs s q t f) d))
-    (λ (a, d). l u (a, differs-fits s q u d)) (below-more q u z)),
+        (λ (a, (p, k, d)). inr (differs-order s t u q p (sym (o .0)) (sym (a .0)) k (let e = o .0 in omega arith) (fits-differs s q t f) d))
+        (λ (a, d). l u (a, differs-fits s q u d)) (below-more q u z)),
   )
 
   none-here : (q : ℕ) → ((t : List ℕ) → Over g (allows s q) (symbolOf 0) 0 (length s) t → ⊥) → (t : List ℕ) → Below (suc q) t → Below q t

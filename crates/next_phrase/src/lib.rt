@@ -58,7 +58,8 @@ fn place_of(over: Over) -> usize
     requires { do ⌜ (over .head .0 < (← ⟦SYMBOLS⟧)) × (over .from < (← ⟦MAX_LENGTH⟧)) × (0 < over .length) × (over .length ≤ (← ⟦MAX_LENGTH⟧)) ⌝ }
     ensures { λ r. do ⌜ (r ≡ 24 * cellOver (over .head) (over .from) (over .length)) × (r + (← ⟦MAX_SLOTS⟧ .entry) ≤ (← ⟦TABLE_LENGTH⟧ .entry)) ⌝ }
 {
-    MAX_SLOTS * (((over.length - 1) * MAX_LENGTH + over.from) * MAX_SYMBOLS + arrays::wide(over.head.0))
+    MAX_SLOTS
+        * (((over.length - 1) * MAX_LENGTH + over.from) * MAX_SYMBOLS + arrays::wide(over.head.0))
 }
 
 // Whether a word may stand at place q in a string above another that first differs from it at place p.
@@ -76,7 +77,15 @@ fn may_stand(string: &[u8], p: usize, q: usize, x: u8) -> bool
 }
 
 // The lesser of the best string and of those with a left part of length j, by the least of both parts.
-fn lesser_split(table: &[u8], b: Sym, c: Sym, from: usize, len: usize, j: usize, best: [u8; MAX_SLOTS]) -> [u8; MAX_SLOTS]
+fn lesser_split(
+    table: &[u8],
+    b: Sym,
+    c: Sym,
+    from: usize,
+    len: usize,
+    j: usize,
+    best: [u8; MAX_SLOTS],
+) -> [u8; MAX_SLOTS]
     requires { do ⌜ (length (now table) ≡ (← ⟦TABLE_LENGTH⟧)) × (b .0 < (← ⟦SYMBOLS⟧)) × (c .0 < (← ⟦SYMBOLS⟧)) × (0 < j) × (j < len) × (from + len ≤ (← ⟦MAX_LENGTH⟧)) ⌝ }
     ensures { λ r. ⌜ r ≡ lesserSplit (now (table .entry)) from len b c j best ⌝ }
 {
@@ -96,7 +105,14 @@ fn lesser_split(table: &[u8], b: Sym, c: Sym, from: usize, len: usize, j: usize,
 }
 
 // The same for every length of the left part: what a pair rule makes.
-fn lesser_pair(table: &[u8], b: Sym, c: Sym, from: usize, len: usize, best: [u8; MAX_SLOTS]) -> [u8; MAX_SLOTS]
+fn lesser_pair(
+    table: &[u8],
+    b: Sym,
+    c: Sym,
+    from: usize,
+    len: usize,
+    best: [u8; MAX_SLOTS],
+) -> [u8; MAX_SLOTS]
     requires { do ⌜ (length (now table) ≡ (← ⟦TABLE_LENGTH⟧)) × (b .0 < (← ⟦SYMBOLS⟧)) × (c .0 < (← ⟦SYMBOLS⟧)) × (0 < len) × (from + len ≤ (← ⟦MAX_LENGTH⟧)) ⌝ }
     ensures { λ r. ⌜ r ≡ lesserPair (now (table .entry)) from len b c best ⌝ }
 {
@@ -120,7 +136,15 @@ fn lesser_word(string: &[u8], p: usize, q: usize, x: u8, best: [u8; MAX_SLOTS]) 
 }
 
 // The lesser of the best string of a symbol over some places and of those that rule r makes. The remainders change no accepted rule.
-fn lesser_rule(table: &[u8], rules: &[u32], r: usize, string: &[u8], p: usize, over: Over, best: [u8; MAX_SLOTS]) -> [u8; MAX_SLOTS]
+fn lesser_rule(
+    table: &[u8],
+    rules: &[u32],
+    r: usize,
+    string: &[u8],
+    p: usize,
+    over: Over,
+    best: [u8; MAX_SLOTS],
+) -> [u8; MAX_SLOTS]
     requires { do ⌜ (length (now table) ≡ (← ⟦TABLE_LENGTH⟧)) × (r < (← ⟦MAX_RULES⟧)) × (0 < over .length) × (over .from + over .length ≤ length (now string)) × (length (now string) ≤ (← ⟦MAX_LENGTH⟧)) ⌝ }
     ensures { λ x. ⌜ x ≡ lesserRule (now (table .entry)) (now (string .entry)) p (over .head) (over .from) (over .length) best (fitted (ruleAt (now (rules .entry)) r)) ⌝ }
 {
@@ -128,7 +152,14 @@ fn lesser_rule(table: &[u8], rules: &[u32], r: usize, string: &[u8], p: usize, o
     match rule {
         Rule::Pair(head, b, c, _) => {
             if head.0 == over.head.0 {
-                return lesser_pair(table, Sym(b.0 % SYMBOLS), Sym(c.0 % SYMBOLS), over.from, over.length, best);
+                return lesser_pair(
+                    table,
+                    Sym(b.0 % SYMBOLS),
+                    Sym(c.0 % SYMBOLS),
+                    over.from,
+                    over.length,
+                    best,
+                );
             }
             best
         }
@@ -145,7 +176,14 @@ fn lesser_rule(table: &[u8], rules: &[u32], r: usize, string: &[u8], p: usize, o
 }
 
 // The string of cell c: the least of its symbol over its places, none where they pass the end of the string.
-fn least_of_cell(table: &[u8], rules: &[u32], count: usize, string: &[u8], p: usize, c: usize) -> [u8; MAX_SLOTS]
+fn least_of_cell(
+    table: &[u8],
+    rules: &[u32],
+    count: usize,
+    string: &[u8],
+    p: usize,
+    c: usize,
+) -> [u8; MAX_SLOTS]
     requires { do ⌜ (length (now table) ≡ (← ⟦TABLE_LENGTH⟧)) × (count ≤ (← ⟦MAX_RULES⟧)) × (length (now string) ≤ (← ⟦MAX_LENGTH⟧)) × (c < (← ⟦CELLS⟧)) ⌝ }
     ensures { λ r. ⌜ r ≡ leastOfCell (now (rules .entry)) count (now (string .entry)) p (now (table .entry)) c ⌝ }
 {
@@ -157,7 +195,19 @@ fn least_of_cell(table: &[u8], rules: &[u32], count: usize, string: &[u8], p: us
         return best;
     }
     for r in 0..count {
-        let next = lesser_rule(table, rules, r, string, p, Over { head: Sym(head), from: from, length: len }, best);
+        let next = lesser_rule(
+            table,
+            rules,
+            r,
+            string,
+            p,
+            Over {
+                head: Sym(head),
+                from: from,
+                length: len,
+            },
+            best,
+        );
         best = next;
     }
     best

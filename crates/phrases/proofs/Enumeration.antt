@@ -3,6 +3,7 @@
 use mathlib.Core.Path.{_≡_, refl, sym, ap, _∙_}
 use mathlib.Core.Logic.{⊎-elim, _↔_}
 use mathlib.Core.Bool.{Bool, true, false}
+use mathlib.Core.Option.{none}
 use mathlib.Core.List.{List, [], _∷_, _++_, map, head?, List·Memᴰ·head, List·Memᴰ·tail, List·Memᴰ·cases-cons, List·Memᴰ·not-nil, Memᴰ·cast, List·Memᴰ·append-cases, List·Memᴰ·eq-of-singleton, nil≢cons, cons≢nil}
 use Prim.Native.Nat.{ℕ, zero, suc, _<_, Ordering, Ordering·lt, Ordering·eq, Ordering·gt}
 use native.Mathlib.Omega.{arith}
@@ -162,3 +163,8 @@ above-at (x ∷ l) zero s (a, b) e =
     let p : x ≡ s = cc in
     rw (p, order-lawful .self s, passing-all (λ t. isLess (wordOrder s t)) l (λ y m. precedes-less s y (rw p at (a y m)))) (head-at l)
 above-at (x ∷ l) (suc k) s (a, b) e = rw (order-lawful .turn x s, a s (at-mem l k e)) (above-at l k s b e)
+
+pub passing-none : (f : List ℕ → Bool) (l : List (List ℕ)) → getElem? l 0 ≡ none → head? (passing f l) ≡ none
+unfolding passing
+passing-none f [] e = refl
+passing-none f (x ∷ l) e = absurd (none≢some (sym e))

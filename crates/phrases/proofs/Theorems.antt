@@ -2,6 +2,7 @@
 -- the enumeration misses none. Each theorem renders a sentence.
 use mathlib.Core.Path.{_≡_}
 use mathlib.Core.Logic.{_↔_}
+use mathlib.Core.Option.{none}
 use mathlib.Core.List.{List, [], _∷_, _++_}
 use Prim.Native.Nat.{ℕ, suc}
 use lib.ListN.{getElem?}
@@ -17,7 +18,7 @@ use Rattle.phrases.specs.Enumeration.{says, strings, passing, phrases, f
 use Rattle.phrases.proofs.Yields.{Yields, one, two, says-yields}
 use Rattle.phrases.proofs.Order.{order-lawful}
 use Rattle.phrases.proofs.Least.{LeastOrNone, least-same, least-first}
-use Rattle.phrases.proofs.Enumeration.{passing-mem, passing-ascending, Below, strings-mem, strings-ascending, says-true, less-precedes, precedes-less, head-at, above-at}
+use Rattle.phrases.proofs.Enumeration.{passing-mem, passing-ascending, Below, strings-mem, strings-ascending, says-true, less-precedes, precedes-less, head-at, above-at, passing-none}
 
 pub below-append : (W : ℕ) (s t : List ℕ) → Below W s → Below W t → Below W (s ++ t)
 below-append W [] t a b = b
@@ -64,7 +65,8 @@ module _ (g : Grammar) (n : ℕ) where
       (λ t p. k t .1 (phrases-exactly v t .1 (p .0), precedes-less s t (p .1)))
       (least-first (passing (λ t. isLess (wordOrder s t)) (phrases g n)) (passing-ascending (λ t. isLess (wordOrder s t)) (phrases g n) phrases-ascending))
 
-  -- "hand out every derivable word string .. one string a call": the first is phrase 0, and above phrase k comes phrase k + 1
+  -- "hand out every derivable word string .. one string a call": the first is phrase 0, above phrase k comes phrase k + 1, and where there is
+  -- no phrase there is none above any string
   pub first-at : firstPhrase g n ≡ getElem? (phrases g n) 0
   unfolding firstPhrase
   first-at = head-at (phrases g n)
@@ -72,3 +74,7 @@ module _ (g : Grammar) (n : ℕ) where
   pub next-at : (k : ℕ) (s : List ℕ) → At (phrases g n) k s → nextPhrase g n s ≡ getElem? (phrases g n) (suc k)
   unfolding nextPhrase
   next-at k s e = above-at (phrases g n) k s phrases-ascending e
+
+  pub next-none : (s : List ℕ) → getElem? (phrases g n) 0 ≡ none → nextPhrase g n s ≡ none
+  unfolding nextPhrase
+  next-none s e = passing-none (λ t. isLess (wordOrder s t)) (phrases g n) e

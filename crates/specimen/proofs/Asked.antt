@@ -38,14 +38,15 @@ module _ (most : ℕ) (s : List ℕ) (n out : ℕ) where
     unfolding asked
     asked-well h k l = rw (e, le-ltb n 1 h, le-ltb most n k, le-ltb out n l)
 
--- what is accepted was asked of an accepted grammar, and the length is at most `most`
-pub asked-out : (most : ℕ) (s : List ℕ) (n out : ℕ) (g : Grammar) → asked most s n out ≡ accepted g → (grammarBlock s ≡ accepted g) × (n ≤ most)
+-- what is accepted was asked of an accepted grammar, the length is at most `most`, and there is room for it
+pub asked-out : (most : ℕ) (s : List ℕ) (n out : ℕ) (g : Grammar) → asked most s n out ≡ accepted g → (grammarBlock s ≡ accepted g) × (n ≤ most) × (n ≤ out)
 unfolding asked
 asked-out most s n out g e =
     P.granted (grammarBlock s) _ e λ h p e.
     let (_, e₁) = P.accepted-else (ltb n 1) 25 _ e in
     let (b, e₂) = P.accepted-else (ltb most n) 25 _ e₁ in
-    (p ∙ P.accepted-else (ltb out n) 26 _ e₂ .1, ltb-false most n b)
+    let (c, e₃) = P.accepted-else (ltb out n) 26 _ e₂ in
+    (p ∙ e₃, ltb-false most n b, ltb-false out n c)
 
 -- a refusal changes nothing, and what is accepted has its string
 module _ (v : Verdict Grammar) (find : Grammar → Option (List ℕ)) where

@@ -19,10 +19,15 @@ slice-reshare-prefix-search : tie.Need-slice-reshare-prefix-search
 slice-reshare-prefix-search c = search needs
 
 slice-aggregate-search-2 : tie.Need-slice-aggregate-search-2
-slice-aggregate-search-2 c = let a = c .before .before .before .before .before .before .args in sym (length-take-le (a .n) (a .out .now) (search needs))
+slice-aggregate-search-2 c =
+    let at-start = c .before .before .before .before .before .before in
+    let a = at-start .args in sym (length-take-le (a .n) (a .out .now) (search needs))
 
 search-requires : tie.Need-search-requires
-search-requires c κs = (search needs, search needs, front-short (c .before .before .before .before .before .before .args .n) (c .before .before .before .before .before .before .args .out .now) (search needs) (search needs), start-is (c .before .before .before .before .before .before .args .n) (c .before .before .before .before .before .before .args .out .now) (search needs) (c .before .before .before .place-of .ensures .0), search needs)
+search-requires c κs =
+    let at-place-of = c .before .before .before in
+    let at-start = at-place-of .before .before .before in
+    (search needs, search needs, front-short (at-start .args .n) (at-start .args .out .now) (search needs) (search needs), start-is (at-start .args .n) (at-start .args .out .now) (search needs) (at-place-of .place-of .ensures .0), search needs)
 
 add-end : tie.Need-add-end
 add-end c = search needs
@@ -44,9 +49,14 @@ same-length c = search needs
 
 returns : tie.Need-returns
 returns c = λ g e v b.
-    let a = c .before .before .before .before .before .before .before .before .before .before .before .before .before .before .before .args in
-    later-string g v (a .rules .now) b (a .n) (search needs) (search needs) (a .out .now) (search needs) (a .sizes) e _ refl (c .before .before .before .before .before .before .before .before .search .ensures .0) (c .before .before .before .before .before .before .before .before .search .ensures .1)
-    (c .before .before .before .before .before .before .if1 .taken) (c .before .before .before .before .before .before .before .before .before .before .before .before .place-of .ensures .0) (c .before .before .copy .ensures)
+    let at-copy = c .before .before in
+    let at-if1 = at-copy .before .before .before .before in
+    let at-search = at-if1 .before .before in
+    let at-place-of = at-search .before .before .before .before in
+    let at-start = at-place-of .before .before .before in
+    let a = at-start .args in
+    later-string g v (a .rules .now) b (a .n) (search needs) (search needs) (a .out .now) (search needs) (a .sizes) e _ refl (at-search .search .ensures .0) (at-search .search .ensures .1)
+    (at-if1 .if1 .taken) (at-place-of .place-of .ensures .0) (at-copy .copy .ensures)
 
 same-length-2 : tie.Need-same-length-2
 same-length-2 c = search needs

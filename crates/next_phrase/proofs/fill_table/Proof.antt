@@ -44,7 +44,11 @@ loop-less : tie.Need-loop-less Inv-loop μ-loop
 loop-less c = search needs
 
 loop-again : tie.Need-loop-again Inv-loop μ-loop
-loop-again c = (search needs, search needs, rw (iter-more, ← c .before .before .before .before .before .before .before .before .loop .inv .2, ← c .before .before .before .before .before .least-of-cell .ensures) (c .before .before .copy .ensures))
+loop-again c =
+    let at-copy = c .before .before in
+    let at-least-of-cell = at-copy .before .before .before in
+    let at-loop = at-least-of-cell .before .before .before in
+    (search needs, search needs, rw (iter-more, ← at-loop .loop .inv .2, ← at-least-of-cell .least-of-cell .ensures) (at-copy .copy .ensures))
 
 same-length : tie.Need-same-length Inv-loop μ-loop
 same-length c = search needs

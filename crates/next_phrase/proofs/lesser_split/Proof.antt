@@ -44,7 +44,11 @@ lesser-join-requires : tie.Need-lesser-join-requires
 lesser-join-requires c κs = search needs
 
 returns : tie.Need-returns
-returns c = split-is _ _ _ _ _ (c .before .before .before .before .before .before .args .j) (c .before .before .before .before .before .before .args .best) (c .before .before .before .before .place-of .ensures .0) (c .before .before .before .place-of2 .ensures .0) (c .lesser-join .ensures)
+returns c =
+    let at-place-of2 = c .before .before .before in
+    let at-place-of = at-place-of2 .before in
+    let at-start = at-place-of .before .before in
+    split-is _ _ _ _ _ (at-start .args .j) (at-start .args .best) (at-place-of .place-of .ensures .0) (at-place-of2 .place-of2 .ensures .0) (c .lesser-join .ensures)
 
 pub lesser-split-spec : {M : Type 1} → statement M
 lesser-split-spec =

@@ -34,13 +34,18 @@ same-length c = search needs
 
 returns : tie.Need-returns Inv-loop μ-loop
 returns c =
-    tried-found _ _ _ _ (c .before .before .before .before .before .before .before .loop .left) (c .before .before .before .before .before .before .before .loop .inv .2) (search needs) (c .before .before .before .before .fill-table .ensures) (search needs) (c .if1 .taken)
+    let at-fill-table = c .before .before .before .before in
+    let at-loop = at-fill-table .before .before .before in
+    tried-found _ _ _ _ (at-loop .loop .left) (at-loop .loop .inv .2) (search needs) (at-fill-table .fill-table .ensures) (search needs) (c .if1 .taken)
 
 loop-less : tie.Need-loop-less Inv-loop μ-loop
 loop-less c = search needs
 
 loop-again : tie.Need-loop-again Inv-loop μ-loop
-loop-again c = (search needs, search needs, tried-more _ _ _ _ (c .before .before .before .before .before .before .before .loop .left) (c .before .before .before .before .before .before .before .loop .inv .2) (search needs) (c .before .before .before .before .fill-table .ensures) (search needs) (c .if1 .left))
+loop-again c =
+    let at-fill-table = c .before .before .before .before in
+    let at-loop = at-fill-table .before .before .before in
+    (search needs, search needs, tried-more _ _ _ _ (at-loop .loop .left) (at-loop .loop .inv .2) (search needs) (at-fill-table .fill-table .ensures) (search needs) (c .if1 .left))
 
 same-length-2 : tie.Need-same-length-2 Inv-loop μ-loop
 same-length-2 c = search needs
