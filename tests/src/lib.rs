@@ -6,7 +6,7 @@
 //! |---|---|
 //! | `bits`, `refusal` | fields of bits; rows of the table of refusals |
 //! | `grammar`, `utterance`, `reading` | the block and the sheet of each |
-//! | `conversions`, `check`, `listing`, `specimen` | the services over lent slices |
+//! | `conversions`, `check`, `listing`, `specimen` | the services over lent slices; the next phrase stands with the specimen |
 //! | `derivation` | trees, their order, and all derivations sorted by it |
 //! | `nbest` | the N best trees of each cell, where all derivations are too many |
 //! | `compare` | one call of both on the same slices, held to each other |

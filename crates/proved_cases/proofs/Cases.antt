@@ -12,10 +12,12 @@ use Rattle.derivation.specs.Derivation.{weight, walk}
 use Rattle.derivation.specs.List.{trees, listing}
 use Rattle.listing.specs.Listing.{tableSize, tooHeavy, listed, list, joined}
 use Rattle.checker.specs.Check.{withWalk, derivationOf, check}
-use Rattle.phrases.specs.Enumeration.{firstPhrase}
+use Rattle.phrases.specs.Phrases.{wordOrder}
+use Rattle.phrases.specs.Enumeration.{firstPhrase, nextPhrase}
 use Rattle.specimen.specs.Specimen.{specimen}
+use Rattle.next_phrase.specs.NextPhrase.{next}
 use Rattle.proved_cases.specs.Table.{AllHold, P-cases}
 
 pub cases-hold : AllHold P-cases
-unfolding slotEdges edgesFrom num bitsOf pack ended widthOf widthFrom bitsOfAll inRange fieldAt ruleFrom anyAlike rulesFrom grammarFrom grammarBlock rulesEntries grammarEntries blockOfGrammar candidatesFrom slotFrom slotsFrom utteranceFrom utteranceBlock candidatesEntries slotsEntries utteranceEntries blockOfUtterance walkFrom readingFrom walkEntries readingEntries blockOfReading weight walk trees listing tableSize readingLength tooHeavy listed list joined withWalk derivationOf check firstPhrase specimen
-cases-hold = (refl, (refl, (refl, ((refl, λ out. refl), (refl, (refl, (refl, (refl, (refl, (refl, (refl, (refl, ((refl, refl), ((refl, refl), (refl, ((refl, refl), (refl, ((refl, refl), ((refl, refl), ((refl, refl), tt))))))))))))))))))))
+unfolding slotEdges edgesFrom num bitsOf pack ended widthOf widthFrom bitsOfAll inRange fieldAt ruleFrom anyAlike rulesFrom grammarFrom grammarBlock rulesEntries grammarEntries blockOfGrammar candidatesFrom slotFrom slotsFrom utteranceFrom utteranceBlock candidatesEntries slotsEntries utteranceEntries blockOfUtterance walkFrom readingFrom walkEntries readingEntries blockOfReading weight walk trees listing tableSize readingLength tooHeavy listed list joined withWalk derivationOf check wordOrder firstPhrase nextPhrase specimen next
+cases-hold = (refl, (refl, (refl, ((refl, λ out. refl), (refl, (refl, (refl, (refl, (refl, (refl, (refl, (refl, ((refl, refl), ((refl, refl), (refl, ((refl, refl), (refl, ((refl, refl), ((refl, refl), ((refl, refl), (refl, ((refl, refl), ((refl, refl), ((refl, refl), ((refl, refl), ((refl, refl), ((refl, refl), ((refl, refl), tt))))))))))))))))))))))))))))
