@@ -10,6 +10,8 @@ use packing::Sym;
 use packing::format::MAX_RULES;
 use packing::format::MAX_SLOTS;
 use packing::format::MAX_SYMBOLS;
+use packing::format::NUMBERS_PER_RULE;
+use packing::format::RULE_HEAD_AT;
 use packing::format::RULES_LENGTH;
 use packing::refused;
 use padded_strings::NO_STRING;
@@ -195,6 +197,10 @@ fn least_of_cell(
         return best;
     }
     for r in 0..count {
+        // a rule of another head makes nothing, and the string is not copied
+        if arrays::narrow_at(rules, NUMBERS_PER_RULE * r + RULE_HEAD_AT) != head {
+            continue;
+        }
         let next = lesser_rule(
             table,
             rules,

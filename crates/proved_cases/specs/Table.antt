@@ -44,7 +44,6 @@ Holds (finds g u wanted m bytes) =
 Holds (checks g u block verdict) = check (blockOfGrammar g) (blockOfUtterance (g .words) u) block ≡ verdict
 Holds (specimen g n out answer after) =
     (answeredOf (Specimen.specimen (blockOfGrammar g) n (length out)) ≡ answer) × (outputOf (Specimen.specimen (blockOfGrammar g) n (length out)) out ≡ after)
-
 Holds (next g n call out answer after) =
     (answeredOf (NextPhrase.next (blockOfGrammar g) n call out) ≡ answer) × (outputOf (NextPhrase.next (blockOfGrammar g) n call out) out ≡ after)
 

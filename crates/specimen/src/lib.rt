@@ -8,6 +8,8 @@ use packing::Sym;
 use packing::format::MAX_RULES;
 use packing::format::MAX_SLOTS;
 use packing::format::MAX_SYMBOLS;
+use packing::format::NUMBERS_PER_RULE;
+use packing::format::RULE_HEAD_AT;
 use packing::format::RULES_LENGTH;
 use packing::refused;
 use padded_strings::NO_STRING;
@@ -125,6 +127,10 @@ fn least_of_cell(table: &[u8], rules: &[u32], count: usize, c: usize) -> [u8; MA
     let len = c / MAX_SYMBOLS + 1;
     let mut best = padded_strings::one_word(NO_STRING);
     for r in 0..count {
+        // a rule of another head makes nothing, and the string is not copied
+        if arrays::narrow_at(rules, NUMBERS_PER_RULE * r + RULE_HEAD_AT) != a {
+            continue;
+        }
         let next = lesser_rule(table, rules, Sym(a), len, r, best);
         best = next;
     }

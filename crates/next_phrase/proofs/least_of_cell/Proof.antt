@@ -10,6 +10,7 @@ use Rattle.phrases.specs.Padded.{noString}
 use Rattle.phrases.specs.Recursion.{byRules, leastOver}
 use Rattle.specimen.specs.Table.{fittedAt}
 use Rattle.next_phrase.specs.Table.{lesserSplit, lesserRule, leastOfCell}
+use Rattle.next_phrase.proofs.Parts.{passed-over}
 use borrow.Author.Needs.{needs}
 use Rattle.next_phrase.proofs.least_of_cell.Statement.{statement}
 use Rattle.next_phrase.proofs.least_of_cell.Tie as tie
@@ -42,8 +43,14 @@ loop-holds : tie.Need-loop-holds Inv-loop μ-loop
 unfolding iter
 loop-holds c = search needs
 
-lesser-rule-requires : tie.Need-lesser-rule-requires Inv-loop μ-loop
-lesser-rule-requires c κs = search needs
+mul-narrow-at : tie.Need-mul-narrow-at Inv-loop μ-loop
+mul-narrow-at c = search needs
+
+add-narrow-at : tie.Need-add-narrow-at Inv-loop μ-loop
+add-narrow-at c = search needs
+
+narrow-at-requires : tie.Need-narrow-at-requires Inv-loop μ-loop
+narrow-at-requires c κs = search needs
 
 add-r : tie.Need-add-r Inv-loop μ-loop
 add-r c = search needs
@@ -52,7 +59,22 @@ loop-less : tie.Need-loop-less Inv-loop μ-loop
 loop-less c = search needs
 
 loop-again : tie.Need-loop-again Inv-loop μ-loop
-loop-again c = (search needs, search needs, rw (iter-more, ← c .before .before .loop .inv .2) (c .lesser-rule .ensures))
+loop-again c =
+    let at-loop = c .before .before .before in
+    let at-start = at-loop .before .before .before .before .before .before in
+    (search needs, search needs, rw (iter-more, ← at-loop .loop .inv .2) (passed-over _ _ _ _ _ _ _ (at-start .args .rules .now) (at-loop .loop .r) (λ e. c .if2 .taken (c .before .narrow-at .ensures ∙ e))))
+
+lesser-rule-requires : tie.Need-lesser-rule-requires Inv-loop μ-loop
+lesser-rule-requires c κs = search needs
+
+add-r-2 : tie.Need-add-r-2 Inv-loop μ-loop
+add-r-2 c = search needs
+
+loop-less-2 : tie.Need-loop-less-2 Inv-loop μ-loop
+loop-less-2 c = search needs
+
+loop-again-2 : tie.Need-loop-again-2 Inv-loop μ-loop
+loop-again-2 c = (search needs, search needs, rw (iter-more, ← c .before .before .before .before .loop .inv .2) (c .lesser-rule .ensures))
 
 returns-2 : tie.Need-returns-2 Inv-loop μ-loop
 unfolding leastOfCell leastOver byRules lesserRule lesserSplit
@@ -70,8 +92,14 @@ least-of-cell-spec =
     add-if1
     returns
     loop-holds
-    lesser-rule-requires
+    mul-narrow-at
+    add-narrow-at
+    narrow-at-requires
     add-r
     loop-less
     loop-again
+    lesser-rule-requires
+    add-r-2
+    loop-less-2
+    loop-again-2
     returns-2)
