@@ -150,6 +150,6 @@ P-cases =
     ∷ next any-tail 2 0 (1 ∷ 2 ∷ 9 ∷ []) Written (2 ∷ 0 ∷ 9 ∷ [])
     ∷ next any-tail 2 0 (2 ∷ 0 ∷ 9 ∷ []) Written (2 ∷ 2 ∷ 9 ∷ [])
     ∷ next any-tail 2 0 (2 ∷ 2 ∷ 9 ∷ []) Nothing (2 ∷ 2 ∷ 9 ∷ [])
-    ∷ next any-tail 3 0 (1 ∷ 1 ∷ 9 ∷ []) Nothing (1 ∷ 1 ∷ 9 ∷ [])
+    ∷ next any-tail 3 0 (1 ∷ 1 ∷ 9 ∷ []) Written (1 ∷ 2 ∷ 0 ∷ [])
     ∷ next any-tail 3 0 (1 ∷ 255 ∷ 255 ∷ []) Written (2 ∷ 0 ∷ 0 ∷ [])
     ∷ []
