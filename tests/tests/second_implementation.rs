@@ -111,7 +111,7 @@ fn the_specimen_is_the_first_derived_of_all_strings_in_ascending_order() {
 #[test]
 fn the_next_phrase_is_the_first_derived_above_of_all_strings() {
     let (mut some, mut none) = (0, 0);
-    over_seeds(0..1_000, |rng| {
+    over_seeds(0..2_000, |rng| {
         let grammar = few_words(rng);
         for length in 1..=5 {
             let string: Vec<u32> = (0..length).map(|_| rng.within(0..=grammar.words)).collect();
