@@ -1,5 +1,6 @@
 /*
-** Spireyerba: ranked readings of an utterance under a weighted grammar.
+** Spireyerba: ranked readings of an utterance under a weighted grammar, heard
+** as slots of words or as a word graph.
 **
 ** This header is the whole interface of libspireyerba.a, for C and C++. The
 ** library is written in Rattle: what each function answers and what it writes
@@ -51,8 +52,10 @@ extern "C" {
 #define SPIREYERBA_MAX_RULES 256       /* R is 1 to 256                       */
 #define SPIREYERBA_MAX_SLOTS 24        /* n is 1 to 24                        */
 #define SPIREYERBA_MAX_CANDIDATES 7    /* of a slot: 1 to 7                   */
-#define SPIREYERBA_MAX_WEIGHT 65535    /* of a rule, and cost of a candidate  */
-#define SPIREYERBA_NOT_HEARD 65535     /* cost of a candidate: not offered    */
+#define SPIREYERBA_MAX_PLACES 25       /* of a word graph: P is 2 to 25       */
+#define SPIREYERBA_MAX_EDGES 96        /* of a word graph: 1 to 96            */
+#define SPIREYERBA_MAX_WEIGHT 65535    /* of a rule, and cost of a word       */
+#define SPIREYERBA_NOT_HEARD 65535     /* cost of a word: not offered         */
 
 /*
 ** SIZES. No accepted block or sheet is longer; an output of this length is
@@ -60,6 +63,7 @@ extern "C" {
 */
 #define SPIREYERBA_GRAMMAR_BLOCK_MAX 1028
 #define SPIREYERBA_UTTERANCE_BLOCK_MAX 515
+#define SPIREYERBA_GRAPH_BLOCK_MAX 410
 #define SPIREYERBA_GRAMMAR_SHEET_MAX 1283
 #define SPIREYERBA_UTTERANCE_SHEET_MAX 361
 
@@ -77,14 +81,20 @@ enum {
     SPIREYERBA_GRAMMAR_FILL = 7      /* nonzero fill in the last byte, or further bytes */
 };
 
-/* Refusals of an utterance. From a sheet: RANGE, WORD, ORDER only. */
+/* Refusals of an utterance, of slots or a word graph. From a sheet: RANGE, WORD, ORDER only; of a graph all but ORDER. */
 enum {
     SPIREYERBA_UTTERANCE_END = 11,   /* a field passes the end of the block       */
-    SPIREYERBA_UTTERANCE_KIND = 12,  /* the block's kind is not 2                 */
-    SPIREYERBA_UTTERANCE_RANGE = 13, /* n or a slot's count is out of range       */
+    SPIREYERBA_UTTERANCE_KIND = 12,  /* the block's kind is not 2, nor 5 where a graph is taken */
+    SPIREYERBA_UTTERANCE_RANGE = 13, /* n or a slot's count, P or the number of edges is out of range */
     SPIREYERBA_UTTERANCE_WORD = 14,  /* a word is not below the grammar's W       */
     SPIREYERBA_UTTERANCE_ORDER = 15, /* a word is not above the one before it in its slot */
     SPIREYERBA_UTTERANCE_FILL = 16   /* nonzero fill in the last byte, or further bytes */
+};
+
+/* Further refusals of a word graph. */
+enum {
+    SPIREYERBA_EDGE_PLACES = 51,     /* from is not below to, or to is not below P */
+    SPIREYERBA_EDGE_REPEAT = 52      /* from, to and word equal an earlier edge's */
 };
 
 /* Further refusals of sheets, and that of the output of all conversions. */
@@ -111,6 +121,9 @@ enum {
 ** utterance block has kind (4 bits, 2), n (6), then of each slot its count (3)
 ** and word and cost (16) of each candidate. A symbol has as many bits as S - 1
 ** needs, a word as many as W - 1, at least 1.
+**
+** A word graph has no sheet: to a conversion its block is of another kind,
+** UTTERANCE_KIND.
 **
 ** Each conversion answers the number of elements written, which is never 0.
 ** Sheets and blocks that are accepted turn into each other without change:
@@ -149,8 +162,8 @@ int32_t spireyerba_utterance_to_block(
     uint8_t *out, size_t out_len);
 
 /*
-** Unpacks an utterance's block under a grammar, given as its block. Answers the
-** numbers written to out.
+** Unpacks the block of an utterance of slots under a grammar, given as its
+** block. Answers the numbers written to out.
 ** Refuses with any of GRAMMAR_..., any of UTTERANCE_..., OUTPUT_SHORT.
 */
 int32_t spireyerba_utterance_to_sheet(
@@ -158,12 +171,29 @@ int32_t spireyerba_utterance_to_sheet(
     const uint8_t *block, size_t block_len,
     uint32_t *out, size_t out_len);
 
+/*
+** WORD GRAPHS. The listing and the check take a word graph in place of slots. It
+** has P places, numbered from 0, and edges, numbered from 0 in the order of the
+** block; an edge is a word that was heard from one place to a later one. A
+** derivation then spans a path from place 0 to place P - 1, each word an edge of
+** it. A graph without such a path is no refusal: it has no readings.
+**
+** A graph block has the fields kind (4 bits, 5), P (5), the number of edges (7),
+** then of each edge from (5), to (5), word and cost (16). Its fields are checked
+** as others are; EDGE_PLACES stands behind an edge's to, EDGE_REPEAT behind its
+** cost.
+**
+** The slots of an utterance with at most 96 words in all can be redrawn as a
+** graph, place k before slot k and each word an edge over its slot: it has the
+** same derivations in the same order.
+*/
+
 /* Refusals of a reading. */
 enum {
     SPIREYERBA_READING_END = 31,     /* a field passes the end of the block       */
-    SPIREYERBA_READING_KIND = 32,    /* the block's kind is not 3                 */
-    SPIREYERBA_READING_SLOTS = 33,   /* n is not the utterance's                  */
-    SPIREYERBA_READING_WALK = 34,    /* the rule numbers are not the walk of a derivation */
+    SPIREYERBA_READING_KIND = 32,    /* the block's kind is not 3, or for a graph not 6 */
+    SPIREYERBA_READING_SLOTS = 33,   /* n is not the utterance's, or for a graph not 1 to P - 1 */
+    SPIREYERBA_READING_WALK = 34,    /* the numbers are not the walk of a derivation */
     SPIREYERBA_READING_WEIGHT = 35,  /* the weight is not the derivation's        */
     SPIREYERBA_READING_FILL = 36     /* nonzero fill in the last byte, or further bytes */
 };
@@ -174,12 +204,18 @@ enum {
 ** left part, its right part. A rule number has as many bits as R - 1 needs, at
 ** least 1. A derivation has symbol 0 as its head and spans all slots; its
 ** weight is the sum of its rules' weights and of the costs of its words. It
-** uses only words that are offered: candidates of a cost below NOT_HEARD.
+** uses only words that are offered: those of a cost below NOT_HEARD.
+**
+** The reading of a graph has kind 6, for n the number of edges of its path, and
+** after the number of each word rule that of its edge (7 bits). The check takes
+** it cut to its own length, spireyerba_graph_reading_length(n, R).
 **
 ** Answers 0 if the block is the reading of a derivation of this utterance under
 ** this grammar, with its true weight. Refuses with any of GRAMMAR_..., any of
-** UTTERANCE_..., any of READING_...; of these _WALK, _WEIGHT and _FILL come
-** after all fields are read, in this order. No slice is changed.
+** UTTERANCE_... and EDGE_..., any of READING_...; of these _WALK, _WEIGHT and
+** _FILL come after all fields are read, in this order. The fields of a graph's
+** reading are all there if it has bits for n word rules and n - 1 pair rules;
+** another mix of rules is READING_WALK. No slice is changed.
 */
 int32_t spireyerba_check(
     const uint8_t *grammar, size_t grammar_len,
@@ -214,16 +250,27 @@ enum {
 
 #define SPIREYERBA_MAX_READINGS 256
 #define SPIREYERBA_READING_BLOCK_MAX 52
+#define SPIREYERBA_GRAPH_READING_BLOCK_MAX 73
+
+/* The bits of a rule number under a grammar of so many rules, 1 to 256. */
+static inline size_t spireyerba_rule_width(uint32_t rules) {
+    size_t width = 1;
+    while (width < 8 && (rules - 1) >> width != 0)
+        width++;
+    return width;
+}
 
 /* The bytes of a reading's block over so many slots, 1 to 24, under a grammar of so many rules, 1 to 256. */
 static inline size_t spireyerba_reading_length(uint32_t slots, uint32_t rules) {
-    size_t rule_width = 1;
-    while (rule_width < 8 && (rules - 1) >> rule_width != 0)
-        rule_width++;
-    return (34 + (2 * (size_t)slots - 1) * rule_width + 7) / 8;
+    return (34 + (2 * (size_t)slots - 1) * spireyerba_rule_width(rules) + 7) / 8;
 }
 
-/* The numbers of work table that a listing needs, at most 9,830,400. */
+/* The bytes of the block of a graph's reading over a path of so many edges, 1 to 24, under so many rules, 1 to 256. */
+static inline size_t spireyerba_graph_reading_length(uint32_t edges, uint32_t rules) {
+    return (34 + (2 * (size_t)edges - 1) * spireyerba_rule_width(rules) + 7 * (size_t)edges + 7) / 8;
+}
+
+/* The numbers of work table that a listing needs, at most 9,830,400. A graph of P places needs what P - 1 slots do. */
 static inline size_t spireyerba_work_length(uint32_t symbols, uint32_t slots, uint32_t wanted) {
     return 4 * (size_t)symbols * ((size_t)slots * (slots + 1) / 2) * wanted;
 }
@@ -232,21 +279,23 @@ static inline size_t spireyerba_work_length(uint32_t symbols, uint32_t slots, ui
 ** LISTING. Finds the readings of least weight of an utterance under a grammar,
 ** as many as wanted or as there are, the least first. Where weights are equal
 ** the lower rule number comes first, then the tree with fewer slots in its left
-** part, then the lesser left part by this same order, weight included, then the
-** lesser right part.
+** part (in a graph: whose left part ends at a lower place), then the lesser left
+** part by this same order, weight included, then the lesser right part.
 **
 ** Answers the number found, m, which is 0 if the grammar does not derive the
-** utterance. A candidate of cost NOT_HEARD is not offered and so in no reading;
-** if a slot has no other, m is 0. The first m * L bytes of out are the m
-** readings, each a block of the same length L = spireyerba_reading_length(n, R).
+** utterance. A word of cost NOT_HEARD is not offered and so in no reading; if a
+** slot has no other, m is 0. The first m * L bytes of out are the m readings,
+** each L bytes. Of slots each is a block of the same length, which is
+** L = spireyerba_reading_length(n, R). Of a graph a reading is as long as its
+** path, with zeros behind it up to L = spireyerba_graph_reading_length(P - 1, R).
 **
 ** work is scratch memory of at least spireyerba_work_length(S, n, wanted)
-** numbers, whatever it holds; after an answer all of it is zero, also what is
-** beyond that length. out has at least wanted * L bytes, also where fewer
-** readings exist.
+** numbers, for a graph with P - 1 for n, whatever it holds; after an answer all
+** of it is zero, also what is beyond that length. out has at least wanted * L
+** bytes, also where fewer readings exist.
 **
-** Refuses with any of GRAMMAR_..., any of UTTERANCE_..., then LISTING_WANTED,
-** LISTING_WORK, LISTING_OUTPUT.
+** Refuses with any of GRAMMAR_..., any of UTTERANCE_... and EDGE_..., then
+** LISTING_WANTED, LISTING_WORK, LISTING_OUTPUT.
 */
 int32_t spireyerba_listing(
     const uint8_t *grammar, size_t grammar_len,

@@ -1,21 +1,22 @@
 //! Sheets to blocks and back, and the check of a reading, which reads all three blocks: the library beside the second
 //! implementation.
 
-use crate::free;
-use crate::inputs::{greatest, Input};
+use crate::inputs::{graphs, greatest, Input};
 use crate::measure::{medians, micros, ratio, Plan};
 use crate::table::{print_head, print_row};
 use spireyerba::{services, Refusal};
 use spireyerba_tests::check::check;
-use spireyerba_tests::{conversions, grammar, reading, utterance};
+use spireyerba_tests::heard::Heard;
+use spireyerba_tests::{conversions, grammar, utterance};
 use std::hint::black_box;
 
 const PLAN: Plan = Plan { rounds: 301, calls: 20 };
 
 pub fn print_table() {
-    let Input { grammar, utterance, .. } = greatest(24);
-    let (grammar_sheet, grammar_block) = (grammar.to_sheet(), grammar::pack(&grammar));
-    let (sheet, block) = (utterance.to_sheet(), utterance::pack(&grammar, &utterance));
+    let input = greatest(24);
+    let Input { grammar, heard: Heard::Slots(utterance), .. } = &input else { unreachable!("an utterance of slots") };
+    let (grammar_sheet, grammar_block) = (grammar.to_sheet(), grammar::pack(grammar));
+    let (sheet, block) = (utterance.to_sheet(), utterance::pack(grammar, utterance));
     print_head("256 rules, 24 slots of 7 words", &["ours", "second", "ratio"]);
     print_call(
         "grammar sheet to block",
@@ -41,12 +42,19 @@ pub fn print_table() {
         |out| services::utterance_to_sheet(&grammar_block, &block, out),
         |out| conversions::utterance_to_sheet(&grammar_block, &block, out),
     );
-    let reading = reading::pack(&grammar, &free::least(&grammar, &utterance, 1)[0]);
+    print_check("check of a reading", &input);
+    print_check("check of a reading of a graph", &graphs()[0]);
+}
+
+/// The check of the least reading.
+fn print_check(name: &str, Input { grammar, heard, .. }: &Input) {
+    let (grammar_block, block) = (grammar::pack(grammar), heard.pack(grammar));
+    let (_, reading) = &heard.least(grammar, 1)[0];
     print_call::<u8>(
-        "check of a reading",
+        name,
         &[],
-        |_| services::check(&grammar_block, &block, &reading).map(|()| 0),
-        |_| check(&grammar_block, &block, &reading).map(|()| 0),
+        |_| services::check(&grammar_block, &block, reading).map(|()| 0),
+        |_| check(&grammar_block, &block, reading).map(|()| 0),
     );
 }
 

@@ -1,39 +1,52 @@
 //! The listing written freely, with heaps and vectors: the first tree of every cell bottom up, further trees of a cell
 //! only when they are asked for (Jiménez and Marzal 2000; Huang and Chiang 2005, algorithm 3).
 
-use spireyerba::limits::reading_length;
-use spireyerba::{Body, Grammar, Reading, Refusal, Utterance};
-use spireyerba_tests::{grammar, reading, utterance};
+use spireyerba::{Body, Grammar, Graph, GraphReading, Reading, Refusal};
+use spireyerba_tests::heard::Heard;
+use spireyerba_tests::{grammar, graph_reading, reading};
+use std::borrow::Cow;
 use std::cmp::Reverse;
 use std::collections::BinaryHeap;
 
 /// Writes the readings one after another and answers their number.
-pub fn listing(grammar: &[u8], utterance: &[u8], wanted: usize, out: &mut [u8]) -> Result<usize, Refusal> {
+pub fn listing(grammar: &[u8], heard: &[u8], wanted: usize, out: &mut [u8]) -> Result<usize, Refusal> {
     let grammar = grammar::from_block(grammar)?;
-    let utterance = utterance::from_block(&grammar, utterance)?;
-    let readings = least(&grammar, &utterance, wanted);
-    let length = reading_length(utterance.slots.len(), grammar.rules.len());
-    for (place, reading) in out.chunks_exact_mut(length).zip(&readings) {
-        place.copy_from_slice(&reading::pack(&grammar, reading));
+    let heard = Heard::from_block(&grammar, heard)?;
+    let readings = least(&grammar, &heard, wanted);
+    for (place, found) in out.chunks_exact_mut(heard.reading_length(&grammar)).zip(&readings) {
+        let block = match heard {
+            Heard::Slots(_) => reading::pack(&grammar, &found.reading),
+            Heard::Graph(_) => graph_reading::pack(&grammar, found),
+        };
+        let (own, behind) = place.split_at_mut(block.len());
+        own.copy_from_slice(&block);
+        behind.fill(0);
     }
     Ok(readings.len())
 }
 
-/// The readings of the `wanted` least derivations, in the order.
-pub fn least(grammar: &Grammar, utterance: &Utterance, wanted: usize) -> Vec<Reading> {
-    let mut chart = Chart::new(grammar, utterance);
+/// The readings of the `wanted` least derivations, in the order; of slots with their words numbered as in the graph that they
+/// can be redrawn as.
+pub fn least(grammar: &Grammar, heard: &Heard, wanted: usize) -> Vec<GraphReading> {
+    let graph = match heard {
+        Heard::Slots(utterance) => Cow::Owned(Graph::from(utterance)),
+        Heard::Graph(graph) => Cow::Borrowed(graph),
+    };
+    let mut chart = Chart::new(grammar, &graph);
     chart.find_first_trees();
-    let root = Span { head: 0, from: 0, to: chart.slots };
+    let root = Span { head: 0, from: 0, to: chart.last };
     let mut readings = Vec::new();
     while readings.len() < wanted && chart.find(root, readings.len()) {
-        let mut walk = Vec::with_capacity(2 * chart.slots);
-        chart.spell(root, readings.len(), &mut walk);
-        readings.push(Reading { weight: chart.cell(root).found[readings.len()].weight, walk });
+        let weight = chart.cell(root).found[readings.len()].weight;
+        let reading = Reading { weight, walk: Vec::with_capacity(2 * chart.last) };
+        let mut found = GraphReading { reading, path: Vec::with_capacity(chart.last) };
+        chart.spell(root, readings.len(), &mut found);
+        readings.push(found);
     }
     readings
 }
 
-/// A head over the slots from `from` up to and without `to`.
+/// A head, and the places from where to where its trees go.
 #[derive(Clone, Copy)]
 struct Span {
     head: usize,
@@ -41,7 +54,8 @@ struct Span {
     to: usize,
 }
 
-/// A tree of a cell, by the ranks of its parts. The derived order is that of document 01. A leaf has split 0.
+/// A tree of a cell, by the ranks of its parts. The derived order is that of document 01. A leaf has split 0, and the number of
+/// its edge on the left.
 #[derive(Clone, Copy, PartialEq, Eq, PartialOrd, Ord)]
 struct Candidate {
     weight: u32,
@@ -61,7 +75,14 @@ struct PairRule {
 struct WordRule {
     number: u16,
     weight: u32,
+    head: usize,
+}
+
+/// A word that is offered over a span.
+struct Offer {
+    number: u16,
     word: usize,
+    cost: u32,
 }
 
 /// The trees found in order, and those that come next in question once a second one was asked for.
@@ -73,29 +94,32 @@ struct Cell {
 
 struct Chart {
     symbols: usize,
-    slots: usize,
+    last: usize,
+    /// Of each head.
     pairs: Vec<Vec<PairRule>>,
+    /// Of each word.
     words: Vec<Vec<WordRule>>,
     parts: Vec<(usize, usize)>,
-    /// Of each slot, the cost of each word that it offers.
-    costs: Vec<Vec<Option<u32>>>,
+    /// Of each span.
+    offers: Vec<Vec<Offer>>,
     /// The weight of each cell's first tree, side by side for the first pass.
     first: Vec<Option<u32>>,
     cells: Vec<Cell>,
 }
 
 impl Chart {
-    fn new(grammar: &Grammar, utterance: &Utterance) -> Self {
-        let (symbols, slots) = (grammar.symbols as usize, utterance.slots.len());
+    fn new(grammar: &Grammar, graph: &Graph) -> Self {
+        let (symbols, last) = (grammar.symbols as usize, graph.places as usize - 1);
+        let spans = last * (last + 1) / 2;
         let mut chart = Self {
             symbols,
-            slots,
+            last,
             pairs: (0..symbols).map(|_| Vec::new()).collect(),
-            words: (0..symbols).map(|_| Vec::new()).collect(),
+            words: (0..grammar.words).map(|_| Vec::new()).collect(),
             parts: Vec::new(),
-            costs: vec![vec![None; grammar.words as usize]; slots],
-            first: vec![None; symbols * slots * (slots + 1) / 2],
-            cells: vec![Cell::default(); symbols * slots * (slots + 1) / 2],
+            offers: (0..spans).map(|_| Vec::new()).collect(),
+            first: vec![None; symbols * spans],
+            cells: vec![Cell::default(); symbols * spans],
         };
         for (number, rule) in grammar.rules.iter().enumerate() {
             let (number, head, weight) = (number as u16, rule.head as usize, rule.weight);
@@ -107,20 +131,23 @@ impl Chart {
                 }
                 Body::Word(word) => {
                     chart.parts.push((0, 0));
-                    chart.words[head].push(WordRule { number, weight, word: word as usize });
+                    chart.words[word as usize].push(WordRule { number, weight, head });
                 }
             }
         }
-        for (costs, slot) in chart.costs.iter_mut().zip(&utterance.slots) {
-            for candidate in slot.iter().filter(|candidate| candidate.is_offered()) {
-                costs[candidate.word as usize] = Some(candidate.cost);
-            }
+        for (number, edge) in (0..).zip(&graph.edges).filter(|(_, edge)| edge.is_offered()) {
+            let span = chart.span(edge.from as usize, edge.to as usize);
+            chart.offers[span].push(Offer { number, word: edge.word as usize, cost: edge.cost });
         }
         chart
     }
 
+    fn span(&self, from: usize, to: usize) -> usize {
+        to * (to - 1) / 2 + from
+    }
+
     fn index(&self, span: Span) -> usize {
-        (span.to * (span.to - 1) / 2 + span.from) * self.symbols + span.head
+        self.span(span.from, span.to) * self.symbols + span.head
     }
 
     fn cell(&self, span: Span) -> &Cell {
@@ -134,8 +161,8 @@ impl Chart {
     }
 
     fn find_first_trees(&mut self) {
-        for length in 1..=self.slots {
-            for from in 0..=self.slots - length {
+        for length in 1..=self.last {
+            for from in 0..=self.last - length {
                 for head in 0..self.symbols {
                     let span = Span { head, from, to: from + length };
                     let mut first: Option<Candidate> = None;
@@ -155,12 +182,10 @@ impl Chart {
     /// The leaves of a cell, and for each pair rule and split the join of the first trees of both parts.
     fn each_seed(&self, span: Span, mut visit: impl FnMut(Candidate)) {
         let Span { head, from, to } = span;
-        if to == from + 1 {
-            for rule in &self.words[head] {
-                if let Some(cost) = self.costs[from][rule.word] {
-                    let weight = rule.weight + cost;
-                    visit(Candidate { weight, rule: rule.number, split: 0, left: 0, right: 0 });
-                }
+        for offer in &self.offers[self.span(from, to)] {
+            for rule in self.words[offer.word].iter().filter(|rule| rule.head == head) {
+                let weight = rule.weight + offer.cost;
+                visit(Candidate { weight, rule: rule.number, split: 0, left: offer.number, right: 0 });
             }
         }
         for rule in &self.pairs[head] {
@@ -217,15 +242,17 @@ impl Chart {
         }
     }
 
-    /// Appends the walk of a found tree.
-    fn spell(&self, span: Span, rank: usize, walk: &mut Vec<u32>) {
+    /// Appends the walk and the path of a found tree.
+    fn spell(&self, span: Span, rank: usize, found: &mut GraphReading) {
         let candidate = self.cell(span).found[rank];
-        walk.push(u32::from(candidate.rule));
-        if candidate.split != 0 {
-            let (left, right) = self.parts(span, candidate);
-            self.spell(left, candidate.left as usize, walk);
-            self.spell(right, candidate.right as usize, walk);
+        found.reading.walk.push(u32::from(candidate.rule));
+        if candidate.split == 0 {
+            found.path.push(u32::from(candidate.left));
+            return;
         }
+        let (left, right) = self.parts(span, candidate);
+        self.spell(left, candidate.left as usize, found);
+        self.spell(right, candidate.right as usize, found);
     }
 }
 
@@ -234,21 +261,41 @@ mod tests {
     use super::*;
     use spireyerba_tests::compare::over_seeds;
     use spireyerba_tests::nbest;
-    use spireyerba_tests::seeded::parsable::{case, AMBIGUOUS, LONG, MANY_SYMBOLS, SPARSE, TINY};
+    use spireyerba_tests::seeded::parsable::{case, graph_case, Shape, AMBIGUOUS, LONG, MANY_SYMBOLS, SPARSE, TINY};
+    use spireyerba_tests::seeded::rng::Rng;
+
+    fn shape(rng: &mut Rng) -> &'static Shape {
+        if rng.once_in(20) {
+            rng.pick(&[&LONG, &MANY_SYMBOLS])
+        } else {
+            rng.pick(&[&TINY, &AMBIGUOUS, &SPARSE])
+        }
+    }
 
     #[test]
     fn lists_what_the_second_implementation_lists() {
         let mut found = 0;
         over_seeds(0..3_000, |rng| {
-            let shape = if rng.once_in(20) {
-                rng.pick(&[&LONG, &MANY_SYMBOLS])
-            } else {
-                rng.pick(&[&TINY, &AMBIGUOUS, &SPARSE])
-            };
+            let shape = shape(rng);
             let (grammar, utterance) = case(rng, shape);
             let wanted = rng.pick(&[1, 2, 5, 30, 256]);
-            let readings = least(&grammar, &utterance, wanted);
-            assert_eq!(readings, nbest::least(&grammar, &utterance, wanted), "{grammar:?} {utterance:?}");
+            let expected = nbest::least(&grammar, &utterance, wanted);
+            let readings = least(&grammar, &Heard::Slots(utterance.clone()), wanted);
+            assert!(readings.iter().map(|found| &found.reading).eq(&expected), "{grammar:?} {utterance:?}");
+            found += readings.len();
+        });
+        assert!(found > 10_000, "{found} readings");
+    }
+
+    #[test]
+    fn lists_of_graphs_likewise() {
+        let mut found = 0;
+        over_seeds(10_000..13_000, |rng| {
+            let shape = shape(rng);
+            let (grammar, graph) = graph_case(rng, shape);
+            let wanted = rng.pick(&[1, 2, 5, 30, 256]);
+            let readings = least(&grammar, &Heard::Graph(graph.clone()), wanted);
+            assert_eq!(readings, nbest::least_of_graph(&grammar, &graph, wanted), "{grammar:?} {graph:?}");
             found += readings.len();
         });
         assert!(found > 10_000, "{found} readings");

@@ -1,31 +1,71 @@
-//! The grammars and utterances that the listing is measured on, and the grammars that the specimen is.
+//! The grammars, utterances and word graphs that the listing is measured on, and the grammars that the specimen is.
 
-use spireyerba::{Body, Candidate, Grammar, Rule, Utterance};
+use spireyerba::limits::{MAX_EDGES, MAX_PLACES};
+use spireyerba::{Body, Candidate, Edge, Grammar, Graph, Rule, Utterance};
 use spireyerba_tests::grammar::words_of_rules;
+use spireyerba_tests::heard::Heard;
 use spireyerba_tests::seeded::grammars::{with_weights, Weights};
 use spireyerba_tests::seeded::rng::Rng;
+use std::collections::HashSet;
 
 pub struct Input {
     pub name: &'static str,
     pub grammar: Grammar,
-    pub utterance: Utterance,
+    pub heard: Heard,
 }
 
 const WEIGHT: u32 = 1_000;
+/// The words of each slot, and as many as let 24 slots be redrawn as a graph.
+const CANDIDATES: usize = 7;
+const CANDIDATES_REDRAWN: usize = 4;
 
 /// 32 symbols and 256 rules.
 pub fn greatest(slots: usize) -> Input {
+    let grammar = greatest_grammar();
+    let utterance = utterance(&mut Rng::new(2), &grammar, slots, CANDIDATES, WEIGHT);
+    Input { name: "32 symbols, 256 rules", grammar, heard: Heard::Slots(utterance) }
+}
+
+fn greatest_grammar() -> Grammar {
     // a seed with which six slots have 256 readings too
-    let grammar = random_grammar(&mut Rng::new(8), 32, 150, 106, WEIGHT);
-    let utterance = utterance(&mut Rng::new(2), &grammar, slots, WEIGHT);
-    Input { name: "32 symbols, 256 rules", grammar, utterance }
+    random_grammar(&mut Rng::new(8), 32, 150, 106, WEIGHT)
+}
+
+/// Word graphs of 25 places and 96 edges.
+pub fn graphs() -> Vec<Input> {
+    let with = |name, grammar: Grammar, longest| {
+        let heard = Heard::Graph(graph(&mut Rng::new(6), &grammar, longest));
+        Input { name, grammar, heard }
+    };
+    let few = random_grammar(&mut Rng::new(4), 4, 32, 32, WEIGHT);
+    vec![
+        with("32 symbols, 256 rules, short edges", greatest_grammar(), 3),
+        with("32 symbols, 256 rules, long edges", greatest_grammar(), 8),
+        with("4 symbols, 64 rules, short edges", few.clone(), 3),
+        with("4 symbols, 64 rules, long edges", few, 8),
+    ]
+}
+
+/// 24 slots of four words each, and the same redrawn as a graph.
+pub fn redrawn() -> Vec<[Input; 2]> {
+    let with = |name, grammar: Grammar| {
+        let utterance = utterance(&mut Rng::new(5), &grammar, 24, CANDIDATES_REDRAWN, WEIGHT);
+        let graph = Heard::Graph(Graph::from(&utterance));
+        [Heard::Slots(utterance), graph].map(|heard| Input { name, grammar: grammar.clone(), heard })
+    };
+    vec![
+        with("32 symbols, 256 rules", greatest_grammar()),
+        with("4 symbols, 64 rules", random_grammar(&mut Rng::new(4), 4, 32, 32, WEIGHT)),
+        with("one symbol", random_grammar(&mut Rng::new(4), 1, 1, 20, WEIGHT)),
+        with("chain 0 to 1 0", chain(1, 0)),
+    ]
 }
 
 /// The other shapes, each over 24 slots.
 pub fn shapes() -> Vec<Input> {
     let with = |name, grammar: Grammar, weight| {
-        let utterance = utterance(&mut Rng::new(3), &grammar, 24, weight);
-        Input { name, grammar, utterance }
+        let utterance = utterance(&mut Rng::new(3), &grammar, 24, CANDIDATES, weight);
+        Input { name, grammar, heard: Heard::Slots(utterance) }
     };
     let rng = &mut Rng::new(4);
     vec![
@@ -86,14 +126,37 @@ fn chain(first: u32, second: u32) -> Grammar {
     Grammar { symbols: 2, words: 10, rules }
 }
 
-/// Each slot offers seven words that some rule has.
-fn utterance(rng: &mut Rng, grammar: &Grammar, slots: usize, cost: u32) -> Utterance {
+/// The words that some rule has.
+fn known_words(grammar: &Grammar) -> Vec<u32> {
     let mut known: Vec<u32> = words_of_rules(grammar).collect();
     known.sort_unstable();
     known.dedup();
+    known
+}
+
+/// As many edges as there can be between as many places, each over up to `longest` steps, with a word that some rule has. One
+/// edge over each step comes first, so that there is a path.
+fn graph(rng: &mut Rng, grammar: &Grammar, longest: u32) -> Graph {
+    let known = known_words(grammar);
+    let last = MAX_PLACES - 1;
+    let (mut edges, mut seen) = (Vec::new(), HashSet::new());
+    while edges.len() < MAX_EDGES as usize {
+        let laid = edges.len() as u32;
+        let (from, steps) = if laid < last { (laid, 1) } else { (rng.within(0..=last - 1), rng.within(1..=longest)) };
+        let (to, word) = ((from + steps).min(last), rng.pick(&known));
+        if seen.insert((from, to, word)) {
+            edges.push(Edge { from, to, word, cost: rng.within(0..=WEIGHT) });
+        }
+    }
+    Graph { places: MAX_PLACES, edges }
+}
+
+/// Each slot offers so many words that some rule has.
+fn utterance(rng: &mut Rng, grammar: &Grammar, slots: usize, candidates: usize, cost: u32) -> Utterance {
+    let mut known = known_words(grammar);
     let slot = |_| {
         rng.shuffle(&mut known);
-        let mut words = known[..7].to_vec();
+        let mut words = known[..candidates].to_vec();
         words.sort_unstable();
         words.into_iter().map(|word| Candidate { word, cost: rng.within(0..=cost) }).collect()
     };
@@ -104,17 +167,25 @@ fn utterance(rng: &mut Rng, grammar: &Grammar, slots: usize, cost: u32) -> Utter
 mod tests {
     use super::*;
     use crate::free;
-    use spireyerba_tests::{nbest, specimen};
+    use spireyerba_tests::{grammar, specimen};
 
     #[test]
     fn each_shape_is_accepted_and_has_256_readings() {
-        for input in [6, 12, 24].map(greatest).into_iter().chain(shapes()) {
-            let Input { name, grammar, utterance } = input;
-            let block = grammar.to_block().expect(name);
-            utterance.to_block(&block).expect(name);
-            let readings = free::least(&grammar, &utterance, 256);
-            assert_eq!(readings.len(), 256, "{name}");
-            assert_eq!(readings, nbest::least(&grammar, &utterance, 256), "{name}");
+        let of_slots = [6, 12, 24].map(greatest).into_iter().chain(shapes());
+        for Input { name, grammar, heard } in of_slots.chain(graphs()).chain(redrawn().into_iter().flatten()) {
+            let grammar_block = grammar.to_block().expect(name);
+            let block = match &heard {
+                Heard::Slots(utterance) => utterance.to_block(&grammar_block),
+                Heard::Graph(graph) => graph.to_block(&grammar_block),
+            };
+            assert_eq!(Heard::from_block(&grammar, &block.expect(name)).as_ref(), Ok(&heard), "{name}");
+            let length = heard.reading_length(&grammar);
+            let (mut work, mut out, mut from_free) = (vec![0; 9_830_400], vec![1; 256 * length], vec![2; 256 * length]);
+            let blocks = (grammar::pack(&grammar), heard.pack(&grammar));
+            let found = spireyerba_tests::listing::listing(&blocks.0, &blocks.1, 256, &mut work, &mut out);
+            assert_eq!(found, Ok(256), "{name}");
+            assert_eq!(free::listing(&blocks.0, &blocks.1, 256, &mut from_free), Ok(256), "{name}");
+            assert!(out == from_free, "{name}: the lists differ");
         }
     }
 

@@ -1,13 +1,13 @@
 //! The listing: the library beside the free version with heaps, and beside the second implementation.
 
 use crate::free;
-use crate::inputs::{greatest, shapes, Input};
+use crate::inputs::{graphs, greatest, redrawn, shapes, Input};
 use crate::measure::{medians, micros, ratio, Plan};
 use crate::table::{print_head, print_row};
-use spireyerba::limits::{reading_length, work_length};
+use spireyerba::limits::work_length;
 use spireyerba::services;
+use spireyerba_tests::grammar;
 use spireyerba_tests::listing::listing;
-use spireyerba_tests::{grammar, utterance};
 use std::hint::black_box;
 use std::time::{Duration, Instant};
 
@@ -21,20 +21,45 @@ fn rows() -> impl Iterator<Item = (Input, usize)> {
     sizes.map(|(slots, wanted)| (greatest(slots), wanted)).into_iter().chain(of_shapes)
 }
 
+/// Word graphs, for one reading and for many.
+fn graph_rows() -> impl Iterator<Item = (Input, usize)> {
+    [1, 256].into_iter().flat_map(|wanted| graphs().into_iter().map(move |input| (input, wanted)))
+}
+
 /// The library beside the free version, with the clearing of the work table apart and in.
 pub fn print_beside_free() {
-    print_head("shape", &["n", "N", "ours", "clearing", "rest", "free", "rest/free", "ours/free"]);
-    for (input, wanted) in rows() {
+    print_rows_beside_free("shape", "n", rows());
+    let calls = [(1, Lent::library as Call), (1, Lent::clear), (256, Lent::library), (256, Lent::clear)];
+    let [one, clearing_one, many, clearing_many] = times(&greatest(24), calls);
+    let cost = ratio(many.saturating_sub(clearing_many), one.saturating_sub(clearing_one));
+    println!("\n256 readings of 24 slots under 32 symbols and 256 rules cost {cost} times one, clearing apart.");
+}
+
+/// Word graphs beside the free version, where n is the steps from the first place to the last; then slots beside the graph that
+/// they can be redrawn as, which has the same readings.
+pub fn print_graphs() {
+    print_rows_beside_free("25 places, 96 edges", "P - 1", graph_rows());
+    println!();
+    print_head("24 slots of 4 words", &["N", "slots", "graph", "ratio"]);
+    for wanted in [1, 16, 256] {
+        for [slots, graph] in redrawn() {
+            assert_equal_lists(&graph, wanted);
+            let [of_slots, of_graph] = medians_of([(&slots, wanted, Lent::library), (&graph, wanted, Lent::library)]);
+            let numbers = [wanted.to_string(), micros(of_slots), micros(of_graph), ratio(of_graph, of_slots)];
+            print_row(slots.name, &numbers);
+        }
+    }
+}
+
+fn print_rows_beside_free(name: &str, size: &str, rows: impl Iterator<Item = (Input, usize)>) {
+    print_head(name, &[size, "N", "ours", "clearing", "rest", "free", "rest/free", "ours/free"]);
+    for (input, wanted) in rows {
         assert_equal_lists(&input, wanted);
         let [ours, clearing, free] = times(&input, [Lent::library, Lent::clear, Lent::free].map(|call| (wanted, call)));
         let rest = ours.saturating_sub(clearing);
         let times = [ours, clearing, rest, free].map(micros);
         print_numbers(&input, wanted, &[&times[..], &[ratio(rest, free), ratio(ours, free)]].concat());
     }
-    let calls = [(1, Lent::library as Call), (1, Lent::clear), (256, Lent::library), (256, Lent::clear)];
-    let [one, clearing_one, many, clearing_many] = times(&greatest(24), calls);
-    let cost = ratio(many.saturating_sub(clearing_many), one.saturating_sub(clearing_one));
-    println!("\n256 readings of 24 slots under 32 symbols and 256 rules cost {cost} times one, clearing apart.");
 }
 
 /// The library beside the second implementation, apart since that can take a hundred times as long.
@@ -47,7 +72,7 @@ pub fn print_beside_second() {
 }
 
 fn print_numbers(input: &Input, wanted: usize, numbers: &[String]) {
-    let size = [input.utterance.slots.len(), wanted].map(|number| number.to_string());
+    let size = [input.heard.longest(), wanted].map(|number| number.to_string());
     print_row(input.name, &[&size[..], numbers].concat());
 }
 
@@ -65,7 +90,7 @@ type Call = fn(&mut Lent);
 /// Two blocks, the number of readings wanted, and what is lent for one call.
 struct Lent {
     grammar: Vec<u8>,
-    utterance: Vec<u8>,
+    heard: Vec<u8>,
     wanted: usize,
     work: Vec<u32>,
     out: Vec<u8>,
@@ -73,20 +98,19 @@ struct Lent {
 
 impl Lent {
     fn new(input: &Input, wanted: usize) -> Self {
-        let Input { grammar, utterance, .. } = input;
-        let slots = utterance.slots.len();
+        let Input { grammar, heard, .. } = input;
         Self {
             grammar: grammar::pack(grammar),
-            utterance: utterance::pack(grammar, utterance),
+            heard: heard.pack(grammar),
             wanted,
-            work: vec![1; work_length(grammar.symbols as usize, slots, wanted)],
-            out: vec![0; wanted * reading_length(slots, grammar.rules.len())],
+            work: vec![1; work_length(grammar.symbols as usize, heard.longest(), wanted)],
+            out: vec![0; wanted * heard.reading_length(grammar)],
         }
     }
 
     fn library(&mut self) {
-        let Self { grammar, utterance, wanted, work, out } = self;
-        let _ = black_box(services::listing(grammar, utterance, *wanted as u32, work, out));
+        let Self { grammar, heard, wanted, work, out } = self;
+        let _ = black_box(services::listing(grammar, heard, *wanted as u32, work, out));
     }
 
     /// One pass over the work table, which any listing owes whatever the table held.
@@ -95,18 +119,23 @@ impl Lent {
     }
 
     fn free(&mut self) {
-        let _ = black_box(free::listing(&self.grammar, &self.utterance, self.wanted, &mut self.out));
+        let _ = black_box(free::listing(&self.grammar, &self.heard, self.wanted, &mut self.out));
     }
 
     fn second(&mut self) {
-        let Self { grammar, utterance, wanted, work, out } = self;
-        let _ = black_box(listing(grammar, utterance, *wanted as u32, work, out));
+        let Self { grammar, heard, wanted, work, out } = self;
+        let _ = black_box(listing(grammar, heard, *wanted as u32, work, out));
     }
 }
 
-/// The median time of each call, of as many rounds as the time for one row allows.
+/// The median time of each call on one input.
 fn times<const COUNT: usize>(input: &Input, calls: [(usize, Call); COUNT]) -> [Duration; COUNT] {
-    let mut calls = calls.map(|(wanted, call)| {
+    medians_of(calls.map(|(wanted, call)| (input, wanted, call)))
+}
+
+/// The median time of each call, of as many rounds as the time for one row allows.
+fn medians_of<const COUNT: usize>(calls: [(&Input, usize, Call); COUNT]) -> [Duration; COUNT] {
+    let mut calls = calls.map(|(input, wanted, call)| {
         let mut lent = Lent::new(input, wanted);
         move || call(&mut lent)
     });

@@ -5,6 +5,8 @@ use spireyerba_bench::{conversions, listing, specimen};
 fn main() {
     listing::print_beside_free();
     println!();
+    listing::print_graphs();
+    println!();
     conversions::print_table();
     println!();
     specimen::print_table();

@@ -1,15 +1,16 @@
 //! Grammars as values.
 
-use crate::limits::{reading_length, work_length, GRAMMAR_BLOCK_MAX, GRAMMAR_SHEET_MAX, MAX_READINGS};
+use crate::limits::{graph_reading_length, reading_length, work_length};
+use crate::limits::{GRAMMAR_BLOCK_MAX, GRAMMAR_SHEET_MAX, MAX_READINGS};
 use crate::services::{grammar_to_block, grammar_to_sheet, listing};
-use crate::{Reading, Refusal, Utterance};
+use crate::{Graph, GraphReading, Reading, Refusal, Utterance};
 
 /// What a rule puts in the place of its head.
 #[derive(Clone, Copy, Debug, PartialEq, Eq, Hash)]
 pub enum Body {
     /// Two symbols, over adjoining spans.
     Pair(u32, u32),
-    /// One word, over one slot.
+    /// One word, over one slot or one edge.
     Word(u32),
 }
 
@@ -86,11 +87,32 @@ impl Grammar {
         let grammar = self.to_block()?;
         let block = utterance.to_block(&grammar)?;
         let (slots, rules) = (utterance.slots.len(), self.rules.len());
-        let (most, length) = (wanted.min(MAX_READINGS) as usize, reading_length(slots, rules));
+        let length = reading_length(slots, rules);
+        let readings = self.list_blocks([&grammar, &block], slots, length, wanted)?;
+        Ok(readings.chunks_exact(length).map(|block| Reading::of_accepted(block, slots, rules)).collect())
+    }
+
+    /// The `wanted` least readings of a word graph, the least first; fewer if there are no more. Refuses as
+    /// [`grammar_to_block`] and [`Graph::to_block`] do, then with [`Refusal::ListingWanted`].
+    ///
+    /// A call sizes and zeroes a work table of its own; to keep one between calls, use [`listing`].
+    pub fn list_graph(&self, graph: &Graph, wanted: u32) -> Result<Vec<GraphReading>, Refusal> {
+        let grammar = self.to_block()?;
+        let block = graph.to_block(&grammar)?;
+        let longest = graph.places as usize - 1;
+        let length = graph_reading_length(longest, self.rules.len());
+        let readings = self.list_blocks([&grammar, &block], longest, length, wanted)?;
+        Ok(readings.chunks_exact(length).map(|block| GraphReading::of_accepted(block, self)).collect())
+    }
+
+    /// The blocks of the readings found, one after another, of so many slots and of so many bytes each.
+    fn list_blocks(&self, blocks: [&[u8]; 2], slots: usize, length: usize, wanted: u32) -> Result<Vec<u8>, Refusal> {
+        let most = wanted.min(MAX_READINGS) as usize;
         let mut work = vec![0; work_length(self.symbols as usize, slots, most)];
         let mut out = vec![0; most * length];
-        let found = listing(&grammar, &block, wanted, &mut work, &mut out)?;
-        Ok(out.chunks_exact(length).take(found).map(|block| Reading::of_accepted(block, slots, rules)).collect())
+        let found = listing(blocks[0], blocks[1], wanted, &mut work, &mut out)?;
+        out.truncate(found * length);
+        Ok(out)
     }
 
     /// The grammar of a sheet that the library accepted or wrote.

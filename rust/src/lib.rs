@@ -3,7 +3,8 @@
 //! A recogniser hears an utterance: slots, each with candidate words and their costs; a cost of 65,535 says that the word
 //! was not heard, and no reading uses it there. An office has a weighted grammar in Chomsky normal form. A reading is a
 //! derivation of the utterance: which rule made each phrase, and so which word was said in each slot. Its weight is the sum
-//! of its rules' weights and its words' costs.
+//! of its rules' weights and its words' costs. Newer recognisers deliver a word graph in place of slots, words on edges
+//! between places; a reading is then a derivation of a path through it.
 //!
 //! This crate calls the library that the repository proves, `target/staticlib/libspireyerba.a`. Whatever is searched,
 //! weighed or checked, the library does it: here are its functions for Rust, values in place of numbers, and a text form.
@@ -14,8 +15,9 @@
 //! | [`services`] | the library's functions over lent slices, with no allocation |
 //! | [`Refusal`] | why one of them refused, by number and in words |
 //! | [`Grammar`], [`Utterance`], [`Reading`] | values that turn into blocks and sheets and back; [`Grammar::list`] |
+//! | [`Graph`], [`GraphReading`] | word graphs, which have blocks and no sheets; [`Grammar::list_graph`] |
 //! | [`limits`] | how large things may be, and how much is to be lent |
-//! | [`text`] | grammars and utterances with names |
+//! | [`text`] | grammars, utterances and word graphs with names |
 //!
 //! # Example
 //!
@@ -43,12 +45,15 @@ pub mod limits;
 pub mod services;
 pub mod text;
 
+mod fields;
 mod grammar;
+mod graph;
 mod reading;
 mod refusal;
 mod utterance;
 
 pub use grammar::{Body, Grammar, Rule};
-pub use reading::Reading;
+pub use graph::{Edge, Graph};
+pub use reading::{GraphReading, Reading};
 pub use refusal::Refusal;
 pub use utterance::{Candidate, Utterance};

@@ -10,10 +10,15 @@ pub const MAX_RULES: u32 = 256;
 pub const MAX_SLOTS: u32 = 24;
 /// A slot has 1 to so many candidates.
 pub const MAX_CANDIDATES: u32 = 7;
-/// The greatest weight of a rule, and the greatest cost that a candidate can be given.
+/// A word graph has 2 to so many places, and so a path has at most as many edges as an utterance has slots.
+pub const MAX_PLACES: u32 = 25;
+/// A word graph has 1 to so many edges.
+pub const MAX_EDGES: u32 = 96;
+/// The greatest weight of a rule, and the greatest cost that a candidate or an edge can be given.
 pub const MAX_WEIGHT: u32 = 65_535;
-/// The cost that says that a candidate's word was not heard: the slot does not offer it
-/// ([`Candidate::is_offered`](crate::Candidate::is_offered)). As the weight of a rule the number is like any other.
+/// The cost that says that a word was not heard: the slot does not offer it, or the graph not on that edge
+/// ([`Candidate::is_offered`](crate::Candidate::is_offered), [`Edge::is_offered`](crate::Edge::is_offered)). As the weight
+/// of a rule the number is like any other.
 pub const NOT_HEARD: u32 = 65_535;
 /// A listing answers 1 to so many readings.
 pub const MAX_READINGS: u32 = 256;
@@ -22,8 +27,12 @@ pub const MAX_READINGS: u32 = 256;
 pub const GRAMMAR_BLOCK_MAX: usize = 1_028;
 /// No utterance block that is accepted has more bytes.
 pub const UTTERANCE_BLOCK_MAX: usize = 515;
-/// No reading block has more bytes.
+/// No block of a word graph that is accepted has more bytes.
+pub const GRAPH_BLOCK_MAX: usize = 410;
+/// No block of a reading of slots has more bytes.
 pub const READING_BLOCK_MAX: usize = 52;
+/// No block of a reading of a word graph has more bytes.
+pub const GRAPH_READING_BLOCK_MAX: usize = 73;
 /// No grammar sheet that is accepted has more numbers.
 pub const GRAMMAR_SHEET_MAX: usize = 1_283;
 /// No utterance sheet that is accepted has more numbers.
@@ -38,7 +47,7 @@ pub const fn width(number: u32) -> usize {
     }
 }
 
-/// The nodes of a derivation over so many slots, at least one.
+/// The nodes of a derivation over so many slots, or over a path of so many edges, at least one.
 pub const fn nodes(slots: usize) -> usize {
     2 * slots - 1
 }
@@ -48,16 +57,29 @@ pub const fn reading_length(slots: usize, rules: usize) -> usize {
     (READING_HEAD_WIDTH + nodes(slots) * width(rules as u32 - 1)).div_ceil(8)
 }
 
-/// The numbers of work table that a listing of so many readings needs.
+/// The bytes of a graph's reading over a path of so many edges under a grammar of so many rules, at least one of each. A
+/// listing of a graph of P places gives each reading as many bytes as one of P − 1 edges has, the rest zeros; the check takes
+/// a reading cut to its own.
+pub const fn graph_reading_length(edges: usize, rules: usize) -> usize {
+    (READING_HEAD_WIDTH + nodes(edges) * width(rules as u32 - 1) + EDGE_NUMBER_WIDTH * edges).div_ceil(8)
+}
+
+/// The numbers of work table that a listing of so many readings needs. A graph of P places needs what P − 1 slots do.
 pub const fn work_length(symbols: usize, slots: usize, wanted: usize) -> usize {
     NUMBERS_OF_ENTRY * symbols * (slots * (slots + 1) / 2) * wanted
 }
 
-/// The bits of a reading's kind, of its number of slots and of its weight.
-pub(crate) const READING_KIND_WIDTH: usize = 4;
+/// The bits of a block's kind; of a reading's number of slots, or of edges, and of its weight; of an edge's number in it.
+pub(crate) const KIND_WIDTH: usize = 4;
 pub(crate) const READING_SLOTS_WIDTH: usize = 6;
 pub(crate) const READING_WEIGHT_WIDTH: usize = 24;
-const READING_HEAD_WIDTH: usize = READING_KIND_WIDTH + READING_SLOTS_WIDTH + READING_WEIGHT_WIDTH;
+pub(crate) const EDGE_NUMBER_WIDTH: usize = 7;
+const READING_HEAD_WIDTH: usize = KIND_WIDTH + READING_SLOTS_WIDTH + READING_WEIGHT_WIDTH;
+/// The bits of a graph's number of places and of edges; of an edge's place and of its cost.
+pub(crate) const PLACES_WIDTH: usize = 5;
+pub(crate) const EDGES_WIDTH: usize = 7;
+pub(crate) const PLACE_WIDTH: usize = 5;
+pub(crate) const COST_WIDTH: usize = 16;
 
 /// The work table has an entry for each rank of each symbol over each span.
 const NUMBERS_OF_ENTRY: usize = 4;
@@ -76,5 +98,14 @@ mod tests {
     fn lengths_that_document_01_names() {
         assert_eq!((work_length(1, 4, 8), 8 * reading_length(4, 2)), (320, 48));
         assert_eq!(reading_length(MAX_SLOTS as usize, MAX_RULES as usize), READING_BLOCK_MAX);
+    }
+
+    #[test]
+    fn lengths_of_graphs() {
+        let edge = 2 * PLACE_WIDTH + width(MAX_WORDS - 1) + COST_WIDTH;
+        let bits = KIND_WIDTH + PLACES_WIDTH + EDGES_WIDTH + MAX_EDGES as usize * edge;
+        assert_eq!(bits.div_ceil(8), GRAPH_BLOCK_MAX);
+        assert_eq!(graph_reading_length(MAX_PLACES as usize - 1, MAX_RULES as usize), GRAPH_READING_BLOCK_MAX);
+        assert_eq!([1, 2, 3, 4].map(|edges| graph_reading_length(edges, 2)), [6, 7, 8, 9]);
     }
 }

@@ -7,7 +7,9 @@
 //!
 //! A *block* is packed bits, a *sheet* the same as plain 32-bit numbers; the header says field by field what they hold.
 //! [`Grammar`](crate::Grammar), [`Utterance`](crate::Utterance) and [`Reading`](crate::Reading) are made from them and
-//! turn into them, and [`limits`](crate::limits) says how long they are.
+//! turn into them, and [`limits`](crate::limits) says how long they are. [`listing`] and [`check`] take the block of a word
+//! graph ([`Graph`](crate::Graph)) as well as that of an utterance of slots; to every other function a graph is a block of
+//! another kind, [`UtteranceKind`](Refusal::UtteranceKind).
 
 #![expect(unsafe_code, reason = "the library has a C interface")]
 
@@ -141,16 +143,30 @@ pub fn utterance_to_sheet(grammar: &[u8], block: &[u8], out: &mut [u32]) -> Resu
     })
 }
 
-/// Checks a reading of an utterance under a grammar.
+/// Checks a reading of an utterance or of a word graph under a grammar.
 ///
 /// Takes the three blocks, and answers that the reading passes: it is the reading of a derivation, with its true weight. A
-/// derivation has symbol 0 as its head, spans all slots and uses only words that are
-/// [offered](crate::Candidate::is_offered). Nothing is written.
+/// derivation has symbol 0 as its head, spans all slots, or a path from place 0 to the last place, and uses only words that
+/// are [offered](crate::Candidate::is_offered). Nothing is written. A reading of a graph, as [`listing`] writes it, is cut to
+/// its own length first, [`graph_reading_length`](crate::limits::graph_reading_length) of its number of edges.
 ///
-/// Refuses with 1 to 7 for the grammar and 11 to 16 for the utterance; then with [`ReadingEnd`](Refusal::ReadingEnd),
-/// [`ReadingKind`](Refusal::ReadingKind) or [`ReadingSlots`](Refusal::ReadingSlots); then, after all fields are read and in
-/// this order, with [`ReadingWalk`](Refusal::ReadingWalk), [`ReadingWeight`](Refusal::ReadingWeight),
-/// [`ReadingFill`](Refusal::ReadingFill).
+/// Refuses with 1 to 7 for the grammar; with 11 to 16, [`EdgePlaces`](Refusal::EdgePlaces) or
+/// [`EdgeRepeat`](Refusal::EdgeRepeat) for what was heard; then with [`ReadingEnd`](Refusal::ReadingEnd),
+/// [`ReadingKind`](Refusal::ReadingKind) (for slots not 3, for a graph not 6) or [`ReadingSlots`](Refusal::ReadingSlots);
+/// then, after all fields are read and in this order, with [`ReadingWalk`](Refusal::ReadingWalk),
+/// [`ReadingWeight`](Refusal::ReadingWeight), [`ReadingFill`](Refusal::ReadingFill). A graph's reading of n edges has all its
+/// fields if it has bits for n word rules and n − 1 pair rules: with another mix of rules it is no walk.
+///
+/// ```
+/// use spireyerba::{services::check, Refusal};
+///
+/// let grammar = [0x10, 0x40, 0x40, 0x40, 0x00, 0x09, 0x00, 0x00, 0x00];
+/// // three places, and one edge over both steps, at cost 7
+/// let graph = [0x51, 0x81, 0x00, 0x80, 0x00, 0xe0];
+/// let reading = [0x60, 0x40, 0x00, 0x01, 0xe0, 0x00, 0x00];
+/// assert_eq!(check(&grammar, &graph, &reading[..6]), Ok(()));
+/// assert_eq!(check(&grammar, &graph, &reading), Err(Refusal::ReadingFill));
+/// ```
 pub fn check(grammar: &[u8], utterance: &[u8], reading: &[u8]) -> Result<(), Refusal> {
     // SAFETY: the slices are borrowed until the call returns.
     let passes = answer(unsafe {
@@ -191,21 +207,24 @@ pub fn specimen(grammar: &[u8], length: u32, out: &mut [u8]) -> Result<bool, Ref
     Ok(written != 0)
 }
 
-/// Lists the readings of least weight of an utterance under a grammar, the least first.
+/// Lists the readings of least weight of an utterance or of a word graph under a grammar, the least first.
 ///
 /// Takes both blocks and the number `wanted`, at most [`MAX_READINGS`](crate::limits::MAX_READINGS); as scratch memory
 /// `work`, which may hold anything, of at least [`work_length`](crate::limits::work_length) numbers; and `out`, of at
-/// least `wanted` times L bytes, where L is [`reading_length`](crate::limits::reading_length). Answers m, the number of
-/// readings found and written one after another, L bytes each. If m is less than `wanted` there are no more; it is 0 if
-/// the grammar does not derive the utterance. A candidate of cost [`NOT_HEARD`](crate::limits::NOT_HEARD) is not offered and
-/// so in no reading; if a slot has no other, m is 0. All of `work` is zero afterwards, also beyond the length needed.
+/// least `wanted` times L bytes, where L is [`reading_length`](crate::limits::reading_length). For a graph of P places both
+/// are as for P − 1 slots, and L is [`graph_reading_length`](crate::limits::graph_reading_length) of P − 1 edges. Answers m,
+/// the number of readings found and written one after another, L bytes each, zeros behind a reading of a shorter path. If m
+/// is less than `wanted` there are no more; it is 0 if the grammar derives nothing of what was heard. A word of cost
+/// [`NOT_HEARD`](crate::limits::NOT_HEARD) is not offered and so in no reading; if a slot has no other, m is 0. All of `work`
+/// is zero afterwards, also beyond the length needed.
 ///
-/// Where weights are equal the lower rule number comes first, then the tree with fewer slots in its left part, then the
-/// lesser left part by this same order, weight included, then the lesser right part.
+/// Where weights are equal the lower rule number comes first, then the tree with fewer slots in its left part (in a graph the
+/// one whose left part ends at a lower place), then the lesser left part by this same order, weight included, then the lesser
+/// right part.
 ///
-/// Refuses with 1 to 7 for the grammar and 11 to 16 for the utterance; then with
-/// [`ListingWanted`](Refusal::ListingWanted), [`ListingWork`](Refusal::ListingWork),
-/// [`ListingOutput`](Refusal::ListingOutput).
+/// Refuses with 1 to 7 for the grammar; with 11 to 16, [`EdgePlaces`](Refusal::EdgePlaces) or
+/// [`EdgeRepeat`](Refusal::EdgeRepeat) for what was heard; then with [`ListingWanted`](Refusal::ListingWanted),
+/// [`ListingWork`](Refusal::ListingWork), [`ListingOutput`](Refusal::ListingOutput).
 ///
 /// ```
 /// let grammar = [0x10, 0x40, 0x40, 0x40, 0x00, 0x09, 0x00, 0x00, 0x00];

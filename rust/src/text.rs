@@ -1,9 +1,10 @@
-//! Grammars and utterances written with names, readings in words, and lists as the lister prints them.
+//! Grammars, utterances and word graphs written with names, readings in words, and lists as the lister prints them.
 //!
 //! A grammar's text has a line `symbols` with the names of the symbols, the start first, a line `words` with the words,
 //! and then a line for each rule, `HEAD -> FIRST SECOND WEIGHT` or `HEAD -> WORD WEIGHT`. An utterance's text has a line
-//! for each slot with its candidates, `WORD:COST`, in any order; a cost of 65535 says that the word was not heard. What
-//! follows a `#` is passed over, and so are empty lines.
+//! for each slot with its candidates, `WORD:COST`, in any order; a cost of 65535 says that the word was not heard. A word
+//! graph's text has a line `places` with their number, and then lines `FROM -> TO WORD:COST ..`, an edge for each word;
+//! edges are numbered in the order of the text. What follows a `#` is passed over, and so are empty lines.
 //!
 //! Only names and numbers are looked at here. What a block cannot hold, such as a 33rd symbol, is refused when it is packed.
 //!
@@ -22,10 +23,13 @@
 //! let readings = office.grammar.list(&utterance, 8)?;
 //! let in_words = readings.iter().map(|reading| (reading.weight, office.spell(reading).unwrap()));
 //! assert!(in_words.eq([(11, "Entry(door five)".into()), (13, "Entry(door four)".into())]));
+//!
+//! let graph = office.parse_graph("places 4\n 0 -> 1 door:3\n 1 -> 3 four:9 five:5")?;
+//! assert_eq!((graph.edges.len(), graph.edges[2].to), (3, 3));
 //! # Ok::<(), Box<dyn std::error::Error>>(())
 //! ```
 
-use crate::{Body, Candidate, Grammar, Reading, Rule, Utterance};
+use crate::{Body, Candidate, Edge, Grammar, Graph, Reading, Rule, Utterance};
 use std::fmt::{Display, Formatter};
 
 /// A grammar with the names of its symbols and words.
@@ -58,7 +62,9 @@ pub enum Fault {
     NoBody,
     /// A symbol or word that has not been named.
     Unnamed(String),
-    /// Something stands where a candidate should, `WORD:COST`.
+    /// It is neither a number of places nor edges from one place to another.
+    NoEdge,
+    /// Something stands where a word and its cost should, `WORD:COST`.
     NoCandidate(String),
     /// Something stands where a number should.
     NoNumber(String),
@@ -70,6 +76,7 @@ impl Display for Fault {
             Self::NoRule => write!(formatter, "neither a list of names nor a rule"),
             Self::NoBody => write!(formatter, "a body is one word or two symbols"),
             Self::Unnamed(name) => write!(formatter, "`{name}` has not been named"),
+            Self::NoEdge => write!(formatter, "neither a number of places nor edges from one to another"),
             Self::NoCandidate(item) => write!(formatter, "`{item}` is not WORD:COST"),
             Self::NoNumber(item) => write!(formatter, "`{item}` is not a number"),
         }
@@ -139,16 +146,39 @@ impl NamedGrammar {
 
     /// Reads the text of an utterance over this grammar's words.
     pub fn parse_utterance(&self, text: &str) -> Result<Utterance, Error> {
-        let candidate = |item: &&str| {
-            let (word, cost) = item.split_once(':').ok_or_else(|| Fault::NoCandidate(item.to_string()))?;
-            Ok(Candidate { word: number_of(&self.words, word)?, cost: number(cost)? })
-        };
         let slot = |line: &[&str]| {
-            let mut slot = line.iter().map(candidate).collect::<Result<Vec<_>, Fault>>()?;
+            let mut slot = line.iter().map(|item| self.candidate(item)).collect::<Result<Vec<_>, Fault>>()?;
             slot.sort_by_key(|candidate| candidate.word);
             Ok(slot)
         };
         Ok(Utterance { slots: lines(text, slot).collect::<Result<_, Error>>()? })
+    }
+
+    /// Reads the text of a word graph over this grammar's words.
+    pub fn parse_graph(&self, text: &str) -> Result<Graph, Error> {
+        let mut graph = Graph { places: 0, edges: Vec::new() };
+        let take = |line: &[&str]| {
+            match line {
+                ["places", places] => graph.places = number(places)?,
+                [from, "->", to, items @ ..] => {
+                    let (from, to) = (number(from)?, number(to)?);
+                    for item in items {
+                        let Candidate { word, cost } = self.candidate(item)?;
+                        graph.edges.push(Edge { from, to, word, cost });
+                    }
+                }
+                _ => return Err(Fault::NoEdge),
+            }
+            Ok(())
+        };
+        lines(text, take).collect::<Result<(), Error>>()?;
+        Ok(graph)
+    }
+
+    /// A word and its cost.
+    fn candidate(&self, item: &str) -> Result<Candidate, Fault> {
+        let (word, cost) = item.split_once(':').ok_or_else(|| Fault::NoCandidate(item.into()))?;
+        Ok(Candidate { word: number_of(&self.words, word)?, cost: number(cost)? })
     }
 
     /// A reading in words, each part of more than one word in brackets after its symbol; nothing if its numbers are not a
@@ -178,14 +208,15 @@ pub fn parse_sheet(text: &str) -> Result<Vec<u32>, Error> {
     Ok(lines.concat())
 }
 
-/// The lines that the lister prints: the number found, then rank, weight and node rule numbers of each.
-pub fn print_list(readings: &[Reading]) -> String {
-    let mut text = format!("readings {}\n", readings.len());
-    for (rank, reading) in readings.iter().enumerate() {
+/// The lines that the lister prints: the number found, then rank, weight and node rule numbers of each. Of a word graph it
+/// prints the same, without the numbers of edges.
+pub fn print_list<'a>(readings: impl IntoIterator<Item = &'a Reading>) -> String {
+    let mut lines = Vec::new();
+    for reading in readings {
         let walk: Vec<String> = reading.walk.iter().map(u32::to_string).collect();
-        text += &format!("{} {} {}\n", rank + 1, reading.weight, walk.join(" "));
+        lines.push(format!("{} {} {}\n", lines.len() + 1, reading.weight, walk.join(" ")));
     }
-    text
+    format!("readings {}\n{}", lines.len(), lines.concat())
 }
 
 #[cfg(test)]
@@ -211,6 +242,14 @@ mod tests {
     }
 
     #[test]
+    fn a_graph_whose_edges_stand_in_the_order_of_the_text() {
+        let text = "0 -> 2 y:1 x:2 # two edges\nplaces 3\n0 -> 1 x:3";
+        let graph = NamedGrammar::parse(GRAMMAR).unwrap().parse_graph(text).unwrap();
+        let edge = |(from, to, word, cost)| Edge { from, to, word, cost };
+        assert_eq!(graph, Graph { places: 3, edges: [(0, 2, 1, 1), (0, 2, 0, 2), (0, 1, 0, 3)].map(edge).into() });
+    }
+
+    #[test]
     fn lines_that_cannot_be_read() {
         let named = NamedGrammar::parse(GRAMMAR).unwrap();
         let faults = ["A", "A -> 1", "A -> B 1", "A -> A C 1", "A -> A B B 1", "C -> x 1", "A -> x -1"]
@@ -232,7 +271,26 @@ mod tests {
             faults.map(|error| error.to_string()),
             ["line 2: `x` is not WORD:COST", "line 2: `y` is not a number", "line 2: `z` has not been named"]
         );
+        let faults =
+            ["places", "0 1 x:1", "0 -> x", "0 -> 1 x", "0 -> 1 z:1"].map(|line| named.parse_graph(line).unwrap_err());
+        assert_eq!(
+            faults.map(|error| error.to_string()),
+            [
+                "line 1: neither a number of places nor edges from one to another",
+                "line 1: neither a number of places nor edges from one to another",
+                "line 1: `x` is not a number",
+                "line 1: `x` is not WORD:COST",
+                "line 1: `z` has not been named",
+            ]
+        );
         assert_eq!(parse_sheet("1 2\n3 four"), Err(Error { line: 2, fault: Fault::NoNumber("four".into()) }));
+    }
+
+    #[test]
+    fn a_list_as_the_lister_prints_it() {
+        let reading = |weight, walk: &[u32]| Reading { weight, walk: walk.to_vec() };
+        assert_eq!(print_list(&[]), "readings 0\n");
+        assert_eq!(print_list(&[reading(2, &[0, 1, 1]), reading(4, &[1])]), "readings 2\n1 2 0 1 1\n2 4 1\n");
     }
 
     #[test]

@@ -30,7 +30,7 @@ impl Candidate {
     }
 }
 
-/// What was heard, as plain numbers. Nothing is checked until it is packed.
+/// What was heard slot by slot, as plain numbers. Nothing is checked until it is packed.
 #[derive(Clone, Debug, PartialEq, Eq, Hash)]
 pub struct Utterance {
     /// The slots, numbered from 0, each with its candidates, words ascending.

@@ -23,6 +23,12 @@ static uint8_t silent_block[4];
 static const uint8_t two_strings[] = {0x10, 0xc0, 0x80, 0xa0, 0x00, 0x01, 0xa8, 0x00, 0x04,
                                       0x80, 0x00, 0x4e, 0x00, 0x00, 0x20, 0x00, 0x0a};
 static const uint8_t least[] = {0, 1, 0};
+/* Document 02's word graph of four places: an edge over each step, and one over the first two at cost 3. */
+static const uint8_t graph_block[] = {0x52, 0x04, 0x00, 0x40, 0x00, 0x01, 0x10, 0x00,
+                                      0x00, 0x02, 0x00, 0x01, 0x88, 0x60, 0x00, 0x00};
+static const uint8_t graph_readings[3][8] = {{0x60, 0xc0, 0x00, 0x00, 0x90, 0x08, 0x18, 0x30},
+                                             {0x60, 0xc0, 0x00, 0x00, 0x88, 0x08, 0x18, 0x30},
+                                             {0x60, 0x80, 0x00, 0x01, 0x10, 0x50, 0x60, 0x00}};
 static uint32_t work[320];
 static int failures;
 
@@ -103,6 +109,24 @@ int main(void) {
     answer = spireyerba_listing(g_block, LENGTH(g_block), silent_block, LENGTH(silent_block), 8, work, LENGTH(work), block,
                                 LENGTH(block));
     expect(answer == 0 && block[0] == 0xa5, "it has no reading");
+
+    expect(spireyerba_graph_reading_length(3, 2) == sizeof graph_readings[0] && spireyerba_graph_reading_length(2, 2) == 7 &&
+               spireyerba_graph_reading_length(24, 256) == SPIREYERBA_GRAPH_READING_BLOCK_MAX,
+           "sizes of a graph's readings are as document 02 has them");
+    fill_outputs();
+    memset(work, 0xa5, sizeof work);
+    answer = spireyerba_listing(g_block, LENGTH(g_block), graph_block, LENGTH(graph_block), 8, work,
+                                spireyerba_work_length(1, 3, 8), block, 64);
+    expect(answer == 3 && memcmp(block, graph_readings, sizeof graph_readings) == 0 && block[sizeof graph_readings] == 0xa5,
+           "the listing finds three readings of the graph, with zeros behind the shorter one");
+    answer = spireyerba_check(g_block, LENGTH(g_block), graph_block, LENGTH(graph_block), graph_readings[2], 7);
+    expect(answer == 0, "the shorter one passes the check, cut to its own length");
+    answer = spireyerba_check(g_block, LENGTH(g_block), graph_block, LENGTH(graph_block), graph_readings[2], 8);
+    expect(answer == -SPIREYERBA_READING_FILL, "with its zeros it is refused");
+    answer = spireyerba_check(g_block, LENGTH(g_block), graph_block, LENGTH(graph_block), reading, LENGTH(reading));
+    expect(answer == -SPIREYERBA_READING_KIND, "a reading of slots is none of a graph");
+    answer = spireyerba_utterance_to_sheet(g_block, LENGTH(g_block), graph_block, LENGTH(graph_block), sheet, LENGTH(sheet));
+    expect(answer == -SPIREYERBA_UTTERANCE_KIND, "a graph has no sheet");
 
     return failures != 0;
 }

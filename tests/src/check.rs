@@ -1,21 +1,37 @@
-//! The check of a reading (document 01, "Where each check stands"; document 02, N3).
+//! The check of a reading (document 01, "Where each check stands"; document 02, N1 and N3).
 
-use crate::{grammar, reading, utterance};
-use spireyerba::{Body, Grammar, Refusal, Utterance};
+use crate::graph::slots_of_path;
+use crate::heard::Heard;
+use crate::{grammar, graph_reading, reading, utterance};
+use spireyerba::{Body, Grammar, Graph, Refusal, Utterance};
 
 /// Answers that the reading passes.
-pub fn check(grammar: &[u8], utterance: &[u8], reading: &[u8]) -> Result<(), Refusal> {
+pub fn check(grammar: &[u8], heard: &[u8], reading: &[u8]) -> Result<(), Refusal> {
     let grammar = grammar::from_block(grammar)?;
-    let utterance = utterance::from_block(&grammar, utterance)?;
-    let (reading, only_fill_left) = reading::from_block(&grammar, utterance.slots.len(), reading)?;
-    let weight = weight_of_walk(&grammar, &utterance, &reading.walk).ok_or(Refusal::ReadingWalk)?;
-    if reading.weight != weight {
+    let (given, weight, only_fill_left) = match Heard::from_block(&grammar, heard)? {
+        Heard::Slots(utterance) => {
+            let (reading, only_fill_left) = reading::from_block(&grammar, utterance.slots.len(), reading)?;
+            (reading.weight, weight_of_walk(&grammar, &utterance, &reading.walk), only_fill_left)
+        }
+        Heard::Graph(graph) => {
+            let fields = graph_reading::from_block(&grammar, &graph, reading)?;
+            let (walk, path, only_fill_left) = fields.numbers.ok_or(Refusal::ReadingWalk)?;
+            (fields.weight, weight_on_path(&grammar, &graph, &walk, &path), only_fill_left)
+        }
+    };
+    if given != weight.ok_or(Refusal::ReadingWalk)? {
         return Err(Refusal::ReadingWeight);
     }
     if !only_fill_left {
         return Err(Refusal::ReadingFill);
     }
     Ok(())
+}
+
+/// The weight of the derivation of a graph whose walk and path the numbers are, if they are one's: a derivation of the slots
+/// that offer just the words of the path.
+pub fn weight_on_path(grammar: &Grammar, graph: &Graph, walk: &[u32], path: &[u32]) -> Option<u32> {
+    weight_of_walk(grammar, &slots_of_path(graph, path)?, walk)
 }
 
 /// The weight of the derivation whose walk the numbers are, if they are one's.

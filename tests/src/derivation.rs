@@ -1,64 +1,94 @@
-//! Derivations, their weight, their order, and all of them (document 01, "Grammars and derivations"; document 02, N3).
+//! Derivations, their weight, their order, and all of them (document 01, "Grammars and derivations"; document 02, N1 and N3).
 
-use crate::utterance;
-use spireyerba::{Body, Grammar, Reading, Utterance};
+use crate::heard::Offers;
+use spireyerba::{Body, Grammar, Graph, GraphReading, Reading, Utterance};
 use std::cmp::Ordering;
 use std::collections::HashMap;
 use std::rc::Rc;
 
-/// A tree over some slots: a leaf, or a pair rule that joins a left part with a right part.
+/// A tree over some slots, or over some edges of a path.
 #[derive(Debug)]
 pub struct Tree {
     pub rule: usize,
     pub weight: u32,
-    pub slots: usize,
-    pub parts: Option<(Rc<Tree>, Rc<Tree>)>,
+    /// The place where it ends: in front of the slot of that number.
+    pub end: usize,
+    pub kind: Kind,
+}
+
+#[derive(Debug)]
+pub enum Kind {
+    /// A word rule over the edge of a number.
+    Leaf(u32),
+    /// A pair rule that joins a left part with a right part.
+    Join(Rc<Tree>, Rc<Tree>),
 }
 
 impl Tree {
     /// The rule number of each node: node, left part, right part.
     pub fn walk(&self) -> Vec<u32> {
         let mut walk = vec![self.rule as u32];
-        if let Some((left, right)) = &self.parts {
+        if let Kind::Join(left, right) = &self.kind {
             walk.extend(left.walk());
             walk.extend(right.walk());
         }
         walk
     }
 
+    /// The edge of each word.
+    pub fn path(&self) -> Vec<u32> {
+        match &self.kind {
+            Kind::Leaf(edge) => vec![*edge],
+            Kind::Join(left, right) => [left.path(), right.path()].concat(),
+        }
+    }
+
     pub fn reading(&self) -> Reading {
         Reading { weight: self.weight, walk: self.walk() }
+    }
+
+    pub fn graph_reading(&self) -> GraphReading {
+        GraphReading { reading: self.reading(), path: self.path() }
     }
 }
 
 /// The order of two trees with one head and one span.
 pub fn order(a: &Tree, b: &Tree) -> Ordering {
-    let parts = || match (&a.parts, &b.parts) {
-        (Some((a_left, a_right)), Some((b_left, b_right))) => {
-            (a_left.slots.cmp(&b_left.slots)).then_with(|| order(a_left, b_left)).then_with(|| order(a_right, b_right))
+    let parts = || match (&a.kind, &b.kind) {
+        // fewer slots in the left part are a lower end of it
+        (Kind::Join(a_left, a_right), Kind::Join(b_left, b_right)) => {
+            (a_left.end.cmp(&b_left.end)).then_with(|| order(a_left, b_left)).then_with(|| order(a_right, b_right))
         }
-        // leaves of one rule over one slot are the same leaf
+        // leaves of one rule over one span are the same leaf
         _ => Ordering::Equal,
     };
     a.weight.cmp(&b.weight).then(a.rule.cmp(&b.rule)).then_with(parts)
 }
 
-/// All trees of a head over the slots from `from` up to and without `to`.
+/// A head, and the places from where to where its trees go.
 type Span = (u32, usize, usize);
 
 /// All derivations of an utterance, in the order; nothing if there are more than `most` trees to make on the way.
 pub fn ranked(grammar: &Grammar, utterance: &Utterance, most: usize) -> Option<Vec<Rc<Tree>>> {
-    let utterance = &utterance::struck_out(utterance);
-    let mut forest = Forest { grammar, utterance, trees: HashMap::new(), left: most };
-    let mut derivations = forest.trees((0, 0, utterance.slots.len()))?.to_vec();
+    ranked_of(grammar, &Offers::of_slots(utterance), most)
+}
+
+/// All derivations of a word graph likewise.
+pub fn ranked_of_graph(grammar: &Grammar, graph: &Graph, most: usize) -> Option<Vec<Rc<Tree>>> {
+    ranked_of(grammar, &Offers::of_graph(graph), most)
+}
+
+fn ranked_of(grammar: &Grammar, offers: &Offers, most: usize) -> Option<Vec<Rc<Tree>>> {
+    let mut forest = Forest { grammar, offers, trees: HashMap::new(), left: most };
+    let mut derivations = forest.trees((0, 0, offers.last))?.to_vec();
     derivations.sort_by(|a, b| order(a, b));
     Some(derivations)
 }
 
-/// The trees made so far over an utterance that is struck out, by head and span.
+/// The trees made so far, by head and span.
 struct Forest<'a> {
     grammar: &'a Grammar,
-    utterance: &'a Utterance,
+    offers: &'a Offers,
     trees: HashMap<Span, Rc<[Rc<Tree>]>>,
     left: usize,
 }
@@ -81,10 +111,11 @@ impl Forest<'_> {
         Some(trees)
     }
 
-    /// A leaf spans one slot, which offers its rule's word.
+    /// A leaf spans one slot or one edge, which offers its rule's word.
     fn leaf(&self, (_, from, to): Span, number: usize, word: u32) -> Option<Rc<Tree>> {
-        let cost = utterance::cost(self.utterance, from, word).filter(|_| to == from + 1)?;
-        Some(Rc::new(Tree { rule: number, weight: self.grammar.rules[number].weight + cost, slots: 1, parts: None }))
+        let offer = self.offers.get(from, to, word)?;
+        let weight = self.grammar.rules[number].weight + offer.cost;
+        Some(Rc::new(Tree { rule: number, weight, end: to, kind: Kind::Leaf(offer.number) }))
     }
 
     /// Each left part joined with each right part, over adjoining spans.
@@ -96,8 +127,8 @@ impl Forest<'_> {
             for left in lefts.iter() {
                 for right in rights.iter() {
                     let weight = self.grammar.rules[number].weight + left.weight + right.weight;
-                    let parts = Some((left.clone(), right.clone()));
-                    trees.push(Rc::new(Tree { rule: number, weight, slots: to - from, parts }));
+                    let kind = Kind::Join(left.clone(), right.clone());
+                    trees.push(Rc::new(Tree { rule: number, weight, end: to, kind }));
                 }
             }
         }

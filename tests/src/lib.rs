@@ -6,6 +6,8 @@
 //! |---|---|
 //! | `bits`, `refusal` | fields of bits; rows of the table of refusals |
 //! | `grammar`, `utterance`, `reading` | the block and the sheet of each |
+//! | `graph`, `graph_reading` | the blocks of word graphs and of their readings |
+//! | `heard` | slots or a graph, and the words that they offer |
 //! | `conversions`, `check`, `listing`, `specimen` | the services over lent slices |
 //! | `derivation` | trees, their order, and all derivations sorted by it |
 //! | `nbest` | the N best trees of each cell, where all derivations are too many |
@@ -18,6 +20,9 @@ pub mod compare;
 pub mod conversions;
 pub mod derivation;
 pub mod grammar;
+pub mod graph;
+pub mod graph_reading;
+pub mod heard;
 pub mod listing;
 pub mod nbest;
 pub mod reading;

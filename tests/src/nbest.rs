@@ -3,20 +3,30 @@
 //! A cell is a head and a span. Its trees are kept as the rule, the split and the ranks of both parts in their own
 //! cells, which hold at least as many ranks as any tree among the N best can need.
 
-use crate::utterance;
-use spireyerba::{Body, Grammar, Reading, Utterance};
+use crate::heard::Offers;
+use spireyerba::{Body, Grammar, Graph, GraphReading, Reading, Utterance};
 use std::collections::BinaryHeap;
 
 /// The readings of the `wanted` least derivations, in the order.
 pub fn least(grammar: &Grammar, utterance: &Utterance, wanted: usize) -> Vec<Reading> {
-    let chart = Chart::fill(grammar, &utterance::struck_out(utterance), wanted);
-    let cell = chart.cell(0, 0, utterance.slots.len());
-    let reading = |rank: usize| {
-        let mut walk = Vec::new();
-        chart.spell(0, 0, utterance.slots.len(), rank, &mut walk);
-        Reading { weight: cell[rank].weight, walk }
+    least_of(grammar, &Offers::of_slots(utterance), wanted).into_iter().map(|found| found.reading).collect()
+}
+
+/// The readings of the `wanted` least derivations of a word graph, in the order.
+pub fn least_of_graph(grammar: &Grammar, graph: &Graph, wanted: usize) -> Vec<GraphReading> {
+    least_of(grammar, &Offers::of_graph(graph), wanted)
+}
+
+fn least_of(grammar: &Grammar, offers: &Offers, wanted: usize) -> Vec<GraphReading> {
+    let chart = Chart::fill(grammar, offers, wanted);
+    let cell = chart.cell(0, 0, offers.last);
+    let reading = |(rank, entry): (usize, &Entry)| {
+        let reading = Reading { weight: entry.weight, walk: Vec::new() };
+        let mut found = GraphReading { reading, path: Vec::new() };
+        chart.spell(0, 0, offers.last, rank, &mut found);
+        found
     };
-    (0..cell.len()).map(reading).collect()
+    cell.iter().enumerate().map(reading).collect()
 }
 
 /// A tree of a cell; the derived order, field by field, is that of document 01. A leaf has split, left and right 0.
@@ -31,20 +41,19 @@ struct Entry {
 
 struct Chart<'a> {
     grammar: &'a Grammar,
-    slots: usize,
+    offers: &'a Offers,
     cells: Vec<Vec<Entry>>,
 }
 
 impl<'a> Chart<'a> {
-    /// All cells, over an utterance that is struck out.
-    fn fill(grammar: &'a Grammar, utterance: &Utterance, wanted: usize) -> Self {
-        let slots = utterance.slots.len();
-        let mut chart = Self { grammar, slots, cells: Vec::new() };
-        chart.cells = vec![Vec::new(); chart.index(grammar.symbols - 1, slots - 1, slots) + 1];
-        for length in 1..=slots {
-            for from in 0..=slots - length {
+    fn fill(grammar: &'a Grammar, offers: &'a Offers, wanted: usize) -> Self {
+        let mut chart = Self { grammar, offers, cells: Vec::new() };
+        let last = offers.last;
+        chart.cells = vec![Vec::new(); chart.index(grammar.symbols - 1, last - 1, last) + 1];
+        for length in 1..=last {
+            for from in 0..=last - length {
                 for head in 0..grammar.symbols {
-                    let best = chart.best_of(utterance, head, from, from + length, wanted);
+                    let best = chart.best_of(head, from, from + length, wanted);
                     let index = chart.index(head, from, from + length);
                     chart.cells[index] = best;
                 }
@@ -54,20 +63,20 @@ impl<'a> Chart<'a> {
     }
 
     fn index(&self, head: u32, from: usize, to: usize) -> usize {
-        (from * (self.slots + 1) + to) * self.grammar.symbols as usize + head as usize
+        (from * (self.offers.last + 1) + to) * self.grammar.symbols as usize + head as usize
     }
 
     fn cell(&self, head: u32, from: usize, to: usize) -> &[Entry] {
         &self.cells[self.index(head, from, to)]
     }
 
-    fn best_of(&self, utterance: &Utterance, head: u32, from: usize, to: usize, wanted: usize) -> Vec<Entry> {
+    fn best_of(&self, head: u32, from: usize, to: usize, wanted: usize) -> Vec<Entry> {
         let mut best = Best { kept: BinaryHeap::new(), wanted };
         for (rule, of_rule) in self.grammar.rules.iter().enumerate().filter(|(_, rule)| rule.head == head) {
             match of_rule.body {
                 Body::Word(word) => {
-                    if let Some(cost) = utterance::cost(utterance, from, word).filter(|_| to == from + 1) {
-                        best.offer(Entry { weight: of_rule.weight + cost, rule, split: 0, left: 0, right: 0 });
+                    if let Some(offer) = self.offers.get(from, to, word) {
+                        best.offer(Entry { weight: of_rule.weight + offer.cost, rule, split: 0, left: 0, right: 0 });
                     }
                 }
                 Body::Pair(first, second) => {
@@ -85,13 +94,16 @@ impl<'a> Chart<'a> {
         best.kept.into_sorted_vec()
     }
 
-    /// Appends the walk of the tree of a rank.
-    fn spell(&self, head: u32, from: usize, to: usize, rank: usize, walk: &mut Vec<u32>) {
+    /// Appends the walk and the path of the tree of a rank.
+    fn spell(&self, head: u32, from: usize, to: usize, rank: usize, found: &mut GraphReading) {
         let entry = self.cell(head, from, to)[rank];
-        walk.push(entry.rule as u32);
-        if let Body::Pair(first, second) = self.grammar.rules[entry.rule].body {
-            self.spell(first, from, entry.split, entry.left, walk);
-            self.spell(second, entry.split, to, entry.right, walk);
+        found.reading.walk.push(entry.rule as u32);
+        match self.grammar.rules[entry.rule].body {
+            Body::Word(word) => found.path.extend(self.offers.get(from, to, word).map(|offer| offer.number)),
+            Body::Pair(first, second) => {
+                self.spell(first, from, entry.split, entry.left, found);
+                self.spell(second, entry.split, to, entry.right, found);
+            }
         }
     }
 }

@@ -1,4 +1,4 @@
-//! Rows of the table of refusals (document 01, "Where each check stands").
+//! Rows of the table of refusals (document 01, "Where each check stands"; document 02, N1).
 
 use spireyerba::Refusal;
 
@@ -22,3 +22,6 @@ pub const UTTERANCE_BLOCK: [Refusal; 6] = [
     Refusal::UtteranceOrder,
     Refusal::UtteranceFill,
 ];
+
+/// The refusals that a word graph's block adds to them.
+pub const GRAPH_BLOCK: [Refusal; 2] = [Refusal::EdgePlaces, Refusal::EdgeRepeat];

@@ -10,8 +10,6 @@ const KIND: u32 = 2;
 const COST_WIDTH: usize = 16;
 
 /// The utterance without the words that were not heard. A slot may be left with none, which no block can hold.
-///
-/// Listing, check and enumeration all strike out first and then go by document 01 alone.
 pub fn struck_out(utterance: &Utterance) -> Utterance {
     let offered = |slot: &Vec<Candidate>| slot.iter().copied().filter(|candidate| candidate.is_offered()).collect();
     Utterance { slots: utterance.slots.iter().map(offered).collect() }

@@ -120,7 +120,8 @@ fn readings_of_derivations_damaged_ones_and_noise() {
         }
     });
     let row = [ReadingEnd, ReadingKind, ReadingSlots, ReadingWalk, ReadingWeight, ReadingFill];
-    tally.demand(20_000, &[GRAMMAR_BLOCK.as_slice(), &UTTERANCE_BLOCK, &row].concat());
+    // a random kind can be that of a graph, whose edges are then random too
+    tally.demand(20_000, &[GRAMMAR_BLOCK.as_slice(), &UTTERANCE_BLOCK, &row, &[EdgePlaces]].concat());
     assert!(tally.accepted() > 1_000, "{} readings passed", tally.accepted());
 }
 

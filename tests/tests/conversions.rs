@@ -8,10 +8,11 @@ use spireyerba_tests::compare::{over_seeds, Tally};
 use spireyerba_tests::refusal::{GRAMMAR_BLOCK, UTTERANCE_BLOCK};
 use spireyerba_tests::seeded::damage::{blocks, repeated_rule, sheets, some_grammar_blocks};
 use spireyerba_tests::seeded::grammars::{grammar, Size};
+use spireyerba_tests::seeded::graphs::graph;
 use spireyerba_tests::seeded::raw;
 use spireyerba_tests::seeded::rng::Rng;
 use spireyerba_tests::seeded::utterances::utterance;
-use spireyerba_tests::{conversions, grammar, utterance};
+use spireyerba_tests::{conversions, grammar, graph, utterance};
 
 const GRAMMAR_TO_BLOCK: Conversion<u32, u8> = Conversion {
     library: |_, sheet, out| services::grammar_to_block(sheet, out),
@@ -112,6 +113,8 @@ fn utterance_blocks_to_sheets() {
         let utterance = utterance::pack(&grammar, &utterance(rng, size, grammar.words));
         let mut inputs = blocks(rng, &utterance, 300);
         inputs.extend((0..50).map(|_| raw::utterance_block(rng, grammar.words)));
+        // a word graph has no sheet
+        inputs.push(graph::pack(&grammar, &graph(rng, size, grammar.words)));
         inputs.extend((0..10).map(|length| rng.noise(length)));
         for damaged in some_grammar_blocks(rng, &grammar, 10) {
             UTTERANCE_TO_SHEET.compare(rng, &mut tally, &damaged, &utterance);

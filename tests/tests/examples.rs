@@ -1,9 +1,9 @@
 //! The files of examples/ belong together: texts and sheets, blocks, and lists of readings.
 
 use spireyerba::text::{parse_sheet, print_list, NamedGrammar};
-use spireyerba::{Grammar, Utterance};
-use spireyerba_tests::nbest::least;
-use spireyerba_tests::{grammar, utterance};
+use spireyerba::{Grammar, Graph, Utterance};
+use spireyerba_tests::nbest::{least, least_of_graph};
+use spireyerba_tests::{grammar, graph, utterance};
 use std::path::PathBuf;
 
 fn path(folder: &str, name: &str) -> PathBuf {
@@ -43,4 +43,23 @@ fn the_door_schedule() {
     let utterance = named.parse_utterance(&text("doors", "utterance.txt")).unwrap();
     expect("doors", &named.grammar, &utterance);
     assert_eq!(grammar::from_sheet(&named.grammar.to_sheet()), Ok(named.grammar));
+}
+
+/// The same grammar over a word graph.
+#[test]
+fn the_door_schedule_as_a_graph() {
+    const FOLDER: &str = "doors_graph";
+    for name in ["grammar.txt", "grammar.bin"] {
+        assert_eq!(bytes(FOLDER, name), bytes("doors", name), "{name}");
+    }
+    let named = NamedGrammar::parse(&text(FOLDER, "grammar.txt")).unwrap();
+    let graph = named.parse_graph(&text(FOLDER, "graph.txt")).unwrap();
+    let (grammar_block, block) = (bytes(FOLDER, "grammar.bin"), bytes(FOLDER, "utterance.bin"));
+    assert_eq!(graph::pack(&named.grammar, &graph), block);
+    assert_eq!(graph.to_block(&grammar_block).as_ref(), Ok(&block));
+    let readings = text(FOLDER, "readings.txt");
+    let list = least_of_graph(&named.grammar, &graph, 8);
+    assert_eq!(print_list(list.iter().map(|found| &found.reading)), readings);
+    assert_eq!(Graph::from_block(&grammar_block, &block).as_ref(), Ok(&graph));
+    assert_eq!(named.grammar.list_graph(&graph, 8), Ok(list));
 }

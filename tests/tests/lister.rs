@@ -2,7 +2,7 @@
 //! where the table that it lends is short. `make` and `.ci/run` build it.
 
 use spireyerba::limits::NOT_HEARD;
-use spireyerba::{Body, Candidate, Grammar, Rule, Utterance};
+use spireyerba::{Body, Candidate, Edge, Grammar, Graph, Rule, Utterance};
 use std::fs;
 use std::path::{Path, PathBuf};
 use std::process::Command;
@@ -44,7 +44,7 @@ fn printed(name: &str, grammar: Option<&[u8]>, utterance: Option<&[u8]>) -> Stri
 
 #[test]
 fn the_examples() {
-    for example in ["examples/doors", "examples/g"] {
+    for example in ["examples/doors", "examples/doors_graph", "examples/g"] {
         let readings = String::from_utf8(read(&format!("{example}/readings.txt"))).expect("a text");
         assert_eq!(printed_in(&root().join(example)), readings, "{example}");
     }
@@ -93,6 +93,35 @@ fn words_that_were_not_heard() {
     assert_eq!(printed_of_costs("both_heard", [0, NOT_HEARD - 1]), "readings 2\n1 5 0\n2 65537 1\n");
 }
 
+/// A word graph stands where an utterance does, under the same name (document 02, N1). The lines have no numbers of edges, and
+/// as many nodes as the reading's own path needs.
+#[test]
+fn word_graphs() {
+    let g = read("examples/g/grammar.bin");
+    let printed_of = |name, graph: &[u8]| printed(name, Some(&g), Some(graph));
+    let redrawn = [0x52, 0x84, 0x00, 0x40, 0x00, 0x01, 0x10, 0x00, 0x00, 0x43, 0x00, 0x00, 0x0c, 0x80, 0x00, 0x00];
+    let of_slots = String::from_utf8(read("examples/g/readings.txt")).expect("a text");
+    assert_eq!(printed_of("graph_redrawn", &redrawn), of_slots);
+    let two_lengths = [0x52, 0x04, 0x00, 0x40, 0x00, 0x01, 0x10, 0x00, 0x00, 0x02, 0x00, 0x01, 0x88, 0x60, 0x00, 0x00];
+    assert_eq!(
+        printed_of("graph_of_two_lengths", &two_lengths),
+        "readings 3\n1 2 0 1 0 1 1\n2 2 0 0 1 1 1\n3 4 0 1 1\n"
+    );
+    assert_eq!(printed_of("graph_of_one_edge", &[0x51, 0x81, 0x00, 0x80, 0x00, 0xe0]), "readings 1\n1 7 1\n");
+    assert_eq!(printed_of("graph_without_path", &[0x51, 0x81, 0x00, 0x40, 0x00, 0x00]), "readings 0\n");
+    assert_eq!(printed_of("graph_places", &[0x51, 0x81, 0x08, 0x40, 0x00, 0x00]), "refused 51\n");
+    assert_eq!(printed_of("graph_repeat", &[0x51, 0x82, 0x00, 0x40, 0x00, 0x00, 0x08, 0x00, 0x00]), "refused 52\n");
+    assert_eq!(printed_of("graph_long", &[&redrawn[..], &[0]].concat()), "refused 16\n");
+}
+
+/// An edge that was not heard, and the other that was.
+#[test]
+fn an_edge_that_was_not_heard() {
+    let grammar = [0x10, 0x40, 0x80, 0x50, 0x00, 0x2a, 0x00, 0x03, 0x80];
+    let graph = [0x51, 0x02, 0x00, 0x5f, 0xff, 0xe0, 0x0c, 0x00, 0x00];
+    assert_eq!(printed("edge_not_heard", Some(&grammar), Some(&graph)), "readings 1\n1 3 1\n");
+}
+
 /// So many symbols of which only the start has a rule, for one word, and so many slots that offer it.
 fn printed_of_size(name: &str, symbols: u32, slots: usize) -> String {
     let rules = vec![Rule { head: 0, weight: 0, body: Body::Word(0) }];
@@ -101,6 +130,22 @@ fn printed_of_size(name: &str, symbols: u32, slots: usize) -> String {
     let grammar = grammar.to_block().expect("an accepted grammar");
     let utterance = utterance.to_block(&grammar).expect("an accepted utterance");
     printed(name, Some(&grammar), Some(&utterance))
+}
+
+/// The same over a word graph of so many places, whose one edge goes over all of them.
+fn printed_of_places(name: &str, symbols: u32, places: u32) -> String {
+    let grammar = Grammar { symbols, words: 1, rules: vec![Rule { head: 0, weight: 0, body: Body::Word(0) }] };
+    let graph = Graph { places, edges: vec![Edge { from: 0, to: places - 1, word: 0, cost: 0 }] };
+    let grammar = grammar.to_block().expect("an accepted grammar");
+    let graph = graph.to_block(&grammar).expect("an accepted graph");
+    printed(name, Some(&grammar), Some(&graph))
+}
+
+/// A graph needs what one slot fewer than it has places needs.
+#[test]
+fn the_work_table_that_is_lent_for_a_graph() {
+    assert_eq!(printed_of_places("graph_work_enough", 17, 6), "readings 1\n1 0 0\n");
+    assert_eq!(printed_of_places("graph_work_short", 26, 5), "refused 22\n");
 }
 
 /// The sizes just below and just above 8,192 numbers of work table for eight readings: 8,160 and 8,320.

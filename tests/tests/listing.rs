@@ -132,5 +132,6 @@ fn damaged_blocks() {
             compare(rng, &mut tally, &Call { wanted: 0, work_len: 0, out_len: 0, ..call });
         }
     });
-    tally.demand(8_000, &[GRAMMAR_BLOCK.as_slice(), &UTTERANCE_BLOCK, &[ListingWanted]].concat());
+    // a random kind can be that of a graph, whose edges are then random too
+    tally.demand(8_000, &[GRAMMAR_BLOCK.as_slice(), &UTTERANCE_BLOCK, &[ListingWanted, EdgePlaces]].concat());
 }

@@ -1,9 +1,9 @@
 //! The stack that include/spireyerba.h promises to suffice: every service at its greatest sizes on a thread with no more.
 //! A stack that is too short ends the whole run.
 
-use spireyerba::limits::{work_length, GRAMMAR_BLOCK_MAX, GRAMMAR_SHEET_MAX, MAX_READINGS, READING_BLOCK_MAX};
-use spireyerba::limits::{UTTERANCE_BLOCK_MAX, UTTERANCE_SHEET_MAX};
-use spireyerba::{services, Body, Candidate, Grammar, Rule, Utterance};
+use spireyerba::limits::{work_length, GRAMMAR_BLOCK_MAX, GRAMMAR_SHEET_MAX, GRAPH_BLOCK_MAX, GRAPH_READING_BLOCK_MAX};
+use spireyerba::limits::{MAX_READINGS, READING_BLOCK_MAX, UTTERANCE_BLOCK_MAX, UTTERANCE_SHEET_MAX};
+use spireyerba::{services, Body, Candidate, Edge, Grammar, Graph, Rule, Utterance};
 use std::thread;
 
 const STACK: usize = 64 * 1024;
@@ -48,11 +48,32 @@ fn expect_answers(grammar: &Grammar, utterance: &Utterance) {
     assert_eq!(answer, Ok(UTTERANCE_SHEET_MAX));
     assert_eq!(on_small_stack(|| services::specimen(&grammar_block, 24, &mut bytes)), Ok(true));
     assert_eq!(bytes[..24], [0; 24]);
-    let (mut work, mut out) = (vec![7; work_length(32, 24, READINGS)], vec![0; READINGS * READING_BLOCK_MAX]);
-    let answer = on_small_stack(|| services::listing(&grammar_block, &block, MAX_READINGS, &mut work, &mut out));
+    expect_list(&grammar_block, &block, READING_BLOCK_MAX);
+}
+
+/// As many readings as can be wanted, of so many bytes each, which all pass the check.
+fn expect_list(grammar: &[u8], heard: &[u8], length: usize) {
+    let (mut work, mut out) = (vec![7; work_length(32, 24, READINGS)], vec![0; READINGS * length]);
+    let answer = on_small_stack(|| services::listing(grammar, heard, MAX_READINGS, &mut work, &mut out));
     assert_eq!(answer, Ok(READINGS));
-    for reading in out.chunks_exact(READING_BLOCK_MAX) {
-        assert_eq!(on_small_stack(|| services::check(&grammar_block, &block, reading)), Ok(()));
+    for reading in out.chunks_exact(length) {
+        assert_eq!(on_small_stack(|| services::check(grammar, heard, reading)), Ok(()));
+    }
+}
+
+/// 25 places with four words over each step, so that every path has 24 edges.
+fn graph() -> Graph {
+    let edge = |number| Edge { from: number / 4, to: number / 4 + 1, word: number % 4, cost: number };
+    Graph { places: 25, edges: (0..96).map(edge).collect() }
+}
+
+#[test]
+fn listing_and_check_of_the_greatest_graph() {
+    for (first, second) in [(0, 1), (1, 0)] {
+        let grammar = grammar(first, second).to_block().expect("an accepted grammar");
+        let block = graph().to_block(&grammar).expect("an accepted graph");
+        assert_eq!(block.len(), GRAPH_BLOCK_MAX);
+        expect_list(&grammar, &block, GRAPH_READING_BLOCK_MAX);
     }
 }
 

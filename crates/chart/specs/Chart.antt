@@ -19,12 +19,12 @@ unfoldable pub enumerate : List ℕ → ℕ → List ℕ → ℕ → Layout → 
 enumerate rules R edges E d size =
     search rules edges (makeIndex rules R (d .symbols) edges E (d .places) (replicate indexNumbers 0)) d (replicate size 0)
 
--- how many ranks of the root a table has, and of one of them the weight, which is stored plus 1, and the walk
+-- how many ranks of the root a table has, and of one of them the weight, which is stored plus 1, and the trace
 unfoldable pub rootsFound : List ℕ → Layout → ℕ
 rootsFound t d = countFound t d (cellNumber d (root d))
 
 unfoldable pub rootWeight : List ℕ → Layout → ℕ → ℕ
 rootWeight t d rank = weightAt t d (cellNumber d (root d)) rank - 1
 
-unfoldable pub rootWalk : List ℕ → List ℕ → Layout → ℕ → List ℕ
-rootWalk t rules d rank = traceBack t rules d (d .places) (root d) rank
+unfoldable pub rootTrace : List ℕ → List ℕ → Layout → ℕ → List ℕ
+rootTrace t rules d rank = traceBack t rules d (d .places) (root d) rank

@@ -17,7 +17,7 @@ ghost use Prim.Native.Nat.{_-_, _*_, _<_, _≤_};
 ghost use lib.ListN.{length};
 ghost use Rattle.packing.specs.Store.{storeAll};
 ghost use Rattle.chart_table.specs.Table.{lastPlace, mostRanks, Sized, clear};
-ghost use Rattle.chart.specs.Chart.{layOut, enumerate, rootsFound, rootWeight, rootWalk};
+ghost use Rattle.chart.specs.Chart.{layOut, enumerate, rootsFound, rootWeight, rootTrace};
 
 // The layout of a table for as many ranks of each cell, over as many symbols and places.
 pub fn lay_out(symbols: usize, places: usize, ranks: usize) -> Layout
@@ -69,15 +69,21 @@ fn found_weight(x: usize) -> u32
     if x == 0 { 0 } else { (x - 1) as u32 }
 }
 
-// Writes the walk of a rank of the root from the first place on, and answers its weight.
-pub fn trace_root(t: &[u32], rules: &[u32], d: Layout, rank: usize, walk: &mut [u32]) -> u32
+// The weight of a rank of the root.
+pub fn root_weight(t: &[u32], d: Layout, rank: usize) -> u32
     requires { ⌜ (Sized d) × (0 < d .places) × (rank < d .ranks) ⌝ }
-    ensures { λ w. ⌜ now (walk .exit) ≡ storeAll (now (walk .entry)) 0 (rootWalk (now (t .entry)) (now (rules .entry)) d rank) ⌝ }
     ensures { λ w. ⌜ w ≡ rootWeight (now (t .entry)) d rank ⌝ }
 {
-    let c = root(d);
-    trace_back(t, rules, d, c, rank, walk);
-    found_weight(weight_at(t, d, cell_number(d, c), rank))
+    found_weight(weight_at(t, d, cell_number(d, root(d)), rank))
+}
+
+// Writes the trace of a rank of the root from the first place on, and answers how many numbers it has.
+pub fn trace_root(t: &[u32], rules: &[u32], d: Layout, rank: usize, trace: &mut [u32]) -> usize
+    requires { ⌜ (Sized d) × (0 < d .places) × (rank < d .ranks) ⌝ }
+    ensures { λ n. ⌜ (now (trace .exit) ≡ storeAll (now (trace .entry)) 0 (rootTrace (now (t .entry)) (now (rules .entry)) d rank))
+        × (n ≡ length (rootTrace (now (t .entry)) (now (rules .entry)) d rank)) ⌝ }
+{
+    trace_back(t, rules, d, root(d), rank, trace)
 }
 
 // Makes the entries of all ranks found 0. An enumerated table is 0 everywhere else.

@@ -1,93 +1,85 @@
--- What the chart's callers need: with an accepted grammar and utterance in flat arrays, enumerating finds the readings of
--- derivation's `listing`. For the index that it makes is one, and the ranges of accepted meanings meet all that the theory
+-- What the chart's callers need: with an accepted grammar and what was heard, slots or a graph, in flat arrays, enumerating finds
+-- derivation's least derivations. For the index that it makes is one, and the ranges of accepted meanings meet all that the theory
 -- assumes.
-use mathlib.Core.Path.{_≡_, refl, sym, ap, _∙_}
-use mathlib.Core.List.{List, [], _∷_}
-use Prim.Native.Nat.{ℕ, suc, _+_, _*_, _/_, _≤_, _<_}
+use mathlib.Core.Path.{_≡_, refl, sym, _∙_}
+use mathlib.Core.List.{List}
+use Prim.Native.Nat.{ℕ, _+_, _-_, _*_, _/_, _≤_, _<_}
 use native.Mathlib.Nat.{le-refl}
 use native.Mathlib.Omega.{arith}
-use lib.ListN.{length, take, replicate, length-append, length-map, length-take, length-replicate}
-use Rattle.packing.specs.Meaning.{Grammar, Utterance, Candidate, candidate, slotEdges, edgesFrom, edges, Reading}
-use Rattle.packing.specs.Utterance.{candidatesEntries, slotsEntries, utteranceEntries}
-use Rattle.packing.specs.Valid.{InRange, Fits, ValidGrammar, ValidUtterance}
-use Rattle.packing.specs.Flat.{Begins, ruleNumbers, edgeNumbers}
-use Rattle.packing.proofs.Entries.{each-right}
+use lib.ListN.{length, replicate, length-take, length-replicate}
+use Rattle.packing.specs.Meaning.{Grammar, Heard, slots, graph, lastPlace, heardEdges}
+use Rattle.packing.specs.Utterance.{utteranceEntries}
+use Rattle.packing.specs.Valid.{ValidGrammar, ValidHeard}
+use Rattle.packing.specs.Flat.{Begins, ruleNumbers, edgeNumbers, nodesIn}
 use Rattle.packing.proofs.Flat.{rule-at, edge-at}
-use Rattle.derivation.specs.Derivation.{At, Tree, weight, reading}
-use Rattle.derivation.specs.List.{listing}
-use Rattle.derivation.proofs.Lists.{at-take, at-map}
-use Rattle.derivation.proofs.Ranges.{all-at, Within, valid-rules, valid-sizes, valid-within, valid-light, valid-cheap, valid-slots}
-use Rattle.derivation.proofs.Slots.{edges-short, edges-cheap}
-use Rattle.derivation.proofs.Readings.{weight-bound}
+use Rattle.packing.proofs.Graph.{valid-places, valid-edge-count}
+use Rattle.packing.proofs.Redrawn.{slots-edges}
+use Rattle.derivation.specs.Derivation.{At, Tree, weight}
+use Rattle.derivation.specs.Heard.{trace}
+use Rattle.derivation.specs.HeardList.{derivations, leastDerivations}
+use Rattle.derivation.proofs.Lists.{at-take}
+use Rattle.derivation.proofs.Ranges.{all-at, Within, valid-rules, valid-sizes, valid-within, valid-light}
+use Rattle.derivation.proofs.Paths.{forward-weight}
+use Rattle.derivation.proofs.HeardReadings.{heard-forward, heard-cheap, heard-last}
 use Rattle.chart_table.specs.declared.Layout.{Layout}
 use Rattle.chart_table.specs.Table.{root, clear}
 use Rattle.chart_index.specs.Index.{indexNumbers}
 use Rattle.chart_index.specs.Build.{makeIndex}
 use Rattle.chart_index.proofs.Index.{indexed}
-use Rattle.chart.specs.Chart.{layOut, enumerate, rootsFound, rootWeight, rootWalk}
-use Rattle.chart_theory.proofs.Table.Cells.{InChart, rankedIn}
+use Rattle.chart.specs.Chart.{layOut, enumerate, rootsFound, rootWeight, rootTrace}
+use Rattle.chart_theory.proofs.Table.Cells.{InChart}
 use Rattle.chart_theory.proofs.Invariant.{Setting}
 use Rattle.chart_theory.proofs.Chart.{Lists, search-lists}
 
--- at most 7 candidates in each slot
-slot-length : (i : ℕ) (slot : List Candidate) → length (slotEdges i slot) ≡ length slot
-unfolding slotEdges
-slot-length i [] = refl
-slot-length i (candidate x c ∷ slot) = ap suc (slot-length i slot)
+-- there is a place behind the first, and at most 7 edges for each slot, or 96
+heard-sizes : (W : ℕ) (h : Heard) → ValidHeard W h → (1 ≤ lastPlace h) × (length (heardEdges h) ≤ 168)
+unfolding utteranceEntries
+heard-sizes W (slots u) ((some, few), f) = (some, omega (arith, slots-edges W 0 u f))
+heard-sizes W (graph h) v = (omega (arith, valid-places W h v), omega (arith, valid-edge-count W h v))
 
-edges-few : (W i : ℕ) (u : Utterance) → Fits (slotsEntries W u) → length (edgesFrom i u) ≤ 7 * length u
-unfolding edgesFrom slotsEntries
-edges-few W i [] h = omega arith
-edges-few W i (slot ∷ u) (count, h) =
-    let rest = edges-few W (suc i) u (each-right InRange (candidatesEntries W 0 slot) (slotsEntries W u) h) in
-    omega (arith, count, slot-length i slot, length-append (slotEdges i slot) (edgesFrom (suc i) u))
-
-module _ (g : Grammar) (u : Utterance) (N : ℕ) where
+module _ (g : Grammar) (h : Heard) (N : ℕ) where
   -- the layout of a table for N readings
   abbrev pub layout : Layout
-  layout = layOut (g .symbols) (length u) N
+  layout = layOut (g .symbols) (lastPlace h) N
 
-  -- the reading of rank x, from 0, as a table has it
-  abbrev pub readingAt : List ℕ → List ℕ → ℕ → Reading
-  readingAt rules t x = record { slots = length u; weight = rootWeight t layout x; walk = rootWalk t rules layout x }
+  -- rank x, from 0, as a table has it, is the derivation z
+  pub record HoldsRank (rules t : List ℕ) (x : ℕ) (z : Tree) : Type 0 where
+    pub place : At (leastDerivations g h N) x z
+    pub weighs : rootWeight t layout x ≡ weight g (heardEdges h) z
+    pub nodes : nodesIn rules (rootTrace t rules layout x) ≡ trace z
 
-  -- a table holds the list of the N least readings, of which there are m, and is zeros once it is cleared
+  -- a table holds the list of the N least derivations, of which there are m, and is zeros once it is cleared
   pub record Holds (rules t : List ℕ) (m : ℕ) : Type 0 where
-    pub number : length (listing g u N) ≡ m
-    pub each : (x : ℕ) → x < m → At (listing g u N) x (readingAt rules t x)
+    pub number : length (leastDerivations g h N) ≡ m
+    pub each : (x : ℕ) → x < m → (z : Tree) × HoldsRank rules t x z
     pub clears : clear t layout ≡ replicate (length t) 0
 
-  -- ranked trees are the listing's readings
-  holds : (rules t : List ℕ) → Lists g (edges u) rules layout t → Holds rules t (rootsFound t layout)
-  unfolding listing reading layOut
+  -- ranked trees are the least derivations
+  holds : (rules t : List ℕ) → Lists g (heardEdges h) rules layout t → Holds rules t (rootsFound t layout)
+  unfolding layOut
   holds rules t lists = record { number = number; each = each; clears = lists .clears }
     where
-      all : List Tree
-      all = rankedIn g (edges u) (root layout)
+      number : length (leastDerivations g h N) ≡ rootsFound t layout
+      number = length-take N (derivations g h) ∙ sym (lists .number)
 
-      number : length (listing g u N) ≡ rootsFound t layout
-      number = length-map (take N all) (reading g u) ∙ length-take N all ∙ sym (lists .number)
-
-      each : (x : ℕ) → x < rootsFound t layout → At (listing g u N) x (readingAt rules t x)
-      each x h =
-          let (z, rank) = lists .each x h in
+      each : (x : ℕ) → x < rootsFound t layout → (z : Tree) × HoldsRank rules t x z
+      each x l =
+          let (z, rank) = lists .each x l in
           let kept : x < N = omega (arith, lists .number) in
-          let there = at-map (reading g u) (take N all) x (at-take N all x z .1 (rank .place, kept)) in
-          rw (rank .weighs, rank .walks) there
+          (z, record { place = at-take N (derivations g h) x z .1 (rank .place, kept); weighs = rank .weighs; nodes = rank .nodes })
 
-  module _ (okg : ValidGrammar g) (oku : ValidUtterance (g .words) u) (least : 1 ≤ N) (most : N ≤ 256) (rules edge-array : List ℕ)
-      (has-rules : Begins (ruleNumbers g) rules) (has-edges : Begins (edgeNumbers (edges u)) edge-array) where
+  module _ (okg : ValidGrammar g) (okh : ValidHeard (g .words) h) (least : 1 ≤ N) (most : N ≤ 256) (rules edge-array : List ℕ)
+      (has-rules : Begins (ruleNumbers g) rules) (has-edges : Begins (edgeNumbers (heardEdges h)) edge-array) where
     abbrev index : List ℕ
-    index = makeIndex rules (length (g .rules)) (g .symbols) edge-array (length (edges u)) (length u) (replicate indexNumbers 0)
+    index = makeIndex rules (length (g .rules)) (g .symbols) edge-array (length (heardEdges h)) (lastPlace h) (replicate indexNumbers 0)
 
-    few-edges : length (edges u) ≤ 256
-    unfolding utteranceEntries
-    few-edges = omega (arith, edges-few (g .words) 0 u (oku .1), valid-slots (g .words) u oku)
+    few-places : lastPlace h ≤ 31
+    few-places = omega (arith, heard-last (g .words) h okh)
 
-    few-places : length u ≤ 31
-    few-places = omega (arith, valid-slots (g .words) u oku)
+    few-edges : length (heardEdges h) ≤ 256
+    few-edges = omega (arith, heard-sizes (g .words) h okh)
 
-    setting : Setting g (edges u) rules edge-array index layout
+    setting : Setting g (heardEdges h) rules edge-array index layout
     unfolding layOut
     setting = record {
       kept = least;
@@ -97,24 +89,24 @@ module _ (g : Grammar) (u : Utterance) (N : ℕ) where
       few-rules = valid-rules g okg;
       few-edges = few-edges;
       rule-at = λ r. rule-at g rules r has-rules;
-      edge-at = λ e. edge-at (edges u) edge-array e has-edges;
-      indexed = indexed rules (length (g .rules)) (g .symbols) edge-array (length (edges u)) (length u) (replicate indexNumbers 0)
+      edge-at = λ e. edge-at (heardEdges h) edge-array e has-edges;
+      indexed = indexed rules (length (g .rules)) (g .symbols) edge-array (length (heardEdges h)) (lastPlace h) (replicate indexNumbers 0)
           (valid-rules g okg) (valid-sizes g okg .1) few-edges few-places (rw length-replicate (le-refl indexNumbers));
       parts = λ A B C r w p.
           let (a, b, c) = all-at (Within (g .symbols) (g .words)) (g .rules) r (valid-within g okg) p in (b, c);
       weight-bound = λ c z within p.
-          let cheap = edges-cheap u (valid-cheap (g .words) u oku) in
-          let bound = weight-bound g (edges u) (edges-short u) (valid-light g okg) cheap p in
-          omega (arith, bound, valid-slots (g .words) u oku);
+          let forward = heard-forward (g .words) h okh in
+          let bound = forward-weight g (heardEdges h) forward (valid-light g okg) (heard-cheap (g .words) h okh) p in
+          omega (arith, bound, heard-last (g .words) h okh);
     }
 
     in-root : InChart layout (root layout)
-    unfolding layOut utteranceEntries
-    in-root = record { symbol = valid-sizes g okg .0; order = oku .0 .0; within = le-refl _ }
+    unfolding layOut
+    in-root = record { symbol = valid-sizes g okg .0; order = heard-sizes (g .words) h okh .0; within = le-refl _ }
 
-    -- the table that the chart makes of enough zeros holds the N least readings
-    pub chart-holds : (size : ℕ) → 4 * g .symbols * (length u * (length u + 1) / 2) * N ≤ size
-        → Holds rules (enumerate rules (length (g .rules)) edge-array (length (edges u)) layout size)
-        (rootsFound (enumerate rules (length (g .rules)) edge-array (length (edges u)) layout size) layout)
+    -- the table that the chart makes of enough zeros holds the N least derivations
+    pub chart-holds : (size : ℕ) → 4 * g .symbols * (lastPlace h * (lastPlace h + 1) / 2) * N ≤ size
+        → Holds rules (enumerate rules (length (g .rules)) edge-array (length (heardEdges h)) layout size)
+        (rootsFound (enumerate rules (length (g .rules)) edge-array (length (heardEdges h)) layout size) layout)
     unfolding enumerate layOut
     chart-holds size room = holds rules _ (search-lists setting in-root size (omega arith))

@@ -1,5 +1,5 @@
 -- The chart's theorem: from a table of zeros the search finds the ranked derivations of the root, the least first, each at its
--- rank, as many as are kept or as there are; a found rank has the weight of its derivation, its back trace is the walk, and
+-- rank, as many as are kept or as there are; a found rank has the weight of its derivation, its back trace has the nodes of the derivation, and
 -- clearing the entries found leaves zeros. For the search keeps the invariant, and in the end knows every rank that is kept.
 use mathlib.Core.Path.{_≡_, refl}
 use mathlib.Core.List.{List}
@@ -7,24 +7,26 @@ use Prim.Native.Nat.{ℕ, zero, suc, _-_, _*_, _≤_, _<_, min}
 use native.Mathlib.Omega.{arith}
 use lib.ListN.{length, replicate, length-replicate}
 use Rattle.packing.specs.Meaning.{Grammar, Edge}
-use Rattle.derivation.specs.Derivation.{At, Tree, weight, walk}
+use Rattle.packing.specs.Flat.{nodesIn}
+use Rattle.derivation.specs.Derivation.{At, Tree, weight}
+use Rattle.derivation.specs.Heard.{trace}
 use Rattle.derivation.proofs.Rows.{row-weight}
 use Rattle.chart_table.specs.declared.Layout.{Layout}
 use Rattle.chart_table.specs.Table.{root, cellNumber, clear}
 use Rattle.chart_search.specs.Search.{search}
-use Rattle.chart.specs.Chart.{rootsFound, rootWeight, rootWalk}
+use Rattle.chart.specs.Chart.{rootsFound, rootWeight, rootTrace}
 use Rattle.chart_theory.proofs.Table.Cells.{InChart, rankedIn}
 use Rattle.chart_theory.proofs.Table.Entries.{cell-below, found-kept}
 use Rattle.chart_theory.proofs.Table.Cleared.{clear-zeros}
 use Rattle.chart_theory.proofs.Invariant.{Setting, Invariant}
 use Rattle.chart_theory.proofs.Search.Passes.{Zeros, zeros-invariant, Listed, search-known, found-exactly, count-found}
-use Rattle.chart_theory.proofs.Search.Trace.{traces}
+use Rattle.chart_theory.proofs.Search.Trace.{traced}
 
 -- rank x of the root is the tree z
 pub record RankIs (g : Grammar) (es : List Edge) (rules : List ℕ) (d : Layout) (t : List ℕ) (x : ℕ) (z : Tree) : Type 0 where
   pub place : At (rankedIn g es (root d)) x z
   pub weighs : rootWeight t d x ≡ weight g es z
-  pub walks : rootWalk t rules d x ≡ walk z
+  pub nodes : nodesIn rules (rootTrace t rules d x) ≡ trace z
 
 -- as many ranks of the root are found as are kept, or as there are, and each is the tree of its place; clearing leaves zeros
 pub record Lists (g : Grammar) (es : List Edge) (rules : List ℕ) (d : Layout) (t : List ℕ) : Type 0 where
@@ -57,7 +59,7 @@ module _ {g : Grammar} {es : List Edge} {rules edges index : List ℕ} {d : Layo
       number = count-found t d (cellNumber d (root d)) _ (found-exactly s in-root t listed)
 
       each : (x : ℕ) → x < rootsFound t d → (z : Tree) × RankIs g es rules d t x z
-      unfolding rootWeight rootWalk
+      unfolding rootWeight rootTrace
       each x h =
           let found = found-exactly s in-root t listed x (omega (arith, number)) .1 (omega (arith, number)) in
           let (v, held) = listed .invariant .holds x in-root found in
@@ -66,7 +68,7 @@ module _ {g : Grammar} {es : List Edge} {rules edges index : List ℕ} {d : Layo
             record {
               place = place;
               weighs = omega (arith, held .weighs, row-weight g es o);
-              walks = traces s (listed .invariant) (d .places) (root d) x z in-root (omega arith) found place;
+              nodes = traced s (listed .invariant) (d .places) (root d) x z in-root (omega arith) found place;
             },
           )
 

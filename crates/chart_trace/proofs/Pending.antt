@@ -69,8 +69,8 @@ module _ (n from to last : ℕ) (order : from < to) (few : n + to ≤ last) wher
   pub less-up : (m : ℕ) → n ≡ suc m → 2 * (last - to) - m < 2 * (last - from) - n
   less-up m z = omega arith
 
-  nodes-up : (m next bound : ℕ) → n ≡ suc m → next + 2 * (last - from) ≤ bound + n → next + 1 + 2 * (last - to) ≤ bound + m
-  nodes-up m next bound z e = omega arith
+  numbers-up : (m next bound : ℕ) → n ≡ suc m → next + 4 * (last - from) ≤ bound + 2 * n → next + 2 + 4 * (last - to) ≤ bound + 2 * m
+  numbers-up m next bound z e = omega arith
 
 -- what is stored behind them does not matter
 joined-set : (stack : List ℕ) (n m e from last : ℕ) → n ≤ m → Joined stack n from last → Joined (set stack m e) n from last
@@ -94,43 +94,47 @@ module _ (t rules : List ℕ) (d : Layout) where
   rest-set stack (suc n) m e from h =
       rw (getD-set-other stack m n e 0 (λ z. omega arith), rest-set stack n m e (endOf (getD stack n 0)) (omega arith))
 
-  -- the loop's state: the walk so far, the stack and the part at hand, of all that is to be written into `walk₀`
-  pub record Tracing (first last : ℕ) (walk₀ all walk stack : List ℕ) (n : ℕ) (p : Part) (next : ℕ) : Type 0 where
+  -- the loop's state: the trace so far, the stack and the part at hand, of all that is to be written into `trace₀`
+  pub record Tracing (first last : ℕ) (trace₀ all trace stack : List ℕ) (n : ℕ) (p : Part) (next : ℕ) : Type 0 where
     pub room : length stack ≡ 32
     pub order : p .cell .from < p .cell .to
     pub within : p .cell .to ≤ lastPlace
     pub rank : p .rank ≤ mostRanks
     pub joined : Joined stack n (p .cell .to) last
     pub few : n + p .cell .to ≤ last
-    pub nodes : next + 2 * (last - p .cell .from) ≤ 2 * (last - first) + n
-    pub stored : storeAll walk next (tracePart p ++ rest stack n (p .cell .to)) ≡ storeAll walk₀ 0 all
+    pub numbers : next + 4 * (last - p .cell .from) ≤ 4 * (last - first) + 2 * n
+    pub counted : next + length (tracePart p ++ rest stack n (p .cell .to)) ≡ length all
+    pub stored : storeAll trace next (tracePart p ++ rest stack n (p .cell .to)) ≡ storeAll trace₀ 0 all
 
-  pub starts : (walk stack : List ℕ) (p : Part) → length stack ≡ 32 → p .cell .from < p .cell .to → p .cell .to ≤ lastPlace → p .rank ≤ mostRanks
-      → Tracing (p .cell .from) (p .cell .to) walk (tracePart p) walk stack 0 p 0
+  pub starts : (trace stack : List ℕ) (p : Part) → length stack ≡ 32 → p .cell .from < p .cell .to → p .cell .to ≤ lastPlace → p .rank ≤ mostRanks
+      → Tracing (p .cell .from) (p .cell .to) trace (tracePart p) trace stack 0 p 0
   unfolding Joined rest
-  starts walk stack p l h w r =
-      record { room = l; order = h; within = w; rank = r; joined = omega arith; few = omega arith; nodes = omega arith; stored = rw append-nil }
+  starts trace stack p l h w r =
+      record { room = l; order = h; within = w; rank = r; joined = omega arith; few = omega arith; numbers = omega arith; counted = rw append-nil (omega arith); stored = rw append-nil }
 
   -- a part that is pending can be taken apart
-  pub top-low : {first last : ℕ} {walk₀ all walk stack : List ℕ} {n : ℕ} {p : Part} {next : ℕ} (m : ℕ)
-      → Tracing first last walk₀ all walk stack n p next → n ≡ suc m → getD stack m 0 < 35184372088832
+  pub top-low : {first last : ℕ} {trace₀ all trace stack : List ℕ} {n : ℕ} {p : Part} {next : ℕ} (m : ℕ)
+      → Tracing first last trace₀ all trace stack n p next → n ≡ suc m → getD stack m 0 < 35184372088832
   unfolding Joined
   top-low {last = last} {stack = stack} {p = p} m s z =
       let joined : Joined stack (suc m) (p .cell .to) last = rw z at (s .joined) in
       joined .0
 
-  module _ {first last : ℕ} {walk₀ all walk stack : List ℕ} {n : ℕ} {p : Part} {next : ℕ}
-      (s : Tracing first last walk₀ all walk stack n p next) {b : BackPointer} (e : b ≡ backOf t d (p .cell) (p .rank)) where
-    -- the node's number is written, and `more` is left
-    written : (more : List ℕ) → tracePart p ++ rest stack n (p .cell .to) ≡ b .rule ∷ more
-        → storeAll (set walk next (b .rule)) (next + 1) more ≡ storeAll walk₀ 0 all
+  module _ {first last : ℕ} {trace₀ all trace stack : List ℕ} {n : ℕ} {p : Part} {next : ℕ}
+      (s : Tracing first last trace₀ all trace stack n p next) {b : BackPointer} (e : b ≡ backOf t d (p .cell) (p .rank)) where
+    -- the node's numbers are written, and `more` is left
+    written : (more : List ℕ) → tracePart p ++ rest stack n (p .cell .to) ≡ b .rule ∷ b .left ∷ more
+        → (storeAll (set (set trace next (b .rule)) (next + 1) (b .left)) (next + 2) more ≡ storeAll trace₀ 0 all) × (next + 2 + length more ≡ length all)
     unfolding storeAll
-    written more f = rw f at (s .stored)
+    written more f =
+        let two : next + 2 ≡ next + 1 + 1 = omega arith in
+        let counted : next + suc (suc (length more)) ≡ length all = rw f at (s .counted) in
+        (rw two (rw f at (s .stored)), omega arith)
 
     -- a node with two parts
     pub descends : {r : Rule} {h y z : Sym} {w x : ℕ} → Digits b → last ≤ lastPlace → r ≡ Pair h y z w → r ≡ ruleWithin rules (p .cell) b
         → x ≡ partNumber z (p .cell .to) (b .right) → x < 35184372088832
-        → Tracing first last walk₀ all (set walk next (b .rule)) (set stack n x) (n + 1) (part (leftPart (p .cell) y (b .split)) (b .left)) (next + 1)
+        → Tracing first last trace₀ all (set (set trace next (b .rule)) (next + 1) (b .left)) (set stack n x) (n + 1) (part (leftPart (p .cell) y (b .split)) (b .left)) (next + 2)
     unfolding Joined rest
     descends {y = y} {z} {x = x} digits small is by g low =
         let c = p .cell in
@@ -141,7 +145,7 @@ module _ (t rules : List ℕ) (d : Layout) where
         let end : endOf x ≡ c .to = rw g (end-number (z .0) (c .to) (b .right) (s .within) (digits .right)) in
         let right : tracePart (partOf j x) ≡ traceOf t rules d (rightPart c z j) (b .right) =
         ap tracePart (rw g (part-number j z (c .to) (b .right) (s .within) (digits .right))) in
-        let more : tracePart p ++ rest stack n (c .to) ≡ b .rule ∷ (traceOf t rules d (leftPart c y j) (b .left) ++ rest (set stack n x) (n + 1) j) =
+        let more : tracePart p ++ rest stack n (c .to) ≡ b .rule ∷ b .left ∷ (traceOf t rules d (leftPart c y j) (b .left) ++ rest (set stack n x) (n + 1) j) =
         rw (trace-pair t rules d c (p .rank) (s .order) e f, add-one n, top, right, end, rest-set stack n n x (c .to) (omega arith), append-assoc) in
         record {
           room = simp length-set (s .room);
@@ -150,20 +154,21 @@ module _ (t rules : List ℕ) (d : Layout) where
           rank = omega arith;
           joined = rw (add-one n, top, end) (low, m, joined-set stack n n x (c .to) last (omega arith) (s .joined));
           few = omega arith;
-          nodes = omega (arith, s .nodes);
-          stored = written _ more;
+          numbers = omega (arith, s .numbers);
+          counted = written _ more .1;
+          stored = written _ more .0;
         }
 
     -- a node with none, and a part is pending
     pub resumes : {h : Sym} {y : W.Word} {w : ℕ} {r : Rule} (m : ℕ) → r ≡ Word h y w → r ≡ ruleWithin rules (p .cell) b → n ≡ suc m
-        → Tracing first last walk₀ all (set walk next (b .rule)) stack m (partOf (p .cell .to) (getD stack m 0)) (next + 1)
+        → Tracing first last trace₀ all (set (set trace next (b .rule)) (next + 1) (b .left)) stack m (partOf (p .cell .to) (getD stack m 0)) (next + 2)
     unfolding Joined rest
     resumes m is by z =
         let c = p .cell in
         let f = sym is ∙ by in
         let top = getD stack m 0 in
         let joined : Joined stack (suc m) (c .to) last = rw z at (s .joined) in
-        let more : tracePart p ++ rest stack n (c .to) ≡ b .rule ∷ (tracePart (partOf (c .to) top) ++ rest stack m (endOf top)) =
+        let more : tracePart p ++ rest stack n (c .to) ≡ b .rule ∷ b .left ∷ (tracePart (partOf (c .to) top) ++ rest stack m (endOf top)) =
         rw (trace-leaf t rules d c (p .rank) (s .order) e f, z) in
         record {
           room = s .room;
@@ -172,13 +177,16 @@ module _ (t rules : List ℕ) (d : Layout) where
           rank = omega arith;
           joined = joined .2;
           few = few stack m (endOf top) last (joined .2);
-          nodes = nodes-up n (c .from) (c .to) last (s .order) (s .few) m next (2 * (last - first)) z (s .nodes);
-          stored = written _ more;
+          numbers = numbers-up n (c .from) (c .to) last (s .order) (s .few) m next (4 * (last - first)) z (s .numbers);
+          counted = written _ more .1;
+          stored = written _ more .0;
         }
 
     -- a node with none, and nothing is pending
-    pub ends : {h : Sym} {y : W.Word} {w : ℕ} {r : Rule} {walk′ : List ℕ} → r ≡ Word h y w → r ≡ ruleWithin rules (p .cell) b → n ≡ 0
-        → walk′ ≡ set walk next (b .rule)
-        → walk′ ≡ storeAll walk₀ 0 all
+    pub ends : {h : Sym} {y : W.Word} {w : ℕ} {r : Rule} {trace′ : List ℕ} → r ≡ Word h y w → r ≡ ruleWithin rules (p .cell) b → n ≡ 0
+        → trace′ ≡ set (set trace next (b .rule)) (next + 1) (b .left) → (trace′ ≡ storeAll trace₀ 0 all) × (next + 2 ≡ length all)
     unfolding storeAll rest
-    ends is by z g = let f = sym is ∙ by in g ∙ written [] (rw (trace-leaf t rules d (p .cell) (p .rank) (s .order) e f, z))
+    ends is by z g =
+        let f = sym is ∙ by in
+        let (stored, counted) = written [] (rw (trace-leaf t rules d (p .cell) (p .rank) (s .order) e f, z)) in
+        (g ∙ stored, omega arith)

@@ -1,4 +1,4 @@
--- The trace of a rank of a cell: any fuel of at least the span's length serves; its node's rule number stands first, and by its
+-- The trace of a rank of a cell: any fuel of at least the span's length serves; its node's two numbers stand first, and by its
 -- rule the traces of two parts follow, or none.
 use mathlib.Core.Path.{_≡_, refl, sym, _∙_}
 use mathlib.Core.Bool.{Bool, true, false}
@@ -22,7 +22,7 @@ use Rattle.chart_table.specs.Table.{leftPart, rightPart, cellNumber, backAt}
 use Rattle.chart_trace.specs.Trace.{traceParts, traceBack}
 
 -- the rule of a node whose split is within, and else one that has no parts
-abbrev noParts : Rule
+abbrev pub noParts : Rule
 noParts = Word (symbolOf 0) (word 0) 0
 
 abbrev pub ruleWithin : List ℕ → Cell → BackPointer → Rule
@@ -50,8 +50,8 @@ abbrev pub backOf : List ℕ → Layout → Cell → ℕ → BackPointer
 backOf t d c x = backPointer (backAt t d (cellNumber d c) x)
 
 module _ (t rules : List ℕ) (d : Layout) where
-  trace-suc : (f : ℕ) (c : Cell) (x : ℕ) → let b = backOf t d c x in
-      traceBack t rules d (suc f) c x ≡ b .rule ∷ traceParts (traceBack t rules d f) c b (ruleWithin rules c b)
+  pub trace-suc : (f : ℕ) (c : Cell) (x : ℕ) → let b = backOf t d c x in
+      traceBack t rules d (suc f) c x ≡ b .rule ∷ b .left ∷ traceParts (traceBack t rules d f) c b (ruleWithin rules c b)
   unfolding traceBack
   trace-suc f c x =
       let b = backOf t d c x in
@@ -83,13 +83,13 @@ module _ (t rules : List ℕ) (d : Layout) where
   traceOf c x = traceBack t rules d (c .to - c .from) c x
 
   module _ (c : Cell) (x : ℕ) {b : BackPointer} (order : c .from < c .to) (e : b ≡ backOf t d c x) where
-    by-node : traceOf c x ≡ b .rule ∷ traceParts (traceBack t rules d (c .to - (c .from + 1))) c b (ruleWithin rules c b)
+    by-node : traceOf c x ≡ b .rule ∷ b .left ∷ traceParts (traceBack t rules d (c .to - (c .from + 1))) c b (ruleWithin rules c b)
     by-node =
         let s : c .to - c .from ≡ suc (c .to - (c .from + 1)) = omega arith in
         rw (e, s) (trace-suc (c .to - (c .from + 1)) c x)
 
     pub trace-pair : {h y z : Sym} {w : ℕ} → Pair h y z w ≡ ruleWithin rules c b
-        → traceOf c x ≡ b .rule ∷ (traceOf (leftPart c y (b .split)) (b .left) ++ traceOf (rightPart c z (b .split)) (b .right))
+        → traceOf c x ≡ b .rule ∷ b .left ∷ (traceOf (leftPart c y (b .split)) (b .left) ++ traceOf (rightPart c z (b .split)) (b .right))
     trace-pair {y = y} {z} f =
         let (l, m) = pair-within rules c b f in
         by-node ∙ rw (
@@ -98,5 +98,5 @@ module _ (t rules : List ℕ) (d : Layout) where
           fuel-enough (c .to - (c .from + 1)) (c .to - b .split) (rightPart c z (b .split)) (b .right) m (omega arith) (omega arith),
         )
 
-    pub trace-leaf : {h : Sym} {y : W.Word} {w : ℕ} → Word h y w ≡ ruleWithin rules c b → traceOf c x ≡ b .rule ∷ []
+    pub trace-leaf : {h : Sym} {y : W.Word} {w : ℕ} → Word h y w ≡ ruleWithin rules c b → traceOf c x ≡ b .rule ∷ b .left ∷ []
     trace-leaf f = by-node ∙ rw (← f)

@@ -1,4 +1,4 @@
-// The back trace: the walk of a tree from the back pointers of found ranks.
+// The back trace of a tree from the back pointers of found ranks: two numbers for each node.
 use arrays::rule_at;
 use arrays::store;
 use arrays::wide;
@@ -14,10 +14,11 @@ use chart_table::left_part;
 use packing::Rule;
 use packing::Sym;
 use packing::Word;
+use packing::format::NUMBERS_PER_NODE;
 ghost use mathlib.Core.Path.{_≡_};
 ghost use Prim.Native.Nat.{ℕ, _+_, _-_, _*_, _/_, _%_, _<_, _≤_};
 ghost use lib.Dec.{ltb};
-ghost use lib.ListN.{set};
+ghost use lib.ListN.{length, set};
 ghost use Rattle.bits.specs.Bits.{pick};
 ghost use Rattle.packing.specs.Meaning.{symbolOf, word};
 ghost use Rattle.packing.specs.Flat.{ruleAt};
@@ -33,14 +34,16 @@ struct Part {
     rank: usize,
 }
 
-// Writes the rule number of a part's node and answers its back pointer.
-fn trace_node(t: &[u32], d: Layout, part: Part, walk: &mut [u32], at: usize) -> BackPointer
-    requires { ⌜ (InTable d (part .cell)) × (part .rank ≤ mostRanks) ⌝ }
-    ensures { λ b. ⌜ (b ≡ backPointer (backAt (now (t .entry)) d (cellNumber d (part .cell)) (part .rank))) × (Digits b) × (now (walk .exit) ≡ set (now (walk .entry)) at (b .rule)) ⌝ }
+// Writes the rule number of a part's node and the number of its left part, which of a leaf is its edge's, and answers its back
+// pointer.
+fn trace_node(t: &[u32], d: Layout, part: Part, trace: &mut [u32], at: usize) -> BackPointer
+    requires { ⌜ (InTable d (part .cell)) × (part .rank ≤ mostRanks) × (at < 4294967296) ⌝ }
+    ensures { λ b. ⌜ (b ≡ backPointer (backAt (now (t .entry)) d (cellNumber d (part .cell)) (part .rank))) × (Digits b) × (now (trace .exit) ≡ set (set (now (trace .entry)) at (b .rule)) (at + 1) (b .left)) ⌝ }
 {
     let cell = part.cell;
     let back = back_pointer(back_at(t, d, cell_number(d, cell), part.rank));
-    store(walk, at, back.rule as u32);
+    store(trace, at, back.rule as u32);
+    store(trace, at + 1, back.left as u32);
     back
 }
 
@@ -81,19 +84,27 @@ fn part_of(from: usize, x: usize) -> Part
     }
 }
 
-// Writes the rule numbers of a rank of a cell, node, left part, right part, one after another from the first place on. While
-// a left part is traced, the right one is kept on a stack.
-pub fn trace_back(t: &[u32], rules: &[u32], d: Layout, c: Cell, rank: usize, walk: &mut [u32])
+// Writes the trace of a rank of a cell, node, left part, right part, one after another from the first place on, and answers how
+// many numbers it has. While a left part is traced, the right one is kept on a stack.
+pub fn trace_back(
+    t: &[u32],
+    rules: &[u32],
+    d: Layout,
+    c: Cell,
+    rank: usize,
+    trace: &mut [u32],
+) -> usize
     requires { ⌜ (InTable d c) × (rank ≤ mostRanks) ⌝ }
-    ensures { λ _. ⌜ ((f : ℕ) → c .to - c .from ≤ f → now (walk .exit) ≡ storeAll (now (walk .entry)) 0 (traceBack (now (t .entry)) (now (rules .entry)) d f c rank)) ⌝ }
+    ensures { λ r. ⌜ ((f : ℕ) → c .to - c .from ≤ f
+        → (now (trace .exit) ≡ storeAll (now (trace .entry)) 0 (traceBack (now (t .entry)) (now (rules .entry)) d f c rank)) × (r ≡ length (traceBack (now (t .entry)) (now (rules .entry)) d f c rank))) ⌝ }
 {
     let mut stack = [0usize; SPLITS];
     let mut n: usize = 0;
     let mut part = Part { cell: c, rank };
     let mut next: usize = 0;
     loop {
-        let back = trace_node(t, d, part, walk, next);
-        next = next + 1;
+        let back = trace_node(t, d, part, trace, next);
+        next = next + NUMBERS_PER_NODE;
         let cell = part.cell;
         let rule = rule_within(rules, cell, back);
         match rule {
@@ -110,7 +121,7 @@ pub fn trace_back(t: &[u32], rules: &[u32], d: Layout, c: Cell, rank: usize, wal
             Rule::Word(_, _, _) => {}
         }
         if n == 0 {
-            return;
+            return next;
         }
         n = n - 1;
         part = part_of(cell.to, stack[n]);

@@ -5,3 +5,5 @@ pub mod Theorems
 pub mod Arrays
 pub mod Steps
 pub mod Answered
+pub mod Runs
+pub mod GraphExamples

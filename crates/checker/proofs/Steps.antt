@@ -1,11 +1,12 @@
--- What the run does at a state that stands in arrays: it has a part to come, whose symbol is on top of the stack, and a rule, or
--- it goes astray.
+-- What the walk's run does at a state that stands in arrays: a rule that fits leads on, and else it goes astray.
 use mathlib.Core.Path.{_≡_, refl, sym, ap, _∙_}
+use mathlib.Core.Bool.{Bool, true, false}
 use mathlib.Core.List.{List, [], _∷_}
-use mathlib.Core.Option.{none, some}
+use mathlib.Core.Option.{Option, none, some}
 use Prim.Native.Nat.{ℕ, suc, _+_, _-_, _≤_, _<_}
 use native.Mathlib.Numerals.{add-one}
 use native.Mathlib.Omega.{arith}
+use borrow.Author.Tests.{eq-eqb}
 use lib.Dec.{eqb, ltb}
 use lib.ListN.{length, getD, getElem?, take, drop, length-take, drop-of-length-le}
 use lib.Seq.{drop-cons, length-take-le, getD-take}
@@ -14,16 +15,56 @@ use Rattle.packing.specs.declared.Sym.{Sym}
 use Rattle.packing.specs.declared.Word as W
 use Rattle.packing.specs.declared.Rule as R
 use Rattle.packing.specs.declared.Rule.the-variants.{Pair, Word}
-use Rattle.packing.specs.Meaning.{symbolOf}
-use Rattle.derivation.specs.Walk.{State, onward, astray, costOf, leafStep, ruleStep, step, run, finished}
-use Rattle.derivation.proofs.Walk.{run-astray}
+use Rattle.packing.specs.Meaning.{symbolOf, Utterance}
 use Rattle.packing.specs.Flat.{slotsOf, slotsBy}
-use Rattle.checker.specs.Run.{slotAt, behind, headsOf, stateOf}
-use Rattle.checker.specs.declared.walk.Progress.{Progress}
-use Rattle.checker.specs.declared.walk.Step.the-variants.{Onward}
 use Rattle.packing.proofs.Flat.{length-slots-by}
-use Rattle.checker.proofs.Arrays.{length-heads, heads-top}
+use Rattle.derivation.specs.Walk.{State, onward, astray, costOf, leafStep, ruleStep, step, run, finished}
+use Rattle.derivation.specs.Path as P
+use Rattle.derivation.proofs.Walk.{run-astray}
+use Rattle.parts_stack.specs.Stack.{headsOf, withHead, fitOf, standing}
+use Rattle.parts_stack.specs.declared.Fit as F
+use Rattle.parts_stack.specs.declared.Progress.{Progress}
+use Rattle.parts_stack.specs.declared.Step.{Step}
+use Rattle.parts_stack.specs.declared.Step.the-variants.{Onward, Astray}
+use Rattle.parts_stack.proofs.Heads.{length-heads, heads-top}
+use Rattle.parts_stack.proofs.Fits.{pair-there, word-there}
+use Rattle.checker.specs.Run.{slotAt, behind, stateOf}
 
+-- where no rule fits
+lost : (slots : Utterance) (A : Sym) (heads : List Sym) (w : ℕ) (o : Option R.Rule) → withHead A o ≡ F.the-variants.Nothing → ruleStep slots A heads w o ≡ astray
+unfolding ruleStep
+lost slots A heads w none e = refl
+lost slots A heads w (some (Pair H B C v)) e = go (eqb (H .0) (A .0)) e
+  where
+    go : (b : Bool) → pick b (F.the-variants.Pair B C v) F.the-variants.Nothing ≡ F.the-variants.Nothing
+        → pick b (pick (ltb (suc (length heads)) (length slots)) (onward slots (B ∷ C ∷ heads) (w + v)) astray) astray ≡ astray
+    go false f = refl
+    go true f = let z : _≡_ {A = ℕ} 0 1 = cc in absurd (omega arith)
+lost [] A heads w (some (Word H x v)) e = refl
+lost (slot ∷ slots) A heads w (some (Word H x v)) e = go (eqb (H .0) (A .0)) e
+  where
+    go : (b : Bool) → pick b (F.the-variants.Word x v) F.the-variants.Nothing ≡ F.the-variants.Nothing
+        → pick b (leafStep slots heads (w + v) (costOf x slot)) astray ≡ astray
+    go false f = refl
+    go true f = let z : _≡_ {A = ℕ} 0 1 = cc in absurd (omega arith)
+
+pub nothing-fits : (rules : List R.Rule) (slots : Utterance) (heads : List Sym) (w r : ℕ) → fitOf rules heads r ≡ F.the-variants.Nothing
+    → astray ≡ step rules (onward slots heads w) r
+unfolding step
+nothing-fits rules slots [] w r f = refl
+nothing-fits rules slots (A ∷ heads) w r f = sym (lost slots A heads w (getElem? rules r) f)
+
+-- a state of places and parts, of the slots that stand there
+inSlots : List ℕ → P.State → State
+inSlots slots (P.onward place left heads w) = onward (slotsOf slots left place) heads w
+inSlots slots P.astray = astray
+
+in-slots : (slots stack : List ℕ) (s : Step) → stateOf slots stack s ≡ inSlots slots (standing stack s)
+unfolding inSlots
+in-slots slots stack (Onward p) = refl
+in-slots slots stack Astray = refl
+
+-- where one fits
 module _ (rules : List R.Rule) (slots stack : List ℕ) (at : Progress) (r : ℕ) where
   abbrev from : State
   from = stateOf slots stack (Onward at)
@@ -31,34 +72,42 @@ module _ (rules : List R.Rule) (slots stack : List ℕ) (at : Progress) (r : ℕ
   abbrev below : List Sym
   below = headsOf stack (at .height - 1)
 
-  pub no-part : at .height ≡ 0 → astray ≡ step rules from r
-  unfolding step headsOf
-  no-part e = rw e
-
-  pub no-rule : getElem? rules r ≡ none → astray ≡ step rules from r
+  pair-step : {B C : Sym} {v : ℕ} → fitOf rules (headsOf stack (at .height)) r ≡ F.the-variants.Pair B C v
+      → step rules from r ≡ pick (ltb (at .height) (at .left)) (onward (slotsOf slots (at .left) (at .place)) (B ∷ C ∷ below) (at .weight + v)) astray
   unfolding step ruleStep
-  no-rule e = go (headsOf stack (at .height))
+  pair-step f =
+      let (h, there) = pair-there rules stack (at .height) r f in
+      let n : suc (at .height - 1) ≡ at .height = omega arith in
+      rw (
+        heads-top stack (at .height) h,
+        there,
+        eq-eqb (getD stack (at .height - 1) 0) (getD stack (at .height - 1) 0) refl,
+        length-heads stack (at .height - 1),
+        length-slots-by (λ (c : ℕ). c) slots (at .left) (at .place),
+        n,
+      )
+
+  pub pair-fits : {B C : Sym} {v : ℕ} (after : List ℕ) (s : Step) → fitOf rules (headsOf stack (at .height)) r ≡ F.the-variants.Pair B C v
+      → standing after s ≡ pick (ltb (at .height) (at .left)) (P.onward (at .place) (at .left) (B ∷ C ∷ below) (at .weight + v)) P.astray
+      → stateOf slots after s ≡ step rules from r
+  unfolding inSlots
+  pair-fits {B} {C} {v} after s f e = in-slots slots after s ∙ ap (inSlots slots) e ∙ go (ltb (at .height) (at .left)) ∙ sym (pair-step f)
     where
-      go : (heads : List Sym) → astray ≡ step rules (onward (slotsOf slots (at .left) (at .place)) heads (at .weight)) r
-      go [] = refl
-      go (A ∷ heads) = rw e
+      go : (b : Bool) → inSlots slots (pick b (P.onward (at .place) (at .left) (B ∷ C ∷ below) (at .weight + v)) P.astray)
+          ≡ pick b (onward (slotsOf slots (at .left) (at .place)) (B ∷ C ∷ below) (at .weight + v)) astray
+      go true = refl
+      go false = refl
 
-  module _ (h : 1 ≤ at .height) {H : Sym} {w : ℕ} where
-    pub pair-rule : {B C : Sym} → getElem? rules r ≡ some (Pair H B C w)
-        → step rules from r ≡ pick (eqb (H .0) (getD stack (at .height - 1) 0))
-        (pick (ltb (at .height) (at .left)) (onward (slotsOf slots (at .left) (at .place)) (B ∷ C ∷ below) (at .weight + w)) astray) astray
-    unfolding step ruleStep
-    pair-rule e =
-        let n : suc (at .height - 1) ≡ at .height = omega arith in
-        rw (heads-top stack (at .height) h, e, length-heads stack (at .height - 1), length-slots-by (λ (c : ℕ). c) slots (at .left) (at .place), n)
-
-    pub word-rule : {x : W.Word} → at .height ≤ at .left → getElem? rules r ≡ some (Word H x w)
-        → step rules from r ≡ pick (eqb (H .0) (getD stack (at .height - 1) 0))
-        (leafStep (slotsOf slots (at .left - 1) (behind slots (at .place))) below (at .weight + w) (costOf x (slotAt slots (at .place)))) astray
-    unfolding step ruleStep slotsBy
-    word-rule {x} l e =
-        let n : at .left ≡ suc (at .left - 1) = omega arith in
-        rw (heads-top stack (at .height) h, e) (ap (λ (m : ℕ). ruleStep (slotsOf slots m (at .place)) (symbolOf (getD stack (at .height - 1) 0)) below (at .weight) (some (Word H x w))) n)
+  pub word-fits : {x : W.Word} {v : ℕ} → at .height ≤ at .left → fitOf rules (headsOf stack (at .height)) r ≡ F.the-variants.Word x v
+      → step rules from r ≡ leafStep (slotsOf slots (at .left - 1) (behind slots (at .place))) below (at .weight + v) (costOf x (slotAt slots (at .place)))
+  unfolding step ruleStep slotsBy
+  word-fits {x} {v} l f =
+      let (h, there) = word-there rules stack (at .height) r f in
+      let n : at .left ≡ suc (at .left - 1) = omega arith in
+      let A : Sym = symbolOf (getD stack (at .height - 1) 0) in
+      rw (heads-top stack (at .height) h, there)
+      (ap (λ (m : ℕ). ruleStep (slotsOf slots m (at .place)) A below (at .weight) (some (Word A x v))) n
+      ∙ rw (eq-eqb (A .0) (A .0) refl))
 
 -- the turns of a loop over the first m numbers of a walk
 module _ (rules : List R.Rule) (s : State) (walk : List ℕ) (m i : ℕ) where

@@ -1,56 +1,54 @@
--- Demand 2, of the check. In the theorems a grammar block and an utterance block are accepted with the meanings g and u
--- (packing's specs), `Derivation g u t` says that t is a derivation of u under g, `reading g u t` has t's walk and t's own weight
--- (derivation's specs), `blockOfReading R d` is the packed block of a reading d under R rules, and `Bytes` says that the numbers
--- of a block are below 256.
+-- Demand 2, of the check. In the theorems a grammar block and a block of what was heard are accepted with the meanings g and h
+-- (packing's specs), `Derivation g h t` says that t is a derivation of h under g, `ownBlock g h t` is its packed reading, with its own
+-- weight and cut to its own length (derivation's specs), and `Bytes` says that the numbers of a block are below 256.
 use mathlib.Core.Path.{_≡_, refl, ap}
 use mathlib.Core.Logic.{_↔_}
 use mathlib.Core.List.{List}
 use Prim.Native.Nat.{ℕ}
 use native.Mathlib.Omega.{arith}
-use lib.ListN.{length}
-use Rattle.packing.specs.Meaning.{Grammar, Utterance, Reading}
+use Rattle.packing.specs.Meaning.{Grammar, Heard}
 use Rattle.packing.specs.Parse.{Verdict, accepted, refused}
 use Rattle.packing.specs.Valid.{Bytes}
 use Rattle.packing.specs.Grammar.{grammarBlock}
-use Rattle.packing.specs.Utterance.{utteranceBlock}
-use Rattle.packing.specs.Reading.{blockOfReading}
+use Rattle.packing.specs.Heard.{heardBlock}
 use Rattle.packing.proofs.Parse.{granted}
-use Rattle.packing.proofs.Whole.{grammar-block-out, utterance-block-out}
-use Rattle.derivation.specs.Derivation.{Tree, Derivation, reading}
+use Rattle.packing.proofs.Whole.{grammar-block-out}
+use Rattle.packing.proofs.Heard.{heard-block-out}
+use Rattle.derivation.specs.Derivation.{Tree, Derivation}
+use Rattle.derivation.specs.Heard.{ownBlock}
 use Rattle.checker.specs.Check.{check, checkedOf, OfDerivation}
 use Rattle.checker.specs.declared.Checked.{Checked}
 use Rattle.checker.specs.declared.Checked.the-variants.{Passes}
 use Rattle.checker.proofs.Passed.{passed-out, passed-back}
 
-module _ (grammar utterance block : List ℕ) (bytes : Bytes block) where
-  -- Under a grammar and an utterance that are accepted, the check accepts a block with the reading d exactly if d is a
-  -- derivation's reading and the block is its packing.
-  pub accepts : (g : Grammar) (u : Utterance) → grammarBlock grammar ≡ accepted g → utteranceBlock (g .words) utterance ≡ accepted u
-      → (d : Reading) → (check grammar utterance block ≡ accepted d)
-      ↔ ((t : Tree) × Derivation g u t × (d ≡ reading g u t) × (block ≡ blockOfReading (length (g .rules)) (reading g u t)))
+module _ (grammar heard block : List ℕ) (bytes : Bytes block) where
+  -- Under a grammar and what was heard that are accepted, the check accepts a block with the derivation t exactly if t is a derivation
+  -- and the block is the packing of its reading.
+  pub accepts : (g : Grammar) (h : Heard) → grammarBlock grammar ≡ accepted g → heardBlock (g .words) heard ≡ accepted h
+      → (t : Tree) → (check grammar heard block ≡ accepted t) ↔ (Derivation g h t × (block ≡ ownBlock g h t))
   unfolding check
-  accepts g u p q d =
+  accepts g h p q t =
       let (okg, _) = grammar-block-out grammar g p in
-      let (oku, _) = utterance-block-out (g .words) utterance u q in
-      rw (p, q) (passed-out g u block okg oku bytes, λ (t, c, e, b). rw e (passed-back g u block okg oku bytes t c b))
+      let (ok, _) = heard-block-out (g .words) heard h q in
+      rw (p, q) (passed-out g block okg bytes h ok, λ (c, b). passed-back g block okg bytes h ok t c b)
 
-  -- The check passes a block exactly if there is a derivation of this grammar and this utterance whose packed reading, with its
+  -- The check passes a block exactly if there is a derivation of this grammar and of what was heard whose packed reading, with its
   -- true weight, is that block.
-  pub passes : (checkedOf (check grammar utterance block) ≡ Passes) ↔ OfDerivation grammar utterance block
+  pub passes : (checkedOf (check grammar heard block) ≡ Passes) ↔ OfDerivation grammar heard block
   unfolding check
-  passes = (to (check grammar utterance block) refl, from)
+  passes = (to (check grammar heard block) refl, from)
     where
-      to : (v : Verdict Reading) → check grammar utterance block ≡ v → checkedOf v ≡ Passes → OfDerivation grammar utterance block
-      to (refused n) e h = let z : _≡_ {A = ℕ} 0 1 = cc in absurd (omega arith)
-      to (accepted d) e h =
-          granted (grammarBlock grammar) _ e λ g p f. granted (utteranceBlock (g .words) utterance) _ f λ u q _.
-          let (t, c, _, b) = accepts g u p q d .0 e in
-          (g, u, t, p, q, c, b)
+      to : (v : Verdict Tree) → check grammar heard block ≡ v → checkedOf v ≡ Passes → OfDerivation grammar heard block
+      to (refused n) e f = let z : _≡_ {A = ℕ} 0 1 = cc in absurd (omega arith)
+      to (accepted t) e f =
+          granted (grammarBlock grammar) _ e λ g p k. granted (heardBlock (g .words) heard) _ k λ h q _.
+          let (c, b) = accepts g h p q t .0 e in
+          (g, h, t, p, q, c, b)
 
-      from : OfDerivation grammar utterance block → checkedOf (check grammar utterance block) ≡ Passes
-      from (g, u, t, p, q, c, b) = ap checkedOf (accepts g u p q (reading g u t) .1 (t, c, refl, b))
+      from : OfDerivation grammar heard block → checkedOf (check grammar heard block) ≡ Passes
+      from (g, h, t, p, q, c, b) = ap checkedOf (accepts g h p q t .1 (c, b))
 
   -- so of an answer that is the definition's: the promises of `check`
-  pub promised : {r : Checked} → r ≡ checkedOf (check grammar utterance block)
-      → (r ≡ checkedOf (check grammar utterance block)) × ((r ≡ Passes) ↔ OfDerivation grammar utterance block)
+  pub promised : {r : Checked} → r ≡ checkedOf (check grammar heard block)
+      → (r ≡ checkedOf (check grammar heard block)) × ((r ≡ Passes) ↔ OfDerivation grammar heard block)
   promised e = (e, rw e passes)

@@ -1,19 +1,23 @@
--- The check of a reading: document 01, "The services" and the rows grammar block, utterance block and reading block of
--- "Where each check stands". Stands on packing's and derivation's definitions.
+-- The check of a reading, of slots or of a graph: document 01, "The services" and the rows grammar block, utterance block and reading
+-- block of "Where each check stands"; document 02, N1. Stands on packing's and derivation's definitions.
 use mathlib.Core.Path.{_≡_}
 use mathlib.Core.Bool.{Bool, true, false}
 use mathlib.Core.List.{List, [], _∷_}
 use mathlib.Core.Option.{Option, none, some}
-use Prim.Native.Nat.{ℕ}
-use lib.Dec.{eqb}
+use Prim.Native.Nat.{ℕ, suc, _-_, _*_}
+use lib.Dec.{eqb, leb}
 use lib.ListN.{length}
-use Rattle.bits.specs.Bits.{pick, ended}
-use Rattle.packing.specs.Meaning.{Grammar, Utterance, Reading, edges, symbolOf}
-use Rattle.packing.specs.Parse.{Parse, parsed, failed, Verdict, accepted, refused, _then_}
+use Rattle.bits.specs.Bits.{pick, bitAt, ended}
+use Rattle.bits.specs.Fields.{bitsOfAll}
+use Rattle.packing.specs.Meaning.{Grammar, Reading, Edge, Heard, slots, graph, heardEdges, lastPlace, symbolOf, Node}
+use Rattle.packing.specs.Parse.{Parse, parsed, failed, _⟫_, Verdict, accepted, refused, _then_}
+use Rattle.packing.specs.Source.{flds}
 use Rattle.packing.specs.Grammar.{grammarBlock}
-use Rattle.packing.specs.Utterance.{utteranceBlock}
-use Rattle.packing.specs.Reading.{readingFrom, blockOfReading}
-use Rattle.derivation.specs.Derivation.{Tree, walk, weight, Derivation, reading}
+use Rattle.packing.specs.Heard.{heardBlock}
+use Rattle.packing.specs.Reading.{readingFrom}
+use Rattle.packing.specs.GraphReading.{GraphHead, graphHeadFrom, graphReadingBits, traceEntries, TraceIn}
+use Rattle.derivation.specs.Derivation.{Tree, walk, weight, Derivation}
+use Rattle.derivation.specs.Heard.{pathLength, trace, ownBlock}
 use Rattle.derivation.specs.List.{trees}
 use Rattle.checker.specs.declared.Checked.{Checked}
 use Rattle.checker.specs.declared.Checked.the-variants.{Passes, Refused}
@@ -25,69 +29,103 @@ same [] (y ∷ ys) = false
 same (x ∷ xs) [] = false
 same (x ∷ xs) (y ∷ ys) = pick (eqb x y) (same xs ys) false
 
--- the tree of a list that has the walk rs
-unfoldable pub withWalk : List ℕ → List Tree → Option Tree
-withWalk rs [] = none
-withWalk rs (t ∷ ts) = pick (same (walk t) rs) (some t) (withWalk rs ts)
+-- a block has these bits from bit `at` on
+unfoldable pub hasBits : List ℕ → ℕ → List ℕ → Bool
+hasBits s at [] = leb at (8 * length s)
+hasBits s at (b ∷ bs) = pick (eqb (bitAt s at) b) (hasBits s (suc at) bs) false
 
--- the derivation that has the walk rs
-unfoldable pub derivationOf : Grammar → Utterance → List ℕ → Option Tree
-derivationOf g u rs = withWalk rs (trees g (edges u) (symbolOf 0) 0 (length u))
+-- those of nodes, behind n and the weight
+abbrev pub hasTrace : ℕ → List Node → List ℕ → Bool
+hasTrace R xs s = hasBits s 34 (bitsOfAll (flds (traceEntries R xs)))
 
--- 34, 35 and 36, in this order, of the fields that were read and the place behind them
-abbrev pub judged : Grammar → Utterance → List ℕ → Reading → ℕ → Option Tree → Verdict Reading
-judged g u block d at none = refused 34
-judged g u block d at (some t) =
-    pick (eqb (weight g (edges u) t) (d .weight)) (pick (ended block at) (accepted d) (refused 36)) (refused 35)
+-- what was read of a reading block: of slots all its fields; of a graph n and the weight. Which nodes a graph's reading has is judged by
+-- their bits
+pub data Fields : Type 0 where
+  walked : Reading → Fields
+  headed : GraphHead → Fields
 
-abbrev pub afterFields : Grammar → Utterance → List ℕ → Parse Reading → Verdict Reading
-afterFields g u block (failed n) = refused n
-afterFields g u block (parsed d at) = judged g u block d at (derivationOf g u (d .walk))
+abbrev pub weightRead : Fields → ℕ
+weightRead (walked d) = d .weight
+weightRead (headed d) = d .weight
 
--- the reading that passes, or the refusal
-unfoldable pub check : List ℕ → List ℕ → List ℕ → Verdict Reading
-check grammar utterance reading =
-    grammarBlock grammar then λ g. utteranceBlock (g .words) utterance then λ u.
-    afterFields g u reading (readingFrom (length u) (length (g .rules)) reading)
+-- it, and the place behind the reading
+unfoldable pub fieldsFrom : Grammar → Heard → List ℕ → Parse Fields
+fieldsFrom g (slots u) block = readingFrom (length u) (length (g .rules)) block ⟫ λ d at. parsed (walked d) at
+fieldsFrom g (graph h) block =
+    let R = length (g .rules) in
+    graphHeadFrom (h .places - 1) R block ⟫ λ d at. parsed (headed d) (graphReadingBits (d .edges) R)
+
+-- a tree has the nodes that were read: the walk; or it has n edges, and the bits of its nodes stand in the block. As a test, and as a
+-- statement
+abbrev pub fits : ℕ → List ℕ → Fields → Tree → Bool
+fits R block (walked d) t = same (walk t) (d .walk)
+fits R block (headed d) t = pick (eqb (pathLength t) (d .edges)) (hasTrace R (trace t) block) false
+
+abbrev pub HasNodes : ℕ → List ℕ → Fields → Tree → Type 0
+HasNodes R block (walked d) t = walk t ≡ d .walk
+HasNodes R block (headed d) t = (pathLength t ≡ d .edges) × TraceIn R (trace t) block
+
+-- the first tree of a list that passes a test
+unfoldable pub firstWith : (Tree → Bool) → List Tree → Option Tree
+firstWith test [] = none
+firstWith test (t ∷ ts) = pick (test t) (some t) (firstWith test ts)
+
+-- the derivation that has the nodes that were read
+unfoldable pub derivationOf : Grammar → Heard → List ℕ → Fields → Option Tree
+derivationOf g h block d = firstWith (fits (length (g .rules)) block d) (trees g (heardEdges h) (symbolOf 0) 0 (lastPlace h))
+
+-- 34, 35 and 36, in this order, of the weight that was read and the place behind the reading
+abbrev pub judged : Grammar → List Edge → List ℕ → ℕ → ℕ → Option Tree → Verdict Tree
+judged g es block w at none = refused 34
+judged g es block w at (some t) = pick (eqb (weight g es t) w) (pick (ended block at) (accepted t) (refused 36)) (refused 35)
+
+abbrev pub afterFields : Grammar → Heard → List ℕ → Parse Fields → Verdict Tree
+afterFields g h block (failed n) = refused n
+afterFields g h block (parsed d at) = judged g (heardEdges h) block (weightRead d) at (derivationOf g h block d)
+
+-- the derivation whose reading passes, or the refusal
+unfoldable pub check : List ℕ → List ℕ → List ℕ → Verdict Tree
+check grammar heard reading =
+    grammarBlock grammar then λ g. heardBlock (g .words) heard then λ h. afterFields g h reading (fieldsFrom g h reading)
 
 -- the code's answer
-abbrev pub checkedOf : Verdict Reading → Checked
-checkedOf (accepted d) = Passes
+abbrev pub checkedOf : Verdict Tree → Checked
+checkedOf (accepted t) = Passes
 checkedOf (refused n) = Refused n
 
--- what is to pass: the block is the packed reading of a derivation, with its own weight, of what the grammar block and the
--- utterance block mean
+-- what is to pass: the block is the packed reading of a derivation, with its own weight and cut to its own length, of what the grammar
+-- block and the block of what was heard mean
 abbrev pub OfDerivation : List ℕ → List ℕ → List ℕ → Type 0
-OfDerivation grammar utterance block =
-    (g : Grammar) × (u : Utterance) × (t : Tree) × (grammarBlock grammar ≡ accepted g)
-    × (utteranceBlock (g .words) utterance ≡ accepted u) × Derivation g u t × (block ≡ blockOfReading (length (g .rules)) (reading g u t))
+OfDerivation grammar heard block =
+    (g : Grammar) × (h : Heard) × (t : Tree) × (grammarBlock grammar ≡ accepted g) × (heardBlock (g .words) heard ≡ accepted h) × Derivation g h t
+    × (block ≡ ownBlock g h t)
 
--- both blocks are accepted and the fields of the reading block are read, and so it is of what they mean and of the place behind them
-pub record FieldsRead (grammar utterance block : List ℕ) (So : Grammar → Utterance → Reading → ℕ → Type 0) : Type 0 where
+-- both blocks are accepted and the fields of the reading block are read, and so it is of what they mean and of the place behind the reading
+pub record FieldsRead (grammar heard block : List ℕ) (So : Grammar → Heard → Fields → ℕ → Type 0) : Type 0 where
   pub g : Grammar
-  pub u : Utterance
-  pub d : Reading
+  pub h : Heard
+  pub d : Fields
   pub at : ℕ
   pub grammar-accepted : grammarBlock grammar ≡ accepted g
-  pub utterance-accepted : utteranceBlock (g .words) utterance ≡ accepted u
-  pub fields : readingFrom (length u) (length (g .rules)) block ≡ parsed d at
-  pub so : So g u d at
+  pub heard-accepted : heardBlock (g .words) heard ≡ accepted h
+  pub fields : fieldsFrom g h block ≡ parsed d at
+  pub so : So g h d at
 
--- t is a derivation with the walk that was read
-abbrev pub HasWalk : Grammar → Utterance → Reading → Tree → Type 0
-HasWalk g u d t = Derivation g u t × (walk t ≡ d .walk)
+-- t is a derivation with the nodes that were read
+abbrev pub Has : List ℕ → Grammar → Heard → Fields → Tree → Type 0
+Has block g h d t = Derivation g h t × HasNodes (length (g .rules)) block d t
 
--- 34, "the 2n−1 numbers are not the walk of a derivation"
+-- 34, "the 2n−1 numbers are not the walk of a derivation"; "34 if no derivation of n edges has the block's bits"
 abbrev pub NoWalk : List ℕ → List ℕ → List ℕ → Type 0
-NoWalk grammar utterance block = FieldsRead grammar utterance block (λ g u d at. (t : Tree) → ¬ HasWalk g u d t)
+NoWalk grammar heard block = FieldsRead grammar heard block (λ g h d at. (t : Tree) → ¬ Has block g h d t)
 
 -- 35, "weight not its own"
 abbrev pub OtherWeight : List ℕ → List ℕ → List ℕ → Type 0
-OtherWeight grammar utterance block =
-    FieldsRead grammar utterance block (λ g u d at. (t : Tree) × HasWalk g u d t × ¬ (weight g (edges u) t ≡ d .weight))
+OtherWeight grammar heard block =
+    FieldsRead grammar heard block (λ g h d at. (t : Tree) × Has block g h d t × ¬ (weight g (heardEdges h) t ≡ weightRead d))
 
 -- 36, "nonzero fill or further bytes"
 abbrev pub Surplus : List ℕ → List ℕ → List ℕ → Type 0
-Surplus grammar utterance block =
-    FieldsRead grammar utterance block
-    (λ g u d at. (t : Tree) × HasWalk g u d t × (weight g (edges u) t ≡ d .weight) × (ended block at ≡ false))
+Surplus grammar heard block =
+    FieldsRead grammar heard block
+    (λ g h d at. (t : Tree) × Has block g h d t × (weight g (heardEdges h) t ≡ weightRead d) × (ended block at ≡ false))

@@ -1,38 +1,58 @@
--- The check's code as functions: the weight of the derivation by the run of derivation's Walk, and the states of that run as
--- numbers in flat arrays. Nobody need believe this page: the proofs join it to Check. Assumes nothing.
-use mathlib.Core.List.{List, [], _∷_}
+-- The check's code as functions: the weight of the derivation by the runs of derivation's Walk and Path, and the states of the walk's
+-- run as numbers in flat arrays. Nobody need believe this page: the proofs join it to Check. Assumes nothing.
+use mathlib.Core.List.{List}
 use mathlib.Core.Option.{Option, none, some}
-use Prim.Native.Nat.{ℕ, zero, suc, _+_, _*_, _^_, _≤_, _<_}
+use Prim.Native.Nat.{ℕ, _+_, _-_, _*_}
 use lib.Dec.{eqb}
 use lib.ListN.{length, getD}
-use Rattle.bits.specs.Bits.{pick, ended}
-use Rattle.packing.specs.Meaning.{Utterance, Candidate, Reading, symbolOf}
-use Rattle.packing.specs.Parse.{Parse, parsed, failed, Verdict, accepted, refused, _then_}
+use Rattle.bits.specs.Bits.{pick, field, ended}
+use Rattle.packing.specs.Meaning.{Utterance, Candidate, Reading, Edge}
+use Rattle.packing.specs.Parse.{Parse, parsed, failed, Verdict, accepted, refused}
 use Rattle.packing.specs.Utterance.{utteranceBlock}
+use Rattle.packing.specs.Graph.{graphBlock}
 use Rattle.packing.specs.Reading.{readingFrom}
+use Rattle.packing.specs.GraphReading.{GraphHead, graphHeadFrom, graphReadingBits}
 use Rattle.packing.specs.Flat.{candidatesOf, slotsOf}
-use Rattle.packing.specs.declared.Sym.{Sym}
 use Rattle.packing.specs.declared.Rule as R
 use Rattle.derivation.specs.Walk.{State, onward, astray, walkWeight}
-use Rattle.checker.specs.declared.walk.Found.{Found}
-use Rattle.checker.specs.declared.walk.Found.the-variants.{Number, Nothing}
-use Rattle.checker.specs.declared.walk.Progress.{Progress}
-use Rattle.checker.specs.declared.walk.Step.{Step}
-use Rattle.checker.specs.declared.walk.Step.the-variants.{Onward, Astray}
+use Rattle.derivation.specs.Path.{pathWeight}
+use Rattle.parts_stack.specs.Stack.{headsOf}
+use Rattle.parts_stack.specs.declared.Step.{Step}
+use Rattle.parts_stack.specs.declared.Step.the-variants.{Onward, Astray}
+use Rattle.checker.specs.declared.Checked.{Checked}
+use Rattle.checker.specs.declared.Checked.the-variants.{Passes, Refused}
 
--- 34, 35 and 36 by the weight of the derivation that has the walk
-abbrev pub weighed : List ℕ → Reading → ℕ → Option ℕ → Verdict Reading
-weighed block d at none = refused 34
-weighed block d at (some w) = pick (eqb w (d .weight)) (pick (ended block at) (accepted d) (refused 36)) (refused 35)
+-- 34, 35 and 36 by the weight that was read, the place behind the reading and the weight of the derivation that has its nodes
+abbrev pub weighed : List ℕ → ℕ → ℕ → Option ℕ → Checked
+weighed block w at none = Refused 34
+weighed block w at (some v) = pick (eqb v w) (pick (ended block at) Passes (Refused 36)) (Refused 35)
 
-abbrev pub byRun : List R.Rule → Utterance → List ℕ → Parse Reading → Verdict Reading
-byRun rules u block (failed n) = refused n
-byRun rules u block (parsed d at) = weighed block d at (walkWeight rules u (d .walk))
+-- a reading of slots, by its walk
+abbrev pub byWalk : List R.Rule → Utterance → List ℕ → Parse Reading → Checked
+byWalk rules u block (failed n) = Refused n
+byWalk rules u block (parsed d at) = weighed block (d .weight) at (walkWeight rules u (d .walk))
 
--- the check under a grammar of W words and these rules
-unfoldable pub underRules : ℕ → List R.Rule → List ℕ → List ℕ → Verdict Reading
-underRules W rules utterance reading =
-    utteranceBlock W utterance then λ u. byRun rules u reading (readingFrom (length u) (length rules) reading)
+-- a reading of a graph with these edges and this last place, by its path
+abbrev pub byPath : List R.Rule → List Edge → ℕ → List ℕ → Parse GraphHead → Checked
+byPath rules es last block (failed n) = Refused n
+byPath rules es last block (parsed d at) =
+    weighed block (d .weight) (graphReadingBits (d .edges) (length rules)) (pathWeight rules es last (d .edges) block)
+
+-- what follows from a verdict
+abbrev pub onAccepted : {A : Type 0} → Verdict A → (A → Checked) → Checked
+onAccepted (refused n) k = Refused n
+onAccepted (accepted a) k = k a
+
+-- the check under a grammar of W words and these rules: of slots, of a graph, and of the kind that the block has
+abbrev pub underSlots : ℕ → List R.Rule → List ℕ → List ℕ → Checked
+underSlots W rules heard reading = onAccepted (utteranceBlock W heard) (λ u. byWalk rules u reading (readingFrom (length u) (length rules) reading))
+
+abbrev pub underGraph : ℕ → List R.Rule → List ℕ → List ℕ → Checked
+underGraph W rules heard reading =
+    onAccepted (graphBlock W heard) (λ h. byPath rules (h .edges) (h .places - 1) reading (graphHeadFrom (h .places - 1) (length rules) reading))
+
+abbrev pub underRules : ℕ → List R.Rule → List ℕ → List ℕ → Checked
+underRules W rules heard reading = pick (eqb (field heard 0 4) 5) (underGraph W rules heard reading) (underSlots W rules heard reading)
 
 -- the slot at place p, and the place behind it
 abbrev pub slotAt : List ℕ → ℕ → List Candidate
@@ -41,34 +61,7 @@ slotAt l p = candidatesOf l (getD l p 0) (p + 1)
 abbrev pub behind : List ℕ → ℕ → ℕ
 behind l p = p + 1 + 2 * getD l p 0
 
--- n symbols of an array, the last first
-unfoldable pub headsOf : List ℕ → ℕ → List Sym
-headsOf l zero = []
-headsOf l (suc n) = symbolOf (getD l n 0) ∷ headsOf l n
-
 -- what the code's answers say
-abbrev pub numberOf : Found → Option ℕ
-numberOf (Number n) = some n
-numberOf Nothing = none
-
 abbrev pub stateOf : List ℕ → List ℕ → Step → State
 stateOf slots stack (Onward p) = onward (slotsOf slots (p .left) (p .place)) (headsOf stack (p .height)) (p .weight)
 stateOf slots stack Astray = astray
-
--- a number that was read is that of an array
-abbrev pub Small : Found → Type 0
-Small (Number n) = n < 2 ^ 32
-Small Nothing = Unit {0}
-
--- each part to come has a slot of its own, and the numbers are far from wrapping
-pub record Within (at : Progress) : Type 0 where
-  pub parts : at .height ≤ at .left
-  pub slots : at .left ≤ 24
-  pub place : at .place < 2 ^ 39
-  pub weight : at .weight < 2 ^ 39
-
--- so after a step, which adds little
-abbrev pub Further : Progress → Step → Type 0
-Further at (Onward p) =
-    (p .height ≤ p .left) × (p .left ≤ at .left) × (p .place ≤ at .place + 2 ^ 33) × (p .weight ≤ at .weight + 2 ^ 33)
-Further at Astray = Unit {0}

@@ -1,8 +1,12 @@
 // The check of a reading.
 mod walk; // walk.rt: the weight of the derivation that has a walk
 
-use crate::walk::Found;
 use grammar_reader::GrammarRead;
+use graph_reader::GraphRead;
+use graph_reading_reader::HeadRead;
+use graph_run::Graph;
+use packing::format::GRAPH_EDGES_LENGTH;
+use packing::format::MAX_PATH_EDGES;
 use packing::format::MAX_RULES;
 use packing::format::MAX_SLOTS;
 use packing::format::MAX_WORDS;
@@ -10,17 +14,20 @@ use packing::format::RULES_LENGTH;
 use packing::format::SLOTS_LENGTH;
 use packing::format::WALK_LENGTH;
 use packing::refused;
+use parts_stack::Found;
 use reading_reader::ReadingRead;
 use utterance_reader::UtteranceRead;
 ghost use mathlib.Core.Path.{_≡_};
 ghost use mathlib.Core.Logic.{_↔_};
 ghost use Prim.Native.Nat.{_^_, _≤_, _<_};
-ghost use Rattle.packing.specs.Meaning.{Reading};
 ghost use Rattle.packing.specs.Reading.{readingFrom};
+ghost use Rattle.packing.specs.GraphReading.{graphHeadFrom};
+ghost use Rattle.packing.specs.Flat.{rulesOf, slotsOf};
+ghost use Rattle.parts_stack.specs.Stack.{numberOf};
+ghost use Rattle.graph_run.specs.Edges.{edgesOf};
 ghost use Rattle.checker.specs.Check as definition;
 ghost use Rattle.checker.specs.Check.{checkedOf, OfDerivation};
-ghost use Rattle.packing.specs.Flat.{rulesOf, slotsOf};
-ghost use Rattle.checker.specs.Run.{weighed, byRun, underRules, numberOf};
+ghost use Rattle.checker.specs.Run.{weighed, byWalk, byPath, underSlots, underGraph, underRules};
 
 // What the check answers.
 pub enum Checked {
@@ -28,12 +35,11 @@ pub enum Checked {
     Refused(u32),
 }
 
-// 34, 35 and 36 of a reading of some weight, whose fields end at bit `at` of its block. `own` is the weight of the derivation
-// that has its walk.
+// 34, 35 and 36 of a reading of some weight, which ends at bit `at` of its block. `own` is the weight of the derivation that has its
+// nodes.
 fn judge(block: &[u8], at: usize, weight: u32, own: Found) -> Checked
     requires { ⌜ at < 2 ^ 32 ⌝ }
-    ensures { λ r. ⌜ ((d : Reading) → d .weight ≡ weight
-        → r ≡ checkedOf (weighed (now (block .entry)) d at (numberOf own))) ⌝ }
+    ensures { λ r. ⌜ r ≡ weighed (now (block .entry)) weight at (numberOf own) ⌝ }
 {
     let Found::Number(w) = own else {
         return Checked::Refused(refused::READING_WALK);
@@ -48,10 +54,10 @@ fn judge(block: &[u8], at: usize, weight: u32, own: Found) -> Checked
 }
 
 // The check under `count` rules and n slots that stand in arrays.
-fn check_reading(rules: &[u32], count: usize, slots: &[u32], n: usize, reading: &[u8]) -> Checked
+fn check_walk(rules: &[u32], count: usize, slots: &[u32], n: usize, reading: &[u8]) -> Checked
     requires { do ⌜ (1 ≤ count) × (count ≤ (← ⟦MAX_RULES⟧)) × (1 ≤ n) × (n ≤ (← ⟦MAX_SLOTS⟧)) ⌝ }
-    ensures { λ r. ⌜ r ≡ checkedOf (byRun (rulesOf (now (rules .entry)) count) (slotsOf (now (slots .entry)) n 0)
-        (now (reading .entry)) (readingFrom n count (now (reading .entry)))) ⌝ }
+    ensures { λ r. ⌜ r ≡ byWalk (rulesOf (now (rules .entry)) count) (slotsOf (now (slots .entry)) n 0)
+        (now (reading .entry)) (readingFrom n count (now (reading .entry))) ⌝ }
 {
     let mut walk = [0u32; WALK_LENGTH];
     match reading_reader::read_reading(reading, n, count, &mut walk) {
@@ -68,44 +74,82 @@ fn check_reading(rules: &[u32], count: usize, slots: &[u32], n: usize, reading: 
     }
 }
 
-// The check under a grammar of `words` words and `count` rules, which stand in an array.
-fn check_utterance(
-    rules: &[u32],
-    count: usize,
-    words: u32,
-    utterance: &[u8],
-    reading: &[u8],
-) -> Checked
-    requires { do ⌜ (1 ≤ count) × (count ≤ (← ⟦MAX_RULES⟧)) × (0 < words) × (words ≤ (← ⟦MAX_WORDS⟧)) ⌝ }
-    ensures { λ r. ⌜ r ≡ checkedOf (underRules words (rulesOf (now (rules .entry)) count) (now (utterance .entry))
-        (now (reading .entry))) ⌝ }
+// The check under `count` rules and a graph that stand in arrays.
+fn check_path(rules: &[u32], count: usize, edges: &[u32], graph: Graph, reading: &[u8]) -> Checked
+    requires { do ⌜ (1 ≤ count) × (count ≤ (← ⟦MAX_RULES⟧)) × (graph .last ≤ (← ⟦MAX_PATH_EDGES⟧)) ⌝ }
+    ensures { λ r. ⌜ r ≡ byPath (rulesOf (now (rules .entry)) count) (edgesOf (now (edges .entry)) (graph .edges)) (graph .last)
+        (now (reading .entry)) (graphHeadFrom (graph .last) count (now (reading .entry))) ⌝ }
 {
-    let mut slots = [0u32; SLOTS_LENGTH];
-    match utterance_reader::read_block(utterance, words, &mut slots) {
-        UtteranceRead::Refused(m) => Checked::Refused(m),
-        UtteranceRead::Utterance(found) => check_reading(
-            rules,
-            count,
-            &slots,
-            found.count,
-            reading,
-        ),
+    match graph_reading_reader::read_head(reading, graph.last, count) {
+        HeadRead::Refused(m) => Checked::Refused(m),
+        HeadRead::Head(head, end) => {
+            let at = end.at;
+            judge(
+                reading,
+                at,
+                head.weight,
+                graph_run::weight_of(rules, count, edges, graph, head.edges, reading),
+            )
+        }
     }
 }
 
-// Whether a block is the reading of a derivation of the grammar and the utterance, with its weight.
-pub fn check(grammar: &[u8], utterance: &[u8], reading: &[u8]) -> Checked
-    ensures { λ r. ⌜ r ≡ checkedOf (definition.check (now (grammar .entry)) (now (utterance .entry)) (now (reading .entry))) ⌝ }
-    ensures { λ r. ⌜ (r ≡ Checked.Passes) ↔ OfDerivation (now (grammar .entry)) (now (utterance .entry)) (now (reading .entry)) ⌝ }
+// The check under a grammar of `words` words and `count` rules, which stand in an array, of slots.
+fn check_slots(rules: &[u32], count: usize, words: u32, heard: &[u8], reading: &[u8]) -> Checked
+    requires { do ⌜ (1 ≤ count) × (count ≤ (← ⟦MAX_RULES⟧)) × (0 < words) × (words ≤ (← ⟦MAX_WORDS⟧)) ⌝ }
+    ensures { λ r. ⌜ r ≡ underSlots words (rulesOf (now (rules .entry)) count) (now (heard .entry)) (now (reading .entry)) ⌝ }
+{
+    let mut slots = [0u32; SLOTS_LENGTH];
+    match utterance_reader::read_block(heard, words, &mut slots) {
+        UtteranceRead::Refused(m) => Checked::Refused(m),
+        UtteranceRead::Utterance(found) => {
+            check_walk(rules, count, &slots, found.count, reading)
+        }
+    }
+}
+
+// The same of a graph.
+fn check_graph(rules: &[u32], count: usize, words: u32, heard: &[u8], reading: &[u8]) -> Checked
+    requires { do ⌜ (1 ≤ count) × (count ≤ (← ⟦MAX_RULES⟧)) × (0 < words) × (words ≤ (← ⟦MAX_WORDS⟧)) ⌝ }
+    ensures { λ r. ⌜ r ≡ underGraph words (rulesOf (now (rules .entry)) count) (now (heard .entry)) (now (reading .entry)) ⌝ }
+{
+    let mut edges = [0u32; GRAPH_EDGES_LENGTH];
+    match graph_reader::read_graph(heard, words, &mut edges) {
+        GraphRead::Refused(m) => Checked::Refused(m),
+        GraphRead::Graph(found) => {
+            let graph = Graph {
+                edges: found.edges,
+                last: found.places - 1,
+            };
+            check_path(rules, count, &edges, graph, reading)
+        }
+    }
+}
+
+// The same of the kind that the block has.
+fn check_heard(rules: &[u32], count: usize, words: u32, heard: &[u8], reading: &[u8]) -> Checked
+    requires { do ⌜ (1 ≤ count) × (count ≤ (← ⟦MAX_RULES⟧)) × (0 < words) × (words ≤ (← ⟦MAX_WORDS⟧)) ⌝ }
+    ensures { λ r. ⌜ r ≡ underRules words (rulesOf (now (rules .entry)) count) (now (heard .entry)) (now (reading .entry)) ⌝ }
+{
+    if heard_reader::is_graph(heard) {
+        return check_graph(rules, count, words, heard, reading);
+    }
+    check_slots(rules, count, words, heard, reading)
+}
+
+// Whether a block is the reading of a derivation of the grammar and of what was heard, slots or a graph, with its weight.
+pub fn check(grammar: &[u8], heard: &[u8], reading: &[u8]) -> Checked
+    ensures { λ r. ⌜ r ≡ checkedOf (definition.check (now (grammar .entry)) (now (heard .entry)) (now (reading .entry))) ⌝ }
+    ensures { λ r. ⌜ (r ≡ Checked.Passes) ↔ OfDerivation (now (grammar .entry)) (now (heard .entry)) (now (reading .entry)) ⌝ }
 {
     let mut rules = [0u32; RULES_LENGTH];
     match grammar_reader::read_block(grammar, &mut rules) {
         GrammarRead::Refused(m) => Checked::Refused(m),
-        GrammarRead::Grammar(sizes) => check_utterance(
+        GrammarRead::Grammar(sizes) => check_heard(
             &rules,
             sizes.rules as usize,
             sizes.words,
-            utterance,
+            heard,
             reading,
         ),
     }

@@ -1,40 +1,21 @@
 // The weight of the derivation that has a walk: one number after the other, with a stack of the symbols that are to come.
-use packing::Rule;
-use packing::Sym;
 use packing::Word;
 use packing::format::MAX_SLOTS;
 use packing::format::NOT_HEARD;
 use packing::format::NUMBERS_PER_CANDIDATE;
+use parts_stack::Fit;
+use parts_stack::Found;
+use parts_stack::MAX_PARTS;
+use parts_stack::Progress;
+use parts_stack::Step;
 ghost use mathlib.Core.Path.{_≡_};
-ghost use mathlib.Core.List.{List, _∷_};
+ghost use mathlib.Core.List.{List};
 ghost use Prim.Native.Nat.{ℕ, _+_, _-_, _*_, _^_, _≤_, _<_};
-ghost use lib.Dec.{ltb};
 ghost use lib.ListN.{length, take};
-ghost use Rattle.bits.specs.Bits.{pick};
-ghost use Rattle.derivation.specs.Walk.{onward, astray, costOf, leafStep, step, walkWeight};
+ghost use Rattle.derivation.specs.Walk.{costOf, leafStep, step, walkWeight};
 ghost use Rattle.packing.specs.Flat.{rulesOf, candidatesOf, slotsOf};
-ghost use Rattle.checker.specs.Run.{slotAt, behind, headsOf, numberOf, stateOf, Small, Within, Further};
-
-// A number, where there is one.
-pub enum Found {
-    Number(usize),
-    Nothing,
-}
-
-// How far a walk has come: the place of the next slot in the array of slots, the slots that are left, the parts that are to
-// come, whose symbols are on the stack, and the weight so far.
-pub struct Progress {
-    pub place: usize,
-    pub left: usize,
-    pub height: usize,
-    pub weight: usize,
-}
-
-// What a number of the walk leads to.
-pub enum Step {
-    Onward(Progress),
-    Astray,
-}
+ghost use Rattle.parts_stack.specs.Stack.{headsOf, numberOf, Small, Within, Further};
+ghost use Rattle.checker.specs.Run.{slotAt, behind, stateOf};
 
 // The cost of a word that was not heard, in the width of an index. Such a word is not offered.
 const UNHEARD: usize = NOT_HEARD as usize;
@@ -80,27 +61,6 @@ fn word_step(slots: &[u32], at: Progress, word: Word, weight: u32) -> Step
     })
 }
 
-// A pair rule: its two symbols take the place of its head, if each part to come has a slot of its own.
-fn pair_step(stack: &mut [u32], at: Progress, first: Sym, second: Sym, weight: u32) -> Step
-    requires { do ⌜ (1 ≤ at .height) × Within at × ((← ⟦MAX_SLOTS⟧) ≤ length (now stack)) ⌝ }
-    ensures { λ r. ⌜ ((slots : List ℕ) → stateOf slots (now (stack .exit)) r
-        ≡ pick (ltb (at .height) (at .left)) (onward (slotsOf slots (at .left) (at .place))
-        (first ∷ second ∷ headsOf (now (stack .entry)) (at .height - 1)) (at .weight + weight)) astray) × Further at r ⌝ }
-{
-    let height = at.height;
-    if height < at.left {
-        stack[height - 1] = second.0;
-        stack[height] = first.0;
-        return Step::Onward(Progress {
-            place: at.place,
-            left: at.left,
-            height: height + 1,
-            weight: at.weight + arrays::wide(weight),
-        });
-    }
-    Step::Astray
-}
-
 // One number of the walk.
 fn follow(
     rules: &[u32],
@@ -110,32 +70,21 @@ fn follow(
     at: Progress,
     r: usize,
 ) -> Step
-    requires { do ⌜ (r < 2 ^ 32) × Within at × ((← ⟦MAX_SLOTS⟧) ≤ length (now stack)) ⌝ }
+    requires { do ⌜ (r < 2 ^ 32) × Within at × ((← ⟦MAX_PARTS⟧) ≤ length (now stack)) ⌝ }
     ensures { λ s. ⌜ (stateOf (now (slots .entry)) (now (stack .exit)) s
         ≡ step (rulesOf (now (rules .entry)) count) (stateOf (now (slots .entry)) (now (stack .entry)) (Step.Onward at)) r)
         × Further at s ⌝ }
 {
-    let height = at.height;
-    if height == 0 {
-        return Step::Astray;
-    }
-    if count <= r {
-        return Step::Astray;
-    }
-    let top = stack[height - 1];
-    match arrays::rule_at(rules, r) {
-        Rule::Pair(head, first, second, weight) => {
-            if head.0 == top {
-                return pair_step(stack, at, first, second, weight);
-            }
-            Step::Astray
-        }
-        Rule::Word(head, word, weight) => {
-            if head.0 == top {
-                return word_step(slots, at, word, weight);
-            }
-            Step::Astray
-        }
+    match parts_stack::fitting(rules, count, stack, at.height, r) {
+        Fit::Nothing => Step::Astray,
+        Fit::Pair(first, second, weight) => parts_stack::pair_step(
+            stack,
+            at,
+            first,
+            second,
+            weight,
+        ),
+        Fit::Word(word, weight) => word_step(slots, at, word, weight),
     }
 }
 
@@ -146,7 +95,7 @@ pub fn weight_of(rules: &[u32], count: usize, slots: &[u32], n: usize, walk: &[u
     ensures { λ r. ⌜ numberOf r ≡ walkWeight (rulesOf (now (rules .entry)) count) (slotsOf (now (slots .entry)) n 0)
         (take (2 * n - 1) (now (walk .entry))) ⌝ }
 {
-    let mut stack = [0u32; MAX_SLOTS];
+    let mut stack = [0u32; MAX_PARTS];
     let mut at = Progress {
         place: 0,
         left: n,

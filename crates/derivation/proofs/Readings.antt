@@ -6,15 +6,16 @@ use mathlib.Core.Logic.{⊎-elim}
 use mathlib.Core.List.{List, [], _++_, append-assoc, List·Memᴰ·append-cases, List·Memᴰ·cases-cons, List·Memᴰ·eq-of-singleton}
 use Prim.Native.Nat.{ℕ, suc, _+_, _-_, _*_, _≤_, _<_}
 use native.Mathlib.Omega.{arith}
-use lib.ListN.{length, length-append}
+use lib.ListN.{length}
 use Rattle.packing.specs.declared.Sym.{Sym}
 use Rattle.packing.specs.Meaning.{Grammar, Edge}
-use Rattle.derivation.specs.Derivation.{Tree, Derives, by-word, by-pair, ruleWeight, weight, walk}
+use Rattle.derivation.specs.Derivation.{Tree, Derives, by-word, by-pair, weight, walk}
+use Rattle.derivation.specs.Heard.{pathLength}
 use Rattle.derivation.specs.Rank.{_∈_}
 use Rattle.derivation.proofs.Lists.{at-length}
-use Rattle.derivation.proofs.Ranges.{All, all-at, Light}
-use Rattle.derivation.proofs.Rows.{leaf-weight, node-weight}
+use Rattle.derivation.proofs.Ranges.{All, Light}
 use Rattle.derivation.proofs.Slots.{Apart, Short, CheapEdges}
+use Rattle.derivation.proofs.Paths.{Forward, path-bound, forward-weight, walk-path}
 
 record Same (s t : Tree) (k l : ℕ) (a b : List ℕ) : Type 0 where
   tree : s ≡ t
@@ -59,23 +60,22 @@ walk-rules {g = g} (by-pair {r = r} {s = s} p h₁ h₂ d₁ d₂) m =
     ⊎-elim (λ e. rw e (at-length (g .rules) r p)) (λ n. ⊎-elim (walk-rules d₁) (walk-rules d₂) (List·Memᴰ·append-cases (walk s) n))
     (List·Memᴰ·cases-cons m)
 
--- a tree spans something, and over slots its nodes are counted by its span
+-- a slot's edge goes forward, so a tree over slots spans something; its path's edges and its nodes are counted by its span
+short-forward : (es : List Edge) → Short es → Forward es
+short-forward es short e i k c x p = omega (arith, short e i k c x p)
+
 pub span : {g : Grammar} {es : List Edge} {A : Sym} {i k : ℕ} {t : Tree} → Short es → Derives g es A i k t → i < k
-span short (by-word {x = x} {e = e} {c = c} {i = i} {k = k} p q) = omega (arith, short e i k c x (q .0))
-span short (by-pair p h₁ h₂ d₁ d₂) = omega arith
+span {g} {es} short d = omega (arith, path-bound g es (short-forward es short) d)
 
 module _ (g : Grammar) (es : List Edge) (short : Short es) where
-  pub walk-length : {A : Sym} {i k : ℕ} {t : Tree} → Derives g es A i k t → suc (length (walk t)) ≡ 2 * (k - i)
-  unfolding walk
-  walk-length (by-word {x = x} {e = e} {c = c} {i = i} {k = k} p q) = omega (arith, short e i k c x (q .0))
-  walk-length (by-pair {i = i} {j = j} {k = k} {s = s} {t = t} p h₁ h₂ d₁ d₂) =
-      omega (arith, walk-length d₁, walk-length d₂, length-append (walk s) (walk t))
+  pub short-path : {A : Sym} {i k : ℕ} {t : Tree} → Derives g es A i k t → pathLength t ≡ k - i
+  unfolding pathLength
+  short-path (by-word {x = x} {e = e} {c = c} {i = i} {k = k} p q) = omega (arith, short e i k c x (q .0))
+  short-path (by-pair {i = i} {j = j} {k = k} p h₁ h₂ d₁ d₂) = omega (arith, short-path d₁, short-path d₂)
 
-  -- 65,535 for each node and each slot
+  pub walk-length : {A : Sym} {i k : ℕ} {t : Tree} → Derives g es A i k t → suc (length (walk t)) ≡ 2 * (k - i)
+  walk-length {t = t} d = rw (← short-path d) (walk-path t)
+
   module _ (light : All Light (g .rules)) (cheap : CheapEdges es) where
     pub weight-bound : {A : Sym} {i k : ℕ} {t : Tree} → Derives g es A i k t → weight g es t + 65535 ≤ 196605 * (k - i)
-    unfolding ruleWeight
-    weight-bound (by-word {x = x} {r = r} {e = e} {c = c} {i = i} {k = k} p q) =
-        rw (leaf-weight g es r e p q) (omega (arith, short e i k c x (q .0), all-at Light (g .rules) r light p, cheap e i k c x (q .0)))
-    weight-bound (by-pair {r = r} {i = i} {j = j} {k = k} {s = s} {t = t} p h₁ h₂ d₁ d₂) =
-        rw (node-weight g es r j s t p) (omega (arith, all-at Light (g .rules) r light p, weight-bound d₁, weight-bound d₂))
+    weight-bound d = forward-weight g es (short-forward es short) light cheap d

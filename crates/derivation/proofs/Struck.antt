@@ -15,6 +15,7 @@ use Rattle.packing.specs.declared.Sym.{Sym}
 use Rattle.packing.specs.declared.Word as W
 use Rattle.packing.specs.declared.Rule as R
 use Rattle.packing.specs.declared.Rule.the-variants.{Pair, Word}
+use Rattle.packing.specs.Meaning as M
 use Rattle.packing.specs.Meaning.{notHeard, symbolOf, Grammar, Utterance, Candidate, candidate, Edge, edge, edges, Reading}
 use Rattle.packing.specs.Valid.{ValidUtterance}
 use Rattle.derivation.specs.Derivation.{At, Offered, Tree, Derivation, reading}
@@ -111,8 +112,8 @@ struck-ascends (slot ∷ u) (h, a) = (heard-ascends slot 0 0 (omega arith) h, st
 
 -- "The comparison with document 001 is made after those candidates are struck out": the readings are the same
 pub struck-out-readings : (g : Grammar) (u : Utterance) → ValidUtterance (g .words) u → (v : Reading)
-    → ((t : Tree) × Derivation g u t × (v ≡ reading g u t))
-    ↔ ((t : Tree) × Derivation g (struckOut u) t × (v ≡ reading g (struckOut u) t))
+    → ((t : Tree) × Derivation g (M.slots u) t × (v ≡ reading g u t))
+    ↔ ((t : Tree) × Derivation g (M.slots (struckOut u)) t × (v ≡ reading g (struckOut u) t))
 unfolding walkWeight
 struck-out-readings g u ok v =
     let a = valid-ascending (g .words) u ok in

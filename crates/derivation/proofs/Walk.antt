@@ -18,6 +18,7 @@ use Rattle.packing.specs.declared.Sym.{Sym}
 use Rattle.packing.specs.declared.Word as W
 use Rattle.packing.specs.declared.Rule as R
 use Rattle.packing.specs.declared.Rule.the-variants.{Pair, Word}
+use Rattle.packing.specs.Meaning as M
 use Rattle.packing.specs.Meaning.{notHeard, symbolOf, Grammar, Utterance, Candidate, candidate, edges}
 use Rattle.derivation.specs.Derivation.{At, Tree, node, Derives, by-word, by-pair, weight, walk, Derivation}
 use Rattle.derivation.specs.Rank.{_∈_}
@@ -225,21 +226,21 @@ module _ (g : Grammar) (u : Utterance) where
         ∙ ap (λ (m : ℕ). run (g .rules) (onward (drop k u) heads m) numbers) sum
 
     whole : {numbers : List ℕ} {v : ℕ} → Covers (symbolOf 0 ∷ []) 0 numbers v
-        → (t : Tree) × Derivation g u t × (walk t ≡ numbers) × (weight g (edges u) t ≡ v)
+        → (t : Tree) × Derivation g (M.slots u) t × (walk t ≡ numbers) × (weight g (edges u) t ≡ v)
     whole (also {t = t} d done) = (t, d, sym (append-nil (walk t)), omega arith)
 
     -- the run accepts exactly the walks of derivations, with their weight
     pub walk-weight : (numbers : List ℕ) (w : ℕ) → (walkWeight (g .rules) u numbers ≡ some w)
-        ↔ ((t : Tree) × Derivation g u t × (walk t ≡ numbers) × (weight g (edges u) t ≡ w))
+        ↔ ((t : Tree) × Derivation g (M.slots u) t × (walk t ≡ numbers) × (weight g (edges u) t ≡ w))
     unfolding walkWeight
     walk-weight numbers w = (to, from)
       where
-        to : walkWeight (g .rules) u numbers ≡ some w → (t : Tree) × Derivation g u t × (walk t ≡ numbers) × (weight g (edges u) t ≡ w)
+        to : walkWeight (g .rules) u numbers ≡ some w → (t : Tree) × Derivation g (M.slots u) t × (walk t ≡ numbers) × (weight g (edges u) t ≡ w)
         to h =
             let (v, c, n) = sound numbers u (symbolOf 0 ∷ []) 0 w 0 refl (omega arith) h in let (t, d, n′, e) = whole c in
             (t, d, n′, omega arith)
 
-        from : (t : Tree) × Derivation g u t × (walk t ≡ numbers) × (weight g (edges u) t ≡ w)
+        from : (t : Tree) × Derivation g (M.slots u) t × (walk t ≡ numbers) × (weight g (edges u) t ≡ w)
             → walkWeight (g .rules) u numbers ≡ some w
         from (t, d, n, e) =
             let at-end : drop (length u) u ≡ [] = drop-length u in
@@ -247,7 +248,7 @@ module _ (g : Grammar) (u : Utterance) where
             rw (← n, ← append-nil (walk t)) (ap finished (complete d [] 0 [] (omega arith)) ∙ rw (at-end, w′))
 
     -- and nothing else
-    pub walk-none : (numbers : List ℕ) → ((t : Tree) → Derivation g u t → walk t ≡ numbers → ⊥) → walkWeight (g .rules) u numbers ≡ none
+    pub walk-none : (numbers : List ℕ) → ((t : Tree) → Derivation g (M.slots u) t → walk t ≡ numbers → ⊥) → walkWeight (g .rules) u numbers ≡ none
     walk-none numbers h = go (walkWeight (g .rules) u numbers) refl
       where
         go : (o : Option ℕ) → walkWeight (g .rules) u numbers ≡ o → walkWeight (g .rules) u numbers ≡ none

@@ -1,4 +1,5 @@
--- Derivations: document 01, "Grammars and derivations", which follows document 001, section 2. Stands on packing's Meaning.
+-- Derivations: document 01, "Grammars and derivations", which follows document 001, section 2, and document 02, N1, of slots and of
+-- word graphs alike. Stands on packing's Meaning.
 use mathlib.Core.Path.{_≡_}
 use mathlib.Core.Option.{Option, none, some}
 use mathlib.Core.List.{List, [], _∷_, _++_}
@@ -8,7 +9,7 @@ use Rattle.packing.specs.declared.Sym.{Sym}
 use Rattle.packing.specs.declared.Word as W
 use Rattle.packing.specs.declared.Rule as R
 use Rattle.packing.specs.declared.Rule.the-variants.{Pair, Word}
-use Rattle.packing.specs.Meaning.{notHeard, symbolOf, Grammar, Utterance, Edge, edge, edges, Reading}
+use Rattle.packing.specs.Meaning.{notHeard, symbolOf, Grammar, Utterance, Edge, edge, edges, Heard, lastPlace, heardEdges, Reading}
 
 -- rules and edges are named by number: a leaf is a word rule and an edge; a node is a pair rule, the place where its parts
 -- meet, and its parts
@@ -52,11 +53,11 @@ unfoldable pub walk : Tree → List ℕ
 walk (leaf r e) = r ∷ []
 walk (node r j s t) = r ∷ walk s ++ walk t
 
--- a derivation has head 0 and spans all slots
-abbrev pub Derivation : Grammar → Utterance → Tree → Type 0
-Derivation g u t = Derives g (edges u) (symbolOf 0) 0 (length u) t
+-- a derivation has head 0 and spans all slots; of a graph, "a path from place 0 to P−1"
+abbrev pub Derivation : Grammar → Heard → Tree → Type 0
+Derivation g h t = Derives g (heardEdges h) (symbolOf 0) 0 (lastPlace h) t
 
--- its reading, with its own weight
+-- its reading of slots, with its own weight
 unfoldable pub reading : Grammar → Utterance → Tree → Reading
 unfolding weight walk
 reading g u t = record { slots = length u; weight = weight g (edges u) t; walk = walk t }

@@ -4,3 +4,6 @@ pub mod Rank
 pub mod List
 pub mod Walk
 pub mod Struck
+pub mod Heard
+pub mod HeardList
+pub mod Path

@@ -1,16 +1,15 @@
--- The list of the N least readings as a function that can be run: all trees of a cell, by rules, edges and splits, and a sort.
--- Nobody need believe this page to believe demand 3: proofs/Theorems says that the list has the derivations by their ranks
+-- The trees of a cell as a list that can be made: all of them, by rules, edges and splits, and a sort.
+-- Nobody need believe this page to believe demand 3: proofs/HeardTheorems says that the list has the derivations by their ranks
 -- (specs/Rank), each once and none left out. Stands on Derivation and Order.
 use mathlib.Core.Bool.{Bool, true, false}
-use mathlib.Core.List.{List, [], _∷_, _++_, map}
+use mathlib.Core.List.{List, [], _∷_, _++_}
 use Prim.Native.Nat.{ℕ, zero, suc, _+_, _-_, Ordering, Ordering·lt, Ordering·eq, Ordering·gt}
-use lib.ListN.{length, take}
 use lib.Dec.{eqb, ltb}
 use Rattle.packing.specs.declared.Sym.{Sym}
 use Rattle.packing.specs.declared.Rule as R
 use Rattle.packing.specs.declared.Rule.the-variants.{Pair, Word}
-use Rattle.packing.specs.Meaning.{notHeard, symbolOf, Grammar, Utterance, Edge, edge, edges, Reading}
-use Rattle.derivation.specs.Derivation.{Tree, leaf, node, weight, reading}
+use Rattle.packing.specs.Meaning.{notHeard, Grammar, Edge, edge}
+use Rattle.derivation.specs.Derivation.{Tree, leaf, node, weight}
 use Rattle.derivation.specs.Order.{_▸_, order}
 
 -- f at each element of a list and its number, the results joined
@@ -88,8 +87,3 @@ module _ {A : Type 0} (cmp : A → A → Ordering) where
 unfoldable pub ranked : Grammar → List Edge → Sym → ℕ → ℕ → List Tree
 unfolding sort order _▸_ weight trees
 ranked g es A i k = sort (order (weight g es)) (trees g es A i k)
-
--- the list of demand 3: the readings of the N least derivations
-unfoldable pub listing : Grammar → Utterance → ℕ → List Reading
-unfolding ranked reading
-listing g u wanted = map (reading g u) (take wanted (ranked g (edges u) (symbolOf 0) 0 (length u)))

@@ -1,10 +1,10 @@
--- Ranks: document 01, "The list of demand 3". Stands on Derivation and Order.
+-- Ranks: document 01, "The list of demand 3", of slots and of word graphs alike. Stands on Derivation and Order.
 use mathlib.Core.Path.{_≡_}
 use mathlib.Core.Logic.{_↔_}
 use mathlib.Core.List.{List, [], _∷_, List·Memᴰ}
 use Prim.Native.Nat.{ℕ, _+_}
 use lib.ListN.{length}
-use Rattle.packing.specs.Meaning.{Grammar, Utterance, edges}
+use Rattle.packing.specs.Meaning.{Grammar, Heard, heardEdges}
 use Rattle.derivation.specs.Derivation.{Tree, Derivation}
 use Rattle.derivation.specs.Order.{Before}
 
@@ -26,5 +26,5 @@ pub record Number {A : Type 0} (P : A → Type 0) (n : ℕ) : Type 0 where
   pub number-is : length elements ≡ n
 
 -- a derivation's rank is 1 plus the number of derivations that come before it
-abbrev pub Rank : Grammar → Utterance → Tree → ℕ → Type 0
-Rank g u t k = (n : ℕ) × Number (λ s. Derivation g u s × Before g (edges u) s t) n × (k ≡ 1 + n)
+abbrev pub Rank : Grammar → Heard → Tree → ℕ → Type 0
+Rank g h t k = (n : ℕ) × Number (λ s. Derivation g h s × Before g (heardEdges h) s t) n × (k ≡ 1 + n)

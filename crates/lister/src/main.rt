@@ -1,18 +1,26 @@
-// The lister of document 01: the eight least readings of the utterance in utterance.bin under the grammar in grammar.bin.
+// The lister of document 01: the eight least readings of what utterance.bin has, slots or a word graph, under the grammar in grammar.bin.
 use arrays::number_at;
 use grammar_reader::GrammarRead;
+use graph_reading_reader::HeadRead;
+use graph_reading_reader::NodeRead;
+use graph_reading_reader::read_head;
+use graph_reading_reader::read_node;
+use graph_reading_writer::graph_reading_length;
+use heard_reader::HeardRead;
 use libc::STDOUT_FILENO;
 use listing::Listed;
+use packing::format::EDGES_LENGTH;
+use packing::format::GRAPH_READING_HEAD;
 use packing::format::RULES_LENGTH;
-use packing::format::SLOTS_LENGTH;
 use packing::format::WALK_LENGTH;
 use reading_reader::ReadingRead;
-use utterance_reader::UtteranceRead;
+use reading_writer::reading_length;
+ghost use mathlib.Core.Path.{_≡_};
 ghost use Prim.Native.Nat.{_+_, _-_, _*_, _≤_};
 ghost use lib.ListN.{length};
 ghost use Rattle.io.specs.Counts.{Counts};
-ghost use Rattle.packing.specs.Reading.{readingLength};
-ghost use Rattle.lister.specs.Lines.{ShapeOf, Bounded, Line};
+ghost use Rattle.lister.specs.Lines.{Bounded, ShapeOf, sizeOf, Few, Says};
+ghost use Rattle.lister.specs.Model.{SlotsSay, GraphSays, WalkRead};
 
 // What document 01 has the lister take of each file and lend to the listing, and the number of readings that it asks for.
 const BLOCK_BYTES: usize = 2048;
@@ -23,10 +31,17 @@ const OUTPUT_BYTES: usize = 1024;
 
 const WANTED: u32 = 8;
 
-// n and R, on which the length of a reading depends.
+// Whether readings are of a graph, the last place (n, or P - 1), and R: on these the length of a reading depends.
 struct Shape {
-    slots: usize,
+    graph: bool,
+    last: usize,
     rules: usize,
+}
+
+// What a line has beside its rank and its rule numbers: the weight, and how many numbers there are.
+struct Line {
+    weight: u32,
+    nodes: usize,
 }
 
 // The first bytes of a file, as many as there is room for; none of one that is missing.
@@ -42,41 +57,100 @@ fn read_file(path: &[u8], bytes: &mut [u8]) -> usize
     n
 }
 
-// n and R of what the blocks mean; 1 and 1 where one is refused.
-fn shape_of(grammar: &[u8], utterance: &[u8]) -> Shape
-    ensures { λ s. ⌜ ShapeOf (now (grammar .entry)) (now (utterance .entry)) s ⌝ }
+// The shape of what the blocks mean, with the rules in the array; slots, 1 and 1 where a block is refused.
+fn shape_of(grammar: &[u8], utterance: &[u8], rules: &mut [u32]) -> Shape
+    requires { do ⌜ (← ⟦RULES_LENGTH⟧) ≤ length (now rules) ⌝ }
+    ensures { λ s. ⌜ ShapeOf (now (grammar .entry)) (now (utterance .entry)) (now (rules .exit)) s ⌝ }
 {
-    let mut rules = [0u32; RULES_LENGTH];
-    let read = grammar_reader::read_block(grammar, &mut rules);
-    let GrammarRead::Grammar(sizes) = read else {
-        return Shape { slots: 1, rules: 1 };
+    let none = Shape {
+        graph: false,
+        last: 1,
+        rules: 1,
     };
-    let mut slots = [0u32; SLOTS_LENGTH];
-    let read = utterance_reader::read_block(utterance, sizes.words, &mut slots);
-    let UtteranceRead::Utterance(found) = read else {
-        return Shape { slots: 1, rules: 1 };
+    let read = grammar_reader::read_block(grammar, rules);
+    let GrammarRead::Grammar(sizes) = read else {
+        return none;
+    };
+    let mut edges = [0u32; EDGES_LENGTH];
+    let heard = heard_reader::read_heard(utterance, sizes.words, &mut edges);
+    let HeardRead::Heard(found) = heard else {
+        return none;
     };
     Shape {
-        slots: found.count,
+        graph: found.graph,
+        last: found.last,
         rules: sizes.rules as usize,
     }
 }
 
-// The weight of reading k of the output, from 0, with its rule numbers at the front of `walk`.
-fn line_of(out: &[u8], k: usize, s: Shape, walk: &mut [u32]) -> u32
-    requires { ⌜ (Bounded s) × ((k + 1) * readingLength (s .slots) (s .rules) ≤ length (now out)) × (2 * s .slots - 1 ≤ length (now walk)) ⌝ }
-    ensures { λ w. ⌜ Line (now (out .entry)) k s w (now (walk .exit)) ⌝ }
+// The length of a reading in the output.
+fn size_of(s: Shape) -> usize
+    requires { ⌜ Bounded s ⌝ }
+    ensures { λ r. ⌜ r ≡ sizeOf s ⌝ }
 {
-    let n = s.slots;
-    let rules = s.rules;
-    let size = reading_writer::reading_length(n, rules);
-    let from = k * size;
-    let upto = from + size;
-    let read = reading_reader::read_reading(&out[from..upto], n, rules, walk);
+    if s.graph {
+        return graph_reading_length(s.last, s.rules);
+    }
+    reading_length(s.last, s.rules)
+}
+
+// The line of a reading of slots, with its rule numbers at the front of `walk`.
+fn slots_line(block: &[u8], s: Shape, walk: &mut [u32]) -> Line
+    requires { do ⌜ (Bounded s) × ((← ⟦WALK_LENGTH⟧) ≤ length (now walk)) ⌝ }
+    ensures { λ r. ⌜ (Few r) × SlotsSay s (now (block .entry)) r (now (walk .exit)) ⌝ }
+{
+    let n = s.last;
+    let read = reading_reader::read_reading(block, n, s.rules, walk);
+    let nodes = 2 * n - 1;
     let ReadingRead::Reading(weight, _) = read else {
-        return 0;
+        return Line { weight: 0, nodes };
     };
-    weight
+    Line { weight, nodes }
+}
+
+// The rule numbers of the nodes of a graph's reading, at the front of `walk`.
+fn read_walk(block: &[u8], rules: &[u32], count: usize, nodes: usize, walk: &mut [u32])
+    requires { ⌜ (1 ≤ count) × (count ≤ 256) × (nodes ≤ 47) × (47 ≤ length (now walk)) ⌝ }
+    ensures { λ _. ⌜ WalkRead (now (rules .entry)) count nodes (now (block .entry)) (now (walk .exit)) ⌝ }
+{
+    let mut at = GRAPH_READING_HEAD;
+    for i in 0..nodes {
+        let NodeRead::Node(x, c) = read_node(rules, count, block, at) else {
+            return;
+        };
+        walk[i] = x.rule as u32;
+        at = c.at;
+    }
+}
+
+// The line of a reading of a graph, which has zeros behind it.
+fn graph_line(block: &[u8], rules: &[u32], s: Shape, walk: &mut [u32]) -> Line
+    requires { do ⌜ (Bounded s) × ((← ⟦WALK_LENGTH⟧) ≤ length (now walk)) ⌝ }
+    ensures { λ r. ⌜ (Few r) × GraphSays (now (rules .entry)) s (now (block .entry)) r (now (walk .exit)) ⌝ }
+{
+    let HeadRead::Head(head, _) = read_head(block, s.last, s.rules) else {
+        return Line {
+            weight: 0,
+            nodes: 0,
+        };
+    };
+    let nodes = 2 * head.edges - 1;
+    read_walk(block, rules, s.rules, nodes, walk);
+    Line {
+        weight: head.weight,
+        nodes,
+    }
+}
+
+// The line of a reading.
+fn line_of(block: &[u8], rules: &[u32], s: Shape, walk: &mut [u32]) -> Line
+    requires { do ⌜ (Bounded s) × ((← ⟦WALK_LENGTH⟧) ≤ length (now walk)) ⌝ }
+    ensures { λ r. ⌜ (Few r) × Says (now (rules .entry)) s (now (block .entry)) r (now (walk .exit)) ⌝ }
+{
+    if s.graph {
+        return graph_line(block, rules, s, walk);
+    }
+    slots_line(block, s, walk)
 }
 
 fn print(text: &[u8]) {
@@ -107,14 +181,16 @@ fn print_line(rank: usize, weight: usize, walk: &[u32], nodes: usize) {
 }
 
 // A line for each of the first m readings of the output.
-fn print_lines(out: &[u8], m: usize, s: Shape)
-    requires { ⌜ (Bounded s) × (m * readingLength (s .slots) (s .rules) ≤ length (now out)) ⌝ }
+fn print_lines(out: &[u8], m: usize, rules: &[u32], s: Shape)
+    requires { ⌜ (Bounded s) × (m * sizeOf s ≤ length (now out)) ⌝ }
 {
-    let nodes = 2 * s.slots - 1;
+    let size = size_of(s);
     let mut walk = [0u32; WALK_LENGTH];
     for k in 0..m {
-        let weight = line_of(out, k, s, &mut walk);
-        print_line(k + 1, weight as usize, &walk, nodes);
+        let from = k * size;
+        let upto = from + size;
+        let line = line_of(&out[from..upto], rules, s, &mut walk);
+        print_line(k + 1, line.weight as usize, &walk, line.nodes);
     }
 }
 
@@ -123,7 +199,8 @@ fn main() {
     let mut utterance = [0u8; BLOCK_BYTES];
     let g = read_file(b"grammar.bin", &mut grammar);
     let u = read_file(b"utterance.bin", &mut utterance);
-    let s = shape_of(&grammar[..g], &utterance[..u]);
+    let mut rules = [0u32; RULES_LENGTH];
+    let s = shape_of(&grammar[..g], &utterance[..u], &mut rules);
     let mut work = [0u32; WORK_NUMBERS];
     let mut out = [0u8; OUTPUT_BYTES];
     match listing::listing(&grammar[..g], &utterance[..u], WANTED, &mut work, &mut out) {
@@ -131,7 +208,7 @@ fn main() {
             print(b"readings");
             print_further(m);
             print_end();
-            print_lines(&out, m, s);
+            print_lines(&out, m, &rules, s);
         }
         Listed::Refused(n) => {
             print(b"refused");

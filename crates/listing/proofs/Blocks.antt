@@ -1,28 +1,35 @@
--- The blocks written from a table that holds the N least readings are theirs: rank x has the weight and the walk of the reading at
--- place x, and a walk of 2n - 1 numbers fits into the array that it is traced into.
+-- The readings written from a table that holds the N least derivations are theirs: rank x has the weight and the nodes of the derivation
+-- at place x. Of slots the rule numbers of its nodes are the walk.
 use mathlib.Core.Path.{_≡_, refl, sym, ap, _∙_}
-use mathlib.Core.List.{List, [], _∷_, _++_}
+use mathlib.Core.List.{List, [], _∷_, _++_, map, map-append}
 use Prim.Native.Nat.{ℕ, zero, suc, _+_, _-_, _*_, _≤_, _<_}
 use native.Mathlib.Omega.{arith}
-use lib.ListN.{length, take, drop, getD, replicate, length-map}
-use lib.Seq.{take-suc, take-length, take-at}
-use Rattle.packing.specs.Meaning.{Grammar, Utterance}
+use lib.ListN.{length, take, getD, length-map}
+use lib.Seq.{take-suc, take-length}
+use Rattle.packing.specs.Meaning.{Grammar, Heard, slots, graph, lastPlace}
+use Rattle.packing.specs.Flat.{ruleAt, nodeRule, nodesIn}
 use Rattle.packing.specs.Loop.{iter}
-use Rattle.packing.specs.Store.{storeAll}
-use Rattle.packing.specs.Reading.{blockOfReading}
-use Rattle.packing.specs.Valid.{ValidUtterance}
-use Rattle.packing.proofs.Store.{store-at}
-use Rattle.derivation.specs.Derivation.{At, reading}
-use Rattle.derivation.specs.List.{listing}
+use Rattle.packing.specs.Valid.{ValidGrammar, ValidHeard}
+use Rattle.packing.proofs.Flat.{by-rule}
+use Rattle.derivation.specs.Derivation.{At, Tree, leaf, node, Derivation, walk, reading}
+use Rattle.derivation.specs.Heard.{pathLength, trace, graphReading, packed}
+use Rattle.derivation.specs.HeardList.{leastDerivations}
 use Rattle.derivation.proofs.Lists.{none≢some, at-map}
-use Rattle.derivation.proofs.Ranges.{valid-slots}
-use Rattle.derivation.proofs.Theorems.{list-element, nodes}
-use Rattle.chart.specs.Chart.{layOut, rootWalk}
-use Rattle.chart_theory.proofs.Accepted as chart
+use Rattle.derivation.proofs.Paths.{walk-path}
+use Rattle.derivation.proofs.Trace.{trace-length}
+use Rattle.derivation.proofs.Theorems.{nodes}
+use Rattle.derivation.proofs.HeardTheorems.{least-element}
+use Rattle.derivation.proofs.HeardReadings.{heard-last}
+use Rattle.heard_reader.specs.Answer.{isGraph}
+use Rattle.reading_writer.specs.Answer.{walkIn}
+use Rattle.chart.specs.Chart.{layOut}
+use Rattle.chart_theory.proofs.Accepted.{Holds, HoldsRank, layout}
 use Rattle.listing.specs.Listing.{joined}
-use Rattle.listing.specs.Model.{readingAt, blocksAt}
+use Rattle.listing.specs.Model.{formOf, blockAt, blocksAt}
+use Rattle.listing.specs.declared.Form.{Form}
 use Rattle.listing.proofs.Joined.{joined-more}
 use Rattle.listing.proofs.Accepted.{blocks}
+use Rattle.listing.proofs.Written.{path}
 
 at-is : {A : Type 0} (l : List A) (k : ℕ) (d : A) {x : A} → At l k x → getD l k d ≡ x
 at-is [] k d h = absurd (none≢some h)
@@ -37,31 +44,49 @@ loop-joined f ls h zero l = refl
 loop-joined f ls h (suc m) l =
     rw (loop-joined f ls h m (omega arith), take-suc ls m [] l, at-is ls m [] (h m l)) (sym (joined-more (take m ls) (f m)))
 
--- a walk traced into an array of zeros stands in front
-front-walk : (n : ℕ) (l : List ℕ) → length l ≡ 2 * n - 1 → n ≤ 24 → take (2 * n - 1) (storeAll (replicate 47 0) 0 l) ≡ l
-front-walk n l e h =
-    rw (store-at (replicate 47 0) 0 l (omega arith)) (take-at l (drop (0 + length l) (replicate 47 0)) (2 * n - 1) e)
+-- a trace's rule numbers are the walk
+walk-nodes : (rules l : List ℕ) → walkIn l ≡ map nodeRule (nodesIn rules l)
+unfolding walkIn nodesIn
+walk-nodes rules [] = refl
+walk-nodes rules (r ∷ []) = refl
+walk-nodes rules (r ∷ e ∷ l) = rw (by-rule (ruleAt rules r) r e, walk-nodes rules l)
 
-module _ (g : Grammar) (u : Utterance) (oku : ValidUtterance (g .words) u) (N : ℕ) (rules t : List ℕ) (m : ℕ) (holds : chart.Holds g u N rules t m) where
-  walk-length : (x : ℕ) → x < m → length (rootWalk t rules (chart.layout g u N) x) ≡ 2 * length u - 1
-  unfolding reading
-  walk-length x h =
-      let (z, derivation, rank, kept, is) = list-element g u N x (chart.readingAt g u N rules t x) .0 (holds .each x h) in
-      ap (λ d. length (d .walk)) is ∙ nodes g u z derivation
+walk-trace : (t : Tree) → map nodeRule (trace t) ≡ walk t
+unfolding trace walk
+walk-trace (leaf r e) = refl
+walk-trace (node r j s t) = ap (λ l. r ∷ l) (map-append nodeRule (trace s) (trace t) ∙ rw (walk-trace s, walk-trace t))
 
-  reading-is : (x : ℕ) → x < m → readingAt t rules (chart.layout g u N) x ≡ chart.readingAt g u N rules t x
-  unfolding readingAt layOut
-  reading-is x h = rw (front-walk (length u) _ (walk-length x h) (valid-slots (g .words) u oku))
+-- the form of the readings of what was heard
+abbrev pub form : Grammar → Heard → Form
+form g h = formOf (isGraph h) (lastPlace h) (length (g .rules))
 
-  block-at : (x : ℕ) → x < m → At (blocks g u N) x (blockOfReading (length (g .rules)) (readingAt t rules (chart.layout g u N) x))
-  block-at x h = rw (reading-is x h) (at-map (blockOfReading (length (g .rules))) (listing g u N) x (holds .each x h))
+module _ (g : Grammar) (N : ℕ) (rules t : List ℕ) where
+  block-is : (h : Heard) → 1 ≤ lastPlace h → lastPlace h ≤ 24 → (x : ℕ) (z : Tree) → HoldsRank g h N rules t x z → Derivation g h z
+      → blockAt t rules (layout g h N) (form g h) x ≡ packed g h z
+  unfolding blockAt layOut reading graphReading
+  block-is (slots u) some few x z rank derived =
+      let (m, p) = path t rules (layout g (slots u) N) x some few in
+      let edges : m ≡ length u = omega (arith, p .nodes, ap length (rank .nodes), trace-length z, walk-path z, nodes g u z derived) in
+      let stands = rw edges at (p .stands) in
+      rw (rank .weighs, stands, walk-nodes rules, rank .nodes, walk-trace z)
+  block-is (graph h) some few x z rank derived =
+      let (m, p) = path t rules (layout g (graph h) N) x some few in
+      let edges : m ≡ pathLength z = omega (arith, p .nodes, ap length (rank .nodes), trace-length z) in
+      rw (rank .weighs, p .edges, p .stands, rank .nodes, edges)
 
-  pub count-found : length (blocks g u N) ≡ m
-  count-found = length-map (listing g u N) (blockOfReading (length (g .rules))) ∙ holds .number
+  module _ (h : Heard) (some : 1 ≤ lastPlace h) (okh : ValidHeard (g .words) h) (m : ℕ) (holds : Holds g h N rules t m) where
+    block-at : (x : ℕ) → x < m → At (blocks g h N) x (blockAt t rules (layout g h N) (form g h) x)
+    block-at x l =
+        let (z, rank) = holds .each x l in
+        rw (block-is h some (heard-last (g .words) h okh) x z rank (least-element g h N x z .0 (rank .place) .0))
+        (at-map (packed g h) (leastDerivations g h N) x (rank .place))
 
-  pub blocks-written : blocksAt t rules (chart.layout g u N) (length (g .rules)) m ≡ joined (blocks g u N)
-  unfolding blocksAt
-  blocks-written =
-      let ls = blocks g u N in
-      loop-joined _ ls (λ x h. block-at x (omega (arith, count-found))) m (omega (arith, count-found))
-      ∙ ap (λ (k : ℕ). joined (take k ls)) (sym count-found) ∙ ap joined (take-length ls)
+    pub count-found : length (blocks g h N) ≡ m
+    count-found = length-map (leastDerivations g h N) (packed g h) ∙ holds .number
+
+    pub blocks-written : blocksAt t rules (layout g h N) (form g h) m ≡ joined (blocks g h N)
+    unfolding blocksAt
+    blocks-written =
+        let ls = blocks g h N in
+        loop-joined _ ls (λ x l. block-at x (omega (arith, count-found))) m (omega (arith, count-found))
+        ∙ ap (λ (k : ℕ). joined (take k ls)) (sym count-found) ∙ ap joined (take-length ls)

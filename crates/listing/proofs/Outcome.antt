@@ -2,95 +2,93 @@
 -- is what is due.
 use mathlib.Core.Path.{_≡_, refl, sym, ap, _∙_}
 use mathlib.Core.List.{List}
-use Prim.Native.Nat.{ℕ, _*_}
+use Prim.Native.Nat.{ℕ, _*_, _≤_}
 use lib.ListN.{length, replicate}
-use Rattle.packing.specs.Meaning.{Grammar, Utterance, edges}
+use Rattle.packing.specs.Meaning.{Grammar, Heard, lastPlace, heardEdges}
 use Rattle.packing.specs.Parse.{accepted, refused}
-use Rattle.packing.specs.Flat.{Begins, ruleNumbers, slotNumbers, edgeNumbers}
-use Rattle.packing.specs.Valid.{ValidGrammar, ValidUtterance}
+use Rattle.packing.specs.Flat.{Begins, ruleNumbers, edgeNumbers}
+use Rattle.packing.specs.Valid.{ValidGrammar, ValidHeard}
 use Rattle.packing.specs.Grammar.{grammarBlock}
-use Rattle.packing.specs.Utterance.{utteranceBlock}
-use Rattle.packing.proofs.Whole.{grammar-block-out, utterance-block-out}
+use Rattle.packing.specs.Heard.{heardBlock}
+use Rattle.packing.proofs.Whole.{grammar-block-out}
+use Rattle.packing.proofs.Heard.{heard-block-out}
+use Rattle.derivation.specs.Heard.{outputLength}
 use Rattle.grammar_reader.specs.Answer.{sizes}
 use Rattle.grammar_reader.specs.declared.Sizes.{Sizes}
-use Rattle.utterance_edges.specs.Edges.{edgesIn}
-use Rattle.utterance_edges.proofs.Edges.{edges-in}
+use Rattle.heard_reader.specs.Answer.{heardSize}
+use Rattle.heard_reader.specs.declared.HeardSize.{HeardSize}
 use Rattle.chart_table.specs.declared.Layout.{Layout}
 use Rattle.chart.specs.Chart.{layOut}
 use Rattle.chart_theory.proofs.Accepted.{Holds, layout, chart-holds}
 use Rattle.listing.specs.Listing.{tableSize, joined, listed, list}
-use Rattle.packing.specs.Reading.{readingLength}
-use Rattle.listing.specs.Model.{shortage, Filled, Promised, UtteranceListed, GrammarListed}
+use Rattle.listing.specs.Model.{shortage, formOf, Filled, Promised, HeardListed, GrammarListed}
+use Rattle.listing.specs.declared.Form.{Form}
 use Rattle.listing.specs.declared.Listed.{Listed}
 use Rattle.listing.specs.declared.Listed.the-variants.{Found, Refused}
-use Rattle.listing.proofs.Sizes.{Met, all-met, short}
+use Rattle.listing.proofs.Sizes.{size-is, Met, all-met, short}
 use Rattle.listing.proofs.Joined.{length-joined}
 use Rattle.listing.proofs.Accepted.{blocks, sized-blocks, listing-accepts}
-use Rattle.listing.proofs.Blocks.{count-found, blocks-written}
+use Rattle.listing.proofs.Blocks.{form, count-found, blocks-written}
 
--- the table holds the N least readings
-module _ (g : Grammar) (u : Utterance) (okg : ValidGrammar g) (oku : ValidUtterance (g .words) u) (N : ℕ) (work out : List ℕ)
-    (met : Met (g .symbols) (length (g .rules)) (length u) N (length work) (length out)) where
-  readings-due : (rules array : List ℕ) (m : ℕ) (work′ out′ : List ℕ) → Begins (ruleNumbers g) rules → Begins (edgeNumbers (edges u)) array
-      → Filled rules (length (g .rules)) array (length (edges u)) (layout g u N) work out m work′ out′
-      → Promised (listed g u N (length work) (length out)) work out (Found m) work′ out′
+-- the table holds the N least derivations
+module _ (g : Grammar) (h : Heard) (okg : ValidGrammar g) (okh : ValidHeard (g .words) h) (some : 1 ≤ lastPlace h) (N : ℕ) (work out : List ℕ)
+    (met : Met (g .symbols) (lastPlace h) (outputLength g h) N (length work) (length out)) where
+  readings-due : (rules array : List ℕ) (m : ℕ) (work′ out′ : List ℕ) → Begins (ruleNumbers g) rules → Begins (edgeNumbers (heardEdges h)) array
+      → Filled rules (form g h) array (length (heardEdges h)) (layout g h N) work out m work′ out′
+      → Promised (listed g h N (length work) (length out)) work out (Found m) work′ out′
   unfolding tableSize layOut
   readings-due rules array m work′ out′ begun begun′ filled =
-      let R = length (g .rules) in
-      let ls = blocks g u N in
-      let made = chart-holds g u N okg oku (met .positive) (met .few) rules array begun begun′ (length work) (met .table) in
-      let holds : Holds g u N rules (filled .table) m = rw (filled .number, filled .made) made in
-      let count = count-found g u oku N rules (filled .table) m holds in
-      let size : length (joined ls) ≡ m * readingLength (length u) R =
-      length-joined (readingLength (length u) R) ls (sized-blocks g u N) ∙ ap (λ (k : ℕ). k * readingLength (length u) R) count in
-      rw (listing-accepts g u N okg oku (length work) (length out) (met .positive) (met .few) (met .table) (met .room)) (
+      let ls = blocks g h N in
+      let made = chart-holds g h N okg okh (met .positive) (met .few) rules array begun begun′ (length work) (met .table) in
+      let holds : Holds g h N rules (filled .table) m = rw (filled .number, filled .made) made in
+      let count = count-found g N rules (filled .table) h some okh m holds in
+      let size : length (joined ls) ≡ m * outputLength g h =
+      length-joined (outputLength g h) ls (sized-blocks g h N okg okh) ∙ ap (λ (k : ℕ). k * outputLength g h) count in
+      rw (listing-accepts g h N okg okh (length work) (length out) (met .positive) (met .few) (met .table) (met .room)) (
         ap Found (sym count),
         (
           filled .emptied ∙ holds .clears ∙ ap (λ (k : ℕ). replicate k 0) (filled .size),
-          filled .blocks ∙ rw (blocks-written g u oku N rules (filled .table) m holds, size),
+          filled .blocks ∙ rw (blocks-written g N rules (filled .table) h some okh m holds, size, size-is g h),
         ),
       )
 
--- the ways out where an accepted utterance is in an array
-module _ (rules : List ℕ) (z : Sizes) (slots : List ℕ) (n N : ℕ) (work out : List ℕ) where
-  pub utterance-refused : {x : ℕ} → x ≡ shortage (z .symbols) (z .rules) n N (length work) (length out) → (x ≡ 0 → ⊥)
-      → UtteranceListed rules z slots n N work out (Refused x) work out
-  utterance-refused e short-of g u okg oku ez en begun begun′ =
-      let is = rw (ez, en) at e in
-      rw (short g u N (length work) (length out) (λ none. short-of (is ∙ none)), is) (refl, (refl, refl))
+-- the ways out where the edges of what was heard are in an array
+module _ (rules : List ℕ) (z : Sizes) (edges : List ℕ) (y : HeardSize) (N : ℕ) (work out : List ℕ) {f : Form} (formed : f ≡ formOf (y .graph) (y .last) (z .rules)) where
+  pub heard-refused : {x : ℕ} → x ≡ shortage (z .symbols) (y .last) (f .size) N (length work) (length out) → (x ≡ 0 → ⊥)
+      → HeardListed rules z edges y N work out (Refused x) work out
+  heard-refused e short-of g h okg okh ez ey begun begun′ =
+      let is = rw (formed, ez, ey, size-is g h) at e in
+      rw (short g h N (length work) (length out) (λ none. short-of (is ∙ none)), is) (refl, (refl, refl))
 
-  pub utterance-found : (array : List ℕ) {count m : ℕ} {d : Layout} {work′ out′ : List ℕ}
-      → shortage (z .symbols) (z .rules) n N (length work) (length out) ≡ 0 → d ≡ layOut (z .symbols) n N
-      → count ≡ length (edgesIn slots n) → Begins (edgeNumbers (edgesIn slots n)) array
-      → Filled rules (z .rules) array count d work out m work′ out′ → UtteranceListed rules z slots n N work out (Found m) work′ out′
-  utterance-found array {m = m} {work′ = work′} {out′ = out′} none e-layout e-count has-edges filled g u okg oku ez en begun begun′ =
-      let met = all-met (g .symbols) (length (g .rules)) (length u) N (length work) (length out) (rw (ez, en) at none) in
-      let es : edgesIn slots (length u) ≡ edges u = edges-in (g .words) u slots oku begun′ in
-      readings-due g u okg oku N work out met rules array m work′ out′ begun (rw (en, es) at has-edges)
-      (rw (e-layout, e-count, ez, en, es) at filled)
+  pub heard-found : 1 ≤ y .last → {m : ℕ} {d : Layout} {work′ out′ : List ℕ}
+      → shortage (z .symbols) (y .last) (f .size) N (length work) (length out) ≡ 0 → d ≡ layOut (z .symbols) (y .last) N
+      → Filled rules f edges (y .edges) d work out m work′ out′ → HeardListed rules z edges y N work out (Found m) work′ out′
+  heard-found some {m} {work′ = work′} {out′} none e-layout filled g h okg okh ez ey begun begun′ =
+      let met = all-met (g .symbols) (lastPlace h) (outputLength g h) N (length work) (length out) (rw (formed, ez, ey, size-is g h) at none) in
+      readings-due g h okg okh (rw ey at some) N work out met rules edges m work′ out′ begun begun′ (rw (e-layout, formed, ez, ey) at filled)
 
 -- where the rules of an accepted grammar are in an array
-module _ (rules : List ℕ) (z : Sizes) (utterance : List ℕ) (N : ℕ) (work out : List ℕ) where
-  pub grammar-refused : {n : ℕ} → utteranceBlock (z .words) utterance ≡ refused n → GrammarListed rules z utterance N work out (Refused n) work out
+module _ (rules : List ℕ) (z : Sizes) (heard : List ℕ) (N : ℕ) (work out : List ℕ) where
+  pub grammar-refused : {n : ℕ} → heardBlock (z .words) heard ≡ refused n → GrammarListed rules z heard N work out (Refused n) work out
   grammar-refused e g okg ez begun = rw (rw ez at e) (refl, (refl, refl))
 
-  pub grammar-listed : (slots : List ℕ) {count : ℕ} {r : Listed} {work′ out′ : List ℕ} (u : Utterance)
-      → utteranceBlock (z .words) utterance ≡ accepted u → count ≡ length u → Begins (slotNumbers (z .words) u) slots
-      → UtteranceListed rules z slots count N work out r work′ out′ → GrammarListed rules z utterance N work out r work′ out′
-  grammar-listed slots u e counted begun′ due g okg ez begun =
+  pub grammar-listed : (edges : List ℕ) {y : HeardSize} {r : Listed} {work′ out′ : List ℕ} (h : Heard)
+      → heardBlock (z .words) heard ≡ accepted h → y ≡ heardSize h → Begins (edgeNumbers (heardEdges h)) edges
+      → HeardListed rules z edges y N work out r work′ out′ → GrammarListed rules z heard N work out r work′ out′
+  grammar-listed edges h e ey begun′ due g okg ez begun =
       let is = rw ez at e in
-      let oku = utterance-block-out (g .words) utterance u is .0 in
-      rw is (due g u okg oku ez counted begun (rw ez at begun′))
+      let okh = heard-block-out (g .words) heard h is .0 in
+      rw is (due g h okg okh ez ey begun begun′)
 
 -- and where both blocks are given
-module _ (grammar utterance : List ℕ) (N : ℕ) (work out : List ℕ) where
+module _ (grammar heard : List ℕ) (N : ℕ) (work out : List ℕ) where
   pub block-refused : {n : ℕ} → grammarBlock grammar ≡ refused n
-      → Promised (list grammar utterance N (length work) (length out)) work out (Refused n) work out
+      → Promised (list grammar heard N (length work) (length out)) work out (Refused n) work out
   unfolding list
   block-refused e = rw e (refl, (refl, refl))
 
   pub block-listed : (rules : List ℕ) {z : Sizes} {r : Listed} {work′ out′ : List ℕ} (g : Grammar) → grammarBlock grammar ≡ accepted g → z ≡ sizes g
-      → Begins (ruleNumbers g) rules → GrammarListed rules z utterance N work out r work′ out′
-      → Promised (list grammar utterance N (length work) (length out)) work out r work′ out′
+      → Begins (ruleNumbers g) rules → GrammarListed rules z heard N work out r work′ out′
+      → Promised (list grammar heard N (length work) (length out)) work out r work′ out′
   unfolding list
   block-listed rules g e ez begun due = rw e (due g (grammar-block-out grammar g e .0) ez begun)

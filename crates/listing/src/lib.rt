@@ -3,22 +3,27 @@ use chart_table::Layout;
 use chart_table::MOST_RANKS;
 use grammar_reader::GrammarRead;
 use grammar_reader::Sizes;
+use graph_reading_writer::graph_reading_length;
+use graph_reading_writer::write_graph_reading;
+use heard_reader::HeardRead;
+use heard_reader::HeardSize;
+use heard_reader::read_heard;
 use packing::format::EDGES_LENGTH;
+use packing::format::NUMBERS_PER_NODE;
 use packing::format::RULES_LENGTH;
-use packing::format::SLOTS_LENGTH;
-use packing::format::WALK_LENGTH;
+use packing::format::TRACE_LENGTH;
 use packing::refused;
-use utterance_reader::UtteranceRead;
+use reading_writer::reading_length;
+use reading_writer::write_reading;
 ghost use mathlib.Core.Path.{_≡_};
 ghost use mathlib.Core.List.{_++_};
-ghost use Prim.Native.Nat.{_+_, _-_, _*_, _/_, _≤_, _<_};
+ghost use Prim.Native.Nat.{_+_, _*_, _≤_, _<_};
 ghost use lib.ListN.{length, drop};
 ghost use Rattle.grammar_reader.specs.Answer.{Bounded};
 ghost use Rattle.chart_table.specs.Table.{Sized};
 ghost use Rattle.listing.specs.Listing.{list, listedOf, outputAfter, workAfter};
 ghost use Rattle.listing.specs.Demand3.{Demand3};
-ghost use Rattle.packing.specs.Reading.{readingLength};
-ghost use Rattle.listing.specs.Model.{shortage, blockAt, blocksAt, Filled, UtteranceListed, GrammarListed};
+ghost use Rattle.listing.specs.Model.{shortage, formOf, FormFor, blockAt, blocksAt, Filled, HeardListed, GrammarListed};
 
 // What the listing answers: the number found.
 pub enum Listed {
@@ -29,10 +34,30 @@ pub enum Listed {
 // The most readings that can be asked for: as many as ranks are kept.
 const MAX_WANTED: u32 = MOST_RANKS as u32;
 
+// How readings are written: of a graph or of slots, by this many rules, each into this many bytes of the output.
+struct Form {
+    graph: bool,
+    rules: usize,
+    size: usize,
+}
+
+// The form of readings up to the last place n.
+fn form_of(graph: bool, n: usize, rules: usize) -> Form
+    requires { ⌜ (1 ≤ n) × (n ≤ 24) × (1 ≤ rules) × (rules ≤ 256) ⌝ }
+    ensures { λ f. ⌜ (f ≡ formOf graph n rules) × (f .size ≤ 73) ⌝ }
+{
+    let size = if graph {
+        graph_reading_length(n, rules)
+    } else {
+        reading_length(n, rules)
+    };
+    Form { graph, rules, size }
+}
+
 // The refusal of what is asked for or lent, 0 where nothing is short.
-fn shortage(symbols: usize, rules: usize, n: usize, wanted: u32, work: usize, out: usize) -> u32
-    requires { ⌜ (symbols ≤ 32) × (1 ≤ rules) × (rules ≤ 256) × (1 ≤ n) × (n ≤ 24) ⌝ }
-    ensures { λ r. ⌜ r ≡ shortage symbols rules n wanted work out ⌝ }
+fn shortage(symbols: usize, n: usize, size: usize, wanted: u32, work: usize, out: usize) -> u32
+    requires { ⌜ (symbols ≤ 32) × (n ≤ 24) × (size ≤ 73) ⌝ }
+    ensures { λ r. ⌜ r ≡ shortage symbols n size wanted work out ⌝ }
 {
     if wanted < 1 {
         return refused::LISTING_WANTED;
@@ -44,117 +69,119 @@ fn shortage(symbols: usize, rules: usize, n: usize, wanted: u32, work: usize, ou
     if work < chart::table_numbers(chart::lay_out(symbols, n, ranks)) {
         return refused::LISTING_WORK;
     }
-    if out < ranks * reading_writer::reading_length(n, rules) {
+    if out < ranks * size {
         return refused::LISTING_OUTPUT;
     }
     0
 }
 
-// The reading of a rank of the root, in front of what stands in `out` beyond it.
-fn write_rank(t: &[u32], rules: &[u32], count: usize, d: Layout, x: usize, out: &mut [u8])
-    requires { ⌜ (Sized d) × (1 ≤ d .places) × (d .places ≤ 24) × (1 ≤ count) × (count ≤ 256) × (x < d .ranks) × (readingLength (d .places) count ≤ length (now out)) ⌝ }
-    ensures { λ _. ⌜ now (out .exit) ≡ blockAt (now (t .entry)) (now (rules .entry)) d count x ++ drop (readingLength (d .places) count) (now (out .entry)) ⌝ }
+// The reading of a rank of the root, in front of what stands in `out` beyond it. A path of n edges has 2 n - 1 nodes.
+fn write_rank(t: &[u32], rules: &[u32], form: Form, d: Layout, x: usize, out: &mut [u8])
+    requires { ⌜ (Sized d) × (FormFor (d .places) form) × (x < d .ranks) × (form .size ≤ length (now out)) ⌝ }
+    ensures { λ _. ⌜ now (out .exit) ≡ blockAt (now (t .entry)) (now (rules .entry)) d form x ++ drop (form .size) (now (out .entry)) ⌝ }
 {
-    let n = d.places;
-    let mut walk = [0u32; WALK_LENGTH];
-    let weight = chart::trace_root(t, rules, d, x, &mut walk);
-    reading_writer::write_reading(out, n, count, weight, &walk);
+    let mut trace = [0u32; TRACE_LENGTH];
+    let numbers = chart::trace_root(t, rules, d, x, &mut trace);
+    let weight = chart::root_weight(t, d, x);
+    if form.graph {
+        let n = (numbers / NUMBERS_PER_NODE + 1) / 2;
+        write_graph_reading(out, form.size, n, weight, rules, form.rules, &trace);
+        return;
+    }
+    write_reading(out, d.places, form.rules, weight, &trace);
 }
 
 // The readings of the first m ranks, one after another.
-fn write_readings(t: &[u32], rules: &[u32], count: usize, d: Layout, m: usize, out: &mut [u8])
-    requires { ⌜ (Sized d) × (1 ≤ d .places) × (d .places ≤ 24) × (1 ≤ count) × (count ≤ 256) × (m ≤ d .ranks) × (m * readingLength (d .places) count ≤ length (now out)) ⌝ }
-    ensures { λ _. ⌜ now (out .exit) ≡ blocksAt (now (t .entry)) (now (rules .entry)) d count m ++ drop (m * readingLength (d .places) count) (now (out .entry)) ⌝ }
+fn write_readings(t: &[u32], rules: &[u32], form: Form, d: Layout, m: usize, out: &mut [u8])
+    requires { ⌜ (Sized d) × (FormFor (d .places) form) × (m ≤ d .ranks) × (m * form .size ≤ length (now out)) ⌝ }
+    ensures { λ _. ⌜ now (out .exit) ≡ blocksAt (now (t .entry)) (now (rules .entry)) d form m ++ drop (m * form .size) (now (out .entry)) ⌝ }
 {
-    let size = reading_writer::reading_length(d.places, count);
+    let size = form.size;
     for x in 0..m {
         let at = x * size;
-        write_rank(t, rules, count, d, x, &mut out[at..]);
+        write_rank(t, rules, form, d, x, &mut out[at..]);
     }
 }
 
 // Finds the readings and writes them. The work table is all zeros afterwards: outside the entries found it stays so.
 fn fill(
     rules: &[u32],
-    count: usize,
+    form: Form,
     edges: &[u32],
     arcs: usize,
     d: Layout,
     work: &mut [u32],
     out: &mut [u8],
 ) -> usize
-    requires { ⌜ (Sized d) × (1 ≤ d .places) × (d .places ≤ 24) × (1 ≤ count) × (count ≤ 256) × (arcs ≤ 256) × (d .ranks * readingLength (d .places) count ≤ length (now out)) ⌝ }
-    ensures { λ r. ⌜ Filled (now (rules .entry)) count (now (edges .entry)) arcs d (now (work .entry)) (now (out .entry)) r (now (work .exit)) (now (out .exit)) ⌝ }
+    requires { ⌜ (Sized d) × (FormFor (d .places) form) × (arcs ≤ 256) × (d .ranks * form .size ≤ length (now out)) ⌝ }
+    ensures { λ r. ⌜ Filled (now (rules .entry)) form (now (edges .entry)) arcs d (now (work .entry)) (now (out .entry)) r (now (work .exit)) (now (out .exit)) ⌝ }
 {
-    let m = chart::enumerate(work, rules, count, edges, arcs, d);
-    write_readings(&work[..], rules, count, d, m, out);
+    let m = chart::enumerate(work, rules, form.rules, edges, arcs, d);
+    write_readings(&work[..], rules, form, d, m, out);
     chart::clear_table(work, d);
     m
 }
 
-// The listing of an accepted utterance under an accepted grammar.
-fn list_utterance(
+// The listing of what was heard, its edges in an array, under an accepted grammar.
+fn list_heard(
     rules: &[u32],
     sizes: Sizes,
-    slots: &[u32],
-    n: usize,
+    edges: &[u32],
+    heard: HeardSize,
     wanted: u32,
     work: &mut [u32],
     out: &mut [u8],
 ) -> Listed
-    requires { ⌜ (Bounded sizes) × (1 ≤ n) × (n ≤ 24) ⌝ }
-    ensures { λ r. ⌜ UtteranceListed (now (rules .entry)) sizes (now (slots .entry)) n wanted (now (work .entry)) (now (out .entry)) r (now (work .exit)) (now (out .exit)) ⌝ }
+    requires { ⌜ (Bounded sizes) × (1 ≤ heard .last) × (heard .last ≤ 24) × (heard .edges ≤ 168) ⌝ }
+    ensures { λ r. ⌜ HeardListed (now (rules .entry)) sizes (now (edges .entry)) heard wanted (now (work .entry)) (now (out .entry)) r (now (work .exit)) (now (out .exit)) ⌝ }
 {
     let symbols = sizes.symbols as usize;
-    let count = sizes.rules as usize;
-    let refusal = shortage(symbols, count, n, wanted, work.len(), out.len());
+    let last = heard.last;
+    let form = form_of(heard.graph, last, sizes.rules as usize);
+    let refusal = shortage(symbols, last, form.size, wanted, work.len(), out.len());
     if refusal != 0 {
         return Listed::Refused(refusal);
     }
-    let mut edges = [0u32; EDGES_LENGTH];
-    let edge_count = utterance_edges::edges_of(slots, n, &mut edges);
-    let d = chart::lay_out(symbols, n, wanted as usize);
-    Listed::Found(fill(rules, count, &edges, edge_count, d, work, out))
+    let d = chart::lay_out(symbols, last, wanted as usize);
+    Listed::Found(fill(rules, form, edges, heard.edges, d, work, out))
 }
 
-// The listing of an utterance block under an accepted grammar.
+// The listing of a block of slots or of a graph under an accepted grammar.
 fn list_grammar(
     rules: &[u32],
     sizes: Sizes,
-    utterance: &[u8],
+    heard: &[u8],
     wanted: u32,
     work: &mut [u32],
     out: &mut [u8],
 ) -> Listed
     requires { ⌜ Bounded sizes ⌝ }
-    ensures { λ r. ⌜ GrammarListed (now (rules .entry)) sizes (now (utterance .entry)) wanted (now (work .entry)) (now (out .entry)) r (now (work .exit)) (now (out .exit)) ⌝ }
+    ensures { λ r. ⌜ GrammarListed (now (rules .entry)) sizes (now (heard .entry)) wanted (now (work .entry)) (now (out .entry)) r (now (work .exit)) (now (out .exit)) ⌝ }
 {
-    let mut slots = [0u32; SLOTS_LENGTH];
-    match utterance_reader::read_block(utterance, sizes.words, &mut slots) {
-        UtteranceRead::Refused(n) => Listed::Refused(n),
-        UtteranceRead::Utterance(found) => {
-            list_utterance(rules, sizes, &slots, found.count, wanted, work, out)
-        }
+    let mut edges = [0u32; EDGES_LENGTH];
+    match read_heard(heard, sizes.words, &mut edges) {
+        HeardRead::Refused(n) => Listed::Refused(n),
+        HeardRead::Heard(size) => { list_heard(rules, sizes, &edges, size, wanted, work, out) }
     }
 }
 
-// The N least readings of the utterance under the grammar, one after another into `out`, with a work table that is all
-// zeros afterwards.
+// The N least readings of what was heard, slots or a graph, under the grammar, one after another into `out`, with a work table that
+// is all zeros afterwards.
 pub fn listing(
     grammar: &[u8],
-    utterance: &[u8],
+    heard: &[u8],
     wanted: u32,
     work: &mut [u32],
     out: &mut [u8],
 ) -> Listed
-    ensures { λ r. ⌜ r ≡ listedOf (list (now (grammar .entry)) (now (utterance .entry)) wanted (length (now (work .entry))) (length (now (out .entry)))) ⌝ }
-    ensures { λ r. ⌜ now (work .exit) ≡ workAfter (list (now (grammar .entry)) (now (utterance .entry)) wanted (length (now (work .entry))) (length (now (out .entry)))) (now (work .entry)) ⌝ }
-    ensures { λ r. ⌜ now (out .exit) ≡ outputAfter (list (now (grammar .entry)) (now (utterance .entry)) wanted (length (now (work .entry))) (length (now (out .entry)))) (now (out .entry)) ⌝ }
-    ensures { λ r. ⌜ Demand3 (now (grammar .entry)) (now (utterance .entry)) wanted (now (work .entry)) (now (out .entry)) (λ m. r ≡ Listed.Found m) (now (work .exit)) (now (out .exit)) ⌝ }
+    ensures { λ r. ⌜ r ≡ listedOf (list (now (grammar .entry)) (now (heard .entry)) wanted (length (now (work .entry))) (length (now (out .entry)))) ⌝ }
+    ensures { λ r. ⌜ now (work .exit) ≡ workAfter (list (now (grammar .entry)) (now (heard .entry)) wanted (length (now (work .entry))) (length (now (out .entry)))) (now (work .entry)) ⌝ }
+    ensures { λ r. ⌜ now (out .exit) ≡ outputAfter (list (now (grammar .entry)) (now (heard .entry)) wanted (length (now (work .entry))) (length (now (out .entry)))) (now (out .entry)) ⌝ }
+    ensures { λ r. ⌜ Demand3 (now (grammar .entry)) (now (heard .entry)) wanted (now (work .entry)) (now (out .entry)) (λ m. r ≡ Listed.Found m) (now (work .exit)) (now (out .exit)) ⌝ }
 {
     let mut rules = [0u32; RULES_LENGTH];
     match grammar_reader::read_block(grammar, &mut rules) {
         GrammarRead::Refused(n) => Listed::Refused(n),
-        GrammarRead::Grammar(sizes) => { list_grammar(&rules, sizes, utterance, wanted, work, out) }
+        GrammarRead::Grammar(sizes) => { list_grammar(&rules, sizes, heard, wanted, work, out) }
     }
 }

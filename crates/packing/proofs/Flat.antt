@@ -13,7 +13,7 @@ use Rattle.packing.specs.Meaning.{word, Grammar, Candidate, candidate, U
 use Rattle.packing.specs.Source.{values, valueOf}
 use Rattle.packing.specs.Grammar.{rulesEntries}
 use Rattle.packing.specs.Utterance.{candidatesEntries, slotsEntries}
-use Rattle.packing.specs.Flat.{Begins, ruleNumbers, ruleAt, rulesAt, rulesOf, slotNumbers, candidatesOf, slotsBy, slotsOf, edgeNumbers}
+use Rattle.packing.specs.Flat.{Begins, ruleNumbers, ruleAt, rulesAt, rulesOf, slotNumbers, candidatesOf, slotsBy, slotsOf, edgeNumbers, nodeBy, nodeRule}
 use Rattle.packing.specs.Store.{storeAll}
 use Rattle.packing.specs.declared.Rule as R
 use Rattle.packing.specs.declared.Rule.the-variants.{Pair, Word}
@@ -189,3 +189,7 @@ edge-at es array e b h =
       begins-at l array (4 * e + 3) b (omega arith),
     )
     (edges-at es e h)
+
+pub by-rule : (x : R.Rule) (r e : ℕ) → nodeRule (nodeBy x r e) ≡ r
+by-rule (Pair h y z w) r e = refl
+by-rule (Word h y w) r e = refl

@@ -9,14 +9,20 @@ use lib.ListN.{length}
 use Rattle.packing.specs.Meaning.{Grammar}
 use Rattle.packing.specs.Parse.{parsed}
 use Rattle.packing.specs.Source.{Source, fieldAt}
-use Rattle.packing.specs.Grammar.{ruleKind, symbol, weightField, nothing, firstOf, secondOf, ruleOf, sizeField, ruleFrom, anyAlike, rulesFrom, unfit, grammarFrom, ruleEntries, rulesEntries, grammarEntries}
+use Rattle.packing.specs.Grammar.{ruleKind, symbol, weightField, nothing, firstOf, secondOf, ruleOf, sizeField, ruleFrom, alike, rulesFrom, unfit, grammarFrom, ruleEntries, rulesEntries, grammarEntries}
 use Rattle.packing.specs.Valid.{Unlike}
 use Rattle.packing.specs.declared.Rule as R
 use Rattle.packing.specs.declared.Rule.the-variants.{Pair, Word}
 use Rattle.packing.proofs.Parse.{through, same-parsed, parsed-else}
 use Rattle.packing.proofs.Bounds.{field-at-range}
 use Rattle.packing.proofs.Taken.{Taken, all, more, taken-join, taken-split}
-use Rattle.packing.proofs.Alike.{Fresh, fresh-unlike, unlike-fresh}
+use Rattle.packing.proofs.Alike.{eqb-sym, unlike-all, all-unlike}
+
+alike-sym : (r s : R.Rule) → alike r s ≡ alike s r
+alike-sym (Pair h x y w) (Pair h′ x′ y′ w′) = rw (eqb-sym (h .0) (h′ .0), eqb-sym (x .0) (x′ .0), eqb-sym (y .0) (y′ .0))
+alike-sym (Pair h x y w) (Word h′ x′ w′) = refl
+alike-sym (Word h x w) (Pair h′ x′ y′ w′) = refl
+alike-sym (Word h x w) (Word h′ x′ w′) = rw (eqb-sym (h .0) (h′ .0), eqb-sym (x .0) (x′ .0))
 
 module _ (src : Source) (S W : ℕ) where
   fields-out : (at kind head w first second a b c d next : ℕ) → fieldAt src at ruleKind ≡ parsed kind a → fieldAt src a (symbol S) ≡ parsed head b
@@ -28,7 +34,7 @@ module _ (src : Source) (S W : ℕ) where
       more p (more q (more r (more s (more (rw z at t) all))))
   fields-out at (suc (suc k)) head w first second a b c d next p q r s t = absurd (omega (arith, field-at-range ruleKind src at p))
 
-  pub rule-out : (at : ℕ) {r : R.Rule} {next : ℕ} → ruleFrom src S W at ≡ parsed r next → Taken src at (ruleEntries S W r) next
+  rule-out : (at : ℕ) {r : R.Rule} {next : ℕ} → ruleFrom src S W at ≡ parsed r next → Taken src at (ruleEntries S W r) next
   unfolding ruleFrom
   rule-out at e =
       through (fieldAt src at ruleKind) _ e λ kind a p e. through (fieldAt src a (symbol S)) _ e λ head b q e.
@@ -36,31 +42,20 @@ module _ (src : Source) (S W : ℕ) where
       through (fieldAt src d (secondOf S kind)) _ e λ second z t e.
       same-parsed (λ r next. Taken src at (ruleEntries S W r) next) e (fields-out at kind head w first second a b c d z p q r s t)
 
-  pub rule-back : {at : ℕ} (r : R.Rule) {next : ℕ} → Taken src at (ruleEntries S W r) next → ruleFrom src S W at ≡ parsed r next
+  rule-back : {at : ℕ} (r : R.Rule) {next : ℕ} → Taken src at (ruleEntries S W r) next → ruleFrom src S W at ≡ parsed r next
   unfolding ruleFrom
   rule-back (Pair h x y w) (more a (more b (more c (more d (more e all))))) = rw (a, b, c, d, e)
   rule-back (Word h x w) (more a (more b (more c (more d (more e all))))) = rw (a, b, c, d, e)
 
-  -- n rules behind the earlier ones
-  abbrev Behind : ℕ → List R.Rule → ℕ → List R.Rule → ℕ → Type 0
-  Behind at es n rs next = (new : List R.Rule) × (rs ≡ es ++ new) × (length new ≡ n) × Fresh es new × Taken src at (rulesEntries S W new) next
+  rules-out : (n at : ℕ) {rs : List R.Rule} {next : ℕ} → rulesFrom src S W n at [] ≡ parsed rs next
+      → (length rs ≡ n) × Unlike rs × Taken src at (rulesEntries S W rs) next
+  unfolding rulesEntries
+  rules-out = unlike-all src (ruleFrom src S W) alike 6 (ruleEntries S W) (rulesEntries S W) refl (λ r rs. refl) alike-sym (λ at r next. rule-out at)
 
-  rules-out : (n at : ℕ) (es : List R.Rule) {rs : List R.Rule} {next : ℕ} → rulesFrom src S W n at es ≡ parsed rs next → Behind at es n rs next
-  unfolding rulesFrom rulesEntries
-  rules-out zero at es e = same-parsed (Behind at es 0) e ([], sym (append-nil es), refl, tt, all)
-  rules-out (suc n) at es e =
-      through (ruleFrom src S W at) _ e λ r mid p e.
-      let (f, d) = parsed-else (anyAlike r es) _ _ e in
-      let (new, x, l, fresh, t) = rules-out n mid (es ++ (r ∷ [])) d in
-      (r ∷ new, rw append-assoc at x, ap suc l, (f, fresh), taken-join (rule-out at p) t)
-
-  pub rules-back : {at : ℕ} (es new : List R.Rule) {next : ℕ} → Fresh es new → Taken src at (rulesEntries S W new) next
-      → rulesFrom src S W (length new) at es ≡ parsed (es ++ new) next
-  unfolding rulesFrom rulesEntries
-  rules-back es [] f all = rw append-nil
-  rules-back es (r ∷ new) (p, f) t =
-      let (mid, a, b) = taken-split (ruleEntries S W r) t in
-      rw (rule-back r a, p, rules-back (es ++ (r ∷ [])) new f b, append-assoc)
+  rules-back : {at : ℕ} (rs : List R.Rule) {next : ℕ} → Unlike rs → Taken src at (rulesEntries S W rs) next
+      → rulesFrom src S W (length rs) at [] ≡ parsed rs next
+  unfolding rulesEntries
+  rules-back = all-unlike src (ruleFrom src S W) alike 6 (ruleEntries S W) (rulesEntries S W) refl (λ r rs. refl) alike-sym (λ at r next. rule-back r)
 
 -- a grammar stands in the source, from a place to the next
 abbrev pub Reads : Source → ℕ → Grammar → ℕ → Type 0
@@ -74,11 +69,10 @@ module _ (src : Source) where
       through (fieldAt src b (sizeField 9 256)) _ e λ R c r e.
       let (u, d) = parsed-else (unfit src R) _ _ e in
       through (rulesFrom src S W R c []) _ d λ rs z k e.
-      let (new, x, l, fresh, t) = rules-out src S W R c [] k in
-      let y : Reads src at (record { symbols = S; words = W; rules = rs }) z =
-      rw (x, l) (more p (more q (more r t)), fresh-unlike new fresh, u) in
+      let (l, unlike, t) = rules-out src S W R c k in
+      let y : Reads src at (record { symbols = S; words = W; rules = rs }) z = rw l (more p (more q (more r t)), unlike, u) in
       same-parsed (Reads src at) e y
 
   pub grammar-back : {at : ℕ} (g : Grammar) {next : ℕ} → Reads src at g next → grammarFrom src at ≡ parsed g next
   unfolding grammarFrom grammarEntries
-  grammar-back g (more a (more b (more c t)), u, f) = rw (a, b, c, f, rules-back src (g .symbols) (g .words) [] (g .rules) (unlike-fresh (g .rules) u) t)
+  grammar-back g (more a (more b (more c t)), u, f) = rw (a, b, c, f, rules-back src (g .symbols) (g .words) (g .rules) u t)

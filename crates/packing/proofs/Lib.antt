@@ -14,3 +14,10 @@ pub mod Whole
 pub mod Theorems
 pub mod Loop
 pub mod Store
+pub mod Graph
+pub mod Heard
+pub mod GraphRefusals
+pub mod Redrawn
+pub mod GraphReading
+pub mod GraphTheorems
+pub mod Zeros

@@ -17,7 +17,8 @@ use Rattle.bits.proofs.Num.{field-lt}
 use Rattle.packing.specs.Meaning.{Candidate, candidate, Utterance, word}
 use Rattle.packing.specs.Parse.{Parse, parsed, failed, _⟫_, Verdict, accepted, refused, _then_, verdictOf, finish}
 use Rattle.packing.specs.Source.{Source, bytes, numbers, inRange, fieldAt, within}
-use Rattle.packing.specs.Grammar.{ruleKind, ruleWord, weightField, nothing, symbol, firstOf, secondOf, ruleFrom, anyAlike, rulesFrom, unfit, grammarFrom, grammarBlock, grammarSheet}
+use Rattle.packing.specs.Alike.{anyLike, unlikeFrom}
+use Rattle.packing.specs.Grammar.{ruleKind, ruleWord, weightField, nothing, symbol, firstOf, secondOf, ruleFrom, alike, unfit, grammarFrom, grammarBlock, grammarSheet}
 use Rattle.packing.specs.Utterance.{cost, candidatesFrom, slotFrom, slotsFrom, utteranceFrom, utteranceBlock, utteranceSheet}
 use Rattle.packing.specs.Reading.{ruleNumber, walkFrom, readingFrom}
 use Rattle.packing.specs.Conversion.{grammarToBlock, grammarToSheet, utteranceToBlock, utteranceToSheet, fitting}
@@ -44,12 +45,12 @@ module _ {Row : ℕ → Type 0} where
   refusal-number granted e = let z : _≡_ {A = ℕ} 0 1 = cc in absurd (omega arith)
   refusal-number {n = n} (denied {n = m} h) e = let same : m ≡ n = cc in rw same at h
 
-  bind : {A B : Type 0} {p : Parse A} {k : A → ℕ → Parse B} → Stops Row p → ((a : A) (at : ℕ) → Stops Row (k a at)) → Stops Row (p ⟫ k)
+  pub bind : {A B : Type 0} {p : Parse A} {k : A → ℕ → Parse B} → Stops Row p → ((a : A) (at : ℕ) → Stops Row (k a at)) → Stops Row (p ⟫ k)
   bind (going {a} {at}) h = h a at
   bind (stopped l) h = stopped l
 
   -- a refusal where a test holds
-  test : {A : Type 0} (b : Bool) (n : ℕ) {p : Parse A} → (b ≡ true → Row n) → Stops Row p → Stops Row (pick b (failed n) p)
+  pub test : {A : Type 0} (b : Bool) (n : ℕ) {p : Parse A} → (b ≡ true → Row n) → Stops Row p → Stops Row (pick b (failed n) p)
   test true n l h = stopped (l refl)
   test false n l h = h
 
@@ -65,30 +66,37 @@ module _ {Row : ℕ → Type 0} where
   verdict-row going = granted
   verdict-row (stopped l) = denied l
 
-  finish-row : {A : Type 0} {p : Parse A} (end : ℕ → Bool) (n : ℕ) → Row n → Stops Row p → Refuses Row (finish end n p)
+  pub finish-row : {A : Type 0} {p : Parse A} (end : ℕ → Bool) (n : ℕ) → Row n → Stops Row p → Refuses Row (finish end n p)
   finish-row end n h (going {at = at}) = choose-row (end at) granted (denied h)
   finish-row end n h (stopped l) = denied l
 
+  -- items of which none is like an earlier one
+  pub unlike-row : {A : Type 0} {item : ℕ → Parse A} (like : A → A → Bool) {m : ℕ} → ((at : ℕ) → Stops Row (item at)) → Row m
+      → (n at : ℕ) (l : List A) → Stops Row (unlikeFrom item like m n at l)
+  unfolding unlikeFrom
+  unlike-row like h r zero at l = going
+  unlike-row like {m} h r (suc n) at l = bind (h at) (λ x at. test (anyLike like x l) m (λ e. r) (unlike-row like h r n at (l ++ (x ∷ []))))
+
 -- the values that a field of a source can have
-abbrev Held : Source → Field → ℕ → Type 0
+abbrev pub Held : Source → Field → ℕ → Type 0
 Held (bytes missing s) f v = v < 2 ^ f .width
 Held (numbers s) f v = Unit {0}
 
-abbrev missingOf : Source → ℕ
+abbrev pub missingOf : Source → ℕ
 missingOf (bytes missing s) = missing
 missingOf (numbers s) = 41
 
 -- the refusals of such values are of the row
-data Told (Row : ℕ → Type 0) (src : Source) : Field → Type 0 where
+pub data Told (Row : ℕ → Type 0) (src : Source) : Field → Type 0 where
   told : {f : Field} → ((v : ℕ) → Held src f v → (f .most < v → Row (f .above)) × (v < f .least → Row (f .below))) → Told Row src f
 
 module _ {Row : ℕ → Type 0} where
   -- a field with one refusal, which is of the row
-  ranged : {src : Source} {width least most n : ℕ} → Row n → Told Row src (within width least most n)
+  pub ranged : {src : Source} {width least most n : ℕ} → Row n → Told Row src (within width least most n)
   ranged r = told (λ v h. (λ a. r, λ b. r))
 
   -- a field whose range is all that its width can hold is never refused in a block
-  as-wide : {missing : ℕ} {s : List ℕ} {width most n : ℕ} → 2 ^ width ≤ most + 1 → Told Row (bytes missing s) (within width 0 most n)
+  pub as-wide : {missing : ℕ} {s : List ℕ} {width most n : ℕ} → 2 ^ width ≤ most + 1 → Told Row (bytes missing s) (within width 0 most n)
   as-wide {width = width} {most} {n} l = told none
     where
       none : (v : ℕ) → v < 2 ^ width → (most < v → Row n) × (v < 0 → Row n)
@@ -105,7 +113,7 @@ module _ {Row : ℕ → Type 0} where
   otherwise true n l h = h
   otherwise false n l h = stopped l
 
-  field-at-row : (src : Source) (at : ℕ) {f : Field} → Row (missingOf src) → Told Row src f → Stops Row (fieldAt src at f)
+  pub field-at-row : (src : Source) (at : ℕ) {f : Field} → Row (missingOf src) → Told Row src f → Stops Row (fieldAt src at f)
   unfolding fieldAt
   field-at-row (bytes missing s) at {f} m t =
       otherwise (leb (at + f .width) (8 * length s)) missing m (in-range-row f _ _ (field-lt s at (f .width)) t)
@@ -131,16 +139,11 @@ module _ {Row : ℕ → Type 0} (src : Source) (end : Row (missingOf src)) where
         bind (at-field at kinds) (λ kind at. bind (at-field at (ranged symbols)) (λ head at. bind (at-field at weights) (λ w at.
         bind (at-field at (body-row S W kind .0)) (λ first at. bind (at-field at (body-row S W kind .1)) (λ second at. going)))))
 
-    rules-row : (S W n at : ℕ) (rs : List R.Rule) → Stops Row (rulesFrom src S W n at rs)
-    unfolding rulesFrom
-    rules-row S W zero at rs = going
-    rules-row S W (suc n) at rs = bind (rule-row S W at) (λ r at. test (anyAlike r rs) 6 (λ e. equals) (rules-row S W n at (rs ++ (r ∷ []))))
-
     grammar-row : (at : ℕ) → Stops Row (grammarFrom src at)
     unfolding grammarFrom
     grammar-row at =
         bind (at-field at (ranged sizes)) (λ S at. bind (at-field at (ranged sizes)) (λ W at. bind (at-field at (ranged sizes)) (λ R at.
-        test (unfit src R) 41 (count R) (bind (rules-row S W R at []) (λ rs at. going)))))
+        test (unfit src R) 41 (count R) (bind (unlike-row alike (rule-row S W) equals R at []) (λ rs at. going)))))
 
   -- utterances: of the counts, of a word that is none or does not ascend, and of a cost
   module _ (counts : Row 13) (words : Row 14) (order : Row 15) (costs : Told Row src cost) where

@@ -28,11 +28,11 @@ use Rattle.packing.proofs.Utterance.{utterance-out, utterance-back}
 use Rattle.packing.proofs.Reading.{reading-out, reading-back}
 
 -- bytes from which entries are taken to the end are the entries packed, and entries packed are so taken
-taken-block : (missing : ℕ) (s : List ℕ) (es : List Entry) {next : ℕ} → Bytes s → Taken (bytes missing s) 0 es next → ended s next ≡ true
+pub taken-block : (missing : ℕ) (s : List ℕ) (es : List Entry) {next : ℕ} → Bytes s → Taken (bytes missing s) 0 es next → ended s next ≡ true
     → s ≡ pack (bitsOfAll (flds es))
 taken-block missing s es y t e = let n = taken-held missing s (omega arith) t in block-is (flds es) s y (n .2) (rw (n .0, zero-add) at e)
 
-block-taken : (missing : ℕ) (es : List Entry) → Fits es → Each InWidth es → Taken (bytes missing (pack (bitsOfAll (flds es)))) 0 es (widths (flds es))
+pub block-taken : (missing : ℕ) (es : List Entry) → Fits es → Each InWidth es → Taken (bytes missing (pack (bitsOfAll (flds es)))) 0 es (widths (flds es))
 block-taken missing es f w = rw zero-add at (held-taken missing (pack (bitsOfAll (flds es))) 0 es f w (holds-block (flds es)))
 
 -- numbers from which entries are taken to the end are the entries' values, and values are so taken
@@ -45,7 +45,7 @@ sheet-taken : (es : List Entry) → Fits es → Taken (numbers (values es)) 0 es
 sheet-taken es f = rw zero-add at (listed-taken (values es) 0 es [] f (sym (append-nil (values es))))
 
 -- a block's kind, and what follows it
-after-kind : (missing kind n : ℕ) (s : List ℕ) {A : Type 0} (k : ℕ → Parse A) {a : A} {next : ℕ} {P : Type 0}
+pub after-kind : (missing kind n : ℕ) (s : List ℕ) {A : Type 0} (k : ℕ → Parse A) {a : A} {next : ℕ} {P : Type 0}
     → (fieldAt (bytes missing s) 0 (blockKind kind n) ⟫ λ v at. k at) ≡ parsed a next
     → ((at : ℕ) → fieldAt (bytes missing s) 0 (blockKind kind n) ≡ parsed kind at → k at ≡ parsed a next → P) → P
 after-kind missing kind n s k e f =

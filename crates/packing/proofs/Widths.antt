@@ -31,7 +31,7 @@ pub byte-width : (n : ℕ) → n ≤ 256 → widthOf (n - 1) ≤ 8
 byte-width n h = width-le (n - 1) 8 (omega arith) (omega arith)
 
 -- a number below n, written in the width of n - 1
-number-room : (v n : ℕ) → 1 ≤ n → n ≤ 256 → v ≤ n - 1 → v < 2 ^ widthOf (n - 1)
+pub number-room : (v n : ℕ) → 1 ≤ n → n ≤ 256 → v ≤ n - 1 → v < 2 ^ widthOf (n - 1)
 number-room v n l h r = width-room v n (omega arith) (omega arith)
 
 module _ (S W : ℕ) (s : 1 ≤ S) (S≤ : S ≤ 32) (w : 1 ≤ W) (W≤ : W ≤ 200) where

@@ -4,12 +4,13 @@ use mathlib.Core.Path.{_≡_}
 use mathlib.Core.List.{List, [], _∷_}
 use Prim.Native.Nat.{ℕ, zero, suc, _+_, _*_}
 use lib.ListN.{length, getD, take}
-use Rattle.packing.specs.Meaning.{Grammar, Candidate, candidate, Utterance, Edge, edge, word}
+use Rattle.packing.specs.Meaning.{Grammar, Candidate, candidate, Utterance, Edge, edge, word, Node, byPair, byWord}
 use Rattle.packing.specs.Parse.{Verdict, accepted, refused}
 use Rattle.packing.specs.Source.{values}
 use Rattle.packing.specs.Grammar.{ruleOf, rulesEntries}
 use Rattle.packing.specs.Utterance.{slotsEntries}
 use Rattle.packing.specs.declared.Rule as R
+use Rattle.packing.specs.declared.Rule.the-variants.{Pair, Word}
 
 -- the array begins with the numbers l
 abbrev pub Begins : List ℕ → List ℕ → Type 0
@@ -60,3 +61,18 @@ slotsOf l n p = slotsBy (λ c. c) l n p
 unfoldable pub edgeNumbers : List Edge → List ℕ
 edgeNumbers [] = []
 edgeNumbers (edge i k w c ∷ es) = i ∷ k ∷ w .0 ∷ c ∷ edgeNumbers es
+
+-- two numbers for each node of a trace: the rule's and the edge's. Rule r decides whether a node has an edge; beside a pair rule's number
+-- stands any number
+abbrev pub nodeBy : R.Rule → ℕ → ℕ → Node
+nodeBy (Pair h x y w) r e = byPair r
+nodeBy (Word h x w) r e = byWord r e
+
+abbrev pub nodeRule : Node → ℕ
+nodeRule (byPair r) = r
+nodeRule (byWord r e) = r
+
+unfoldable pub nodesIn : List ℕ → List ℕ → List Node
+nodesIn rules [] = []
+nodesIn rules (r ∷ []) = []
+nodesIn rules (r ∷ e ∷ l) = nodeBy (ruleAt rules r) r e ∷ nodesIn rules l

@@ -2,7 +2,7 @@
 -- stands". Assumes nothing.
 use mathlib.Core.List.{List, [], _∷_, _++_}
 use mathlib.Core.Bool.{Bool, true, false, _&&_}
-use Prim.Native.Nat.{ℕ, zero, suc, _+_, _-_, _*_}
+use Prim.Native.Nat.{ℕ, _+_, _-_, _*_}
 use lib.Dec.{ltb, eqb}
 use lib.ListN.{length}
 use Rattle.bits.specs.Bits.{pick, pack, ended}
@@ -11,6 +11,7 @@ use Rattle.bits.specs.Fields.{bitsOfAll}
 use Rattle.packing.specs.Meaning.{Grammar, symbolOf, word}
 use Rattle.packing.specs.Parse.{Parse, parsed, failed, _⟫_, Verdict, refused, verdictOf, finish}
 use Rattle.packing.specs.Source.{Source, bytes, numbers, fieldAt, within, Entry, entry, values, flds}
+use Rattle.packing.specs.Alike.{unlikeFrom}
 use Rattle.packing.specs.declared.Field.{Field}
 use Rattle.packing.specs.declared.Rule as R
 use Rattle.packing.specs.declared.Rule.the-variants.{Pair, Word}
@@ -61,15 +62,9 @@ alike (Pair h x y w) (Word h′ x′ w′) = false
 alike (Word h x w) (Pair h′ x′ y′ w′) = false
 alike (Word h x w) (Word h′ x′ w′) = eqb (h .0) (h′ .0) && eqb (x .0) (x′ .0)
 
-unfoldable pub anyAlike : R.Rule → List R.Rule → Bool
-anyAlike r [] = false
-anyAlike r (s ∷ rs) = pick (alike r s) true (anyAlike r rs)
-
 -- n rules behind the earlier ones
-unfoldable pub rulesFrom : Source → ℕ → ℕ → ℕ → ℕ → List R.Rule → Parse (List R.Rule)
-rulesFrom src S W zero at rs = parsed rs at
-rulesFrom src S W (suc n) at rs =
-    ruleFrom src S W at ⟫ λ r at. pick (anyAlike r rs) (failed 6) (rulesFrom src S W n at (rs ++ (r ∷ [])))
+abbrev pub rulesFrom : Source → ℕ → ℕ → ℕ → ℕ → List R.Rule → Parse (List R.Rule)
+rulesFrom src S W n at rs = unlikeFrom (ruleFrom src S W) alike 6 n at rs
 
 -- a sheet that has not the 3 + 5 R numbers of its grammar
 abbrev pub unfit : Source → ℕ → Bool

@@ -12,3 +12,7 @@ pub mod Valid
 pub mod Loop
 pub mod Store
 pub mod Ranges
+pub mod Alike
+pub mod Graph
+pub mod Heard
+pub mod GraphReading

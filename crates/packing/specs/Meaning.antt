@@ -1,6 +1,7 @@
--- What blocks and sheets mean: document 01, "Grammars and derivations". Assumes nothing.
+-- What blocks and sheets mean: document 01, "Grammars and derivations", and document 02, N1. Assumes nothing.
 use mathlib.Core.List.{List, [], _∷_, _++_}
-use Prim.Native.Nat.{ℕ, suc}
+use Prim.Native.Nat.{ℕ, suc, _-_}
+use lib.ListN.{length}
 use Rattle.packing.specs.declared.Sym.{Sym}
 use Rattle.packing.specs.declared.Word as W
 use Rattle.packing.specs.declared.Rule as R
@@ -51,3 +52,37 @@ pub record Reading : Type 0 where
   pub slots : ℕ
   pub weight : ℕ
   pub walk : List ℕ
+
+-- a word graph: P and the edges, numbered from 0; place 0 is the first and place P − 1 the last
+pub record Graph : Type 0 where
+  pub places : ℕ
+  pub edges : List Edge
+
+-- what was heard
+pub data Heard : Type 0 where
+  slots : Utterance → Heard
+  graph : Graph → Heard
+
+-- a derivation spans a path from place 0 to the last place, by these edges
+abbrev pub lastPlace : Heard → ℕ
+lastPlace (slots u) = length u
+lastPlace (graph g) = g .places - 1
+
+abbrev pub heardEdges : Heard → List Edge
+heardEdges (slots u) = edges u
+heardEdges (graph g) = g .edges
+
+-- slots redrawn as a graph: a place before each slot and one behind the last
+abbrev pub redrawn : Utterance → Graph
+redrawn u = record { places = suc (length u); edges = edges u }
+
+-- a node of a tree, by a pair rule or by a word rule over an edge, by their numbers
+pub data Node : Type 0 where
+  byPair : (rule : ℕ) → Node
+  byWord : (rule edge : ℕ) → Node
+
+-- a reading of a graph: how many edges its path has, the weight, and each node: node, left part, right part
+pub record GraphReading : Type 0 where
+  pub edges : ℕ
+  pub weight : ℕ
+  pub trace : List Node

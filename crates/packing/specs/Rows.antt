@@ -1,4 +1,5 @@
--- The numbers that each place can refuse with: document 01's table "Where each check stands", row by row. Assumes nothing.
+-- The numbers that each place can refuse with: document 01's table "Where each check stands", row by row, and document 02, N1, of word
+-- graphs. Assumes nothing.
 use mathlib.Core.Logic.{_⊎_}
 use mathlib.Core.Path.{_≡_}
 use Prim.Native.Nat.{ℕ, _≤_}
@@ -17,6 +18,16 @@ GrammarBlockRow n = Between 1 7 n
 
 abbrev pub UtteranceBlockRow : ℕ → Type 0
 UtteranceBlockRow n = Between 11 16 n
+
+-- of a graph "11 to 14, 16 .. apply likewise", with 51 and 52 for an edge; where slots and graphs are taken, the numbers of both
+abbrev pub EdgeRow : ℕ → Type 0
+EdgeRow n = Between 51 52 n
+
+abbrev pub GraphBlockRow : ℕ → Type 0
+GraphBlockRow n = (Between 11 14 ∪ Between 16 16 ∪ EdgeRow) n
+
+abbrev pub HeardBlockRow : ℕ → Type 0
+HeardBlockRow n = (UtteranceBlockRow ∪ EdgeRow) n
 
 -- 24, "a weight that passes 24 bits", never comes
 abbrev pub ListingRow : ℕ → Type 0

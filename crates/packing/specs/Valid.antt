@@ -5,11 +5,14 @@ use mathlib.Core.Bool.{false}
 use mathlib.Core.List.{List, [], _∷_}
 use Prim.Native.Nat.{ℕ, _-_, _*_, _^_, _≤_, _<_}
 use lib.ListN.{length, getD}
-use Rattle.packing.specs.Meaning.{Grammar, Utterance, Reading}
+use Rattle.packing.specs.Meaning.{Grammar, Utterance, Reading, Graph, Heard, slots, graph, GraphReading}
 use Rattle.packing.specs.Source.{Entry, entry}
-use Rattle.packing.specs.Grammar.{anyAlike, grammarEntries}
+use Rattle.packing.specs.Alike.{NoTwo}
+use Rattle.packing.specs.Grammar.{alike, grammarEntries}
 use Rattle.packing.specs.Utterance.{utteranceEntries}
 use Rattle.packing.specs.Reading.{readingEntries}
+use Rattle.packing.specs.Graph.{edgesAlike, graphEntries}
+use Rattle.packing.specs.GraphReading.{graphReadingEntries, wordNodes}
 use Rattle.packing.specs.declared.Field.{Field}
 use Rattle.packing.specs.declared.Rule as R
 
@@ -34,8 +37,7 @@ Fits es = Each InRange es
 
 -- no two rules have kind, head and body alike
 abbrev pub Unlike : List R.Rule → Type 0
-Unlike [] = Unit {0}
-Unlike (r ∷ rs) = (anyAlike r rs ≡ false) × Unlike rs
+Unlike rs = NoTwo alike rs
 
 abbrev pub ValidGrammar : Grammar → Type 0
 ValidGrammar g = Fits (grammarEntries g) × Unlike (g .rules)
@@ -47,3 +49,16 @@ ValidUtterance W u = Fits (utteranceEntries W u)
 -- under a grammar of R rules: 2n − 1 numbers of the rule width, which need not be a walk
 abbrev pub ValidReading : ℕ → Reading → Type 0
 ValidReading R d = Fits (readingEntries R d) × Each InWidth (readingEntries R d) × (length (d .walk) ≡ 2 * d .slots - 1)
+
+-- no two edges have from, to and word alike; that an edge goes forward, within P places, is in the entries' ranges
+abbrev pub ValidGraph : ℕ → Graph → Type 0
+ValidGraph W g = Fits (graphEntries W g) × NoTwo edgesAlike (g .edges)
+
+abbrev pub ValidHeard : ℕ → Heard → Type 0
+ValidHeard W (slots u) = ValidUtterance W u
+ValidHeard W (graph g) = ValidGraph W g
+
+-- under a grammar of R rules: n word rules and n − 1 pair rules, which need not be a derivation's
+abbrev pub ValidGraphReading : ℕ → GraphReading → Type 0
+ValidGraphReading R d =
+    Fits (graphReadingEntries R d) × Each InWidth (graphReadingEntries R d) × (length (d .trace) ≡ 2 * d .edges - 1) × (wordNodes (d .trace) ≡ d .edges)

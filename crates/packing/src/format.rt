@@ -14,6 +14,12 @@ pub const MAX_SLOTS: usize = 24; // n
 
 pub const MAX_CANDIDATES: usize = 7; // of a slot
 
+pub const MAX_PLACES: usize = 25; // P, of a word graph
+
+pub const MAX_EDGES: usize = 96; // of a word graph
+
+pub const MAX_PATH_EDGES: usize = MAX_PLACES - 1;
+
 pub const MAX_WEIGHT: u32 = 65535; // of a rule, and a word's cost
 
 pub const NOT_HEARD: u32 = MAX_WEIGHT; // the cost of a word that was not heard, and so is not offered
@@ -22,12 +28,20 @@ pub const MAX_READING_WEIGHT: u32 = 16777215; // that its field has room for
 
 pub const MAX_RULE_NUMBER: u32 = MAX_RULES as u32 - 1; // of a reading
 
+pub const MAX_PLACE_NUMBER: u32 = 31; // that a place's field has room for
+
+pub const MAX_EDGE_NUMBER: u32 = 127; // that an edge number's field has room for
+
 // The kinds of blocks and of rules.
 pub const GRAMMAR_BLOCK: u32 = 1;
 
 pub const UTTERANCE_BLOCK: u32 = 2;
 
 pub const READING_BLOCK: u32 = 3;
+
+pub const GRAPH_BLOCK: u32 = 5;
+
+pub const GRAPH_READING_BLOCK: u32 = 6;
 
 pub const PAIR_RULE: u32 = 0;
 
@@ -54,6 +68,16 @@ pub const COST_WIDTH: usize = 16;
 
 pub const READING_WEIGHT_WIDTH: usize = 24;
 
+pub const PLACES_WIDTH: usize = 5; // P
+
+pub const EDGES_WIDTH: usize = 7; // a graph's count
+
+pub const PLACE_WIDTH: usize = 5; // from, to
+
+pub const PATH_EDGES_WIDTH: usize = 6; // n of a graph's reading
+
+pub const EDGE_NUMBER_WIDTH: usize = 7;
+
 // Where the fields at the front of a block stand, one behind the other, and how many bits all of them take.
 pub const SYMBOLS_AT: usize = KIND_WIDTH;
 
@@ -70,6 +94,12 @@ pub const UTTERANCE_HEAD: usize = SLOTS_AT + SLOTS_WIDTH;
 pub const READING_WEIGHT_AT: usize = SLOTS_AT + SLOTS_WIDTH;
 
 pub const READING_HEAD: usize = READING_WEIGHT_AT + READING_WEIGHT_WIDTH;
+
+pub const PATH_EDGES_AT: usize = KIND_WIDTH;
+
+pub const PATH_WEIGHT_AT: usize = PATH_EDGES_AT + PATH_EDGES_WIDTH;
+
+pub const GRAPH_READING_HEAD: usize = PATH_WEIGHT_AT + READING_WEIGHT_WIDTH;
 
 // Further sums of widths.
 pub const SIZES_WIDTH: usize = SYMBOLS_WIDTH + WORDS_WIDTH + RULES_WIDTH; // S, W and R
@@ -113,6 +143,14 @@ pub const SLOTS_LENGTH: usize = MAX_SLOTS * SLOT_LENGTH; // an utterance's slots
 pub const EDGES_LENGTH: usize = MAX_SLOTS * MAX_CANDIDATES * NUMBERS_PER_EDGE; // an utterance's edges
 
 pub const WALK_LENGTH: usize = 2 * MAX_SLOTS - 1; // a reading's walk
+
+pub const GRAPH_EDGES_LENGTH: usize = MAX_EDGES * NUMBERS_PER_EDGE; // a graph's edges
+
+pub const MAX_NODES: usize = 2 * MAX_PATH_EDGES - 1; // of a graph's derivation
+
+pub const NUMBERS_PER_NODE: usize = 2; // of a trace: the rule's number, and of a word rule the edge's
+
+pub const TRACE_LENGTH: usize = MAX_NODES * NUMBERS_PER_NODE;
 
 // The fields of a grammar that are the same for every grammar: the block's kind, S, W and R; a rule's kind and weight, and the
 // last number of a word rule, which takes no bits.
@@ -220,4 +258,55 @@ pub const READING_WEIGHT_FIELD: Field = Field {
     most: MAX_READING_WEIGHT,
     below: refused::READING_WEIGHT,
     above: refused::READING_WEIGHT,
+};
+
+// The fields of a graph that are the same for every grammar and graph: the block's kind, P, the number of edges, and the place
+// where an edge starts, which has no range of its own.
+pub const GRAPH_KIND_FIELD: Field = Field {
+    width: KIND_WIDTH,
+    least: GRAPH_BLOCK,
+    most: GRAPH_BLOCK,
+    below: refused::UTTERANCE_KIND,
+    above: refused::UTTERANCE_KIND,
+};
+
+pub const PLACES_FIELD: Field = Field {
+    width: PLACES_WIDTH,
+    least: 2,
+    most: MAX_PLACES as u32,
+    below: refused::UTTERANCE_RANGE,
+    above: refused::UTTERANCE_RANGE,
+};
+
+pub const EDGES_FIELD: Field = Field {
+    width: EDGES_WIDTH,
+    least: 1,
+    most: MAX_EDGES as u32,
+    below: refused::UTTERANCE_RANGE,
+    above: refused::UTTERANCE_RANGE,
+};
+
+pub const START_FIELD: Field = Field {
+    width: PLACE_WIDTH,
+    least: 0,
+    most: MAX_PLACE_NUMBER,
+    below: refused::EDGE_PLACES,
+    above: refused::EDGE_PLACES,
+};
+
+// The fields of a graph's reading that are the same for every grammar and graph: the block's kind, an edge's number.
+pub const GRAPH_READING_KIND_FIELD: Field = Field {
+    width: KIND_WIDTH,
+    least: GRAPH_READING_BLOCK,
+    most: GRAPH_READING_BLOCK,
+    below: refused::READING_KIND,
+    above: refused::READING_KIND,
+};
+
+pub const EDGE_NUMBER_FIELD: Field = Field {
+    width: EDGE_NUMBER_WIDTH,
+    least: 0,
+    most: MAX_EDGE_NUMBER,
+    below: refused::READING_WALK,
+    above: refused::READING_WALK,
 };

@@ -1,4 +1,4 @@
-// The refusals of document 01's table "Where each check stands", under the names that include/spireyerba.h has for them.
+// The refusals of document 01's table "Where each check stands" and of document 02, under the names that include/spireyerba.h has for them.
 
 // Of a grammar.
 pub const GRAMMAR_END: u32 = 1; // a field passes the end of the block
@@ -59,3 +59,8 @@ pub const SHEET_COUNT: u32 = 41; // numbers missing or left over
 pub const SHEET_VALUE: u32 = 42; // kind, weight, cost or last number out of range
 
 pub const OUTPUT_SHORT: u32 = 43; // shorter than the result
+
+// Of an edge of a word graph.
+pub const EDGE_PLACES: u32 = 51; // from not below to, or to not below P
+
+pub const EDGE_REPEAT: u32 = 52; // from, to and word equal an earlier edge's

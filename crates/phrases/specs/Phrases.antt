@@ -5,7 +5,7 @@ use mathlib.Core.Logic.{_⊎_}
 use mathlib.Core.List.{List, [], _∷_, map}
 use Prim.Native.Nat.{ℕ, compare, Ordering, Ordering·lt, Ordering·eq, Ordering·gt}
 use lib.ListN.{length}
-use Rattle.packing.specs.Meaning.{Grammar, Utterance, candidate, word}
+use Rattle.packing.specs.Meaning.{Grammar, Utterance, candidate, word, slots}
 use Rattle.derivation.specs.Derivation.{Tree, Derivation}
 use Rattle.derivation.specs.Order.{_▸_}
 
@@ -15,7 +15,7 @@ plain ws = map (λ w. candidate (word w) 0 ∷ []) ws
 
 -- the grammar derives the word string ws
 abbrev pub Says : Grammar → List ℕ → Type 0
-Says g ws = (t : Tree) × Derivation g (plain ws) t
+Says g ws = (t : Tree) × Derivation g (slots (plain ws)) t
 
 -- "word string of a wanted length that a grammar derives"
 abbrev pub Phrase : Grammar → ℕ → List ℕ → Type 0

@@ -7,31 +7,38 @@ use lib.ListN.{length, drop, replicate}
 use Rattle.packing.specs.declared.Rule as R
 use Rattle.packing.specs.declared.Rule.the-variants.{Pair, Word}
 use Rattle.packing.specs.Meaning.{symbolOf, word, Grammar, Utterance, Candidate, candidate, Reading}
-use Rattle.packing.specs.Parse.{Verdict, accepted, refused}
+use Rattle.packing.specs.Parse.{Verdict, accepted}
 use Rattle.packing.specs.Grammar.{blockOfGrammar}
 use Rattle.packing.specs.Utterance.{blockOfUtterance}
 use Rattle.packing.specs.Reading.{blockOfReading}
 use Rattle.listing.specs.Listing.{list, listedOf, outputAfter}
 use Rattle.listing.specs.declared.Listed.the-variants.{Found}
-use Rattle.checker.specs.Check.{check}
+use Rattle.checker.specs.Check.{check, checkedOf}
+use Rattle.checker.specs.declared.Checked.{Checked}
+use Rattle.checker.specs.declared.Checked.the-variants.{Passes, Refused}
 use Rattle.specimen.specs.Specimen as Specimen
 use Rattle.specimen.specs.Specimen.{answeredOf, outputOf}
 use Rattle.specimen.specs.declared.Answered.{Answered}
 use Rattle.specimen.specs.declared.Answered.the-variants.{Written, Nothing}
 
 -- a row: the block of a grammar and of an utterance; the readings that the listing finds, with the lister's work table and
--- output; its answer m, and the bytes that it writes in front of the output; the check's verdict on a reading block; what the specimen
+-- output; its answer m, and the bytes that it writes in front of the output; a reading block that passes the check, and one that it
+-- refuses; what the specimen
 -- answers, and its output before and after
 pub data Case : Type 0 where
   grammar : (g : Grammar) (block : List ℕ) → Case
   utterance : (g : Grammar) (u : Utterance) (block : List ℕ) → Case
   lists : (g : Grammar) (u : Utterance) (wanted : ℕ) (readings : List Reading) → Case
   finds : (g : Grammar) (u : Utterance) (wanted m : ℕ) (bytes : List ℕ) → Case
-  checks : (g : Grammar) (u : Utterance) (block : List ℕ) (verdict : Verdict Reading) → Case
+  passes : (g : Grammar) (u : Utterance) (block : List ℕ) (reading : Reading) → Case
+  refuses : (g : Grammar) (u : Utterance) (block : List ℕ) (number : ℕ) → Case
   specimen : (g : Grammar) (n : ℕ) (out : List ℕ) (answer : Answered) (after : List ℕ) → Case
 
 abbrev pub listedFor : Grammar → Utterance → ℕ → Verdict (List (List ℕ))
 listedFor g u wanted = list (blockOfGrammar g) (blockOfUtterance (g .words) u) wanted 8192 1024
+
+abbrev pub checkedFor : Grammar → Utterance → List ℕ → Checked
+checkedFor g u block = checkedOf (check (blockOfGrammar g) (blockOfUtterance (g .words) u) block)
 
 abbrev pub Holds : Case → Type 0
 Holds (grammar g block) = blockOfGrammar g ≡ block
@@ -39,7 +46,8 @@ Holds (utterance g u block) = blockOfUtterance (g .words) u ≡ block
 Holds (lists g u wanted readings) = listedFor g u wanted ≡ accepted (map (blockOfReading (length (g .rules))) readings)
 Holds (finds g u wanted m bytes) =
     (listedOf (listedFor g u wanted) ≡ Found m) × ((out : List ℕ) → outputAfter (listedFor g u wanted) out ≡ bytes ++ drop (length bytes) out)
-Holds (checks g u block verdict) = check (blockOfGrammar g) (blockOfUtterance (g .words) u) block ≡ verdict
+Holds (passes g u block reading) = (checkedFor g u block ≡ Passes) × (block ≡ blockOfReading (length (g .rules)) reading)
+Holds (refuses g u block number) = checkedFor g u block ≡ Refused number
 Holds (specimen g n out answer after) =
     (answeredOf (Specimen.specimen (blockOfGrammar g) n (length out)) ≡ answer) × (outputOf (Specimen.specimen (blockOfGrammar g) n (length out)) out ≡ after)
 
@@ -117,8 +125,8 @@ P-cases =
     ∷ lists G (U 1) 8 (readingWith 1 0 (1 ∷ []) ∷ [])
     ∷ lists G (U 2) 8 (readingWith 2 1 (0 ∷ 1 ∷ 1 ∷ []) ∷ [])
     ∷ lists G (U 3) 8 (readingWith 3 2 (0 ∷ 1 ∷ 0 ∷ 1 ∷ 1 ∷ []) ∷ readingWith 3 2 (0 ∷ 0 ∷ 1 ∷ 1 ∷ 1 ∷ []) ∷ [])
-    ∷ checks G (U 4) (0x31 ∷ 0x00 ∷ 0x00 ∷ 0x00 ∷ 0xD5 ∷ 0x80 ∷ []) (accepted first-reading)
-    ∷ checks G (U 4) (0x31 ∷ 0x00 ∷ 0x00 ∷ 0x01 ∷ 0x15 ∷ 0x80 ∷ []) (refused 35)
+    ∷ passes G (U 4) (0x31 ∷ 0x00 ∷ 0x00 ∷ 0x00 ∷ 0xD5 ∷ 0x80 ∷ []) first-reading
+    ∷ refuses G (U 4) (0x31 ∷ 0x00 ∷ 0x00 ∷ 0x01 ∷ 0x15 ∷ 0x80 ∷ []) 35
     ∷ lists two-words ((offer 0 0 ∷ offer 1 2 ∷ []) ∷ []) 8 (readingWith 1 5 (0 ∷ []) ∷ readingWith 1 5 (1 ∷ []) ∷ [])
     ∷ lists two-parts ((offer 0 0 ∷ offer 1 0 ∷ []) ∷ (offer 2 0 ∷ offer 3 0 ∷ []) ∷ []) 8
     (readingWith 2 4 (0 ∷ 2 ∷ 3 ∷ []) ∷ readingWith 2 6 (0 ∷ 2 ∷ 4 ∷ []) ∷ readingWith 2 6 (0 ∷ 1 ∷ 3 ∷ []) ∷ readingWith 2 8 (0 ∷ 1 ∷ 4 ∷ []) ∷ [])

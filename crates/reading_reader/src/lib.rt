@@ -23,7 +23,7 @@ pub enum ReadingRead {
 }
 
 // The number at a place of a reading block.
-fn number(block: &[u8], at: usize, f: Field) -> Read
+pub fn number(block: &[u8], at: usize, f: Field) -> Read
     requires { do ⌜ (at < 2 ^ 32) × (f .width ≤ (← ⟦MAX_FIELD_WIDTH⟧)) ⌝ }
     ensures { λ r. ⌜ r ≡ readOf (fieldAt (bytes 31 (now (block .entry))) at f) ⌝ }
 {
@@ -57,7 +57,7 @@ fn read_head(block: &[u8], n: usize) -> Read
 }
 
 // The rule number at a place.
-fn read_number(block: &[u8], at: usize, rules: usize) -> Read
+pub fn read_number(block: &[u8], at: usize, rules: usize) -> Read
     requires { do ⌜ (at < 2 ^ 32) × (1 ≤ rules) × (rules ≤ (← ⟦MAX_RULES⟧)) ⌝ }
     ensures { λ r. ⌜ r ≡ readOf (fieldAt (bytes 31 (now (block .entry))) at (ruleNumber rules)) ⌝ }
 {

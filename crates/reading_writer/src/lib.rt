@@ -2,6 +2,7 @@
 use packing::format;
 use packing::format::MAX_RULES;
 use packing::format::MAX_SLOTS;
+use packing::format::NUMBERS_PER_NODE;
 use packing::format::READING_HEAD;
 use packing::format::WALK_LENGTH;
 ghost use mathlib.Core.Path.{_≡_};
@@ -12,7 +13,7 @@ ghost use Rattle.bits.specs.Fields.{widths};
 ghost use Rattle.bits.specs.Put.{puts};
 ghost use Rattle.packing.specs.Source.{flds};
 ghost use Rattle.packing.specs.Reading.{walkEntries, blockOfReading, readingLength};
-ghost use Rattle.reading_writer.specs.Answer.{readingOf};
+ghost use Rattle.reading_writer.specs.Answer.{walkIn, readingOf};
 
 // The length in bytes of a reading of n slots under a grammar of `rules` rules.
 pub fn reading_length(n: usize, rules: usize) -> usize
@@ -23,28 +24,29 @@ pub fn reading_length(n: usize, rules: usize) -> usize
     (READING_HEAD + (2 * n - 1) * width + 7) / 8
 }
 
-// The first n numbers of a walk, from bit `start`.
-fn write_walk(out: &mut [u8], start: usize, rules: usize, walk: &[u32], n: usize)
+// The rule numbers of the first n nodes of a trace, from bit `start`.
+fn write_walk(out: &mut [u8], start: usize, rules: usize, trace: &[u32], n: usize)
     requires { do
-      ⌜ (start ≤ (← ⟦READING_HEAD⟧)) × (1 ≤ rules) × (rules ≤ (← ⟦MAX_RULES⟧)) × (n ≤ (← ⟦WALK_LENGTH⟧)) × (n ≤ length (now walk))
-          × (start + widths (flds (walkEntries rules (take n (now walk)))) ≤ 8 * length (now out)) ⌝ }
-    ensures { λ _. ⌜ now (out .exit) ≡ puts (now (out .entry)) start (flds (walkEntries rules (take n (now (walk .entry))))) ⌝ }
+      ⌜ (start ≤ (← ⟦READING_HEAD⟧)) × (1 ≤ rules) × (rules ≤ (← ⟦MAX_RULES⟧)) × (n ≤ (← ⟦WALK_LENGTH⟧)) × (2 * n ≤ length (now trace))
+          × (start + widths (flds (walkEntries rules (walkIn (take (2 * n) (now trace))))) ≤ 8 * length (now out)) ⌝ }
+    ensures { λ _. ⌜ now (out .exit) ≡ puts (now (out .entry)) start (flds (walkEntries rules (walkIn (take (2 * n) (now (trace .entry)))))) ⌝ }
 {
     let width = bits::width_below(rules);
     let mut at = start;
     let mut i: usize = 0;
     while i < n {
-        bit_writer::write_field(out, at, width, walk[i]);
+        bit_writer::write_field(out, at, width, trace[NUMBERS_PER_NODE * i]);
         at += width;
         i += 1;
     }
 }
 
-// A reading's block, in front of what stands in `out` beyond it.
-pub fn write_reading(out: &mut [u8], n: usize, rules: usize, weight: u32, walk: &[u32])
-    requires { do ⌜ (1 ≤ n) × (n ≤ (← ⟦MAX_SLOTS⟧)) × (1 ≤ rules) × (rules ≤ (← ⟦MAX_RULES⟧)) × (2 * n - 1 ≤ length (now walk)) × (readingLength n rules ≤ length (now out)) ⌝ }
-    ensures { λ _. ⌜ now (out .exit) ≡ blockOfReading rules (readingOf n weight (now (walk .entry)))
-        ++ drop (length (blockOfReading rules (readingOf n weight (now (walk .entry))))) (now (out .entry)) ⌝ }
+// A reading's block, in front of what stands in `out` beyond it. The trace has two numbers for each node, of which the first is the
+// rule's.
+pub fn write_reading(out: &mut [u8], n: usize, rules: usize, weight: u32, trace: &[u32])
+    requires { do ⌜ (1 ≤ n) × (n ≤ (← ⟦MAX_SLOTS⟧)) × (1 ≤ rules) × (rules ≤ (← ⟦MAX_RULES⟧)) × (2 * (2 * n - 1) ≤ length (now trace)) × (readingLength n rules ≤ length (now out)) ⌝ }
+    ensures { λ _. ⌜ now (out .exit) ≡ blockOfReading rules (readingOf n weight (now (trace .entry)))
+        ++ drop (length (blockOfReading rules (readingOf n weight (now (trace .entry))))) (now (out .entry)) ⌝ }
 {
     bit_writer::write_field(out, 0, format::KIND_WIDTH, format::READING_BLOCK);
     bit_writer::write_field(out, format::SLOTS_AT, format::SLOTS_WIDTH, n as u32);
@@ -54,5 +56,5 @@ pub fn write_reading(out: &mut [u8], n: usize, rules: usize, weight: u32, walk: 
         format::READING_WEIGHT_WIDTH,
         weight,
     );
-    write_walk(out, READING_HEAD, rules, walk, 2 * n - 1);
+    write_walk(out, READING_HEAD, rules, trace, 2 * n - 1);
 }

@@ -10,35 +10,19 @@ use native.Mathlib.Decide.{ℕ-discrete, decLt}
 use borrow.Author.Tests.{eq-eqb, ne-eqb}
 use lib.Dec.{eqb}
 use lib.ListN.{length, getD, take, set}
-use lib.Seq.{take-suc, take-suc-set}
-use Rattle.bits.specs.Bits.{pick}
-use Rattle.packing.specs.Grammar.{alike, anyAlike}
+use lib.Seq.{take-suc}
+use Rattle.packing.specs.Grammar.{alike}
 use Rattle.packing.specs.declared.Rule.{Rule}
+use Rattle.packing.proofs.Alike.{like-more, Keyed, keyed-more}
 use Rattle.rules_reader.specs.declared.RuleNumbers.{RuleNumbers}
 use Rattle.rules_reader.specs.Rules.{Sound, ruleBy, keyOf, among}
 
--- looking among one more
-pick-swap : (a b c : Bool) → pick a true (pick b true c) ≡ pick b true (pick a true c)
-pick-swap true true c = refl
-pick-swap true false c = refl
-pick-swap false b c = refl
-
-among-snoc : (k x : ℕ) (xs : List ℕ) → among k (xs ++ (x ∷ [])) ≡ pick (eqb k x) true (among k xs)
-unfolding among
-among-snoc k x [] = refl
-among-snoc k x (y ∷ xs) = rw (among-snoc k x xs) (pick-swap (eqb k y) (eqb k x) (among k xs))
-
 module _ (k : ℕ) (xs : List ℕ) (i : ℕ) (l : i < length xs) where
   pub among-hit : k ≡ getD xs i 0 → true ≡ among k (take (i + 1) xs)
-  among-hit e = rw (add-one i, take-suc xs i 0, among-snoc, eq-eqb k (getD xs i 0) e)
+  among-hit e = rw (add-one i, take-suc xs i 0, like-more eqb, eq-eqb k (getD xs i 0) e)
 
   pub among-miss : {f : Bool} → f ≡ among k (take i xs) → (k ≡ getD xs i 0 → ⊥) → f ≡ among k (take (i + 1) xs)
-  among-miss p e = rw (add-one i, take-suc xs i 0, among-snoc, ne-eqb k (getD xs i 0) e, p)
-
-alike-snoc : (r s : Rule) (rs : List Rule) → anyAlike r (rs ++ (s ∷ [])) ≡ pick (alike r s) true (anyAlike r rs)
-unfolding anyAlike
-alike-snoc r s [] = refl
-alike-snoc r s (t ∷ rs) = rw (alike-snoc r s rs) (pick-swap (alike r t) (alike r s) (anyAlike r rs))
+  among-miss p e = rw (add-one i, take-suc xs i 0, like-more eqb, ne-eqb k (getD xs i 0) e, p)
 
 -- numbers joined by a factor are equal where their parts are
 module _ (m a b x y : ℕ) (hx : x < m) (hy : y < m) where
@@ -52,7 +36,7 @@ module _ (m a b x y : ℕ) (hx : x < m) (hy : y < m) where
   rest : a ≡ b → (x ≡ y → ⊥) → a * m + x ≡ b * m + y → ⊥
   rest p q e = q (omega (arith, ap (λ (n : ℕ). n * m) p))
 
-  joined : eqb (a * m + x) (b * m + y) ≡ (eqb a b && eqb x y)
+  pub joined : eqb (a * m + x) (b * m + y) ≡ (eqb a b && eqb x y)
   joined = go (ℕ-discrete a b) (ℕ-discrete x y)
     where
       go : Dec (a ≡ b) → Dec (x ≡ y) → eqb (a * m + x) (b * m + y) ≡ (eqb a b && eqb x y)
@@ -87,14 +71,9 @@ module _ (n m : RuleNumbers) (sn : Sound n) (sm : Sound m) where
           (and-true (eqb (n .head) (m .head) && eqb (n .first) (m .first)) (eqb (n .second) (m .second)) (eq-eqb (n .second) (m .second) (omega (arith, p, q))))
 
 -- the keys of the rules read so far tell which of them a rule is alike
-abbrev pub Keyed : List Rule → List ℕ → Type 0
-Keyed rs keys = (n : RuleNumbers) → Sound n → anyAlike (ruleBy n) rs ≡ among (keyOf n) keys
+abbrev pub RulesKeyed : List Rule → List ℕ → Type 0
+RulesKeyed rs keys = Keyed alike ruleBy keyOf Sound rs keys
 
-pub keyed-none : Keyed [] []
-unfolding anyAlike among
-keyed-none n s = refl
-
-pub keyed-more : (rs : List Rule) (keys : List ℕ) (i k : ℕ) (m : RuleNumbers) → Sound m → i < length keys → k ≡ keyOf m → Keyed rs (take i keys)
-    → Keyed (rs ++ (ruleBy m ∷ [])) (take (i + 1) (set keys i k))
-keyed-more rs keys i k m sm l e h n sn =
-    rw (add-one i, take-suc-set keys i k l, among-snoc, alike-snoc, alike-keys n m sn sm, h n sn, e)
+pub rules-keyed-more : (rs : List Rule) (keys : List ℕ) (i k : ℕ) (m : RuleNumbers) → Sound m → i < length keys → k ≡ keyOf m → RulesKeyed rs (take i keys)
+    → RulesKeyed (rs ++ (ruleBy m ∷ [])) (take (i + 1) (set keys i k))
+rules-keyed-more = keyed-more alike ruleBy keyOf Sound alike-keys

@@ -10,14 +10,16 @@ use lib.ListN.{length, take, set, length-append}
 use lib.Seq.{length-take-le}
 use Rattle.packing.specs.Parse.{Parse, parsed, failed}
 use Rattle.packing.specs.Source.{Source, values, valueOf}
-use Rattle.packing.specs.Grammar.{ruleFrom, rulesFrom, ruleEntries, rulesEntries}
+use Rattle.packing.specs.Alike.{unlikeFrom}
+use Rattle.packing.specs.Grammar.{ruleFrom, alike, rulesFrom, ruleEntries, rulesEntries}
+use Rattle.packing.proofs.Alike.{keyed-none}
 use Rattle.packing.specs.declared.Rule.{Rule}
 use Rattle.packing.specs.declared.Cursor.{Cursor}
 use Rattle.packing.specs.declared.Read.the-variants.{Number, Refused}
 use Rattle.rules_reader.specs.Rules.{ruleBy, ruleRead, Sound, row, keyOf, among, RulesTold}
 use Rattle.rules_reader.specs.declared.RuleNumbers.{RuleNumbers}
 use Rattle.rules_reader.specs.declared.RuleRead as rule
-use Rattle.rules_reader.proofs.Keys.{Keyed, keyed-none, keyed-more}
+use Rattle.rules_reader.proofs.Keys.{RulesKeyed, rules-keyed-more}
 
 -- a rule's entries have its numbers
 row-values : (S W : ℕ) (n : RuleNumbers) → Sound n → values (ruleEntries S W (ruleBy n)) ≡ row n
@@ -50,7 +52,7 @@ module _ (src : Source) (S W R start : ℕ) where
   pub record Passed (i at : ℕ) (keys rules : List ℕ) : Type 0 where
     pub rs : List Rule
     pub size : length rs ≡ i
-    pub keyed : Keyed rs (take i keys)
+    pub keyed : RulesKeyed rs (take i keys)
     pub rows : take (5 * i) rules ≡ values (rulesEntries S W rs)
     pub left : rulesFrom src S W (R - i) at rs ≡ whole
 
@@ -58,7 +60,7 @@ module _ (src : Source) (S W R start : ℕ) where
   unfolding rulesEntries
   none-passed keys rules =
       let all : R - 0 ≡ R = omega arith in
-      record { rs = []; size = refl; keyed = keyed-none; rows = refl; left = rw all }
+      record { rs = []; size = refl; keyed = keyed-none alike ruleBy keyOf Sound; rows = refl; left = rw all }
 
   -- a refusal leaves the array open
   told-refused : (n : ℕ) (rules : List ℕ) → failed n ≡ whole → RulesTold src S W R start (Refused n) rules
@@ -66,7 +68,7 @@ module _ (src : Source) (S W R start : ℕ) where
 
   module _ {i at : ℕ} {keys rules : List ℕ} (p : Passed i at keys rules) where
     pub all-passed : i ≡ R → at ≤ start + 41 * 256 → 5 * i ≤ length rules → RulesTold src S W R start (Number R (record { at = at })) rules
-    unfolding rulesFrom
+    unfolding unlikeFrom
     all-passed e h room =
         let done : R - i ≡ 0 = omega arith in
         let w : parsed (p .rs) at ≡ whole = rw done at (p .left) in
@@ -79,23 +81,23 @@ module _ (src : Source) (S W R start : ℕ) where
 
     module _ (l : i < R) (r : rule.RuleRead) (told : ruleRead r ≡ ruleFrom src S W at) where
       pub rule-refused : {n : ℕ} → r ≡ rule.the-variants.Refused n → RulesTold src S W R start (Refused n) rules
-      unfolding rulesFrom
+      unfolding unlikeFrom
       rule-refused {n} e = told-refused n rules (rw (one-more l, ← told, e) at (p .left))
 
       module _ {n : RuleNumbers} {c : Cursor} (sound : Sound n) (e : r ≡ rule.the-variants.Rule n c) {seen : Bool} (s : seen ≡ among (keyOf n) (take i keys)) where
         pub rule-repeated : seen ≡ true → RulesTold src S W R start (Refused 6) rules
-        unfolding rulesFrom
+        unfolding unlikeFrom
         rule-repeated t = told-refused 6 rules (rw (one-more l, ← told, e, p .keyed n sound, ← s, t) at (p .left))
 
         pub rule-passed : seen ≡ false → (k : ℕ) → k ≡ keyOf n → i < length keys → (array : List ℕ) → take (5 * i + 5) array ≡ take (5 * i) rules ++ row n
             → Passed (i + 1) (c .at) (set keys i k) array
-        unfolding rulesFrom
+        unfolding unlikeFrom
         rule-passed f k key room array stored =
             let five : 5 * (i + 1) ≡ 5 * i + 5 = omega arith in
             record {
               rs = p .rs ++ (ruleBy n ∷ []);
               size = simp length-append (omega (arith, p .size));
-              keyed = keyed-more (p .rs) keys i k n sound room key (p .keyed);
+              keyed = rules-keyed-more (p .rs) keys i k n sound room key (p .keyed);
               rows = rw (five, values-snoc, row-values S W n sound, ← p .rows) stored;
               left = rw (one-more l, ← told, e, p .keyed n sound, ← s, f) at (p .left);
             }

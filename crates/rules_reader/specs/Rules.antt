@@ -2,14 +2,14 @@
 -- nothing.
 use mathlib.Core.Path.{_≡_}
 use mathlib.Core.List.{List, [], _∷_}
-use mathlib.Core.Bool.{Bool, true, false}
+use mathlib.Core.Bool.{Bool}
 use Prim.Native.Nat.{ℕ, _+_, _-_, _*_, _≤_}
 use lib.Dec.{eqb}
 use lib.ListN.{length}
-use Rattle.bits.specs.Bits.{pick}
 use Rattle.packing.specs.Parse.{Parse, parsed, failed}
 use Rattle.packing.specs.Source.{Source, values}
 use Rattle.packing.specs.Read.{readOf}
+use Rattle.packing.specs.Alike.{anyLike}
 use Rattle.packing.specs.Grammar.{ruleOf, rulesFrom, rulesEntries}
 use Rattle.packing.specs.Flat.{Begins}
 use Rattle.packing.specs.declared.Rule as rules
@@ -46,9 +46,8 @@ row n = n .kind ∷ n .head ∷ n .weight ∷ n .first ∷ n .second ∷ []
 abbrev pub keyOf : RuleNumbers → ℕ
 keyOf n = ((n .kind * 32 + n .head) * 256 + n .first) * 256 + n .second
 
-unfoldable pub among : ℕ → List ℕ → Bool
-among k [] = false
-among k (x ∷ xs) = pick (eqb k x) true (among k xs)
+abbrev pub among : ℕ → List ℕ → Bool
+among k xs = anyLike eqb k xs
 
 -- how many rules were read
 abbrev pub counted : Parse (List rules.Rule) → Parse ℕ

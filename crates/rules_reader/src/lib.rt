@@ -142,7 +142,7 @@ fn rule_key(numbers: RuleNumbers) -> u32
 }
 
 // Whether `key` is one of the first n keys. It looks at all of them, which is faster than to stop early.
-fn seen(keys: &[u32], n: usize, key: u32) -> bool
+pub fn seen(keys: &[u32], n: usize, key: u32) -> bool
     requires { ⌜ n ≤ length (now keys) ⌝ }
     ensures { λ r. ⌜ r ≡ among key (take n (now (keys .entry))) ⌝ }
 {

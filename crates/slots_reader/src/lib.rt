@@ -24,7 +24,7 @@ ghost use Rattle.packing.specs.Store.{storeAll};
 ghost use Rattle.slots_reader.specs.Placed.{candidateFrom, candidateOf, candidateNumbers, oneSlotNumbers, PlacedAs};
 
 // What reading a candidate gives: its word, its cost and the next place.
-enum CandidateRead {
+pub enum CandidateRead {
     Candidate(u32, u32, Cursor),
     Refused(u32),
 }
@@ -56,7 +56,7 @@ fn word_field(words: u32, least: u32) -> Field
 }
 
 // A word from `least` on and its cost.
-fn read_candidate(
+pub fn read_candidate(
     src: Source,
     block: &[u8],
     sheet: &[u32],

@@ -9,10 +9,10 @@ use lib.IntN.{ℤ, pos, negℤ}
 use lib.ListN.{length}
 use mir.Syntax.{w32}
 use mir.Val.{toZ, ofZ, SFits}
-use Rattle.packing.specs.Meaning.{Reading}
 use Rattle.packing.specs.Parse.{Verdict, accepted, refused}
 use Rattle.sheet_writer.specs.Answer.{writtenOf}
 use Rattle.packing.specs.declared.Written as W
+use Rattle.derivation.specs.Derivation.{Tree}
 use Rattle.checker.specs.Check as Check
 use Rattle.checker.specs.declared.Checked as C
 use Rattle.listing.specs.Listing as Listing
@@ -66,15 +66,15 @@ abbrev SmallChecked : C.Checked → Type 0
 SmallChecked C.the-variants.Passes = Unit {0}
 SmallChecked (C.the-variants.Refused n) = n < 2147483648
 
-checked-same : (v : Verdict Reading) → checkedCode (Check.checkedOf v) ≡ codeOf (λ d. 0) v
+checked-same : (v : Verdict Tree) → checkedCode (Check.checkedOf v) ≡ codeOf (λ d. 0) v
 checked-same (accepted d) = refl
 checked-same (refused n) = refl
 
-module _ {v : Verdict Reading} (small : Small (λ d. 0) v) {r s : C.Checked} (e : r ≡ Check.checkedOf v) (told : r ≡ s) where
+module _ {v : Verdict Tree} (small : Small (λ d. 0) v) {r s : C.Checked} (e : r ≡ Check.checkedOf v) (told : r ≡ s) where
   pub checked-small : SmallChecked s
   checked-small = subst SmallChecked (sym e ∙ told) (go small)
     where
-      go : {v : Verdict Reading} → Small (λ d. 0) v → SmallChecked (Check.checkedOf v)
+      go : {v : Verdict Tree} → Small (λ d. 0) v → SmallChecked (Check.checkedOf v)
       go (small-size h) = tt
       go (small-refusal h) = h
 

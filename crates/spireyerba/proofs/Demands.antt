@@ -8,7 +8,7 @@ use native.Mathlib.Omega.{arith}
 use borrow.Author.Tests.{le-ltb}
 use lib.IntN.{ℤ, pos, negℤ}
 use lib.ListN.{length, take, drop}
-use Rattle.packing.specs.Meaning.{Grammar, Reading}
+use Rattle.packing.specs.Meaning.{Grammar}
 use Rattle.packing.specs.Parse.{Verdict, accepted, refused, _then_}
 use Rattle.packing.specs.Conversion.{grammarToBlock, grammarToSheet, utteranceToBlock, utteranceToSheet, fitting, written, TurnsBack}
 use Rattle.packing.proofs.Parse.{refused≢accepted, accepted-is}
@@ -16,6 +16,7 @@ use Rattle.packing.proofs.Whole.{grammar-block-out}
 use Rattle.packing.proofs.Refusals.{Refuses, granted, denied, Low, grammar-to-block-row, grammar-to-sheet-row, utterance-to-block-row, utterance-to-sheet-row}
 use Rattle.sheet_writer.specs.Answer.{writtenOf}
 use Rattle.packing.specs.declared.Written as W
+use Rattle.derivation.specs.Derivation.{Tree}
 use Rattle.checker.specs.Check.{check, checkedOf, OfDerivation}
 use Rattle.checker.specs.declared.Checked as C
 use Rattle.checker.proofs.Refused.{check-row, refused-34, refused-35, refused-36}
@@ -111,7 +112,7 @@ module _ (grammar utterance : List ℕ) (N : ℕ) (work out : List ℕ) where
   }
 
 -- the check
-passed : (v : Verdict Reading) → checkedOf v ≡ C.the-variants.Passes → codeOf (λ d. 0) v ≡ pos 0
+passed : (v : Verdict Tree) → checkedOf v ≡ C.the-variants.Passes → codeOf (λ d. 0) v ≡ pos 0
 passed (accepted d) e = refl
 passed (refused n) e = let z : _≡_ {A = ℕ} 0 1 = cc in absurd (omega arith)
 

@@ -10,18 +10,20 @@ use borrow.Author.Tests.{ltb-false}
 use lib.Dec.{ltb}
 use lib.ListN.{length}
 use Rattle.bits.specs.Bits.{pick}
-use Rattle.packing.specs.Meaning.{Grammar, Utterance, Reading}
+use Rattle.packing.specs.Meaning.{Grammar, Utterance}
 use Rattle.packing.specs.Parse.{Verdict, accepted, refused, _then_}
 use Rattle.packing.specs.Grammar.{grammarBlock, grammarSheet, grammarEntries, sheetOfGrammar}
 use Rattle.packing.specs.Utterance.{utteranceBlock, utteranceSheet, utteranceEntries, sheetOfUtterance}
+use Rattle.packing.specs.Heard.{heardBlock}
 use Rattle.packing.specs.Conversion.{grammarToBlock, grammarToSheet, utteranceToBlock, utteranceToSheet, fitting}
-use Rattle.packing.specs.Rows.{Between, _∪_, GrammarBlockRow, UtteranceBlockRow}
+use Rattle.packing.specs.Rows.{Between, _∪_, GrammarBlockRow, UtteranceBlockRow, HeardBlockRow}
 use Rattle.packing.specs.Valid.{ValidGrammar, ValidUtterance}
 use Rattle.packing.proofs.Bounds.{length-rules, length-slots}
 use Rattle.packing.proofs.Parse as P
 use Rattle.packing.proofs.Widths.{grammar-length, utterance-length, valid-words}
 use Rattle.packing.proofs.Whole.{grammar-block-out, grammar-sheet-out, utterance-block-out, utterance-sheet-out}
 use Rattle.packing.proofs.Refusals.{Refuses, granted, denied, Low, wider, low-both, grammar-to-block-row, grammar-to-sheet-row, utterance-to-block-row, utterance-to-sheet-row}
+use Rattle.derivation.specs.Derivation.{Tree}
 use Rattle.checker.specs.Check.{check}
 use Rattle.checker.proofs.Refused.{check-row}
 use Rattle.listing.specs.Listing.{list, listed, listedOf}
@@ -76,17 +78,20 @@ low-utterance-to-block s t out =
     wider (low-both (low-both (λ n r. omega (arith, r)) (low-sheet (omega arith) (omega arith))) (λ n r. omega (arith, r)))
     (utterance-to-block-row s t out)
 
-low-three : {Row : ℕ → Type 0} → ((n : ℕ) → Row n → Low n) → (n : ℕ) → (GrammarBlockRow ∪ UtteranceBlockRow ∪ Row) n → Low n
-low-three f = low-both (low-both (λ n r. omega (arith, r)) (λ n r. omega (arith, r))) f
+low-three : {Row Last : ℕ → Type 0} → ((n : ℕ) → Row n → Low n) → ((n : ℕ) → Last n → Low n) → (n : ℕ) → (GrammarBlockRow ∪ Row ∪ Last) n → Low n
+low-three f l = low-both (low-both (λ n r. omega (arith, r)) f) l
+
+low-heard : (n : ℕ) → HeardBlockRow n → Low n
+low-heard = low-both (λ n r. omega (arith, r)) (λ n r. omega (arith, r))
 
 pub low-utterance-to-sheet : (s t out : List ℕ) → Refuses Low (fitting (utteranceToSheet s t) out)
-low-utterance-to-sheet s t out = wider (low-three (λ n r. omega (arith, r))) (utterance-to-sheet-row s t out)
+low-utterance-to-sheet s t out = wider (low-three (λ n r. omega (arith, r)) (λ n r. omega (arith, r))) (utterance-to-sheet-row s t out)
 
-pub low-list : (grammar utterance : List ℕ) (N work out : ℕ) → Refuses Low (list grammar utterance N work out)
-low-list grammar utterance N work out = wider (low-three (λ n r. omega (arith, r))) (list-row grammar utterance N work out)
+pub low-list : (grammar heard : List ℕ) (N work out : ℕ) → Refuses Low (list grammar heard N work out)
+low-list grammar heard N work out = wider (low-three low-heard (λ n r. omega (arith, r))) (list-row grammar heard N work out)
 
-pub low-check : (grammar utterance reading : List ℕ) → Refuses Low (check grammar utterance reading)
-low-check grammar utterance reading = wider (low-three (λ n r. omega (arith, r))) (check-row grammar utterance reading)
+pub low-check : (grammar heard reading : List ℕ) → Refuses Low (check grammar heard reading)
+low-check grammar heard reading = wider (low-three low-heard (λ n r. omega (arith, r))) (check-row grammar heard reading)
 
 low-asked : (s : List ℕ) (n out : ℕ) → Refuses Low (asked s n out)
 low-asked s n out = wider (low-both (λ n r. omega (arith, r)) (λ n r. omega (arith, r))) (asked-row s n out)
@@ -135,25 +140,25 @@ specimen-wanted s n out = go refl (low-asked s n out)
     go e (denied {n = m} l) = refusal {m = m} (omega arith)
 
 -- the check
-checked-low : {v : Verdict Reading} → Refuses Low v → Small (λ d. 0) v
+checked-low : {v : Verdict Tree} → Refuses Low v → Small (λ d. 0) v
 checked-low (granted {a}) = small-size {a = a} (omega arith)
 checked-low (denied {n} l) = small-refusal {n = n} (omega arith)
 
-pub check-small : (grammar utterance reading : List ℕ) → Small (λ d. 0) (check grammar utterance reading)
-check-small grammar utterance reading = checked-low (low-check grammar utterance reading)
+pub check-small : (grammar heard reading : List ℕ) → Small (λ d. 0) (check grammar heard reading)
+check-small grammar heard reading = checked-low (low-check grammar heard reading)
 
 -- the listing: at most 256 readings
-most-wanted : (grammar utterance : List ℕ) (N work out : ℕ) (ls : List (List ℕ)) → list grammar utterance N work out ≡ accepted ls → N ≤ 256
+most-wanted : (grammar heard : List ℕ) (N work out : ℕ) (ls : List (List ℕ)) → list grammar heard N work out ≡ accepted ls → N ≤ 256
 unfolding list listed
-most-wanted grammar utterance N work out ls e =
+most-wanted grammar heard N work out ls e =
     P.granted (grammarBlock grammar) _ e λ g p e.
-    P.granted (utteranceBlock (g .words) utterance) _ e λ u q e.
+    P.granted (heardBlock (g .words) heard) _ e λ h q e.
     ltb-false 256 N (P.accepted-else (ltb 256 N) 21 _ (P.accepted-else (ltb N 1) 21 _ e .1) .0)
 
-pub list-small : (grammar utterance : List ℕ) (N work out : ℕ) → Small length (list grammar utterance N work out)
-list-small grammar utterance N work out = go refl (low-list grammar utterance N work out)
+pub list-small : (grammar heard : List ℕ) (N work out : ℕ) → Small length (list grammar heard N work out)
+list-small grammar heard N work out = go refl (low-list grammar heard N work out)
   where
-    go : {v : Verdict (List (List ℕ))} → list grammar utterance N work out ≡ v → Refuses Low v → Small length v
+    go : {v : Verdict (List (List ℕ))} → list grammar heard N work out ≡ v → Refuses Low v → Small length v
     go e (granted {a}) =
-        small-size {a = a} (omega (arith, most-wanted grammar utterance N work out a e, found-few grammar utterance N work out refl (ap listedOf e)))
+        small-size {a = a} (omega (arith, most-wanted grammar heard N work out a e, found-few grammar heard N work out refl (ap listedOf e)))
     go e (denied {n} l) = small-refusal {n = n} (omega arith)

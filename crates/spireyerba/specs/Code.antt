@@ -5,8 +5,8 @@ use mathlib.Core.Option.{Option, none, some}
 use Prim.Native.Nat.{ℕ}
 use lib.IntN.{ℤ, pos, negℤ}
 use lib.ListN.{length}
-use Rattle.packing.specs.Meaning.{Reading}
 use Rattle.packing.specs.Parse.{Verdict, accepted, refused}
+use Rattle.derivation.specs.Derivation.{Tree}
 
 -- of a verdict, whose answer is told by its size
 abbrev pub codeOf : {A : Type 0} → (A → ℕ) → Verdict A → ℤ
@@ -18,8 +18,8 @@ abbrev pub lengthCode : Verdict (List ℕ) → ℤ
 lengthCode v = codeOf length v
 
 -- the check: 0 for a reading that passes
-abbrev pub checkCode : Verdict Reading → ℤ
-checkCode v = codeOf (λ d. 0) v
+abbrev pub checkCode : Verdict Tree → ℤ
+checkCode v = codeOf (λ t. 0) v
 
 -- the listing: the number of readings found
 abbrev pub listCode : Verdict (List (List ℕ)) → ℤ

@@ -10,7 +10,7 @@ use lib.IntN.{ℤ, pos, negℤ}
 use lib.ListN.{length, take, drop, replicate}
 use Rattle.packing.specs.Parse.{Verdict, accepted, refused}
 use Rattle.packing.specs.Conversion.{grammarToBlock, grammarToSheet, utteranceToBlock, utteranceToSheet, fitting, TurnsBack}
-use Rattle.packing.specs.Rows.{_∪_, GrammarBlockRow, UtteranceBlockRow, ListingRow, SpecimenRow, ReadingBlockRow, GrammarSheetRow, UtteranceSheetRow, OutputRow}
+use Rattle.packing.specs.Rows.{_∪_, GrammarBlockRow, UtteranceBlockRow, HeardBlockRow, ListingRow, SpecimenRow, ReadingBlockRow, GrammarSheetRow, UtteranceSheetRow, OutputRow}
 use Rattle.checker.specs.Check.{check, OfDerivation, NoWalk, OtherWeight, Surplus}
 use Rattle.listing.specs.Listing.{list, joined}
 use Rattle.listing.specs.Demand3.{Demand3}
@@ -45,23 +45,23 @@ abbrev pub UtteranceToSheet : (grammar block out : List ℕ) (code : ℤ) (out�
 UtteranceToSheet grammar block out code out′ =
     Converts (utteranceToSheet grammar) (utteranceToBlock grammar) (GrammarBlockRow ∪ UtteranceBlockRow ∪ OutputRow) block out code out′
 
--- The listing "answers m, the number found, and writes the m readings one after another", and "the work table is all zeros". Demand 3:
--- they are the least, in their order, and none is left out.
-pub record Listing (grammar utterance : List ℕ) (N : ℕ) (work out : List ℕ) (code : ℤ) (work′ out′ : List ℕ) : Type 0 where
-  pub demand-1 : Demand1 (list grammar utterance N (length work) (length out))
+-- The listing, of slots or of a graph, "answers m, the number found, and writes the m readings one after another", and "the work table is
+-- all zeros". Demand 3: they are the least, in their order, and none is left out.
+pub record Listing (grammar heard : List ℕ) (N : ℕ) (work out : List ℕ) (code : ℤ) (work′ out′ : List ℕ) : Type 0 where
+  pub demand-1 : Demand1 (list grammar heard N (length work) (length out))
       (λ ls m. (m ≡ length ls) × (out′ ≡ joined ls ++ drop (length (joined ls)) out) × (work′ ≡ replicate (length work) 0))
-      (GrammarBlockRow ∪ UtteranceBlockRow ∪ ListingRow) ((work′ ≡ work) × (out′ ≡ out)) code
-  pub demand-3 : Demand3 grammar utterance N work out (λ m. code ≡ pos m) work′ out′
+      (GrammarBlockRow ∪ HeardBlockRow ∪ ListingRow) ((work′ ≡ work) × (out′ ≡ out)) code
+  pub demand-3 : Demand3 grammar heard N work out (λ m. code ≡ pos m) work′ out′
 
 -- The check is lent nothing to write to, and "answers passes", with the code 0, "or a refusal". Demand 2: "a reading passes exactly if it
 -- is the packing of a derivation with its true weight"; and 34, 35 and 36 are answered exactly if the table says so.
-pub record Check (grammar utterance reading : List ℕ) (code : ℤ) : Type 0 where
-  pub demand-1 : Demand1 (check grammar utterance reading) (λ d n. n ≡ 0) (GrammarBlockRow ∪ UtteranceBlockRow ∪ ReadingBlockRow) (Unit {0})
+pub record Check (grammar heard reading : List ℕ) (code : ℤ) : Type 0 where
+  pub demand-1 : Demand1 (check grammar heard reading) (λ t n. n ≡ 0) (GrammarBlockRow ∪ HeardBlockRow ∪ ReadingBlockRow) (Unit {0})
       code
-  pub demand-2 : (code ≡ pos 0) ↔ OfDerivation grammar utterance reading
-  pub no-walk : (code ≡ negℤ (pos 34)) ↔ NoWalk grammar utterance reading
-  pub other-weight : (code ≡ negℤ (pos 35)) ↔ OtherWeight grammar utterance reading
-  pub surplus : (code ≡ negℤ (pos 36)) ↔ Surplus grammar utterance reading
+  pub demand-2 : (code ≡ pos 0) ↔ OfDerivation grammar heard reading
+  pub no-walk : (code ≡ negℤ (pos 34)) ↔ NoWalk grammar heard reading
+  pub other-weight : (code ≡ negℤ (pos 35)) ↔ OtherWeight grammar heard reading
+  pub surplus : (code ≡ negℤ (pos 36)) ↔ Surplus grammar heard reading
 
 -- The specimen writes "the string that is least when compared word number by word number from the left" (document 02, N7) and answers its
 -- length n, and 0 for "none".

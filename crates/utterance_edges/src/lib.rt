@@ -27,7 +27,7 @@ fn candidates_at(slots: &[u32], p: usize) -> usize
 }
 
 // An edge, from place p on.
-fn store_edge(edges: &mut [u32], p: usize, from: u32, upto: u32, word: u32, cost: u32)
+pub fn store_edge(edges: &mut [u32], p: usize, from: u32, upto: u32, word: u32, cost: u32)
     requires { ⌜ p + 4 ≤ length (now edges) ⌝ }
     ensures { λ _. ⌜ now (edges .exit) ≡ storeAll (now (edges .entry)) p (from ∷ upto ∷ word ∷ cost ∷ []) ⌝ }
 {

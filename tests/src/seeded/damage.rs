@@ -1,10 +1,10 @@
 //! Ways to damage a block or a sheet.
 
-use super::raw;
 use super::rng::{Noise, Rng};
 use super::utterances::unheard;
-use crate::{grammar, utterance};
-use spireyerba::{Grammar, Utterance};
+use super::{graphs, raw};
+use crate::{grammar, graph, utterance};
+use spireyerba::{Grammar, Graph, Utterance};
 
 /// Every proper prefix.
 pub fn truncations<T: Clone>(whole: &[T]) -> impl Iterator<Item = Vec<T>> + '_ {
@@ -34,6 +34,16 @@ pub fn flips(rng: &mut Rng, block: &[u8], most: usize) -> Vec<Vec<u8>> {
     }
     bits.extend(others..others + 8);
     bits.into_iter().map(|bit| flipped(block, bit)).collect()
+}
+
+/// The block with one byte replaced: by zero, by all bits and by any, each byte in turn.
+pub fn replaced_bytes(rng: &mut Rng, block: &[u8]) -> Vec<Vec<u8>> {
+    let replaced = |at: usize, byte: u8| {
+        let mut damaged = block.to_vec();
+        damaged[at] = byte;
+        damaged
+    };
+    (0..block.len()).flat_map(|at| [0, 0xff, rng.bits() as u8].map(|byte| replaced(at, byte))).collect()
 }
 
 /// The sheet with one number replaced by another at the end of some range, or near the one it replaces.
@@ -99,6 +109,29 @@ pub fn some_utterance_blocks(rng: &mut Rng, grammar: &Grammar, utterance: &Utter
     some.push(utterance::pack(grammar, &unheard(utterance, slot, word)));
     some.push(raw::utterance_block(rng, grammar.words));
     some
+}
+
+/// The graph with places and word of one edge put in the place of another's, whose cost stays.
+pub fn repeated_edge(rng: &mut Rng, graph: &Graph) -> Graph {
+    let mut damaged = graph.clone();
+    let (from, to) = (rng.below(graph.edges.len()), rng.below(graph.edges.len()));
+    let cost = damaged.edges[to].cost;
+    damaged.edges[to] = damaged.edges[from];
+    damaged.edges[to].cost = cost;
+    damaged
+}
+
+/// A block of a word graph as it is and damaged in every way, bit by bit and byte by byte.
+pub fn graph_blocks(rng: &mut Rng, grammar: &Grammar, graph: &Graph, most_flips: usize) -> Vec<Vec<u8>> {
+    let block = graph::pack(grammar, graph);
+    let mut all = blocks(rng, &block, most_flips);
+    all.extend(replaced_bytes(rng, &block));
+    let number = rng.below(graph.edges.len());
+    for other in [repeated_edge(rng, graph), graphs::unheard(graph, number)] {
+        all.push(graph::pack(grammar, &other));
+    }
+    all.push(raw::graph_block(rng, grammar.words));
+    all
 }
 
 fn some_blocks(rng: &mut Rng, block: &[u8], count: usize) -> Vec<Vec<u8>> {

@@ -2,6 +2,7 @@
 
 pub mod damage;
 pub mod grammars;
+pub mod graphs;
 pub mod parsable;
 pub mod raw;
 pub mod rng;

@@ -1,10 +1,12 @@
-//! Seeded grammars with utterances that they are likely to derive, in the shapes that matter to a chart.
+//! Seeded grammars with utterances and word graphs that they are likely to derive, in the shapes that matter to a chart.
 
 use super::grammars::with_rules;
+use super::graphs::with_edges;
 use super::rng::Rng;
 use super::utterances::{slot, Costs};
 use crate::grammar::words_of_rules;
-use spireyerba::{Grammar, Utterance};
+use spireyerba::limits::MAX_EDGES;
+use spireyerba::{Grammar, Graph, Utterance};
 use std::ops::RangeInclusive;
 
 /// From where to where the numbers of a case are drawn.
@@ -48,18 +50,43 @@ pub const GREATEST: Shape = Shape {
 
 /// A grammar, and an utterance whose slots have mostly words that some rule has.
 pub fn case(rng: &mut Rng, shape: &Shape) -> (Grammar, Utterance) {
-    let mut draw = |range: &RangeInclusive<u32>| rng.within(range.clone());
-    let (symbols, words) = (draw(&shape.symbols), draw(&shape.words));
-    let (pairs, word_rules) = (draw(&shape.pair_rules), draw(&shape.word_rules));
-    let grammar = with_rules(rng, symbols, words, pairs, word_rules);
+    let grammar = grammar_of(rng, shape);
     let utterance = utterance_of(rng, &grammar, shape);
     (grammar, utterance)
 }
 
-/// Another utterance for a grammar.
-pub fn utterance_of(rng: &mut Rng, grammar: &Grammar, shape: &Shape) -> Utterance {
+/// A grammar, and a word graph whose edges have mostly words that some rule has.
+pub fn graph_case(rng: &mut Rng, shape: &Shape) -> (Grammar, Graph) {
+    let grammar = grammar_of(rng, shape);
+    let graph = graph_of(rng, &grammar, shape);
+    (grammar, graph)
+}
+
+fn grammar_of(rng: &mut Rng, shape: &Shape) -> Grammar {
+    let mut draw = |range: &RangeInclusive<u32>| rng.within(range.clone());
+    let (symbols, words) = (draw(&shape.symbols), draw(&shape.words));
+    let (pairs, word_rules) = (draw(&shape.pair_rules), draw(&shape.word_rules));
+    with_rules(rng, symbols, words, pairs, word_rules)
+}
+
+/// The words that some rule has, and one more.
+fn known_words(rng: &mut Rng, grammar: &Grammar) -> Vec<u32> {
     let mut known: Vec<u32> = words_of_rules(grammar).collect();
     known.push(rng.within(0..=grammar.words - 1));
+    known
+}
+
+/// Another word graph for a grammar, with as many edges for a place as a slot has candidates.
+pub fn graph_of(rng: &mut Rng, grammar: &Grammar, shape: &Shape) -> Graph {
+    let known = known_words(rng, grammar);
+    let slots = rng.within(shape.slots.clone());
+    let edges = slots * rng.within(shape.candidates.clone());
+    with_edges(rng, slots + 1, edges.min(MAX_EDGES) as usize, &known)
+}
+
+/// Another utterance for a grammar.
+pub fn utterance_of(rng: &mut Rng, grammar: &Grammar, shape: &Shape) -> Utterance {
+    let known = known_words(rng, grammar);
     let costs = Costs::any(rng);
     let slots = rng.within(shape.slots.clone());
     let slots = (0..slots).map(|_| {

@@ -87,6 +87,27 @@ pub fn utterance_block(rng: &mut Rng, words: u32) -> Vec<u8> {
     with_random_end(rng, writer, 40 * slots as usize)
 }
 
+/// A word graph's block with a head that may be out of range and edges of random bits.
+pub fn graph_block(rng: &mut Rng, words: u32) -> Vec<u8> {
+    let (places, edges) = (rng.within(2..=6), rng.within(1..=6));
+    let mut writer = BitWriter::default();
+    writer.field(4, mostly(rng, 5, 4));
+    writer.field(5, mostly(rng, places, 5));
+    writer.field(7, mostly(rng, edges, 7));
+    for _ in 0..rng.within(0..=edges) {
+        let from = rng.within(0..=places - 2);
+        let to = rng.within(from + 1..=places - 1);
+        writer.field(5, mostly(rng, from, 5));
+        writer.field(5, mostly(rng, to, 5));
+        writer.field(width(words - 1), around(rng, words));
+        writer.field(16, weight(rng));
+    }
+    if rng.once_in(2) {
+        return writer.finish();
+    }
+    with_random_end(rng, writer, 30 * edges as usize)
+}
+
 /// A grammar sheet of which each number may be out of range.
 pub fn grammar_sheet(rng: &mut Rng) -> Vec<u32> {
     let (symbols, words, rules) = (rng.within(1..=6), rng.within(1..=6), rng.within(1..=5));

@@ -18,7 +18,7 @@ impl Costs {
         Self { weights: Weights::any(rng), extreme_once_in: rng.pick(&[None, None, Some(6), Some(2)]) }
     }
 
-    fn draw(self, rng: &mut Rng) -> u32 {
+    pub fn draw(self, rng: &mut Rng) -> u32 {
         match self.extreme_once_in {
             Some(times) if rng.once_in(times) => rng.pick(&[NOT_HEARD, NOT_HEARD, NOT_HEARD - 1]),
             _ => self.weights.draw(rng),

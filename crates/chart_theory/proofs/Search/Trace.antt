@@ -1,15 +1,16 @@
--- The back trace of a found rank is the walk of the tree of that rank: by recursion on the fuel, for the parts of a found
--- pairing are found, over shorter spans.
+-- The back trace of a found rank has the nodes of the tree of that rank: by recursion on the fuel, for the parts of a found pairing are
+-- found, over shorter spans, and a leaf's back pointer has its edge's number.
 use mathlib.Core.Path.{_≡_, ap, _∙_}
-use mathlib.Core.List.{List, [], _∷_}
+use mathlib.Core.List.{List, [], _∷_, _++_, append-nil, append-assoc}
 use Prim.Native.Nat.{ℕ, zero, suc, _≤_}
 use native.Mathlib.Omega.{arith}
 use lib.Dec.{ltb}
 use borrow.Author.Tests.{lt-ltb, le-ltb}
 use Rattle.bits.specs.Bits.{pick}
-use Rattle.packing.specs.Meaning.{Grammar, Edge}
-use Rattle.packing.specs.Flat.{ruleAt}
-use Rattle.derivation.specs.Derivation.{At, Tree, walk}
+use Rattle.packing.specs.Meaning.{Grammar, Edge, Node}
+use Rattle.packing.specs.Flat.{ruleAt, nodesIn}
+use Rattle.derivation.specs.Derivation.{At, Tree}
+use Rattle.derivation.specs.Heard.{trace}
 use Rattle.derivation.proofs.Rows.{Row, leaf-row, node-row}
 use Rattle.chart_keys.specs.declared.BackPointer.{BackPointer}
 use Rattle.chart_table.specs.declared.Cell.{Cell}
@@ -24,25 +25,26 @@ use Rattle.chart_theory.proofs.Candidates.Frontier.{part-cells}
 
 module _ {g : Grammar} {es : List Edge} {rules edges index : List ℕ} {d : Layout} (s : Setting g es rules edges index d) {m : ℕ}
     {t : List ℕ} (invariant : Invariant g es d m t) where
-  -- each found rank over at most `fuel` places is traced back
+  -- each found rank over at most `fuel` places is traced back, in front of whatever numbers
   abbrev Traces : ℕ → Type 0
   Traces fuel =
       (c : Cell) (x : ℕ) (z : Tree) → InChart d c → span c ≤ fuel → Found d t c x → At (rankedIn g es c) x z
-      → traceBack t rules d fuel c x ≡ walk z
+      → (rest : List ℕ) → nodesIn rules (traceBack t rules d fuel c x ++ rest) ≡ trace z ++ nodesIn rules rest
 
   -- one step of the back trace, from a back pointer
   abbrev step : ℕ → Cell → BackPointer → List ℕ
   step fuel c b =
       b .rule
+      ∷ b .left
       ∷ pick (ltb (c .from) (b .split))
       (pick (ltb (b .split) (c .to)) (traceParts (traceBack t rules d fuel) c b (ruleAt rules (b .rule))) [])
       []
 
   trace-row : (fuel : ℕ) → Traces fuel → (c : Cell) {v : Row} {z : Tree} → InChart d c → span c ≤ suc fuel → RowOfIn g es c v z
-      → PartsFound g es d t c v → step fuel c (rowBack v) ≡ walk z
-  unfolding walk
-  trace-row fuel below c in-chart short (leaf-row p q) parts = rw (le-ltb (c .from) 0 (omega arith))
-  trace-row fuel below c in-chart short (node-row {B} {C} {r} {w} {j} {p} {q} {s = y} {t = z} rule h₁ h₂ l m) parts =
+      → PartsFound g es d t c v → (rest : List ℕ) → nodesIn rules (step fuel c (rowBack v) ++ rest) ≡ trace z ++ nodesIn rules rest
+  unfolding nodesIn trace
+  trace-row fuel below c in-chart short (leaf-row {r = r} p q) parts rest = rw (rule-is s r p, le-ltb (c .from) 0 (omega arith))
+  trace-row fuel below c in-chart short (node-row {B} {C} {r} {w} {j} {p} {q} {s = y} {t = z} rule h₁ h₂ l m) parts rest =
       let (left, right) = parts B C w rule in
       let splits : Splits g c B C r w j = record { rule = rule; after = h₁; before = h₂ } in
       let (cl, cr) = part-cells s in-chart splits in
@@ -50,15 +52,25 @@ module _ {g : Grammar} {es : List Edge} {rules edges index : List ℕ} {d : Layo
         rule-is s r rule,
         lt-ltb (c .from) j h₁,
         lt-ltb j (c .to) h₂,
-        below (leftPart c B j) p y cl (omega arith) left l,
-        below (rightPart c C j) q z cr (omega arith) right m,
+        append-assoc (traceBack t rules d fuel (leftPart c B j) p) (traceBack t rules d fuel (rightPart c C j) q) rest,
+        append-assoc (trace y) (trace z) (nodesIn rules rest),
+        below (leftPart c B j) p y cl (omega arith) left l (traceBack t rules d fuel (rightPart c C j) q ++ rest),
+        below (rightPart c C j) q z cr (omega arith) right m rest,
       )
 
-  pub traces : (fuel : ℕ) → Traces fuel
+  traces : (fuel : ℕ) → Traces fuel
   unfolding traceBack
-  traces zero c x z in-chart short found at = absurd (omega (arith, in-chart .order))
-  traces (suc fuel) c x z in-chart short found at =
+  traces zero c x z in-chart short found at rest = absurd (omega (arith, in-chart .order))
+  traces (suc fuel) c x z in-chart short found at rest =
       let (v, held) = invariant .holds x in-chart found in
       let (y, at′, o) = held .place in
       let same : y ≡ z = cc in
-      ap (step fuel c) (row-back g es d t c x held) ∙ rw (← same) (trace-row fuel (traces fuel) c in-chart short o (held .parts))
+      ap (λ b. nodesIn rules (step fuel c b ++ rest)) (row-back g es d t c x held)
+      ∙ rw (← same) (trace-row fuel (traces fuel) c in-chart short o (held .parts) rest)
+
+  pub traced : (fuel : ℕ) (c : Cell) (x : ℕ) (z : Tree) → InChart d c → span c ≤ fuel → Found d t c x → At (rankedIn g es c) x z
+      → nodesIn rules (traceBack t rules d fuel c x) ≡ trace z
+  unfolding nodesIn
+  traced fuel c x z in-chart short found at =
+      let all : nodesIn rules (traceBack t rules d fuel c x ++ []) ≡ trace z ++ [] = traces fuel c x z in-chart short found at [] in
+      rw (append-nil (traceBack t rules d fuel c x), append-nil (trace z)) at all

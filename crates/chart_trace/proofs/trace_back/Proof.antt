@@ -11,11 +11,11 @@ use Rattle.chart_trace.proofs.trace_back.Statement.{statement}
 use Rattle.chart_trace.proofs.trace_back.Tie as tie
 
 abbrev Inv-loop : tie.InvT-loop
-Inv-loop t rules d rank walk₀ stack₀ n₀ part₀ next₀ walk stack n part next =
-    (length walk ≡ length walk₀) × Tracing t rules d (part₀ .cell .from) (part₀ .cell .to) walk₀ (tracePart t rules d part₀) walk stack n part next
+Inv-loop t rules d rank trace₀ stack₀ n₀ part₀ next₀ trace stack n part next =
+    (length trace ≡ length trace₀) × Tracing t rules d (part₀ .cell .from) (part₀ .cell .to) trace₀ (tracePart t rules d part₀) trace stack n part next
 
 abbrev μ-loop : tie.MeasureT-loop
-μ-loop t rules d rank walk₀ stack₀ n₀ part₀ next₀ walk stack n part next = 2 * (part₀ .cell .to - part .cell .from) - n
+μ-loop t rules d rank trace₀ stack₀ n₀ part₀ next₀ trace stack n part next = 2 * (part₀ .cell .to - part .cell .from) - n
 
 loop-holds : tie.Need-loop-holds Inv-loop μ-loop
 loop-holds c =

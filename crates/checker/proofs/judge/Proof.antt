@@ -12,7 +12,7 @@ enum-told : tie.Need-enum-told
 enum-told c = search needs
 
 returns : tie.Need-returns
-returns c d e = rw (c .enum-told .given .1)
+returns c = rw (c .enum-told .given .1)
 
 wide-requires : tie.Need-wide-requires
 wide-requires c κs = search needs
@@ -21,25 +21,25 @@ zero-from-requires : tie.Need-zero-from-requires
 zero-from-requires c κs = search needs
 
 returns-2 : tie.Need-returns-2
-returns-2 c d e =
+returns-2 c =
     let at-if1 = c .before .before in
     let at-own = at-if1 .before .before .before in
-    let weight = at-if1 .if1 .taken ∙ at-if1 .before .wide .ensures .0 ∙ sym e in
-    let same = eq-eqb (at-own .own .given .0 .0) (d .weight) weight in
+    let weight = at-if1 .if1 .taken ∙ at-if1 .before .wide .ensures .0 in
+    let same = eq-eqb (at-own .own .given .0 .0) (at-own .before .before .before .args .weight) weight in
     rw (at-own .own .given .1, same, sym (c .before .zero-from .ensures) ∙ c .if2 .taken)
 
 returns-3 : tie.Need-returns-3
-returns-3 c d e =
+returns-3 c =
     let at-if1 = c .before .before in
     let at-own = at-if1 .before .before .before in
-    let weight = at-if1 .if1 .taken ∙ at-if1 .before .wide .ensures .0 ∙ sym e in
-    let same = eq-eqb (at-own .own .given .0 .0) (d .weight) weight in
+    let weight = at-if1 .if1 .taken ∙ at-if1 .before .wide .ensures .0 in
+    let same = eq-eqb (at-own .own .given .0 .0) (at-own .before .before .before .args .weight) weight in
     rw (at-own .own .given .1, same, sym (c .before .zero-from .ensures) ∙ c .if2 .left)
 
 returns-4 : tie.Need-returns-4
-returns-4 c d e =
+returns-4 c =
     let at-own = c .before .before .before in
-    let other = ne-eqb (at-own .own .given .0 .0) (d .weight) (λ f. c .if1 .left (f ∙ e ∙ sym (c .before .wide .ensures .0))) in
+    let other = ne-eqb (at-own .own .given .0 .0) (at-own .before .before .before .args .weight) (λ f. c .if1 .left (f ∙ sym (c .before .wide .ensures .0))) in
     rw (at-own .own .given .1, other)
 
 pub judge-spec : {M : Type 1} → statement M

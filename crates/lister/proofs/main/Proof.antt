@@ -1,11 +1,11 @@
--- At most eight readings are found, and a reading has at most 52 bytes.
+-- At most eight readings are found, and a reading has at most 73 bytes.
 use Prim.Native.Nat.{_*_, _≤_}
 use native.Mathlib.Nat.{mul-le-mul}
 use native.Mathlib.Omega.{arith}
-use borrow.Author.Needs.{needs}
-use Rattle.packing.specs.Reading.{readingLength}
-use Rattle.packing.proofs.Widths.{length-small}
 use Rattle.listing.proofs.Accepted.{found-few}
+use Rattle.lister.specs.Lines.{sizeOf}
+use Rattle.lister.proofs.Shapes.{size-small}
+use borrow.Author.Needs.{needs}
 use Rattle.lister.proofs.main.Statement.{statement}
 use Rattle.lister.proofs.main.Tie as tie
 
@@ -38,6 +38,9 @@ array-share-prefix-utterance c = search needs
 
 slice-aggregate-shape-of-2 : tie.Need-slice-aggregate-shape-of-2
 slice-aggregate-shape-of-2 c = search needs
+
+slice-aggregate-shape-of-3 : tie.Need-slice-aggregate-shape-of-3
+slice-aggregate-shape-of-3 c = search needs
 
 shape-of-requires : tie.Need-shape-of-requires
 shape-of-requires c κs = search needs
@@ -81,17 +84,15 @@ print-end-requires c κs = search needs
 slice-aggregate-print-lines : tie.Need-slice-aggregate-print-lines
 slice-aggregate-print-lines c = search needs
 
+slice-aggregate-print-lines-2 : tie.Need-slice-aggregate-print-lines-2
+slice-aggregate-print-lines-2 c = search needs
+
 print-lines-requires : tie.Need-print-lines-requires
 print-lines-requires c κs =
-    let at-m = c .before .before .before .before .before .before in
-    let at-listing = at-m .before .before .before .before in
-    let at-shape-of = at-listing .before .before .before .before .before in
-    let s = at-shape-of .shape-of .result in
-    let bounded = at-shape-of .shape-of .ensures .bounded in
-    let few : at-m .m .given .0 .0 ≤ 8 = found-few _ _ 8 _ _ (at-listing .listing .ensures .0) (at-m .m .given .1) in
-    let all : at-m .m .given .0 .0 * readingLength (s .slots) (s .rules) ≤ 8 * 52 =
-    mul-le-mul {n₂ = 8} {m₂ = 52} few (length-small (s .slots) (s .rules) (bounded .slots) (bounded .rules)) in
-    (bounded, omega (arith, at-listing .listing .kept))
+    let bounded = c .before .before .before .before .before .before .before .before .before .before .before .before .before .before .before .before .before .shape-of .ensures .bounded in
+    let few : c .before .before .before .before .before .before .before .m .given .0 .0 ≤ 8 = found-few _ _ 8 _ _ (c .before .before .before .before .before .before .before .before .before .before .before .listing .ensures .0) (c .before .before .before .before .before .before .before .m .given .1) in
+    let all : c .before .before .before .before .before .before .before .m .given .0 .0 * sizeOf (c .before .before .before .before .before .before .before .before .before .before .before .before .before .before .before .before .before .shape-of .result) ≤ 8 * 73 = mul-le-mul {n₂ = 8} {m₂ = 73} few (size-small (c .before .before .before .before .before .before .before .before .before .before .before .before .before .before .before .before .before .shape-of .result) bounded) in
+    (bounded, omega (arith, c .before .before .before .before .before .before .before .before .before .before .before .listing .kept))
 
 enum-known-n : tie.Need-enum-known-n
 enum-known-n c = search needs
@@ -131,6 +132,7 @@ main-spec =
     slice-aggregate-shape-of
     array-share-prefix-utterance
     slice-aggregate-shape-of-2
+    slice-aggregate-shape-of-3
     shape-of-requires
     array-share-prefix-grammar-2
     slice-aggregate-listing
@@ -145,6 +147,7 @@ main-spec =
     print-further-requires
     print-end-requires
     slice-aggregate-print-lines
+    slice-aggregate-print-lines-2
     print-lines-requires
     enum-known-n
     slice-aggregate-print-2

@@ -1,61 +1,69 @@
 -- Each turn's reading lies within the output.
 use mathlib.Core.Path.{_≡_}
-use Prim.Native.Nat.{_+_, _-_, _*_, _≤_}
+use Prim.Native.Nat.{ℕ, _+_, _-_, _*_, _≤_, _<_}
 use native.Mathlib.Nat.{mul-le-mul-right}
 use native.Mathlib.Omega.{arith}
 use borrow.Author.Needs.{needs}
 use lib.ListN.{length}
-use Rattle.packing.specs.Reading.{readingLength}
 use Rattle.lister.proofs.print_lines.Statement.{statement}
 use Rattle.lister.proofs.print_lines.Tie as tie
 
+part-within : (k m size n : ℕ) → k < m → m * size ≤ n → k * size + size ≤ n
+part-within k m size n l h = let parts : k + 1 ≤ m = omega arith in omega (arith, mul-le-mul-right size parts)
+
 abbrev Inv-loop : tie.InvT-loop
-Inv-loop out m s nodes walk₀ k₀ walk k = (k ≤ m) × (length walk ≡ 47)
+Inv-loop out m rules s size walk₀ k₀ walk k = (k ≤ m) × (length walk ≡ 47)
 
 abbrev μ-loop : tie.MeasureT-loop
-μ-loop out m s nodes walk₀ k₀ walk k = m - k
+μ-loop out m rules s size walk₀ k₀ walk k = m - k
 
-mul-nodes : tie.Need-mul-nodes Inv-loop μ-loop
-mul-nodes c = omega arith
-
-sub-nodes : tie.Need-sub-nodes Inv-loop μ-loop
-sub-nodes c = omega arith
+size-of-requires : tie.Need-size-of-requires Inv-loop μ-loop
+size-of-requires c κs = search needs
 
 loop-holds : tie.Need-loop-holds Inv-loop μ-loop
 loop-holds c = omega arith
 
+mul-from : tie.Need-mul-from Inv-loop μ-loop
+mul-from c = let w = part-within (c .before .loop .k) (c .before .before .before .before .before .args .m) (c .before .before .size-of .result) (length (c .before .before .before .before .before .args .out .now)) (c .loop-test .taken) (rw (c .before .before .size-of .ensures) (c .before .before .before .before .before .pre .1)) in omega (arith, w)
+
+add-upto : tie.Need-add-upto Inv-loop μ-loop
+add-upto c = let w = part-within (c .before .loop .k) (c .before .before .before .before .before .args .m) (c .before .before .size-of .result) (length (c .before .before .before .before .before .args .out .now)) (c .loop-test .taken) (rw (c .before .before .size-of .ensures) (c .before .before .before .before .before .pre .1)) in omega (arith, w)
+
+sub-line-of : tie.Need-sub-line-of Inv-loop μ-loop
+sub-line-of c = search needs
+
+part-line-of-start : tie.Need-part-line-of-start Inv-loop μ-loop
+part-line-of-start c = search needs
+
+part-line-of-end : tie.Need-part-line-of-end Inv-loop μ-loop
+part-line-of-end c = let w = part-within (c .before .loop .k) (c .before .before .before .before .before .args .m) (c .before .before .size-of .result) (length (c .before .before .before .before .before .args .out .now)) (c .loop-test .taken) (rw (c .before .before .size-of .ensures) (c .before .before .before .before .before .pre .1)) in omega (arith, w)
+
 slice-aggregate-line-of : tie.Need-slice-aggregate-line-of Inv-loop μ-loop
-slice-aggregate-line-of c = omega arith
+slice-aggregate-line-of c = omega (arith, c .before .before .before .loop .inv .1)
 
 line-of-requires : tie.Need-line-of-requires Inv-loop μ-loop
-line-of-requires c κs =
-    let at-start = c .before .before .before .before .before in
-    let a = at-start .args in
-    let k = c .before .before .loop .k in
-    let within : (k + 1) * readingLength (a .s .slots) (a .s .rules) ≤ a .m * readingLength (a .s .slots) (a .s .rules) =
-    mul-le-mul-right (readingLength (a .s .slots) (a .s .rules)) (omega (arith, c .before .loop-test .taken)) in
-    (at-start .pre .0, omega (arith, at-start .pre .1), omega (arith, at-start .pre .0, c .before .before .loop .inv .1))
+line-of-requires c κs = (c .before .before .before .before .before .before .before .pre .0, omega (arith, c .before .before .before .loop .inv .1))
 
 add-print-line : tie.Need-add-print-line Inv-loop μ-loop
-add-print-line c = omega arith
+add-print-line c = omega (arith, c .before .before .before .before .loop-test .taken)
 
 cast-print-line : tie.Need-cast-print-line Inv-loop μ-loop
-cast-print-line c = omega arith
+cast-print-line c = search needs
 
 slice-aggregate-print-line : tie.Need-slice-aggregate-print-line Inv-loop μ-loop
-slice-aggregate-print-line c = omega arith
+slice-aggregate-print-line c = omega (arith, c .before .before .before .before .before .before .before .loop .inv .1)
 
 print-line-requires : tie.Need-print-line-requires Inv-loop μ-loop
 print-line-requires c κs = search needs
 
 add-k : tie.Need-add-k Inv-loop μ-loop
-add-k c = omega arith
+add-k c = omega (arith, c .before .before .before .before .before .before .before .loop-test .taken)
 
 loop-less : tie.Need-loop-less Inv-loop μ-loop
-loop-less c = omega arith
+loop-less c = omega (arith, c .before .before .before .before .before .before .before .loop-test .taken)
 
 loop-again : tie.Need-loop-again Inv-loop μ-loop
-loop-again c = omega arith
+loop-again c = omega (arith, c .before .before .before .before .before .before .before .loop-test .taken, c .before .before .before .before .before .before .before .before .loop .inv .1)
 
 returns : tie.Need-returns Inv-loop μ-loop
 returns c = search needs
@@ -66,9 +74,13 @@ print-lines-spec =
     (tie.spec
     Inv-loop
     μ-loop
-    mul-nodes
-    sub-nodes
+    size-of-requires
     loop-holds
+    mul-from
+    add-upto
+    sub-line-of
+    part-line-of-start
+    part-line-of-end
     slice-aggregate-line-of
     line-of-requires
     add-print-line

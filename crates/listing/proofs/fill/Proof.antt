@@ -3,7 +3,6 @@ use mathlib.Core.Path.{_∙_}
 use native.Mathlib.Nat.{mul-le-mul-right}
 use native.Mathlib.Omega.{arith}
 use borrow.Author.Needs.{needs}
-use Rattle.packing.specs.Reading.{readingLength}
 use Rattle.listing.proofs.fill.Statement.{statement}
 use Rattle.listing.proofs.fill.Tie as tie
 
@@ -14,16 +13,8 @@ write-readings-requires : tie.Need-write-readings-requires
 write-readings-requires c κs =
     let at-enumerate = c .before .before .before .before in
     let at-start = at-enumerate .before .before .before .before .before .before in
-    let a = at-start .args in
-    let few = at-enumerate .enumerate .ensures .1 .1 in (
-      at-start .pre .0,
-      at-start .pre .1,
-      at-start .pre .2,
-      at-start .pre .3,
-      at-start .pre .4,
-      few,
-      omega (arith, at-start .pre .6, mul-le-mul-right (readingLength (a .d .places) (a .count)) few),
-    )
+    let few = at-enumerate .enumerate .ensures .1 .1 in
+    (at-start .pre .0, at-start .pre .1, few, omega (arith, at-start .pre .3, mul-le-mul-right (at-start .args .form .size) few))
 
 clear-table-requires : tie.Need-clear-table-requires
 clear-table-requires c κs = search needs

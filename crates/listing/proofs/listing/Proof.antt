@@ -33,8 +33,8 @@ returns c =
     let at-read-block = c .before .before .before .before in
     let at-start = at-read-block .before .before .before .before .before .before in
     let a = at-start .args in
-    promised (a .grammar .now) (a .utterance .now) (a .wanted) (a .work .now) (a .out .now) _ _ _
-    (block-refused (a .grammar .now) (a .utterance .now) (a .wanted) (a .work .now) (a .out .now)
+    promised (a .grammar .now) (a .heard .now) (a .wanted) (a .work .now) (a .out .now) _ _ _
+    (block-refused (a .grammar .now) (a .heard .now) (a .wanted) (a .work .now) (a .out .now)
     (refused-told (grammarBlock (a .grammar .now)) (at-read-block .read-block .ensures .0) (c .before .n .given .1)))
 
 same-length : tie.Need-same-length
@@ -51,8 +51,8 @@ returns-2 c =
     let at-start = at-read-block .before .before .before .before .before .before in
     let a = at-start .args in
     let (g, v, z) = accepted-told (grammarBlock (a .grammar .now)) (at-read-block .read-block .ensures .0) (at-sizes .sizes .given .1) in
-    promised (a .grammar .now) (a .utterance .now) (a .wanted) (a .work .now) (a .out .now) _ _ _
-    (block-listed (a .grammar .now) (a .utterance .now) (a .wanted) (a .work .now) (a .out .now) (at-read-block .read-block .last .1 .0) g v z
+    promised (a .grammar .now) (a .heard .now) (a .wanted) (a .work .now) (a .out .now) _ _ _
+    (block-listed (a .grammar .now) (a .heard .now) (a .wanted) (a .work .now) (a .out .now) (at-read-block .read-block .last .1 .0) g v z
     (rw v at (at-read-block .read-block .ensures .1)) (at-list-grammar .list-grammar .ensures))
 
 pub listing-spec : {M : Type 1} → statement M

@@ -4,7 +4,6 @@ use Prim.Native.Nat.{_*_, _≤_, _<_}
 use native.Mathlib.Omega.{arith}
 use borrow.Author.Needs.{needs}
 use borrow.Author.Tests.{lt-ltb, le-ltb}
-use Rattle.packing.specs.Reading.{readingLength}
 use Rattle.listing.specs.Listing.{tableSize}
 use Rattle.listing.specs.Model.{shortage}
 use Rattle.listing.proofs.Sizes.{table-is, output-small}
@@ -43,45 +42,32 @@ returns-3 c =
     let short : a .work < tableSize (a .symbols) (a .n) (a .wanted) = rw (numbers (c .before)) at (c .if3 .taken) in
     rw (le-ltb (a .wanted) 1 (at-if2 .before .if1 .left), le-ltb 256 (a .wanted) (at-if2 .if2 .left), lt-ltb _ _ short)
 
-reading-length-requires : tie.Need-reading-length-requires
-reading-length-requires c κs = search needs
-
 mul-if4 : tie.Need-mul-if4
 mul-if4 c =
-    let at-if2 = c .before .before .before .before in
-    let a = at-if2 .before .before .args in
-    rw (c .reading-length .ensures) (omega (arith, output-small {n = a .n} {R = a .rules} {N = a .wanted} (omega arith) (omega arith) (at-if2 .if2 .left)))
+    let at-if2 = c .before .before .before in
+    omega (arith, output-small (at-if2 .if2 .left) (at-if2 .before .before .pre .2))
+
+-- what both ways out of the last test know
+table : (c : tie.Else3)
+    → let a = c .before .before .before .before .before .args in
+    tableSize (a .symbols) (a .n) (a .wanted) ≤ a .work
+table c = rw (numbers (c .before)) at (c .if3 .left)
 
 returns-4 : tie.Need-returns-4
 unfolding shortage
 returns-4 c =
-    let at-if3 = c .before .before in
+    let at-if3 = c .before in
     let at-if2 = at-if3 .before .before .before in
     let a = at-if2 .before .before .args in
-    let table : tableSize (a .symbols) (a .n) (a .wanted) ≤ a .work = rw (numbers (at-if3 .before)) at (at-if3 .if3 .left) in
-    let short : a .out < a .wanted * readingLength (a .n) (a .rules) = rw (c .before .reading-length .ensures) at (c .if4 .taken) in
-    rw (le-ltb (a .wanted) 1 (at-if2 .before .if1 .left), le-ltb 256 (a .wanted) (at-if2 .if2 .left), le-ltb _ _ table, lt-ltb _ _ short)
+    rw (le-ltb (a .wanted) 1 (at-if2 .before .if1 .left), le-ltb 256 (a .wanted) (at-if2 .if2 .left), le-ltb _ _ (table at-if3), lt-ltb _ _ (c .if4 .taken))
 
 returns-5 : tie.Need-returns-5
 unfolding shortage
 returns-5 c =
-    let at-if3 = c .before .before in
+    let at-if3 = c .before in
     let at-if2 = at-if3 .before .before .before in
     let a = at-if2 .before .before .args in
-    let table : tableSize (a .symbols) (a .n) (a .wanted) ≤ a .work = rw (numbers (at-if3 .before)) at (at-if3 .if3 .left) in
-    let room : a .wanted * readingLength (a .n) (a .rules) ≤ a .out = rw (c .before .reading-length .ensures) at (c .if4 .left) in
-    rw (le-ltb (a .wanted) 1 (at-if2 .before .if1 .left), le-ltb 256 (a .wanted) (at-if2 .if2 .left), le-ltb _ _ table, le-ltb _ _ room)
+    rw (le-ltb (a .wanted) 1 (at-if2 .before .if1 .left), le-ltb 256 (a .wanted) (at-if2 .if2 .left), le-ltb _ _ (table at-if3), le-ltb _ _ (c .if4 .left))
 
 pub shortage-spec : {M : Type 1} → statement M
-shortage-spec =
-    tie.close
-    (tie.spec
-    returns
-    returns-2
-    lay-out-requires
-    table-numbers-requires
-    returns-3
-    reading-length-requires
-    mul-if4
-    returns-4
-    returns-5)
+shortage-spec = tie.close (tie.spec returns returns-2 lay-out-requires table-numbers-requires returns-3 mul-if4 returns-4 returns-5)

@@ -1,7 +1,10 @@
--- The walk is traced into zeros, so the block written is the rank's.
+-- The trace is written into zeros, so the reading written is the rank's, of a graph or of slots.
+use mathlib.Core.Path.{_≡_, ap}
+use Prim.Native.Nat.{ℕ, _+_, _/_}
 use native.Mathlib.Omega.{arith}
 use borrow.Author.Needs.{needs}
-use Rattle.listing.proofs.Written.{rank-written}
+use Rattle.packing.specs.Reading.{readingLength}
+use Rattle.listing.proofs.Written.{given, graph-written, slots-written}
 use Rattle.listing.proofs.write_rank.Statement.{statement}
 use Rattle.listing.proofs.write_rank.Tie as tie
 
@@ -11,22 +14,66 @@ slice-aggregate-trace-root c = search needs
 trace-root-requires : tie.Need-trace-root-requires
 trace-root-requires c κs = search needs
 
-slice-aggregate-write-reading : tie.Need-slice-aggregate-write-reading
-slice-aggregate-write-reading c = search needs
+root-weight-requires : tie.Need-root-weight-requires
+root-weight-requires c κs = search needs
 
-write-reading-requires : tie.Need-write-reading-requires
-write-reading-requires c κs = search needs
+add-n : tie.Need-add-n
+add-n c = search needs
+
+slice-aggregate-write-graph-reading : tie.Need-slice-aggregate-write-graph-reading
+slice-aggregate-write-graph-reading c = search needs
+
+write-graph-reading-requires : tie.Need-write-graph-reading-requires
+write-graph-reading-requires c κs =
+    let at-if1 = c .before .before in
+    let at-trace-root = at-if1 .before .before .before in
+    let at-start = at-trace-root .before .before .before .before .before in
+    let a = at-start .args in
+    let form = at-start .pre .1 in
+    let edges = ap (λ (k : ℕ). (k / 2 + 1) / 2) (at-trace-root .trace-root .ensures .1) in
+    let g = given (a .t .now) (a .rules .now) (a .d) (a .x) (form .some-place) (form .places) (a .form) form (at-if1 .if1 .taken) edges (at-trace-root .trace-root .ensures .0) in
+    (g .some-edge, g .few, form .some-rule, form .rules, g .long, at-start .pre .3, g .room)
 
 same-length : tie.Need-same-length
 same-length c = search needs
 
 returns : tie.Need-returns
 returns c =
-    let at-trace-root = c .before .before .before .before .before .before in
+    let at-if1 = c .before .before .before .before .before in
+    let at-root-weight = at-if1 .before in
+    let at-trace-root = at-root-weight .before .before in
     let at-start = at-trace-root .before .before .before .before .before in
     let a = at-start .args in
-    rank-written (a .t .now) (a .rules .now) (a .d) (a .count) (omega (arith, at-start .pre)) (a .x) (a .out .now)
-    (at-trace-root .trace-root .ensures .1) (at-trace-root .trace-root .ensures .0) (c .before .before .write-reading .ensures)
+    let form = at-start .pre .1 in
+    let edges = ap (λ (k : ℕ). (k / 2 + 1) / 2) (at-trace-root .trace-root .ensures .1) in
+    graph-written (a .t .now) (a .rules .now) (a .d) (a .x) (form .some-place) (form .places) (a .form) (a .out .now) (at-if1 .if1 .taken) edges
+    (at-root-weight .root-weight .ensures) (at-trace-root .trace-root .ensures .0) (c .before .before .write-graph-reading .ensures)
+
+slice-aggregate-write-reading : tie.Need-slice-aggregate-write-reading
+slice-aggregate-write-reading c = search needs
+
+write-reading-requires : tie.Need-write-reading-requires
+write-reading-requires c κs =
+    let at-if1 = c .before .before in
+    let at-start = at-if1 .before .before .before .before .before .before .before .before in
+    let a = at-start .args in
+    let form = at-start .pre .1 in
+    let size : a .form .size ≡ readingLength (a .d .places) (a .form .rules) = rw (at-if1 .if1 .left) at (form .size) in
+    (form .some-place, form .places, form .some-rule, form .rules, omega (arith, form .places), omega (arith, size, at-start .pre .3))
+
+same-length-2 : tie.Need-same-length-2
+same-length-2 c = search needs
+
+returns-2 : tie.Need-returns-2
+returns-2 c =
+    let at-if1 = c .before .before .before .before .before in
+    let at-root-weight = at-if1 .before in
+    let at-trace-root = at-root-weight .before .before in
+    let at-start = at-trace-root .before .before .before .before .before in
+    let a = at-start .args in
+    let form = at-start .pre .1 in
+    slots-written (a .t .now) (a .rules .now) (a .d) (a .x) (form .some-place) (form .places) (a .form) (a .out .now) form (at-if1 .if1 .left)
+    (at-root-weight .root-weight .ensures) (at-trace-root .trace-root .ensures .0) (c .before .before .write-reading .ensures)
 
 pub write-rank-spec : {M : Type 1} → statement M
 write-rank-spec =
@@ -34,7 +81,13 @@ write-rank-spec =
     (tie.spec
     slice-aggregate-trace-root
     trace-root-requires
+    root-weight-requires
+    add-n
+    slice-aggregate-write-graph-reading
+    write-graph-reading-requires
+    same-length
+    returns
     slice-aggregate-write-reading
     write-reading-requires
-    same-length
-    returns)
+    same-length-2
+    returns-2)

@@ -7,33 +7,26 @@ use native.Mathlib.Omega.{arith}
 use lib.ListN.{length, drop, length-take, length-drop}
 use borrow.Rule.Slice.PartMut.{same-len-mid}
 use Rattle.packing.specs.Loop.{iter}
-use Rattle.packing.specs.Reading.{readingLength}
 use Rattle.listing.specs.Model.{blocksAt}
 use Rattle.listing.proofs.Written.{written-more}
 use Rattle.listing.proofs.write_readings.Statement.{statement}
 use Rattle.listing.proofs.write_readings.Tie as tie
 
 abbrev Inv-loop : tie.InvT-loop
-Inv-loop t rules count d m out₀ size x₀ out x =
-    (x ≤ m) × (length out ≡ length out₀) × (out ≡ blocksAt t rules d count x ++ drop (x * readingLength (d .places) count) out₀)
+Inv-loop t rules form d m out₀ size x₀ out x = (x ≤ m) × (length out ≡ length out₀) × (out ≡ blocksAt t rules d form x ++ drop (x * form .size) out₀)
 
 abbrev μ-loop : tie.MeasureT-loop
-μ-loop t rules count d m out₀ size x₀ out x = m - x
+μ-loop t rules form d m out₀ size x₀ out x = m - x
 
 -- a turn's block lies within the output
 within : (c : tie.In-loop Inv-loop μ-loop)
-    → (c .before .loop .x + 1) * c .before .before .reading-length .result ≤ length (c .before .loop .out)
+    → (c .before .loop .x + 1) * c .before .before .before .before .before .args .form .size ≤ length (c .before .loop .out)
 within c =
     let at-loop = c .before in
-    let at-reading-length = at-loop .before in
-    let at-start = at-reading-length .before .before .before .before in
+    let at-start = at-loop .before .before .before .before in
     let a = at-start .args in
-    let all : (at-loop .loop .x + 1) * readingLength (a .d .places) (a .count) ≤ a .m * readingLength (a .d .places) (a .count) =
-    mul-le-mul-right (readingLength (a .d .places) (a .count)) (omega (arith, c .loop-test .taken)) in
-    rw (at-reading-length .reading-length .ensures) (omega (arith, at-start .pre))
-
-reading-length-requires : tie.Need-reading-length-requires Inv-loop μ-loop
-reading-length-requires c κs = omega arith
+    let all : (at-loop .loop .x + 1) * a .form .size ≤ a .m * a .form .size = mul-le-mul-right (a .form .size) (omega (arith, c .loop-test .taken)) in
+    omega (arith, at-start .pre)
 
 loop-holds : tie.Need-loop-holds Inv-loop μ-loop
 unfolding blocksAt iter
@@ -54,16 +47,11 @@ part-write-rank-end c = omega arith
 write-rank-requires : tie.Need-write-rank-requires Inv-loop μ-loop
 write-rank-requires c κs =
     let at-loop = c .before .before in
-    let at-start = at-loop .before .before .before .before .before in
-    let a = at-start .args in
-    let size : readingLength (a .d .places) (a .count) ≡ at-loop .before .reading-length .result = sym (at-loop .before .reading-length .ensures) in (
+    let at-start = at-loop .before .before .before .before in (
       at-start .pre .0,
-      omega (arith, at-start .pre),
-      omega (arith, at-start .pre),
-      omega (arith, at-start .pre),
-      omega (arith, at-start .pre),
+      at-start .pre .1,
       omega (arith, at-start .pre, c .before .loop-test .taken),
-      simp (length-take, length-drop) (omega (arith, size, within (c .before))),
+      simp (length-take, length-drop) (omega (arith, within (c .before))),
     )
 
 add-x : tie.Need-add-x Inv-loop μ-loop
@@ -76,15 +64,14 @@ loop-again : tie.Need-loop-again Inv-loop μ-loop
 loop-again c =
     let at-write-rank = c .before .before in
     let at-loop = at-write-rank .before .before .before in
-    let at-start = at-loop .before .before .before .before .before in
+    let at-start = at-loop .before .before .before .before in
     let a = at-start .args in
     let l = at-loop .loop in
-    let size = at-loop .before .reading-length .result in
+    let size = a .form .size in
     let part = at-write-rank .write-rank .last .1 .1 .1 .1 .1 .0 in (
       omega (arith, at-write-rank .before .before .loop-test .taken),
       same-len-mid (l .x * size) (length (l .out) - l .x * size) (l .out) part (at-write-rank .write-rank .kept .1 .1 .1 .1 .1 .0) ∙ l .inv .1,
-      written-more (a .t .now) (a .rules .now) (a .d) (a .count) (omega (arith, at-start .pre)) (l .x) size (a .out .now)
-          (at-loop .before .reading-length .ensures) (l .inv .2) (at-write-rank .write-rank .ensures),
+      written-more (a .t .now) (a .rules .now) (a .d) (a .form) (at-start .pre .1) (l .x) (a .out .now) (l .inv .2) (at-write-rank .write-rank .ensures),
     )
 
 same-length : tie.Need-same-length Inv-loop μ-loop
@@ -93,7 +80,7 @@ same-length c = omega arith
 returns : tie.Need-returns Inv-loop μ-loop
 returns c =
     let at-loop = c .before in
-    let at-start = at-loop .before .before .before .before .before in
+    let at-start = at-loop .before .before .before .before in
     let all : at-loop .loop .x ≡ at-start .args .m = omega (arith, c .loop-test .left) in
     rw all at (at-loop .loop .inv .2)
 
@@ -103,7 +90,6 @@ write-readings-spec =
     (tie.spec
     Inv-loop
     μ-loop
-    reading-length-requires
     loop-holds
     mul-at
     sub-write-rank

@@ -4,6 +4,7 @@ use mathlib.Core.Logic.{⊎-elim}
 use native.Mathlib.Omega.{arith}
 use Prim.Native.Nat.{_≤_, _-_}
 use lib.ListN.{take}
+use Rattle.packing.specs.Alike.{anyLike}
 use Rattle.rules_reader.specs.Rules.{among}
 use Rattle.rules_reader.proofs.Keys.{among-hit, among-miss}
 use Rattle.rules_reader.proofs.seen.Statement.{statement}
@@ -16,7 +17,7 @@ abbrev μ-loop : tie.MeasureT-loop
 μ-loop keys n key found₀ i₀ found i = n - i
 
 loop-holds : tie.Need-loop-holds Inv-loop μ-loop
-unfolding among
+unfolding anyLike
 loop-holds c = (omega arith, refl)
 
 mul-if1 : tie.Need-mul-if1 Inv-loop μ-loop

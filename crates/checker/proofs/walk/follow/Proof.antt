@@ -1,120 +1,79 @@
--- Each way out is one of the run's: no part to come, no such rule, another head, a pair rule, a word rule.
-use mathlib.Core.Path.{sym, ap, _∙_}
-use mathlib.Core.Option.{some}
-use Prim.Native.Nat.{_-_}
+-- Each way out is one of the run's: no rule fits, a pair rule does, a word rule does.
+use mathlib.Core.Path.{sym, _∙_}
 use native.Mathlib.Omega.{arith}
+use Rattle.packing.specs.Flat.{rulesOf, slotsOf}
+use Rattle.parts_stack.specs.Stack.{headsOf}
+use Rattle.parts_stack.proofs.Fits.{pair-there, word-there}
+use Rattle.checker.proofs.Steps.{nothing-fits, pair-fits, word-fits}
 use borrow.Author.Needs.{needs}
-use borrow.Author.Tests.{eq-eqb, ne-eqb}
-use lib.ListN.{getD}
-use Rattle.packing.specs.Flat.{rulesOf}
-use Rattle.packing.proofs.Flat.{rule-of, no-rule-of}
-use Rattle.checker.proofs.Steps.{no-part, no-rule, pair-rule, word-rule}
 use Rattle.checker.proofs.walk.follow.Statement.{statement}
 use Rattle.checker.proofs.walk.follow.Tie as tie
 
-returns : tie.Need-returns
-returns c =
-    let a = c .before .before .before .before .args in
-    (no-part (rulesOf (a .rules .now) (a .count)) (a .slots .now) (a .stack .now) (a .at) (a .r) (c .if1 .taken), tt)
+fitting-requires : tie.Need-fitting-requires
+fitting-requires c κs = search needs
 
-returns-2 : tie.Need-returns-2
-returns-2 c =
-    let a = c .before .before .before .before .before .args in
-    let past = no-rule-of (a .rules .now) 0 (a .count) (a .r) (c .if2 .taken) in
-    (no-rule (rulesOf (a .rules .now) (a .count)) (a .slots .now) (a .stack .now) (a .at) (a .r) past, tt)
+enum-told : tie.Need-enum-told
+enum-told c = search needs
 
-sub-top : tie.Need-sub-top
-sub-top c = search needs
-
-mul-top : tie.Need-mul-top
-mul-top c = search needs
-
-slice-read-top : tie.Need-slice-read-top
-slice-read-top c = search needs
-
-rule-at-requires : tie.Need-rule-at-requires
-rule-at-requires c κs = search needs
-
-enum-known-head : tie.Need-enum-known-head
-enum-known-head c = search needs
+enum-known-first : tie.Need-enum-known-first
+enum-known-first c = search needs
 
 pair-step-requires : tie.Need-pair-step-requires
-pair-step-requires c κs = search needs
+pair-step-requires c κs =
+    let a = c .before .before .before .before .before .before .before .before .before .args in
+    let fit = sym (c .before .before .before .before .fitting .ensures) ∙ c .before .before .first .given .1 in
+    omega (arith, pair-there (rulesOf (a .rules .now) (a .count)) (a .stack .now) (a .at .height) (a .r) fit .0)
+
+enum-known-word : tie.Need-enum-known-word
+enum-known-word c = search needs
+
+word-step-requires : tie.Need-word-step-requires
+word-step-requires c κs =
+    let a = c .before .before .before .before .before .before .before .before .args in
+    let fit = sym (c .before .before .before .fitting .ensures) ∙ c .before .word .given .1 in
+    omega (arith, word-there (rulesOf (a .rules .now) (a .count)) (a .stack .now) (a .at .height) (a .r) fit .0)
 
 same-length : tie.Need-same-length
 same-length c = search needs
 
+returns : tie.Need-returns
+returns c =
+    let a = c .before .before .before .before .before .before .before .args in
+    let fit = sym (c .before .before .fitting .ensures) ∙ c .enum-told .given .1 in
+    (nothing-fits (rulesOf (a .rules .now) (a .count)) (slotsOf (a .slots .now) (a .at .left) (a .at .place)) (headsOf (a .stack .now) (a .at .height)) (a .at .weight) (a .r) fit, tt)
+
+same-length-2 : tie.Need-same-length-2
+same-length-2 c = search needs
+
+returns-2 : tie.Need-returns-2
+returns-2 c =
+    let a = c .before .before .before .before .before .before .before .before .before .before .before .before .args in
+    let fit = sym (c .before .before .before .before .before .before .before .fitting .ensures) ∙ c .before .before .before .before .before .first .given .1 in
+    (pair-fits (rulesOf (a .rules .now) (a .count)) (a .slots .now) (a .stack .now) (a .at) (a .r) (c .before .before .pair-step .last .0) (c .before .before .pair-step .result) fit (c .before .before .pair-step .ensures .0), c .before .before .pair-step .ensures .1)
+
+same-length-3 : tie.Need-same-length-3
+same-length-3 c = search needs
+
 returns-3 : tie.Need-returns-3
 returns-3 c =
-    let at-step = c .before .before in
-    let at-head = at-step .before .before .before .before .before in
-    let at-rule = at-head .before .before in
-    let at-if2 = at-rule .before .before in
-    let a = at-if2 .before .before .before .before .before .args in
-    let is = sym (at-rule .rule-at .ensures) ∙ at-head .head .given .1 in
-    let there = rule-of (a .rules .now) (a .count) (a .r) (at-if2 .if2 .left) ∙ ap some is in
-    let rule = pair-rule (rulesOf (a .rules .now) (a .count)) (a .slots .now) (a .stack .now) (a .at) (a .r) (omega arith) there in
-    let same = eq-eqb (at-head .head .given .0 .0 .0) (getD (a .stack .now) (a .at .height - 1) 0) (at-step .before .before .if3 .taken) in
-    (at-step .pair-step .ensures .0 (a .slots .now) ∙ sym (rw same at rule), at-step .pair-step .ensures .1)
-
-enum-known-head-2 : tie.Need-enum-known-head-2
-enum-known-head-2 c = search needs
-
-word-step-requires : tie.Need-word-step-requires
-word-step-requires c κs = search needs
-
-returns-4 : tie.Need-returns-4
-returns-4 c =
-    let at-head = c .before .before .before .before in
-    let at-rule = at-head .before .before in
-    let at-if2 = at-rule .before .before in
-    let a = at-if2 .before .before .before .before .before .args in
-    let is = sym (at-rule .rule-at .ensures) ∙ at-head .head2 .given .1 in
-    let there = rule-of (a .rules .now) (a .count) (a .r) (at-if2 .if2 .left) ∙ ap some is in
-    let rule = word-rule (rulesOf (a .rules .now) (a .count)) (a .slots .now) (a .stack .now) (a .at) (a .r) (omega arith) (omega arith) there in
-    let same = eq-eqb (at-head .head2 .given .0 .0 .0) (getD (a .stack .now) (a .at .height - 1) 0) (c .before .if4 .taken) in
-    (c .word-step .ensures .0 (a .stack .now) ∙ sym (rw same at rule), c .word-step .ensures .1)
-
-returns-5 : tie.Need-returns-5
-returns-5 c =
-    let at-head = c .before .before .before in
-    let at-rule = at-head .before .before in
-    let at-if2 = at-rule .before .before in
-    let a = at-if2 .before .before .before .before .before .args in
-    let is = sym (at-rule .rule-at .ensures) ∙ at-head .head .given .1 in
-    let there = rule-of (a .rules .now) (a .count) (a .r) (at-if2 .if2 .left) ∙ ap some is in
-    let rule = pair-rule (rulesOf (a .rules .now) (a .count)) (a .slots .now) (a .stack .now) (a .at) (a .r) (omega arith) there in
-    let other = ne-eqb (at-head .head .given .0 .0 .0) (getD (a .stack .now) (a .at .height - 1) 0) (c .if3 .left) in
-    (sym (rw other at rule), tt)
-
-returns-6 : tie.Need-returns-6
-returns-6 c =
-    let at-head = c .before .before .before in
-    let at-rule = at-head .before .before in
-    let at-if2 = at-rule .before .before in
-    let a = at-if2 .before .before .before .before .before .args in
-    let is = sym (at-rule .rule-at .ensures) ∙ at-head .head2 .given .1 in
-    let there = rule-of (a .rules .now) (a .count) (a .r) (at-if2 .if2 .left) ∙ ap some is in
-    let rule = word-rule (rulesOf (a .rules .now) (a .count)) (a .slots .now) (a .stack .now) (a .at) (a .r) (omega arith) (omega arith) there in
-    let other = ne-eqb (at-head .head2 .given .0 .0 .0) (getD (a .stack .now) (a .at .height - 1) 0) (c .if4 .left) in
-    (sym (rw other at rule), tt)
+    let a = c .before .before .before .before .before .before .before .before .before .args in
+    let fit = sym (c .before .before .before .before .fitting .ensures) ∙ c .before .before .word .given .1 in
+    let goes = word-fits (rulesOf (a .rules .now) (a .count)) (a .slots .now) (a .stack .now) (a .at) (a .r) (omega arith) fit in
+    (c .word-step .ensures .0 (a .stack .now) ∙ sym goes, c .word-step .ensures .1)
 
 pub follow-spec : {M : Type 1} → statement M
 follow-spec =
     tie.close
     (tie.spec
-    returns
-    returns-2
-    sub-top
-    mul-top
-    slice-read-top
-    rule-at-requires
-    enum-known-head
+    fitting-requires
+    enum-told
+    enum-known-first
     pair-step-requires
-    same-length
-    returns-3
-    enum-known-head-2
+    enum-known-word
     word-step-requires
-    returns-4
-    returns-5
-    returns-6)
+    same-length
+    returns
+    same-length-2
+    returns-2
+    same-length-3
+    returns-3)

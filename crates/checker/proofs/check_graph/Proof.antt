@@ -1,0 +1,66 @@
+-- The array's edges are those of the graph that was accepted.
+use mathlib.Core.Path.{sym, ap, _∙_}
+use Prim.Native.Nat.{_-_}
+use native.Mathlib.Omega.{arith}
+use Rattle.packing.specs.Graph.{graphBlock}
+use Rattle.packing.specs.Flat.{rulesOf}
+use Rattle.packing.proofs.Flat.{length-rules-at}
+use Rattle.graph_reader.proofs.Outcome.{accepted-told, refused-told}
+use Rattle.graph_reader.specs.declared.GraphSize.{GraphSize}
+use Rattle.checker.proofs.Answered.{graph-judged}
+use borrow.Author.Needs.{needs}
+use Rattle.checker.proofs.check_graph.Statement.{statement}
+use Rattle.checker.proofs.check_graph.Tie as tie
+
+slice-aggregate-read-graph : tie.Need-slice-aggregate-read-graph
+slice-aggregate-read-graph c = search needs
+
+read-graph-requires : tie.Need-read-graph-requires
+read-graph-requires c κs = search needs
+
+enum-known-m : tie.Need-enum-known-m
+enum-known-m c = search needs
+
+enum-known-found : tie.Need-enum-known-found
+enum-known-found c = search needs
+
+sub-t14 : tie.Need-sub-t14
+sub-t14 c =
+    let sized = rw (c .before .before .found .given .1) at (c .before .before .before .before .before .read-graph .ensures .2) in
+    omega (arith, sized)
+
+slice-aggregate-check-path : tie.Need-slice-aggregate-check-path
+slice-aggregate-check-path c = search needs
+
+check-path-requires : tie.Need-check-path-requires
+check-path-requires c κs =
+    let sized = rw (c .before .before .before .found .given .1) at (c .before .before .before .before .before .before .read-graph .ensures .2) in
+    omega (arith, sized, c .before .before .before .before .before .before .before .before .before .before .before .pre)
+
+returns : tie.Need-returns
+returns c =
+    let a = c .before .before .before .before .before .before .before .before .before .args in
+    rw (refused-told (graphBlock (a .words) (a .heard .now)) (c .before .before .before .before .read-graph .ensures .0) (c .before .m .given .1))
+
+returns-2 : tie.Need-returns-2
+returns-2 c =
+    let a = c .before .before .before .before .before .before .before .before .before .before .before .before .args in
+    let read = c .before .before .before .before .before .before .before .read-graph in
+    let (h, e, z) = accepted-told (graphBlock (a .words) (a .heard .now)) (read .ensures .0) (c .before .before .before .before .found .given .1) in
+    c .check-path .ensures
+    ∙ graph-judged (a .words) (rulesOf (a .rules .now) (a .count)) (a .heard .now) (a .reading .now) (read .last .1 .1 .0) e (read .ensures .1)
+    (ap (λ (s : GraphSize). s .edges) z) (ap (λ (s : GraphSize). s .places - 1) z) (sym (length-rules-at (a .rules .now) 0 (a .count)))
+
+pub check-graph-spec : {M : Type 1} → statement M
+check-graph-spec =
+    tie.close
+    (tie.spec
+    slice-aggregate-read-graph
+    read-graph-requires
+    enum-known-m
+    enum-known-found
+    sub-t14
+    slice-aggregate-check-path
+    check-path-requires
+    returns
+    returns-2)

@@ -1,0 +1,54 @@
+-- The nodes stand in the block that was read, so the weight of the derivation that has them is that of the reading's path.
+use mathlib.Core.Path.{sym, _∙_}
+use native.Mathlib.Omega.{arith}
+use Rattle.packing.specs.Flat.{rulesOf}
+use Rattle.packing.proofs.Flat.{length-rules-at}
+use Rattle.graph_run.specs.Edges.{edgesOf}
+use Rattle.checker.proofs.Answered.{path-judged, path-failed}
+use borrow.Author.Needs.{needs}
+use Rattle.checker.proofs.check_path.Statement.{statement}
+use Rattle.checker.proofs.check_path.Tie as tie
+
+read-head-requires : tie.Need-read-head-requires
+read-head-requires c κs = search needs
+
+enum-known-m : tie.Need-enum-known-m
+enum-known-m c = search needs
+
+enum-known-head : tie.Need-enum-known-head
+enum-known-head c = search needs
+
+weight-of-requires : tie.Need-weight-of-requires
+weight-of-requires c κs =
+    let sized = rw (c .before .head .given .1) at (c .before .before .before .read-head .ensures .1) in
+    omega (arith, sized, c .before .before .before .before .before .before .before .pre)
+
+judge-requires : tie.Need-judge-requires
+judge-requires c κs =
+    let sized = rw (c .before .before .head .given .1) at (c .before .before .before .before .read-head .ensures .1) in
+    omega (arith, sized)
+
+returns : tie.Need-returns
+returns c =
+    let a = c .before .before .before .before .before .before .before .args in
+    path-failed (a .count) (a .graph .last) (rulesOf (a .rules .now) (a .count)) (edgesOf (a .edges .now) (a .graph .edges)) (a .reading .now)
+    (c .before .before .before .read-head .ensures .0) (c .before .m .given .1)
+
+returns-2 : tie.Need-returns-2
+returns-2 c =
+    let a = c .before .before .before .before .before .before .before .before .before .args in
+    c .judge .ensures
+    ∙ path-judged (a .count) (a .graph .last) (rulesOf (a .rules .now) (a .count)) (edgesOf (a .edges .now) (a .graph .edges)) (a .reading .now)
+    (c .before .before .before .before .before .read-head .ensures .0) (c .before .before .before .head .given .1) (sym (length-rules-at (a .rules .now) 0 (a .count))) (c .before .weight-of .ensures)
+
+pub check-path-spec : {M : Type 1} → statement M
+check-path-spec =
+    tie.close
+    (tie.spec
+    read-head-requires
+    enum-known-m
+    enum-known-head
+    weight-of-requires
+    judge-requires
+    returns
+    returns-2)

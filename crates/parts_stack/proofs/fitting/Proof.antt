@@ -1,0 +1,91 @@
+-- Each way out is the one that the tests on the stack, on the number and on the rule's head choose.
+use mathlib.Core.Path.{sym, ap, _∙_}
+use mathlib.Core.Option.{some}
+use Prim.Native.Nat.{_-_}
+use native.Mathlib.Omega.{arith}
+use borrow.Author.Needs.{needs}
+use borrow.Author.Tests.{eq-eqb, ne-eqb}
+use lib.ListN.{getD}
+use Rattle.packing.specs.Flat.{rulesOf}
+use Rattle.packing.proofs.Flat.{rule-of, no-rule-of}
+use Rattle.parts_stack.specs.Stack.{headsOf}
+use Rattle.parts_stack.proofs.Heads.{no-part, no-rule, rule-fit}
+use Rattle.parts_stack.proofs.fitting.Statement.{statement}
+use Rattle.parts_stack.proofs.fitting.Tie as tie
+
+returns : tie.Need-returns
+returns c =
+    let a = c .before .before .before .args in
+    no-part (rulesOf (a .rules .now) (a .count)) (a .stack .now) (a .height) (a .r) (c .if1 .taken)
+
+returns-2 : tie.Need-returns-2
+returns-2 c =
+    let a = c .before .before .before .before .args in
+    no-rule (rulesOf (a .rules .now) (a .count)) (headsOf (a .stack .now) (a .height)) (a .r) (no-rule-of (a .rules .now) 0 (a .count) (a .r) (c .if2 .taken))
+
+sub-narrow-at : tie.Need-sub-narrow-at
+sub-narrow-at c = search needs
+
+narrow-at-requires : tie.Need-narrow-at-requires
+narrow-at-requires c κs = search needs
+
+rule-at-requires : tie.Need-rule-at-requires
+rule-at-requires c κs = search needs
+
+enum-known-head : tie.Need-enum-known-head
+enum-known-head c = search needs
+
+returns-3 : tie.Need-returns-3
+returns-3 c =
+    let a = c .before .before .before .before .before .before .before .before .before .before .before .args in
+    let is = sym (c .before .before .before .before .before .rule-at .ensures) ∙ c .before .before .before .head .given .1 in
+    let there = rule-of (a .rules .now) (a .count) (a .r) (c .before .before .before .before .before .before .before .if2 .left) ∙ ap some is in
+    let fit = rule-fit (rulesOf (a .rules .now) (a .count)) (a .stack .now) (a .height) (a .r) (omega arith) there in
+    let test = eq-eqb (c .before .before .before .head .given .0 .0 .0) (getD (a .stack .now) (a .height - 1) 0) (c .if3 .taken ∙ c .before .before .before .before .before .before .narrow-at .ensures) in
+    sym (rw test at fit)
+
+enum-known-head-2 : tie.Need-enum-known-head-2
+enum-known-head-2 c = search needs
+
+returns-4 : tie.Need-returns-4
+returns-4 c =
+    let a = c .before .before .before .before .before .before .before .before .before .before .before .args in
+    let is = sym (c .before .before .before .before .before .rule-at .ensures) ∙ c .before .before .before .head2 .given .1 in
+    let there = rule-of (a .rules .now) (a .count) (a .r) (c .before .before .before .before .before .before .before .if2 .left) ∙ ap some is in
+    let fit = rule-fit (rulesOf (a .rules .now) (a .count)) (a .stack .now) (a .height) (a .r) (omega arith) there in
+    let test = eq-eqb (c .before .before .before .head2 .given .0 .0 .0) (getD (a .stack .now) (a .height - 1) 0) (c .if4 .taken ∙ c .before .before .before .before .before .before .narrow-at .ensures) in
+    sym (rw test at fit)
+
+returns-5 : tie.Need-returns-5
+returns-5 c =
+    let a = c .before .before .before .before .before .before .before .before .before .before .before .args in
+    let is = sym (c .before .before .before .before .before .rule-at .ensures) ∙ c .before .before .before .head .given .1 in
+    let there = rule-of (a .rules .now) (a .count) (a .r) (c .before .before .before .before .before .before .before .if2 .left) ∙ ap some is in
+    let fit = rule-fit (rulesOf (a .rules .now) (a .count)) (a .stack .now) (a .height) (a .r) (omega arith) there in
+    let test = ne-eqb (c .before .before .before .head .given .0 .0 .0) (getD (a .stack .now) (a .height - 1) 0) (λ e. c .if3 .left (e ∙ sym (c .before .before .before .before .before .before .narrow-at .ensures))) in
+    sym (rw test at fit)
+
+returns-6 : tie.Need-returns-6
+returns-6 c =
+    let a = c .before .before .before .before .before .before .before .before .before .before .before .args in
+    let is = sym (c .before .before .before .before .before .rule-at .ensures) ∙ c .before .before .before .head2 .given .1 in
+    let there = rule-of (a .rules .now) (a .count) (a .r) (c .before .before .before .before .before .before .before .if2 .left) ∙ ap some is in
+    let fit = rule-fit (rulesOf (a .rules .now) (a .count)) (a .stack .now) (a .height) (a .r) (omega arith) there in
+    let test = ne-eqb (c .before .before .before .head2 .given .0 .0 .0) (getD (a .stack .now) (a .height - 1) 0) (λ e. c .if4 .left (e ∙ sym (c .before .before .before .before .before .before .narrow-at .ensures))) in
+    sym (rw test at fit)
+
+pub fitting-spec : {M : Type 1} → statement M
+fitting-spec =
+    tie.close
+    (tie.spec
+    returns
+    returns-2
+    sub-narrow-at
+    narrow-at-requires
+    rule-at-requires
+    enum-known-head
+    returns-3
+    enum-known-head-2
+    returns-4
+    returns-5
+    returns-6)
