@@ -222,9 +222,9 @@ int32_t spireyerba_check(
     const uint8_t *utterance, size_t utterance_len,
     const uint8_t *reading, size_t reading_len);
 
-/* Refusals of the specimen. */
+/* Refusals of the specimen and of the next phrase. */
 enum {
-    SPIREYERBA_SPECIMEN_LENGTH = 25, /* the length is not 1 to 24                 */
+    SPIREYERBA_SPECIMEN_LENGTH = 25, /* the length is not 1 to 24, or not 1 to 6  */
     SPIREYERBA_SPECIMEN_OUTPUT = 26  /* the output is shorter than the length     */
 };
 
@@ -238,6 +238,25 @@ enum {
 int32_t spireyerba_specimen(
     const uint8_t *grammar, size_t grammar_len,
     uint32_t length,
+    uint8_t *out, size_t out_len);
+
+#define SPIREYERBA_MAX_PHRASE 6
+
+/*
+** NEXT PHRASE. Hands out the word strings of a length, 1 to 6, that the grammar
+** derives, one a call and each once, the least first. A first call (first not 0)
+** gives what the specimen gives, whatever out holds. A later call (first 0) takes
+** the first length bytes of out as a string, any bytes, and writes the least
+** derived string above it in its place, one word number a byte; strings compare
+** as for the specimen. So a first call and then later calls, each with out as it
+** was left, give all strings. Answers the length, or 0 at the end: no string is
+** left, and nothing is written.
+** Refuses with any of GRAMMAR_..., then SPECIMEN_LENGTH, SPECIMEN_OUTPUT.
+*/
+int32_t spireyerba_next_phrase(
+    const uint8_t *grammar, size_t grammar_len,
+    uint32_t length,
+    uint32_t first,
     uint8_t *out, size_t out_len);
 
 /* Refusals of the listing. */

@@ -5,5 +5,6 @@ pub mod free;
 pub mod inputs;
 pub mod listing;
 pub mod measure;
+pub mod next_phrase;
 pub mod specimen;
 pub mod table;

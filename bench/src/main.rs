@@ -1,6 +1,6 @@
 //! Prints Markdown tables of times in microseconds, medians of alternating calls in one process, and of their ratios.
 
-use spireyerba_bench::{conversions, listing, specimen};
+use spireyerba_bench::{conversions, listing, next_phrase, specimen};
 
 fn main() {
     listing::print_beside_free();
@@ -10,6 +10,8 @@ fn main() {
     conversions::print_table();
     println!();
     specimen::print_table();
+    println!();
+    next_phrase::print_table();
     println!();
     listing::print_beside_second();
 }

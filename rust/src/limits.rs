@@ -23,6 +23,9 @@ pub const NOT_HEARD: u32 = 65_535;
 /// A listing answers 1 to so many readings.
 pub const MAX_READINGS: u32 = 256;
 
+/// [`next_phrase`](crate::services::next_phrase) hands out phrases of 1 to so many words.
+pub const MAX_PHRASE: u32 = 6;
+
 /// No grammar block that is accepted has more bytes.
 pub const GRAMMAR_BLOCK_MAX: usize = 1_028;
 /// No utterance block that is accepted has more bytes.

@@ -43,6 +43,14 @@ extern "C" {
         reading_len: usize,
     ) -> i32;
     fn spireyerba_specimen(grammar: *const u8, grammar_len: usize, length: u32, out: *mut u8, out_len: usize) -> i32;
+    fn spireyerba_next_phrase(
+        grammar: *const u8,
+        grammar_len: usize,
+        length: u32,
+        first: u32,
+        out: *mut u8,
+        out_len: usize,
+    ) -> i32;
     fn spireyerba_listing(
         grammar: *const u8,
         grammar_len: usize,
@@ -203,6 +211,37 @@ pub fn specimen(grammar: &[u8], length: u32, out: &mut [u8]) -> Result<bool, Ref
     // SAFETY: the slices are borrowed until the call returns, `out` for it alone.
     let written =
         answer(unsafe { spireyerba_specimen(grammar.as_ptr(), grammar.len(), length, out.as_mut_ptr(), out.len()) })?;
+    debug_assert!(written == 0 || written == length as usize, "the answer is the length or 0");
+    Ok(written != 0)
+}
+
+/// Hands out the phrases of a length, the word strings that a grammar derives, one a call and each once, the least first.
+///
+/// Takes the grammar's block and a length of at most [`MAX_PHRASE`](crate::limits::MAX_PHRASE). A `first` call finds the
+/// least phrase, whatever `out` holds. A later call finds the least above the string at the front of `out`, which may be any
+/// bytes. Answers whether there is such a phrase. If so, it is written to the front of `out`, a word number a byte. If not,
+/// that is the end, and nothing is written.
+///
+/// Refuses with 1 to 7 for the grammar, then with [`SpecimenLength`](Refusal::SpecimenLength), then with
+/// [`SpecimenOutput`](Refusal::SpecimenOutput), first and later calls alike.
+///
+/// ```
+/// use spireyerba::services::next_phrase;
+/// // word 1 is a phrase, and so is word 0
+/// let grammar = [0x10, 0x40, 0x80, 0x50, 0x00, 0x06, 0x00, 0x00, 0x00];
+/// let mut out = [0xff];
+/// assert_eq!(next_phrase(&grammar, 1, true, &mut out), Ok(true));
+/// assert_eq!(out, [0]);
+/// assert_eq!(next_phrase(&grammar, 1, false, &mut out), Ok(true));
+/// assert_eq!(out, [1]);
+/// assert_eq!(next_phrase(&grammar, 1, false, &mut out), Ok(false));
+/// ```
+pub fn next_phrase(grammar: &[u8], length: u32, first: bool, out: &mut [u8]) -> Result<bool, Refusal> {
+    // SAFETY: the slices are borrowed until the call returns, `out` for it alone.
+    let code = unsafe {
+        spireyerba_next_phrase(grammar.as_ptr(), grammar.len(), length, first.into(), out.as_mut_ptr(), out.len())
+    };
+    let written = answer(code)?;
     debug_assert!(written == 0 || written == length as usize, "the answer is the length or 0");
     Ok(written != 0)
 }

@@ -57,6 +57,7 @@ fn sizes() {
         ("MAX_WEIGHT", MAX_WEIGHT),
         ("NOT_HEARD", NOT_HEARD),
         ("MAX_READINGS", MAX_READINGS),
+        ("MAX_PHRASE", MAX_PHRASE),
     ];
     let lengths = [
         ("GRAMMAR_BLOCK_MAX", GRAMMAR_BLOCK_MAX),

@@ -23,6 +23,7 @@ static uint8_t silent_block[4];
 static const uint8_t two_strings[] = {0x10, 0xc0, 0x80, 0xa0, 0x00, 0x01, 0xa8, 0x00, 0x04,
                                       0x80, 0x00, 0x4e, 0x00, 0x00, 0x20, 0x00, 0x0a};
 static const uint8_t least[] = {0, 1, 0};
+static const uint8_t greatest[] = {1, 0, 0};
 /* Document 02's word graph of four places: an edge over each step, and one over the first two at cost 3. */
 static const uint8_t graph_block[] = {0x52, 0x04, 0x00, 0x40, 0x00, 0x01, 0x10, 0x00,
                                       0x00, 0x02, 0x00, 0x01, 0x88, 0x60, 0x00, 0x00};
@@ -91,6 +92,16 @@ int main(void) {
     expect(answer == 0 && block[0] == 0xa5, "where there is no string nothing is written");
     answer = spireyerba_specimen(g_block, LENGTH(g_block), 25, block, LENGTH(block));
     expect(answer == -SPIREYERBA_SPECIMEN_LENGTH, "a specimen of length 25 is refused");
+
+    fill_outputs();
+    answer = spireyerba_next_phrase(two_strings, LENGTH(two_strings), 3, 7, block, LENGTH(block));
+    expect_block(answer, least, LENGTH(least), "the first phrase is the specimen");
+    answer = spireyerba_next_phrase(two_strings, LENGTH(two_strings), 3, 0, block, LENGTH(block));
+    expect_block(answer, greatest, LENGTH(greatest), "above it comes the other");
+    answer = spireyerba_next_phrase(two_strings, LENGTH(two_strings), 3, 0, block, LENGTH(block));
+    expect(answer == 0 && memcmp(block, greatest, LENGTH(greatest)) == 0, "then the end, and nothing is written");
+    answer = spireyerba_next_phrase(g_block, LENGTH(g_block), SPIREYERBA_MAX_PHRASE + 1, 0, block, LENGTH(block));
+    expect(answer == -SPIREYERBA_SPECIMEN_LENGTH, "phrases of length 7 are refused");
 
     expect(spireyerba_work_length(1, 4, 8) == LENGTH(work) && spireyerba_reading_length(4, 2) * 8 == 48 &&
                spireyerba_reading_length(24, 256) == SPIREYERBA_READING_BLOCK_MAX,

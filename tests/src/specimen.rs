@@ -3,40 +3,78 @@
 //!
 //! [`least`] builds it in the order of that comparison: at each place the least word after which the rest can still be
 //! derived. [`derived`] is the plain definition, for few words: of all strings in ascending order those that are derived.
+//!
+//! The next phrase (document 02, N9): [`least_above`] keeps as many words of the string as it can before a greater one.
 
 use crate::grammar;
-use spireyerba::limits::MAX_SLOTS;
+use spireyerba::limits::{MAX_PHRASE, MAX_SLOTS};
 use spireyerba::{Body, Grammar, Refusal};
 
 const START: usize = 0;
 
 /// Writes the specimen, a word number a byte, and answers whether there is one.
 pub fn specimen(grammar: &[u8], length: u32, out: &mut [u8]) -> Result<bool, Refusal> {
+    let grammar = asked(grammar, MAX_SLOTS, length, out)?;
+    Ok(written(least(&grammar, length as usize), out))
+}
+
+/// Writes the specimen in a first call, in a later one the least phrase above the string that the output holds, and answers
+/// whether there is one.
+pub fn next_phrase(grammar: &[u8], length: u32, first: bool, out: &mut [u8]) -> Result<bool, Refusal> {
+    let grammar = asked(grammar, MAX_PHRASE, length, out)?;
+    let held: Vec<u32> = out.iter().take(length as usize).map(|&byte| byte.into()).collect();
+    let found = if first { least(&grammar, held.len()) } else { least_above(&grammar, &held) };
+    Ok(written(found, out))
+}
+
+/// The grammar, or the refusal.
+fn asked(grammar: &[u8], longest: u32, length: u32, out: &[u8]) -> Result<Grammar, Refusal> {
     let grammar = grammar::from_block(grammar)?;
-    if !(1..=MAX_SLOTS).contains(&length) {
+    if !(1..=longest).contains(&length) {
         return Err(Refusal::SpecimenLength);
     }
-    let length = length as usize;
-    if out.len() < length {
+    if out.len() < length as usize {
         return Err(Refusal::SpecimenOutput);
     }
-    let Some(words) = least(&grammar, length) else { return Ok(false) };
+    Ok(grammar)
+}
+
+fn written(string: Option<Vec<u32>>, out: &mut [u8]) -> bool {
+    let Some(words) = string else { return false };
     for (byte, word) in out.iter_mut().zip(words) {
         *byte = word as u8;
     }
-    Ok(true)
+    true
 }
 
 /// The least string of so many words that the grammar derives, if it derives any.
 pub fn least(grammar: &Grammar, length: usize) -> Option<Vec<u32>> {
+    least_after(grammar, length, Vec::new())
+}
+
+/// The same of those that begin with these words.
+fn least_after(grammar: &Grammar, length: usize, mut words: Vec<u32>) -> Option<Vec<u32>> {
     let mut parts = Parts::of_any_words(grammar, length);
-    let mut words = Vec::with_capacity(length);
-    for place in 0..length {
-        let word = parts.least_word(place)?;
+    words.iter().enumerate().for_each(|(place, &word)| parts.fix(place, word));
+    for place in words.len()..length {
+        let word = parts.words(place).min()?;
         parts.fix(place, word);
         words.push(word);
     }
     Some(words)
+}
+
+/// The least string above another of its length that the grammar derives, if it derives any. The other's words, before the
+/// first that differs, are kept as far as a greater word can follow.
+pub fn least_above(grammar: &Grammar, string: &[u32]) -> Option<Vec<u32>> {
+    let mut parts = Parts::of_any_words(grammar, string.len());
+    let mut start = None;
+    for (place, &word) in string.iter().enumerate() {
+        let greater = parts.words(place).filter(|&other| other > word).min();
+        start = greater.map(|greater| [&string[..place], &[greater]].concat()).or(start);
+        parts.fix(place, word);
+    }
+    least_after(grammar, string.len(), start?)
 }
 
 /// The parts, a head over adjoining places, that the strings of one length can have of which the first words are fixed and
@@ -83,14 +121,13 @@ impl<'a> Parts<'a> {
         self.ends[from] != before
     }
 
-    /// The least word that a string can have at a place, where all words before it are fixed.
-    fn least_word(&self, place: usize) -> Option<u32> {
+    /// The words that a string can have at a place, where all words before it are fixed.
+    fn words(&self, place: usize) -> impl Iterator<Item = u32> + '_ {
         let used = self.used(place);
-        let words = self.grammar.rules.iter().filter_map(|rule| match rule.body {
+        self.grammar.rules.iter().filter_map(move |rule| match rule.body {
             Body::Word(word) => (used[place][rule.head as usize] >> (place + 1) & 1 == 1).then_some(word),
             Body::Pair(..) => None,
-        });
-        words.min()
+        })
     }
 
     /// Where parts end that stand in a derivation of a whole string, of those that begin at places up to `last`.

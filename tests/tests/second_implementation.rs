@@ -109,6 +109,21 @@ fn the_specimen_is_the_first_derived_of_all_strings_in_ascending_order() {
 }
 
 #[test]
+fn the_next_phrase_is_the_first_derived_above_of_all_strings() {
+    let (mut some, mut none) = (0, 0);
+    over_seeds(0..2_000, |rng| {
+        let grammar = few_words(rng);
+        for length in 1..=5 {
+            let string: Vec<u32> = (0..length).map(|_| rng.within(0..=grammar.words)).collect();
+            let next = derived(&grammar, length).find(|other| *other > string);
+            assert_eq!(specimen::least_above(&grammar, &string), next, "{grammar:?} {string:?}");
+            *if next.is_some() { &mut some } else { &mut none } += 1;
+        }
+    });
+    assert!(some > 1_000 && none > 1_000, "{some} strings, {none} times none");
+}
+
+#[test]
 fn strings_ascend() {
     assert!(tuples(3, 2).eq([[0, 0, 0], [0, 0, 1], [0, 1, 0], [0, 1, 1], [1, 0, 0], [1, 0, 1], [1, 1, 0], [1, 1, 1]]));
     assert!(tuples(5, 3).is_sorted_by(|a, b| a < b) && tuples(5, 3).count() == 243);

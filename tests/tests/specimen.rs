@@ -2,14 +2,14 @@
 
 use spireyerba::limits::{MAX_SLOTS, MAX_WEIGHT, MAX_WORDS};
 use spireyerba::Refusal::*;
-use spireyerba::{services, Body, Grammar, Refusal, Rule};
+use spireyerba::{services, Refusal};
 use spireyerba_tests::compare::specimen::compare;
 use spireyerba_tests::compare::{over_seeds, Tally};
 use spireyerba_tests::grammar::pack;
 use spireyerba_tests::refusal::GRAMMAR_BLOCK;
 use spireyerba_tests::seeded::damage::some_grammar_blocks;
-use spireyerba_tests::seeded::grammars::{grammar, with_rules, Size};
-use spireyerba_tests::seeded::rng::Rng;
+use spireyerba_tests::seeded::grammars::with_rules;
+use spireyerba_tests::seeded::phrases::any_grammar;
 use spireyerba_tests::specimen::{derived, specimen};
 
 type Specimen = fn(&[u8], u32, &mut [u8]) -> Result<bool, Refusal>;
@@ -57,83 +57,6 @@ fn examples_of_the_library() {
 #[test]
 fn examples_of_the_second_implementation() {
     expect_examples(specimen);
-}
-
-/// Symbol k joins two of symbol k + 1, or one of k + 1 with one of k + 2, and the last symbols have words: few lengths
-/// are derivable.
-fn ladder(rng: &mut Rng) -> Grammar {
-    let symbols = rng.within(3..=7);
-    let rule = |head, body| Rule { head, weight: 0, body };
-    let mut rules: Vec<Rule> = (0..symbols - 2)
-        .map(|head| rule(head, Body::Pair(head + 1, head + rng.within(1..=2))))
-        .chain((symbols - 2..symbols).map(|head| rule(head, Body::Word(head))))
-        .collect();
-    rng.shuffle(&mut rules);
-    Grammar { symbols, words: symbols, rules }
-}
-
-/// Each symbol but the last joins the last with itself or with the next, on the left or on the right or both.
-fn chain(rng: &mut Rng) -> Grammar {
-    let symbols = rng.within(2..=5);
-    let mut grammar = with_rules(rng, symbols, 6, 0, 2 * symbols);
-    let last = symbols - 1;
-    for head in 0..last {
-        let rest = head + rng.within(0..=1);
-        let mut bodies = vec![Body::Pair(last, rest), Body::Pair(rest, last)];
-        rng.shuffle(&mut bodies);
-        bodies.dedup();
-        bodies.truncate(rng.pick(&[1, 2]));
-        grammar.rules.extend(bodies.into_iter().map(|body| Rule { head, weight: 0, body }));
-    }
-    rng.shuffle(&mut grammar.rules);
-    grammar
-}
-
-/// The grammar with other words in the place of its own.
-fn with_words(mut grammar: Grammar, words: &[u32]) -> Grammar {
-    grammar.words = MAX_WORDS;
-    for rule in &mut grammar.rules {
-        if let Body::Word(word) = &mut rule.body {
-            *word = words[*word as usize];
-        }
-    }
-    grammar
-}
-
-/// All words are the same but for at most two, one less and one greater: strings of one length are equal or differ late.
-fn tied(rng: &mut Rng) -> Grammar {
-    let (symbols, pairs) = (rng.within(1..=8), rng.within(1..=20));
-    let mut grammar = with_words(with_rules(rng, symbols, 1, pairs, symbols), &[77]);
-    for word in [76, 78] {
-        if rng.once_in(2) {
-            let rule = Rule { head: rng.within(0..=symbols - 1), weight: 0, body: Body::Word(word) };
-            grammar.rules.insert(rng.below(grammar.rules.len() + 1), rule);
-        }
-    }
-    grammar
-}
-
-/// Words on both sides of where a byte with a sign turns negative.
-fn wide_words(rng: &mut Rng) -> Grammar {
-    let (symbols, pairs) = (rng.within(1..=6), rng.within(1..=12));
-    with_words(with_rules(rng, symbols, 6, pairs, 8), &[0, 1, 127, 128, 129, 199])
-}
-
-/// Grammars with unreachable and unproductive symbols among them, with only word rules and with only pair rules.
-fn any_grammar(rng: &mut Rng) -> Grammar {
-    match rng.below(18) {
-        0 => with_rules(rng, 32, 200, 150, 106),
-        1 => grammar(rng, Size::Greatest),
-        2 => ladder(rng),
-        3 => with_rules(rng, 3, 5, 0, 6),
-        4 => with_rules(rng, 3, 5, 6, 0),
-        5 => grammar(rng, Size::Middle),
-        6 | 7 => with_rules(rng, 8, 9, 10, 5),
-        8 | 9 => chain(rng),
-        10 | 11 => tied(rng),
-        12 | 13 => wide_words(rng),
-        _ => grammar(rng, Size::Small),
-    }
 }
 
 #[test]

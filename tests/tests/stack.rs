@@ -48,6 +48,9 @@ fn expect_answers(grammar: &Grammar, utterance: &Utterance) {
     assert_eq!(answer, Ok(UTTERANCE_SHEET_MAX));
     assert_eq!(on_small_stack(|| services::specimen(&grammar_block, 24, &mut bytes)), Ok(true));
     assert_eq!(bytes[..24], [0; 24]);
+    assert_eq!(on_small_stack(|| services::next_phrase(&grammar_block, 6, true, &mut bytes)), Ok(true));
+    assert_eq!(on_small_stack(|| services::next_phrase(&grammar_block, 6, false, &mut bytes)), Ok(true));
+    assert_eq!(bytes[..6], [0, 0, 0, 0, 0, 1]);
     expect_list(&grammar_block, &block, READING_BLOCK_MAX);
 }
 

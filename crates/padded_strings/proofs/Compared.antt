@@ -10,7 +10,7 @@ use lib.Seq.{drop-cons}
 use Rattle.derivation.specs.Order.{_▸_}
 use Rattle.derivation.proofs.Comparison.{compare-lt, compare-gt, compare-self}
 use Rattle.phrases.specs.Phrases.{wordOrder}
-use Rattle.phrases.specs.Recursion.{isLess}
+use Rattle.phrases.specs.Enumeration.{isLess}
 
 module _ (a b : List ℕ) (x : ℕ) (e : wordOrder a b ≡ wordOrder (drop x a) (drop x b)) where
   module _ (p : x < length a) (q : x < length b) where

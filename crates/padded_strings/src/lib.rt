@@ -6,7 +6,7 @@ ghost use Prim.Native.Nat.{_+_, _≤_, _<_};
 ghost use lib.ListN.{length, getD};
 ghost use lib.Seq.{paste};
 ghost use Rattle.phrases.specs.Phrases.{wordOrder};
-ghost use Rattle.phrases.specs.Recursion.{isLess};
+ghost use Rattle.phrases.specs.Enumeration.{isLess};
 ghost use Rattle.phrases.specs.Padded.{oneWord, join, lesserWord, lesserJoin};
 
 // The byte that stands for no string.

@@ -1,5 +1,6 @@
--- Going through all rules, and for a pair rule through all lengths of the left part, finds all that a symbol derives of a length,
--- whatever is found of it (`Is`, such as the least string): a derived string is a word, or joined of two parts that are derived.
+-- Going through all rules, and for a pair rule through all lengths of the left part, finds all that a symbol derives of a length and
+-- that has a further property X, whatever is found of it (`Is`, such as the least string): a derived string is a word, or joined of two
+-- parts that are derived.
 -- Assumes nothing.
 use mathlib.Core.Path.{_≡_, refl, sym, _∙_}
 use mathlib.Core.Logic.{_⊎_, inl, inr, ⊎-elim}
@@ -41,12 +42,17 @@ Adds {O} Is Q f = (P : Property) (o : O) → Is P o → Is (λ t. P t ⊎ Q t) (
 
 module _ {O : Type 0} (Is : Property → O → Type 0)
     (same : (P Q : Property) (o : O) → ((t : List ℕ) → P t → Q t) → ((t : List ℕ) → Q t → P t) → Is P o → Is Q o) where
+  pub adds-same : {Q Q′ : Property} {f : O → O} → ((t : List ℕ) → Q t → Q′ t) → ((t : List ℕ) → Q′ t → Q t) → Adds Is Q f → Adds Is Q′ f
+  adds-same to from a P o h = same _ _ _ (λ t. ⊎-elim inl (λ q. inr (to t q))) (λ t. ⊎-elim inl (λ q. inr (from t q))) (a P o h)
+
+  -- where a test passes
+  pub adds-test : {Q : Property} {f : O → O} (b : Bool) → (b ≡ true → Adds Is Q f) → Adds Is (λ t. (b ≡ true) × Q t) (λ o. pick b (f o) o)
+  adds-test true a P o h = same _ _ _ (λ t. ⊎-elim inl (λ q. inr (refl, q))) (λ t. ⊎-elim inl (λ q. inr (q .1))) (a refl P o h)
+  adds-test false a P o h = same _ _ _ (λ t. inl) (λ t. ⊎-elim (λ p. p) (λ q. absurd (true≢false (sym (q .0))))) h
+
   adds-equal : {Q : Property} {f : O → O} (m n : ℕ) → (m ≡ n → Adds Is Q f) → Adds Is (λ t. (m ≡ n) × Q t) (λ o. pick (eqb m n) (f o) o)
-  adds-equal {Q} {f} m n a P o h = go (eqb m n) refl
-    where
-      go : (b : Bool) → eqb m n ≡ b → Is (λ t. P t ⊎ ((m ≡ n) × Q t)) (pick b (f o) o)
-      go true e = let z = eqb-true m n e in same _ _ _ (λ t. ⊎-elim inl (λ q. inr (z, q))) (λ t. ⊎-elim inl (λ q. inr (q .1))) (a z P o h)
-      go false e = same _ _ _ (λ t. inl) (λ t. ⊎-elim (λ p. p) (λ q. absurd (true≢false (sym (eq-eqb m n (q .0)) ∙ e)))) h
+  adds-equal m n a =
+      adds-same (λ t q. (eqb-true m n (q .0), q .1)) (λ t q. (eq-eqb m n (q .0), q .1)) (adds-test (eqb m n) (λ e. a (eqb-true m n e)))
 
   adds-iter : (Q : ℕ → Property) (f : O → ℕ → O) (n : ℕ) → ((y : ℕ) → y < n → Adds Is (Q y) (λ o. f o y))
       → Adds Is (λ t. (y : ℕ) × (y < n) × Q y t) (λ o. iter f o n)
@@ -63,41 +69,41 @@ module _ {O : Type 0} (Is : Property → O → Type 0)
       last t y l q (no e) = inl (inr (y, omega arith, q))
 
   module _ (g : Grammar) (v : ValidGrammar g) (rule : ℕ → Rule) (stored : Stored g rule)
-      (addSplit : Sym → Sym → ℕ → O → O) (addWord : ℕ → O → O) (A : Sym) (m : ℕ)
+      (addSplit : Sym → Sym → ℕ → O → O) (addWord : ℕ → O → O) (A : Sym) (m : ℕ) (X : Property)
       (splits : (B C : Sym) (j : ℕ) → B .0 < g .symbols → C .0 < g .symbols → 0 < j → j < m
-      → Adds Is (Joined (Of g B j) (Of g C (m - j))) (addSplit B C j))
-      (words : (x : ℕ) → x < g .words → m ≡ 1 → Adds Is (λ t. t ≡ x ∷ []) (addWord x)) where
+      → Adds Is (λ t. Joined (Of g B j) (Of g C (m - j)) t × X t) (addSplit B C j))
+      (words : (x : ℕ) → x < g .words → m ≡ 1 → Adds Is (λ t. (t ≡ x ∷ []) × X t) (addWord x)) where
     -- what a rule makes of words and of derived parts
     abbrev By : Rule → Property
-    By (Pair H B C w) t = (H .0 ≡ A .0) × ((y : ℕ) × (y < m - 1) × Joined (Of g B (y + 1)) (Of g C (m - (y + 1))) t)
-    By (Word H x w) t = (H .0 ≡ A .0) × ((m ≡ 1) × (t ≡ x .0 ∷ []))
+    By (Pair H B C w) t = (H .0 ≡ A .0) × ((y : ℕ) × (y < m - 1) × (Joined (Of g B (y + 1)) (Of g C (m - (y + 1))) t × X t))
+    By (Word H x w) t = (H .0 ≡ A .0) × ((m ≡ 1) × ((t ≡ x .0 ∷ []) × X t))
 
     adds-rule : (r : Rule) → Within (g .symbols) (g .words) r → Adds Is (By r) (λ o. byRule addSplit addWord A m o r)
     unfolding byRule
     adds-rule (Pair H B C w) (a, b, c) =
-        adds-equal (H .0) (A .0) (λ e. adds-iter (λ y. Joined (Of g B (y + 1)) (Of g C (m - (y + 1)))) (λ x y. addSplit B C (y + 1) x) (m - 1)
+        adds-equal (H .0) (A .0) (λ e. adds-iter (λ y t. Joined (Of g B (y + 1)) (Of g C (m - (y + 1))) t × X t) (λ x y. addSplit B C (y + 1) x) (m - 1)
         (λ y l. splits B C (y + 1) b c (omega arith) (omega arith)))
     adds-rule (Word H x w) (a, b) = adds-equal (H .0) (A .0) (λ e. adds-equal m 1 (words (x .0) b))
 
-    by-yields : (r : ℕ) (rl : Rule) → At (g .rules) r rl → (t : List ℕ) → By rl t → Of g A m t
-    by-yields r (Pair H B C w) h t (e, (y, l, (us, vs, (lu, yu), (lv, yv), j))) =
-        rw j (simp length-append (omega arith), two r w (rw (same-sym H A e) at h) yu yv)
-    by-yields r (Word H x w) h t (e, (em, et)) = rw et (sym em, one r w (rw (same-sym H A e) at h))
+    by-yields : (r : ℕ) (rl : Rule) → At (g .rules) r rl → (t : List ℕ) → By rl t → Of g A m t × X t
+    by-yields r (Pair H B C w) h t (e, (y, l, ((us, vs, (lu, yu), (lv, yv), j), x))) =
+        (rw j (simp length-append (omega arith), two r w (rw (same-sym H A e) at h) yu yv), x)
+    by-yields r (Word H x w) h t (e, (em, (et, q))) = (rw et (sym em, one r w (rw (same-sym H A e) at h)), q)
 
-    yields-by : (t : List ℕ) → Of g A m t → (r : ℕ) × (r < length (g .rules)) × By (rule r) t
-    yields-by t (l, one {x = x} r w h) =
+    yields-by : (t : List ℕ) → Of g A m t × X t → (r : ℕ) × (r < length (g .rules)) × By (rule r) t
+    yields-by t ((l, one {x = x} r w h), q) =
         let b = at-length (g .rules) r h in
         let is : rule r ≡ Word A (word x) w = cc (stored r b) in
-        (r, b, rw is (refl, (sym l, refl)))
-    yields-by t (l, two {B = B} {C = C} {us = us} {vs = vs} r w h left right) =
+        (r, b, rw is (refl, (sym l, (refl, q))))
+    yields-by t ((l, two {B = B} {C = C} {us = us} {vs = vs} r w h left right), q) =
         let b = at-length (g .rules) r h in
         let is : rule r ≡ Pair A B C w = cc (stored r b) in
         let (p₁, _) = yields-derives g left [] [] in
         let (p₂, _) = yields-derives g right [] [] in
         let n : length us + length vs ≡ m = sym (length-append us vs) ∙ l in
-        (r, b, rw is (refl, (length us - 1, omega arith, (us, vs, (omega arith, left), (omega arith, right), refl))))
+        (r, b, rw is (refl, (length us - 1, omega arith, ((us, vs, (omega arith, left), (omega arith, right), refl), q))))
 
-    pub byRules-is : (o : O) → Is (λ t. ⊥) o → Is (Of g A m) (byRules addSplit addWord rule (length (g .rules)) A m o)
+    pub byRules-is : (o : O) → Is (λ t. ⊥) o → Is (λ t. Of g A m t × X t) (byRules addSplit addWord rule (length (g .rules)) A m o)
     unfolding byRules
     byRules-is o h =
         same _ _ _

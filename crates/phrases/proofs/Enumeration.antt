@@ -3,21 +3,23 @@
 use mathlib.Core.Path.{_≡_, refl, sym, ap, _∙_}
 use mathlib.Core.Logic.{⊎-elim, _↔_}
 use mathlib.Core.Bool.{Bool, true, false}
-use mathlib.Core.List.{List, [], _∷_, _++_, map, List·Memᴰ·head, List·Memᴰ·tail, List·Memᴰ·cases-cons, List·Memᴰ·not-nil, Memᴰ·cast, List·Memᴰ·append-cases, List·Memᴰ·eq-of-singleton, nil≢cons, cons≢nil}
-use Prim.Native.Nat.{ℕ, zero, suc, _<_}
+use mathlib.Core.Option.{none}
+use mathlib.Core.List.{List, [], _∷_, _++_, map, head?, List·Memᴰ·head, List·Memᴰ·tail, List·Memᴰ·cases-cons, List·Memᴰ·not-nil, Memᴰ·cast, List·Memᴰ·append-cases, List·Memᴰ·eq-of-singleton, nil≢cons, cons≢nil}
+use Prim.Native.Nat.{ℕ, zero, suc, _<_, Ordering, Ordering·lt, Ordering·eq, Ordering·gt}
 use native.Mathlib.Omega.{arith}
-use lib.ListN.{length}
+use lib.ListN.{length, getElem?}
 use Rattle.packing.specs.Meaning.{Grammar, edges, symbolOf}
-use Rattle.derivation.specs.Derivation.{Tree}
+use Rattle.derivation.specs.Derivation.{Tree, At}
 use Rattle.derivation.specs.Rank.{_∈_}
 use Rattle.derivation.specs.List.{eachBelow, keepIf, trees}
-use Rattle.derivation.proofs.Comparison.{compare-lt, compare-self, ▸-first, ▸-second}
-use Rattle.derivation.proofs.Lists.{mem-at, at-mem, at-map, map-at}
+use Rattle.derivation.proofs.Comparison.{turned, compare-lt, compare-self, ▸-first, ▸-second}
+use Rattle.derivation.proofs.Lists.{mem-at, at-mem, at-map, map-at, none≢some}
 use Rattle.derivation.proofs.Joined.{below-out, below-in}
 use Rattle.derivation.proofs.Sorted.{Ascending}
 use Rattle.derivation.proofs.Trees.{trees-derive}
 use Rattle.phrases.specs.Phrases.{plain, Says, wordOrder, Precedes}
-use Rattle.phrases.specs.Enumeration.{anyTree, says, strings, passing}
+use Rattle.phrases.specs.Enumeration.{anyTree, says, strings, passing, isLess}
+use Rattle.phrases.proofs.Order.{order-lawful}
 
 pub true≢false : true ≡ false → ⊥
 true≢false e = let z : _≡_ {A = ℕ} 0 1 = cc in omega arith
@@ -130,3 +132,39 @@ says-true g ws =
       (λ e. let (t, m) = any-mem (trees g es (symbolOf 0) 0 k) e in (t, trees-derive g es (symbolOf 0) 0 k t .0 m)),
       (λ d. mem-any (trees g es (symbolOf 0) 0 k) (trees-derive g es (symbolOf 0) 0 k (d .0) .1 (d .1))),
     )
+
+-- the test tells what comes before what
+pub less-precedes : (s t : List ℕ) → isLess (wordOrder s t) ≡ true → Precedes s t
+less-precedes s t e = go (wordOrder s t) e
+  where
+    go : (o : Ordering) → isLess o ≡ true → o ≡ Ordering·lt
+    go Ordering·lt e = refl
+    go Ordering·eq e = absurd (true≢false (sym e))
+    go Ordering·gt e = absurd (true≢false (sym e))
+
+pub precedes-less : (s t : List ℕ) → Precedes s t → isLess (wordOrder s t) ≡ true
+precedes-less s t e = rw e
+
+-- in an ascending list the first that comes after element k is element k + 1
+passing-all : (f : List ℕ → Bool) (l : List (List ℕ)) → ((x : List ℕ) → x ∈ l → f x ≡ true) → passing f l ≡ l
+unfolding passing keepIf
+passing-all f [] h = refl
+passing-all f (x ∷ l) h = rw (h x (List·Memᴰ·head refl), passing-all f l (λ y m. h y (List·Memᴰ·tail m)))
+
+pub head-at : (l : List (List ℕ)) → head? l ≡ getElem? l 0
+head-at [] = refl
+head-at (x ∷ l) = refl
+
+pub above-at : (l : List (List ℕ)) (k : ℕ) (s : List ℕ) → Ascending wordOrder l → At l k s
+    → head? (passing (λ t. isLess (wordOrder s t)) l) ≡ getElem? l (suc k)
+unfolding passing keepIf turned
+above-at [] k s a e = absurd (none≢some e)
+above-at (x ∷ l) zero s (a, b) e =
+    let p : x ≡ s = cc in
+    rw (p, order-lawful .self s, passing-all (λ t. isLess (wordOrder s t)) l (λ y m. precedes-less s y (rw p at (a y m)))) (head-at l)
+above-at (x ∷ l) (suc k) s (a, b) e = rw (order-lawful .turn x s, a s (at-mem l k e)) (above-at l k s b e)
+
+pub passing-none : (f : List ℕ → Bool) (l : List (List ℕ)) → getElem? l 0 ≡ none → head? (passing f l) ≡ none
+unfolding passing
+passing-none f [] e = refl
+passing-none f (x ∷ l) e = absurd (none≢some (sym e))

@@ -25,12 +25,12 @@ pub record Table {T K : Type 0} (size : ℕ) (Room : T → Type 0) (Fit : K → 
 
 module _ {T K : Type 0} {size : ℕ} {Room : T → Type 0} {Fit : K → Type 0} {read : T → ℕ → K} {store : T → ℕ → K → T}
     (law : Table size Room Fit read store) where
-  filled : (Right : ℕ → K → Type 0) → (cell : T → ℕ → K) (n : ℕ) → n ≤ size → ((c : ℕ) (x : K) → c < n → Right c x → Fit x)
+  pub filled : (Right : ℕ → K → Type 0) → (cell : T → ℕ → K) (n : ℕ) → n ≤ size → ((c : ℕ) (x : K) → c < n → Right c x → Fit x)
       → ((t : T) (c : ℕ) → c < n → ((d : ℕ) → d < c → Right d (read t d)) → Right c (cell t c))
-      → (t : T) → Room t → (c : ℕ) → c < n → Right c (read (fill store cell t n) c)
+      → (t : T) → Room t → Room (fill store cell t n) × ((c : ℕ) → c < n → Right c (read (fill store cell t n) c))
   unfolding fill
   filled Right cell n h fit right t room =
-      iter-keeps (λ x t. Room t × ((d : ℕ) → d < x → Right d (read t d))) (λ t c. store t c (cell t c)) t n (room, λ d l. absurd (omega arith)) step .1
+      iter-keeps (λ x t. Room t × ((d : ℕ) → d < x → Right d (read t d))) (λ t c. store t c (cell t c)) t n (room, λ d l. absurd (omega arith)) step
     where
       step : (x : ℕ) (t : T) → x < n → Room t × ((d : ℕ) → d < x → Right d (read t d))
           → Room (store t x (cell t x)) × ((d : ℕ) → d < suc x → Right d (read (store t x (cell t x)) d))
@@ -63,7 +63,7 @@ module _ (g : Grammar) (v : ValidGrammar g) (rule : ℕ → Rule) (stored : Stor
   unfolding leastAt
   least-filled A m a p l =
       of-cell A m a p (filled table Right (leastAt keeping rule (length (g .rules)) read) (32 * n) fits
-      (λ c x l f. fit (c / 32 + 1) (f .0) x (omega arith) (each (sized-of g v (symbolOf (c % 32)) (c / 32 + 1)) (f .1)) (f .2)) cell t room (cellOf A m) (omega arith))
+      (λ c x l f. fit (c / 32 + 1) (f .0) x (omega arith) (each (sized-of g v (symbolOf (c % 32)) (c / 32 + 1)) (f .1)) (f .2)) cell t room .1 (cellOf A m) (omega arith))
     where
       cell : (t : T) (c : ℕ) → c < 32 * n → ((d : ℕ) → d < c → Right d (read t d)) → Right c (leastAt keeping rule (length (g .rules)) read t c)
       cell t c l done =

@@ -12,7 +12,8 @@ use Rattle.derivation.specs.Rank.{_∈_}
 use Rattle.derivation.proofs.Comparison.{lt≢eq, turn-gt, ▸-first, ▸-second}
 use Rattle.derivation.proofs.Sorted.{Ascending}
 use Rattle.phrases.specs.Phrases.{wordOrder, Precedes, Least}
-use Rattle.phrases.specs.Recursion.{isLess, lesserOf, joinOf}
+use Rattle.phrases.specs.Enumeration.{isLess}
+use Rattle.phrases.specs.Recursion.{lesserOf, joinOf}
 use Rattle.phrases.proofs.Order.{order-lawful, order-join}
 
 abbrev pub Property : Type 1

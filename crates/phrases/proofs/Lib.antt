@@ -4,6 +4,8 @@ pub mod Least
 pub mod Enumeration
 pub mod Theorems
 pub mod Cell
+pub mod Fits
+pub mod Above
 pub mod Keeping
 pub mod Filled
 pub mod Padded

@@ -20,8 +20,8 @@ use Rattle.packing.specs.declared.Rule.{Rule}
 use Rattle.derivation.proofs.Comparison.{compare-lt, compare-below, compare-same, compare-lawful, turn-gt, ▸-first}
 use Rattle.derivation.proofs.Ranges.{valid-sizes}
 use Rattle.phrases.specs.Phrases.{wordOrder, Precedes}
-use Rattle.phrases.specs.Enumeration.{firstPhrase}
-use Rattle.phrases.specs.Recursion.{isLess, lesserOf, joinOf, fill, cellOf, leastAt}
+use Rattle.phrases.specs.Enumeration.{firstPhrase, isLess}
+use Rattle.phrases.specs.Recursion.{lesserOf, joinOf, fill, cellOf, leastAt}
 use Rattle.phrases.specs.Padded.{oneWord, noString, join, lesserWord, lesserJoin, padded, stringAt, putString}
 use Rattle.phrases.proofs.Order.{order-lawful, order-join, ▸-last}
 use Rattle.phrases.proofs.Theorems.{below-append}
@@ -126,7 +126,7 @@ module _ (W : ℕ) (w : W ≤ 200) where
   padded-keeps = record { of-none = λ m. refl; of-word = lesser-word; of-join = lesser-join }
 
 -- padded strings in a table of bytes, one after another
-string-fits : (W m : ℕ) (o : Option (List ℕ)) (c : List ℕ) → m ≤ 24 → Each (Sized W m) o → Pads m o c → length c ≡ 24
+pub string-fits : (W m : ℕ) (o : Option (List ℕ)) (c : List ℕ) → m ≤ 24 → Each (Sized W m) o → Pads m o c → length c ≡ 24
 string-fits W m none c h s e = ap length e
 string-fits W m (some s) c h (string (l, b)) e = rw e (simp (length-append, length-replicate) (omega arith))
 
@@ -158,7 +158,7 @@ module _ (t : List ℕ) (c : ℕ) (x : List ℕ) (room : 24 * c + 24 ≤ length 
   put-other d e (yes h) = put-before d h
   put-other d e (no h) = put-behind d (omega arith)
 
-strings-table : (size : ℕ) → Table {T = List ℕ} {K = List ℕ} size (λ t. 24 * size ≤ length t) (λ x. length x ≡ 24) stringAt putString
+pub strings-table : (size : ℕ) → Table {T = List ℕ} {K = List ℕ} size (λ t. 24 * size ≤ length t) (λ x. length x ≡ 24) stringAt putString
 strings-table size = record {
   stays = λ t c x r l u. rw (length-paste t (24 * c) x 24 (omega arith) (omega arith)) r;
   same = λ t c x r l u. put-same t c x (omega arith) u;

@@ -1,16 +1,16 @@
--- The phrases of a length as functions that can be run: all strings of that length, those of them that the grammar derives, and
--- the first of those (document 02, N7). Nobody need believe this page to believe what Phrases says: proofs/Theorems has that
--- `phrases g n` holds the phrases of length n, all of them, ascending and each once, and that `firstPhrase g n` is the least.
--- Stands on Phrases and on derivation's List.
+-- The phrases of a length as functions that can be run: all strings of that length, those of them that the grammar derives, the first of
+-- those, and the first above a string (document 02, N7 and N9). Nobody need believe this page to believe what Phrases says:
+-- proofs/Theorems has that `phrases g n` holds the phrases of length n, all of them, ascending and each once, that `firstPhrase g n` is the
+-- least, and that `nextPhrase g n s` is the least above s. Stands on Phrases and on derivation's List.
 use mathlib.Core.Bool.{Bool, true, false}
 use mathlib.Core.Option.{Option}
 use mathlib.Core.List.{List, [], _∷_, _++_, map, head?}
-use Prim.Native.Nat.{ℕ, zero, suc}
+use Prim.Native.Nat.{ℕ, zero, suc, Ordering, Ordering·lt, Ordering·eq, Ordering·gt}
 use lib.ListN.{length}
 use Rattle.packing.specs.Meaning.{Grammar, symbolOf, slotEdges, edgesFrom, edges}
 use Rattle.derivation.specs.Derivation.{Tree}
 use Rattle.derivation.specs.List.{eachBelow, keepIf, trees}
-use Rattle.phrases.specs.Phrases.{plain}
+use Rattle.phrases.specs.Phrases.{plain, wordOrder}
 
 -- whether there is a tree in the list, and so whether the grammar derives the word string ws
 abbrev pub anyTree : List Tree → Bool
@@ -41,3 +41,13 @@ phrases g n = passing (says g) (strings (g .words) n)
 unfoldable pub firstPhrase : Grammar → ℕ → Option (List ℕ)
 unfolding phrases
 firstPhrase g n = head? (phrases g n)
+
+-- whether the first of two compared comes before the other; and the first string that comes after s
+abbrev pub isLess : Ordering → Bool
+isLess Ordering·lt = true
+isLess Ordering·eq = false
+isLess Ordering·gt = false
+
+unfoldable pub nextPhrase : Grammar → ℕ → List ℕ → Option (List ℕ)
+unfolding passing phrases
+nextPhrase g n s = head? (passing (λ t. isLess (wordOrder s t)) (phrases g n))

@@ -7,7 +7,8 @@ use lib.ListN.{getD, take, replicate}
 use lib.Seq.{slice, paste}
 use Rattle.bits.specs.Bits.{pick}
 use Rattle.phrases.specs.Phrases.{wordOrder}
-use Rattle.phrases.specs.Recursion.{Keeping, isLess}
+use Rattle.phrases.specs.Enumeration.{isLess}
+use Rattle.phrases.specs.Recursion.{Keeping}
 
 -- a byte and zeros behind it: one word, and none
 abbrev pub oneWord : ℕ → List ℕ

@@ -1,10 +1,11 @@
--- The least string of a symbol and a length, from those of shorter lengths, and a table filled with them. Nobody need believe this
+-- The least string of a symbol over some places, from those over fewer places, and a table filled with them. Nobody need believe this
 -- page: proofs/ says that what is found so is what Phrases defines. Assumes nothing.
-use mathlib.Core.Bool.{Bool, true, false}
+use mathlib.Core.Bool.{Bool, true}
 use mathlib.Core.Option.{Option, none, some}
 use mathlib.Core.List.{List, _++_}
-use Prim.Native.Nat.{ℕ, _+_, _-_, _*_, _/_, _%_, Ordering, Ordering·lt, Ordering·eq, Ordering·gt}
-use lib.Dec.{eqb}
+use Prim.Native.Nat.{ℕ, _+_, _-_, _*_, _/_, _%_}
+use lib.Dec.{eqb, ltb}
+use lib.ListN.{getD}
 use Rattle.bits.specs.Bits.{pick}
 use Rattle.packing.specs.Loop.{iter}
 use Rattle.packing.specs.Meaning.{symbolOf}
@@ -12,13 +13,9 @@ use Rattle.packing.specs.declared.Sym.{Sym}
 use Rattle.packing.specs.declared.Rule.{Rule}
 use Rattle.packing.specs.declared.Rule.the-variants.{Pair, Word}
 use Rattle.phrases.specs.Phrases.{wordOrder}
+use Rattle.phrases.specs.Enumeration.{isLess}
 
 -- the lesser of two strings, and two joined, where there are two
-abbrev pub isLess : Ordering → Bool
-isLess Ordering·lt = true
-isLess Ordering·eq = false
-isLess Ordering·gt = false
-
 unfoldable pub lesserOf : Option (List ℕ) → Option (List ℕ) → Option (List ℕ)
 lesserOf none b = b
 lesserOf (some s) none = some s
@@ -47,11 +44,22 @@ module _ {O : Type 0} (addSplit : Sym → Sym → ℕ → O → O) (addWord : �
   unfolding iter byRule
   byRules rule R A m o = iter (λ x r. byRule A m x (rule r)) o R
 
--- the least string of symbol A and length m, where `l B j` is that of B and j
-unfoldable pub leastOf : {K : Type 0} → Keeping K → (ℕ → Rule) → ℕ → (Sym → ℕ → K) → Sym → ℕ → K
+-- the least string of symbol A for m places from place i on, where `allow q x` says whether word x may stand at place q, and `l B q j` is
+-- that of B for j places from place q on
+unfoldable pub leastOver : {K : Type 0} → Keeping K → (ℕ → Rule) → ℕ → (ℕ → ℕ → Bool) → (Sym → ℕ → ℕ → K) → Sym → ℕ → ℕ → K
 unfolding byRules
-leastOf keeping rule R l A m =
-    byRules (λ B C j best. keeping .addJoin j (m - j) (l B j) (l C (m - j)) best) (keeping .addWord) rule R A m (keeping .missing)
+leastOver keeping rule R allow l A i m =
+    byRules (λ B C j best. keeping .addJoin j (m - j) (l B i j) (l C (i + j) (m - j)) best)
+    (λ x best. pick (allow i x) (keeping .addWord x best) best) rule R A m (keeping .missing)
+
+-- where any word may stand anywhere, places do not matter: the least string of symbol A and length m
+unfoldable pub leastOf : {K : Type 0} → Keeping K → (ℕ → Rule) → ℕ → (Sym → ℕ → K) → Sym → ℕ → K
+unfolding leastOver
+leastOf keeping rule R l A m = leastOver keeping rule R (λ q x. true) (λ B q j. l B j) A 0 m
+
+-- the words of a string above s that first differs from it at place p: before that place those of s, there a greater one, and any behind
+unfoldable pub allows : List ℕ → ℕ → ℕ → ℕ → Bool
+allows s p q x = pick (ltb q p) (eqb (getD s q 0) x) (pick (eqb q p) (ltb (getD s q 0) x) true)
 
 -- a table filled cell after cell, each computed from those before it
 unfoldable pub fill : {T K : Type 0} → (T → ℕ → K → T) → (T → ℕ → K) → T → ℕ → T

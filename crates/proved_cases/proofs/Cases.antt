@@ -14,10 +14,12 @@ use Rattle.derivation.specs.Derivation.{weight, walk, reading}
 use Rattle.derivation.specs.List.{trees, ranked}
 use Rattle.listing.specs.Listing.{tableSize, tooHeavy, listed, list, joined}
 use Rattle.checker.specs.Check.{fieldsFrom, firstWith, derivationOf, check}
-use Rattle.phrases.specs.Enumeration.{firstPhrase}
+use Rattle.phrases.specs.Phrases.{wordOrder}
+use Rattle.phrases.specs.Enumeration.{firstPhrase, nextPhrase}
 use Rattle.specimen.specs.Specimen.{specimen}
+use Rattle.next_phrase.specs.NextPhrase.{next}
 use Rattle.proved_cases.specs.Table.{AllHold, P-cases}
 
 pub cases-hold : AllHold P-cases
-unfolding slotEdges edgesFrom num bitsOf pack ended widthOf widthFrom bitsOfAll inRange fieldAt ruleFrom anyLike unlikeFrom grammarFrom grammarBlock rulesEntries grammarEntries blockOfGrammar candidatesFrom slotFrom slotsFrom utteranceFrom utteranceBlock heardBlock candidatesEntries slotsEntries utteranceEntries blockOfUtterance walkFrom readingFrom walkEntries readingEntries blockOfReading weight walk reading trees ranked tableSize readingLength tooHeavy listed list joined fieldsFrom firstWith derivationOf check firstPhrase specimen
-cases-hold = (refl, (refl, (refl, ((refl, λ out. refl), (refl, (refl, (refl, (refl, ((refl, refl), (refl, (refl, (refl, ((refl, refl), ((refl, refl), (refl, ((refl, refl), (refl, ((refl, refl), ((refl, refl), ((refl, refl), tt))))))))))))))))))))
+unfolding slotEdges edgesFrom num bitsOf pack ended widthOf widthFrom bitsOfAll inRange fieldAt ruleFrom anyLike unlikeFrom grammarFrom grammarBlock rulesEntries grammarEntries blockOfGrammar candidatesFrom slotFrom slotsFrom utteranceFrom utteranceBlock heardBlock candidatesEntries slotsEntries utteranceEntries blockOfUtterance walkFrom readingFrom walkEntries readingEntries blockOfReading weight walk reading trees ranked tableSize readingLength tooHeavy listed list joined fieldsFrom firstWith derivationOf check firstPhrase specimen wordOrder nextPhrase next
+cases-hold = (refl, (refl, (refl, ((refl, λ out. refl), (refl, (refl, (refl, (refl, ((refl, refl), (refl, (refl, (refl, ((refl, refl), ((refl, refl), (refl, ((refl, refl), (refl, ((refl, refl), ((refl, refl), ((refl, refl), (refl, ((refl, refl), ((refl, refl), ((refl, refl), ((refl, refl), ((refl, refl), ((refl, refl), ((refl, refl), tt))))))))))))))))))))))))))))

@@ -19,12 +19,12 @@ use Rattle.checker.specs.declared.Checked.the-variants.{Passes, Refused}
 use Rattle.specimen.specs.Specimen as Specimen
 use Rattle.specimen.specs.Specimen.{answeredOf, outputOf}
 use Rattle.specimen.specs.declared.Answered.{Answered}
+use Rattle.next_phrase.specs.NextPhrase as NextPhrase
 use Rattle.specimen.specs.declared.Answered.the-variants.{Written, Nothing}
 
 -- a row: the block of a grammar and of an utterance; the readings that the listing finds, with the lister's work table and
 -- output; its answer m, and the bytes that it writes in front of the output; a reading block that passes the check, and one that it
--- refuses; what the specimen
--- answers, and its output before and after
+-- refuses; what the specimen and the next phrase answer, and the output before and after
 pub data Case : Type 0 where
   grammar : (g : Grammar) (block : List ℕ) → Case
   utterance : (g : Grammar) (u : Utterance) (block : List ℕ) → Case
@@ -33,6 +33,7 @@ pub data Case : Type 0 where
   passes : (g : Grammar) (u : Utterance) (block : List ℕ) (reading : Reading) → Case
   refuses : (g : Grammar) (u : Utterance) (block : List ℕ) (number : ℕ) → Case
   specimen : (g : Grammar) (n : ℕ) (out : List ℕ) (answer : Answered) (after : List ℕ) → Case
+  next : (g : Grammar) (n call : ℕ) (out : List ℕ) (answer : Answered) (after : List ℕ) → Case
 
 abbrev pub listedFor : Grammar → Utterance → ℕ → Verdict (List (List ℕ))
 listedFor g u wanted = list (blockOfGrammar g) (blockOfUtterance (g .words) u) wanted 8192 1024
@@ -50,6 +51,8 @@ Holds (passes g u block reading) = (checkedFor g u block ≡ Passes) × (block �
 Holds (refuses g u block number) = checkedFor g u block ≡ Refused number
 Holds (specimen g n out answer after) =
     (answeredOf (Specimen.specimen (blockOfGrammar g) n (length out)) ≡ answer) × (outputOf (Specimen.specimen (blockOfGrammar g) n (length out)) out ≡ after)
+Holds (next g n call out answer after) =
+    (answeredOf (NextPhrase.next (blockOfGrammar g) n call out) ≡ answer) × (outputOf (NextPhrase.next (blockOfGrammar g) n call out) out ≡ after)
 
 abbrev pub AllHold : List Case → Type 0
 AllHold [] = Unit {0}
@@ -98,6 +101,14 @@ longer-left = record {
   rules = pairRule 0 1 2 0 ∷ wordRule 1 1 0 ∷ pairRule 1 2 1 0 ∷ wordRule 2 0 0 ∷ pairRule 2 2 2 0 ∷ [];
 }
 
+-- N9's: 0 to 0 1 weight 1, 0 to word 2, 1 to word 0, 1 to word 2, 0 to word 1 weight 3
+abbrev pub any-tail : Grammar
+any-tail = record {
+  symbols = 2;
+  words = 3;
+  rules = pairRule 0 0 1 1 ∷ wordRule 0 2 0 ∷ wordRule 1 0 0 ∷ wordRule 1 2 0 ∷ wordRule 0 1 3 ∷ [];
+}
+
 abbrev pub first-reading : Reading
 first-reading = readingWith 4 3 (0 ∷ 1 ∷ 0 ∷ 1 ∷ 0 ∷ 1 ∷ 1 ∷ [])
 
@@ -139,4 +150,13 @@ P-cases =
     ∷ specimen longer-left 3 (9 ∷ 9 ∷ 9 ∷ []) Written (0 ∷ 1 ∷ 0 ∷ [])
     ∷ specimen longer-left 4 (9 ∷ 9 ∷ 9 ∷ 9 ∷ 9 ∷ []) Written (0 ∷ 0 ∷ 1 ∷ 0 ∷ 9 ∷ [])
     ∷ specimen longer-left 1 (9 ∷ []) Nothing (9 ∷ [])
+    ∷ grammar any-tail
+    (0x10 ∷ 0x80 ∷ 0xc0 ∷ 0xa0 ∷ 0x00 ∷ 0x0b ∷ 0x00 ∷ 0x00 ∷ 0x58 ∷ 0x00 ∷ 0x01 ∷ 0x80 ∷ 0x00 ∷ 0x50 ∷ 0x00 ∷ 0x1a ∷ [])
+    ∷ next any-tail 2 1 (9 ∷ 9 ∷ 9 ∷ []) Written (1 ∷ 0 ∷ 9 ∷ [])
+    ∷ next any-tail 2 0 (1 ∷ 0 ∷ 9 ∷ []) Written (1 ∷ 2 ∷ 9 ∷ [])
+    ∷ next any-tail 2 0 (1 ∷ 2 ∷ 9 ∷ []) Written (2 ∷ 0 ∷ 9 ∷ [])
+    ∷ next any-tail 2 0 (2 ∷ 0 ∷ 9 ∷ []) Written (2 ∷ 2 ∷ 9 ∷ [])
+    ∷ next any-tail 2 0 (2 ∷ 2 ∷ 9 ∷ []) Nothing (2 ∷ 2 ∷ 9 ∷ [])
+    ∷ next any-tail 3 0 (1 ∷ 1 ∷ 9 ∷ []) Written (1 ∷ 2 ∷ 0 ∷ [])
+    ∷ next any-tail 3 0 (1 ∷ 255 ∷ 255 ∷ []) Written (2 ∷ 0 ∷ 0 ∷ [])
     ∷ []

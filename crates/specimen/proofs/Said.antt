@@ -3,10 +3,10 @@ use mathlib.Core.Path.{_≡_, refl, sym, ap, _∙_}
 use mathlib.Core.Option.{Option, none, some}
 use mathlib.Core.List.{List, _++_}
 use Prim.Native.Nat.{ℕ, _+_, _-_, _*_, _≤_, _<_}
-use native.Mathlib.Nat.{add-zero, zero-add}
+use native.Mathlib.Nat.{zero-add}
 use native.Mathlib.Omega.{arith}
 use lib.ListN.{length, getD, replicate}
-use lib.Seq.{slice, paste, take-at, getD-drop, getD-take}
+use lib.Seq.{slice, paste, take-at}
 use Rattle.packing.specs.Meaning.{Grammar, symbolOf}
 use Rattle.packing.specs.Parse.{accepted}
 use Rattle.packing.specs.Flat.{Begins, ruleNumbers, ruleAt}
@@ -25,7 +25,7 @@ use Rattle.phrases.proofs.Padded.{Pads, word-first, first-filled}
 use Rattle.specimen.specs.Specimen.{answeredOf, outputOf}
 use Rattle.specimen.specs.Table.{fittedAt, fillTable}
 use Rattle.specimen.specs.declared.Answered.the-variants.{Written, Nothing}
-use Rattle.specimen.proofs.Parts.{lent, lent-is, fitted-is}
+use Rattle.specimen.proofs.Parts.{lent, lent-is, first-byte, fitted-is}
 
 -- the answer and the output, from the padded string that stands for o
 module _ (W n : ℕ) (w : W ≤ 200) (pos : 0 < n) where
@@ -37,13 +37,13 @@ module _ (W n : ℕ) (w : W ≤ 200) (pos : 0 < n) where
       let z : getD (t ++ replicate (24 - n) 0) 0 0 ≡ 255 = rw e at h in
       absurd (omega arith)
 
-  written-told : (o : Option (List ℕ)) (c out : List ℕ) → Each (Sized W n) o → Pads n o c → (getD c 0 0 ≡ 255 → ⊥)
+  pub written-told : (o : Option (List ℕ)) (c out : List ℕ) → Each (Sized W n) o → Pads n o c → (getD c 0 0 ≡ 255 → ⊥)
       → (Written ≡ answeredOf (accepted o)) × (paste out 0 c n ≡ outputOf (accepted o) out)
   written-told none c out s e h = absurd (h (ap (λ (l : List ℕ). getD l 0 0) e))
   written-told (some t) c out (string s) e h = (refl, rw (e, take-at t (replicate (24 - n) 0) n (s .0), zero-add n, s .0))
 
 module _ (g : Grammar) (v : ValidGrammar g) (rules : List ℕ) (b : Begins (ruleNumbers g) rules) where
-  stored : Stored g (fittedAt rules)
+  pub stored : Stored g (fittedAt rules)
   stored r h =
       let at = rule-at g rules r b h in
       let few = valid-sizes g v in
@@ -61,15 +61,12 @@ module _ (g : Grammar) (v : ValidGrammar g) (rules : List ℕ) (b : Begins (rule
     all-sized : Each (Sized (g .words) n) (firstPhrase g n)
     all-sized = each (λ t p. (p .0, yields-below g v (says-yields g t (p .1)))) (firstPhrase-least g n v)
 
-    first-byte : getD (slice at (at + 24) full) 0 0 ≡ getD full at 0
-    first-byte = getD-drop at _ 0 0 ∙ rw (add-zero at) (getD-take (at + 24) full at 0 (omega arith))
-
     pub nothing-said : (out : List ℕ) → getD full at 0 ≡ 255
         → (Nothing ≡ answeredOf (accepted (firstPhrase g n))) × (out ≡ outputOf (accepted (firstPhrase g n)) out)
-    nothing-said out h = nothing-told (g .words) n (valid-sizes g v .3) pos (firstPhrase g n) _ out all-sized found (first-byte ∙ h)
+    nothing-said out h = nothing-told (g .words) n (valid-sizes g v .3) pos (firstPhrase g n) _ out all-sized found (first-byte full at ∙ h)
 
     pub string-said : (out : List ℕ) {exit : List ℕ} → (getD full at 0 ≡ 255 → ⊥) → exit ≡ paste out 0 (lent full at) n
         → (Written ≡ answeredOf (accepted (firstPhrase g n))) × (exit ≡ outputOf (accepted (firstPhrase g n)) out)
     string-said out h x =
-        let (told, shown) = written-told (g .words) n (valid-sizes g v .3) pos (firstPhrase g n) _ out all-sized found (λ y. h (sym first-byte ∙ y)) in
+        let (told, shown) = written-told (g .words) n (valid-sizes g v .3) pos (firstPhrase g n) _ out all-sized found (λ y. h (sym (first-byte full at) ∙ y)) in
         (told, x ∙ ap (λ (l : List ℕ). paste out 0 l n) (lent-is full at) ∙ shown)

@@ -13,16 +13,16 @@ use Rattle.phrases.specs.Enumeration.{firstPhrase}
 use Rattle.specimen.specs.declared.Answered as A
 use Rattle.specimen.specs.declared.Answered.the-variants.{Written, Nothing, Refused}
 
--- the grammar, or the refusal
-unfoldable pub asked : List ℕ → ℕ → ℕ → Verdict Grammar
-asked grammar n out =
+-- the grammar, or the refusal: the length is from 1 to `most`, and the output not shorter
+unfoldable pub asked : (most : ℕ) → List ℕ → ℕ → ℕ → Verdict Grammar
+asked most grammar n out =
     grammarBlock grammar then λ g.
-    pick (ltb n 1) (refused 25) (pick (ltb 24 n) (refused 25) (pick (ltb out n) (refused 26) (accepted g)))
+    pick (ltb n 1) (refused 25) (pick (ltb most n) (refused 25) (pick (ltb out n) (refused 26) (accepted g)))
 
 -- its first string of n words, or that there is none
 unfoldable pub specimen : List ℕ → ℕ → ℕ → Verdict (Option (List ℕ))
 unfolding asked
-specimen grammar n out = asked grammar n out then λ g. accepted (firstPhrase g n)
+specimen grammar n out = asked 24 grammar n out then λ g. accepted (firstPhrase g n)
 
 -- the service's answer, and its output: "one word number a byte, bytes beyond unchanged"
 abbrev pub answeredOf : Verdict (Option (List ℕ)) → A.Answered

@@ -8,6 +8,8 @@ use packing::Sym;
 use packing::format::MAX_RULES;
 use packing::format::MAX_SLOTS;
 use packing::format::MAX_SYMBOLS;
+use packing::format::NUMBERS_PER_RULE;
+use packing::format::RULE_HEAD_AT;
 use packing::format::RULES_LENGTH;
 use packing::refused;
 use padded_strings::NO_STRING;
@@ -125,6 +127,10 @@ fn least_of_cell(table: &[u8], rules: &[u32], count: usize, c: usize) -> [u8; MA
     let len = c / MAX_SYMBOLS + 1;
     let mut best = padded_strings::one_word(NO_STRING);
     for r in 0..count {
+        // a rule of another head makes nothing, and the string is not copied
+        if arrays::narrow_at(rules, NUMBERS_PER_RULE * r + RULE_HEAD_AT) != a {
+            continue;
+        }
         let next = lesser_rule(table, rules, Sym(a), len, r, best);
         best = next;
     }
@@ -143,7 +149,7 @@ fn fill_table(table: &mut [u8], rules: &[u32], count: usize, n: usize)
 }
 
 // The answer for a grammar that was accepted and a length that there is room for.
-fn answer(rules: &[u32], sizes: Sizes, n: usize, out: &mut [u8]) -> Answered
+pub fn answer(rules: &[u32], sizes: Sizes, n: usize, out: &mut [u8]) -> Answered
     requires { do ⌜ Bounded sizes × (0 < n) × (n ≤ (← ⟦MAX_SLOTS⟧)) × (n ≤ length (now out)) ⌝ }
     ensures { λ r. ⌜ ((g : Grammar) → sizes ≡ sizesOf g → ValidGrammar g → Begins (ruleNumbers g) (now (rules .entry)) → (r ≡ answeredOf (accepted (firstPhrase g n))) × (now (out .exit) ≡ outputOf (accepted (firstPhrase g n)) (now (out .entry)))) ⌝ }
 {

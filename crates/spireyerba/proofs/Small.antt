@@ -29,12 +29,10 @@ use Rattle.checker.proofs.Refused.{check-row}
 use Rattle.listing.specs.Listing.{list, listed, listedOf}
 use Rattle.listing.proofs.Accepted.{found-few}
 use Rattle.listing.proofs.Refused.{list-row}
-use Rattle.phrases.specs.Phrases.{Phrase}
-use Rattle.phrases.specs.Enumeration.{firstPhrase}
-use Rattle.phrases.proofs.Least.{LeastOrNone, nothing, first}
-use Rattle.phrases.proofs.Theorems.{firstPhrase-least}
-use Rattle.specimen.specs.Specimen.{asked, specimen}
+use Rattle.phrases.proofs.Least.{Property, LeastOrNone, nothing, first}
+use Rattle.specimen.specs.Specimen.{asked}
 use Rattle.specimen.proofs.Asked.{asked-out, asked-row}
+use Rattle.spireyerba.proofs.Searches.{Search}
 use Rattle.spireyerba.proofs.Codes.{Small, small-size, small-refusal, Wanted, as-long, no-string, refusal}
 
 -- a result of at most 1,283
@@ -93,8 +91,8 @@ low-list grammar heard N work out = wider (low-three low-heard (λ n r. omega (a
 pub low-check : (grammar heard reading : List ℕ) → Refuses Low (check grammar heard reading)
 low-check grammar heard reading = wider (low-three low-heard (λ n r. omega (arith, r))) (check-row grammar heard reading)
 
-low-asked : (s : List ℕ) (n out : ℕ) → Refuses Low (asked s n out)
-low-asked s n out = wider (low-both (λ n r. omega (arith, r)) (λ n r. omega (arith, r))) (asked-row s n out)
+low-asked : (most : ℕ) (s : List ℕ) (n out : ℕ) → Refuses Low (asked most s n out)
+low-asked most s n out = wider (low-both (λ n r. omega (arith, r)) (λ n r. omega (arith, r))) (asked-row most s n out)
 
 -- what is short, with a low refusal, is a small answer
 small : {v : Verdict (List ℕ)} → Short v → Refuses Low v → Small length v
@@ -125,19 +123,20 @@ small-utterance-sheet s t out =
     small (fitting-short out (then-short (grammarBlock s) _ (λ g e. then-short (utteranceBlock (g .words) t) _ (λ u f.
     short (slots-short (g .words) u (utterance-block-out (g .words) t u f .0)))))) (low-utterance-to-sheet s t out)
 
--- the specimen: an accepted length is at most 24, and the string has it
-first-long : {g : Grammar} {n : ℕ} {o : Option (List ℕ)} → LeastOrNone (Phrase g n) o → n ≤ 24 → Wanted n (accepted o)
-first-long (nothing never) h = no-string
-first-long (first (p, l)) h = as-long (p .0) (omega arith)
+-- the specimen and the next phrase: an accepted length is at most 24, and a string that is found has it
+found-wanted : {P : Property} {n : ℕ} {o : Option (List ℕ)} → ((s : List ℕ) → P s → length s ≡ n) → LeastOrNone P o → n ≤ 24 → Wanted n (accepted o)
+found-wanted f (nothing never) h = no-string
+found-wanted f (first {s} (p, l)) h = as-long (f s p) (omega arith)
 
-pub specimen-wanted : (s : List ℕ) (n out : ℕ) → Wanted n (specimen s n out)
-unfolding specimen
-specimen-wanted s n out = go refl (low-asked s n out)
-  where
-    go : {v : Verdict Grammar} → asked s n out ≡ v → Refuses Low v → Wanted n (v then λ g. accepted (firstPhrase g n))
-    go e (granted {a = g}) =
-        let (p, most) = asked-out s n out g e in first-long {g = g} (firstPhrase-least g n (grammar-block-out s g p .0)) most
-    go e (denied {n = m} l) = refusal {m = m} (omega arith)
+module _ (most : ℕ) (few : most ≤ 24) (s : List ℕ) (n out : ℕ) {find : Grammar → Option (List ℕ)} (search : Search n find) where
+  pub strings-wanted : Wanted n (asked most s n out then λ g. accepted (find g))
+  strings-wanted = go refl (low-asked most s n out)
+    where
+      go : {v : Verdict Grammar} → asked most s n out ≡ v → Refuses Low v → Wanted n (v then λ g. accepted (find g))
+      go e (granted {a = g}) =
+          let (p, h, _) = asked-out most s n out g e in
+          found-wanted {P = search .Sought g} (search .as-long g) (search .least g (grammar-block-out s g p .0)) (omega arith)
+      go e (denied {n = m} l) = refusal {m = m} (omega arith)
 
 -- the check
 checked-low : {v : Verdict Tree} → Refuses Low v → Small (λ d. 0) v

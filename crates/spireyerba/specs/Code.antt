@@ -25,10 +25,10 @@ checkCode v = codeOf (λ t. 0) v
 abbrev pub listCode : Verdict (List (List ℕ)) → ℤ
 listCode v = codeOf length v
 
--- the specimen: the length of the string that was written, 0 for none
+-- the specimen and the next phrase: the length of the string that was written, 0 for none
 abbrev pub stringLength : Option (List ℕ) → ℕ
 stringLength none = 0
 stringLength (some s) = length s
 
-abbrev pub specimenCode : Verdict (Option (List ℕ)) → ℤ
-specimenCode v = codeOf stringLength v
+abbrev pub stringCode : Verdict (Option (List ℕ)) → ℤ
+stringCode v = codeOf stringLength v

@@ -1,20 +1,23 @@
 -- The three demands, of the exported functions: of the number that a call answers, its code, and of the slices that it was lent.
 -- `grammar`, `sheet`, `out` .. are the numbers of a slice before the call, `work′` and `out′` those afterwards. Each exported function's
 -- contract, in src/lib.rt, promises of every call the record of this page with the function's name; proofs/Demands has the theorem
--- about two calls. Every other name is defined on the page that its `use` line names.
+-- about two calls, proofs/Calls that about many. Every other name is defined on the page that its `use` line names.
 use mathlib.Core.Path.{_≡_}
 use mathlib.Core.Logic.{_⊎_, _↔_}
 use mathlib.Core.List.{List, _++_}
-use Prim.Native.Nat.{ℕ, _≤_}
+use Prim.Native.Nat.{ℕ, zero, suc, _≤_, _<_}
 use lib.IntN.{ℤ, pos, negℤ}
 use lib.ListN.{length, take, drop, replicate}
+use Rattle.packing.specs.Meaning.{Grammar}
 use Rattle.packing.specs.Parse.{Verdict, accepted, refused}
 use Rattle.packing.specs.Conversion.{grammarToBlock, grammarToSheet, utteranceToBlock, utteranceToSheet, fitting, TurnsBack}
 use Rattle.packing.specs.Rows.{_∪_, GrammarBlockRow, UtteranceBlockRow, HeardBlockRow, ListingRow, SpecimenRow, ReadingBlockRow, GrammarSheetRow, UtteranceSheetRow, OutputRow}
+use Rattle.derivation.specs.Derivation.{At}
+use Rattle.derivation.specs.Rank.{_∈_}
 use Rattle.checker.specs.Check.{check, OfDerivation, NoWalk, OtherWeight, Surplus}
 use Rattle.listing.specs.Listing.{list, joined}
 use Rattle.listing.specs.Demand3.{Demand3}
-use Rattle.phrases.specs.Phrases.{Phrase, Least}
+use Rattle.phrases.specs.Phrases.{Phrase, Precedes, Least}
 use Rattle.specimen.specs.Specimen.{asked}
 
 -- Demand 1: "Whatever arrives, every service returns its stated answer or one refusal by number, and a refusal changes nothing lent."
@@ -63,11 +66,25 @@ pub record Check (grammar heard reading : List ℕ) (code : ℤ) : Type 0 where
   pub other-weight : (code ≡ negℤ (pos 35)) ↔ OtherWeight grammar heard reading
   pub surplus : (code ≡ negℤ (pos 36)) ↔ Surplus grammar heard reading
 
--- The specimen writes "the string that is least when compared word number by word number from the left" (document 02, N7) and answers its
--- length n, and 0 for "none".
+-- The least string with a property, whose length n is answered, stands at the front of the output; or there is none, 0 is answered and
+-- nothing was written.
+abbrev pub LeastWritten : (List ℕ → Type 0) → (n : ℕ) (out out′ : List ℕ) → ℕ → Type 0
+LeastWritten P n out out′ m =
+    ((s : List ℕ) × Least P s × (m ≡ n) × (out′ ≡ s ++ drop n out)) ⊎ (((s : List ℕ) → ¬ P s) × (m ≡ 0) × (out′ ≡ out))
+
+-- The specimen is "the string that is least when compared word number by word number from the left" (document 02, N7).
 pub record Specimen (grammar : List ℕ) (n : ℕ) (out : List ℕ) (code : ℤ) (out′ : List ℕ) : Type 0 where
-  pub demand-1 : Demand1 (asked grammar n (length out))
-      (λ g m. ((s : List ℕ) × Least (Phrase g n) s × (m ≡ n) × (out′ ≡ s ++ drop n out)) ⊎ (((s : List ℕ) → ¬ Phrase g n s) × (m ≡ 0) × (out′ ≡ out)))
+  pub demand-1 : Demand1 (asked 24 grammar n (length out)) (λ g m. LeastWritten (Phrase g n) n out out′ m) (GrammarBlockRow ∪ SpecimenRow)
+      (out′ ≡ out) code
+
+-- Document 02, N9: a first call looks for any phrase, a later one, with 0 for `first`, "finds some string in the output and writes the least
+-- derivable one above it, or says end and writes nothing".
+abbrev pub Sought : Grammar → (n first : ℕ) (out : List ℕ) → List ℕ → Type 0
+Sought g n zero out s = Phrase g n s × Precedes (take n out) s
+Sought g n (suc k) out s = Phrase g n s
+
+pub record NextPhrase (grammar : List ℕ) (n first : ℕ) (out : List ℕ) (code : ℤ) (out′ : List ℕ) : Type 0 where
+  pub demand-1 : Demand1 (asked 6 grammar n (length out)) (λ g m. LeastWritten (Sought g n first out) n out out′ m)
       (GrammarBlockRow ∪ SpecimenRow) (out′ ≡ out) code
 
 -- Demand 2 of two calls: the first answers n; the second, given the n numbers that the first wrote and room for what the first was
@@ -83,3 +100,23 @@ pub record Demand2 : Type 0 where
   pub grammar-blocks : RoundTrip GrammarToSheet GrammarToBlock
   pub utterance-sheets : (grammar : List ℕ) → RoundTrip (UtteranceToBlock grammar) (UtteranceToSheet grammar)
   pub utterance-blocks : (grammar : List ℕ) → RoundTrip (UtteranceToSheet grammar) (UtteranceToBlock grammar)
+
+-- N9 of a first call and then K later ones, each with the output as the call before left it: `out 0` is the output before them, and
+-- `out (k + 1)` that after call k, which answers `code k`.
+pub record Calls (grammar : List ℕ) (n K : ℕ) (code : ℕ → ℤ) (out : ℕ → List ℕ) : Type 0 where
+  pub first-call : (f : ℕ) × NextPhrase grammar n (suc f) (out 0) (code 0) (out 1)
+  pub later-call : (k : ℕ) → k < K → NextPhrase grammar n 0 (out (suc k)) (code (suc k)) (out (suc (suc k)))
+
+-- They "hand out every derivable word string, each one time however many derivations it has, in ascending order of word numbers, one string a
+-- call"; after the last they say "end".
+pub record HandedOut (g : Grammar) (n K : ℕ) (code : ℕ → ℤ) (out : ℕ → List ℕ) : Type 0 where
+  pub strings : List (List ℕ)
+  pub every : (s : List ℕ) → s ∈ strings ↔ Phrase g n s
+  pub ascending : (j k : ℕ) (s t : List ℕ) → At strings j s → At strings k t → j < k → Precedes s t
+  pub handed : (k : ℕ) (s : List ℕ) → k ≤ K → At strings k s → (code k ≡ pos n) × (out (suc k) ≡ s ++ drop n (out 0))
+  pub ended : (k : ℕ) → k ≤ K → length strings ≤ k → (code k ≡ pos 0) × (out (suc k) ≡ out k)
+
+abbrev pub EveryPhrase : Type 0
+EveryPhrase =
+    (grammar : List ℕ) (g : Grammar) (n K : ℕ) (code : ℕ → ℤ) (out : ℕ → List ℕ) → asked 6 grammar n (length (out 0)) ≡ accepted g
+    → Calls grammar n K code out → HandedOut g n K code out

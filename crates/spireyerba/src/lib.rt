@@ -12,7 +12,8 @@ ghost use Rattle.packing.specs.Conversion.{grammarToBlock, grammarToSheet, utte
 ghost use Rattle.checker.specs.Check.{check};
 ghost use Rattle.listing.specs.Listing.{list, outputAfter, workAfter};
 ghost use Rattle.specimen.specs.Specimen.{specimen, outputOf};
-ghost use Rattle.spireyerba.specs.Code.{checkCode, listCode, lengthCode, specimenCode};
+ghost use Rattle.next_phrase.specs.NextPhrase.{next};
+ghost use Rattle.spireyerba.specs.Code.{checkCode, listCode, lengthCode, stringCode};
 ghost use Rattle.spireyerba.specs.Demands as demands;
 ghost use Rattle.spireyerba.specs.Model.{writtenCode, SmallWritten};
 
@@ -128,11 +129,32 @@ pub extern "C" fn spireyerba_check(grammar: &[u8], utterance: &[u8], reading: &[
 // The least word string of the wanted length that the grammar derives: the length, or 0 where there is none.
 #[no_mangle]
 pub extern "C" fn spireyerba_specimen(grammar: &[u8], wanted: u32, out: &mut [u8]) -> i32
-    ensures { λ r. ⌜ r ≡ specimenCode (specimen (now (grammar .entry)) wanted (length (now (out .entry)))) ⌝ }
+    ensures { λ r. ⌜ r ≡ stringCode (specimen (now (grammar .entry)) wanted (length (now (out .entry)))) ⌝ }
     ensures { λ r. ⌜ now (out .exit) ≡ outputOf (specimen (now (grammar .entry)) wanted (length (now (out .entry)))) (now (out .entry)) ⌝ }
     ensures { λ r. ⌜ demands.Specimen (now (grammar .entry)) wanted (now (out .entry)) r (now (out .exit)) ⌝ }
 {
     let answer = specimen::specimen(grammar, wanted, out);
+    match answer {
+        Answered::Written => count(wanted as usize),
+        Answered::Nothing => 0,
+        Answered::Refused(n) => refusal(n),
+    }
+}
+
+// A word string of the wanted length that the grammar derives: the least, or if `first` is 0 the least above the one at the front of the
+// output. The length, or 0 where there is none.
+#[no_mangle]
+pub extern "C" fn spireyerba_next_phrase(
+    grammar: &[u8],
+    wanted: u32,
+    first: u32,
+    out: &mut [u8],
+) -> i32
+    ensures { λ r. ⌜ r ≡ stringCode (next (now (grammar .entry)) wanted first (now (out .entry))) ⌝ }
+    ensures { λ r. ⌜ now (out .exit) ≡ outputOf (next (now (grammar .entry)) wanted first (now (out .entry))) (now (out .entry)) ⌝ }
+    ensures { λ r. ⌜ demands.NextPhrase (now (grammar .entry)) wanted first (now (out .entry)) r (now (out .exit)) ⌝ }
+{
+    let answer = next_phrase::next_phrase(grammar, wanted, first, out);
     match answer {
         Answered::Written => count(wanted as usize),
         Answered::Nothing => 0,

@@ -3,6 +3,7 @@
 pub mod check;
 pub mod conversions;
 pub mod listing;
+pub mod next_phrase;
 pub mod specimen;
 
 use crate::seeded::rng::{Noise, Rng};

@@ -4,6 +4,7 @@ pub mod damage;
 pub mod grammars;
 pub mod graphs;
 pub mod parsable;
+pub mod phrases;
 pub mod raw;
 pub mod rng;
 pub mod utterances;

@@ -1,8 +1,7 @@
 -- Each arm is the definition's code of that answer; so the demands are met. Assumes nothing.
 use borrow.Author.Needs.{needs}
-use Rattle.spireyerba.proofs.Small.{specimen-wanted}
 use Rattle.spireyerba.proofs.Codes.{answered-small, answered-code, answered-number}
-use Rattle.spireyerba.proofs.Demands.{specifies}
+use Rattle.spireyerba.proofs.Strings.{specimen-wanted, specifies}
 use Rattle.spireyerba.proofs.spireyerba_specimen.Statement.{statement}
 use Rattle.spireyerba.proofs.spireyerba_specimen.Tie as tie
 

@@ -1,0 +1,2 @@
+pub mod NextPhrase
+pub mod Table
