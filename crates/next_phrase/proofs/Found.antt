@@ -3,7 +3,7 @@
 use mathlib.Core.Path.{_≡_, refl, sym, ap, _∙_}
 use mathlib.Core.Logic.{_⊎_, inl, inr, ⊎-elim}
 use mathlib.Core.Bool.{Bool, true, false}
-use mathlib.Core.Option.{Option, none, some}
+use mathlib.Core.Option.{none, some}
 use mathlib.Core.List.{List, _++_}
 use Prim.Native.Nat.{ℕ, zero, suc, _+_, _-_, _*_, _/_, _%_, _≤_, _<_}
 use native.Mathlib.Decide.{ℕ-discrete}
@@ -26,7 +26,7 @@ use Rattle.phrases.specs.Enumeration.{nextPhrase}
 use Rattle.phrases.specs.Recursion.{leastOver, allows}
 use Rattle.phrases.specs.Padded.{noString, padded, stringAt}
 use Rattle.phrases.proofs.Yields.{says-yields, yields-says}
-use Rattle.phrases.proofs.Least.{Property, LeastOrNone, nothing, first, least-unique}
+use Rattle.phrases.proofs.Least.{Property, nothing, first, least-unique}
 use Rattle.phrases.proofs.Enumeration.{true≢false}
 use Rattle.phrases.proofs.Theorems.{nextPhrase-least}
 use Rattle.phrases.proofs.Cell.{Of}

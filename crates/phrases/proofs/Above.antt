@@ -1,6 +1,6 @@
 -- A string above s, of its length, first differs from it at some place p: before p the words are those of s, and there it has a greater
 -- one. Of two strings above s the one that differs at a later place comes first. Assumes nothing.
-use mathlib.Core.Path.{_≡_, refl, sym, ap, _∙_}
+use mathlib.Core.Path.{_≡_, refl, ap}
 use mathlib.Core.Logic.{⊎-elim}
 use mathlib.Core.Bool.{true}
 use mathlib.Core.List.{List, [], _∷_}

@@ -2,7 +2,7 @@
 -- phrase k + 1. Assumes nothing.
 use mathlib.Core.Path.{_≡_, refl, sym, ap, _∙_}
 use mathlib.Core.Option.{Option, none, some}
-use mathlib.Core.List.{List, [], _∷_, _++_, head?}
+use mathlib.Core.List.{List, [], _∷_, _++_}
 use Prim.Native.Nat.{ℕ, zero, suc, _≤_}
 use native.Mathlib.Omega.{arith}
 use borrow.Author.Tests.{ne-eqb}
@@ -13,7 +13,6 @@ use Rattle.packing.specs.Meaning.{Grammar}
 use Rattle.packing.specs.Parse.{accepted}
 use Rattle.packing.specs.Valid.{ValidGrammar}
 use Rattle.packing.proofs.Whole.{grammar-block-out}
-use Rattle.derivation.specs.Derivation.{At}
 use Rattle.derivation.proofs.Comparison.{compare-lt}
 use Rattle.derivation.proofs.Lists.{at-mem, none≢some}
 use Rattle.derivation.proofs.Sorted.{at-order}
