@@ -14,8 +14,11 @@
 //! | [`services`] | the library's functions over lent slices, with no allocation |
 //! | [`Refusal`] | why one of them refused, by number and in words |
 //! | [`Grammar`], [`Utterance`], [`Reading`] | values that turn into blocks and sheets and back; [`Grammar::list`] |
+//! | [`Lister`] | many listings under one grammar, in memory that is kept |
+//! | [`Tree`] | a reading as a tree |
 //! | [`limits`] | how large things may be, and how much is to be lent |
-//! | [`text`] | grammars and utterances with names |
+//! | [`text`] | grammars, utterances and confusion networks with names |
+//! | [`Error`] | a refusal, or a fault of a text with its file, line and column |
 //!
 //! # Example
 //!
@@ -43,12 +46,19 @@ pub mod limits;
 pub mod services;
 pub mod text;
 
+mod error;
+mod fields;
 mod grammar;
+mod lister;
 mod reading;
 mod refusal;
+mod tree;
 mod utterance;
 
+pub use error::{Error, Position};
 pub use grammar::{Body, Grammar, Rule};
+pub use lister::Lister;
 pub use reading::Reading;
 pub use refusal::Refusal;
+pub use tree::{Parts, Tree};
 pub use utterance::{Candidate, Utterance};
