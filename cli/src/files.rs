@@ -64,17 +64,21 @@ impl File {
     ) -> Result<T, Failure> {
         match (accepted, text_of(&self.bytes)) {
             (Ok(value), _) => Ok(value),
-            (Err(_), Some(text)) => Ok(parse(text).map_err(|error| error.in_file(&self.name))?),
-            (Err(refusal), None) => Err(Error::from(refusal).in_file(&self.name).into()),
+            (Err(_), Ok(text)) => Ok(parse(text).map_err(|error| error.in_file(&self.name))?),
+            (Err(refusal), Err(at)) => {
+                let line = self.bytes[..at].iter().filter(|byte| **byte == b'\n').count() + 1;
+                let no_text = format!("and no text, for byte 0x{:02x} in line {line}", self.bytes[at]);
+                Err(Failure::Refused(format!("{}: {refusal}; {no_text}", self.name)))
+            }
         }
     }
 }
 
-/// The text that bytes are, if they are one.
-fn text_of(bytes: &[u8]) -> Option<&str> {
-    let text = std::str::from_utf8(bytes).ok()?;
+/// The text that bytes are, or where a byte stands that no text has.
+fn text_of(bytes: &[u8]) -> Result<&str, usize> {
+    let text = std::str::from_utf8(bytes).map_err(|error| error.valid_up_to())?;
     let is_foreign = |letter: char| letter.is_control() && !TEXT_CONTROLS.contains(&letter);
-    (!text.contains(is_foreign)).then_some(text)
+    text.find(is_foreign).map_or(Ok(text), Err)
 }
 
 /// A grammar that was read, and its block.

@@ -1,0 +1,7 @@
+//! The command `spireyerba`, run as a user runs it.
+
+mod answers;
+mod common;
+mod readme;
+mod report;
+mod usage;
