@@ -16,6 +16,7 @@ test:
 
 bench:
 	rt staticlib spireyerba
+	cargo build --profile bench --locked --package spireyerba-cli
 	cargo run --profile bench --locked --package spireyerba-bench
 
 clean:

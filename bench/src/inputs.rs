@@ -11,7 +11,8 @@ pub struct Input {
     pub utterance: Utterance,
 }
 
-const WEIGHT: u32 = 1_000;
+/// The greatest weight and cost.
+pub const WEIGHT: u32 = 1_000;
 
 /// 32 symbols and 256 rules.
 pub fn greatest(slots: usize) -> Input {
@@ -65,7 +66,7 @@ fn chain(first: u32, second: u32) -> Grammar {
 }
 
 /// Each slot offers seven words that some rule has.
-fn utterance(rng: &mut Rng, grammar: &Grammar, slots: usize, cost: u32) -> Utterance {
+pub fn utterance(rng: &mut Rng, grammar: &Grammar, slots: usize, cost: u32) -> Utterance {
     let mut known: Vec<u32> = words_of_rules(grammar).collect();
     known.sort_unstable();
     known.dedup();

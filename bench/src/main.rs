@@ -1,11 +1,13 @@
 //! Prints Markdown tables of times in microseconds, medians of alternating calls in one process, and of their ratios.
 
-use spireyerba_bench::{conversions, listing};
+use spireyerba_bench::{batch, conversions, listing};
 
 fn main() {
     listing::print_beside_free();
     println!();
     conversions::print_table();
+    println!();
+    batch::print_table();
     println!();
     listing::print_beside_second();
 }

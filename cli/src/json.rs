@@ -35,28 +35,55 @@ pub fn push_list<T>(json: &mut String, items: impl IntoIterator<Item = T>, mut p
     json.push(']');
 }
 
-/// Adds a whole number.
+/// Adds a whole number. Many are printed, and this is several times as fast as `write!`.
 pub fn push_number(json: &mut String, number: u32) {
-    write!(json, "{number}").expect("a string takes all");
+    let begin = json.len();
+    let mut rest = number;
+    loop {
+        json.insert(begin, char::from(b'0' + (rest % 10) as u8));
+        rest /= 10;
+        if rest == 0 {
+            return;
+        }
+    }
 }
 
-/// Adds a list of readings, the first of which has rank 1.
-pub fn push_readings(json: &mut String, grammar: &NamedGrammar, readings: &[Reading], with_trees: bool) {
-    push_list(json, (1..).zip(readings), |json, (rank, reading)| {
-        json.push_str("{\"rank\":");
-        push_number(json, rank);
-        json.push_str(",\"weight\":");
-        push_number(json, reading.weight);
-        json.push_str(",\"words\":");
-        push_list(json, grammar.words_of(reading), |json, word| push_string(json, grammar.word(word)));
-        json.push_str(",\"rules\":");
-        push_list(json, &reading.walk, |json, &rule| push_number(json, rule));
-        if let Some(tree) = with_trees.then(|| Tree::from_walk(&grammar.grammar, &reading.walk)).flatten() {
-            json.push_str(",\"tree\":");
-            push_tree(json, grammar, &tree);
-        }
-        json.push('}');
-    });
+/// A grammar's words and rule numbers as they stand in JSON, written once for many readings.
+pub struct Names<'a> {
+    grammar: &'a NamedGrammar,
+    words: Vec<String>,
+    rules: Vec<String>,
+}
+
+impl<'a> Names<'a> {
+    pub fn new(grammar: &'a NamedGrammar) -> Self {
+        let quoted = |word: &String| {
+            let mut json = String::new();
+            push_string(&mut json, word);
+            json
+        };
+        let rules = (0..grammar.grammar.rules.len()).map(|rule| rule.to_string()).collect();
+        Self { grammar, words: grammar.words.iter().map(quoted).collect(), rules }
+    }
+
+    /// Adds a list of readings, the first of which has rank 1.
+    pub fn push_readings(&self, json: &mut String, readings: &[Reading], with_trees: bool) {
+        push_list(json, (1..).zip(readings), |json, (rank, reading)| {
+            json.push_str("{\"rank\":");
+            push_number(json, rank);
+            json.push_str(",\"weight\":");
+            push_number(json, reading.weight);
+            json.push_str(",\"words\":");
+            push_list(json, self.grammar.words_of(reading), |json, word| json.push_str(&self.words[word as usize]));
+            json.push_str(",\"rules\":");
+            push_list(json, &reading.walk, |json, &rule| json.push_str(&self.rules[rule as usize]));
+            if let Some(tree) = with_trees.then(|| Tree::from_walk(&self.grammar.grammar, &reading.walk)).flatten() {
+                json.push_str(",\"tree\":");
+                push_tree(json, self.grammar, &tree);
+            }
+            json.push('}');
+        });
+    }
 }
 
 /// Adds a tree: a list of its symbol and its parts, of which a word is a string.

@@ -2,7 +2,7 @@
 
 use super::Command;
 use crate::failure::Failure;
-use crate::files::{self, GrammarFile};
+use crate::files;
 use crate::json;
 use crate::options::{Arguments, DROP_UNKNOWN, JOBS, WANTED};
 use crate::output::Output;
@@ -44,7 +44,7 @@ fn run(arguments: &Arguments, output: &mut Output) -> Result<(), Failure> {
         wanted: arguments.wanted()?,
         reader: files::utterance_reader(arguments, &grammar.named)?,
         lister: Lister::new(&grammar.named.grammar).map_err(Error::from)?,
-        grammar: &grammar,
+        names: json::Names::new(&grammar.named),
     };
     let source = Mutex::new(Source::new(files::open(arguments.operands[1])?));
     std::thread::scope(|scope| {
@@ -107,7 +107,7 @@ type Numbered = (usize, Result<Answers, Failure>);
 
 struct Batch<'a> {
     name: &'a str,
-    grammar: &'a GrammarFile,
+    names: json::Names<'a>,
     reader: UtteranceReader<'a>,
     lister: Lister,
     wanted: u32,
@@ -136,7 +136,7 @@ impl Batch<'_> {
         let mut answers = Answers::default();
         for (number, line) in piece.text.split(|byte| *byte == b'\n').enumerate() {
             let line = String::from_utf8_lossy(line);
-            if line.split('#').next().is_some_and(|said| said.trim().is_empty()) {
+            if line.trim_start().chars().next().is_none_or(|first| first == '#') {
                 continue;
             }
             answers.utterances += 1;
@@ -150,12 +150,12 @@ impl Batch<'_> {
     /// Adds the answer of a line with so many before it, or nothing if it is refused.
     fn answer(&self, lister: &mut Lister, line: &str, before: usize, json: &mut String) -> Result<(), Error> {
         let in_file = |error: Error| error.in_file(self.name).after_lines(before);
-        let utterance = self.reader.read(line).map_err(in_file)?;
+        let utterance = self.reader.read_line(line).map_err(in_file)?;
         let readings = lister.list(&utterance, self.wanted).map_err(|refusal| in_file(refusal.into()))?;
         json.push_str("{\"line\":");
         json::push_number(json, before as u32 + 1);
         json.push_str(",\"readings\":");
-        json::push_readings(json, &self.grammar.named, &readings, false);
+        self.names.push_readings(json, &readings, false);
         json.push_str("}\n");
         Ok(())
     }

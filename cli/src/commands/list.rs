@@ -61,7 +61,7 @@ fn run(arguments: &Arguments, output: &mut Output) -> Result<(), Failure> {
 
 fn json_of(listed: &Listed) -> String {
     let mut line = String::from("{\"readings\":");
-    json::push_readings(&mut line, &listed.grammar.named, &listed.readings, true);
+    json::Names::new(&listed.grammar.named).push_readings(&mut line, &listed.readings, true);
     line + "}"
 }
 

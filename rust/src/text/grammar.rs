@@ -1,6 +1,6 @@
 //! The text of a grammar.
 
-use super::scan::{is_bare, quoted, weight, Token, Tokens, GRAMMAR_MARKS};
+use super::scan::{is_bare, quoted, weight, Token, Tokens, GRAMMAR};
 use super::{without_mark, Fault};
 use crate::limits::{MAX_RULES, MAX_SYMBOLS, MAX_WORDS};
 use crate::{Body, Error, Grammar, Position, Reading, Refusal, Rule};
@@ -54,7 +54,7 @@ impl NamedGrammar {
         let mut lines = 1;
         for (before, line) in without_mark(text).lines().enumerate() {
             lines = before + 1;
-            parser.line(&mut Tokens::new(line, lines, GRAMMAR_MARKS))?;
+            parser.line(&mut Tokens::new(line, lines, &GRAMMAR))?;
         }
         parser.finish(lines)
     }
@@ -330,6 +330,6 @@ impl Parser {
 impl NamedGrammar {
     /// Whether a name can be a symbol's in a text.
     pub fn is_symbol_name(name: &str) -> bool {
-        is_bare(name, GRAMMAR_MARKS)
+        is_bare(name, &GRAMMAR)
     }
 }

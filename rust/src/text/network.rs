@@ -115,13 +115,14 @@ impl<'a> Alignments<'a> {
             if !words.is_empty() && words.iter().all(|[word, _]| SENTENCE_ENDS.contains(&word.text)) {
                 continue;
             }
-            let mut slot = Slot::begin(slots.len(), *position)?;
+            let at = |fault| Error::at(*position, fault);
+            let mut slot = Slot::begin(slots.len()).map_err(at)?;
             for [word, posterior] in words {
                 self.candidate(reader, &mut slot, word, posterior, scale)?;
             }
-            slots.push(slot.finish()?);
+            slots.push(slot.finish().map_err(at)?);
         }
-        finish(slots, self.end)
+        finish(slots).map_err(|fault| Error::at(self.end, fault))
     }
 
     fn candidate(
@@ -137,7 +138,7 @@ impl<'a> Alignments<'a> {
         }
         let share = posterior.posterior()? / self.posterior;
         let cost = cost(share, scale).map_err(|fault| posterior.fault(fault(posterior.text.to_owned())))?;
-        let word = reader.take(slot, word.text, word.position)?;
+        let word = reader.take(slot, word.text).map_err(|fault| word.fault(fault))?;
         slot.candidates.extend(word.map(|word| Candidate { word, cost }));
         Ok(())
     }

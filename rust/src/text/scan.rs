@@ -10,9 +10,39 @@ const QUOTE: char = '"';
 const ESCAPE: char = '\\';
 const ARROW: &str = "->";
 
-/// The characters that are tokens by themselves in the text of a grammar, and of an utterance.
-pub(super) const GRAMMAR_MARKS: &[char] = &['|', '[', ']'];
-pub(super) const UTTERANCE_MARKS: &[char] = &['|', ';'];
+/// What tokens a text has.
+pub(super) struct Syntax {
+    /// Whether an ASCII character is a token by itself.
+    is_mark: [bool; 128],
+    /// Whether a token without quotes ends before it.
+    ends_bare: [bool; 128],
+}
+
+pub(super) static GRAMMAR: Syntax = Syntax::new(b"|[]");
+pub(super) static UTTERANCE: Syntax = Syntax::new(b"|;");
+
+impl Syntax {
+    const fn new(marks: &[u8]) -> Self {
+        let mut syntax = Self { is_mark: [false; 128], ends_bare: [false; 128] };
+        let mut number = 0;
+        while number < marks.len() {
+            syntax.is_mark[marks[number] as usize] = true;
+            number += 1;
+        }
+        let mut byte = 0;
+        while byte < 128 {
+            let letter = byte as u8 as char;
+            syntax.ends_bare[byte] =
+                syntax.is_mark[byte] || letter.is_whitespace() || letter == QUOTE || letter == COMMENT;
+            byte += 1;
+        }
+        syntax
+    }
+
+    fn ends_bare(&self, letter: char) -> bool {
+        self.ends_bare.get(letter as usize).copied().unwrap_or_else(|| letter.is_whitespace())
+    }
+}
 
 #[derive(Clone, Debug, PartialEq)]
 pub(super) enum Token<'a> {
@@ -38,23 +68,31 @@ impl Token<'_> {
 pub(super) struct Tokens<'a> {
     line: &'a str,
     number: usize,
-    marks: &'static [char],
-    /// The byte and the column where the next token is looked for.
+    syntax: &'static Syntax,
+    /// The byte where the next token is looked for, and that where the last one begins or the line ends.
     at: usize,
-    column: usize,
-    /// Where the last token that was handed out begins.
     last: usize,
 }
 
 impl<'a> Tokens<'a> {
     /// The tokens of a line with its number.
-    pub(super) fn new(line: &'a str, number: usize, marks: &'static [char]) -> Self {
-        Self { line, number, marks, at: 0, column: 1, last: 1 }
+    pub(super) fn new(line: &'a str, number: usize, syntax: &'static Syntax) -> Self {
+        Self { line, number, syntax, at: 0, last: 0 }
+    }
+
+    /// The byte where the last token begins, or where the line ends.
+    pub(super) fn mark(&self) -> usize {
+        self.last
+    }
+
+    /// Where that byte stands.
+    pub(super) fn position_of(&self, mark: usize) -> Position {
+        Position { line: self.number, column: self.line[..mark].chars().count() + 1 }
     }
 
     /// Where the last token begins, or where the line ends.
     pub(super) fn position(&self) -> Position {
-        Position { line: self.number, column: self.last }
+        self.position_of(self.last)
     }
 
     /// A fault at the last token.
@@ -69,37 +107,29 @@ impl<'a> Tokens<'a> {
 
     /// The next token, and nothing at the end of the line or before a comment.
     pub(super) fn next(&mut self) -> Result<Option<Token<'a>>, Error> {
+        self.at += prefix(&self.line[self.at..], char::is_whitespace);
+        self.last = self.at;
         let rest = &self.line[self.at..];
-        let blank = rest.len() - rest.trim_start().len();
-        self.advance(blank);
-        self.last = self.column;
-        let rest = &self.line[self.at..];
-        match rest.chars().next() {
+        match rest.bytes().next().map(char::from) {
             None | Some(COMMENT) => Ok(None),
             Some(QUOTE) => self.quoted().map(Some),
-            Some(mark) if self.marks.contains(&mark) => {
-                self.advance(mark.len_utf8());
+            Some(mark) if self.syntax.is_mark.get(mark as usize) == Some(&true) => {
+                self.at += mark.len_utf8();
                 Ok(Some(Token::Mark(mark)))
             }
-            Some(_) if rest.starts_with(ARROW) => {
-                self.advance(ARROW.len());
+            Some('-') if rest.starts_with(ARROW) => {
+                self.at += ARROW.len();
                 Ok(Some(Token::Arrow))
             }
-            Some(_) => Ok(Some(self.bare())),
+            Some(_) => Ok(Some(self.bare(rest))),
         }
     }
 
-    fn advance(&mut self, bytes: usize) {
-        self.column += self.line[self.at..self.at + bytes].chars().count();
-        self.at += bytes;
-    }
-
-    fn bare(&mut self) -> Token<'a> {
-        let rest = &self.line[self.at..];
-        let ends = |letter: char| letter.is_whitespace() || ends_bare(letter, self.marks);
-        let end = rest.find(ends).unwrap_or(rest.len());
-        let end = rest[..end].find(ARROW).unwrap_or(end);
-        self.advance(end);
+    /// A token that ends at a blank, before a mark or before an arrow.
+    fn bare(&mut self, rest: &'a str) -> Token<'a> {
+        let end = prefix(rest, |letter| !self.syntax.ends_bare(letter));
+        let end = rest.as_bytes()[..end].windows(ARROW.len()).position(|pair| pair == ARROW.as_bytes()).unwrap_or(end);
+        self.at += end;
         Token::Bare(&rest[..end])
     }
 
@@ -108,7 +138,7 @@ impl<'a> Tokens<'a> {
         let end = closing_quote(inner).ok_or_else(|| self.fault(Fault::Unclosed))?;
         let inner = &inner[..end];
         let word = if inner.contains(ESCAPE) { Cow::Owned(self.unescaped(inner)?) } else { Cow::Borrowed(inner) };
-        self.advance(end + 2 * QUOTE.len_utf8());
+        self.at += end + 2 * QUOTE.len_utf8();
         Ok(Token::Quoted(word))
     }
 
@@ -141,8 +171,17 @@ fn closing_quote(inner: &str) -> Option<usize> {
     None
 }
 
-fn ends_bare(letter: char, marks: &[char]) -> bool {
-    letter == QUOTE || letter == COMMENT || marks.contains(&letter)
+/// The bytes at the front of a text whose characters are all of a kind.
+fn prefix(text: &str, is_kind: impl Fn(char) -> bool) -> usize {
+    for (at, byte) in text.bytes().enumerate() {
+        if !byte.is_ascii() {
+            return text.find(|letter| !is_kind(letter)).unwrap_or(text.len());
+        }
+        if !is_kind(char::from(byte)) {
+            return at;
+        }
+    }
+    text.len()
 }
 
 /// A word in quotes.
@@ -151,9 +190,8 @@ pub(super) fn quoted(word: &str) -> String {
 }
 
 /// Whether a word is one token where it stands without quotes.
-pub(super) fn is_bare(word: &str, marks: &[char]) -> bool {
-    let ends = |letter: char| letter.is_whitespace() || ends_bare(letter, marks);
-    !word.is_empty() && !word.contains(ends) && !word.contains(ARROW)
+pub(super) fn is_bare(word: &str, syntax: &Syntax) -> bool {
+    !word.is_empty() && !word.contains(|letter| syntax.ends_bare(letter)) && !word.contains(ARROW)
 }
 
 /// The whole number that some digits write, if 32 bits hold it.
@@ -176,7 +214,7 @@ mod tests {
     use super::*;
 
     fn all(line: &str) -> Vec<(usize, String)> {
-        let mut tokens = Tokens::new(line, 1, GRAMMAR_MARKS);
+        let mut tokens = Tokens::new(line, 1, &GRAMMAR);
         let mut list = Vec::new();
         while let Some(token) = tokens.next().unwrap() {
             list.push((tokens.position().column, token.shown()));
@@ -196,7 +234,7 @@ mod tests {
     fn quoted_words() {
         for word in ["", "a", "a b", "#", "\"", "\\", "\\\"", "a\\\"b|;"] {
             let line = quoted(word);
-            let token = Tokens::new(&line, 1, UTTERANCE_MARKS).next().unwrap();
+            let token = Tokens::new(&line, 1, &UTTERANCE).next().unwrap();
             assert_eq!(token, Some(Token::Quoted(word.into())), "{line}");
         }
     }

@@ -1,11 +1,12 @@
 //! The text of an utterance of slots.
 
 use super::network::{is_network, Alignments};
-use super::scan::{is_bare, quoted, weight, Token, Tokens, UTTERANCE_MARKS};
+use super::scan::{is_bare, quoted, weight, Token, Tokens, UTTERANCE};
 use super::{without_mark, Fault, NamedGrammar};
 use crate::limits::{MAX_CANDIDATES, MAX_SLOTS};
 use crate::{Candidate, Error, Position, Refusal, Utterance};
 use std::collections::HashMap;
+use std::hash::{BuildHasherDefault, Hasher};
 
 /// Reads utterances over a grammar's words, as text or as confusion networks. [`text`](crate::text) says how they are
 /// written.
@@ -24,7 +25,7 @@ use std::collections::HashMap;
 /// ```
 #[derive(Clone, Debug)]
 pub struct UtteranceReader<'a> {
-    words: HashMap<&'a str, u32>,
+    words: HashMap<&'a str, u32, BuildHasherDefault<ShortHasher>>,
     /// The cost of a word with a posterior of 1/e in a confusion network; twice as much has one with 1/e².
     pub scale: Option<f64>,
     /// Leave out words that the grammar does not have, which no reading could use, in place of refusing them.
@@ -50,18 +51,28 @@ impl<'a> UtteranceReader<'a> {
         let mut lines = 1;
         for (before, line) in text.lines().enumerate() {
             lines = before + 1;
-            self.line(&mut slots, &mut Tokens::new(line, lines, UTTERANCE_MARKS))?;
+            self.line(&mut slots, &mut Tokens::new(line, lines, &UTTERANCE))?;
         }
-        finish(slots, Position { line: lines, column: 1 })
+        let end = Position { line: lines, column: 1 };
+        finish(slots).map_err(|fault| Error::at(end, fault))
+    }
+
+    /// Reads the text of an utterance that stands in one line, with semicolons between its slots.
+    pub fn read_line(&self, line: &str) -> Result<Utterance, Error> {
+        let mut slots = Vec::new();
+        let mut tokens = Tokens::new(line, 1, &UTTERANCE);
+        self.line(&mut slots, &mut tokens)?;
+        finish(slots).map_err(|fault| tokens.fault(fault))
     }
 
     /// Adds the slots of one line.
     fn line(&self, slots: &mut Vec<Vec<Candidate>>, tokens: &mut Tokens) -> Result<(), Error> {
         let mut next = tokens.next()?;
         while let Some(first) = next {
-            let mut slot = Slot::begin(slots.len(), tokens.position())?;
+            let mark = tokens.mark();
+            let mut slot = Slot::begin(slots.len()).map_err(|fault| tokens.fault(fault))?;
             next = self.slot(&mut slot, first, tokens)?;
-            slots.push(slot.finish()?);
+            slots.push(slot.finish().map_err(|fault| Error::at(tokens.position_of(mark), fault))?);
         }
         Ok(())
     }
@@ -82,12 +93,12 @@ impl<'a> UtteranceReader<'a> {
 
     /// Reads a candidate whose word is at hand.
     fn candidate(&self, slot: &mut Slot, word: Option<Token>, tokens: &mut Tokens) -> Result<(), Error> {
-        let position = tokens.position();
         let known = match &word {
-            Some(Token::Bare(word)) => self.take(slot, word, position)?,
-            Some(Token::Quoted(word)) => self.take(slot, word, position)?,
+            Some(Token::Bare(word)) => self.take(slot, word),
+            Some(Token::Quoted(word)) => self.take(slot, word),
             _ => return tokens.expected("a word", word),
         };
+        let known = known.map_err(|fault| tokens.fault(fault))?;
         let cost = match tokens.next()? {
             Some(Token::Bare(item)) => weight(item, "cost").map_err(|fault| tokens.fault(fault))?,
             other => return tokens.expected("a cost", other),
@@ -97,60 +108,79 @@ impl<'a> UtteranceReader<'a> {
     }
 
     /// The number of a word that a slot is to have; nothing if it is left out.
-    pub(super) fn take(&self, slot: &Slot, word: &str, position: Position) -> Result<Option<u32>, Error> {
-        let at = |fault| Error::at(position, fault);
+    pub(super) fn take(&self, slot: &Slot, word: &str) -> Result<Option<u32>, Fault> {
         match self.words.get(word) {
             None if self.drop_unknown => Ok(None),
-            None => Err(at(Fault::UnknownWord(word.to_owned()))),
+            None => Err(Fault::UnknownWord(word.to_owned())),
             Some(&number) if slot.candidates.iter().any(|known| known.word == number) => {
-                Err(at(Fault::RepeatedWord(word.to_owned())))
+                Err(Fault::RepeatedWord(word.to_owned()))
             }
             Some(_) if slot.candidates.len() == MAX_CANDIDATES as usize => {
                 let refusal = Refusal::UtteranceRange;
-                Err(at(Fault::TooMany { what: "words", within: "a slot", limit: MAX_CANDIDATES, refusal }))
+                Err(Fault::TooMany { what: "words", within: "a slot", limit: MAX_CANDIDATES, refusal })
             }
             Some(&number) => Ok(Some(number)),
         }
     }
 }
 
+/// FNV-1a, which for short words is several times as fast as what std has; a grammar has too few to make it slow.
+#[derive(Clone, Debug)]
+struct ShortHasher(u64);
+
+impl Default for ShortHasher {
+    fn default() -> Self {
+        Self(0xcbf2_9ce4_8422_2325)
+    }
+}
+
+impl Hasher for ShortHasher {
+    fn write(&mut self, bytes: &[u8]) {
+        for byte in bytes {
+            self.0 = (self.0 ^ u64::from(*byte)).wrapping_mul(0x0000_0100_0000_01b3);
+        }
+    }
+
+    fn finish(&self) -> u64 {
+        self.0
+    }
+}
+
 /// A slot that is being read.
 pub(super) struct Slot {
     pub(super) candidates: Vec<Candidate>,
-    position: Position,
 }
 
 impl Slot {
     /// A slot behind so many others.
-    pub(super) fn begin(before: usize, position: Position) -> Result<Self, Error> {
+    pub(super) fn begin(before: usize) -> Result<Self, Fault> {
         if before == MAX_SLOTS as usize {
             let refusal = Refusal::UtteranceRange;
-            let fault = Fault::TooMany { what: "slots", within: "an utterance", limit: MAX_SLOTS, refusal };
-            return Err(Error::at(position, fault));
+            return Err(Fault::TooMany { what: "slots", within: "an utterance", limit: MAX_SLOTS, refusal });
         }
-        Ok(Self { candidates: Vec::with_capacity(MAX_CANDIDATES as usize), position })
+        Ok(Self { candidates: Vec::with_capacity(MAX_CANDIDATES as usize) })
     }
 
     /// The candidates, words ascending.
-    pub(super) fn finish(mut self) -> Result<Vec<Candidate>, Error> {
+    pub(super) fn finish(mut self) -> Result<Vec<Candidate>, Fault> {
         if self.candidates.is_empty() {
-            return Err(none("word of the grammar in the slot", self.position));
+            return Err(none("word of the grammar in the slot"));
         }
         self.candidates.sort_unstable_by_key(|candidate| candidate.word);
         Ok(self.candidates)
     }
 }
 
-/// The utterance of the slots that were read from a text that ends here.
-pub(super) fn finish(slots: Vec<Vec<Candidate>>, end: Position) -> Result<Utterance, Error> {
+/// The utterance of the slots that were read.
+pub(super) fn finish(slots: Vec<Vec<Candidate>>) -> Result<Utterance, Fault> {
     if slots.is_empty() {
-        return Err(none("slot", end));
+        return Err(none("slot"));
     }
     Ok(Utterance { slots })
 }
 
-fn none(what: &'static str, position: Position) -> Error {
-    Error::at(position, Fault::None { what, refusal: Refusal::UtteranceRange })
+fn none(what: &'static str) -> Fault {
+    Fault::None { what, refusal: Refusal::UtteranceRange }
 }
 
 impl NamedGrammar {
@@ -174,7 +204,7 @@ impl NamedGrammar {
     /// A candidate as it is written in an utterance's text.
     pub fn candidate_text(&self, candidate: Candidate) -> String {
         let word = self.word(candidate.word);
-        let word = if is_bare(word, UTTERANCE_MARKS) { word.to_owned() } else { quoted(word) };
+        let word = if is_bare(word, &UTTERANCE) { word.to_owned() } else { quoted(word) };
         format!("{word} {}", candidate.cost)
     }
 }
