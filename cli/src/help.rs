@@ -11,15 +11,41 @@ usage: spireyerba COMMAND ..
 ";
 
 const PROGRAM_END: &str = "
-Files are texts or blocks; the command tells which. A file named - is standard input.
+A file is a text or a block, whichever it is; a file named - is standard input. `spireyerba help texts` says how
+texts are written, `spireyerba COMMAND --help` what a command does.
 
-grammar text      Number -> Tens Units [5] | \"twenty\" [10]     # a rule's weight in brackets
-utterance text    twenty 12 | forty 20                         # a slot a line, costs behind words
-                  and confusion networks as SRILM writes them
-
-Exit status: 0 answered, 1 refused, 2 wrong usage. `spireyerba COMMAND --help` says more.
+Exit status: 0 answered, 1 refused, 2 wrong usage.
 
 example: spireyerba list grammar.txt utterance.txt";
+
+/// The help about texts.
+pub const TEXTS: &str = "\
+A grammar: rules with a head, an arrow, and one quoted word or two symbols.
+
+  Entry  -> Name Details | Name Leaf [30]    # alternatives; a rule's weight in brackets, or 0
+  Number -> Tens Units [5]
+          | \"twenty\" [10]                   # more alternatives of the head before
+
+The first head is the start. Rules, symbols and words are numbered as they are met; lines `symbols Entry Name ..` and
+`words \"door\" \"twenty\" ..` before them give other numbers. At most 32 symbols, 200 words, 256 rules, weight 65535.
+
+An utterance: a slot a line, or with semicolons between slots, of up to 24.
+
+  door 4 | four 61                           # up to seven words, each with its cost
+  \"new york\" 12 | newark 65535             # 65535: not heard
+
+A confusion network as SRILM writes it, whose posteriors become costs by --scale X, -X times their logarithm:
+
+  numaligns 2
+  posterior 1
+  align 0 door 0.96 four 0.54
+  align 1 twenty 0.89 forty 0.82
+
+A reading: its weight, and the rule number of each node, a node before its left part and that before its right part.
+
+  72 0 2 12 3 13 15 8 17 11 20 21
+
+example: spireyerba unpack grammar.bin";
 
 /// The column in which the explanation of an option or a command begins.
 const EXPLANATION: usize = 24;

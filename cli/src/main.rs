@@ -39,6 +39,7 @@ fn run(words: &[String], output: &mut Output) -> Result<(), Failure> {
     match words.first().map(String::as_str) {
         None => Err(Failure::usage("no command", "spireyerba")),
         Some("-h" | "--help" | "help") => match words.get(1) {
+            Some(name) if name == "texts" => output.line(help::TEXTS),
             Some(name) => output.line(&help::of_command(commands::find(name)?)),
             None => output.line(&help::of_program()),
         },

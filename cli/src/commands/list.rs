@@ -24,6 +24,9 @@ In a tree [5] is a rule's weight, and 12 behind a word its cost.",
     run,
 };
 
+/// What stands before each line of a tree.
+const TREE_MARGIN: &str = "   ";
+
 /// Readings of an utterance as a command line asks for them.
 pub struct Listed {
     pub grammar: GrammarFile,
@@ -74,7 +77,8 @@ fn print(listed: &Listed, with_trees: bool, output: &mut Output) -> Result<(), F
         if with_trees {
             let Listed { grammar, utterance, readings } = listed;
             let drawing = Drawing { grammar: &grammar.named, utterance, output };
-            text += &drawing.draw(&listed.tree(&readings[rank - 1]), "   ");
+            text += &drawing.draw(&listed.tree(&readings[rank - 1]), TREE_MARGIN);
+            text += if rank < readings.len() { "\n" } else { "" };
         }
         output.text(&text)?;
     }

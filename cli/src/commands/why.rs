@@ -12,7 +12,7 @@ pub const COMMAND: Command = Command {
     operands: &["GRAMMAR", "UTTERANCE", "K"],
     needed: 3,
     options: &[SAID, SCALE, DROP_UNKNOWN, DROP_DELETES],
-    summary: "lay reading K beside the first: the words and rules that differ, and what each costs",
+    summary: "lay reading K beside the first: what differs, and what each difference costs",
     details: "K is a rank of the list, 2 to 256. The last column adds up to the difference of both weights.",
     example: "spireyerba why grammar.txt utterance.txt 2",
     run,

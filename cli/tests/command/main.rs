@@ -1,6 +1,7 @@
 //! The command `spireyerba`, run as a user runs it.
 
 mod answers;
+mod batch;
 mod common;
 mod readme;
 mod report;

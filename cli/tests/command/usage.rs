@@ -19,6 +19,7 @@ fn help_at_every_level() {
         assert_eq!(help, answer(&format!("help {command}")));
         assert_eq!(help, answer(&format!("{command} nonsense --nonsense -h")));
     }
+    assert!(answer("help texts").contains("numaligns 2"));
     assert!(answer("--version").starts_with("spireyerba 0."));
 }
 
@@ -37,7 +38,9 @@ fn examples_of_the_help_run() {
     let folder = copied_doors("help_examples");
     let path = Path::new(PROGRAM).parent().expect("the program's folder").display().to_string();
     let path = format!("{path}:{}", std::env::var("PATH").unwrap_or_default());
-    for help in COMMANDS.map(|command| format!("{command} --help")).iter().map(String::as_str).chain(["--help"]) {
+    for help in
+        COMMANDS.map(|command| format!("{command} --help")).iter().map(String::as_str).chain(["--help", "help texts"])
+    {
         let help = answer(help);
         let example = help.lines().find_map(|line| line.strip_prefix("example: ")).expect("an example");
         let shell = output(Command::new("sh").args(["-c", example]).current_dir(&folder).env("PATH", &path), b"y\n");
@@ -80,22 +83,23 @@ fn wrong_usage() {
     }
 }
 
+/// Two files that are as they should be, and others.
+const WITH_MISTAKES: [(&str, &[u8]); 10] = [
+    ("g", b"A -> B B [3]\nB -> \"x\"\n"),
+    ("u", b"x 1\nx 2"),
+    ("empty", b""),
+    ("weight", b"A -> B B [65536]"),
+    ("word", b"x 1\ny 2 | x 3"),
+    ("latin", b"T\xfcr -> B B"),
+    ("cut", &[0x10, 0x40, 0x40]),
+    ("kind", &[0x40, 0x00]),
+    ("slots", &[0x2f, 0xff, 0xff]),
+    ("network", b"align 0 x 1 *DELETE* 0.5"),
+];
+
 #[test]
 fn mistakes_in_files() {
-    let g = b"A -> B B [3]\nB -> \"x\"\n".as_slice();
-    let files: [(&str, &[u8]); 10] = [
-        ("g", g),
-        ("u", b"x 1\nx 2"),
-        ("empty", b""),
-        ("weight", b"A -> B B [65536]"),
-        ("word", b"x 1\ny 2 | x 3"),
-        ("latin", b"T\xfcr -> B B"),
-        ("cut", &[0x10, 0x40, 0x40]),
-        ("kind", &[0x40, 0x00]),
-        ("slots", &[0x2f, 0xff, 0xff]),
-        ("network", b"align 0 x 1 *DELETE* 0.5"),
-    ];
-    let folder = folder("mistakes", &files);
+    let folder = folder("mistakes", &WITH_MISTAKES);
     for (words, message) in [
         ("list nothing u", "nothing: No such file or directory (os error 2)"),
         ("list g nothing", "nothing: No such file or directory (os error 2)"),

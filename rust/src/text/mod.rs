@@ -63,13 +63,15 @@
 
 mod fault;
 mod grammar;
+mod names;
 mod network;
 mod reading;
 mod scan;
 mod utterance;
 
 pub use fault::Fault;
-pub use grammar::{NamedGrammar, Places};
+pub use grammar::Places;
+pub use names::NamedGrammar;
 pub use reading::{parse_reading, parse_sheet, print_list, reading_text};
 pub use utterance::UtteranceReader;
 
