@@ -182,9 +182,11 @@ fn write_in_order(receiver: &Receiver<Numbered>, output: &mut Output) -> Result<
         while let Some(answers) = early.remove(&progress.pieces) {
             let answers = answers?;
             output.text(&answers.json)?;
-            progress.clear();
-            answers.messages.iter().for_each(|message| eprintln!("{message}"));
-            refused += answers.messages.len();
+            if !answers.messages.is_empty() {
+                progress.clear();
+                answers.messages.iter().for_each(|message| eprintln!("{message}"));
+                refused += answers.messages.len();
+            }
             progress.advance(answers.utterances);
         }
     }
@@ -213,7 +215,7 @@ impl Progress {
     fn advance(&mut self, utterances: usize) {
         self.pieces += 1;
         self.utterances += utterances;
-        if self.shown && self.drawn.is_none_or(|drawn| drawn.elapsed() >= PROGRESS_EVERY) {
+        if self.shown && self.drawn.unwrap_or(self.begin).elapsed() >= PROGRESS_EVERY {
             let speed = self.utterances as f64 / self.begin.elapsed().as_secs_f64();
             eprint!("\r{} utterances, {speed:.0} a second\x1b[K", self.utterances);
             self.drawn = Some(Instant::now());

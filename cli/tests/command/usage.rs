@@ -1,6 +1,7 @@
 //! Help at every level, wrong usage, mistakes in files, pipes and empty input.
 
 use crate::common::{answer, answered, doors, folder, output, refused, run, run_in, run_with, PROGRAM};
+use std::io::Write;
 use std::path::Path;
 use std::process::{Command, Stdio};
 
@@ -173,6 +174,26 @@ fn no_colours_in_a_pipe() {
     for words in ["list grammar.txt utterance.txt --tree", "why grammar.txt utterance.txt 2", "--help"] {
         assert!(!answer(words).contains('\x1b'), "{words}");
     }
+}
+
+/// A terminal is made by the program `script`; where there is none, this says so and passes.
+#[test]
+fn colours_on_a_terminal() {
+    let on_a_terminal = |words: &str| {
+        let mut script = Command::new("script");
+        script.args(["-qec", &format!("{PROGRAM} {words}"), "/dev/null"]).current_dir(doors()).env_remove("NO_COLOR");
+        script.stdin(Stdio::null()).output().ok().map(|run| String::from_utf8(run.stdout).expect("a text"))
+    };
+    let Some(list) = on_a_terminal("list grammar.txt utterance.txt -n 2") else {
+        writeln!(std::io::stderr(), "skipped: no program `script` is installed").expect("standard error");
+        return;
+    };
+    assert!(list.contains("2  \x1b[1m80\x1b[0m  door twenty four oak fire \x1b[1;33msixty\x1b[0m"), "{list:?}");
+    let refused = on_a_terminal("pack grammar.txt").expect("a terminal");
+    assert!(
+        refused.starts_with("spireyerba pack: a block is not for a terminal: give -o FILE, or a pipe"),
+        "{refused:?}"
+    );
 }
 
 /// A full disk is said, and is no answer.
