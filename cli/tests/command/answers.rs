@@ -1,6 +1,7 @@
 //! Every subcommand over the door schedule.
 
 use crate::common::{answer, answered, doors, folder, refused, run, run_in, run_with, Run};
+use spireyerba::Refusal;
 
 #[test]
 fn list_in_words() {
@@ -148,16 +149,16 @@ fn check_a_reading() {
     let check = |reading: &str| run_with(&doors(), "check grammar.txt utterance.txt -", reading.as_bytes());
     let passes = answered(check("72 0 2 12 3 13 15 8 17 11 20 21"), "check");
     assert_eq!(passes, "passes: 72  door twenty four oak fire thirty\n");
-    for (reading, message) in [
-        ("73 0 2 12 3 13 15 8 17 11 20 21", "35: the reading's weight is not its derivation's"),
-        ("72 0 2 12 3 13 15 8 17 11 20 20", "34: the reading's rule numbers are not the walk of a derivation"),
-        ("72 0 2 12 3 13 15 8 17 11 20 99", "34: the reading's rule numbers are not the walk of a derivation"),
-        ("72 0 2 12 3 13 15 8 17 11 20", "31: a field of the reading block passes its end"),
-        ("72 0 2 12", "33: the reading's number of slots is not the utterance's"),
-        ("72", "33: the reading's number of slots is not the utterance's"),
-        ("99999999 0 2 12 3 13 15 8 17 11 20 21", "35: the reading's weight is not its derivation's"),
+    for (reading, refusal) in [
+        ("73 0 2 12 3 13 15 8 17 11 20 21", Refusal::ReadingWeight),
+        ("72 0 2 12 3 13 15 8 17 11 20 20", Refusal::ReadingWalk),
+        ("72 0 2 12 3 13 15 8 17 11 20 99", Refusal::ReadingWalk),
+        ("72 0 2 12 3 13 15 8 17 11 20", Refusal::ReadingEnd),
+        ("72 0 2 12", Refusal::ReadingSlots),
+        ("72", Refusal::ReadingSlots),
+        ("99999999 0 2 12 3 13 15 8 17 11 20 21", Refusal::ReadingWeight),
     ] {
-        assert_eq!(refused(check(reading), 1), format!("<stdin>: refused {message}\n"), "{reading}");
+        assert_eq!(refused(check(reading), 1), format!("<stdin>: {refusal}\n"), "{reading}");
     }
 }
 

@@ -1,6 +1,7 @@
 //! Help at every level, wrong usage, mistakes in files, pipes and empty input.
 
 use crate::common::{answer, answered, doors, folder, output, refused, run, run_in, run_with, PROGRAM};
+use spireyerba::Refusal;
 use std::io::Write;
 use std::path::Path;
 use std::process::{Command, Stdio};
@@ -110,13 +111,12 @@ fn mistakes_in_files() {
         ("list weight u", "weight:1:11: refused 42: 65536 is too large: a weight is at most 65535"),
         ("list g word", "word:2:1: refused 14: the grammar has no word `y`"),
         ("lint latin", "latin: refused 2: the grammar block's kind is not 1; and no text, for byte 0xfc in line 1"),
-        ("lint cut", "cut: refused 1: a field of the grammar block passes its end; and no text, for byte 0x10 in line 1"),
-        ("lint kind", "kind: refused 2: the grammar block's kind is not 1; and no text, for byte 0x00 in line 1"),
         (
-            "list g slots",
-            "slots: refused 13: the utterance's number of slots, or of words in a slot, is out of range; and no text, for \
-             byte 0xff in line 1",
+            "lint cut",
+            "cut: refused 1: a field of the grammar block passes its end; and no text, for byte 0x10 in line 1",
         ),
+        ("lint kind", "kind: refused 2: the grammar block's kind is not 1; and no text, for byte 0x00 in line 1"),
+        ("list g slots", &format!("slots: {}; and no text, for byte 0xff in line 1", Refusal::UtteranceRange)),
         ("list g network", "network:1:7: a confusion network needs a scale by which posteriors become costs"),
         (
             "list g network --scale 100",
