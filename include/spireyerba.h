@@ -193,10 +193,10 @@ enum {
 };
 
 /*
-** SPECIMEN. Finds some word string of a wanted length that the grammar derives,
-** and writes it to out, one word number a byte. Answers the length, or 0 if no
-** string of that length is derived; then nothing is written. Which string of
-** several is written is not said.
+** SPECIMEN. Finds the least word string of a wanted length that the grammar
+** derives, compared word number by word number from the left, and writes it to
+** out, one word number a byte. Answers the length, or 0 if no string of that
+** length is derived; then nothing is written.
 ** Refuses with any of GRAMMAR_..., then SPECIMEN_LENGTH, SPECIMEN_OUTPUT.
 */
 int32_t spireyerba_specimen(

@@ -1,4 +1,4 @@
-//! The grammars and utterances that the listing is measured on.
+//! The grammars and utterances that the listing is measured on, and the grammars that the specimen is.
 
 use spireyerba::{Body, Candidate, Grammar, Rule, Utterance};
 use spireyerba_tests::grammar::words_of_rules;
@@ -37,6 +37,28 @@ pub fn shapes() -> Vec<Input> {
         with("chain 0 to 1 0", chain(1, 0), WEIGHT),
         with("chain 0 to 0 1", chain(0, 1), WEIGHT),
     ]
+}
+
+/// Grammars of 32 symbols and 256 rules for the specimen, by what their words are like.
+pub fn greatest_by_words() -> [(&'static str, Grammar); 3] {
+    let rng = &mut Rng::new(5);
+    [
+        ("random words", greatest(24).grammar),
+        ("words falling", falling(rng)),
+        ("all strings tie", with_weights(rng, 32, 1, 224, 32, Weights::Zero)),
+    ]
+}
+
+/// Each symbol has a lesser word than the one before it, and joins seven pairs of which each begins with a later symbol than
+/// the one before it: what is found later is often less.
+fn falling(rng: &mut Rng) -> Grammar {
+    let mut rules = Vec::new();
+    for head in 0..32 {
+        let pairs = (1..8).map(|step| Body::Pair(4 * step + rng.within(0..=3), rng.within(0..=31)));
+        let bodies = pairs.chain([Body::Word(31 - head)]);
+        rules.extend(bodies.map(|body| Rule { head, weight: 0, body }));
+    }
+    Grammar { symbols: 32, words: 32, rules }
 }
 
 /// As many words as word rules.
@@ -83,7 +105,7 @@ pub fn utterance(rng: &mut Rng, grammar: &Grammar, slots: usize, cost: u32) -> U
 mod tests {
     use super::*;
     use crate::free;
-    use spireyerba_tests::nbest;
+    use spireyerba_tests::{nbest, specimen};
 
     #[test]
     fn each_shape_is_accepted_and_has_256_readings() {
@@ -94,6 +116,15 @@ mod tests {
             let readings = free::least(&grammar, &utterance, 256);
             assert_eq!(readings.len(), 256, "{name}");
             assert_eq!(readings, nbest::least(&grammar, &utterance, 256), "{name}");
+        }
+    }
+
+    #[test]
+    fn each_grammar_by_words_is_accepted_and_has_a_string_of_24_words() {
+        for (name, grammar) in greatest_by_words() {
+            grammar.to_block().expect(name);
+            assert_eq!((grammar.symbols, grammar.rules.len()), (32, 256), "{name}");
+            assert!(specimen::least(&grammar, 24).is_some(), "{name}");
         }
     }
 }

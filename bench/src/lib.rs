@@ -6,4 +6,5 @@ pub mod free;
 pub mod inputs;
 pub mod listing;
 pub mod measure;
+pub mod specimen;
 pub mod table;

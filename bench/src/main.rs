@@ -1,11 +1,13 @@
 //! Prints Markdown tables of times in microseconds, medians of alternating calls in one process, and of their ratios.
 
-use spireyerba_bench::{batch, conversions, listing};
+use spireyerba_bench::{batch, conversions, listing, specimen};
 
 fn main() {
     listing::print_beside_free();
     println!();
     conversions::print_table();
+    println!();
+    specimen::print_table();
     println!();
     batch::print_table();
     println!();

@@ -167,13 +167,22 @@ pub fn check(grammar: &[u8], utterance: &[u8], reading: &[u8]) -> Result<(), Ref
     Ok(())
 }
 
-/// Finds some word string of a wanted length that a grammar derives.
+/// Finds the least word string of a wanted length that a grammar derives.
 ///
-/// Takes the grammar's block and the length, and answers whether there is such a string. If so, one is written to `out`, a
-/// word number a byte; which of several is not said. If not, nothing is written.
+/// Takes the grammar's block and the length, and answers whether there is such a string. If so, the least is written to
+/// `out`, a word number a byte: two strings compare word number by word number from the left. If not, nothing is written.
 ///
 /// Refuses with 1 to 7 for the grammar, then with [`SpecimenLength`](Refusal::SpecimenLength), then with
 /// [`SpecimenOutput`](Refusal::SpecimenOutput).
+///
+/// ```
+/// // word 1 is a phrase, and so is word 0
+/// let grammar = [0x10, 0x40, 0x80, 0x50, 0x00, 0x06, 0x00, 0x00, 0x00];
+/// let mut out = [0xff; 2];
+/// assert_eq!(spireyerba::services::specimen(&grammar, 1, &mut out), Ok(true));
+/// assert_eq!(out, [0, 0xff]);
+/// assert_eq!(spireyerba::services::specimen(&grammar, 2, &mut out), Ok(false));
+/// ```
 pub fn specimen(grammar: &[u8], length: u32, out: &mut [u8]) -> Result<bool, Refusal> {
     // SAFETY: the slices are borrowed until the call returns, `out` for it alone.
     let written =

@@ -19,6 +19,10 @@ static const uint8_t specimen[] = {0, 0, 0};
 /* One slot, whose word was not heard. */
 static const uint32_t silent_sheet[] = {1, 1, 0, SPIREYERBA_NOT_HEARD};
 static uint8_t silent_block[4];
+/* 0 to 1 2; 1 to word 1; 1 to 2 1; 2 to word 0; 2 to 2 2: of length 3 it derives 1 0 0 and 0 1 0. */
+static const uint8_t two_strings[] = {0x10, 0xc0, 0x80, 0xa0, 0x00, 0x01, 0xa8, 0x00, 0x04,
+                                      0x80, 0x00, 0x4e, 0x00, 0x00, 0x20, 0x00, 0x0a};
+static const uint8_t least[] = {0, 1, 0};
 static uint32_t work[320];
 static int failures;
 
@@ -73,6 +77,12 @@ int main(void) {
     fill_outputs();
     answer = spireyerba_specimen(g_block, LENGTH(g_block), 3, block, LENGTH(block));
     expect_block(answer, specimen, LENGTH(specimen), "the specimen of G of length 3 is 0 0 0");
+    fill_outputs();
+    answer = spireyerba_specimen(two_strings, LENGTH(two_strings), 3, block, LENGTH(block));
+    expect_block(answer, least, LENGTH(least), "of two strings the specimen is the least");
+    fill_outputs();
+    answer = spireyerba_specimen(two_strings, LENGTH(two_strings), 1, block, LENGTH(block));
+    expect(answer == 0 && block[0] == 0xa5, "where there is no string nothing is written");
     answer = spireyerba_specimen(g_block, LENGTH(g_block), 25, block, LENGTH(block));
     expect(answer == -SPIREYERBA_SPECIMEN_LENGTH, "a specimen of length 25 is refused");
 

@@ -1,42 +1,148 @@
-//! The specimen: which answers are right (document 01, "The services", "Where each check stands").
+//! The specimen (document 01, "The services"; document 02, N7): of the word strings of a wanted length that a grammar
+//! derives, the least when compared word number by word number from the left.
+//!
+//! [`least`] builds it in the order of that comparison: at each place the least word after which the rest can still be
+//! derived. [`derived`] is the plain definition, for few words: of all strings in ascending order those that are derived.
 
 use crate::grammar;
 use spireyerba::limits::MAX_SLOTS;
 use spireyerba::{Body, Grammar, Refusal};
 
-/// Whether the grammar block derives some word string of this length, or the refusal.
-pub fn exists(grammar: &[u8], length: u32, out_len: usize) -> Result<bool, Refusal> {
+const START: usize = 0;
+
+/// Writes the specimen, a word number a byte, and answers whether there is one.
+pub fn specimen(grammar: &[u8], length: u32, out: &mut [u8]) -> Result<bool, Refusal> {
     let grammar = grammar::from_block(grammar)?;
     if !(1..=MAX_SLOTS).contains(&length) {
         return Err(Refusal::SpecimenLength);
     }
-    if out_len < length as usize {
+    let length = length as usize;
+    if out.len() < length {
         return Err(Refusal::SpecimenOutput);
     }
-    Ok(derivable_lengths(&grammar) >> length & 1 == 1)
+    let Some(words) = least(&grammar, length) else { return Ok(false) };
+    for (byte, word) in out.iter_mut().zip(words) {
+        *byte = word as u8;
+    }
+    Ok(true)
 }
 
-/// The lengths of the word strings that the start derives, as bits.
-pub fn derivable_lengths(grammar: &Grammar) -> u32 {
-    let mut lengths = vec![0u32; grammar.symbols as usize];
-    loop {
-        let before = lengths.clone();
+/// The least string of so many words that the grammar derives, if it derives any.
+pub fn least(grammar: &Grammar, length: usize) -> Option<Vec<u32>> {
+    let mut parts = Parts::of_any_words(grammar, length);
+    let mut words = Vec::with_capacity(length);
+    for place in 0..length {
+        let word = parts.least_word(place)?;
+        parts.fix(place, word);
+        words.push(word);
+    }
+    Some(words)
+}
+
+/// The parts, a head over adjoining places, that the strings of one length can have of which the first words are fixed and
+/// all others are free. A set of places is kept as bits.
+struct Parts<'a> {
+    grammar: &'a Grammar,
+    length: usize,
+    /// The word at each place, where it is fixed.
+    words: Vec<Option<u32>>,
+    /// Where parts end, by the place where they begin and their head.
+    ends: Vec<Vec<u32>>,
+}
+
+impl<'a> Parts<'a> {
+    fn of_any_words(grammar: &'a Grammar, length: usize) -> Self {
+        let mut parts = Self { grammar, length, words: vec![None; length], ends: no_ends(grammar, length) };
+        (0..length).rev().for_each(|from| parts.find(from));
+        parts
+    }
+
+    /// Fixes the word at a place. Parts that begin after it stay.
+    fn fix(&mut self, place: usize, word: u32) {
+        self.words[place] = Some(word);
+        (0..=place).rev().for_each(|from| self.find(from));
+    }
+
+    /// Finds where the parts end that begin at a place, once this is known of the places after it.
+    fn find(&mut self, from: usize) {
+        self.ends[from].fill(0);
+        while self.find_more(from) {}
+    }
+
+    /// Tries each rule once; whether an end was new.
+    fn find_more(&mut self, from: usize) -> bool {
+        let (grammar, before) = (self.grammar, self.ends[from].clone());
         for rule in &grammar.rules {
-            lengths[rule.head as usize] |= match rule.body {
-                Body::Word(_) => 1 << 1,
-                Body::Pair(first, second) => sums(lengths[first as usize], lengths[second as usize]),
+            let ends = match rule.body {
+                Body::Word(word) => u32::from(self.words[from].is_none_or(|fixed| fixed == word)) << (from + 1),
+                Body::Pair(first, second) => places(self.ends[from][first as usize])
+                    .fold(0, |ends, split| ends | self.ends[split][second as usize]),
             };
+            self.ends[from][rule.head as usize] |= ends;
         }
-        if lengths == before {
-            return lengths[0];
+        self.ends[from] != before
+    }
+
+    /// The least word that a string can have at a place, where all words before it are fixed.
+    fn least_word(&self, place: usize) -> Option<u32> {
+        let used = self.used(place);
+        let words = self.grammar.rules.iter().filter_map(|rule| match rule.body {
+            Body::Word(word) => (used[place][rule.head as usize] >> (place + 1) & 1 == 1).then_some(word),
+            Body::Pair(..) => None,
+        });
+        words.min()
+    }
+
+    /// Where parts end that stand in a derivation of a whole string, of those that begin at places up to `last`.
+    fn used(&self, last: usize) -> Vec<Vec<u32>> {
+        let mut used = no_ends(self.grammar, self.length);
+        used[0][START] = self.ends[0][START] & 1 << self.length;
+        for from in 0..=last {
+            while self.use_more(&mut used, from) {}
         }
+        used
+    }
+
+    /// Tries each rule once on the parts that begin at a place; whether another such part is used.
+    fn use_more(&self, used: &mut [Vec<u32>], from: usize) -> bool {
+        let before = used[from].clone();
+        for rule in &self.grammar.rules {
+            let Body::Pair(first, second) = rule.body else { continue };
+            for split in places(self.ends[from][first as usize]) {
+                let ends = used[from][rule.head as usize] & self.ends[split][second as usize];
+                if ends != 0 {
+                    used[from][first as usize] |= 1 << split;
+                    used[split][second as usize] |= ends;
+                }
+            }
+        }
+        used[from] != before
     }
 }
 
-/// The sums, up to the longest, of one length of each set.
-fn sums(first: u32, second: u32) -> u32 {
-    let all = (1..=MAX_SLOTS).filter(|length| first >> length & 1 == 1).fold(0, |all, length| all | second << length);
-    all & ((1 << (MAX_SLOTS + 1)) - 1)
+/// No part at any place, the end of the string among them, with any head.
+fn no_ends(grammar: &Grammar, length: usize) -> Vec<Vec<u32>> {
+    vec![vec![0; grammar.symbols as usize]; length + 1]
+}
+
+/// The places in a set.
+fn places(mut set: u32) -> impl Iterator<Item = usize> {
+    std::iter::from_fn(move || {
+        let least = (set != 0).then(|| set.trailing_zeros() as usize)?;
+        set &= set - 1;
+        Some(least)
+    })
+}
+
+/// All strings of so many words that the grammar derives, in ascending order.
+pub fn derived(grammar: &Grammar, length: usize) -> impl Iterator<Item = Vec<u32>> + '_ {
+    tuples(length, grammar.words).filter(|words| derives(grammar, words))
+}
+
+/// All lists of `length` numbers below `limit`, in ascending order when compared from the left.
+pub fn tuples(length: usize, limit: u32) -> impl Iterator<Item = Vec<u32>> {
+    let tuple = move |number: u32| (0..length as u32).rev().map(|place| number / limit.pow(place) % limit).collect();
+    (0..limit.pow(length as u32)).map(tuple)
 }
 
 /// Whether the grammar derives a word string: the symbols of each span, from short to long.

@@ -7,7 +7,8 @@ use spireyerba_tests::conversions::{grammar_to_block, grammar_to_sheet, utteranc
 use spireyerba_tests::derivation::ranked;
 use spireyerba_tests::listing::listing;
 use spireyerba_tests::nbest::least;
-use spireyerba_tests::{grammar, reading, specimen, utterance};
+use spireyerba_tests::specimen::specimen;
+use spireyerba_tests::{grammar, reading, utterance};
 
 const G: [u8; 9] = [0x10, 0x40, 0x40, 0x40, 0x00, 0x09, 0x00, 0x00, 0x00];
 const G_SHEET: [u32; 13] = [1, 1, 2, 0, 0, 1, 0, 0, 1, 0, 0, 0, 0];
@@ -110,11 +111,13 @@ fn readings_that_pass_and_fail_the_check() {
 
 #[test]
 fn specimens_of_g_and_of_one_word() {
-    assert_eq!(specimen::exists(&G, 3, 3), Ok(true));
-    assert!(specimen::derives(&grammar::from_block(&G).unwrap(), &[0, 0, 0]));
-    let one_word = grammar::from_sheet(&[1, 1, 1, 1, 0, 0, 0, 0]).unwrap();
-    assert_eq!(specimen::exists(&grammar::pack(&one_word), 2, 2), Ok(false));
-    assert!(!specimen::derives(&one_word, &[0, 0]));
+    let mut out = [0xff; 4];
+    assert_eq!(specimen(&G, 3, &mut out), Ok(true));
+    assert_eq!(out, [0, 0, 0, 0xff]);
+    let one_word = grammar::pack(&grammar::from_sheet(&[1, 1, 1, 1, 0, 0, 0, 0]).unwrap());
+    let mut out = [0xff; 4];
+    assert_eq!(specimen(&one_word, 2, &mut out), Ok(false));
+    assert_eq!(out, [0xff; 4]);
 }
 
 /// Document 01, "Packed blocks": the longest of each.

@@ -34,7 +34,7 @@ const SECOND: Services = Services {
     to_sheet: conversions::utterance_to_sheet,
     listing: listing::listing,
     check: check::check,
-    has_specimen: |grammar, length| specimen::exists(grammar, length, MAX_SLOTS as usize),
+    has_specimen: |grammar, length| specimen::specimen(grammar, length, &mut [0; MAX_SLOTS as usize]),
 };
 
 /// The functions of this page with these names, as tests of both.

@@ -11,14 +11,8 @@ use spireyerba_tests::seeded::grammars::with_rules;
 use spireyerba_tests::seeded::parsable::{case, AMBIGUOUS, SPARSE, TINY};
 use spireyerba_tests::seeded::rng::Rng;
 use spireyerba_tests::seeded::utterances::heard_at;
-use spireyerba_tests::specimen::{derivable_lengths, derives};
+use spireyerba_tests::specimen::{self, derived, derives, tuples};
 use std::cmp::Ordering;
-
-/// Every list of `length` numbers below `limit`.
-fn tuples(length: usize, limit: u32) -> impl Iterator<Item = Vec<u32>> {
-    let tuple = move |number: u32| (0..length as u32).map(|place| number / limit.pow(place) % limit).collect();
-    (0..limit.pow(length as u32)).map(tuple)
-}
 
 #[test]
 fn the_n_best_are_the_first_of_all_derivations_sorted() {
@@ -90,23 +84,34 @@ fn the_walks_that_pass_are_those_of_the_derivations() {
 
 /// A grammar of few words, so that all strings can be tried.
 fn few_words(rng: &mut Rng) -> Grammar {
-    let (symbols, words) = (rng.within(1..=4), rng.within(1..=2));
-    let (pairs, word_rules) = (rng.within(0..=5), rng.within(1..=3));
+    let (symbols, words) = (rng.within(1..=4), rng.within(1..=3));
+    let (pairs, word_rules) = (rng.within(0..=5), rng.within(1..=4));
     with_rules(rng, symbols, words, pairs, word_rules)
 }
 
 #[test]
-fn a_length_is_derivable_if_some_string_of_it_is_derived() {
-    let (mut some, mut none) = (0, 0);
+fn the_specimen_is_the_first_derived_of_all_strings_in_ascending_order() {
+    let (mut one, mut several, mut none) = (0, 0, 0);
     over_seeds(0..2_000, |rng| {
         let grammar = few_words(rng);
         for length in 1..=6 {
-            let derived = tuples(length, grammar.words).any(|words| derives(&grammar, &words));
-            assert_eq!(derivable_lengths(&grammar) >> length & 1 == 1, derived, "{grammar:?} {length}");
-            *if derived { &mut some } else { &mut none } += 1;
+            let mut strings = derived(&grammar, length);
+            let first = strings.next();
+            assert_eq!(specimen::least(&grammar, length), first, "{grammar:?} {length}");
+            *match (first, strings.next()) {
+                (None, _) => &mut none,
+                (_, None) => &mut one,
+                _ => &mut several,
+            } += 1;
         }
     });
-    assert!(some > 1_000 && none > 1_000, "{some} derivable, {none} not");
+    assert!(one > 1_000 && several > 1_000 && none > 1_000, "one {one} times, several {several}, none {none}");
+}
+
+#[test]
+fn strings_ascend() {
+    assert!(tuples(3, 2).eq([[0, 0, 0], [0, 0, 1], [0, 1, 0], [0, 1, 1], [1, 0, 0], [1, 0, 1], [1, 1, 0], [1, 1, 1]]));
+    assert!(tuples(5, 3).is_sorted_by(|a, b| a < b) && tuples(5, 3).count() == 243);
 }
 
 #[test]

@@ -1,7 +1,8 @@
-//! The library's specimen, held to the second implementation's recogniser.
+//! The library's specimen beside known strings, beside the second implementation's, and beside the first of all strings.
 
+use spireyerba::limits::{MAX_SLOTS, MAX_WEIGHT, MAX_WORDS};
 use spireyerba::Refusal::*;
-use spireyerba::{Body, Grammar, Rule};
+use spireyerba::{services, Body, Grammar, Refusal, Rule};
 use spireyerba_tests::compare::specimen::compare;
 use spireyerba_tests::compare::{over_seeds, Tally};
 use spireyerba_tests::grammar::pack;
@@ -9,6 +10,54 @@ use spireyerba_tests::refusal::GRAMMAR_BLOCK;
 use spireyerba_tests::seeded::damage::some_grammar_blocks;
 use spireyerba_tests::seeded::grammars::{grammar, with_rules, Size};
 use spireyerba_tests::seeded::rng::Rng;
+use spireyerba_tests::specimen::{derived, specimen};
+
+type Specimen = fn(&[u8], u32, &mut [u8]) -> Result<bool, Refusal>;
+
+/// A specimen, which takes the front of the output and no more.
+fn ask(service: Specimen, grammar: &[u8], length: u32) -> Option<Vec<u8>> {
+    let mut out = [0xa5; MAX_SLOTS as usize + 1];
+    let found = service(grammar, length, &mut out).expect("an accepted grammar and length");
+    let (string, beyond) = out.split_at(if found { length as usize } else { 0 });
+    assert!(beyond.iter().all(|&byte| byte == 0xa5), "output beyond the string, or where there is none");
+    found.then(|| string.to_vec())
+}
+
+/// 0 to word 1; 0 to word 0.
+const TWO_WORDS: [u8; 9] = [0x10, 0x40, 0x80, 0x50, 0x00, 0x06, 0x00, 0x00, 0x00];
+/// 0 to 1 2; 1 to word 1; 1 to 2 1; 2 to word 0; 2 to 2 2: one word 1, any number of words 0 before it and one or more
+/// after it.
+const LATER_IS_LESS: [u8; 17] =
+    [0x10, 0xc0, 0x80, 0xa0, 0x00, 0x01, 0xa8, 0x00, 0x04, 0x80, 0x00, 0x4e, 0x00, 0x00, 0x20, 0x00, 0x0a];
+
+/// The door schedule of examples/.
+const DOORS: &[u8] = include_bytes!("../../examples/doors/grammar.bin");
+
+fn expect_examples(service: Specimen) {
+    let expect = |grammar, length, string: Option<&[u8]>| {
+        assert_eq!(ask(service, grammar, length).as_deref(), string, "length {length} of {grammar:02x?}");
+    };
+    expect(&TWO_WORDS, 1, Some(&[0]));
+    expect(&TWO_WORDS, 2, None);
+    expect(&LATER_IS_LESS, 1, None);
+    expect(&LATER_IS_LESS, 2, Some(&[1, 0]));
+    expect(&LATER_IS_LESS, 3, Some(&[0, 1, 0]));
+    expect(&LATER_IS_LESS, 4, Some(&[0, 0, 1, 0]));
+    expect(&LATER_IS_LESS, 24, Some(&[[0; 22].as_slice(), &[1, 0]].concat()));
+    expect(DOORS, 2, None);
+    expect(DOORS, 3, Some(&[4, 0, 5]));
+    expect(DOORS, 4, Some(&[4, 0, 2, 5]));
+}
+
+#[test]
+fn examples_of_the_library() {
+    expect_examples(services::specimen);
+}
+
+#[test]
+fn examples_of_the_second_implementation() {
+    expect_examples(specimen);
+}
 
 /// Symbol k joins two of symbol k + 1, or one of k + 1 with one of k + 2, and the last symbols have words: few lengths
 /// are derivable.
@@ -23,9 +72,56 @@ fn ladder(rng: &mut Rng) -> Grammar {
     Grammar { symbols, words: symbols, rules }
 }
 
+/// Each symbol but the last joins the last with itself or with the next, on the left or on the right or both.
+fn chain(rng: &mut Rng) -> Grammar {
+    let symbols = rng.within(2..=5);
+    let mut grammar = with_rules(rng, symbols, 6, 0, 2 * symbols);
+    let last = symbols - 1;
+    for head in 0..last {
+        let rest = head + rng.within(0..=1);
+        let mut bodies = vec![Body::Pair(last, rest), Body::Pair(rest, last)];
+        rng.shuffle(&mut bodies);
+        bodies.dedup();
+        bodies.truncate(rng.pick(&[1, 2]));
+        grammar.rules.extend(bodies.into_iter().map(|body| Rule { head, weight: 0, body }));
+    }
+    rng.shuffle(&mut grammar.rules);
+    grammar
+}
+
+/// The grammar with other words in the place of its own.
+fn with_words(mut grammar: Grammar, words: &[u32]) -> Grammar {
+    grammar.words = MAX_WORDS;
+    for rule in &mut grammar.rules {
+        if let Body::Word(word) = &mut rule.body {
+            *word = words[*word as usize];
+        }
+    }
+    grammar
+}
+
+/// All words are the same but for at most two, one less and one greater: strings of one length are equal or differ late.
+fn tied(rng: &mut Rng) -> Grammar {
+    let (symbols, pairs) = (rng.within(1..=8), rng.within(1..=20));
+    let mut grammar = with_words(with_rules(rng, symbols, 1, pairs, symbols), &[77]);
+    for word in [76, 78] {
+        if rng.once_in(2) {
+            let rule = Rule { head: rng.within(0..=symbols - 1), weight: 0, body: Body::Word(word) };
+            grammar.rules.insert(rng.below(grammar.rules.len() + 1), rule);
+        }
+    }
+    grammar
+}
+
+/// Words on both sides of where a byte with a sign turns negative.
+fn wide_words(rng: &mut Rng) -> Grammar {
+    let (symbols, pairs) = (rng.within(1..=6), rng.within(1..=12));
+    with_words(with_rules(rng, symbols, 6, pairs, 8), &[0, 1, 127, 128, 129, 199])
+}
+
 /// Grammars with unreachable and unproductive symbols among them, with only word rules and with only pair rules.
 fn any_grammar(rng: &mut Rng) -> Grammar {
-    match rng.below(12) {
+    match rng.below(18) {
         0 => with_rules(rng, 32, 200, 150, 106),
         1 => grammar(rng, Size::Greatest),
         2 => ladder(rng),
@@ -33,6 +129,9 @@ fn any_grammar(rng: &mut Rng) -> Grammar {
         4 => with_rules(rng, 3, 5, 6, 0),
         5 => grammar(rng, Size::Middle),
         6 | 7 => with_rules(rng, 8, 9, 10, 5),
+        8 | 9 => chain(rng),
+        10 | 11 => tied(rng),
+        12 | 13 => wide_words(rng),
         _ => grammar(rng, Size::Small),
     }
 }
@@ -41,10 +140,9 @@ fn any_grammar(rng: &mut Rng) -> Grammar {
 fn specimens_of_every_length() {
     let mut tally = Tally::default();
     let (mut some, mut none) = (0, 0);
-    over_seeds(0..1_500, |rng| {
+    over_seeds(0..1_000, |rng| {
         let grammar = pack(&any_grammar(rng));
-        for _ in 0..4 {
-            let length = rng.within(1..=24);
+        for length in 1..=MAX_SLOTS {
             let out_len = length as usize + rng.pick(&[0, 0, 1, 40]);
             match compare(rng, &mut tally, &grammar, length, out_len) {
                 Some(true) => some += 1,
@@ -52,8 +150,40 @@ fn specimens_of_every_length() {
             }
         }
     });
-    tally.demand(5_000, &[]);
-    assert!(some > 1_000 && none > 1_000, "{some} specimens, {none} times none");
+    tally.demand(20_000, &[]);
+    assert!(some > 10_000 && none > 5_000, "{some} specimens, {none} times none");
+}
+
+/// Few words and strings of up to six, or all words and strings of one or two.
+#[test]
+fn specimens_beside_all_strings() {
+    over_seeds(20_000..20_500, |rng| {
+        let (words, longest) = if rng.once_in(10) { (MAX_WORDS, 2) } else { (rng.within(1..=3), 6) };
+        let (symbols, pairs, word_rules) = (rng.within(1..=4), rng.within(0..=6), rng.within(1..=6));
+        let grammar = with_rules(rng, symbols, words, pairs, word_rules);
+        let block = pack(&grammar);
+        for length in 1..=longest {
+            let first = derived(&grammar, length).next();
+            let first = first.map(|words| words.into_iter().map(|word| word as u8).collect());
+            assert_eq!(ask(services::specimen, &block, length as u32), first, "length {length} of {grammar:?}");
+        }
+    });
+}
+
+/// Two machines that have an office's rules in another order print the same string.
+#[test]
+fn neither_the_order_of_the_rules_nor_their_weights_count() {
+    over_seeds(30_000..30_300, |rng| {
+        let grammar = any_grammar(rng);
+        let mut other = grammar.clone();
+        rng.shuffle(&mut other.rules);
+        other.rules.iter_mut().for_each(|rule| rule.weight = rng.within(0..=MAX_WEIGHT));
+        let blocks = [&grammar, &other].map(pack);
+        for length in 1..=MAX_SLOTS {
+            let [one, two] = blocks.each_ref().map(|block| ask(services::specimen, block, length));
+            assert_eq!(one, two, "length {length} of {grammar:?}\nand {other:?}");
+        }
+    });
 }
 
 #[test]

@@ -47,6 +47,7 @@ fn expect_answers(grammar: &Grammar, utterance: &Utterance) {
     let answer = on_small_stack(|| services::utterance_to_sheet(&grammar_block, &block, &mut numbers));
     assert_eq!(answer, Ok(UTTERANCE_SHEET_MAX));
     assert_eq!(on_small_stack(|| services::specimen(&grammar_block, 24, &mut bytes)), Ok(true));
+    assert_eq!(bytes[..24], [0; 24]);
     let (mut work, mut out) = (vec![7; work_length(32, 24, READINGS)], vec![0; READINGS * READING_BLOCK_MAX]);
     let answer = on_small_stack(|| services::listing(&grammar_block, &block, MAX_READINGS, &mut work, &mut out));
     assert_eq!(answer, Ok(READINGS));

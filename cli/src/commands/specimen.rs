@@ -1,4 +1,4 @@
-//! `specimen`: some string of words that a grammar derives.
+//! `specimen`: the least string of words that a grammar derives.
 
 use super::Command;
 use crate::failure::Failure;
@@ -14,8 +14,10 @@ pub const COMMAND: Command = Command {
     operands: &["GRAMMAR", "LENGTH"],
     needed: 2,
     options: &[],
-    summary: "print some string of so many words that the grammar derives",
-    details: "The length is 1 to 24. If there is no such string, nothing is printed, and a message says so.",
+    summary: "print the least string of so many words that the grammar derives",
+    details: "\
+The length is 1 to 24. Strings compare word by word from the left, and words by their number: as they are met in the
+grammar's text. If there is no string of that length, nothing is printed, and a message says so.",
     example: "spireyerba specimen grammar.txt 6",
     run,
 };

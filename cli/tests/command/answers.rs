@@ -196,8 +196,8 @@ fn pack_and_unpack_a_reading() {
 
 #[test]
 fn specimen_of_a_length() {
-    let words = answer("specimen grammar.txt 4");
-    assert_eq!(words.split_whitespace().count(), 4);
+    assert_eq!(answer("specimen grammar.txt 3"), "door twenty oak\n");
+    assert_eq!(answer("specimen grammar.txt 4"), "door twenty four oak\n");
     let none = run("specimen grammar.txt 2");
     assert_eq!(none.err, "none: the grammar derives no string of 2 words\n");
     assert_eq!((none.status, none.out.as_str()), (0, ""));

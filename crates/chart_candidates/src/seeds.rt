@@ -97,8 +97,8 @@ fn split_seeds(t: &[u32], d: Layout, rule: PairRule, c: Cell, floor: usize, best
     requires { ⌜ (InTable d c) × (rule .number < 4294967296) ⌝ }
     ensures { λ x. ⌜ x ≡ splitSeeds (now (t .entry)) d rule c floor best ⌝ }
 {
-    let last = c.to - 1;
-    if c.from < last {
+    if c.from + 1 < c.to {
+        let last = c.to - 1;
         let left = entry_of(d, cell_number(d, left_part(c, rule.first, last)), 0);
         let right = entry_of(d, cell_number(d, right_part(c, rule.second, last)), 0);
         if left < t.len() {

@@ -1,5 +1,5 @@
--- The cases of document 01 that are marked P, "Checked examples", as one table. A row says what a service answers by its
--- definition; proofs/Cases has the one theorem, that all rows hold. Assumes nothing.
+-- The cases of document 01 that are marked P, "Checked examples", and those of document 02's requests, as one table. A row says what a
+-- service answers by its definition; proofs/Cases has the one theorem, that all rows hold. Assumes nothing.
 use mathlib.Core.Path.{_≡_}
 use mathlib.Core.List.{List, [], _∷_, _++_, map}
 use Prim.Native.Nat.{ℕ}
@@ -14,7 +14,8 @@ use Rattle.packing.specs.Reading.{blockOfReading}
 use Rattle.listing.specs.Listing.{list, listedOf, outputAfter}
 use Rattle.listing.specs.declared.Listed.the-variants.{Found}
 use Rattle.checker.specs.Check.{check}
-use Rattle.specimen.specs.Specimen.{asked, Answers}
+use Rattle.specimen.specs.Specimen as Specimen
+use Rattle.specimen.specs.Specimen.{answeredOf, outputOf}
 use Rattle.specimen.specs.declared.Answered.{Answered}
 use Rattle.specimen.specs.declared.Answered.the-variants.{Written, Nothing}
 
@@ -40,7 +41,7 @@ Holds (finds g u wanted m bytes) =
     (listedOf (listedFor g u wanted) ≡ Found m) × ((out : List ℕ) → outputAfter (listedFor g u wanted) out ≡ bytes ++ drop (length bytes) out)
 Holds (checks g u block verdict) = check (blockOfGrammar g) (blockOfUtterance (g .words) u) block ≡ verdict
 Holds (specimen g n out answer after) =
-    (r : Answered) (exit : List ℕ) → Answers (asked (blockOfGrammar g) n (length out)) n out r exit → (r ≡ answer) × (exit ≡ after)
+    (answeredOf (Specimen.specimen (blockOfGrammar g) n (length out)) ≡ answer) × (outputOf (Specimen.specimen (blockOfGrammar g) n (length out)) out ≡ after)
 
 abbrev pub AllHold : List Case → Type 0
 AllHold [] = Unit {0}
@@ -78,6 +79,17 @@ two-parts = record {
 abbrev pub one-rule : Grammar
 one-rule = record { symbols = 1; words = 1; rules = wordRule 0 0 0 ∷ [] }
 
+-- N7's: the word rule of word 1 before that of word 0; and 0 to 1 2, 1 to word 1, 1 to 2 1, 2 to word 0, 2 to 2 2
+abbrev pub falling-words : Grammar
+falling-words = record { symbols = 1; words = 2; rules = wordRule 0 1 0 ∷ wordRule 0 0 0 ∷ [] }
+
+abbrev pub longer-left : Grammar
+longer-left = record {
+  symbols = 3;
+  words = 2;
+  rules = pairRule 0 1 2 0 ∷ wordRule 1 1 0 ∷ pairRule 1 2 1 0 ∷ wordRule 2 0 0 ∷ pairRule 2 2 2 0 ∷ [];
+}
+
 abbrev pub first-reading : Reading
 first-reading = readingWith 4 3 (0 ∷ 1 ∷ 0 ∷ 1 ∷ 0 ∷ 1 ∷ 1 ∷ [])
 
@@ -112,4 +124,11 @@ P-cases =
     (readingWith 2 4 (0 ∷ 2 ∷ 3 ∷ []) ∷ readingWith 2 6 (0 ∷ 2 ∷ 4 ∷ []) ∷ readingWith 2 6 (0 ∷ 1 ∷ 3 ∷ []) ∷ readingWith 2 8 (0 ∷ 1 ∷ 4 ∷ []) ∷ [])
     ∷ specimen G 3 (9 ∷ 9 ∷ 9 ∷ 9 ∷ []) Written (0 ∷ 0 ∷ 0 ∷ 9 ∷ [])
     ∷ specimen one-rule 2 (9 ∷ 9 ∷ []) Nothing (9 ∷ 9 ∷ [])
+    ∷ grammar falling-words (0x10 ∷ 0x40 ∷ 0x80 ∷ 0x50 ∷ 0x00 ∷ 0x06 ∷ 0x00 ∷ 0x00 ∷ 0x00 ∷ [])
+    ∷ specimen falling-words 1 (9 ∷ []) Written (0 ∷ [])
+    ∷ grammar longer-left
+    (0x10 ∷ 0xc0 ∷ 0x80 ∷ 0xa0 ∷ 0x00 ∷ 0x01 ∷ 0xa8 ∷ 0x00 ∷ 0x04 ∷ 0x80 ∷ 0x00 ∷ 0x4e ∷ 0x00 ∷ 0x00 ∷ 0x20 ∷ 0x00 ∷ 0x0a ∷ [])
+    ∷ specimen longer-left 3 (9 ∷ 9 ∷ 9 ∷ []) Written (0 ∷ 1 ∷ 0 ∷ [])
+    ∷ specimen longer-left 4 (9 ∷ 9 ∷ 9 ∷ 9 ∷ 9 ∷ []) Written (0 ∷ 0 ∷ 1 ∷ 0 ∷ 9 ∷ [])
+    ∷ specimen longer-left 1 (9 ∷ []) Nothing (9 ∷ [])
     ∷ []

@@ -1,16 +1,18 @@
 -- What is asked of the specimen, by what the tests found, and with which numbers it is refused. Assumes nothing.
-use mathlib.Core.Path.{_≡_, refl}
+use mathlib.Core.Path.{_≡_, refl, _∙_}
 use mathlib.Core.List.{List}
 use Prim.Native.Nat.{ℕ, _≤_, _<_}
 use native.Mathlib.Omega.{arith}
-use borrow.Author.Tests.{lt-ltb, le-ltb}
+use borrow.Author.Tests.{lt-ltb, le-ltb, ltb-false}
 use lib.Dec.{ltb}
 use Rattle.packing.specs.Meaning.{Grammar}
-use Rattle.packing.specs.Parse.{Verdict, accepted, refused}
+use Rattle.packing.specs.Parse.{accepted, refused}
 use Rattle.packing.specs.Grammar.{grammarBlock}
 use Rattle.packing.specs.Rows.{_∪_, GrammarBlockRow, SpecimenRow}
+use Rattle.packing.proofs.Parse as P
 use Rattle.packing.proofs.Refusals.{Refuses, granted, denied, choose-row, then-rows, grammar-block-row}
-use Rattle.specimen.specs.Specimen.{asked, Answers}
+use Rattle.phrases.specs.Enumeration.{firstPhrase}
+use Rattle.specimen.specs.Specimen.{asked, specimen, answeredOf, outputOf}
 use Rattle.specimen.specs.declared.Answered.the-variants.{Refused}
 
 module _ (s : List ℕ) (n out : ℕ) where
@@ -35,9 +37,25 @@ module _ (s : List ℕ) (n out : ℕ) where
     unfolding asked
     asked-well h k l = rw (e, le-ltb n 1 h, le-ltb 24 n k, le-ltb out n l)
 
--- a refusal changes nothing
-pub answers-refused : {v : Verdict Grammar} (n : ℕ) (out : List ℕ) {m : ℕ} → v ≡ refused m → Answers v n out (Refused m) out
-answers-refused n out e = rw e (refl, refl)
+-- what is accepted was asked of an accepted grammar, and the length is at most 24
+pub asked-out : (s : List ℕ) (n out : ℕ) (g : Grammar) → asked s n out ≡ accepted g → (grammarBlock s ≡ accepted g) × (n ≤ 24)
+unfolding asked
+asked-out s n out g e =
+    P.granted (grammarBlock s) _ e λ h p e.
+    let (_, e₁) = P.accepted-else (ltb n 1) 25 _ e in
+    let (b, e₂) = P.accepted-else (ltb 24 n) 25 _ e₁ in
+    (p ∙ P.accepted-else (ltb out n) 26 _ e₂ .1, ltb-false 24 n b)
+
+-- a refusal changes nothing, and what is accepted has its first phrase
+module _ (s : List ℕ) (n size : ℕ) where
+  pub specimen-refused : (out : List ℕ) {m : ℕ} → asked s n size ≡ refused m
+      → (Refused m ≡ answeredOf (specimen s n size)) × (out ≡ outputOf (specimen s n size) out)
+  unfolding specimen
+  specimen-refused out e = rw e (refl, refl)
+
+  pub specimen-accepted : {g : Grammar} → asked s n size ≡ accepted g → specimen s n size ≡ accepted (firstPhrase g n)
+  unfolding specimen
+  specimen-accepted e = rw e
 
 -- the refusals are of the rows grammar block and specimen
 pub asked-row : (s : List ℕ) (n out : ℕ) → Refuses (GrammarBlockRow ∪ SpecimenRow) (asked s n out)

@@ -1,71 +1,75 @@
--- The table of choices answers what is asked: no string of the length, or one that the grammar says. Assumes nothing.
+-- The string at the start's cell tells the answer: none, or the first phrase of the length. Assumes nothing.
 use mathlib.Core.Path.{_≡_, refl, sym, ap, _∙_}
+use mathlib.Core.Option.{Option, none, some}
 use mathlib.Core.List.{List, _++_}
-use Prim.Native.Nat.{ℕ, _+_, _*_, _≤_, _<_}
+use Prim.Native.Nat.{ℕ, _+_, _-_, _*_, _≤_, _<_}
+use native.Mathlib.Nat.{add-zero, zero-add}
 use native.Mathlib.Omega.{arith}
-use lib.ListN.{length, drop}
-use Rattle.packing.specs.Meaning.{Grammar, word, symbolOf}
+use lib.ListN.{length, getD, replicate}
+use lib.Seq.{slice, paste, take-at, getD-drop, getD-take}
+use Rattle.packing.specs.Meaning.{Grammar, symbolOf}
 use Rattle.packing.specs.Parse.{accepted}
-use Rattle.grammar_reader.specs.declared.Sizes.{Sizes}
-use Rattle.grammar_reader.specs.Answer.{sizes}
-use Rattle.specimen.specs.declared.Answered.the-variants.{Written, Nothing}
 use Rattle.packing.specs.Flat.{Begins, ruleNumbers, ruleAt}
 use Rattle.packing.specs.Valid.{ValidGrammar}
 use Rattle.packing.proofs.Flat.{rule-at}
-use Rattle.packing.specs.declared.Sym.{Sym}
-use Rattle.packing.specs.declared.Rule.the-variants.{Pair, Word}
-use Rattle.derivation.specs.Derivation.{At}
+use Rattle.grammar_reader.specs.declared.Sizes.{Sizes}
+use Rattle.grammar_reader.specs.Answer.{sizes}
 use Rattle.derivation.proofs.Ranges.{Within, all-at, valid-sizes, valid-within}
-use Rattle.specimen.specs.Specimen.{Says, Answers}
-use Rattle.specimen.specs.Choice.{choiceAt, filled, wordsWritten}
-use Rattle.specimen.proofs.Yields.{says-yields, yields-says}
-use Rattle.specimen.proofs.Choice.{Good, filled-good}
-use Rattle.specimen.proofs.Words.{words-yield, stored-front}
+use Rattle.phrases.specs.Enumeration.{firstPhrase}
+use Rattle.phrases.specs.Recursion.{cellOf}
+use Rattle.phrases.proofs.Yields.{says-yields}
+use Rattle.phrases.proofs.Theorems.{yields-below, firstPhrase-least}
+use Rattle.phrases.proofs.Cell.{Stored}
+use Rattle.phrases.proofs.Keeping.{Sized, Each, string, each}
+use Rattle.phrases.proofs.Padded.{Pads, word-first, first-filled}
+use Rattle.specimen.specs.Specimen.{answeredOf, outputOf}
+use Rattle.specimen.specs.Table.{fittedAt, fillTable}
+use Rattle.specimen.specs.declared.Answered.the-variants.{Written, Nothing}
+use Rattle.specimen.proofs.Parts.{lent, lent-is, fitted-is}
+
+-- the answer and the output, from the padded string that stands for o
+module _ (W n : ℕ) (w : W ≤ 200) (pos : 0 < n) where
+  nothing-told : (o : Option (List ℕ)) (c out : List ℕ) → Each (Sized W n) o → Pads n o c → getD c 0 0 ≡ 255
+      → (Nothing ≡ answeredOf (accepted o)) × (out ≡ outputOf (accepted o) out)
+  nothing-told none c out s e h = (refl, refl)
+  nothing-told (some t) c out (string s) e h =
+      let l = word-first W w n t (replicate (24 - n) 0) pos s in
+      let z : getD (t ++ replicate (24 - n) 0) 0 0 ≡ 255 = rw e at h in
+      absurd (omega arith)
+
+  written-told : (o : Option (List ℕ)) (c out : List ℕ) → Each (Sized W n) o → Pads n o c → (getD c 0 0 ≡ 255 → ⊥)
+      → (Written ≡ answeredOf (accepted o)) × (paste out 0 c n ≡ outputOf (accepted o) out)
+  written-told none c out s e h = absurd (h (ap (λ (l : List ℕ). getD l 0 0) e))
+  written-told (some t) c out (string s) e h = (refl, rw (e, take-at t (replicate (24 - n) 0) n (s .0), zero-add n, s .0))
 
 module _ (g : Grammar) (v : ValidGrammar g) (rules : List ℕ) (b : Begins (ruleNumbers g) rules) where
-  few : g .symbols ≤ 32
-  few = valid-sizes g v .1
+  stored : Stored g (fittedAt rules)
+  stored r h =
+      let at = rule-at g rules r b h in
+      let few = valid-sizes g v in
+      rw (fitted-is (g .symbols) (g .words) (few .1) (few .3) (ruleAt rules r) (all-at (Within (g .symbols) (g .words)) (g .rules) r (valid-within g v) at)) at
 
-  stored : (r : ℕ) → r < length (g .rules) → At (g .rules) r (ruleAt rules r)
-  stored r h = rule-at g rules r b h
+  -- from what the code knows: the table, and where the start's string begins
+  module _ (n : ℕ) (pos : 0 < n) (most : n ≤ 24) (z : Sizes) (e : z ≡ sizes g) (t : List ℕ) (room : length t ≡ 18432)
+      {full : List ℕ} (p : full ≡ fillTable rules (z .rules) n t) {at : ℕ} (q : at ≡ 24 * cellOf (symbolOf 0) n) where
+    found : Pads n (firstPhrase g n) (slice at (at + 24) full)
+    found =
+        let h = first-filled g v (fittedAt rules) stored n pos most t (omega arith) in
+        let f : full ≡ fillTable rules (length (g .rules)) n t = p ∙ ap (λ (y : Sizes). fillTable rules (y .rules) n t) e in
+        rw (q, f) h
 
-  parts : (A B C : Sym) (r w : ℕ) → At (g .rules) r (Pair A B C w) → (B .0 < g .symbols) × (C .0 < g .symbols)
-  parts A B C r w h = let s = all-at (Within (g .symbols) (g .words)) (g .rules) r (valid-within g v) h in (s .1, s .2)
+    all-sized : Each (Sized (g .words) n) (firstPhrase g n)
+    all-sized = each (λ t p. (p .0, yields-below g v (says-yields g t (p .1)))) (firstPhrase-least g n v)
 
-  words : (A : Sym) (x r w : ℕ) → At (g .rules) r (Word A (word x) w) → x < 256
-  words A x r w h = let s = all-at (Within (g .symbols) (g .words)) (g .rules) r (valid-within g v) h in omega (arith, s .1, valid-sizes g v .3)
+    first-byte : getD (slice at (at + 24) full) 0 0 ≡ getD full at 0
+    first-byte = getD-drop at _ 0 0 ∙ rw (add-zero at) (getD-take (at + 24) full at 0 (omega arith))
 
-  module _ (n : ℕ) (pos : 0 < n) (most : n ≤ 24) (table : List ℕ) (room : 32 * (n + 1) ≤ length table) where
-    abbrev full : List ℕ
-    full = filled rules (length (g .rules)) (g .symbols) n table
+    pub nothing-said : (out : List ℕ) → getD full at 0 ≡ 255
+        → (Nothing ≡ answeredOf (accepted (firstPhrase g n))) × (out ≡ outputOf (accepted (firstPhrase g n)) out)
+    nothing-said out h = nothing-told (g .words) n (valid-sizes g v .3) pos (firstPhrase g n) _ out all-sized found (first-byte ∙ h)
 
-    good : Good g rules (g .symbols) few stored parts words full n
-    good = filled-good g rules (g .symbols) few stored parts words n table room
-
-    start : symbolOf 0 .0 < g .symbols
-    start = omega (arith, valid-sizes g v .0)
-
-    none-said : choiceAt full (symbolOf 0) n ≡ 0 → (ws : List ℕ) → length ws ≡ n → Says g ws → ⊥
-    none-said e ws h s = good (symbolOf 0) n start pos (omega arith) .nothing e ws h (says-yields g ws s)
-
-    -- the string that is written, and that it stands at the front of the output
-    one-said : (choiceAt full (symbolOf 0) n ≡ 0 → ⊥) → (out : List ℕ) → n ≤ length out
-        → (ws : List ℕ) × (length ws ≡ n) × Says g ws × (wordsWritten full rules n out ≡ ws ++ drop n out)
-    unfolding wordsWritten
-    one-said ne out l =
-        let (ws, e, y, at) = words-yield g rules (g .symbols) few stored parts words full n (omega arith) good n (symbolOf 0) n (omega arith) start pos (omega arith) ne in
-        (ws, e, yields-says g ws y, stored-front _ out ws n e l at)
-
-    -- the answers, from what the code knows: the table, and its choice for the start
-    module _ (z : Sizes) (e : z ≡ sizes g) (t : List ℕ) (p : t ≡ filled rules (z .rules) (z .symbols) n table) {x : ℕ} (q : x ≡ choiceAt t (symbolOf 0) n) where
-      is-full : t ≡ full
-      is-full = p ∙ ap (λ (y : Sizes). filled rules (y .rules) (y .symbols) n table) e
-
-      pub answers-nothing : (out : List ℕ) → x ≡ 0 → Answers (accepted g) n out Nothing out
-      answers-nothing out h = (none-said (sym (ap (λ (l : List ℕ). choiceAt l (symbolOf 0) n) is-full) ∙ sym q ∙ h), refl)
-
-      pub answers-written : (out exit : List ℕ) → (x ≡ 0 → ⊥) → n ≤ length out → exit ≡ wordsWritten t rules n out
-          → Answers (accepted g) n out Written exit
-      answers-written out exit h l r =
-          let (ws, e, y, w) = one-said (λ z. h (q ∙ ap (λ (l : List ℕ). choiceAt l (symbolOf 0) n) is-full ∙ z)) out l in
-          (ws, e, y, r ∙ ap (λ (l : List ℕ). wordsWritten l rules n out) is-full ∙ w)
+    pub string-said : (out : List ℕ) {exit : List ℕ} → (getD full at 0 ≡ 255 → ⊥) → exit ≡ paste out 0 (lent full at) n
+        → (Written ≡ answeredOf (accepted (firstPhrase g n))) × (exit ≡ outputOf (accepted (firstPhrase g n)) out)
+    string-said out h x =
+        let (told, shown) = written-told (g .words) n (valid-sizes g v .3) pos (firstPhrase g n) _ out all-sized found (λ y. h (sym first-byte ∙ y)) in
+        (told, x ∙ ap (λ (l : List ℕ). paste out 0 l n) (lent-is full at) ∙ shown)

@@ -2,6 +2,7 @@
 -- the answer, and s is its case where the code goes by cases. Assumes nothing.
 use mathlib.Core.Path.{_≡_, refl, sym, subst, ap, _∙_}
 use mathlib.Core.List.{List}
+use mathlib.Core.Option.{Option, none, some}
 use Prim.Native.Nat.{ℕ, _<_}
 use native.Mathlib.Omega.{arith}
 use lib.IntN.{ℤ, pos, negℤ}
@@ -16,8 +17,9 @@ use Rattle.checker.specs.Check as Check
 use Rattle.checker.specs.declared.Checked as C
 use Rattle.listing.specs.Listing as Listing
 use Rattle.listing.specs.declared.Listed as L
+use Rattle.specimen.specs.Specimen as Specimen
 use Rattle.specimen.specs.declared.Answered as A
-use Rattle.spireyerba.specs.Code.{codeOf, answerCode}
+use Rattle.spireyerba.specs.Code.{codeOf, stringLength}
 use Rattle.spireyerba.specs.Model.{writtenCode, SmallWritten}
 use Rattle.spireyerba.proofs.Signed.{back, fits-pos, fits-neg}
 
@@ -31,10 +33,10 @@ fits-code (small-size h) = fits-pos _ h
 fits-code (small-refusal h) = fits-neg _ h
 
 -- the law for the services whose answer tells the verdict
-module _ {A B : Type 0} {size : A → ℕ} (tell : Verdict A → B) (code : B → ℤ) (same : (v : Verdict A) → code (tell v) ≡ codeOf size v)
-    {v : Verdict A} {r s : B} where
+module _ {A B : Type 0} (size : A → ℕ) (tell : Verdict A → B) (code : B → ℤ) (v : Verdict A) (same : code (tell v) ≡ codeOf size v)
+    {r s : B} where
   told-code : r ≡ tell v → r ≡ s → code s ≡ codeOf size v
-  told-code e told = ap code (sym told ∙ e) ∙ same v
+  told-code e told = ap code (sym told ∙ e) ∙ same
 
   told-number : {z : ℤ} → Small size v → r ≡ tell v → r ≡ s → z ≡ code s → toZ w32 (ofZ w32 z) ≡ codeOf size v
   told-number small e told p = back (codeOf size v) (fits-code small) (p ∙ told-code e told)
@@ -49,7 +51,7 @@ module _ {v : Verdict (List ℕ)} (small : Small length v) {r : W.Written} (e : 
       go (small-refusal h) = h
 
   pub written-number : {z : ℤ} → z ≡ writtenCode r → toZ w32 (ofZ w32 z) ≡ codeOf length v
-  written-number p = told-number writtenOf writtenCode same small e refl p
+  written-number p = told-number length writtenOf writtenCode v (same v) small e refl p
     where
       same : (v : Verdict (List ℕ)) → writtenCode (writtenOf v) ≡ codeOf length v
       same (accepted l) = refl
@@ -77,10 +79,10 @@ module _ {v : Verdict Reading} (small : Small (λ d. 0) v) {r s : C.Checked} (e 
       go (small-refusal h) = h
 
   pub checked-code : checkedCode s ≡ codeOf (λ d. 0) v
-  checked-code = told-code Check.checkedOf checkedCode checked-same {v = v} e told
+  checked-code = told-code (λ d. 0) Check.checkedOf checkedCode v (checked-same v) e told
 
   pub checked-number : {z : ℤ} → z ≡ checkedCode s → toZ w32 (ofZ w32 z) ≡ codeOf (λ d. 0) v
-  checked-number p = told-number Check.checkedOf checkedCode checked-same small e told p
+  checked-number p = told-number (λ d. 0) Check.checkedOf checkedCode v (checked-same v) small e told p
 
 -- the listing
 abbrev listedCode : L.Listed → ℤ
@@ -100,26 +102,49 @@ module _ {v : Verdict (List (List ℕ))} (small : Small length v) {r s : L.Liste
       go (small-refusal h) = h
 
   pub listed-number : {z : ℤ} → z ≡ listedCode s → toZ w32 (ofZ w32 z) ≡ codeOf length v
-  listed-number p = told-number Listing.listedOf listedCode same small e told p
+  listed-number p = told-number length Listing.listedOf listedCode v (same v) small e told p
     where
       same : (v : Verdict (List (List ℕ))) → listedCode (Listing.listedOf v) ≡ codeOf length v
       same (accepted ls) = refl
       same (refused n) = refl
 
--- the specimen, of a string of length n
-abbrev pub SmallAnswered : ℕ → A.Answered → Type 0
+-- the specimen: a string has the wanted length
+pub data Wanted (n : ℕ) : Verdict (Option (List ℕ)) → Type 0 where
+  as-long : {s : List ℕ} → length s ≡ n → n < 2147483648 → Wanted n (accepted (some s))
+  no-string : Wanted n (accepted none)
+  refusal : {m : ℕ} → m < 2147483648 → Wanted n (refused m)
+
+abbrev answeredCode : ℕ → A.Answered → ℤ
+answeredCode n A.the-variants.Written = pos n
+answeredCode n A.the-variants.Nothing = pos 0
+answeredCode n (A.the-variants.Refused m) = negℤ (pos m)
+
+abbrev SmallAnswered : ℕ → A.Answered → Type 0
 SmallAnswered n A.the-variants.Written = n < 2147483648
 SmallAnswered n A.the-variants.Nothing = Unit {0}
 SmallAnswered n (A.the-variants.Refused m) = m < 2147483648
 
-fits-answered : (n : ℕ) (a : A.Answered) → SmallAnswered n a → SFits w32 (answerCode n a)
-fits-answered n A.the-variants.Written h = fits-pos n h
-fits-answered n A.the-variants.Nothing h = fits-pos 0 (omega arith)
-fits-answered n (A.the-variants.Refused m) h = fits-neg m h
+answered-same : {n : ℕ} {v : Verdict (Option (List ℕ))} → Wanted n v → answeredCode n (Specimen.answeredOf v) ≡ codeOf stringLength v
+answered-same (as-long l h) = ap pos (sym l)
+answered-same no-string = refl
+answered-same (refusal h) = refl
 
-module _ (n : ℕ) {r s : A.Answered} (small : SmallAnswered n r) (told : r ≡ s) where
+module _ {n : ℕ} {v : Verdict (Option (List ℕ))} (wanted : Wanted n v) {r s : A.Answered} (e : r ≡ Specimen.answeredOf v) (told : r ≡ s) where
   pub answered-small : SmallAnswered n s
-  answered-small = subst (SmallAnswered n) told small
+  answered-small = subst (SmallAnswered n) (sym e ∙ told) (go wanted)
+    where
+      go : {v : Verdict (Option (List ℕ))} → Wanted n v → SmallAnswered n (Specimen.answeredOf v)
+      go (as-long l h) = h
+      go no-string = tt
+      go (refusal h) = h
 
-  pub answered-number : {z : ℤ} → z ≡ answerCode n s → toZ w32 (ofZ w32 z) ≡ answerCode n r
-  answered-number p = back (answerCode n r) (fits-answered n r small) (p ∙ ap (answerCode n) (sym told))
+  pub answered-code : answeredCode n s ≡ codeOf stringLength v
+  answered-code = told-code stringLength Specimen.answeredOf (answeredCode n) v (answered-same wanted) e told
+
+  pub answered-number : {z : ℤ} → z ≡ answeredCode n s → toZ w32 (ofZ w32 z) ≡ codeOf stringLength v
+  answered-number p = told-number stringLength Specimen.answeredOf (answeredCode n) v (answered-same wanted) (go wanted) e told p
+    where
+      go : {v : Verdict (Option (List ℕ))} → Wanted n v → Small stringLength v
+      go (as-long {s} l h) = small-size {a = some s} (omega arith)
+      go no-string = small-size {a = none} (omega arith)
+      go (refusal h) = small-refusal h

@@ -2,15 +2,17 @@
 use mathlib.Core.Path.{_≡_, refl, sym, ap, _∙_}
 use mathlib.Core.Logic.{_⊎_, inl, inr, _↔_, Iff·trans}
 use mathlib.Core.List.{List, _++_}
+use mathlib.Core.Option.{Option}
 use Prim.Native.Nat.{ℕ, zero, suc, _≤_}
 use native.Mathlib.Omega.{arith}
 use borrow.Author.Tests.{le-ltb}
 use lib.IntN.{ℤ, pos, negℤ}
 use lib.ListN.{length, take, drop}
 use Rattle.packing.specs.Meaning.{Grammar, Reading}
-use Rattle.packing.specs.Parse.{Verdict, accepted, refused}
+use Rattle.packing.specs.Parse.{Verdict, accepted, refused, _then_}
 use Rattle.packing.specs.Conversion.{grammarToBlock, grammarToSheet, utteranceToBlock, utteranceToSheet, fitting, written, TurnsBack}
 use Rattle.packing.proofs.Parse.{refused≢accepted, accepted-is}
+use Rattle.packing.proofs.Whole.{grammar-block-out}
 use Rattle.packing.proofs.Refusals.{Refuses, granted, denied, Low, grammar-to-block-row, grammar-to-sheet-row, utterance-to-block-row, utterance-to-sheet-row}
 use Rattle.sheet_writer.specs.Answer.{writtenOf}
 use Rattle.packing.specs.declared.Written as W
@@ -20,10 +22,13 @@ use Rattle.checker.proofs.Refused.{check-row, refused-34, refused-35, refused-3
 use Rattle.listing.specs.Listing.{list, outputAfter, workAfter}
 use Rattle.listing.proofs.Demand3.{demand-3}
 use Rattle.listing.proofs.Refused.{list-row}
-use Rattle.specimen.specs.Specimen.{asked, Answers, StringWritten, NoString}
-use Rattle.specimen.specs.declared.Answered as A
-use Rattle.specimen.proofs.Asked.{asked-row}
-use Rattle.spireyerba.specs.Code.{codeOf, answerCode, AnswersCode}
+use Rattle.phrases.specs.Phrases.{Phrase, Least}
+use Rattle.phrases.specs.Enumeration.{firstPhrase}
+use Rattle.phrases.proofs.Least.{LeastOrNone, nothing, first as least}
+use Rattle.phrases.proofs.Theorems.{firstPhrase-least}
+use Rattle.specimen.specs.Specimen.{asked, specimen, outputOf}
+use Rattle.specimen.proofs.Asked.{asked-out, asked-row}
+use Rattle.spireyerba.specs.Code.{codeOf, stringLength}
 use Rattle.spireyerba.specs.Demands as D
 use Rattle.spireyerba.specs.Demands.{Demand1, answers, refuses, Converts, RoundTrip, Demand2}
 use Rattle.spireyerba.proofs.Small.{low-grammar-to-block, low-grammar-to-sheet, low-utterance-to-block, low-utterance-to-sheet, low-check}
@@ -128,21 +133,25 @@ module _ (grammar utterance reading : List ℕ) where
 
 -- the specimen
 module _ (grammar : List ℕ) (n : ℕ) (out : List ℕ) where
-  specifies : {code : ℤ} {out′ : List ℕ} → AnswersCode (asked grammar n (length out)) n out code out′ → D.Specimen grammar n out code out′
-  specifies {code} {out′} (a, e, h) = record { demand-1 = go (asked-row grammar n (length out)) a e h }
-    where
-      go : {Row : ℕ → Type 0} {v : Verdict Grammar} → Refuses Row v → (a : A.Answered) → code ≡ answerCode n a → Answers v n out a out′
-          → Demand1 v (λ g m. ((m ≡ n) × StringWritten g n out out′) ⊎ ((m ≡ 0) × NoString g n out out′)) Row (out′ ≡ out) code
-      go granted A.the-variants.Written e h = rw e (answers refl (inl (refl, h)))
-      go granted A.the-variants.Nothing e h = rw e (answers refl (inr (refl, h)))
-      go granted (A.the-variants.Refused k) e h = absurd h
-      go (denied r) A.the-variants.Written e h = absurd h
-      go (denied r) A.the-variants.Nothing e h = absurd h
-      go (denied r) (A.the-variants.Refused k) e (same, unchanged) = rw (e, same) (refuses refl r unchanged)
+  abbrev Answer : List ℕ → Grammar → ℕ → Type 0
+  Answer out′ g m = ((s : List ℕ) × Least (Phrase g n) s × (m ≡ n) × (out′ ≡ s ++ drop n out)) ⊎ (((s : List ℕ) → ¬ Phrase g n s) × (m ≡ 0) × (out′ ≡ out))
 
-  pub with-demands : {code : ℤ} {out′ : List ℕ} → AnswersCode (asked grammar n (length out)) n out code out′
-      → AnswersCode (asked grammar n (length out)) n out code out′ × D.Specimen grammar n out code out′
-  with-demands h = (h, specifies h)
+  pub specifies : {code : ℤ} {out′ : List ℕ} → code ≡ codeOf stringLength (specimen grammar n (length out)) → out′ ≡ outputOf (specimen grammar n (length out)) out
+      → D.Specimen grammar n out code out′
+  unfolding specimen
+  specifies {code} {out′} e w = record { demand-1 = go refl (asked-row grammar n (length out)) e w }
+    where
+      answer : {g : Grammar} {o : Option (List ℕ)} → LeastOrNone (Phrase g n) o → out′ ≡ outputOf (accepted o) out → Answer out′ g (stringLength o)
+      answer (nothing never) w = inr (never, refl, w)
+      answer (least {s} (p, l)) w = inl (s, (p, l), p .0, rw (p .0) at w)
+
+      go : {Row : ℕ → Type 0} {v : Verdict Grammar} → asked grammar n (length out) ≡ v → Refuses Row v
+          → code ≡ codeOf stringLength (v then λ g. accepted (firstPhrase g n)) → out′ ≡ outputOf (v then λ g. accepted (firstPhrase g n)) out
+          → Demand1 v (Answer out′) Row (out′ ≡ out) code
+      go q (granted {a = g}) e w =
+          let valid = grammar-block-out grammar g (asked-out grammar n (length out) g q .0) .0 in
+          rw e (answers {a = g} refl (answer {g = g} (firstPhrase-least g n valid) w))
+      go q (denied r) e w = rw e (refuses refl r w)
 
 -- two calls: what the first wrote turns back, and there is room for it
 round-trip : (turn back : List ℕ → Verdict (List ℕ)) (Row Row′ : ℕ → Type 0) → RoundTrip (Converts turn back Row) (Converts back turn Row′)

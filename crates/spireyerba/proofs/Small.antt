@@ -3,6 +3,7 @@ use mathlib.Core.Bool.{Bool, true, false}
 use mathlib.Core.Logic.{⊎-elim}
 use mathlib.Core.Path.{_≡_, refl, ap}
 use mathlib.Core.List.{List}
+use mathlib.Core.Option.{Option}
 use Prim.Native.Nat.{ℕ, _≤_}
 use native.Mathlib.Omega.{arith}
 use borrow.Author.Tests.{ltb-false}
@@ -26,10 +27,13 @@ use Rattle.checker.proofs.Refused.{check-row}
 use Rattle.listing.specs.Listing.{list, listed, listedOf}
 use Rattle.listing.proofs.Accepted.{found-few}
 use Rattle.listing.proofs.Refused.{list-row}
-use Rattle.specimen.specs.declared.Answered as A
-use Rattle.specimen.specs.Specimen.{asked, Answers}
-use Rattle.specimen.proofs.Asked.{asked-row}
-use Rattle.spireyerba.proofs.Codes.{Small, small-size, small-refusal, SmallAnswered}
+use Rattle.phrases.specs.Phrases.{Phrase}
+use Rattle.phrases.specs.Enumeration.{firstPhrase}
+use Rattle.phrases.proofs.Least.{LeastOrNone, nothing, first}
+use Rattle.phrases.proofs.Theorems.{firstPhrase-least}
+use Rattle.specimen.specs.Specimen.{asked, specimen}
+use Rattle.specimen.proofs.Asked.{asked-out, asked-row}
+use Rattle.spireyerba.proofs.Codes.{Small, small-size, small-refusal, Wanted, as-long, no-string, refusal}
 
 -- a result of at most 1,283
 data Short : Verdict (List ℕ) → Type 0 where
@@ -116,27 +120,19 @@ small-utterance-sheet s t out =
     small (fitting-short out (then-short (grammarBlock s) _ (λ g e. then-short (utteranceBlock (g .words) t) _ (λ u f.
     short (slots-short (g .words) u (utterance-block-out (g .words) t u f .0)))))) (low-utterance-to-sheet s t out)
 
--- the specimen: an accepted length is at most 24
-asked-most : (s : List ℕ) (n out : ℕ) (g : Grammar) → asked s n out ≡ accepted g → n ≤ 24
-unfolding asked
-asked-most s n out g e = go (grammarBlock s) (ltb n 1) (ltb 24 n) (ltb out n) refl e
-  where
-    go : (v : Verdict Grammar) (a b c : Bool) → ltb 24 n ≡ b
-        → (v then λ h. pick a (refused 25) (pick b (refused 25) (pick c (refused 26) (accepted h)))) ≡ accepted g → n ≤ 24
-    go (refused m) a b c p q = let z : _≡_ {A = ℕ} 0 1 = cc in absurd (omega arith)
-    go (accepted h) true b c p q = let z : _≡_ {A = ℕ} 0 1 = cc in absurd (omega arith)
-    go (accepted h) false true c p q = let z : _≡_ {A = ℕ} 0 1 = cc in absurd (omega arith)
-    go (accepted h) false false c p q = ltb-false _ _ p
+-- the specimen: an accepted length is at most 24, and the string has it
+first-long : {g : Grammar} {n : ℕ} {o : Option (List ℕ)} → LeastOrNone (Phrase g n) o → n ≤ 24 → Wanted n (accepted o)
+first-long (nothing never) h = no-string
+first-long (first (p, l)) h = as-long (p .0) (omega arith)
 
-pub asked-small : (s : List ℕ) (n size : ℕ) (out exit : List ℕ) (a : A.Answered) → Answers (asked s n size) n out a exit → SmallAnswered n a
-asked-small s n size out exit a = go (asked s n size) refl (low-asked s n size) a
+pub specimen-wanted : (s : List ℕ) (n out : ℕ) → Wanted n (specimen s n out)
+unfolding specimen
+specimen-wanted s n out = go refl (low-asked s n out)
   where
-    go : (v : Verdict Grammar) → asked s n size ≡ v → Refuses Low v → (a : A.Answered) → Answers v n out a exit → SmallAnswered n a
-    go (accepted g) e l A.the-variants.Written b = omega (arith, asked-most s n size g e)
-    go v e l A.the-variants.Nothing b = tt
-    go (accepted g) e l (A.the-variants.Refused m) b = absurd b
-    go (refused k) e l A.the-variants.Written b = absurd b
-    go (refused k) e (denied l) (A.the-variants.Refused m) b = omega (arith, b .0)
+    go : {v : Verdict Grammar} → asked s n out ≡ v → Refuses Low v → Wanted n (v then λ g. accepted (firstPhrase g n))
+    go e (granted {a = g}) =
+        let (p, most) = asked-out s n out g e in first-long {g = g} (firstPhrase-least g n (grammar-block-out s g p .0)) most
+    go e (denied {n = m} l) = refusal {m = m} (omega arith)
 
 -- the check
 checked-low : {v : Verdict Reading} → Refuses Low v → Small (λ d. 0) v

@@ -1,14 +1,12 @@
 -- The answers of the services as C numbers: 0 or more is the answer, less than 0 is minus the refusal's number.
 -- Assumes nothing.
-use mathlib.Core.Path.{_≡_}
 use mathlib.Core.List.{List}
+use mathlib.Core.Option.{Option, none, some}
 use Prim.Native.Nat.{ℕ}
 use lib.IntN.{ℤ, pos, negℤ}
 use lib.ListN.{length}
-use Rattle.packing.specs.Meaning.{Grammar, Reading}
+use Rattle.packing.specs.Meaning.{Reading}
 use Rattle.packing.specs.Parse.{Verdict, accepted, refused}
-use Rattle.specimen.specs.declared.Answered as A
-use Rattle.specimen.specs.Specimen.{Answers}
 
 -- of a verdict, whose answer is told by its size
 abbrev pub codeOf : {A : Type 0} → (A → ℕ) → Verdict A → ℤ
@@ -27,12 +25,10 @@ checkCode v = codeOf (λ d. 0) v
 abbrev pub listCode : Verdict (List (List ℕ)) → ℤ
 listCode v = codeOf length v
 
--- the specimen: the length where a string was written, 0 for none
-abbrev pub answerCode : ℕ → A.Answered → ℤ
-answerCode n A.the-variants.Written = pos n
-answerCode n A.the-variants.Nothing = pos 0
-answerCode n (A.the-variants.Refused m) = negℤ (pos m)
+-- the specimen: the length of the string that was written, 0 for none
+abbrev pub stringLength : Option (List ℕ) → ℕ
+stringLength none = 0
+stringLength (some s) = length s
 
--- the answer's code, with what holds of that answer and of the output
-abbrev pub AnswersCode : Verdict Grammar → ℕ → List ℕ → ℤ → List ℕ → Type 0
-AnswersCode v n out code exit = (a : A.Answered) × (code ≡ answerCode n a) × Answers v n out a exit
+abbrev pub specimenCode : Verdict (Option (List ℕ)) → ℤ
+specimenCode v = codeOf stringLength v

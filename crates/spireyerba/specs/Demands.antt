@@ -14,7 +14,8 @@ use Rattle.packing.specs.Rows.{_∪_, GrammarBlockRow, UtteranceBlockRow, Listi
 use Rattle.checker.specs.Check.{check, OfDerivation, NoWalk, OtherWeight, Surplus}
 use Rattle.listing.specs.Listing.{list, joined}
 use Rattle.listing.specs.Demand3.{Demand3}
-use Rattle.specimen.specs.Specimen.{asked, StringWritten, NoString}
+use Rattle.phrases.specs.Phrases.{Phrase, Least}
+use Rattle.specimen.specs.Specimen.{asked}
 
 -- Demand 1: "Whatever arrives, every service returns its stated answer or one refusal by number, and a refusal changes nothing lent."
 -- What is due for what arrived is a definition's, an answer or a refusal. The code of an answer is 0 or more, and `Answer` says what
@@ -62,10 +63,12 @@ pub record Check (grammar utterance reading : List ℕ) (code : ℤ) : Type 0 wh
   pub other-weight : (code ≡ negℤ (pos 35)) ↔ OtherWeight grammar utterance reading
   pub surplus : (code ≡ negℤ (pos 36)) ↔ Surplus grammar utterance reading
 
--- The specimen answers the length n where a string was written, and 0 for "none".
+-- The specimen writes "the string that is least when compared word number by word number from the left" (document 02, N7) and answers its
+-- length n, and 0 for "none".
 pub record Specimen (grammar : List ℕ) (n : ℕ) (out : List ℕ) (code : ℤ) (out′ : List ℕ) : Type 0 where
   pub demand-1 : Demand1 (asked grammar n (length out))
-      (λ g m. ((m ≡ n) × StringWritten g n out out′) ⊎ ((m ≡ 0) × NoString g n out out′)) (GrammarBlockRow ∪ SpecimenRow) (out′ ≡ out) code
+      (λ g m. ((s : List ℕ) × Least (Phrase g n) s × (m ≡ n) × (out′ ≡ s ++ drop n out)) ⊎ (((s : List ℕ) → ¬ Phrase g n s) × (m ≡ 0) × (out′ ≡ out)))
+      (GrammarBlockRow ∪ SpecimenRow) (out′ ≡ out) code
 
 -- Demand 2 of two calls: the first answers n; the second, given the n numbers that the first wrote and room for what the first was
 -- given, gives that back.

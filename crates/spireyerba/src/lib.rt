@@ -11,8 +11,8 @@ ghost use lib.ListN.{length};
 ghost use Rattle.packing.specs.Conversion.{grammarToBlock, grammarToSheet, utteranceToBlock, utteranceToSheet, fitting, written};
 ghost use Rattle.checker.specs.Check.{check};
 ghost use Rattle.listing.specs.Listing.{list, outputAfter, workAfter};
-ghost use Rattle.specimen.specs.Specimen.{asked};
-ghost use Rattle.spireyerba.specs.Code.{checkCode, listCode, lengthCode, AnswersCode};
+ghost use Rattle.specimen.specs.Specimen.{specimen, outputOf};
+ghost use Rattle.spireyerba.specs.Code.{checkCode, listCode, lengthCode, specimenCode};
 ghost use Rattle.spireyerba.specs.Demands as demands;
 ghost use Rattle.spireyerba.specs.Model.{writtenCode, SmallWritten};
 
@@ -125,10 +125,11 @@ pub extern "C" fn spireyerba_check(grammar: &[u8], utterance: &[u8], reading: &[
     }
 }
 
-// Some word string of the wanted length that the grammar derives: the length, or 0 where there is none.
+// The least word string of the wanted length that the grammar derives: the length, or 0 where there is none.
 #[no_mangle]
 pub extern "C" fn spireyerba_specimen(grammar: &[u8], wanted: u32, out: &mut [u8]) -> i32
-    ensures { λ r. ⌜ AnswersCode (asked (now (grammar .entry)) wanted (length (now (out .entry)))) wanted (now (out .entry)) r (now (out .exit)) ⌝ }
+    ensures { λ r. ⌜ r ≡ specimenCode (specimen (now (grammar .entry)) wanted (length (now (out .entry)))) ⌝ }
+    ensures { λ r. ⌜ now (out .exit) ≡ outputOf (specimen (now (grammar .entry)) wanted (length (now (out .entry)))) (now (out .entry)) ⌝ }
     ensures { λ r. ⌜ demands.Specimen (now (grammar .entry)) wanted (now (out .entry)) r (now (out .exit)) ⌝ }
 {
     let answer = specimen::specimen(grammar, wanted, out);

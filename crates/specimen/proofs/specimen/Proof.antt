@@ -4,7 +4,7 @@ use Rattle.packing.specs.Grammar.{grammarBlock}
 use Rattle.packing.proofs.Whole.{grammar-block-out}
 use Rattle.grammar_reader.specs.Answer.{InBounds}
 use Rattle.grammar_reader.proofs.Outcome.{accepted-told, refused-told}
-use Rattle.specimen.proofs.Asked.{asked-block, asked-none, asked-many, asked-short, asked-well, answers-refused}
+use Rattle.specimen.proofs.Asked.{asked-block, asked-none, asked-many, asked-short, asked-well, specimen-refused, specimen-accepted}
 use borrow.Author.Needs.{needs}
 use Rattle.specimen.proofs.specimen.Statement.{statement}
 use Rattle.specimen.proofs.specimen.Tie as tie
@@ -27,7 +27,7 @@ returns c =
     let at-block = at-read .before .before .before in
     let block = at-block .before .before .before .before .args .grammar .now in
     let (g, e, z) = accepted-told (grammarBlock block) (at-block .read-block .ensures .0) (at-read .read2 .given .1) in
-    answers-refused _ _ (asked-none _ _ _ e (c .if1 .taken))
+    specimen-refused _ _ _ _ (asked-none _ _ _ e (c .if1 .taken))
 
 returns-2 : tie.Need-returns-2
 returns-2 c =
@@ -35,7 +35,7 @@ returns-2 c =
     let at-block = at-read .before .before .before in
     let block = at-block .before .before .before .before .args .grammar .now in
     let (g, e, z) = accepted-told (grammarBlock block) (at-block .read-block .ensures .0) (at-read .read2 .given .1) in
-    answers-refused _ _ (asked-many _ _ _ e (c .before .if1 .left) (c .if2 .taken))
+    specimen-refused _ _ _ _ (asked-many _ _ _ e (c .before .if1 .left) (c .if2 .taken))
 
 returns-3 : tie.Need-returns-3
 returns-3 c =
@@ -43,7 +43,7 @@ returns-3 c =
     let at-block = at-read .before .before .before in
     let block = at-block .before .before .before .before .args .grammar .now in
     let (g, e, z) = accepted-told (grammarBlock block) (at-block .read-block .ensures .0) (at-read .read2 .given .1) in
-    answers-refused _ _ (asked-short _ _ _ e (c .before .before .if1 .left) (c .before .if2 .left) (c .if3 .taken))
+    specimen-refused _ _ _ _ (asked-short _ _ _ e (c .before .before .if1 .left) (c .before .if2 .left) (c .if3 .taken))
 
 slice-aggregate-answer : tie.Need-slice-aggregate-answer
 slice-aggregate-answer c = search needs
@@ -60,7 +60,7 @@ returns-4 c =
     let at-read = c .before in
     let at-block = at-read .before .before .before in
     let block = at-block .before .before .before .before .args .grammar .now in
-    answers-refused _ _ (asked-block _ _ _ (refused-told (grammarBlock block) (at-block .read-block .ensures .0) (at-read .read .given .1)))
+    specimen-refused _ _ _ _ (asked-block _ _ _ (refused-told (grammarBlock block) (at-block .read-block .ensures .0) (at-read .read .given .1)))
 
 same-length : tie.Need-same-length
 same-length c = search needs
@@ -72,7 +72,7 @@ returns-5 c =
     let at-block = at-read .before .before .before in
     let block = at-block .before .before .before .before .args .grammar .now in
     let (g, e, z) = accepted-told (grammarBlock block) (at-block .read-block .ensures .0) (at-read .read2 .given .1) in
-    rw (asked-well _ _ _ e (at-if3 .before .before .if1 .left) (at-if3 .before .if2 .left) (at-if3 .if3 .left))
+    rw (specimen-accepted _ _ _ (asked-well _ _ _ e (at-if3 .before .before .if1 .left) (at-if3 .before .if2 .left) (at-if3 .if3 .left)))
     (c .before .before .answer .ensures g z (grammar-block-out _ g e .0) (rw e at (at-block .read-block .ensures .1)))
 
 pub specimen-spec : {M : Type 1} → statement M

@@ -1,10 +1,8 @@
 -- Each arm is the definition's code of that answer; so the demands are met. Assumes nothing.
-use mathlib.Core.Path.{sym, ap}
 use borrow.Author.Needs.{needs}
-use Rattle.spireyerba.specs.Code.{answerCode}
-use Rattle.spireyerba.proofs.Small.{asked-small}
-use Rattle.spireyerba.proofs.Codes.{answered-small, answered-number}
-use Rattle.spireyerba.proofs.Demands.{with-demands}
+use Rattle.spireyerba.proofs.Small.{specimen-wanted}
+use Rattle.spireyerba.proofs.Codes.{answered-small, answered-code, answered-number}
+use Rattle.spireyerba.proofs.Demands.{specifies}
 use Rattle.spireyerba.proofs.spireyerba_specimen.Statement.{statement}
 use Rattle.spireyerba.proofs.spireyerba_specimen.Tie as tie
 
@@ -15,7 +13,7 @@ enum-told : tie.Need-enum-told
 enum-told c = search needs
 
 count-requires : tie.Need-count-requires
-count-requires c κs = answered-small _ (asked-small _ _ _ _ _ _ (c .before .before .before .before .specimen .ensures)) (c .enum-told .given .1)
+count-requires c κs = answered-small (specimen-wanted _ _ _) (c .before .before .before .before .specimen .ensures .0) (c .enum-told .given .1)
 
 enum-told-2 : tie.Need-enum-told-2
 enum-told-2 c = search needs
@@ -24,31 +22,34 @@ enum-known-answer : tie.Need-enum-known-answer
 enum-known-answer c = search needs
 
 refusal-requires : tie.Need-refusal-requires
-refusal-requires c κs = answered-small _ (asked-small _ _ _ _ _ _ (c .before .before .before .before .before .specimen .ensures)) (c .before .answer .given .1)
+refusal-requires c κs = answered-small (specimen-wanted _ _ _) (c .before .before .before .before .before .specimen .ensures .0) (c .before .answer .given .1)
 
 same-length : tie.Need-same-length
 same-length c = search needs
 
 returns : tie.Need-returns
 returns c =
-    let s = c .before .before .before .before .before .specimen in
-    with-demands _ _ _ (s .result, answered-number _ (asked-small _ _ _ _ _ _ (s .ensures)) (c .before .enum-told .given .1) (c .count .ensures), s .ensures)
+    let s = c .before .before .before .before .before .specimen .ensures in
+    let code = answered-number (specimen-wanted _ _ _) (s .0) (c .before .enum-told .given .1) (c .count .ensures) in
+    (code, (s .1, specifies _ _ _ code (s .1)))
 
 same-length-2 : tie.Need-same-length-2
 same-length-2 c = search needs
 
 returns-2 : tie.Need-returns-2
 returns-2 c =
-    let s = c .before .before .before .before .specimen in
-    with-demands _ _ _ (s .result, sym (ap (answerCode _) (c .enum-told2 .given .1)), s .ensures)
+    let s = c .before .before .before .before .specimen .ensures in
+    let code = answered-code (specimen-wanted _ _ _) (s .0) (c .enum-told2 .given .1) in
+    (code, (s .1, specifies _ _ _ code (s .1)))
 
 same-length-3 : tie.Need-same-length-3
 same-length-3 c = search needs
 
 returns-3 : tie.Need-returns-3
 returns-3 c =
-    let s = c .before .before .before .before .before .before .specimen in
-    with-demands _ _ _ (s .result, answered-number _ (asked-small _ _ _ _ _ _ (s .ensures)) (c .before .before .answer .given .1) (c .refusal .ensures), s .ensures)
+    let s = c .before .before .before .before .before .before .specimen .ensures in
+    let code = answered-number (specimen-wanted _ _ _) (s .0) (c .before .before .answer .given .1) (c .refusal .ensures) in
+    (code, (s .1, specifies _ _ _ code (s .1)))
 
 pub spireyerba-specimen-spec : {M : Type 1} → statement M
 spireyerba-specimen-spec =

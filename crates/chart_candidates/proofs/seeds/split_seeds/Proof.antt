@@ -3,6 +3,9 @@ use borrow.Author.Needs.{needs}
 use Rattle.chart_candidates.proofs.seeds.split_seeds.Statement.{statement}
 use Rattle.chart_candidates.proofs.seeds.split_seeds.Tie as tie
 
+add-if1 : tie.Need-add-if1
+add-if1 c = search needs
+
 sub-last : tie.Need-sub-last
 sub-last c = search needs
 
@@ -32,8 +35,8 @@ split-seeds-within-requires c κs =
     let c₆ = c₅ .before in
     let c₇ = c₆ .before in
     let c₈ = c₇ .before in
-    let c₁₃ = c₈ .before .before .before .before .before in (
-      c₁₃ .pre,
+    let c₁₄ = c₈ .before .before .before .before .before .before in (
+      c₁₄ .pre,
       (
         search needs,
         rw (← c₈ .left-part .ensures, ← c₇ .cell-number .ensures .0, ← c₆ .entry-of .ensures .0) (search needs),
@@ -54,6 +57,7 @@ pub split-seeds-spec : {M : Type 1} → statement M
 split-seeds-spec =
     tie.close
     (tie.spec
+    add-if1
     sub-last
     left-part-requires
     cell-number-requires

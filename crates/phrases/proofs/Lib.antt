@@ -1,0 +1,9 @@
+pub mod Yields
+pub mod Order
+pub mod Least
+pub mod Enumeration
+pub mod Theorems
+pub mod Cell
+pub mod Keeping
+pub mod Filled
+pub mod Padded

@@ -1,0 +1,4 @@
+pub mod Phrases
+pub mod Enumeration
+pub mod Recursion
+pub mod Padded
