@@ -6,7 +6,7 @@
 //! of its rules' weights and its words' costs.
 //!
 //! This crate calls the library that the repository proves, `target/staticlib/libspireyerba.a`. Whatever is searched,
-//! weighed or checked, the library does it: here are its functions for Rust, values in place of numbers, and a text form.
+//! weighed or checked, the library does it: here are its functions for Rust, values in place of numbers, and texts.
 //! `rt staticlib spireyerba` builds the library, which has to stand there before this crate is linked.
 //!
 //! | module | has |
