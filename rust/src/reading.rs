@@ -1,8 +1,12 @@
 //! Readings as values.
 
-use crate::fields::Fields;
+use crate::fields::{Fields, Packer};
 use crate::limits::{nodes, width, EDGE_NUMBER_WIDTH, KIND_WIDTH, READING_SLOTS_WIDTH, READING_WEIGHT_WIDTH};
-use crate::{Body, Grammar};
+use crate::services::check;
+use crate::{Body, Grammar, Refusal, Utterance};
+
+/// The kind of a reading's block.
+const KIND: u32 = 3;
 
 /// A derivation written down.
 #[derive(Clone, Debug, PartialEq, Eq, Hash)]
@@ -21,6 +25,38 @@ impl Reading {
         let weight = fields.take(READING_WEIGHT_WIDTH);
         let walk = (0..nodes(slots)).map(|_| fields.take(width(rules as u32 - 1))).collect();
         Self { weight, walk }
+    }
+
+    /// Unpacks a block under a grammar and an utterance, given as their blocks, if it passes [`check`], or refuses it as
+    /// that does.
+    pub fn from_block(grammar: &[u8], utterance: &[u8], block: &[u8]) -> Result<Self, Refusal> {
+        check(grammar, utterance, block)?;
+        let slots = Utterance::from_block(grammar, utterance)?.slots.len();
+        Ok(Self::of_accepted(block, slots, Grammar::from_block(grammar)?.rules.len()))
+    }
+
+    /// Packs the reading under a grammar of so many rules, right or wrong: [`check`] says which.
+    /// Refuses only what no block has room for: with [`Refusal::ReadingSlots`] too many nodes, with
+    /// [`Refusal::ReadingWalk`] a rule number, with [`Refusal::ReadingWeight`] a weight.
+    ///
+    /// ```
+    /// let reading = spireyerba::Reading { weight: 3, walk: vec![0, 1, 0, 1, 0, 1, 1] };
+    /// assert_eq!(reading.to_block(2)?, [0x31, 0x00, 0x00, 0x00, 0xd5, 0x80]);
+    /// # Ok::<(), spireyerba::Refusal>(())
+    /// ```
+    pub fn to_block(&self, rules: usize) -> Result<Vec<u8>, Refusal> {
+        let slots = self.walk.len() as u32 / 2 + 1;
+        let rule_width = width(rules as u32 - 1);
+        let fits = |number, bits, refusal| if width(number) <= bits { Ok(()) } else { Err(refusal) };
+        fits(slots, READING_SLOTS_WIDTH, Refusal::ReadingSlots)?;
+        self.walk.iter().try_for_each(|&rule| fits(rule, rule_width, Refusal::ReadingWalk))?;
+        fits(self.weight, READING_WEIGHT_WIDTH, Refusal::ReadingWeight)?;
+        let mut packer = Packer::default();
+        packer.put(KIND_WIDTH, KIND);
+        packer.put(READING_SLOTS_WIDTH, slots);
+        packer.put(READING_WEIGHT_WIDTH, self.weight);
+        self.walk.iter().for_each(|&rule| packer.put(rule_width, rule));
+        Ok(packer.finish())
     }
 }
 

@@ -1,0 +1,8 @@
+//! The command `spireyerba`, run as a user runs it.
+
+mod answers;
+mod batch;
+mod common;
+mod readme;
+mod report;
+mod usage;
