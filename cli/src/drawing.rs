@@ -1,8 +1,9 @@
 //! Trees drawn with characters.
 
+use crate::heard::Taken;
 use crate::output::{Output, Style};
 use spireyerba::text::NamedGrammar;
-use spireyerba::{Parts, Tree, Utterance};
+use spireyerba::{Parts, Tree};
 
 /// What stands before a part, and before what is below it, if another part follows and if none does.
 const BRANCH: [&str; 2] = ["├─ ", "│  "];
@@ -12,7 +13,8 @@ const LAST_BRANCH: [&str; 2] = ["└─ ", "   "];
 /// cost.
 pub struct Drawing<'a> {
     pub grammar: &'a NamedGrammar,
-    pub utterance: &'a Utterance,
+    /// The words of the reading as they were heard.
+    pub taken: &'a [Taken],
     pub output: &'a Output,
 }
 
@@ -31,7 +33,7 @@ impl Drawing<'_> {
         match &tree.parts {
             Parts::Word { word, number } => {
                 let name = self.output.paint(Style::Strong, self.grammar.word(*word));
-                let cost = cost_text(self.utterance, *number, *word);
+                let cost = self.taken[*number].candidate.cost.to_string();
                 let cost = self.output.paint(Style::Faint, &cost);
                 *text += &format!("{before}{symbol} {weight}  {name} {cost}\n");
             }
@@ -44,10 +46,4 @@ impl Drawing<'_> {
             }
         }
     }
-}
-
-/// What a word costs in a slot, as it is written; nothing if the slot does not have it.
-pub fn cost_text(utterance: &Utterance, slot: usize, word: u32) -> String {
-    let candidates = utterance.slots.get(slot).into_iter().flatten();
-    candidates.filter(|candidate| candidate.word == word).map(|candidate| candidate.cost.to_string()).collect()
 }

@@ -5,11 +5,12 @@
 //! do blocks of utterances and readings.
 
 use crate::failure::Failure;
+use crate::heard::Heard;
 use crate::options::{Arguments, DROP_DELETES, DROP_UNKNOWN, FILE, SCALE};
 use crate::output::Output;
 use spireyerba::services::check;
-use spireyerba::text::{parse_reading, NamedGrammar, Places, UtteranceReader};
-use spireyerba::{Error, Grammar, Reading, Refusal, Utterance};
+use spireyerba::text::{is_graph, parse_graph_reading, parse_reading, NamedGrammar, Places, UtteranceReader};
+use spireyerba::{Error, Grammar, GraphReading, Reading, Refusal};
 use std::io::Read;
 
 /// The operand that means standard input, and its name in messages.
@@ -119,25 +120,49 @@ pub fn scale(arguments: &Arguments) -> Result<Option<f64>, Failure> {
     }
 }
 
-/// Reads an utterance over the words of a grammar.
-pub fn utterance(arguments: &Arguments, grammar: &GrammarFile, operand: &str) -> Result<Utterance, Failure> {
+/// Reads an utterance or a word graph over the words of a grammar.
+pub fn heard(arguments: &Arguments, grammar: &GrammarFile, operand: &str) -> Result<Heard, Failure> {
     let reader = utterance_reader(arguments, &grammar.named)?;
     let file = File::read(operand)?;
-    let accepted = Utterance::from_block(&grammar.block, &file.bytes);
-    file.block_or_text(accepted, |text| reader.read(text))
+    file.block_or_text(Heard::from_block(&grammar.block, &file.bytes), |text| {
+        if is_graph(text) {
+            reader.read_graph(text).map(Heard::Graph)
+        } else {
+            reader.read(text).map(Heard::Slots)
+        }
+    })
 }
 
-/// Reads a reading, and answers its block as well: that of the file, or the packed numbers of its text. What the library
-/// does not pass is refused.
-pub fn reading(grammar: &GrammarFile, utterance: &[u8], operand: &str) -> Result<(Reading, Vec<u8>), Failure> {
+/// A reading that the library passes, with the path that it has in a word graph, and its block.
+pub struct ReadingFile {
+    pub found: GraphReading,
+    pub block: Vec<u8>,
+}
+
+/// Reads a reading of what was heard, the block of the file or the packed numbers of its text. What the library does not
+/// pass is refused.
+pub fn reading(grammar: &GrammarFile, heard: &Heard, operand: &str) -> Result<ReadingFile, Failure> {
     let file = File::read(operand)?;
-    let rules = grammar.named.grammar.rules.len();
-    let accepted = Reading::from_block(&grammar.block, utterance, &file.bytes);
-    let reading = file.block_or_text(accepted, parse_reading)?;
     let in_file = |refusal: Refusal| Error::from(refusal).in_file(&file.name);
-    let block = reading.to_block(rules).map_err(in_file)?;
-    check(&grammar.block, utterance, &block).map_err(in_file)?;
-    Ok((reading, block))
+    let heard_block = heard.to_block(&grammar.block).map_err(Error::from)?;
+    let blocks = (&grammar.block, &heard_block);
+    let (found, block) = match heard {
+        Heard::Slots(_) => {
+            let accepted = Reading::from_block(blocks.0, blocks.1, &file.bytes);
+            let reading = file.block_or_text(accepted, parse_reading)?;
+            let block = reading.to_block(grammar.named.grammar.rules.len());
+            (GraphReading { reading, path: Vec::new() }, block)
+        }
+        Heard::Graph(_) => {
+            let accepted = GraphReading::from_block(blocks.0, blocks.1, &file.bytes);
+            let found = file.block_or_text(accepted, parse_graph_reading)?;
+            let block = found.to_block(&grammar.named.grammar);
+            (found, block)
+        }
+    };
+    let block = block.map_err(in_file)?;
+    check(blocks.0, blocks.1, &block).map_err(in_file)?;
+    Ok(ReadingFile { found, block })
 }
 
 /// Writes an answer to the file that the command line names, or to standard output.

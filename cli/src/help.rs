@@ -41,9 +41,16 @@ A confusion network as SRILM writes it, whose posteriors become costs by --scale
   align 0 door 0.96 four 0.54
   align 1 twenty 0.89 forty 0.82
 
+A word graph, where an utterance may stand: an edge a line, from place to place, as OpenFst and Kaldi print lattices.
+
+  0 1 door 4                                 # up to 96 edges, numbered as they stand
+  1 3 forty 24                               # up to 25 places
+  3                                          # the last place
+
 A reading: its weight, and the rule number of each node, a node before its left part and that before its right part.
 
-  72 0 2 12 3 13 15 8 17 11 20 21
+  72 0 2 12 3 13 15 8 17 11 20 21            # of slots
+  80 0 2 12 5 8 17 11 20 21 | 0 3 7 9 12     # of a word graph: a bar, and the numbers of its path's edges
 
 example: spireyerba unpack grammar.bin";
 

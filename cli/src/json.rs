@@ -66,9 +66,9 @@ impl<'a> Names<'a> {
         Self { grammar, words: grammar.words.iter().map(quoted).collect(), rules }
     }
 
-    /// Adds a list of readings, the first of which has rank 1.
-    pub fn push_readings(&self, json: &mut String, readings: &[Reading], with_trees: bool) {
-        push_list(json, (1..).zip(readings), |json, (rank, reading)| {
+    /// Adds a list of readings, the first of which has rank 1, with the edges of each if there are paths.
+    pub fn push_readings(&self, json: &mut String, readings: &[Reading], paths: &[Vec<u32>], with_trees: bool) {
+        push_list(json, (1..).zip(readings), |json, (rank, reading): (u32, &Reading)| {
             json.push_str("{\"rank\":");
             push_number(json, rank);
             json.push_str(",\"weight\":");
@@ -77,6 +77,10 @@ impl<'a> Names<'a> {
             push_list(json, self.grammar.words_of(reading), |json, word| json.push_str(&self.words[word as usize]));
             json.push_str(",\"rules\":");
             push_list(json, &reading.walk, |json, &rule| json.push_str(&self.rules[rule as usize]));
+            if let Some(path) = paths.get(rank as usize - 1) {
+                json.push_str(",\"edges\":");
+                push_list(json, path, |json, &edge| push_number(json, edge));
+            }
             if let Some(tree) = with_trees.then(|| Tree::from_walk(&self.grammar.grammar, &reading.walk)).flatten() {
                 json.push_str(",\"tree\":");
                 push_tree(json, self.grammar, &tree);

@@ -5,6 +5,7 @@
 //! | `commands` | what each subcommand does, a file each, and the table of them |
 //! | `options`, `help` | the command line and what is said about it |
 //! | `files` | texts and blocks, read and written |
+//! | `heard` | slots or a word graph, whichever it is |
 //! | `anchor` | words that are known for certain |
 //! | `drawing`, `page`, `json` | readings drawn in a terminal, on a page, and for programs |
 //! | `output`, `failure` | where answers and messages go |
@@ -14,6 +15,7 @@ mod commands;
 mod drawing;
 mod failure;
 mod files;
+mod heard;
 mod help;
 mod json;
 mod options;

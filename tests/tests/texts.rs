@@ -1,12 +1,14 @@
 //! The texts of the crate `spireyerba`, on random grammars, utterances and word graphs: what is written is read again, and
 //! packed to the same block.
 
-use spireyerba::text::{is_graph, parse_reading, reading_text, NamedGrammar, UtteranceReader};
-use spireyerba::Lister;
+use spireyerba::text::{graph_reading_text, is_graph, parse_graph_reading, parse_reading, reading_text};
+use spireyerba::text::{NamedGrammar, UtteranceReader};
+use spireyerba::{GraphReading, Lister};
 use spireyerba_tests::compare::over_seeds;
+use spireyerba_tests::graph_reading;
 use spireyerba_tests::seeded::grammars::{grammar, Size};
 use spireyerba_tests::seeded::graphs::graph;
-use spireyerba_tests::seeded::parsable::{case, AMBIGUOUS, SPARSE};
+use spireyerba_tests::seeded::parsable::{case, graph_case, AMBIGUOUS, SPARSE};
 use spireyerba_tests::seeded::rng::Rng;
 use spireyerba_tests::seeded::utterances::utterance;
 use std::collections::HashSet;
@@ -126,4 +128,23 @@ fn readings_and_a_lister_that_is_kept() {
             }
         }
     });
+}
+
+#[test]
+fn readings_of_graphs() {
+    let mut read = 0;
+    over_seeds(6_000..6_200, |rng| {
+        let shape = rng.pick(&[&AMBIGUOUS, &SPARSE]);
+        let (grammar, graph) = graph_case(rng, shape);
+        let block = grammar.to_block().expect("an accepted grammar");
+        let graph_block = graph.to_block(&block).expect("an accepted graph");
+        for found in grammar.list_graph(&graph, 30).expect("an accepted number") {
+            assert_eq!(parse_graph_reading(&graph_reading_text(&found)).as_ref(), Ok(&found));
+            let packed = found.to_block(&grammar).expect("a reading of the library's");
+            assert_eq!(packed, graph_reading::pack(&grammar, &found));
+            assert_eq!(GraphReading::from_block(&block, &graph_block, &packed), Ok(found));
+            read += 1;
+        }
+    });
+    assert!(read > 1_000, "{read} readings");
 }

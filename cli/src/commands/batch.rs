@@ -155,7 +155,7 @@ impl Batch<'_> {
         json.push_str("{\"line\":");
         json::push_number(json, before as u32 + 1);
         json.push_str(",\"readings\":");
-        self.names.push_readings(json, &readings, false);
+        self.names.push_readings(json, &readings, &[], false);
         json.push_str("}\n");
         Ok(())
     }

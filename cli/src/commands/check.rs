@@ -5,7 +5,6 @@ use crate::failure::Failure;
 use crate::files;
 use crate::options::{Arguments, DROP_DELETES, DROP_UNKNOWN, SCALE};
 use crate::output::Output;
-use spireyerba::Error;
 
 pub const COMMAND: Command = Command {
     name: "check",
@@ -15,15 +14,15 @@ pub const COMMAND: Command = Command {
     summary: "say whether a reading is that of a derivation, with its true weight",
     details: "\
 A reading's text is its weight and the rule number of each node: a node, its left part, its right part. `list
---rules` prints them behind the rank.",
+--rules` prints them behind the rank. For a word graph a bar and the numbers of the path's edges follow, which `list
+--json` has.",
     example: "echo 72 0 2 12 3 13 15 8 17 11 20 21 | spireyerba check grammar.txt utterance.txt -",
     run,
 };
 
 fn run(arguments: &Arguments, output: &mut Output) -> Result<(), Failure> {
     let grammar = files::grammar(arguments.operands[0])?;
-    let utterance = files::utterance(arguments, &grammar, arguments.operands[1])?;
-    let block = utterance.to_block(&grammar.block).map_err(Error::from)?;
-    let (reading, _) = files::reading(&grammar, &block, arguments.operands[2])?;
+    let heard = files::heard(arguments, &grammar, arguments.operands[1])?;
+    let reading = files::reading(&grammar, &heard, arguments.operands[2])?.found.reading;
     output.line(&format!("passes: {}  {}", reading.weight, grammar.named.sentence(&reading)))
 }

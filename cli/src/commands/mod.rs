@@ -5,6 +5,7 @@ mod check;
 mod lint;
 pub mod list;
 mod pack;
+mod phrases;
 mod pick;
 mod report;
 mod specimen;
@@ -45,6 +46,7 @@ pub const COMMANDS: &[Command] = &[
     batch::COMMAND,
     lint::COMMAND,
     specimen::COMMAND,
+    phrases::COMMAND,
     check::COMMAND,
     pack::COMMAND,
     unpack::COMMAND,

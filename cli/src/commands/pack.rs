@@ -24,12 +24,13 @@ fn run(arguments: &Arguments, output: &mut Output) -> Result<(), Failure> {
         return Err(arguments.wrong("a block is not for a terminal: give -o FILE, or a pipe"));
     }
     let grammar = files::grammar(arguments.operands[0])?;
-    let mut block = grammar.block.clone();
-    if let Some(operand) = arguments.operands.get(1) {
-        block = files::utterance(arguments, &grammar, operand)?.to_block(&grammar.block).map_err(Error::from)?;
-    }
-    if let Some(operand) = arguments.operands.get(2) {
-        block = files::reading(&grammar, &block, operand)?.1;
-    }
+    let block = match arguments.operands[1..] {
+        [] => grammar.block,
+        [heard] => files::heard(arguments, &grammar, heard)?.to_block(&grammar.block).map_err(Error::from)?,
+        [heard, reading, ..] => {
+            let heard = files::heard(arguments, &grammar, heard)?;
+            files::reading(&grammar, &heard, reading)?.block
+        }
+    };
     files::write(arguments, output, &block)
 }

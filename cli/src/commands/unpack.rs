@@ -3,10 +3,10 @@
 use super::Command;
 use crate::failure::Failure;
 use crate::files::{self, GrammarFile};
+use crate::heard::Heard;
 use crate::options::{Arguments, DROP_DELETES, DROP_UNKNOWN, FILE, NETWORK, SCALE};
 use crate::output::Output;
-use spireyerba::text::reading_text;
-use spireyerba::{Error, Utterance};
+use spireyerba::text::{graph_reading_text, reading_text};
 
 pub const COMMAND: Command = Command {
     name: "unpack",
@@ -25,20 +25,29 @@ fn run(arguments: &Arguments, output: &mut Output) -> Result<(), Failure> {
     let grammar = files::grammar(arguments.operands[0])?;
     let text = match arguments.operands[1..] {
         [] => grammar.named.to_text(),
-        [utterance] => utterance_text(arguments, &grammar, &files::utterance(arguments, &grammar, utterance)?)?,
-        [utterance, reading, ..] => {
-            let utterance = files::utterance(arguments, &grammar, utterance)?;
-            let block = utterance.to_block(&grammar.block).map_err(Error::from)?;
-            reading_text(&files::reading(&grammar, &block, reading)?.0)
+        [heard] => heard_text(arguments, &grammar, &files::heard(arguments, &grammar, heard)?)?,
+        [heard, reading, ..] => {
+            let heard = files::heard(arguments, &grammar, heard)?;
+            let found = files::reading(&grammar, &heard, reading)?.found;
+            match heard {
+                Heard::Slots(_) => reading_text(&found.reading),
+                Heard::Graph(_) => graph_reading_text(&found),
+            }
         }
     };
     files::write(arguments, output, text.as_bytes())
 }
 
-fn utterance_text(arguments: &Arguments, grammar: &GrammarFile, utterance: &Utterance) -> Result<String, Failure> {
-    if !arguments.has(&NETWORK) {
-        return Ok(grammar.named.utterance_text(utterance));
-    }
+fn heard_text(arguments: &Arguments, grammar: &GrammarFile, heard: &Heard) -> Result<String, Failure> {
+    let utterance = match heard {
+        Heard::Slots(utterance) if arguments.has(&NETWORK) => utterance,
+        Heard::Slots(utterance) => return Ok(grammar.named.utterance_text(utterance)),
+        Heard::Graph(_) if arguments.has(&NETWORK) => {
+            let why = "--network: a word graph is no confusion network";
+            return Err(Failure::Refused(format!("{}: {why}", arguments.operands[1])));
+        }
+        Heard::Graph(graph) => return Ok(grammar.named.graph_text(graph)),
+    };
     let scale = files::scale(arguments)?.ok_or_else(|| arguments.wrong("--network needs --scale X"))?;
     grammar.named.network_text(utterance, scale).ok_or_else(|| {
         let why = "a word has a blank, or a cost is too great beside --scale";

@@ -3,9 +3,11 @@
 use super::list::{line, Listed};
 use super::Command;
 use crate::failure::Failure;
+use crate::heard::Taken;
 use crate::options::{Arguments, DROP_DELETES, DROP_UNKNOWN, SAID, SCALE};
 use crate::output::{Output, Style};
 use spireyerba::{Candidate, Reading};
+use std::collections::BTreeSet;
 
 pub const COMMAND: Command = Command {
     name: "why",
@@ -44,12 +46,12 @@ fn run(arguments: &Arguments, output: &mut Output) -> Result<(), Failure> {
     }
     if difference == 0 {
         output.line(
-            "of equal weights the one with the lower rule number comes first, then the one whose left part has fewer",
+            "of equal weights the one with the lower rule number comes first, then the one whose left part ends",
         )?;
-        output.line("slots, then the one with the lesser left part, then the one with the lesser right part")?;
+        output.line("earlier, then the one with the lesser left part, then the one with the lesser right part")?;
     }
     output.line("")?;
-    let mut rows = words(&listed, first, other);
+    let mut rows = words(&listed, rank as usize);
     rows.extend(rules(&listed, first, other));
     print(&rows, rank, difference, output)
 }
@@ -59,22 +61,24 @@ fn too_few(listed: &Listed, rank: u32) -> Failure {
     Failure::Refused(format!("there is no reading {rank}: the utterance has {found} in all"))
 }
 
-/// The slots in which both have different words.
-fn words(listed: &Listed, first: &Reading, other: &Reading) -> Vec<Row> {
-    let named = &listed.grammar.named;
-    let pairs = named.words_of(first).zip(named.words_of(other));
-    let rows = pairs.zip(&listed.utterance.slots).enumerate().filter(|(_, ((first, other), _))| first != other);
-    let row = |(number, ((first, other), slot)): (usize, ((u32, u32), &Vec<Candidate>))| {
-        let taken = |word| slot.iter().copied().find(|candidate| candidate.word == word);
-        let (first, other) = (taken(first)?, taken(other)?);
-        Some(Row {
-            place: format!("slot {number}"),
-            first: named.candidate_text(first),
-            other: named.candidate_text(other),
-            difference: i64::from(other.cost) - i64::from(first.cost),
+/// The slots, or the places, between which both do not have the same word.
+fn words(listed: &Listed, rank: usize) -> Vec<Row> {
+    let both = [1, rank].map(|rank| listed.taken(rank));
+    let spans: BTreeSet<[u32; 2]> = both.iter().flatten().map(|taken| taken.span).collect();
+    let row = |span: [u32; 2]| {
+        let there = |list: &Vec<Taken>| list.iter().find(|taken| taken.span == span).map(|taken| taken.candidate);
+        let [first, other] = [there(&both[0]), there(&both[1])];
+        let text =
+            |candidate| Option::map_or(candidate, String::new(), |taken| listed.grammar.named.candidate_text(taken));
+        let cost = |candidate| Option::map_or(candidate, 0, |taken: Candidate| i64::from(taken.cost));
+        (first != other).then(|| Row {
+            place: listed.heard.place(span),
+            first: text(first),
+            other: text(other),
+            difference: cost(other) - cost(first),
         })
     };
-    rows.filter_map(row).collect()
+    spans.into_iter().filter_map(row).collect()
 }
 
 /// The rules that one of both uses more often.

@@ -3,8 +3,7 @@
 mod tree;
 
 use crate::commands::list::Listed;
-use spireyerba::text::NamedGrammar;
-use spireyerba::{Candidate, Reading};
+use crate::heard::{Heard, Taken};
 use std::fmt::Write;
 
 const STYLE: &str = include_str!("style.css");
@@ -69,43 +68,58 @@ fn header(listed: &Listed, source: &Source) -> String {
         format!("<p class=\"best\">{sentence} <span class=\"weight\">{}</span></p>\n", reading.weight)
     });
     format!(
-        "<header>\n<p class=\"source\">{} under {} ({})</p>\n{best}<p>An utterance of {}. {number}</p>\n</header>\n",
+        "<header>\n<p class=\"source\">{} under {} ({})</p>\n{best}<p>{}. {number}</p>\n</header>\n",
         escaped(source.utterance),
         escaped(source.grammar),
         counts.join(", "),
-        counted(listed.utterance.slots.len(), "slot"),
+        size(&listed.heard),
     )
+}
+
+/// What was heard in short.
+fn size(heard: &Heard) -> String {
+    match heard {
+        Heard::Slots(utterance) => format!("An utterance of {}", counted(utterance.slots.len(), "slot")),
+        Heard::Graph(graph) => {
+            let places = counted(graph.places as usize, "place");
+            format!("A word graph of {places} and {}", counted(graph.edges.len(), "edge"))
+        }
+    }
 }
 
 fn counted(count: usize, what: &str) -> String {
     format!("{count} {what}{}", if count == 1 { "" } else { "s" })
 }
 
-/// The slots, each with its words, the cheapest first.
+/// The slots, each with its words, the cheapest first; or what starts at each place of a word graph.
 fn heard(listed: &Listed) -> String {
-    let named = &listed.grammar.named;
-    let best: Vec<u32> = listed.readings.first().map_or(Vec::new(), |reading| named.words_of(reading).collect());
-    let heard = listed.utterance.slots.iter().flatten().filter(|candidate| candidate.is_offered());
+    let (best, mut groups) = (listed.taken(1), listed.heard.groups());
+    let heard = groups.iter().flatten().map(|taken| taken.candidate).filter(|candidate| candidate.is_offered());
     let greatest = heard.map(|candidate| candidate.cost).max().unwrap_or(0).max(1);
     let mut html = String::from("<section>\n<h2>What was heard</h2>\n<ol class=\"slots\" start=\"0\">\n");
-    for (number, slot) in listed.utterance.slots.iter().enumerate() {
-        let mut slot = slot.clone();
-        slot.sort_by_key(|candidate| candidate.cost);
-        let words = slot.iter().map(|candidate| word(named, *candidate, best.get(number).copied(), greatest));
-        let words: String = words.collect();
-        write!(html, "<li><h3>slot {number}</h3>\n{words}</li>\n").expect("a string takes all");
+    for group in &mut groups {
+        group.sort_by_key(|taken| taken.candidate.cost);
+        let words: String = group.iter().map(|taken| word(listed, taken, best.contains(taken), greatest)).collect();
+        let title = match listed.heard {
+            Heard::Slots(_) => listed.heard.place(group[0].span),
+            Heard::Graph(_) => format!("from place {}", group[0].span[0]),
+        };
+        write!(html, "<li><h3>{title}</h3>\n{words}</li>\n").expect("a string takes all");
     }
     html + "</ol>\n<p class=\"note\">A number is a cost: how badly the word fits what was heard. Marked: the words of the \
             first reading. Struck out: not heard.</p>\n</section>\n"
 }
 
-/// A word of a slot, with a bar as long as its cost is great.
-fn word(named: &NamedGrammar, candidate: Candidate, best: Option<u32>, greatest: u32) -> String {
-    let word = escaped(named.word(candidate.word));
-    if !candidate.is_offered() {
-        return format!("<div class=\"candidate unheard\">{word}</div>\n");
+/// A word that was heard, with a bar as long as its cost is great.
+fn word(listed: &Listed, Taken { span, candidate }: &Taken, is_best: bool, greatest: u32) -> String {
+    let mut word = escaped(listed.grammar.named.word(candidate.word));
+    if let Heard::Graph(_) = listed.heard {
+        word += &format!(" <small>to&nbsp;{}</small>", span[1]);
     }
-    let class = if best == Some(candidate.word) { "candidate taken" } else { "candidate" };
+    if !candidate.is_offered() {
+        return format!("<div class=\"candidate unheard\"><span>{word}</span></div>\n");
+    }
+    let class = if is_best { "candidate taken" } else { "candidate" };
     let percent = f64::from(candidate.cost) * 100.0 / f64::from(greatest);
     format!(
         "<div class=\"{class}\"><span>{word}</span><span class=\"number\">{}</span>\
@@ -124,7 +138,7 @@ fn overview(listed: &Listed) -> String {
     for (rank, reading) in (1..).zip(&listed.readings) {
         let more = reading.weight - first.weight;
         let more = if rank == 1 { String::new() } else { format!("+{more}") };
-        let words = marked_words(&listed.grammar.named, first, reading);
+        let words = marked_words(listed, rank);
         writeln!(
             html,
             "<tr><td class=\"number\"><a href=\"#reading-{rank}\">{rank}</a></td><td class=\"number\">{}</td>\
@@ -138,11 +152,11 @@ fn overview(listed: &Listed) -> String {
             have there.</p>\n</section>\n"
 }
 
-fn marked_words(named: &NamedGrammar, first: &Reading, reading: &Reading) -> String {
-    let usual: Vec<u32> = named.words_of(first).collect();
-    let words = named.words_of(reading).enumerate().map(|(slot, word)| {
-        let text = escaped(named.word(word));
-        if usual.get(slot) == Some(&word) {
+fn marked_words(listed: &Listed, rank: usize) -> String {
+    let usual = listed.taken(1);
+    let words = listed.taken(rank).into_iter().map(|taken| {
+        let text = escaped(listed.grammar.named.word(taken.candidate.word));
+        if usual.contains(&taken) {
             text
         } else {
             format!("<mark>{text}</mark>")
@@ -153,11 +167,13 @@ fn marked_words(named: &NamedGrammar, first: &Reading, reading: &Reading) -> Str
 
 /// Each reading as a drawn tree.
 fn trees(listed: &Listed) -> String {
-    let Some(first) = listed.readings.first() else { return String::new() };
-    let wide = if listed.utterance.slots.len() > NARROW_SLOTS { " class=\"wide\"" } else { "" };
+    if listed.readings.is_empty() {
+        return String::new();
+    }
+    let wide = if listed.heard.longest() > NARROW_SLOTS { " class=\"wide\"" } else { "" };
     let mut html = String::from("<section class=\"trees\">\n");
     for (rank, reading) in (1..).zip(&listed.readings) {
-        let svg = tree::svg(listed, first, reading);
+        let svg = tree::svg(listed, rank);
         let words = escaped(&listed.grammar.named.sentence(reading));
         write!(
             html,

@@ -2,9 +2,9 @@
 
 use super::escaped;
 use crate::commands::list::Listed;
-use crate::drawing::cost_text;
+use crate::heard::Taken;
 use spireyerba::text::NamedGrammar;
-use spireyerba::{Parts, Reading, Tree};
+use spireyerba::{Parts, Tree};
 use std::fmt::Write;
 
 /// Lengths in units of the drawing, of which a character is about `CHARACTER` wide.
@@ -30,14 +30,15 @@ struct Layout<'a> {
     columns: Vec<f64>,
     /// The words' baseline.
     baseline: f64,
-    /// The words of the first reading: others are marked.
-    usual: Vec<u32>,
+    /// The words as they were heard, and those of the first reading: others are marked.
+    taken: Vec<Taken>,
+    usual: Vec<Taken>,
     svg: String,
 }
 
 /// The drawing of a reading's tree, in which words that the first reading does not have there are marked.
-pub fn svg(listed: &Listed, first: &Reading, reading: &Reading) -> String {
-    let (named, tree) = (&listed.grammar.named, &listed.tree(reading));
+pub fn svg(listed: &Listed, rank: usize) -> String {
+    let (named, tree) = (&listed.grammar.named, &listed.tree(&listed.readings[rank - 1]));
     let mut widths = Vec::new();
     leaf_widths(named, tree, &mut widths);
     let mut columns = Vec::new();
@@ -48,8 +49,8 @@ pub fn svg(listed: &Listed, first: &Reading, reading: &Reading) -> String {
     }
     let baseline = MARGIN + LEVEL * tree.height() as f64;
     let (width, height) = (edge + MARGIN, baseline + FOOT);
-    let usual = named.words_of(first).collect();
-    let mut layout = Layout { listed, named, columns, baseline, usual, svg: String::new() };
+    let [usual, taken] = [1, rank].map(|rank| listed.taken(rank));
+    let mut layout = Layout { listed, named, columns, baseline, taken, usual, svg: String::new() };
     layout.node(tree, MARGIN);
     let label = escaped(&format!("tree of {}", named.symbol(named.grammar.rules[tree.rule as usize].head)));
     format!(
@@ -101,17 +102,17 @@ impl Layout<'_> {
     fn leaf(&mut self, word: u32, number: usize, baseline: f64) -> f64 {
         let (x, y) = (self.columns[number], self.baseline);
         self.line("leaf", [x, baseline + BELOW], [x, y - ABOVE]);
-        if self.usual.get(number) != Some(&word) {
+        let taken = self.taken[number];
+        if !self.usual.contains(&taken) {
             let width = self.named.word(word).chars().count() as f64 * CHARACTER + MARK_PADDING;
             let (left, top, height) = (x - width / 2.0, y - ABOVE, ABOVE + BELOW);
             self.put(format_args!(
                 "<rect x=\"{left:.1}\" y=\"{top:.1}\" width=\"{width:.1}\" height=\"{height:.1}\" rx=\"3\"/>"
             ));
         }
-        let (text, cost) = (escaped(self.named.word(word)), cost_text(&self.listed.utterance, number, word));
-        self.put(format_args!(
-            "<text class=\"word\" x=\"{x:.1}\" y=\"{y:.1}\"><title>slot {number}</title>{text}</text>"
-        ));
+        let (text, place) = (escaped(self.named.word(word)), self.listed.heard.place(taken.span));
+        let cost = taken.candidate.cost;
+        self.put(format_args!("<text class=\"word\" x=\"{x:.1}\" y=\"{y:.1}\"><title>{place}</title>{text}</text>"));
         self.put(format_args!("<text class=\"small\" x=\"{x:.1}\" y=\"{:.1}\">{cost}</text>", y + COST_LINE));
         x
     }

@@ -129,7 +129,7 @@ fn why_of_equal_weights() {
     let folder = folder("equal", &[("g", b"A -> A A [1] | \"x\""), ("u", b"x 0; x 0; x 0")]);
     let text = answered(run_in(&folder, "why g u 2"), "why");
     assert!(text.starts_with("reading 2 weighs 2, as much as the first\n"), "{text}");
-    assert!(text.contains("fewer\nslots") && text.ends_with("0\n"), "{text}");
+    assert!(text.contains("ends\nearlier") && text.ends_with("0\n"), "{text}");
 }
 
 #[test]
@@ -202,6 +202,24 @@ fn specimen_of_a_length() {
     assert_eq!(none.err, "none: the grammar derives no string of 2 words\n");
     assert_eq!((none.status, none.out.as_str()), (0, ""));
     assert_eq!(refused(run("specimen grammar.txt 25"), 1), "refused 25: the length wanted is not 1 to 24\n");
+}
+
+#[test]
+fn phrases_of_a_length() {
+    let phrases = answer("phrases grammar.txt 3");
+    assert!(
+        phrases.starts_with("door twenty oak\ndoor twenty glass\ndoor twenty steel\ndoor forty oak\n"),
+        "{phrases}"
+    );
+    assert_eq!(phrases.lines().count(), 12);
+    assert_eq!(answer("phrases grammar.bin 6").lines().count(), 816);
+    let none = run("phrases grammar.txt 2");
+    assert_eq!(none.err, "none: the grammar derives no string of 2 words\n");
+    assert_eq!((none.status, none.out.as_str()), (0, ""));
+    for length in [0, 7] {
+        let refusal = refused(run(&format!("phrases grammar.txt {length}")), 1);
+        assert_eq!(refusal, "refused 25: the length wanted is not 1 to 6\n");
+    }
 }
 
 #[test]

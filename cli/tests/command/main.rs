@@ -3,6 +3,7 @@
 mod answers;
 mod batch;
 mod common;
+mod graphs;
 mod readme;
 mod report;
 mod usage;

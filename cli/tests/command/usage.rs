@@ -6,7 +6,8 @@ use std::io::Write;
 use std::path::Path;
 use std::process::{Command, Stdio};
 
-const COMMANDS: [&str; 10] = ["list", "pick", "why", "report", "batch", "lint", "specimen", "check", "pack", "unpack"];
+const COMMANDS: [&str; 11] =
+    ["list", "pick", "why", "report", "batch", "lint", "specimen", "phrases", "check", "pack", "unpack"];
 
 #[test]
 fn help_at_every_level() {
@@ -78,6 +79,7 @@ fn wrong_usage() {
         ("why grammar.txt utterance.txt 1", "spireyerba why", "K is 2 or more: the first reading is laid beside it"),
         ("pick grammar.txt -", "spireyerba pick", "the answers come from standard input, so no file can"),
         ("specimen grammar.txt x", "spireyerba specimen", "LENGTH: `x` is no number"),
+        ("phrases grammar.txt x", "spireyerba phrases", "LENGTH: `x` is no number"),
         ("unpack grammar.txt utterance.txt --network", "spireyerba unpack", "--network needs --scale X"),
         ("batch grammar.txt utterances.txt -j x", "spireyerba batch", "--jobs: `x` is no number"),
     ] {

@@ -57,6 +57,7 @@
 //! # Readings
 //!
 //! A weight and the rule number of each node, as the lister prints them behind the rank: `72 0 2 12 3 13 15 8 17 11 20 21`.
+//! That of a word graph has a bar behind them and the numbers of its edges: `80 0 2 12 5 8 17 11 20 21 | 0 3 7 9 12`.
 //!
 //! # Example
 //!
@@ -88,7 +89,7 @@ pub use fault::Fault;
 pub use grammar::Places;
 pub use graph::is_graph;
 pub use names::NamedGrammar;
-pub use reading::{parse_reading, parse_sheet, print_list, reading_text};
+pub use reading::{graph_reading_text, parse_graph_reading, parse_reading, parse_sheet, print_list, reading_text};
 pub use utterance::UtteranceReader;
 
 /// The mark that some editors write before a text.
