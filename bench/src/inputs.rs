@@ -14,9 +14,10 @@ pub struct Input {
     pub heard: Heard,
 }
 
-const WEIGHT: u32 = 1_000;
+/// The greatest weight and cost.
+pub const WEIGHT: u32 = 1_000;
 /// The words of each slot, and as many as let 24 slots be redrawn as a graph.
-const CANDIDATES: usize = 7;
+pub const CANDIDATES: usize = 7;
 const CANDIDATES_REDRAWN: usize = 4;
 
 /// 32 symbols and 256 rules.
@@ -152,7 +153,7 @@ fn graph(rng: &mut Rng, grammar: &Grammar, longest: u32) -> Graph {
 }
 
 /// Each slot offers so many words that some rule has.
-fn utterance(rng: &mut Rng, grammar: &Grammar, slots: usize, candidates: usize, cost: u32) -> Utterance {
+pub fn utterance(rng: &mut Rng, grammar: &Grammar, slots: usize, candidates: usize, cost: u32) -> Utterance {
     let mut known = known_words(grammar);
     let slot = |_| {
         rng.shuffle(&mut known);

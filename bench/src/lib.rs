@@ -1,5 +1,6 @@
 //! The library's times beside those of Rust on the same inputs.
 
+pub mod batch;
 pub mod conversions;
 pub mod free;
 pub mod inputs;

@@ -1,6 +1,6 @@
 //! Prints Markdown tables of times in microseconds, medians of alternating calls in one process, and of their ratios.
 
-use spireyerba_bench::{conversions, listing, next_phrase, specimen};
+use spireyerba_bench::{batch, conversions, listing, next_phrase, specimen};
 
 fn main() {
     listing::print_beside_free();
@@ -12,6 +12,8 @@ fn main() {
     specimen::print_table();
     println!();
     next_phrase::print_table();
+    println!();
+    batch::print_table();
     println!();
     listing::print_beside_second();
 }

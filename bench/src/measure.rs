@@ -14,11 +14,11 @@ pub fn medians<const COUNT: usize>(plan: Plan, mut functions: [&mut dyn FnMut();
     let mut samples = [(); COUNT].map(|()| Vec::with_capacity(plan.rounds));
     for _ in 0..plan.rounds {
         for (function, samples) in functions.iter_mut().zip(&mut samples) {
-            let begin = processor_time();
+            let begin = thread_time();
             for _ in 0..plan.calls {
                 function();
             }
-            samples.push((processor_time() - begin) / plan.calls);
+            samples.push((thread_time() - begin) / plan.calls);
         }
     }
     samples.map(|mut samples| {
@@ -29,7 +29,7 @@ pub fn medians<const COUNT: usize>(plan: Plan, mut functions: [&mut dyn FnMut();
 
 /// The time that this thread has had a processor so far: what else runs on the machine does not count.
 #[expect(unsafe_code, reason = "std has no clock of a thread's own time")]
-fn processor_time() -> Duration {
+pub fn thread_time() -> Duration {
     #[repr(C)]
     struct Timespec {
         seconds: i64,
@@ -45,6 +45,34 @@ fn processor_time() -> Duration {
     let answer = unsafe { clock_gettime(THREAD, &mut time) };
     assert_eq!(answer, 0, "no such clock");
     Duration::new(time.seconds as u64, time.nanoseconds as u32)
+}
+
+/// The time that the programs that this one has run to their end have had processors.
+#[expect(unsafe_code, reason = "std does not say how much time a program took")]
+pub fn children_time() -> Duration {
+    #[repr(C)]
+    struct Timeval {
+        seconds: i64,
+        microseconds: i64,
+    }
+    #[repr(C)]
+    struct Usage {
+        user: Timeval,
+        system: Timeval,
+        others: [i64; 14],
+    }
+    extern "C" {
+        fn getrusage(who: i32, usage: *mut Usage) -> i32;
+    }
+    // RUSAGE_CHILDREN of Linux
+    const CHILDREN: i32 = -1;
+    let none = || Timeval { seconds: 0, microseconds: 0 };
+    let mut usage = Usage { user: none(), system: none(), others: [0; 14] };
+    // SAFETY: the call writes one rusage of a 64-bit Linux, which is lent to it.
+    let answer = unsafe { getrusage(CHILDREN, &mut usage) };
+    assert_eq!(answer, 0, "no such usage");
+    let time = |time: &Timeval| Duration::new(time.seconds as u64, time.microseconds as u32 * 1_000);
+    time(&usage.user) + time(&usage.system)
 }
 
 /// Microseconds with as many digits as are worth reading.

@@ -11,11 +11,13 @@ impl<'a> Fields<'a> {
         Self { block, at: 0 }
     }
 
-    /// The next field, of so many bits.
+    /// The next field, of so many bits, at most 32.
     pub(crate) fn take(&mut self, width: usize) -> u32 {
-        let bits = self.at..self.at + width;
-        self.at += width;
-        bits.fold(0, |value, bit| value << 1 | u32::from(self.block[bit / 8] >> (7 - bit % 8) & 1))
+        let (first, end) = (self.at / 8, self.at + width);
+        let bytes = self.block[first..end.div_ceil(8)].iter();
+        let value = bytes.fold(0_u64, |value, byte| value << 8 | u64::from(*byte));
+        self.at = end;
+        (value >> (end.next_multiple_of(8) - end) & ((1 << width) - 1)) as u32
     }
 }
 

@@ -7,7 +7,7 @@
 //! between places; a reading is then a derivation of a path through it.
 //!
 //! This crate calls the library that the repository proves, `target/staticlib/libspireyerba.a`. Whatever is searched,
-//! weighed or checked, the library does it: here are its functions for Rust, values in place of numbers, and a text form.
+//! weighed or checked, the library does it: here are its functions for Rust, values in place of numbers, and texts.
 //! `rt staticlib spireyerba` builds the library, which has to stand there before this crate is linked.
 //!
 //! | module | has |
@@ -16,8 +16,11 @@
 //! | [`Refusal`] | why one of them refused, by number and in words |
 //! | [`Grammar`], [`Utterance`], [`Reading`] | values that turn into blocks and sheets and back; [`Grammar::list`] |
 //! | [`Graph`], [`GraphReading`] | word graphs, which have blocks and no sheets; [`Grammar::list_graph`] |
+//! | [`Lister`] | many listings under one grammar, in memory that is kept |
+//! | [`Tree`] | a reading as a tree |
 //! | [`limits`] | how large things may be, and how much is to be lent |
-//! | [`text`] | grammars, utterances and word graphs with names |
+//! | [`text`] | grammars, utterances, word graphs and confusion networks with names |
+//! | [`Error`] | a refusal, or a fault of a text with its file, line and column |
 //!
 //! # Example
 //!
@@ -45,15 +48,21 @@ pub mod limits;
 pub mod services;
 pub mod text;
 
+mod error;
 mod fields;
 mod grammar;
 mod graph;
+mod lister;
 mod reading;
 mod refusal;
+mod tree;
 mod utterance;
 
+pub use error::{Error, Position};
 pub use grammar::{Body, Grammar, Rule};
 pub use graph::{Edge, Graph};
+pub use lister::Lister;
 pub use reading::{GraphReading, Reading};
 pub use refusal::Refusal;
+pub use tree::{Parts, Tree};
 pub use utterance::{Candidate, Utterance};

@@ -46,7 +46,9 @@ impl Utterance {
 
     /// The sheet: plain numbers, written out as they are.
     pub fn to_sheet(&self) -> Vec<u32> {
-        let mut sheet = vec![self.slots.len() as u32];
+        let candidates: usize = self.slots.iter().map(Vec::len).sum();
+        let mut sheet = Vec::with_capacity(1 + self.slots.len() + 2 * candidates);
+        sheet.push(self.slots.len() as u32);
         for slot in &self.slots {
             sheet.push(slot.len() as u32);
             sheet.extend(slot.iter().flat_map(|candidate| [candidate.word, candidate.cost]));

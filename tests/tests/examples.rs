@@ -1,6 +1,6 @@
 //! The files of examples/ belong together: texts and sheets, blocks, and lists of readings.
 
-use spireyerba::text::{parse_sheet, print_list, NamedGrammar};
+use spireyerba::text::{parse_sheet, print_list, NamedGrammar, UtteranceReader};
 use spireyerba::{Grammar, Graph, Utterance};
 use spireyerba_tests::nbest::{least, least_of_graph};
 use spireyerba_tests::{grammar, graph, utterance};
@@ -42,6 +42,12 @@ fn the_door_schedule() {
     let named = NamedGrammar::parse(&text("doors", "grammar.txt")).unwrap();
     let utterance = named.parse_utterance(&text("doors", "utterance.txt")).unwrap();
     expect("doors", &named.grammar, &utterance);
+    let mut reader = UtteranceReader::new(&named);
+    for line in text("doors", "utterances.txt").lines().filter(|line| !line.starts_with('#')) {
+        assert!(reader.read(line).is_ok_and(|heard| named.grammar.list(&heard, 1).is_ok_and(|list| list.len() == 1)));
+    }
+    reader.scale = Some(100.0);
+    assert_eq!(reader.read(&text("doors", "network.txt")), Ok(utterance));
     assert_eq!(grammar::from_sheet(&named.grammar.to_sheet()), Ok(named.grammar));
 }
 

@@ -45,8 +45,8 @@ fn expect_examples(service: Specimen) {
     expect(&LATER_IS_LESS, 4, Some(&[0, 0, 1, 0]));
     expect(&LATER_IS_LESS, 24, Some(&[[0; 22].as_slice(), &[1, 0]].concat()));
     expect(DOORS, 2, None);
-    expect(DOORS, 3, Some(&[0, 1, 5]));
-    expect(DOORS, 4, Some(&[0, 1, 2, 5]));
+    expect(DOORS, 3, Some(&[4, 0, 5]));
+    expect(DOORS, 4, Some(&[4, 0, 2, 5]));
 }
 
 #[test]

@@ -1,0 +1,31 @@
+//! Anchors: words that are known for certain.
+
+use crate::failure::Failure;
+use crate::heard::Heard;
+use crate::options::{Arguments, SAID};
+use spireyerba::limits::NOT_HEARD;
+use spireyerba::text::NamedGrammar;
+use spireyerba::Candidate;
+
+/// Strikes out, slot by slot, what stands beside the words that the command line says were said: they were not heard.
+pub fn apply(arguments: &Arguments, grammar: &NamedGrammar, heard: &mut Heard) -> Result<(), Failure> {
+    for said in arguments.values(&SAID) {
+        let Heard::Slots(utterance) = heard else {
+            return Err(Failure::Refused(format!("--said {said}: a word graph has no slots")));
+        };
+        let not_understood = || arguments.wrong(format!("--said {said}: not SLOT=WORD"));
+        let (number, word) = said.split_once('=').ok_or_else(not_understood)?;
+        let number: usize = number.parse().map_err(|_| not_understood())?;
+        let slots = utterance.slots.len();
+        let slot = utterance.slots.get_mut(number).ok_or_else(|| {
+            Failure::Refused(format!("--said {said}: the utterance has {slots} slots, numbered from 0"))
+        })?;
+        let is_said = |candidate: &Candidate| grammar.word(candidate.word) == word;
+        if !slot.iter().any(|candidate| is_said(candidate) && candidate.is_offered()) {
+            let offered = grammar.slot_text(slot);
+            return Err(Failure::Refused(format!("--said {said}: slot {number} does not offer it, but {offered}")));
+        }
+        slot.iter_mut().filter(|candidate| !is_said(candidate)).for_each(|candidate| candidate.cost = NOT_HEARD);
+    }
+    Ok(())
+}

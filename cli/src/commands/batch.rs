@@ -1,0 +1,230 @@
+//! `batch`: many utterances, a line each, on all cores.
+
+use super::Command;
+use crate::failure::Failure;
+use crate::files;
+use crate::json;
+use crate::options::{Arguments, DROP_UNKNOWN, JOBS, WANTED};
+use crate::output::Output;
+use spireyerba::text::UtteranceReader;
+use spireyerba::{Error, Lister};
+use std::collections::BTreeMap;
+use std::io::{stderr, BufRead, BufReader, IsTerminal, Read};
+use std::sync::mpsc::{sync_channel, Receiver, SyncSender};
+use std::sync::Mutex;
+use std::time::{Duration, Instant};
+
+pub const COMMAND: Command = Command {
+    name: "batch",
+    operands: &["GRAMMAR", "FILE"],
+    needed: 2,
+    options: &[WANTED, JOBS, DROP_UNKNOWN],
+    summary: "list the readings of many utterances, one a line, on all cores",
+    details: "\
+A line of the file has an utterance, with semicolons between its slots: `door 4 | four 61 ; twenty 12`. Empty lines and
+comments are passed over. The answers are lines of JSON in the same order, with the number of the utterance's line;
+what is refused has \"error\" in place of \"readings\", and a message on standard error.",
+    example: "spireyerba batch grammar.txt utterances.txt -n 1 > readings.jsonl",
+    run,
+};
+
+/// Lines that a thread takes at a time.
+const LINES_AT_A_TIME: usize = 64;
+/// Answers of a thread that may wait to be written.
+const WAITING: usize = 4;
+/// The progress line is drawn anew at most so often.
+const PROGRESS_EVERY: Duration = Duration::from_millis(100);
+
+fn run(arguments: &Arguments, output: &mut Output) -> Result<(), Failure> {
+    let cores = std::thread::available_parallelism().map_or(1, usize::from);
+    let jobs = arguments.number(&JOBS)?.unwrap_or(cores).max(1);
+    let grammar = files::grammar(arguments.operands[0])?;
+    let batch = Batch {
+        name: files::name_of(arguments.operands[1]),
+        wanted: arguments.wanted()?,
+        reader: files::utterance_reader(arguments, &grammar.named)?,
+        lister: Lister::new(&grammar.named.grammar).map_err(Error::from)?,
+        names: json::Names::new(&grammar.named),
+    };
+    let source = Mutex::new(Source::new(files::open(arguments.operands[1])?));
+    std::thread::scope(|scope| {
+        let (sender, receiver) = sync_channel(WAITING * jobs);
+        for _ in 0..jobs {
+            let sender = sender.clone();
+            let (batch, source) = (&batch, &source);
+            scope.spawn(move || batch.work(source, &sender));
+        }
+        drop(sender);
+        write_in_order(&receiver, output)
+    })
+}
+
+/// Where the lines come from.
+struct Source {
+    lines: BufReader<Box<dyn Read + Send>>,
+    /// The pieces and the lines that were taken.
+    pieces: usize,
+    taken: usize,
+}
+
+/// Some lines of the file.
+struct Piece {
+    number: usize,
+    /// How many lines stand before them.
+    before: usize,
+    text: Vec<u8>,
+}
+
+impl Source {
+    fn new(file: Box<dyn Read + Send>) -> Self {
+        Self { lines: BufReader::new(file), pieces: 0, taken: 0 }
+    }
+
+    /// The next lines; nothing if there are none.
+    fn next(&mut self) -> std::io::Result<Option<Piece>> {
+        let mut piece = Piece { number: self.pieces, before: self.taken, text: Vec::new() };
+        for _ in 0..LINES_AT_A_TIME {
+            if self.lines.read_until(b'\n', &mut piece.text)? == 0 {
+                break;
+            }
+            self.taken += 1;
+        }
+        self.pieces += 1;
+        Ok((!piece.text.is_empty()).then_some(piece))
+    }
+}
+
+/// What became of some lines.
+#[derive(Default)]
+struct Answers {
+    json: String,
+    /// The messages about lines that were refused.
+    messages: Vec<String>,
+    utterances: usize,
+}
+
+type Numbered = (usize, Result<Answers, Failure>);
+
+struct Batch<'a> {
+    name: &'a str,
+    names: json::Names<'a>,
+    reader: UtteranceReader<'a>,
+    lister: Lister,
+    wanted: u32,
+}
+
+impl Batch<'_> {
+    /// Answers lines until there are none, or nobody wants the answers.
+    fn work(&self, source: &Mutex<Source>, sender: &SyncSender<Numbered>) {
+        let mut lister = self.lister.clone();
+        loop {
+            let next = source.lock().map(|mut source| (source.pieces, source.next()));
+            let Ok((number, next)) = next else { return };
+            let answers = match next {
+                Ok(None) => return,
+                Ok(Some(piece)) => (piece.number, Ok(self.answers(&mut lister, &piece))),
+                Err(error) => (number, Err(Failure::file(self.name, &error))),
+            };
+            let failed = answers.1.is_err();
+            if sender.send(answers).is_err() || failed {
+                return;
+            }
+        }
+    }
+
+    fn answers(&self, lister: &mut Lister, piece: &Piece) -> Answers {
+        let mut answers = Answers::default();
+        for (number, line) in piece.text.split(|byte| *byte == b'\n').enumerate() {
+            let line = String::from_utf8_lossy(line);
+            if line.trim_start().chars().next().is_none_or(|first| first == '#') {
+                continue;
+            }
+            answers.utterances += 1;
+            if let Err(error) = self.answer(lister, &line, piece.before + number, &mut answers.json) {
+                refuse(&mut answers, &error, piece.before + number + 1);
+            }
+        }
+        answers
+    }
+
+    /// Adds the answer of a line with so many before it, or nothing if it is refused.
+    fn answer(&self, lister: &mut Lister, line: &str, before: usize, json: &mut String) -> Result<(), Error> {
+        let in_file = |error: Error| error.in_file(self.name).after_lines(before);
+        let utterance = self.reader.read_line(line).map_err(in_file)?;
+        let readings = lister.list(&utterance, self.wanted).map_err(|refusal| in_file(refusal.into()))?;
+        json.push_str("{\"line\":");
+        json::push_number(json, before as u32 + 1);
+        json.push_str(",\"readings\":");
+        self.names.push_readings(json, &readings, &[], false);
+        json.push_str("}\n");
+        Ok(())
+    }
+}
+
+/// Adds the answer of a line that is refused.
+fn refuse(answers: &mut Answers, error: &Error, line: usize) {
+    let message = error.to_string();
+    answers.json.push_str("{\"line\":");
+    json::push_number(&mut answers.json, line as u32);
+    answers.json.push_str(",\"error\":");
+    json::push_string(&mut answers.json, &message);
+    answers.json.push_str("}\n");
+    answers.messages.push(message);
+}
+
+/// Writes the answers in the order of the lines.
+fn write_in_order(receiver: &Receiver<Numbered>, output: &mut Output) -> Result<(), Failure> {
+    let mut progress = Progress::begin(output);
+    let mut early = BTreeMap::new();
+    let mut refused = 0;
+    for (number, answers) in receiver {
+        early.insert(number, answers);
+        while let Some(answers) = early.remove(&progress.pieces) {
+            let answers = answers?;
+            output.text(&answers.json)?;
+            if !answers.messages.is_empty() {
+                progress.clear();
+                answers.messages.iter().for_each(|message| eprintln!("{message}"));
+                refused += answers.messages.len();
+            }
+            progress.advance(answers.utterances);
+        }
+    }
+    progress.clear();
+    match refused {
+        0 => Ok(()),
+        _ => Err(Failure::Refused(format!("{refused} of {} utterances refused", progress.utterances))),
+    }
+}
+
+/// A line that says how far the work is, if it would not stand among the answers.
+struct Progress {
+    shown: bool,
+    begin: Instant,
+    drawn: Option<Instant>,
+    pieces: usize,
+    utterances: usize,
+}
+
+impl Progress {
+    fn begin(output: &Output) -> Self {
+        let shown = stderr().is_terminal() && !output.is_terminal();
+        Self { shown, begin: Instant::now(), drawn: None, pieces: 0, utterances: 0 }
+    }
+
+    fn advance(&mut self, utterances: usize) {
+        self.pieces += 1;
+        self.utterances += utterances;
+        if self.shown && self.drawn.unwrap_or(self.begin).elapsed() >= PROGRESS_EVERY {
+            let speed = self.utterances as f64 / self.begin.elapsed().as_secs_f64();
+            eprint!("\r{} utterances, {speed:.0} a second\x1b[K", self.utterances);
+            self.drawn = Some(Instant::now());
+        }
+    }
+
+    fn clear(&self) {
+        if self.drawn.is_some() {
+            eprint!("\r\x1b[K");
+        }
+    }
+}

@@ -1,0 +1,59 @@
+//! The subcommands.
+
+mod batch;
+mod check;
+mod lint;
+pub mod list;
+mod pack;
+mod phrases;
+mod pick;
+mod report;
+mod specimen;
+mod unpack;
+mod why;
+
+use crate::failure::Failure;
+use crate::options::{Arguments, Opt};
+use crate::output::Output;
+
+/// A subcommand: what its command line has, what it says of itself, and what it does.
+pub struct Command {
+    pub name: &'static str,
+    pub operands: &'static [&'static str],
+    /// How many of the operands may not be left out.
+    pub needed: usize,
+    pub options: &'static [Opt],
+    /// What it does, in one line.
+    pub summary: &'static str,
+    /// More of it, if there is more to say.
+    pub details: &'static str,
+    pub example: &'static str,
+    pub run: fn(&Arguments, &mut Output) -> Result<(), Failure>,
+}
+
+impl std::fmt::Debug for Command {
+    fn fmt(&self, formatter: &mut std::fmt::Formatter) -> std::fmt::Result {
+        write!(formatter, "{}", self.name)
+    }
+}
+
+/// All of them, in the order of the help.
+pub const COMMANDS: &[Command] = &[
+    list::COMMAND,
+    pick::COMMAND,
+    why::COMMAND,
+    report::COMMAND,
+    batch::COMMAND,
+    lint::COMMAND,
+    specimen::COMMAND,
+    phrases::COMMAND,
+    check::COMMAND,
+    pack::COMMAND,
+    unpack::COMMAND,
+];
+
+/// The command with a name.
+pub fn find(name: &str) -> Result<&'static Command, Failure> {
+    let found = COMMANDS.iter().find(|command| command.name == name);
+    found.ok_or_else(|| Failure::usage(format!("there is no command `{name}`"), "spireyerba"))
+}

@@ -1,0 +1,35 @@
+//! `specimen`: the least string of words that a grammar derives.
+
+use super::Command;
+use crate::failure::Failure;
+use crate::files;
+use crate::options::Arguments;
+use crate::output::Output;
+use spireyerba::limits::MAX_SLOTS;
+use spireyerba::services::specimen;
+use spireyerba::Error;
+
+pub const COMMAND: Command = Command {
+    name: "specimen",
+    operands: &["GRAMMAR", "LENGTH"],
+    needed: 2,
+    options: &[],
+    summary: "print the least string of so many words that the grammar derives",
+    details: "\
+The length is 1 to 24. Strings compare word by word from the left, and words by their number: as they are met in the
+grammar's text. If there is no string of that length, nothing is printed, and a message says so.",
+    example: "spireyerba specimen grammar.txt 6",
+    run,
+};
+
+fn run(arguments: &Arguments, output: &mut Output) -> Result<(), Failure> {
+    let length = arguments.operand_number(1)?;
+    let grammar = files::grammar(arguments.operands[0])?;
+    let mut words = [0; MAX_SLOTS as usize];
+    if !specimen(&grammar.block, length, &mut words).map_err(Error::from)? {
+        eprintln!("none: the grammar derives no string of {length} words");
+        return Ok(());
+    }
+    let words = words[..length as usize].iter().map(|&word| grammar.named.word(word.into()));
+    output.line(&words.collect::<Vec<_>>().join(" "))
+}

@@ -1,0 +1,126 @@
+//! `why`: what makes a reading heavier than the first.
+
+use super::list::{line, Listed};
+use super::Command;
+use crate::failure::Failure;
+use crate::heard::Taken;
+use crate::options::{Arguments, DROP_DELETES, DROP_UNKNOWN, SAID, SCALE};
+use crate::output::{Output, Style};
+use spireyerba::{Candidate, Reading};
+use std::collections::BTreeSet;
+
+pub const COMMAND: Command = Command {
+    name: "why",
+    operands: &["GRAMMAR", "UTTERANCE", "K"],
+    needed: 3,
+    options: &[SAID, SCALE, DROP_UNKNOWN, DROP_DELETES],
+    summary: "lay reading K beside the first: what differs, and what each difference costs",
+    details: "K is a rank of the list, 2 to 256. The last column adds up to the difference of both weights.",
+    example: "spireyerba why grammar.txt utterance.txt 2",
+    run,
+};
+
+/// What one of both readings has and the other has not, or has otherwise.
+struct Row {
+    place: String,
+    first: String,
+    other: String,
+    difference: i64,
+}
+
+fn run(arguments: &Arguments, output: &mut Output) -> Result<(), Failure> {
+    let rank = arguments.operand_number(2)?;
+    if rank < 2 {
+        return Err(arguments.wrong("K is 2 or more: the first reading is laid beside it"));
+    }
+    let listed = Listed::new(arguments, rank)?;
+    let [first, .., other] = &listed.readings[..] else { return Err(too_few(&listed, rank)) };
+    if listed.readings.len() < rank as usize {
+        return Err(too_few(&listed, rank));
+    }
+    let difference = i64::from(other.weight) - i64::from(first.weight);
+    let how = if difference == 0 { "as much as the first".into() } else { format!("{difference} more than the first") };
+    output.line(&format!("reading {rank} weighs {}, {how}", other.weight))?;
+    for rank in [1, rank as usize] {
+        output.line(&format!("  {}", line(&listed, rank, output)))?;
+    }
+    if difference == 0 {
+        output.line(
+            "of equal weights the one with the lower rule number comes first, then the one whose left part ends",
+        )?;
+        output.line("earlier, then the one with the lesser left part, then the one with the lesser right part")?;
+    }
+    output.line("")?;
+    let mut rows = words(&listed, rank as usize);
+    rows.extend(rules(&listed, first, other));
+    print(&rows, rank, difference, output)
+}
+
+fn too_few(listed: &Listed, rank: u32) -> Failure {
+    let found = listed.readings.len();
+    Failure::Refused(format!("there is no reading {rank}: the utterance has {found} in all"))
+}
+
+/// The slots, or the places, between which both do not have the same word.
+fn words(listed: &Listed, rank: usize) -> Vec<Row> {
+    let both = [1, rank].map(|rank| listed.taken(rank));
+    let spans: BTreeSet<[u32; 2]> = both.iter().flatten().map(|taken| taken.span).collect();
+    let row = |span: [u32; 2]| {
+        let there = |list: &Vec<Taken>| list.iter().find(|taken| taken.span == span).map(|taken| taken.candidate);
+        let [first, other] = [there(&both[0]), there(&both[1])];
+        let text =
+            |candidate| Option::map_or(candidate, String::new(), |taken| listed.grammar.named.candidate_text(taken));
+        let cost = |candidate| Option::map_or(candidate, 0, |taken: Candidate| i64::from(taken.cost));
+        (first != other).then(|| Row {
+            place: listed.heard.place(span),
+            first: text(first),
+            other: text(other),
+            difference: cost(other) - cost(first),
+        })
+    };
+    spans.into_iter().filter_map(row).collect()
+}
+
+/// The rules that one of both uses more often.
+fn rules(listed: &Listed, first: &Reading, other: &Reading) -> Vec<Row> {
+    let named = &listed.grammar.named;
+    let uses = |reading: &Reading, rule| reading.walk.iter().filter(|used| **used == rule).count() as i64;
+    let row = |rule: u32| {
+        let more = uses(other, rule) - uses(first, rule);
+        let text = match more.abs() {
+            0 => return None,
+            1 => named.rule_text(rule),
+            times => format!("{times} times {}", named.rule_text(rule)),
+        };
+        let (first, other) = if more < 0 { (text, String::new()) } else { (String::new(), text) };
+        let difference = more * i64::from(named.grammar.rules[rule as usize].weight);
+        Some(Row { place: format!("rule {rule}"), first, other, difference })
+    };
+    (0..named.grammar.rules.len() as u32).filter_map(row).collect()
+}
+
+fn print(rows: &[Row], rank: u32, sum: i64, output: &mut Output) -> Result<(), Failure> {
+    let title = format!("reading {rank}");
+    let width = |column: fn(&Row) -> &str, title: &str| {
+        rows.iter().map(|row| column(row).chars().count()).chain([title.len()]).max().unwrap_or(0)
+    };
+    let [place, first, other] =
+        [width(|row| &row.place, ""), width(|row| &row.first, "first"), width(|row| &row.other, &title)];
+    let head = format!("{:place$}  {:first$}  {title:other$}", "", "first");
+    output.line(output.paint(Style::Faint, head.trim_end()).as_str())?;
+    for row in rows {
+        let named = output.paint(Style::Faint, &format!("{:place$}", row.place));
+        let difference = output.paint(Style::Strong, &signed(row.difference));
+        output.line(&format!("{named}  {:first$}  {:other$}{difference}", row.first, row.other))?;
+    }
+    let sum = output.paint(Style::Strong, &signed(sum));
+    output.line(&format!("{:place$}  {:first$}  {:other$}{sum}", "", "", ""))
+}
+
+/// A difference in a column of its own.
+fn signed(difference: i64) -> String {
+    match difference {
+        0 => format!("{:>7}", 0),
+        _ => format!("{difference:>+7}"),
+    }
+}

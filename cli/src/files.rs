@@ -1,0 +1,176 @@
+//! Files: texts and blocks, read and written.
+//!
+//! What the library accepts as a block is one. What it refuses is a text, unless it has bytes that no text has: then it is a
+//! block, and refused. The first byte alone would not tell: texts may begin with a blank, a quote, a `#` or a digit, and so
+//! do blocks of utterances and readings.
+
+use crate::failure::Failure;
+use crate::heard::Heard;
+use crate::options::{Arguments, DROP_DELETES, DROP_UNKNOWN, FILE, SCALE};
+use crate::output::Output;
+use spireyerba::services::check;
+use spireyerba::text::{is_graph, parse_graph_reading, parse_reading, NamedGrammar, Places, UtteranceReader};
+use spireyerba::{Error, Grammar, GraphReading, Reading, Refusal};
+use std::io::Read;
+
+/// The operand that means standard input, and its name in messages.
+const STANDARD_INPUT: &str = "-";
+const STANDARD_INPUT_NAME: &str = "<stdin>";
+
+/// The control characters that texts have.
+const TEXT_CONTROLS: &[char] = &['\t', '\n', '\r', '\x0c'];
+
+/// A file that was read.
+pub struct File {
+    /// Its name in messages.
+    pub name: String,
+    pub bytes: Vec<u8>,
+}
+
+/// The name of a file in messages.
+pub fn name_of(operand: &str) -> &str {
+    if operand == STANDARD_INPUT {
+        STANDARD_INPUT_NAME
+    } else {
+        operand
+    }
+}
+
+/// A file, or standard input, opened to be read.
+pub fn open(operand: &str) -> Result<Box<dyn Read + Send>, Failure> {
+    if operand == STANDARD_INPUT {
+        return Ok(Box::new(std::io::stdin()));
+    }
+    match std::fs::File::open(operand) {
+        Ok(file) => Ok(Box::new(file)),
+        Err(error) => Err(Failure::file(operand, &error)),
+    }
+}
+
+impl File {
+    pub fn read(operand: &str) -> Result<Self, Failure> {
+        let name = name_of(operand).to_owned();
+        let mut bytes = Vec::new();
+        match open(operand)?.read_to_end(&mut bytes) {
+            Ok(_) => Ok(Self { name, bytes }),
+            Err(error) => Err(Failure::file(&name, &error)),
+        }
+    }
+
+    /// What the file holds, if the library accepts it as a block, and otherwise what is made of its text.
+    fn block_or_text<T>(
+        &self,
+        accepted: Result<T, Refusal>,
+        parse: impl FnOnce(&str) -> Result<T, Error>,
+    ) -> Result<T, Failure> {
+        match (accepted, text_of(&self.bytes)) {
+            (Ok(value), _) => Ok(value),
+            (Err(_), Ok(text)) => Ok(parse(text).map_err(|error| error.in_file(&self.name))?),
+            (Err(refusal), Err(at)) => {
+                let line = self.bytes[..at].iter().filter(|byte| **byte == b'\n').count() + 1;
+                let no_text = format!("and no text, for byte 0x{:02x} in line {line}", self.bytes[at]);
+                Err(Failure::Refused(format!("{}: {refusal}; {no_text}", self.name)))
+            }
+        }
+    }
+}
+
+/// The text that bytes are, or where a byte stands that no text has.
+fn text_of(bytes: &[u8]) -> Result<&str, usize> {
+    let text = std::str::from_utf8(bytes).map_err(|error| error.valid_up_to())?;
+    let is_foreign = |letter: char| letter.is_control() && !TEXT_CONTROLS.contains(&letter);
+    text.find(is_foreign).map_or(Ok(text), Err)
+}
+
+/// A grammar that was read, and its block.
+pub struct GrammarFile {
+    /// The file's name in messages.
+    pub name: String,
+    pub named: NamedGrammar,
+    pub block: Vec<u8>,
+    /// Where in the text things stand, if it was a text.
+    pub places: Option<Places>,
+}
+
+/// Reads a grammar.
+pub fn grammar(operand: &str) -> Result<GrammarFile, Failure> {
+    let file = File::read(operand)?;
+    let numbered = |grammar| (NamedGrammar::numbered(grammar), None);
+    let (named, places) = file.block_or_text(Grammar::from_block(&file.bytes).map(numbered), |text| {
+        NamedGrammar::parse_with_places(text).map(|(named, places)| (named, Some(places)))
+    })?;
+    let block = named.grammar.to_block().map_err(|refusal| Error::from(refusal).in_file(&file.name))?;
+    Ok(GrammarFile { name: file.name, named, block, places })
+}
+
+/// A reader of utterances that does as the command line says.
+pub fn utterance_reader<'a>(arguments: &Arguments, grammar: &'a NamedGrammar) -> Result<UtteranceReader<'a>, Failure> {
+    let mut reader = UtteranceReader::new(grammar);
+    reader.scale = scale(arguments)?;
+    reader.drop_unknown = arguments.has(&DROP_UNKNOWN);
+    reader.drop_deletes = arguments.has(&DROP_DELETES);
+    Ok(reader)
+}
+
+/// The scale by which posteriors become costs, if the command line has one.
+pub fn scale(arguments: &Arguments) -> Result<Option<f64>, Failure> {
+    match arguments.number::<f64>(&SCALE)? {
+        Some(scale) if !(scale.is_finite() && scale > 0.0) => Err(arguments.wrong("--scale is a number above 0")),
+        scale => Ok(scale),
+    }
+}
+
+/// Reads an utterance or a word graph over the words of a grammar.
+pub fn heard(arguments: &Arguments, grammar: &GrammarFile, operand: &str) -> Result<Heard, Failure> {
+    let reader = utterance_reader(arguments, &grammar.named)?;
+    let file = File::read(operand)?;
+    file.block_or_text(Heard::from_block(&grammar.block, &file.bytes), |text| {
+        if is_graph(text) {
+            reader.read_graph(text).map(Heard::Graph)
+        } else {
+            reader.read(text).map(Heard::Slots)
+        }
+    })
+}
+
+/// A reading that the library passes, with the path that it has in a word graph, and its block.
+pub struct ReadingFile {
+    pub found: GraphReading,
+    pub block: Vec<u8>,
+}
+
+/// Reads a reading of what was heard, the block of the file or the packed numbers of its text. What the library does not
+/// pass is refused.
+pub fn reading(grammar: &GrammarFile, heard: &Heard, operand: &str) -> Result<ReadingFile, Failure> {
+    let file = File::read(operand)?;
+    let in_file = |refusal: Refusal| Error::from(refusal).in_file(&file.name);
+    let heard_block = heard.to_block(&grammar.block).map_err(Error::from)?;
+    let blocks = (&grammar.block, &heard_block);
+    let (found, block) = match heard {
+        Heard::Slots(_) => {
+            let accepted = Reading::from_block(blocks.0, blocks.1, &file.bytes);
+            let reading = file.block_or_text(accepted, parse_reading)?;
+            let block = reading.to_block(grammar.named.grammar.rules.len());
+            (GraphReading { reading, path: Vec::new() }, block)
+        }
+        Heard::Graph(_) => {
+            let accepted = GraphReading::from_block(blocks.0, blocks.1, &file.bytes);
+            let found = file.block_or_text(accepted, parse_graph_reading)?;
+            let block = found.to_block(&grammar.named.grammar);
+            (found, block)
+        }
+    };
+    let block = block.map_err(in_file)?;
+    check(blocks.0, blocks.1, &block).map_err(in_file)?;
+    Ok(ReadingFile { found, block })
+}
+
+/// Writes an answer to the file that the command line names, or to standard output.
+pub fn write(arguments: &Arguments, output: &mut Output, bytes: &[u8]) -> Result<(), Failure> {
+    match arguments.value(&FILE) {
+        Some(operand) if operand != STANDARD_INPUT => {
+            std::fs::write(operand, bytes).map_err(|error| Failure::file(operand, &error))
+        }
+        _ => output.bytes(bytes),
+    }
+}

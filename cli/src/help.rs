@@ -1,0 +1,96 @@
+//! What `--help` says.
+
+use crate::commands::{Command, COMMANDS};
+use crate::options::Opt;
+
+const PROGRAM: &str = "\
+spireyerba lists the best readings of a spoken utterance under a weighted grammar: the least
+weight first, none left out. A machine has checked a proof of the library that does it.
+
+usage: spireyerba COMMAND ..
+";
+
+const PROGRAM_END: &str = "
+A file is a text or a block, whichever it is; a file named - is standard input. `spireyerba help texts` says how
+texts are written, `spireyerba COMMAND --help` what a command does.
+
+Exit status: 0 answered, 1 refused, 2 wrong usage.
+
+example: spireyerba list grammar.txt utterance.txt";
+
+/// The help about texts.
+pub const TEXTS: &str = "\
+A grammar: rules with a head, an arrow, and one quoted word or two symbols.
+
+  Entry  -> Name Details | Name Leaf [30]    # alternatives; a rule's weight in brackets, or 0
+  Number -> Tens Units [5]
+          | \"twenty\" [10]                   # more alternatives of the head before
+
+The first head is the start. Rules, symbols and words are numbered as they are met; lines `symbols Entry Name ..` and
+`words \"door\" \"twenty\" ..` before them give other numbers. At most 32 symbols, 200 words, 256 rules, weight 65535.
+
+An utterance: a slot a line, or with semicolons between slots, of up to 24.
+
+  door 4 | four 61                           # up to seven words, each with its cost
+  \"new york\" 12 | newark 65535             # 65535: not heard
+
+A confusion network as SRILM writes it, whose posteriors become costs by --scale X, -X times their logarithm:
+
+  numaligns 2
+  posterior 1
+  align 0 door 0.96 four 0.54
+  align 1 twenty 0.89 forty 0.82
+
+A word graph, where an utterance may stand: an edge a line, from place to place, as OpenFst and Kaldi print lattices.
+
+  0 1 door 4                                 # up to 96 edges, numbered as they stand
+  1 3 forty 24                               # up to 25 places
+  3                                          # the last place
+
+A reading: its weight, and the rule number of each node, a node before its left part and that before its right part.
+
+  72 0 2 12 3 13 15 8 17 11 20 21            # of slots
+  80 0 2 12 5 8 17 11 20 21 | 0 3 7 9 12     # of a word graph: a bar, and the numbers of its path's edges
+
+example: spireyerba unpack grammar.bin";
+
+/// The column in which the explanation of an option or a command begins.
+const EXPLANATION: usize = 24;
+
+/// The help of the program.
+pub fn of_program() -> String {
+    let commands: String = COMMANDS.iter().map(|command| row(command.name, command.summary)).collect();
+    format!("{PROGRAM}\n{commands}{PROGRAM_END}")
+}
+
+/// The help of a command.
+pub fn of_command(command: &Command) -> String {
+    let mut text = format!("{}\n\nusage: spireyerba {}", sentence(command.summary), command.name);
+    for (number, operand) in command.operands.iter().enumerate() {
+        text += &if number < command.needed { format!(" {operand}") } else { format!(" [{operand}]") };
+    }
+    text += if command.options.is_empty() { "\n" } else { " [OPTION ..]\n" };
+    if !command.details.is_empty() {
+        text += &format!("\n{}\n", command.details);
+    }
+    text.push('\n');
+    command.options.iter().for_each(|option| text += &row(&written(option), option.help));
+    text += &row("-h, --help", "print this");
+    format!("{text}\nexample: {}", command.example)
+}
+
+fn sentence(summary: &str) -> String {
+    let (first, rest) = summary.split_at(1);
+    format!("{}{rest}.", first.to_uppercase())
+}
+
+/// An option as it is typed.
+fn written(option: &Opt) -> String {
+    let short = option.short.map_or(String::new(), |short| format!("-{short}, "));
+    let value = option.value.map_or(String::new(), |value| format!(" {value}"));
+    format!("{short}--{}{value}", option.long)
+}
+
+fn row(name: &str, explanation: &str) -> String {
+    format!("  {name:<width$} {explanation}\n", width = EXPLANATION - 3)
+}

@@ -1,0 +1,58 @@
+//! The command `spireyerba`: the services of the proved library for people who have files with words in them.
+//!
+//! | module | has |
+//! |---|---|
+//! | `commands` | what each subcommand does, a file each, and the table of them |
+//! | `options`, `help` | the command line and what is said about it |
+//! | `files` | texts and blocks, read and written |
+//! | `heard` | slots or a word graph, whichever it is |
+//! | `anchor` | words that are known for certain |
+//! | `drawing`, `page`, `json` | readings drawn in a terminal, on a page, and for programs |
+//! | `output`, `failure` | where answers and messages go |
+
+mod anchor;
+mod commands;
+mod drawing;
+mod failure;
+mod files;
+mod heard;
+mod help;
+mod json;
+mod options;
+mod output;
+mod page;
+
+use failure::Failure;
+use output::Output;
+use std::process::ExitCode;
+
+fn main() -> ExitCode {
+    let words: Vec<String> = std::env::args_os().skip(1).map(|word| word.to_string_lossy().into_owned()).collect();
+    let mut output = Output::standard();
+    let done = run(&words, &mut output).and_then(|()| output.flush());
+    match done {
+        Ok(()) => ExitCode::SUCCESS,
+        Err(failure) => failure.report(),
+    }
+}
+
+/// Runs what the words of the command line ask for.
+fn run(words: &[String], output: &mut Output) -> Result<(), Failure> {
+    match words.first().map(String::as_str) {
+        None => Err(Failure::usage("no command", "spireyerba")),
+        Some("-h" | "--help" | "help") => match words.get(1) {
+            Some(name) if name == "texts" => output.line(help::TEXTS),
+            Some(name) => output.line(&help::of_command(commands::find(name)?)),
+            None => output.line(&help::of_program()),
+        },
+        Some("-V" | "--version") => output.line(concat!("spireyerba ", env!("CARGO_PKG_VERSION"))),
+        Some(name) => {
+            let command = commands::find(name)?;
+            if options::asks_for_help(&words[1..]) {
+                return output.line(&help::of_command(command));
+            }
+            let arguments = options::Arguments::parse(command, &words[1..])?;
+            (command.run)(&arguments, output)
+        }
+    }
+}

@@ -1,0 +1,170 @@
+//! The command line. An option means the same in every command that has it.
+
+use crate::commands::Command;
+use crate::failure::Failure;
+use std::str::FromStr;
+
+/// An option, as `--long`, and some as `-s` too.
+#[derive(Debug)]
+pub struct Opt {
+    pub long: &'static str,
+    pub short: Option<char>,
+    /// The name of its value in the help, if it has one.
+    pub value: Option<&'static str>,
+    pub help: &'static str,
+}
+
+pub const WANTED: Opt =
+    Opt { long: "number", short: Some('n'), value: Some("N"), help: "list so many readings, 1 to 256; 8 unless given" };
+pub const TREE: Opt = Opt { long: "tree", short: None, value: None, help: "draw each reading as a tree" };
+pub const RULES: Opt =
+    Opt { long: "rules", short: None, value: None, help: "print rule numbers, as the program lister does" };
+pub const JSON: Opt = Opt { long: "json", short: None, value: None, help: "print one line of JSON, for programs" };
+pub const SAID: Opt = Opt {
+    long: "said",
+    short: None,
+    value: Some("SLOT=WORD"),
+    help: "the word is known for certain: strike out the slot's others; slots count from 0",
+};
+pub const FILE: Opt =
+    Opt { long: "output", short: Some('o'), value: Some("FILE"), help: "write to a file, not to standard output" };
+pub const SCALE: Opt = Opt {
+    long: "scale",
+    short: None,
+    value: Some("X"),
+    help: "confusion networks: a word's cost is -X times the logarithm of its posterior",
+};
+pub const NETWORK: Opt = Opt {
+    long: "network",
+    short: None,
+    value: None,
+    help: "write the utterance as a confusion network; needs --scale",
+};
+pub const DROP_UNKNOWN: Opt =
+    Opt { long: "drop-unknown", short: None, value: None, help: "leave out words that the grammar does not have" };
+pub const DROP_DELETES: Opt =
+    Opt { long: "drop-deletes", short: None, value: None, help: "confusion networks: leave out *DELETE*" };
+pub const JOBS: Opt = Opt {
+    long: "jobs",
+    short: Some('j'),
+    value: Some("N"),
+    help: "use so many threads; one for each core unless given",
+};
+
+/// The readings of a list that is not told how many to have.
+pub const WANTED_UNLESS_GIVEN: u32 = 8;
+
+/// A command line after the command.
+pub struct Arguments<'a> {
+    pub command: &'static Command,
+    pub operands: Vec<&'a str>,
+    given: Vec<(&'static str, &'a str)>,
+}
+
+/// Whether a command line asks for help, whatever else it says.
+pub fn asks_for_help(words: &[String]) -> bool {
+    words.iter().take_while(|word| *word != "--").any(|word| word == "-h" || word == "--help")
+}
+
+impl<'a> Arguments<'a> {
+    /// Takes the words of a command line apart.
+    pub fn parse(command: &'static Command, words: &'a [String]) -> Result<Self, Failure> {
+        let mut arguments = Self { command, operands: Vec::new(), given: Vec::new() };
+        let mut words = words.iter().map(String::as_str);
+        while let Some(word) = words.next() {
+            if word == "--" {
+                arguments.operands.extend(words.by_ref());
+            } else if let Some(option) = word.strip_prefix("--") {
+                arguments.long(option, &mut words)?;
+            } else if let Some(option) = word.strip_prefix('-').filter(|option| !option.is_empty()) {
+                arguments.short(option, &mut words)?;
+            } else {
+                arguments.operands.push(word);
+            }
+        }
+        arguments.count_operands()?;
+        Ok(arguments)
+    }
+
+    /// `--option`, `--option=value` or `--option value`.
+    fn long(&mut self, option: &'a str, rest: &mut impl Iterator<Item = &'a str>) -> Result<(), Failure> {
+        let (name, value) = option.split_once('=').map_or((option, None), |(name, value)| (name, Some(value)));
+        let Some(known) = self.command.options.iter().find(|known| known.long == name) else {
+            return Err(self.wrong(format!("there is no option --{name}")));
+        };
+        match (known.value, value) {
+            (None, Some(_)) => Err(self.wrong(format!("--{name} takes no value"))),
+            (None, None) => self.take(known, Some("")),
+            (Some(_), value) => self.take(known, value.or_else(|| rest.next())),
+        }
+    }
+
+    /// `-o`, `-o value` or `-ovalue`.
+    fn short(&mut self, option: &'a str, rest: &mut impl Iterator<Item = &'a str>) -> Result<(), Failure> {
+        let letter = option.chars().next().unwrap_or_default();
+        let Some(known) = self.command.options.iter().find(|known| known.short == Some(letter)) else {
+            return Err(self.wrong(format!("there is no option -{letter}")));
+        };
+        let value = Some(&option[letter.len_utf8()..]).filter(|value| !value.is_empty());
+        self.take(known, value.or_else(|| rest.next()))
+    }
+
+    fn take(&mut self, option: &Opt, value: Option<&'a str>) -> Result<(), Failure> {
+        match value {
+            Some(value) => self.given.push((option.long, value)),
+            None => return Err(self.wrong(format!("--{} needs {}", option.long, option.value.unwrap_or("a value")))),
+        }
+        Ok(())
+    }
+
+    fn count_operands(&self) -> Result<(), Failure> {
+        let (needed, all) = (self.command.needed, self.command.operands);
+        if self.operands.len() < needed {
+            return Err(self.wrong(format!("{} is missing", all[self.operands.len()])));
+        }
+        match self.operands.get(all.len()) {
+            Some(extra) => Err(self.wrong(format!("`{extra}` is one operand too many"))),
+            None if self.operands.iter().filter(|name| **name == "-").count() > 1 => {
+                Err(self.wrong("only one operand can be - for standard input"))
+            }
+            None => Ok(()),
+        }
+    }
+
+    /// This command line cannot be understood.
+    pub fn wrong(&self, message: impl Into<String>) -> Failure {
+        Failure::usage(message, format!("spireyerba {}", self.command.name))
+    }
+
+    pub fn has(&self, option: &Opt) -> bool {
+        self.value(option).is_some()
+    }
+
+    /// The values of an option, in their order.
+    pub fn values<'b>(&'b self, option: &'b Opt) -> impl Iterator<Item = &'a str> + 'b {
+        self.given.iter().filter(|(long, _)| *long == option.long).map(|(_, value)| *value)
+    }
+
+    /// The value of an option: the last one given.
+    pub fn value(&self, option: &Opt) -> Option<&'a str> {
+        self.values(option).last()
+    }
+
+    /// An option's value as a number.
+    pub fn number<T: FromStr>(&self, option: &Opt) -> Result<Option<T>, Failure> {
+        let parse =
+            |value: &str| value.parse().map_err(|_| self.wrong(format!("--{}: `{value}` is no number", option.long)));
+        self.value(option).map(parse).transpose()
+    }
+
+    /// The readings wanted.
+    pub fn wanted(&self) -> Result<u32, Failure> {
+        Ok(self.number(&WANTED)?.unwrap_or(WANTED_UNLESS_GIVEN))
+    }
+
+    /// An operand as a number.
+    pub fn operand_number(&self, operand: usize) -> Result<u32, Failure> {
+        let value = self.operands[operand];
+        value.parse().map_err(|_| self.wrong(format!("{}: `{value}` is no number", self.command.operands[operand])))
+    }
+}

@@ -1,0 +1,187 @@
+//! The page that `report` writes: HTML with its style and its drawings inside, and no script.
+
+mod tree;
+
+use crate::commands::list::Listed;
+use crate::heard::{Heard, Taken};
+use std::fmt::Write;
+
+const STYLE: &str = include_str!("style.css");
+/// Trees over no more slots than these stand beside each other.
+const NARROW_SLOTS: usize = 8;
+
+/// What the page was made from.
+pub struct Source<'a> {
+    pub grammar: &'a str,
+    pub utterance: &'a str,
+    pub wanted: u32,
+}
+
+/// The page about some readings.
+pub fn page(listed: &Listed, source: &Source) -> String {
+    let title = escaped(source.utterance);
+    let mut html = format!(
+        "<!DOCTYPE html>\n<html lang=\"en\">\n<head>\n<meta charset=\"utf-8\">\n<meta name=\"viewport\" \
+         content=\"width=device-width, initial-scale=1\">\n<title>Readings of {title}</title>\n<style>\n{STYLE}</style>\n\
+         </head>\n<body>\n"
+    );
+    html += &header(listed, source);
+    html += &heard(listed);
+    html += &overview(listed);
+    html += &trees(listed);
+    let version = env!("CARGO_PKG_VERSION");
+    html + &format!(
+        "<footer>spireyerba {version}: the readings of least weight, none left out</footer>\n</body>\n</html>\n"
+    )
+}
+
+/// Text as it may stand in HTML.
+fn escaped(text: &str) -> String {
+    let mut html = String::with_capacity(text.len());
+    for letter in text.chars() {
+        match letter {
+            '&' => html += "&amp;",
+            '<' => html += "&lt;",
+            '>' => html += "&gt;",
+            '"' => html += "&quot;",
+            letter => html.push(letter),
+        }
+    }
+    html
+}
+
+fn header(listed: &Listed, source: &Source) -> String {
+    let grammar = &listed.grammar.named.grammar;
+    let counts = [
+        counted(grammar.symbols as usize, "symbol"),
+        counted(grammar.words as usize, "word"),
+        counted(grammar.rules.len(), "rule"),
+    ];
+    let found = listed.readings.len();
+    let number = match found {
+        0 => "It has no reading: the grammar derives nothing of what was heard.".into(),
+        _ if found < source.wanted as usize => format!("It has {} in all.", counted(found, "reading")),
+        _ => format!("Its {} of least weight.", counted(found, "reading")),
+    };
+    let best = listed.readings.first().map_or(String::new(), |reading| {
+        let sentence = escaped(&listed.grammar.named.sentence(reading));
+        format!("<p class=\"best\">{sentence} <span class=\"weight\">{}</span></p>\n", reading.weight)
+    });
+    format!(
+        "<header>\n<p class=\"source\">{} under {} ({})</p>\n{best}<p>{}. {number}</p>\n</header>\n",
+        escaped(source.utterance),
+        escaped(source.grammar),
+        counts.join(", "),
+        size(&listed.heard),
+    )
+}
+
+/// What was heard in short.
+fn size(heard: &Heard) -> String {
+    match heard {
+        Heard::Slots(utterance) => format!("An utterance of {}", counted(utterance.slots.len(), "slot")),
+        Heard::Graph(graph) => {
+            let places = counted(graph.places as usize, "place");
+            format!("A word graph of {places} and {}", counted(graph.edges.len(), "edge"))
+        }
+    }
+}
+
+fn counted(count: usize, what: &str) -> String {
+    format!("{count} {what}{}", if count == 1 { "" } else { "s" })
+}
+
+/// The slots, each with its words, the cheapest first; or what starts at each place of a word graph.
+fn heard(listed: &Listed) -> String {
+    let (best, mut groups) = (listed.taken(1), listed.heard.groups());
+    let heard = groups.iter().flatten().map(|taken| taken.candidate).filter(|candidate| candidate.is_offered());
+    let greatest = heard.map(|candidate| candidate.cost).max().unwrap_or(0).max(1);
+    let mut html = String::from("<section>\n<h2>What was heard</h2>\n<ol class=\"slots\" start=\"0\">\n");
+    for group in &mut groups {
+        group.sort_by_key(|taken| taken.candidate.cost);
+        let words: String = group.iter().map(|taken| word(listed, taken, best.contains(taken), greatest)).collect();
+        let title = match listed.heard {
+            Heard::Slots(_) => listed.heard.place(group[0].span),
+            Heard::Graph(_) => format!("from place {}", group[0].span[0]),
+        };
+        write!(html, "<li><h3>{title}</h3>\n{words}</li>\n").expect("a string takes all");
+    }
+    html + "</ol>\n<p class=\"note\">A number is a cost: how badly the word fits what was heard. Marked: the words of the \
+            first reading. Struck out: not heard.</p>\n</section>\n"
+}
+
+/// A word that was heard, with a bar as long as its cost is great.
+fn word(listed: &Listed, Taken { span, candidate }: &Taken, is_best: bool, greatest: u32) -> String {
+    let mut word = escaped(listed.grammar.named.word(candidate.word));
+    if let Heard::Graph(_) = listed.heard {
+        word += &format!(" <small>to&nbsp;{}</small>", span[1]);
+    }
+    if !candidate.is_offered() {
+        return format!("<div class=\"candidate unheard\"><span>{word}</span></div>\n");
+    }
+    let class = if is_best { "candidate taken" } else { "candidate" };
+    let percent = f64::from(candidate.cost) * 100.0 / f64::from(greatest);
+    format!(
+        "<div class=\"{class}\"><span>{word}</span><span class=\"number\">{}</span>\
+         <span class=\"bar\" style=\"width:{percent:.1}%\"></span></div>\n",
+        candidate.cost
+    )
+}
+
+/// A table of the readings.
+fn overview(listed: &Listed) -> String {
+    let Some(first) = listed.readings.first() else { return String::new() };
+    let mut html = String::from(
+        "<section>\n<h2>Readings</h2>\n<table class=\"readings\">\n<tr><th>rank</th><th>weight</th><th>more</th>\
+         <th>words</th></tr>\n",
+    );
+    for (rank, reading) in (1..).zip(&listed.readings) {
+        let more = reading.weight - first.weight;
+        let more = if rank == 1 { String::new() } else { format!("+{more}") };
+        let words = marked_words(listed, rank);
+        writeln!(
+            html,
+            "<tr><td class=\"number\"><a href=\"#reading-{rank}\">{rank}</a></td><td class=\"number\">{}</td>\
+             <td class=\"number more\">{more}</td><td>{words}</td></tr>",
+            reading.weight
+        )
+        .expect("a string takes all");
+    }
+    html + "</table>\n<p class=\"note\">A weight is the sum of a reading's rules and words. In a tree the number beside a \
+            symbol is the weight of its rule, and that below a word its cost. Marked: words that the first reading does not \
+            have there.</p>\n</section>\n"
+}
+
+fn marked_words(listed: &Listed, rank: usize) -> String {
+    let usual = listed.taken(1);
+    let words = listed.taken(rank).into_iter().map(|taken| {
+        let text = escaped(listed.grammar.named.word(taken.candidate.word));
+        if usual.contains(&taken) {
+            text
+        } else {
+            format!("<mark>{text}</mark>")
+        }
+    });
+    words.collect::<Vec<_>>().join(" ")
+}
+
+/// Each reading as a drawn tree.
+fn trees(listed: &Listed) -> String {
+    if listed.readings.is_empty() {
+        return String::new();
+    }
+    let wide = if listed.heard.longest() > NARROW_SLOTS { " class=\"wide\"" } else { "" };
+    let mut html = String::from("<section class=\"trees\">\n");
+    for (rank, reading) in (1..).zip(&listed.readings) {
+        let svg = tree::svg(listed, rank);
+        let words = escaped(&listed.grammar.named.sentence(reading));
+        write!(
+            html,
+            "<figure{wide} id=\"reading-{rank}\">\n<figcaption><span class=\"rank\">{rank}</span> {words} \
+             <span class=\"weight\">{}</span></figcaption>\n{svg}</figure>\n",
+            reading.weight
+        )
+        .expect("a string takes all");
+    }
+    html + "</section>\n"
+}

@@ -1,0 +1,50 @@
+//! Many utterances on all cores.
+
+use crate::common::{answer, answered, doors, run_with};
+
+#[test]
+fn batch_of_utterances() {
+    let expected = r#"{"line":2,"readings":[{"rank":1,"weight":72,"words":["door","twenty","four","oak","fire","thirty"],"rules":[0,2,12,3,13,15,8,17,11,20,21]}]}
+{"line":3,"readings":[{"rank":1,"weight":51,"words":["door","five","steel","left"],"rules":[0,2,12,7,9,19,23]}]}
+{"line":4,"readings":[{"rank":1,"weight":48,"words":["door","forty","glass","fire","sixty"],"rules":[0,2,12,5,8,18,11,20,22]}]}
+"#;
+    assert_eq!(answer("batch grammar.txt utterances.txt -n 1"), expected);
+    assert_eq!(answer("batch grammar.txt utterances.txt -n 1 -j 1"), expected);
+}
+
+/// Long enough that several threads take turns; the answers come in the order of the lines all the same.
+#[test]
+fn batch_answers_in_order() {
+    let words = ["twenty", "forty", "four", "five"];
+    let line = |number: usize| format!("door {} ; {} 1 ; oak 2\n", number, words[number % words.len()]);
+    let text: String = (0..5_000).map(line).collect();
+    for jobs in ["-j 1", "-j 2", "-j 7", ""] {
+        let run = run_with(&doors(), &format!("batch grammar.txt - -n 1 {jobs}"), text.as_bytes());
+        let out = answered(run, "batch");
+        assert_eq!(out.lines().count(), 5_000);
+        for (number, answer) in out.lines().enumerate() {
+            // the tens alone weigh 10, the units alone 5, an entry without details 30
+            let weight = number + 1 + 2 + 30 + [10, 10, 5, 5][number % words.len()];
+            let begin = format!("{{\"line\":{},\"readings\":[{{\"rank\":1,\"weight\":{weight},", number + 1);
+            assert!(answer.starts_with(&begin), "{answer}");
+            assert!(answer.contains(words[number % words.len()]), "{answer}");
+        }
+    }
+}
+
+#[test]
+fn batch_goes_on_after_a_refusal() {
+    let text = b"door 1; four 2; oak 3\ndoor 1; green 2\n\n# a comment\ndoor x\ndoor 1; five 2; oak 3";
+    let run = run_with(&doors(), "batch grammar.txt - -n 1", text);
+    assert_eq!(run.status, 1);
+    let errors = "\
+<stdin>:2:9: refused 14: the grammar has no word `green`
+<stdin>:5:6: `x` is not a whole number
+2 of 4 utterances refused
+";
+    assert_eq!(run.err, errors);
+    let lines: Vec<&str> = run.out.lines().collect();
+    assert_eq!(lines.len(), 4);
+    assert_eq!(lines[1], r#"{"line":2,"error":"<stdin>:2:9: refused 14: the grammar has no word `green`"}"#);
+    assert!(lines[3].starts_with(r#"{"line":6,"readings":[{"rank":1,"weight":41,"#), "{}", lines[3]);
+}

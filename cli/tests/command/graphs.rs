@@ -1,0 +1,150 @@
+//! Word graphs where utterances stand, over the door schedule as a graph.
+
+use crate::common::{answer, answered, doors, folder, refused, run, run_in, run_with, Run};
+use spireyerba::Refusal;
+use std::path::PathBuf;
+
+fn doors_graph() -> PathBuf {
+    doors().join("../doors_graph")
+}
+
+fn run_graph(words: &str) -> Run {
+    run_in(&doors_graph(), words)
+}
+
+fn answer_graph(words: &str) -> String {
+    answered(run_graph(words), words)
+}
+
+#[test]
+fn list_in_words() {
+    let list = "\
+1  72  door twenty four oak fire thirty
+2  80  door twenty four oak fire sixty
+3  80  door forty oak fire thirty
+4  88  door twenty glass fire thirty
+5  88  door twenty four oak right
+6  88  door forty oak fire sixty
+7  96  door twenty glass fire sixty
+8  96  door forty oak right
+";
+    assert_eq!(answer_graph("list grammar.txt graph.txt"), list);
+    assert_eq!(answer_graph("list grammar.txt utterance.bin"), list);
+    let readings = std::fs::read_to_string(doors_graph().join("readings.txt")).expect("the list of the example");
+    assert_eq!(answer_graph("list grammar.txt graph.txt --rules"), readings);
+    assert_eq!(answer_graph("list grammar.bin utterance.bin --rules"), readings);
+}
+
+#[test]
+fn list_as_trees_and_for_programs() {
+    let trees = answer_graph("list grammar.txt graph.txt --tree -n 3");
+    assert!(trees.ends_with("         └─ Minutes [0]  thirty 25\n"), "{trees}");
+    assert!(trees.contains("   │  └─ Number [10]  forty 24\n"), "{trees}");
+    let json = r#"{"rank":3,"weight":80,"words":["door","forty","oak","fire","thirty"],"#.to_owned()
+        + r#""rules":[0,2,12,5,8,17,11,20,21],"edges":[0,3,7,9,12],"tree":["#;
+    assert!(answer_graph("list grammar.txt graph.txt --json").contains(&json));
+    assert!(!answer("list grammar.txt utterance.txt --json").contains("edges"));
+}
+
+#[test]
+fn a_graph_has_no_slots() {
+    let said = refused(run_graph("list grammar.txt graph.txt --said 0=door"), 1);
+    assert_eq!(said, "--said 0=door: a word graph has no slots\n");
+    let network = refused(run_graph("unpack grammar.txt utterance.bin --network --scale 100"), 1);
+    assert_eq!(network, "utterance.bin: --network: a word graph is no confusion network\n");
+}
+
+#[test]
+fn why_a_reading_is_not_the_first() {
+    let why = "\
+reading 4 weighs 88, 16 more than the first
+  1  72  door twenty four oak fire thirty
+  4  88  door twenty glass fire thirty
+
+         first                     reading 4
+2 to 3   four 9                                                -9
+2 to 4                             glass 22                   +22
+3 to 4   oak 7                                                 -7
+rule 3   Number -> Tens Units [5]                              -5
+rule 4                             Number -> \"twenty\" [10]    +10
+rule 13  Tens -> \"twenty\"                                       0
+rule 15  Units -> \"four\"                                        0
+rule 17  Leaf -> \"oak\"                                          0
+rule 18                            Leaf -> \"glass\" [5]         +5
+                                                              +16
+";
+    assert_eq!(answer_graph("why grammar.txt graph.txt 4"), why);
+}
+
+#[test]
+fn pick_one() {
+    let taken = run_with(&doors_graph(), "pick grammar.txt graph.txt", b"\n\ny\n");
+    assert_eq!((taken.status, taken.out.trim_start()), (0, "3   80  door forty oak fire thirty\n"));
+}
+
+#[test]
+fn check_a_reading() {
+    let check = |reading: &str| run_with(&doors_graph(), "check grammar.txt graph.txt -", reading.as_bytes());
+    let passes = answered(check("80 0 2 12 5 8 17 11 20 21 | 0 3 7 9 12"), "check");
+    assert_eq!(passes, "passes: 80  door forty oak fire thirty\n");
+    for (reading, refusal) in [
+        ("81 0 2 12 5 8 17 11 20 21 | 0 3 7 9 12", Refusal::ReadingWeight),
+        ("80 0 2 12 5 8 17 11 20 21 | 0 3 7 9 13", Refusal::ReadingWalk),
+        ("80 0 2 12 5 8 17 11 20 21 | 0 3 7 9 12 12", Refusal::ReadingWalk),
+        ("80 0 2 12 5 8 17 11 20 21 | 0 3 7 9 200", Refusal::ReadingWalk),
+        ("80 0 2 12 5 8 17 11 20 21", Refusal::ReadingWalk),
+        ("80 0 2 12 5 8 17 11 20 99 | 0 3 7 9 12", Refusal::ReadingWalk),
+        ("99999999 0 2 12 5 8 17 11 20 21 | 0 3 7 9 12", Refusal::ReadingWeight),
+    ] {
+        assert_eq!(refused(check(reading), 1), format!("<stdin>: {refusal}\n"), "{reading}");
+    }
+    assert_eq!(refused(check("80 0 | 3 | 4"), 1), "<stdin>:1:10: `|` is not a whole number\n");
+}
+
+#[test]
+fn pack_and_unpack() {
+    let reading = "80 0 2 12 5 8 17 11 20 21 | 0 3 7 9 12\n";
+    let packed = folder("packed_graph", &[("text", reading.as_bytes())]);
+    let path = |name: &str| packed.join(name).display().to_string();
+    let (text, graph, block) = (path("text"), path("graph"), path("block"));
+    answer_graph(&format!("pack grammar.txt graph.txt -o {graph}"));
+    let read = |path: PathBuf| std::fs::read(path).expect("a file");
+    assert_eq!(read(packed.join("graph")), read(doors_graph().join("utterance.bin")));
+    let unpacked = answer_graph("unpack grammar.txt utterance.bin");
+    assert!(unpacked.starts_with("0 1 door 4\n0 1 four 61\n") && unpacked.ends_with("5 6 sixty 33\n6\n"), "{unpacked}");
+    assert_eq!(answered(run_with(&doors_graph(), "unpack grammar.txt -", unpacked.as_bytes()), "unpack"), unpacked);
+    answer_graph(&format!("pack grammar.txt graph.txt {text} -o {block}"));
+    assert_eq!(answer_graph(&format!("unpack grammar.txt graph.txt {block}")), reading);
+    let other = refused(run(&format!("check grammar.txt utterance.txt {block}")), 1);
+    assert!(other.contains(&format!("{}; and no text", Refusal::ReadingKind)), "{other}");
+}
+
+#[test]
+fn the_page() {
+    let page = answer_graph("report grammar.txt graph.txt");
+    assert!(page.contains("A word graph of 7 places and 14 edges."));
+    assert_eq!(page.matches("<svg ").count(), 8);
+    assert_eq!(page.matches("class=\"candidate taken\"").count(), 6);
+    assert_eq!(page.matches("class=\"candidate unheard\"").count(), 1);
+    assert_eq!(page.matches("<h3>from place ").count(), 6);
+}
+
+#[test]
+fn mistakes() {
+    let files: [(&str, &[u8]); 5] = [
+        ("g", b"A -> B B [3]\nB -> \"x\"\n"),
+        ("back", b"0 1 x 1\n1 1 x 2"),
+        ("word", b"0 1 x 1\n0 1 y 2"),
+        ("block", &[0x51, 0x81, 0x08, 0x40, 0x00, 0x00]),
+        ("kind", &[0x71, 0x81, 0x08]),
+    ];
+    let folder = folder("graph_mistakes", &files);
+    for (words, message) in [
+        ("list g back", "back:2:3: refused 51: an edge ends above where it starts: not 1 to 1".to_owned()),
+        ("list g word", "word:2:5: refused 14: the grammar has no word `y`".to_owned()),
+        ("list g block", format!("block: {}; and no text, for byte 0x81 in line 1", Refusal::EdgePlaces)),
+        ("list g kind", format!("kind: {}; and no text, for byte 0x81 in line 1", Refusal::UtteranceKind)),
+    ] {
+        assert_eq!(refused(run_in(&folder, words), 1), format!("{message}\n"), "{words}");
+    }
+}

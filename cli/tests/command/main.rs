@@ -1,0 +1,9 @@
+//! The command `spireyerba`, run as a user runs it.
+
+mod answers;
+mod batch;
+mod common;
+mod graphs;
+mod readme;
+mod report;
+mod usage;

@@ -1,0 +1,209 @@
+//! Help at every level, wrong usage, mistakes in files, pipes and empty input.
+
+use crate::common::{answer, answered, doors, folder, output, refused, run, run_in, run_with, PROGRAM};
+use spireyerba::Refusal;
+use std::io::Write;
+use std::path::Path;
+use std::process::{Command, Stdio};
+
+const COMMANDS: [&str; 11] =
+    ["list", "pick", "why", "report", "batch", "lint", "specimen", "phrases", "check", "pack", "unpack"];
+
+#[test]
+fn help_at_every_level() {
+    let program = answer("--help");
+    assert_eq!(program, answer("-h"));
+    assert_eq!(program, answer("help"));
+    for command in COMMANDS {
+        let row = program.lines().find(|line| line.trim_start().starts_with(command));
+        assert!(row.is_some(), "{command} in\n{program}");
+        let help = answer(&format!("{command} --help"));
+        assert!(help.contains(&format!("usage: spireyerba {command} GRAMMAR")), "{help}");
+        assert_eq!(help, answer(&format!("help {command}")));
+        assert_eq!(help, answer(&format!("{command} nonsense --nonsense -h")));
+    }
+    assert!(answer("help texts").contains("numaligns 2"));
+    assert!(answer("--version").starts_with("spireyerba 0."));
+}
+
+/// A copy of the door schedule, in which files can be written.
+fn copied_doors(name: &str) -> std::path::PathBuf {
+    let folder = folder(name, &[]);
+    for file in std::fs::read_dir(doors()).expect("the example").map(|file| file.expect("a file").path()) {
+        std::fs::copy(&file, folder.join(file.file_name().expect("a name"))).expect("a copy");
+    }
+    folder
+}
+
+/// Every example of the help does what it says, but that somebody has to answer `pick`.
+#[test]
+fn examples_of_the_help_run() {
+    let folder = copied_doors("help_examples");
+    let path = Path::new(PROGRAM).parent().expect("the program's folder").display().to_string();
+    let path = format!("{path}:{}", std::env::var("PATH").unwrap_or_default());
+    for help in
+        COMMANDS.map(|command| format!("{command} --help")).iter().map(String::as_str).chain(["--help", "help texts"])
+    {
+        let help = answer(help);
+        let example = help.lines().find_map(|line| line.strip_prefix("example: ")).expect("an example");
+        let shell = output(Command::new("sh").args(["-c", example]).current_dir(&folder).env("PATH", &path), b"y\n");
+        assert!(shell.status.success(), "{example}: {shell:?}");
+    }
+    for written in ["meant.txt", "page.html", "readings.jsonl", "utterance.bin"] {
+        assert!(std::fs::metadata(folder.join(written)).expect(written).len() > 0, "{written}");
+    }
+}
+
+#[test]
+fn wrong_usage() {
+    for (words, command, message) in [
+        ("", "spireyerba", "no command"),
+        ("lst", "spireyerba", "there is no command `lst`"),
+        ("help lst", "spireyerba", "there is no command `lst`"),
+        ("list", "spireyerba list", "GRAMMAR is missing"),
+        ("list grammar.txt", "spireyerba list", "UTTERANCE is missing"),
+        ("list a b c", "spireyerba list", "`c` is one operand too many"),
+        ("list - -", "spireyerba list", "only one operand can be - for standard input"),
+        ("list a b --trees", "spireyerba list", "there is no option --trees"),
+        ("list a b -x", "spireyerba list", "there is no option -x"),
+        ("list a b --tree=yes", "spireyerba list", "--tree takes no value"),
+        ("list a b -n", "spireyerba list", "--number needs N"),
+        ("list a b -n many", "spireyerba list", "--number: `many` is no number"),
+        ("list a b --tree --json", "spireyerba list", "--tree, --rules and --json: only one of them"),
+        ("list grammar.txt utterance.txt --said door", "spireyerba list", "--said door: not SLOT=WORD"),
+        ("list grammar.txt utterance.txt --said x=door", "spireyerba list", "--said x=door: not SLOT=WORD"),
+        ("list grammar.txt network.txt --scale 0", "spireyerba list", "--scale is a number above 0"),
+        ("list grammar.txt network.txt --scale -1", "spireyerba list", "--scale is a number above 0"),
+        ("why grammar.txt utterance.txt", "spireyerba why", "K is missing"),
+        ("why grammar.txt utterance.txt two", "spireyerba why", "K: `two` is no number"),
+        ("why grammar.txt utterance.txt 1", "spireyerba why", "K is 2 or more: the first reading is laid beside it"),
+        ("pick grammar.txt -", "spireyerba pick", "the answers come from standard input, so no file can"),
+        ("specimen grammar.txt x", "spireyerba specimen", "LENGTH: `x` is no number"),
+        ("phrases grammar.txt x", "spireyerba phrases", "LENGTH: `x` is no number"),
+        ("unpack grammar.txt utterance.txt --network", "spireyerba unpack", "--network needs --scale X"),
+        ("batch grammar.txt utterances.txt -j x", "spireyerba batch", "--jobs: `x` is no number"),
+    ] {
+        assert_eq!(refused(run(words), 2), format!("{command}: {message}\ntry `{command} --help`\n"), "{words}");
+    }
+}
+
+/// Two files that are as they should be, and others.
+const WITH_MISTAKES: [(&str, &[u8]); 10] = [
+    ("g", b"A -> B B [3]\nB -> \"x\"\n"),
+    ("u", b"x 1\nx 2"),
+    ("empty", b""),
+    ("weight", b"A -> B B [65536]"),
+    ("word", b"x 1\ny 2 | x 3"),
+    ("latin", b"T\xfcr -> B B"),
+    ("cut", &[0x10, 0x40, 0x40]),
+    ("kind", &[0x40, 0x00]),
+    ("slots", &[0x2f, 0xff, 0xff]),
+    ("network", b"align 0 x 1 *DELETE* 0.5"),
+];
+
+#[test]
+fn mistakes_in_files() {
+    let folder = folder("mistakes", &WITH_MISTAKES);
+    for (words, message) in [
+        ("list nothing u", "nothing: No such file or directory (os error 2)"),
+        ("list g nothing", "nothing: No such file or directory (os error 2)"),
+        ("list empty u", "empty:1:1: refused 3: there is no rule"),
+        ("list g empty", "empty:1:1: refused 13: there is no slot"),
+        ("check g u empty", "empty:1:1: the line ends where a weight should stand"),
+        ("list weight u", "weight:1:11: refused 42: 65536 is too large: a weight is at most 65535"),
+        ("list g word", "word:2:1: refused 14: the grammar has no word `y`"),
+        ("lint latin", "latin: refused 2: the grammar block's kind is not 1; and no text, for byte 0xfc in line 1"),
+        (
+            "lint cut",
+            "cut: refused 1: a field of the grammar block passes its end; and no text, for byte 0x10 in line 1",
+        ),
+        ("lint kind", "kind: refused 2: the grammar block's kind is not 1; and no text, for byte 0x00 in line 1"),
+        ("list g slots", &format!("slots: {}; and no text, for byte 0xff in line 1", Refusal::UtteranceRange)),
+        ("list g network", "network:1:7: a confusion network needs a scale by which posteriors become costs"),
+        (
+            "list g network --scale 100",
+            "network:1:13: `*DELETE*`: a word is said in every slot, so no slot can hold this",
+        ),
+        ("list g u -n 0", "refused 21: the number of readings wanted is not 1 to 256"),
+        ("list g u -n 257", "refused 21: the number of readings wanted is not 1 to 256"),
+        ("pack g -o no/folder", "no/folder: No such file or directory (os error 2)"),
+    ] {
+        assert_eq!(refused(run_in(&folder, words), 1), format!("{message}\n"), "{words}");
+    }
+    let list = answered(run_in(&folder, "list g word --drop-unknown"), "list");
+    assert_eq!(list, "1  7  x x\n");
+    assert_eq!(run_in(&folder, "list g network --scale 100 --drop-deletes").status, 0);
+}
+
+#[test]
+fn standard_input_stands_for_any_file() {
+    let read = |name| std::fs::read(doors().join(name)).expect(name);
+    let list = answer("list grammar.txt utterance.txt");
+    for (words, file) in [
+        ("list - utterance.txt", "grammar.txt"),
+        ("list grammar.txt -", "utterance.txt"),
+        ("list - utterance.bin", "grammar.txt"),
+        ("list grammar.txt -", "utterance.bin"),
+    ] {
+        assert_eq!(answered(run_with(&doors(), words, &read(file)), words), list);
+    }
+    let empty = run_with(&doors(), "list grammar.txt -", b"");
+    assert_eq!(refused(empty, 1), "<stdin>:1:1: refused 13: there is no slot\n");
+    assert_eq!(answered(run_with(&doors(), "batch grammar.txt -", b""), "batch"), "");
+}
+
+#[test]
+fn commands_in_pipes() {
+    let path = Path::new(PROGRAM).display();
+    let shell = |script: String| {
+        let run = output(Command::new("sh").args(["-c", &script]).current_dir(doors()), b"");
+        assert!(run.status.success() && run.stderr.is_empty(), "{script}: {run:?}");
+        String::from_utf8(run.stdout).expect("a text")
+    };
+    let piped = shell(format!("{path} pack grammar.txt utterance.txt | {path} list grammar.txt - -n 1"));
+    assert_eq!(piped, "1  72  door twenty four oak fire thirty\n");
+    let piped = shell(format!("{path} unpack grammar.bin | {path} pack - | cmp - grammar.bin && echo same"));
+    assert_eq!(piped, "same\n");
+    // a reader that has seen enough is no fault
+    let lines = "door 1; four 1; oak 1\\n".repeat(100);
+    let many = format!("i=0; while [ $i -lt 60 ]; do printf '{lines}'; i=$((i + 1)); done");
+    let piped = shell(format!("({many}) 2>/dev/null | {path} batch grammar.txt - | head -n 1 | cut -c 1-9"));
+    assert_eq!(piped, "{\"line\":1\n");
+}
+
+#[test]
+fn no_colours_in_a_pipe() {
+    for words in ["list grammar.txt utterance.txt --tree", "why grammar.txt utterance.txt 2", "--help"] {
+        assert!(!answer(words).contains('\x1b'), "{words}");
+    }
+}
+
+/// A terminal is made by the program `script`; where there is none, this says so and passes.
+#[test]
+fn colours_on_a_terminal() {
+    let on_a_terminal = |words: &str| {
+        let mut script = Command::new("script");
+        script.args(["-qec", &format!("{PROGRAM} {words}"), "/dev/null"]).current_dir(doors()).env_remove("NO_COLOR");
+        script.stdin(Stdio::null()).output().ok().map(|run| String::from_utf8(run.stdout).expect("a text"))
+    };
+    let Some(list) = on_a_terminal("list grammar.txt utterance.txt -n 2") else {
+        writeln!(std::io::stderr(), "skipped: no program `script` is installed").expect("standard error");
+        return;
+    };
+    assert!(list.contains("2  \x1b[1m80\x1b[0m  door twenty four oak fire \x1b[1;33msixty\x1b[0m"), "{list:?}");
+    let refused = on_a_terminal("pack grammar.txt").expect("a terminal");
+    assert!(
+        refused.starts_with("spireyerba pack: a block is not for a terminal: give -o FILE, or a pipe"),
+        "{refused:?}"
+    );
+}
+
+/// A full disk is said, and is no answer.
+#[test]
+fn output_that_cannot_be_written() {
+    let full = std::fs::OpenOptions::new().write(true).open("/dev/full").expect("/dev/full");
+    let words = ["list", "grammar.txt", "utterance.txt"];
+    let run = Command::new(PROGRAM).args(words).current_dir(doors()).stdout(Stdio::from(full)).output().expect("a run");
+    assert_eq!(run.status.code(), Some(1));
+    assert_eq!(run.stderr, b"<stdout>: No space left on device (os error 28)\n");
+}

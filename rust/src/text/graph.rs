@@ -1,0 +1,152 @@
+//! The text of a word graph.
+
+use super::scan::{digits, weight, Token, Tokens, UTTERANCE};
+use super::utterance::UtteranceReader;
+use super::{without_mark, Fault, NamedGrammar};
+use crate::limits::{MAX_EDGES, MAX_PLACES};
+use crate::{Candidate, Edge, Error, Graph, Position, Refusal};
+
+/// Whether a text is a word graph: it has a line with two numbers and a word, which no text of slots can have.
+pub fn is_graph(text: &str) -> bool {
+    let number = |item: Option<&str>| item.and_then(digits).is_some();
+    without_mark(text).lines().any(|line| {
+        let mut items = line.split_whitespace();
+        let is_edge = number(items.next()) && number(items.next());
+        is_edge && items.next().is_some_and(|item| !item.starts_with(['|', ';', '#']))
+    })
+}
+
+/// A word graph that is being read.
+#[derive(Default)]
+struct Lines {
+    edges: Vec<Edge>,
+    /// The line in which each edge stands.
+    lines: Vec<usize>,
+    /// The last place that an edge reaches, of those that are left out too.
+    reached: u32,
+    /// The last place and where it stands, if the text has it.
+    last: Option<(u32, Position)>,
+}
+
+impl UtteranceReader<'_> {
+    /// Reads the text of a word graph.
+    pub fn read_graph(&self, text: &str) -> Result<Graph, Error> {
+        let mut graph = Lines::default();
+        let mut end = Position { line: 1, column: 1 };
+        for (before, line) in without_mark(text).lines().enumerate() {
+            end.line = before + 1;
+            self.graph_line(&mut graph, &mut Tokens::new(line, end.line, &UTTERANCE))?;
+        }
+        graph.finish(end)
+    }
+
+    /// Reads an edge, the last place, or nothing.
+    fn graph_line(&self, graph: &mut Lines, tokens: &mut Tokens) -> Result<(), Error> {
+        let Some(first) = tokens.next()? else { return Ok(()) };
+        let begin = tokens.position();
+        let from = place(first, tokens)?;
+        let Some(second) = tokens.next()? else { return graph.end(from, begin) };
+        let to = place(second, tokens)?;
+        if from >= to {
+            return Err(tokens.fault(Fault::EdgePlaces { from, to }));
+        }
+        if to >= MAX_PLACES {
+            return Err(tokens.fault(too_many("places", MAX_PLACES)));
+        }
+        let word = match tokens.next()? {
+            Some(Token::Bare(word)) => self.number(word),
+            Some(Token::Quoted(word)) => self.number(&word),
+            other => return tokens.expected("a word", other),
+        };
+        let word = word.map_err(|fault| tokens.fault(fault))?;
+        let cost = match tokens.next()? {
+            None => 0,
+            Some(Token::Bare(item)) => weight(item, "cost").map_err(|fault| tokens.fault(fault))?,
+            other => return tokens.expected("a cost", other),
+        };
+        match tokens.next()? {
+            None => graph.lay(from, to, word.map(|word| Candidate { word, cost }), begin),
+            other => tokens.expected("the end of the line", other),
+        }
+    }
+}
+
+impl Lines {
+    /// Adds an edge, unless its word is left out.
+    fn lay(&mut self, from: u32, to: u32, taken: Option<Candidate>, begin: Position) -> Result<(), Error> {
+        self.reached = self.reached.max(to);
+        let Some(Candidate { word, cost }) = taken else { return Ok(()) };
+        let edge = Edge { from, to, word, cost };
+        let known = self.edges.iter().position(|known| known.is_alike(edge));
+        let fault = match known.map(|known| self.lines[known]) {
+            Some(line) => Fault::RepeatedEdge { line },
+            None if self.edges.len() == MAX_EDGES as usize => too_many("edges", MAX_EDGES),
+            None => {
+                self.edges.push(edge);
+                self.lines.push(begin.line);
+                return Ok(());
+            }
+        };
+        Err(Error::at(begin, fault))
+    }
+
+    /// Takes the last place.
+    fn end(&mut self, last: u32, begin: Position) -> Result<(), Error> {
+        match self.last.replace((last, begin)) {
+            Some((_, Position { line, .. })) => Err(Error::at(begin, Fault::SecondEnd { line })),
+            None => Ok(()),
+        }
+    }
+
+    /// The graph of a text that ends there.
+    fn finish(self, end: Position) -> Result<Graph, Error> {
+        let Self { edges, reached, .. } = self;
+        let (last, at) = self.last.unwrap_or((reached, end));
+        let fault = if edges.is_empty() {
+            Fault::None { what: "edge", refusal: Refusal::UtteranceRange }
+        } else if last >= MAX_PLACES {
+            too_many("places", MAX_PLACES)
+        } else if last < reached {
+            Fault::EarlyEnd { reached }
+        } else {
+            return Ok(Graph { places: last + 1, edges });
+        };
+        Err(Error::at(at, fault))
+    }
+}
+
+fn too_many(what: &'static str, limit: u32) -> Fault {
+    Fault::TooMany { what, within: "a word graph", limit, refusal: Refusal::UtteranceRange }
+}
+
+/// The number of a place.
+fn place(token: Token, tokens: &Tokens) -> Result<u32, Error> {
+    match token {
+        Token::Bare(item) => match digits(item) {
+            // what 32 bits do not hold is above every place
+            Some(number) => Ok(number.unwrap_or(u32::MAX)),
+            None => Err(tokens.fault(Fault::Number(item.to_owned()))),
+        },
+        other => tokens.expected("the number of a place", Some(other)),
+    }
+}
+
+impl NamedGrammar {
+    /// Reads the text of a word graph over this grammar's words, as [`UtteranceReader::read_graph`] does.
+    pub fn parse_graph(&self, text: &str) -> Result<Graph, Error> {
+        UtteranceReader::new(self).read_graph(text)
+    }
+
+    /// The text of a word graph over this grammar's words, from which [`parse_graph`](Self::parse_graph) reads it again:
+    /// a line for each edge, and one for the last place.
+    pub fn graph_text(&self, graph: &Graph) -> String {
+        let mut text: String = graph.edges.iter().map(|edge| self.edge_text(*edge) + "\n").collect();
+        text += &format!("{}\n", graph.places - 1);
+        text
+    }
+
+    /// An edge as it is written in a word graph's text.
+    pub fn edge_text(&self, Edge { from, to, word, cost }: Edge) -> String {
+        format!("{from} {to} {}", self.candidate_text(Candidate { word, cost }))
+    }
+}

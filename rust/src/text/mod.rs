@@ -1,0 +1,100 @@
+//! Grammars, utterances, word graphs and readings as people and recognisers write them.
+//!
+//! # Grammars
+//!
+//! ```text
+//! # How an office reads out a line of its door schedule.
+//! Entry  -> Name Details | Name Leaf [30]
+//! Name   -> Door Number
+//! Number -> Tens Units [5]      # twenty four
+//!         | "twenty" [10]
+//! Door   -> "door"
+//! ```
+//!
+//! A rule is a head, an arrow, a body of one quoted word or two symbols, and in brackets a weight, which is 0 if it is left
+//! out. A bar stands between alternatives, each of which is a rule, and a line may begin with one. In a quoted word `\"` is a
+//! quote and `\\` a backslash. What follows a `#` is passed over, and so are empty lines.
+//!
+//! Rules, symbols and words are numbered as they are met, so the first head is the start. Where other numbers are wanted, or
+//! a word that no rule has, lists before the first rule give them: `symbols Entry Name ..` and `words "door" "twenty" ..`.
+//!
+//! # Utterances
+//!
+//! ```text
+//! door 4 | four 61
+//! twenty 12 | forty 20
+//! ```
+//!
+//! A slot a line: candidates with bars between them, each a word and its cost, in any order. A cost of 65535 says that the
+//! word was not heard. A semicolon ends a slot too, so that an utterance can stand in one line. A word with a blank, a quote
+//! or one of `| ; #` in it is quoted as in a grammar. Confusion networks as SRILM writes them are utterances too:
+//!
+//! ```text
+//! numaligns 2
+//! posterior 1
+//! align 0 door 0.96 four 0.54
+//! align 1 twenty 0.89 forty 0.82
+//! ```
+//!
+//! A word's cost is then minus the natural logarithm of its share of the posterior, times a scale that the reader is given,
+//! rounded; a posterior of 0 says that the word was not heard. Alignments of only `<s>` or `</s>` are no slots, and lines
+//! that begin otherwise are passed over.
+//!
+//! # Word graphs
+//!
+//! ```text
+//! 0 1 door 4
+//! 1 2 twenty 12
+//! 1 3 forty 24
+//! 2 3 four 9
+//! 3
+//! ```
+//!
+//! An edge a line, as OpenFst and Kaldi print lattices: the place where a word starts, the one where it ends, the word, and its
+//! cost, which is 0 if it is left out. Edges are numbered as they stand. A line with one number has the last place; without
+//! it that is the last one that an edge reaches.
+//!
+//! # Readings
+//!
+//! A weight and the rule number of each node, as the lister prints them behind the rank: `72 0 2 12 3 13 15 8 17 11 20 21`.
+//! That of a word graph has a bar behind them and the numbers of its edges: `80 0 2 12 5 8 17 11 20 21 | 0 3 7 9 12`.
+//!
+//! # Example
+//!
+//! ```
+//! use spireyerba::text::NamedGrammar;
+//!
+//! let doors = NamedGrammar::parse(
+//!     r#"Entry  -> Door Number [1]    # a door and its number
+//!        Door   -> "door"
+//!        Number -> "four" | "five" [2]"#,
+//! )?;
+//! let utterance = doors.parse_utterance("door 3 \n four 9 | five 5")?;
+//! let readings = doors.grammar.list(&utterance, 8)?;
+//! let in_words = readings.iter().map(|reading| (reading.weight, doors.sentence(reading)));
+//! assert!(in_words.eq([(11, "door five".into()), (13, "door four".into())]));
+//! # Ok::<(), spireyerba::Error>(())
+//! ```
+
+mod fault;
+mod grammar;
+mod graph;
+mod names;
+mod network;
+mod reading;
+mod scan;
+mod utterance;
+
+pub use fault::Fault;
+pub use grammar::Places;
+pub use graph::is_graph;
+pub use names::NamedGrammar;
+pub use reading::{graph_reading_text, parse_graph_reading, parse_reading, parse_sheet, print_list, reading_text};
+pub use utterance::UtteranceReader;
+
+/// The mark that some editors write before a text.
+const BYTE_ORDER_MARK: char = '\u{feff}';
+
+fn without_mark(text: &str) -> &str {
+    text.strip_prefix(BYTE_ORDER_MARK).unwrap_or(text)
+}

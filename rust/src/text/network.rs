@@ -1,0 +1,202 @@
+//! Confusion networks as SRILM writes them (wlat-format(5)): lines `numaligns COUNT`, `posterior SUM` and, for each
+//! alignment, `align NUMBER WORD POSTERIOR WORD POSTERIOR ..`. Other lines are passed over.
+
+use super::utterance::{finish, Slot, UtteranceReader};
+use super::{Fault, NamedGrammar};
+use crate::limits::NOT_HEARD;
+use crate::{Candidate, Error, Position, Utterance};
+
+const COUNT: &str = "numaligns";
+const POSTERIOR: &str = "posterior";
+const ALIGNMENT: &str = "align";
+/// The word that stands for no word.
+const DELETION: &str = "*DELETE*";
+/// The words at the ends of a sentence, which nobody says.
+const SENTENCE_ENDS: [&str; 2] = ["<s>", "</s>"];
+
+/// The digits behind the point of a 64-bit float, written as it is in science.
+const MOST_DIGITS: usize = 16;
+/// Lesser posteriors are written with an exponent.
+const LEAST_PLAIN: f64 = 1e-4;
+
+/// Whether a text is a network: it has a line `align NUMBER WORD ..`, which no text of slots can have.
+pub(super) fn is_network(text: &str) -> bool {
+    text.lines().any(|line| {
+        let mut items = line.split_whitespace();
+        let is_alignment =
+            items.next() == Some(ALIGNMENT) && items.next().is_some_and(|number| number.parse::<u32>().is_ok());
+        is_alignment && items.next().is_some_and(|item| !item.starts_with(['|', ';', '#']))
+    })
+}
+
+/// A piece of a line without blanks, and where it stands.
+struct Item<'a> {
+    text: &'a str,
+    position: Position,
+}
+
+impl Item<'_> {
+    fn fault(&self, fault: Fault) -> Error {
+        Error::at(self.position, fault)
+    }
+
+    /// A number of the network itself, such as how many alignments it has.
+    fn count(&self) -> Result<usize, Error> {
+        self.text.parse().map_err(|_| self.fault(Fault::Number(self.text.to_owned())))
+    }
+
+    fn posterior(&self) -> Result<f64, Error> {
+        let number = self.text.parse().ok().filter(|number: &f64| number.is_finite() && *number >= 0.0);
+        number.ok_or_else(|| self.fault(Fault::Posterior(self.text.to_owned())))
+    }
+}
+
+fn items(line: &str, number: usize) -> Vec<Item<'_>> {
+    let offset = |item: &str| item.as_ptr() as usize - line.as_ptr() as usize;
+    let position = |item: &str| Position { line: number, column: line[..offset(item)].chars().count() + 1 };
+    line.split_whitespace().map(|text| Item { text, position: position(text) }).collect()
+}
+
+/// A network as it is written.
+pub(super) struct Alignments<'a> {
+    /// Of each alignment where it stands, and its words with their posteriors.
+    alignments: Vec<(Position, Vec<[Item<'a>; 2]>)>,
+    /// The posterior of the whole.
+    posterior: f64,
+    end: Position,
+}
+
+impl<'a> Alignments<'a> {
+    pub(super) fn parse(text: &'a str) -> Result<Self, Error> {
+        let mut network = Self { alignments: Vec::new(), posterior: 1.0, end: Position { line: 1, column: 1 } };
+        let mut said = None;
+        for (before, line) in text.lines().enumerate() {
+            network.end.line = before + 1;
+            let mut items = items(line, before + 1).into_iter();
+            let kind = items.next();
+            match kind.as_ref().map(|item| item.text) {
+                Some(COUNT) => said = Some(needed(items.next(), line, before + 1, "how many alignments there are")?),
+                Some(POSTERIOR) => {
+                    network.posterior = needed(items.next(), line, before + 1, "a posterior")?.posterior()?
+                }
+                Some(ALIGNMENT) => network.alignment(line, before + 1, items)?,
+                _ => {}
+            }
+        }
+        if let Some(item) = said {
+            let (said, found) = (item.count()?, network.alignments.len());
+            if said != found {
+                return Err(item.fault(Fault::AlignmentCount { said, found }));
+            }
+        }
+        Ok(network)
+    }
+
+    fn alignment(&mut self, line: &str, number: usize, mut items: impl Iterator<Item = Item<'a>>) -> Result<(), Error> {
+        let first = needed(items.next(), line, number, "an alignment's number")?;
+        let expected = self.alignments.len();
+        if first.count()? != expected {
+            return Err(first.fault(Fault::AlignmentOrder { expected, found: first.text.to_owned() }));
+        }
+        let mut words = Vec::new();
+        while let Some(word) = items.next() {
+            words.push([word, needed(items.next(), line, number, "a posterior")?]);
+        }
+        self.alignments.push((first.position, words));
+        Ok(())
+    }
+
+    /// The network as slots. Marks of a sentence's ends are no slots.
+    pub(super) fn utterance(&self, reader: &UtteranceReader) -> Result<Utterance, Error> {
+        let begin = self.alignments.first().map_or(self.end, |(position, _)| *position);
+        let scale = reader.scale.ok_or(Error::at(begin, Fault::NoScale))?;
+        let mut slots = Vec::new();
+        for (position, words) in &self.alignments {
+            if !words.is_empty() && words.iter().all(|[word, _]| SENTENCE_ENDS.contains(&word.text)) {
+                continue;
+            }
+            let at = |fault| Error::at(*position, fault);
+            let mut slot = Slot::begin(slots.len()).map_err(at)?;
+            for [word, posterior] in words {
+                self.candidate(reader, &mut slot, word, posterior, scale)?;
+            }
+            slots.push(slot.finish().map_err(at)?);
+        }
+        finish(slots).map_err(|fault| Error::at(self.end, fault))
+    }
+
+    fn candidate(
+        &self,
+        reader: &UtteranceReader,
+        slot: &mut Slot,
+        word: &Item,
+        posterior: &Item,
+        scale: f64,
+    ) -> Result<(), Error> {
+        if word.text == DELETION {
+            return if reader.drop_deletes { Ok(()) } else { Err(word.fault(Fault::Deletion)) };
+        }
+        let share = posterior.posterior()? / self.posterior;
+        let cost = cost(share, scale).map_err(|fault| posterior.fault(fault(posterior.text.to_owned())))?;
+        let word = reader.take(slot, word.text).map_err(|fault| word.fault(fault))?;
+        slot.candidates.extend(word.map(|word| Candidate { word, cost }));
+        Ok(())
+    }
+}
+
+/// An item that has to stand in a line.
+fn needed<'a>(item: Option<Item<'a>>, line: &str, number: usize, wanted: &'static str) -> Result<Item<'a>, Error> {
+    item.ok_or_else(|| {
+        let position = Position { line: number, column: line.trim_end().chars().count() + 1 };
+        Error::at(position, Fault::Expected { wanted, found: None })
+    })
+}
+
+/// The cost of a word with this share of the network's posterior: minus its logarithm, times the scale, rounded. A word
+/// whose posterior is 0 was not heard.
+fn cost(share: f64, scale: f64) -> Result<u32, fn(String) -> Fault> {
+    if share == 0.0 {
+        return Ok(NOT_HEARD);
+    }
+    let cost = (-scale * share.ln()).round();
+    if cost >= f64::from(NOT_HEARD) {
+        Err(Fault::CostTooLarge)
+    } else if cost >= 0.0 {
+        Ok(cost as u32)
+    } else {
+        Err(Fault::Posterior)
+    }
+}
+
+/// The posterior of a word with this cost, with as few digits as give that cost again, if any do.
+fn posterior(word_cost: u32, scale: f64) -> Option<String> {
+    if word_cost == NOT_HEARD {
+        return Some("0".to_owned());
+    }
+    let share = (-f64::from(word_cost) / scale).exp();
+    let rounded = |digits: usize| format!("{share:.digits$e}").parse().unwrap_or(share);
+    let share = (0..=MOST_DIGITS).map(rounded).find(|share| cost(*share, scale).ok() == Some(word_cost))?;
+    Some(if share < LEAST_PLAIN { format!("{share:e}") } else { share.to_string() })
+}
+
+impl NamedGrammar {
+    /// The confusion network of an utterance over this grammar's words, from which an
+    /// [`UtteranceReader`] with the same scale reads it again. Nothing if that is not possible: a word has
+    /// a blank or means something else in networks, or a cost is so great beside the scale that its posterior cannot be told
+    /// from another's.
+    ///
+    /// The posteriors are those of the costs as they stand, so those of a slot need not add up to 1.
+    pub fn network_text(&self, utterance: &Utterance, scale: f64) -> Option<String> {
+        let mut text = format!("{COUNT} {}\n{POSTERIOR} 1\n", utterance.slots.len());
+        for (number, slot) in utterance.slots.iter().enumerate() {
+            text += &format!("{ALIGNMENT} {number}");
+            for candidate in slot {
+                text += &format!(" {} {}", self.word(candidate.word), posterior(candidate.cost, scale)?);
+            }
+            text.push('\n');
+        }
+        let mut reader = UtteranceReader::new(self);
+        reader.scale = Some(scale);
+        (reader.read(&text).as_ref() == Ok(utterance)).then_some(text)
+    }
+}

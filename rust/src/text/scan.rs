@@ -1,0 +1,241 @@
+//! A line of text cut into tokens, each with its column.
+
+use super::Fault;
+use crate::{Error, Position};
+use std::borrow::Cow;
+
+/// What follows it in a line is a comment.
+const COMMENT: char = '#';
+const QUOTE: char = '"';
+const ESCAPE: char = '\\';
+const ARROW: &str = "->";
+
+/// What tokens a text has.
+pub(super) struct Syntax {
+    /// Whether an ASCII character is a token by itself.
+    is_mark: [bool; 128],
+    /// Whether a token without quotes ends before it.
+    ends_bare: [bool; 128],
+}
+
+pub(super) static GRAMMAR: Syntax = Syntax::new(b"|[]");
+pub(super) static UTTERANCE: Syntax = Syntax::new(b"|;");
+
+impl Syntax {
+    const fn new(marks: &[u8]) -> Self {
+        let mut syntax = Self { is_mark: [false; 128], ends_bare: [false; 128] };
+        let mut number = 0;
+        while number < marks.len() {
+            syntax.is_mark[marks[number] as usize] = true;
+            number += 1;
+        }
+        let mut byte = 0;
+        while byte < 128 {
+            let letter = byte as u8 as char;
+            syntax.ends_bare[byte] =
+                syntax.is_mark[byte] || letter.is_whitespace() || letter == QUOTE || letter == COMMENT;
+            byte += 1;
+        }
+        syntax
+    }
+
+    fn ends_bare(&self, letter: char) -> bool {
+        self.ends_bare.get(letter as usize).copied().unwrap_or_else(|| letter.is_whitespace())
+    }
+}
+
+#[derive(Clone, Debug, PartialEq)]
+pub(super) enum Token<'a> {
+    Bare(&'a str),
+    Quoted(Cow<'a, str>),
+    Mark(char),
+    Arrow,
+}
+
+impl Token<'_> {
+    /// The token as it is shown in a message.
+    pub(super) fn shown(&self) -> String {
+        match self {
+            Self::Bare(name) => name.to_string(),
+            Self::Quoted(word) => quoted(word),
+            Self::Mark(mark) => mark.to_string(),
+            Self::Arrow => ARROW.to_owned(),
+        }
+    }
+}
+
+/// The tokens of a line.
+pub(super) struct Tokens<'a> {
+    line: &'a str,
+    number: usize,
+    syntax: &'static Syntax,
+    /// The byte where the next token is looked for, and that where the last one begins or the line ends.
+    at: usize,
+    last: usize,
+}
+
+impl<'a> Tokens<'a> {
+    /// The tokens of a line with its number.
+    pub(super) fn new(line: &'a str, number: usize, syntax: &'static Syntax) -> Self {
+        Self { line, number, syntax, at: 0, last: 0 }
+    }
+
+    /// The byte where the last token begins, or where the line ends.
+    pub(super) fn mark(&self) -> usize {
+        self.last
+    }
+
+    /// Where that byte stands.
+    pub(super) fn position_of(&self, mark: usize) -> Position {
+        Position { line: self.number, column: self.line[..mark].chars().count() + 1 }
+    }
+
+    /// Where the last token begins, or where the line ends.
+    pub(super) fn position(&self) -> Position {
+        self.position_of(self.last)
+    }
+
+    /// A fault at the last token.
+    pub(super) fn fault(&self, fault: Fault) -> Error {
+        Error::at(self.position(), fault)
+    }
+
+    /// A fault since something else stands where `wanted` should.
+    pub(super) fn expected<T>(&self, wanted: &'static str, found: Option<Token>) -> Result<T, Error> {
+        Err(self.fault(Fault::Expected { wanted, found: found.map(|token| token.shown()) }))
+    }
+
+    /// The next token, and nothing at the end of the line or before a comment.
+    pub(super) fn next(&mut self) -> Result<Option<Token<'a>>, Error> {
+        self.at += prefix(&self.line[self.at..], char::is_whitespace);
+        self.last = self.at;
+        let rest = &self.line[self.at..];
+        match rest.bytes().next().map(char::from) {
+            None | Some(COMMENT) => Ok(None),
+            Some(QUOTE) => self.quoted().map(Some),
+            Some(mark) if self.syntax.is_mark.get(mark as usize) == Some(&true) => {
+                self.at += mark.len_utf8();
+                Ok(Some(Token::Mark(mark)))
+            }
+            Some('-') if rest.starts_with(ARROW) => {
+                self.at += ARROW.len();
+                Ok(Some(Token::Arrow))
+            }
+            Some(_) => Ok(Some(self.bare(rest))),
+        }
+    }
+
+    /// A token that ends at a blank, before a mark or before an arrow.
+    fn bare(&mut self, rest: &'a str) -> Token<'a> {
+        let end = prefix(rest, |letter| !self.syntax.ends_bare(letter));
+        let end = rest.as_bytes()[..end].windows(ARROW.len()).position(|pair| pair == ARROW.as_bytes()).unwrap_or(end);
+        self.at += end;
+        Token::Bare(&rest[..end])
+    }
+
+    fn quoted(&mut self) -> Result<Token<'a>, Error> {
+        let inner = &self.line[self.at + QUOTE.len_utf8()..];
+        let end = closing_quote(inner).ok_or_else(|| self.fault(Fault::Unclosed))?;
+        let inner = &inner[..end];
+        let word = if inner.contains(ESCAPE) { Cow::Owned(self.unescaped(inner)?) } else { Cow::Borrowed(inner) };
+        self.at += end + 2 * QUOTE.len_utf8();
+        Ok(Token::Quoted(word))
+    }
+
+    fn unescaped(&self, inner: &str) -> Result<String, Error> {
+        let (mut word, mut letters) = (String::new(), inner.chars());
+        while let Some(letter) = letters.next() {
+            word.push(match letter {
+                ESCAPE => match letters.next() {
+                    Some(escaped @ (QUOTE | ESCAPE)) => escaped,
+                    other => {
+                        return Err(self.fault(Fault::Escape([Some(ESCAPE), other].into_iter().flatten().collect())))
+                    }
+                },
+                letter => letter,
+            });
+        }
+        Ok(word)
+    }
+}
+
+/// The byte at which the quote stands that ends a quoted word.
+fn closing_quote(inner: &str) -> Option<usize> {
+    let mut escaped = false;
+    for (at, letter) in inner.char_indices() {
+        match letter {
+            QUOTE if !escaped => return Some(at),
+            _ => escaped = letter == ESCAPE && !escaped,
+        }
+    }
+    None
+}
+
+/// The bytes at the front of a text whose characters are all of a kind.
+fn prefix(text: &str, is_kind: impl Fn(char) -> bool) -> usize {
+    for (at, byte) in text.bytes().enumerate() {
+        if !byte.is_ascii() {
+            return text.find(|letter| !is_kind(letter)).unwrap_or(text.len());
+        }
+        if !is_kind(char::from(byte)) {
+            return at;
+        }
+    }
+    text.len()
+}
+
+/// A word in quotes.
+pub(super) fn quoted(word: &str) -> String {
+    format!("\"{}\"", word.replace(ESCAPE, "\\\\").replace(QUOTE, "\\\""))
+}
+
+/// Whether a word is one token where it stands without quotes.
+pub(super) fn is_bare(word: &str, syntax: &Syntax) -> bool {
+    !word.is_empty() && !word.contains(|letter| syntax.ends_bare(letter)) && !word.contains(ARROW)
+}
+
+/// The whole number that some digits write, if 32 bits hold it.
+pub(super) fn digits(item: &str) -> Option<Option<u32>> {
+    let all_digits = !item.is_empty() && item.bytes().all(|byte| byte.is_ascii_digit());
+    all_digits.then(|| item.parse().ok())
+}
+
+/// A weight or a cost.
+pub(super) fn weight(item: &str, what: &'static str) -> Result<u32, Fault> {
+    match digits(item) {
+        None => Err(Fault::Number(item.to_owned())),
+        Some(Some(number)) if number <= crate::limits::MAX_WEIGHT => Ok(number),
+        Some(_) => Err(Fault::TooLarge { what, number: item.to_owned() }),
+    }
+}
+
+#[cfg(test)]
+mod tests {
+    use super::*;
+
+    fn all(line: &str) -> Vec<(usize, String)> {
+        let mut tokens = Tokens::new(line, 1, &GRAMMAR);
+        let mut list = Vec::new();
+        while let Some(token) = tokens.next().unwrap() {
+            list.push((tokens.position().column, token.shown()));
+        }
+        list
+    }
+
+    #[test]
+    fn tokens_have_columns_in_characters() {
+        let shown =
+            [(1, "Tür"), (5, "->"), (8, "\"große\""), (16, "["), (17, "3"), (18, "]"), (20, "|"), (22, "A"), (24, "B")];
+        assert_eq!(all("Tür -> \"große\" [3] | A B# C"), shown.map(|(column, text)| (column, text.to_owned())));
+        assert_eq!(all("A->B C").len(), 4);
+    }
+
+    #[test]
+    fn quoted_words() {
+        for word in ["", "a", "a b", "#", "\"", "\\", "\\\"", "a\\\"b|;"] {
+            let line = quoted(word);
+            let token = Tokens::new(&line, 1, &UTTERANCE).next().unwrap();
+            assert_eq!(token, Some(Token::Quoted(word.into())), "{line}");
+        }
+    }
+}

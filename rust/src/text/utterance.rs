@@ -1,0 +1,217 @@
+//! The text of an utterance of slots.
+
+use super::network::{is_network, Alignments};
+use super::scan::{is_bare, quoted, weight, Token, Tokens, UTTERANCE};
+use super::{without_mark, Fault, NamedGrammar};
+use crate::limits::{MAX_CANDIDATES, MAX_SLOTS};
+use crate::{Candidate, Error, Position, Refusal, Utterance};
+use std::collections::HashMap;
+use std::hash::{BuildHasherDefault, Hasher};
+
+/// Reads utterances over a grammar's words, as text or as confusion networks, and word graphs. [`text`](crate::text) says how they are
+/// written.
+///
+/// ```
+/// use spireyerba::text::{NamedGrammar, UtteranceReader};
+///
+/// let doors = NamedGrammar::parse("Entry -> Door Number\nDoor -> \"door\"\nNumber -> \"four\" | \"five\"")?;
+/// let mut reader = UtteranceReader::new(&doors);
+/// let slots = reader.read("door 3\nfour 9 | five 5")?;
+/// assert_eq!(reader.read("door 3 ; five 5 | four 9")?, slots);
+/// reader.scale = Some(100.0);
+/// let heard = reader.read("numaligns 2\nalign 0 door 0.97\nalign 1 five 0.95 four 0.91")?;
+/// assert_eq!(heard, slots);
+/// # Ok::<(), spireyerba::Error>(())
+/// ```
+#[derive(Clone, Debug)]
+pub struct UtteranceReader<'a> {
+    words: HashMap<&'a str, u32, BuildHasherDefault<ShortHasher>>,
+    /// The cost of a word with a posterior of 1/e in a confusion network; twice as much has one with 1/e².
+    pub scale: Option<f64>,
+    /// Leave out words that the grammar does not have, which no reading could use, in place of refusing them.
+    pub drop_unknown: bool,
+    /// Leave `*DELETE*` out of confusion networks in place of refusing it: something was said in every slot.
+    pub drop_deletes: bool,
+}
+
+impl<'a> UtteranceReader<'a> {
+    /// A reader that leaves nothing out and knows no scale.
+    pub fn new(grammar: &'a NamedGrammar) -> Self {
+        let words = grammar.words.iter().zip(0..).map(|(word, number)| (word.as_str(), number)).collect();
+        Self { words, scale: None, drop_unknown: false, drop_deletes: false }
+    }
+
+    /// Reads the text of an utterance, or a confusion network.
+    pub fn read(&self, text: &str) -> Result<Utterance, Error> {
+        let text = without_mark(text);
+        if is_network(text) {
+            return Alignments::parse(text)?.utterance(self);
+        }
+        let mut slots = Vec::new();
+        let mut lines = 1;
+        for (before, line) in text.lines().enumerate() {
+            lines = before + 1;
+            self.line(&mut slots, &mut Tokens::new(line, lines, &UTTERANCE))?;
+        }
+        let end = Position { line: lines, column: 1 };
+        finish(slots).map_err(|fault| Error::at(end, fault))
+    }
+
+    /// Reads the text of an utterance that stands in one line, with semicolons between its slots.
+    pub fn read_line(&self, line: &str) -> Result<Utterance, Error> {
+        let mut slots = Vec::new();
+        let mut tokens = Tokens::new(line, 1, &UTTERANCE);
+        self.line(&mut slots, &mut tokens)?;
+        finish(slots).map_err(|fault| tokens.fault(fault))
+    }
+
+    /// Adds the slots of one line.
+    fn line(&self, slots: &mut Vec<Vec<Candidate>>, tokens: &mut Tokens) -> Result<(), Error> {
+        let mut next = tokens.next()?;
+        while let Some(first) = next {
+            let mark = tokens.mark();
+            let mut slot = Slot::begin(slots.len()).map_err(|fault| tokens.fault(fault))?;
+            next = self.slot(&mut slot, first, tokens)?;
+            slots.push(slot.finish().map_err(|fault| Error::at(tokens.position_of(mark), fault))?);
+        }
+        Ok(())
+    }
+
+    /// Reads the candidates of a slot; answers the first token of the next slot, if there is one in the line.
+    fn slot<'b>(&self, slot: &mut Slot, first: Token<'b>, tokens: &mut Tokens<'b>) -> Result<Option<Token<'b>>, Error> {
+        let mut word = Some(first);
+        loop {
+            self.candidate(slot, word, tokens)?;
+            match tokens.next()? {
+                None => return Ok(None),
+                Some(Token::Mark(';')) => return tokens.next(),
+                Some(Token::Mark('|')) => word = tokens.next()?,
+                other => return tokens.expected("`|`, `;` or the end of the line", other),
+            }
+        }
+    }
+
+    /// Reads a candidate whose word is at hand.
+    fn candidate(&self, slot: &mut Slot, word: Option<Token>, tokens: &mut Tokens) -> Result<(), Error> {
+        let known = match &word {
+            Some(Token::Bare(word)) => self.take(slot, word),
+            Some(Token::Quoted(word)) => self.take(slot, word),
+            _ => return tokens.expected("a word", word),
+        };
+        let known = known.map_err(|fault| tokens.fault(fault))?;
+        let cost = match tokens.next()? {
+            Some(Token::Bare(item)) => weight(item, "cost").map_err(|fault| tokens.fault(fault))?,
+            other => return tokens.expected("a cost", other),
+        };
+        slot.candidates.extend(known.map(|word| Candidate { word, cost }));
+        Ok(())
+    }
+
+    /// The number of a word that a slot is to have; nothing if it is left out.
+    pub(super) fn take(&self, slot: &Slot, word: &str) -> Result<Option<u32>, Fault> {
+        match self.number(word)? {
+            Some(number) if slot.candidates.iter().any(|known| known.word == number) => {
+                Err(Fault::RepeatedWord(word.to_owned()))
+            }
+            Some(_) if slot.candidates.len() == MAX_CANDIDATES as usize => {
+                let refusal = Refusal::UtteranceRange;
+                Err(Fault::TooMany { what: "words", within: "a slot", limit: MAX_CANDIDATES, refusal })
+            }
+            number => Ok(number),
+        }
+    }
+
+    /// The number of a word; nothing if the grammar does not have it and such words are left out.
+    pub(super) fn number(&self, word: &str) -> Result<Option<u32>, Fault> {
+        match self.words.get(word) {
+            None if self.drop_unknown => Ok(None),
+            None => Err(Fault::UnknownWord(word.to_owned())),
+            Some(&number) => Ok(Some(number)),
+        }
+    }
+}
+
+/// FNV-1a, which for short words is several times as fast as what std has; a grammar has too few to make it slow.
+#[derive(Clone, Debug)]
+struct ShortHasher(u64);
+
+impl Default for ShortHasher {
+    fn default() -> Self {
+        Self(0xcbf2_9ce4_8422_2325)
+    }
+}
+
+impl Hasher for ShortHasher {
+    fn write(&mut self, bytes: &[u8]) {
+        for byte in bytes {
+            self.0 = (self.0 ^ u64::from(*byte)).wrapping_mul(0x0000_0100_0000_01b3);
+        }
+    }
+
+    fn finish(&self) -> u64 {
+        self.0
+    }
+}
+
+/// A slot that is being read.
+pub(super) struct Slot {
+    pub(super) candidates: Vec<Candidate>,
+}
+
+impl Slot {
+    /// A slot behind so many others.
+    pub(super) fn begin(before: usize) -> Result<Self, Fault> {
+        if before == MAX_SLOTS as usize {
+            let refusal = Refusal::UtteranceRange;
+            return Err(Fault::TooMany { what: "slots", within: "an utterance", limit: MAX_SLOTS, refusal });
+        }
+        Ok(Self { candidates: Vec::with_capacity(MAX_CANDIDATES as usize) })
+    }
+
+    /// The candidates, words ascending.
+    pub(super) fn finish(mut self) -> Result<Vec<Candidate>, Fault> {
+        if self.candidates.is_empty() {
+            return Err(none("word of the grammar in the slot"));
+        }
+        self.candidates.sort_unstable_by_key(|candidate| candidate.word);
+        Ok(self.candidates)
+    }
+}
+
+/// The utterance of the slots that were read.
+pub(super) fn finish(slots: Vec<Vec<Candidate>>) -> Result<Utterance, Fault> {
+    if slots.is_empty() {
+        return Err(none("slot"));
+    }
+    Ok(Utterance { slots })
+}
+
+fn none(what: &'static str) -> Fault {
+    Fault::None { what, refusal: Refusal::UtteranceRange }
+}
+
+impl NamedGrammar {
+    /// Reads the text of an utterance over this grammar's words, as [`UtteranceReader::read`] does.
+    pub fn parse_utterance(&self, text: &str) -> Result<Utterance, Error> {
+        UtteranceReader::new(self).read(text)
+    }
+
+    /// The text of an utterance over this grammar's words, from which [`parse_utterance`](Self::parse_utterance) reads it
+    /// again, with a line for each slot.
+    pub fn utterance_text(&self, utterance: &Utterance) -> String {
+        utterance.slots.iter().map(|slot| self.slot_text(slot) + "\n").collect()
+    }
+
+    /// A slot as it is written in an utterance's text.
+    pub fn slot_text(&self, slot: &[Candidate]) -> String {
+        let candidates: Vec<String> = slot.iter().map(|candidate| self.candidate_text(*candidate)).collect();
+        candidates.join(" | ")
+    }
+
+    /// A candidate as it is written in an utterance's text.
+    pub fn candidate_text(&self, candidate: Candidate) -> String {
+        let word = self.word(candidate.word);
+        let word = if is_bare(word, &UTTERANCE) { word.to_owned() } else { quoted(word) };
+        format!("{word} {}", candidate.cost)
+    }
+}

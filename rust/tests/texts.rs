@@ -1,0 +1,296 @@
+//! The texts: what they mean, and every mistake that one can make in them.
+
+use spireyerba::limits::{
+    MAX_CANDIDATES, MAX_EDGES, MAX_PLACES, MAX_RULES, MAX_SLOTS, MAX_SYMBOLS, MAX_WORDS, NOT_HEARD,
+};
+use spireyerba::text::{is_graph, parse_reading, parse_sheet, NamedGrammar, UtteranceReader};
+use spireyerba::{Body, Candidate, Edge, Error, Grammar, Graph, Reading, Refusal, Rule, Utterance};
+
+const GRAMMAR: &str = "A -> B B [3] | \"x\"\n\n# two more rules\nB -> \"y\" [4] # the last";
+
+fn grammar() -> NamedGrammar {
+    NamedGrammar::parse(GRAMMAR).unwrap()
+}
+
+#[test]
+fn a_grammar_with_names() {
+    let rule = |head, weight, body| Rule { head, weight, body };
+    let rules = vec![rule(0, 3, Body::Pair(1, 1)), rule(0, 0, Body::Word(0)), rule(1, 4, Body::Word(1))];
+    let expected = NamedGrammar {
+        grammar: Grammar { symbols: 2, words: 2, rules },
+        symbols: vec!["A".into(), "B".into()],
+        words: vec!["x".into(), "y".into()],
+    };
+    assert_eq!(grammar(), expected);
+    let spaced = "\u{feff}A->B B[3]\r\n  | \"x\" [0]\r\nB -> \"y\" [4]";
+    assert_eq!(NamedGrammar::parse(spaced).as_ref(), Ok(&expected));
+    assert_eq!(expected.to_text(), "A -> B B [3]\nA -> \"x\"\nB -> \"y\" [4]\n");
+}
+
+#[test]
+fn lists_give_other_numbers() {
+    let text = "symbols S B A\nwords \"z\" \"y\"\nA -> B B\nB -> \"x\" | \"y\"\n";
+    let named = NamedGrammar::parse(text).unwrap();
+    assert_eq!((named.symbols.join(" "), named.words.join(" ")), ("S B A".into(), "z y x".into()));
+    assert_eq!(named.grammar.rules[0].body, Body::Pair(1, 1));
+    assert_eq!(NamedGrammar::parse(&named.to_text()), Ok(named));
+    let symbols = NamedGrammar::parse("symbols -> words words\nwords -> \"w\"").unwrap();
+    assert_eq!(symbols.symbols, ["symbols", "words"]);
+}
+
+#[test]
+fn an_utterance_in_any_order() {
+    let slots = |text| grammar().parse_utterance(text).map(|utterance| utterance.slots);
+    let candidate = |(word, cost)| Candidate { word, cost };
+    let expected = Ok(vec![vec![candidate((0, 2)), candidate((1, 1))], vec![candidate((0, NOT_HEARD))]]);
+    for text in ["y 1 | x 2\n\nx 65535", "x 2|y 1; x 65535 # not heard", "\"x\" 2 | \"y\" 1 ;\nx 65535;"] {
+        assert_eq!(slots(text), expected, "{text}");
+    }
+}
+
+fn network(text: &str) -> Result<Vec<Vec<Candidate>>, Error> {
+    let grammar = grammar();
+    let mut reader = UtteranceReader::new(&grammar);
+    reader.scale = Some(10.0);
+    reader.read(text).map(|utterance| utterance.slots)
+}
+
+#[test]
+fn networks() {
+    let candidate = |(word, cost)| Candidate { word, cost };
+    let slots = Ok(vec![vec![candidate((0, 7)), candidate((1, NOT_HEARD))], vec![candidate((0, 0))]]);
+    assert_eq!(network("align 0 y 0 x 0.5\nalign 1 x 1"), slots);
+    let whole =
+        "name n\nnumaligns 4\nposterior 2\nalign 0 <s> 2\nalign 1 x 1 y 0\nreference 1 x\nalign 2 x 2\nalign 3 </s> 2";
+    assert_eq!(network(whole), slots);
+}
+
+#[test]
+fn what_a_network_has_and_a_slot_has_not() {
+    let grammar = grammar();
+    let mut reader = UtteranceReader::new(&grammar);
+    (reader.scale, reader.drop_unknown, reader.drop_deletes) = (Some(1.0), true, true);
+    let slots = reader.read("align 0 *DELETE* 0.5 um 0.25 x 1").unwrap().slots;
+    assert_eq!(slots, [[Candidate { word: 0, cost: 0 }]]);
+    let empty = reader.read("align 0 um 0.5 *DELETE* 0.5").unwrap_err();
+    assert_eq!(empty.to_string(), "text:1:7: refused 13: there is no word of the grammar in the slot");
+    assert_eq!(reader.read("um 3 | x 4").unwrap().slots, [[Candidate { word: 0, cost: 4 }]]);
+}
+
+#[test]
+fn a_graph_whose_edges_stand_in_the_order_of_the_text() {
+    let edge = |(from, to, word, cost)| Edge { from, to, word, cost };
+    let edges: Vec<Edge> = [(0, 2, 1, 1), (0, 2, 0, 0), (0, 1, 0, NOT_HEARD)].map(edge).into();
+    let graph = |text| grammar().parse_graph(text);
+    let text = "0 2 y 1\n0 2 x\n\n0 1 \"x\" 65535 # not heard\n";
+    assert_eq!(graph(text), Ok(Graph { places: 3, edges: edges.clone() }));
+    let ended = format!("\u{feff}  {text} 4 # two places that no edge reaches");
+    assert_eq!(graph(&ended), Ok(Graph { places: 5, edges }));
+    assert!(is_graph(text) && is_graph(&ended));
+    for text in ["", "0 1", "0 1 | 2 3", "0 1; 2 3", "0 1 # 2", "x 1 | y 2", "align 0 x 1", "2"] {
+        assert!(!is_graph(text), "{text}");
+    }
+}
+
+#[test]
+fn words_that_are_left_out_of_a_graph() {
+    let grammar = grammar();
+    let mut reader = UtteranceReader::new(&grammar);
+    reader.drop_unknown = true;
+    let edge = Edge { from: 0, to: 1, word: 0, cost: 3 };
+    assert_eq!(reader.read_graph("0 2 um 1\n0 1 x 3"), Ok(Graph { places: 3, edges: vec![edge] }));
+}
+
+/// Holds what a text gives to a message.
+fn expect<T: std::fmt::Debug>(read: Result<T, Error>, text: &str, message: &str) {
+    let error = read.map(|value| format!("{value:?}")).expect_err(text);
+    assert_eq!(error.in_file("f").to_string(), format!("f:{message}"), "{text}");
+}
+
+#[test]
+fn mistakes_in_grammars() {
+    for (text, message) in [
+        ("", "1:1: refused 3: there is no rule"),
+        ("# nothing\n\n", "2:1: refused 3: there is no rule"),
+        ("A -> A A", "1:1: refused 3: there is no word"),
+        ("-> A A", "1:1: `->` where a rule's head should stand"),
+        ("| A A", "1:1: `|` where the first rule's head should stand"),
+        ("\"x\" -> A A", "1:1: `\"x\"` where a rule's head should stand"),
+        ("A", "1:2: the line ends where `->` should stand"),
+        ("A B -> C", "1:3: `B` where `->` should stand"),
+        ("A ->", "1:5: a body is one quoted word or two symbols"),
+        ("A -> B", "1:6: a body is one quoted word or two symbols"),
+        ("A -> B C D", "1:6: a body is one quoted word or two symbols"),
+        ("A -> \"x\" B", "1:6: a body is one quoted word or two symbols"),
+        ("A -> \"x\" | | \"y\"", "1:12: a body is one quoted word or two symbols"),
+        ("A -> \"x", "1:6: a quoted word has no quote at its end"),
+        ("A -> \"x\\n\"", "1:6: `\\n` in a quoted word: only \\\" and \\\\ have a meaning"),
+        ("A -> \"x\" [", "1:11: the line ends where a weight should stand"),
+        ("A -> \"x\" []", "1:11: `]` where a weight should stand"),
+        ("A -> \"x\" [3", "1:12: the line ends where `]` should stand"),
+        ("A -> \"x\" [3 4]", "1:13: `4` where `]` should stand"),
+        ("A -> \"x\" [-1]", "1:11: `-1` is not a whole number"),
+        ("A -> \"x\" [1.5]", "1:11: `1.5` is not a whole number"),
+        ("A -> \"x\" [65536]", "1:11: refused 42: 65536 is too large: a weight is at most 65535"),
+        ("A -> \"x\" [99999999999]", "1:11: refused 42: 99999999999 is too large: a weight is at most 65535"),
+        ("A -> \"x\" [3] \"y\"", "1:14: `\"y\"` where `|` or the end of the line should stand"),
+        ("A -> \"x\" [3]\nA -> B C\n  | \"x\"", "3:5: refused 6: the same rule stands in line 1"),
+        ("symbols A \"B\"", "1:11: `\"B\"` where a symbol should stand"),
+        ("symbols A A", "1:11: `A` is listed already"),
+        ("words a", "1:7: `a` where a quoted word should stand"),
+        ("words \"a\" \"a\"", "1:11: `\"a\"` is listed already"),
+    ] {
+        expect(NamedGrammar::parse(text), text, message);
+    }
+}
+
+#[test]
+fn mistakes_in_utterances() {
+    for (text, message) in [
+        ("", "1:1: refused 13: there is no slot"),
+        ("\n# nothing", "2:1: refused 13: there is no slot"),
+        ("x", "1:2: the line ends where a cost should stand"),
+        ("x y", "1:3: `y` is not a whole number"),
+        ("x 1 y", "1:5: `y` where `|`, `;` or the end of the line should stand"),
+        ("x 1\nx 1 |", "2:6: the line ends where a word should stand"),
+        ("x 1 | | y 2", "1:7: `|` where a word should stand"),
+        ("; x 1", "1:1: `;` where a word should stand"),
+        ("x |", "1:3: `|` where a cost should stand"),
+        ("x 65536", "1:3: refused 42: 65536 is too large: a cost is at most 65535"),
+        ("x 1 | z 2", "1:7: refused 14: the grammar has no word `z`"),
+        ("x 1 | y 2 | x 3", "1:13: refused 15: the slot has `x` already"),
+        ("x 1 | \"y", "1:7: a quoted word has no quote at its end"),
+    ] {
+        expect(grammar().parse_utterance(text), text, message);
+    }
+}
+
+#[test]
+fn mistakes_in_networks() {
+    for (text, message) in [
+        ("align 0 x 1\nalign", "2:6: the line ends where an alignment's number should stand"),
+        ("align 0 x", "1:10: the line ends where a posterior should stand"),
+        ("align 0 x 1 y", "1:14: the line ends where a posterior should stand"),
+        ("align 0 x y", "1:11: `y` is not a posterior from 0 to the network's"),
+        ("align 0 x -1", "1:11: `-1` is not a posterior from 0 to the network's"),
+        ("align 0 x 2", "1:11: `2` is not a posterior from 0 to the network's"),
+        ("align 0 x inf", "1:11: `inf` is not a posterior from 0 to the network's"),
+        ("align 1 x 1", "1:7: alignment `1` where alignment 0 should stand"),
+        ("align 0 x 1\nalign 2 x 1", "2:7: alignment `2` where alignment 1 should stand"),
+        ("numaligns 2\nalign 0 x 1", "1:11: the network says 2 alignments and has 1"),
+        ("numaligns x\nalign 0 x 1", "1:11: `x` is not a whole number"),
+        ("posterior\nalign 0 x 1", "1:10: the line ends where a posterior should stand"),
+        ("align 0 x 0.5 z 0.5", "1:15: refused 14: the grammar has no word `z`"),
+        ("align 0 x 0.5 x 0.5", "1:15: refused 15: the slot has `x` already"),
+        ("align 0 <s> 1\nalign 1 </s> 1", "2:1: refused 13: there is no slot"),
+        ("align 0 x 1\nalign 1", "2:7: refused 13: there is no word of the grammar in the slot"),
+        ("align 0 *DELETE* 0.5 x 0.5", "1:9: `*DELETE*`: a word is said in every slot, so no slot can hold this"),
+    ] {
+        expect(network(text), text, message);
+    }
+    let no_scale = grammar().parse_utterance("numaligns 1\nalign 0 x 1");
+    expect(no_scale, "no scale", "2:7: a confusion network needs a scale by which posteriors become costs");
+    let grammar = grammar();
+    let mut reader = UtteranceReader::new(&grammar);
+    reader.scale = Some(1e6);
+    let message = "1:11: refused 42: `0.5` gives a cost that passes 65534: a smaller scale is needed";
+    expect(reader.read("align 0 x 0.5"), "a great scale", message);
+}
+
+#[test]
+fn mistakes_in_graphs() {
+    for (text, message) in [
+        ("", "1:1: refused 13: there is no edge"),
+        ("# nothing\n2", "2:1: refused 13: there is no edge"),
+        ("x 1", "1:1: `x` is not a whole number"),
+        ("| 1", "1:1: `|` where the number of a place should stand"),
+        ("0 x", "1:3: `x` is not a whole number"),
+        ("0 1", "1:4: the line ends where a word should stand"),
+        ("0 1 | x", "1:5: `|` where a word should stand"),
+        ("0 1 x y", "1:7: `y` is not a whole number"),
+        ("0 1 x |", "1:7: `|` where a cost should stand"),
+        ("0 1 x 1 2", "1:9: `2` where the end of the line should stand"),
+        ("0 1 x 65536", "1:7: refused 42: 65536 is too large: a cost is at most 65535"),
+        ("0 1 z 1", "1:5: refused 14: the grammar has no word `z`"),
+        ("1 1 x 1", "1:3: refused 51: an edge ends above where it starts: not 1 to 1"),
+        ("0 1 x 1\n 0 1 x 2", "2:2: refused 52: the same word between the same places stands in line 1"),
+        ("0 2 x 1\n1", "2:1: refused 51: not the last place: an edge reaches place 2"),
+        ("0 2 x 1\n2\n\n3", "4:1: the last place stands in line 2"),
+        ("0 1 \"x", "1:5: a quoted word has no quote at its end"),
+    ] {
+        expect(grammar().parse_graph(text), text, message);
+    }
+}
+
+#[test]
+fn mistakes_in_readings() {
+    expect(parse_reading(""), "nothing", "1:1: the line ends where a weight should stand");
+    expect(parse_reading("72 0\n 2 x"), "a letter", "2:4: `x` is not a whole number");
+    assert_eq!(parse_reading("3 0 # the root\n1 1"), Ok(Reading { weight: 3, walk: vec![0, 1, 1] }));
+    expect(parse_sheet("1 2\n3 four"), "a word", "2:3: `four` is not a whole number");
+}
+
+/// The text's refusal is the library's of the same numbers, and the text that has one less is accepted.
+#[test]
+fn limits_are_those_of_the_library() {
+    let lines = |count: u32, line: &dyn Fn(u32) -> String| (0..count).map(line).collect::<String>();
+    for (what, limit, line) in [
+        ("symbols", MAX_SYMBOLS, &(|number| format!("S{number} -> \"w\"\n")) as &dyn Fn(u32) -> String),
+        ("words", MAX_WORDS, &|number| format!("S -> \"w{number}\"\n")),
+        ("rules", MAX_RULES, &|number| format!("S{} -> \"w{}\"\n", number % 32, number / 32)),
+    ] {
+        let accepted = NamedGrammar::parse(&lines(limit, line)).unwrap();
+        assert!(accepted.grammar.to_block().is_ok(), "{what}");
+        let column = if what == "symbols" { 1 } else { line(limit).find('"').unwrap() + 1 };
+        let message = format!("{}:{column}: refused 3: one too many: a grammar has at most {limit} {what}", limit + 1);
+        expect(NamedGrammar::parse(&lines(limit + 1, line)), what, &message);
+        let mut grammar = accepted.grammar;
+        grammar.symbols += u32::from(what == "symbols");
+        grammar.words += u32::from(what == "words");
+        if what == "rules" {
+            grammar.rules.push(Rule { head: 0, weight: 0, body: Body::Pair(0, 0) });
+        }
+        assert_eq!(grammar.to_block(), Err(Refusal::GrammarRange), "{what}");
+    }
+}
+
+#[test]
+fn limits_of_utterances_are_those_of_the_library() {
+    let words: String = (0..8).map(|word| format!("S -> \"w{word}\"\n")).collect();
+    let named = NamedGrammar::parse(&words).unwrap();
+    let block = named.grammar.to_block().unwrap();
+    let slot = |count| (0..count).map(|word| format!("w{word} 1")).collect::<Vec<_>>().join(" | ");
+    let accepted = named.parse_utterance(&vec![slot(MAX_CANDIDATES); MAX_SLOTS as usize].join("\n")).unwrap();
+    assert!(accepted.to_block(&block).is_ok());
+    let text = vec!["w0 1"; MAX_SLOTS as usize + 1].join("\n");
+    let message = "25:1: refused 13: one too many: an utterance has at most 24 slots";
+    expect(named.parse_utterance(&text), "25 slots", message);
+    let message = "1:50: refused 13: one too many: a slot has at most 7 words";
+    expect(named.parse_utterance(&slot(8)), "8 words", message);
+    let candidates: Vec<Candidate> = (0..8).map(|word| Candidate { word, cost: 1 }).collect();
+    for slots in [vec![candidates.clone()], vec![candidates[..1].to_vec(); 25]] {
+        assert_eq!(Utterance { slots }.to_block(&block), Err(Refusal::UtteranceRange));
+    }
+}
+
+#[test]
+fn limits_of_graphs_are_those_of_the_library() {
+    let named = grammar();
+    let block = named.grammar.to_block().unwrap();
+    let last = MAX_PLACES - 1;
+    let spans = (0..last).flat_map(|from| (from + 1..=last).map(move |to| (from, to)));
+    let edges: Vec<Edge> = spans.map(|(from, to)| Edge { from, to, word: 0, cost: 1 }).collect();
+    let graph = |count: u32, places| Graph { places, edges: edges[..count as usize].to_vec() };
+    let most = graph(MAX_EDGES, MAX_PLACES);
+    assert_eq!(named.parse_graph(&named.graph_text(&most)).as_ref(), Ok(&most));
+    assert!(most.to_block(&block).is_ok());
+    for (graph, message) in [
+        (graph(MAX_EDGES + 1, MAX_PLACES), "97:1: refused 13: one too many: a word graph has at most 96 edges"),
+        (graph(1, MAX_PLACES + 1), "2:1: refused 13: one too many: a word graph has at most 25 places"),
+    ] {
+        expect(named.parse_graph(&named.graph_text(&graph)), message, message);
+        assert_eq!(graph.to_block(&block), Err(Refusal::UtteranceRange));
+    }
+    let message = "1:3: refused 13: one too many: a word graph has at most 25 places";
+    expect(named.parse_graph("0 25 x 1"), "place 25", message);
+}

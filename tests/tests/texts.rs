@@ -1,0 +1,150 @@
+//! The texts of the crate `spireyerba`, on random grammars, utterances and word graphs: what is written is read again, and
+//! packed to the same block.
+
+use spireyerba::text::{graph_reading_text, is_graph, parse_graph_reading, parse_reading, reading_text};
+use spireyerba::text::{NamedGrammar, UtteranceReader};
+use spireyerba::{GraphReading, Lister};
+use spireyerba_tests::compare::over_seeds;
+use spireyerba_tests::graph_reading;
+use spireyerba_tests::seeded::grammars::{grammar, Size};
+use spireyerba_tests::seeded::graphs::graph;
+use spireyerba_tests::seeded::parsable::{case, graph_case, AMBIGUOUS, SPARSE};
+use spireyerba_tests::seeded::rng::Rng;
+use spireyerba_tests::seeded::utterances::utterance;
+use std::collections::HashSet;
+
+const SIZES: [Size; 3] = [Size::Small, Size::Middle, Size::Greatest];
+/// Characters of names, some of which mean something in texts.
+const SYMBOL_LETTERS: [char; 8] = ['a', 'B', '0', '_', 'ü', '\'', '-', '语'];
+const WORD_LETTERS: [char; 14] = ['a', 'b', '1', 'é', ' ', '"', '\\', '|', ';', '#', '[', '>', '-', '词'];
+
+/// So many names, no two alike.
+fn names(rng: &mut Rng, count: u32, letters: &[char]) -> Vec<String> {
+    let mut known = HashSet::new();
+    let mut names = Vec::new();
+    while names.len() < count as usize {
+        let length = rng.within(1..=12);
+        let name: String = (0..length).map(|_| rng.pick(letters)).collect();
+        if known.insert(name.clone()) {
+            names.push(name);
+        }
+    }
+    names
+}
+
+fn named(rng: &mut Rng) -> NamedGrammar {
+    let size = rng.pick(&SIZES);
+    let grammar = grammar(rng, size);
+    let symbols = names(rng, grammar.symbols, &SYMBOL_LETTERS);
+    let words = names(rng, grammar.words, &WORD_LETTERS);
+    NamedGrammar { grammar, symbols, words }
+}
+
+#[test]
+fn grammars() {
+    over_seeds(0..300, |rng| {
+        let named = named(rng);
+        assert!(named.symbols.iter().all(|name| NamedGrammar::is_symbol_name(name)));
+        let text = named.to_text();
+        let read = NamedGrammar::parse(&text).unwrap_or_else(|error| panic!("{error}\n{text}"));
+        assert_eq!(read, named, "{text}");
+        assert_eq!(read.grammar.to_block(), named.grammar.to_block());
+    });
+}
+
+#[test]
+fn grammars_without_names() {
+    over_seeds(1_000..1_300, |rng| {
+        let size = rng.pick(&SIZES);
+        let grammar = grammar(rng, size);
+        let text = NamedGrammar::numbered(grammar.clone()).to_text();
+        assert_eq!(NamedGrammar::parse(&text).map(|named| named.grammar), Ok(grammar), "{text}");
+    });
+}
+
+#[test]
+fn utterances() {
+    over_seeds(2_000..2_300, |rng| {
+        let named = named(rng);
+        let size = rng.pick(&SIZES);
+        let utterance = utterance(rng, size, named.grammar.words);
+        let text = named.utterance_text(&utterance);
+        let read = named.parse_utterance(&text).unwrap_or_else(|error| panic!("{error}\n{text}"));
+        assert_eq!(read, utterance, "{text}");
+        let in_a_line = text.trim_end().replace('\n', " ; ");
+        assert_eq!(named.parse_utterance(&in_a_line), Ok(utterance), "{in_a_line}");
+    });
+}
+
+#[test]
+fn graphs() {
+    over_seeds(5_000..5_300, |rng| {
+        let named = named(rng);
+        let size = rng.pick(&SIZES);
+        let graph = graph(rng, size, named.grammar.words);
+        let text = named.graph_text(&graph);
+        assert!(
+            is_graph(&text) && !is_graph(&named.utterance_text(&utterance(rng, size, named.grammar.words))),
+            "{text}"
+        );
+        let read = named.parse_graph(&text).unwrap_or_else(|error| panic!("{error}\n{text}"));
+        assert_eq!(read, graph, "{text}");
+        let block = named.grammar.to_block().expect("an accepted grammar");
+        assert_eq!(read.to_block(&block), graph.to_block(&block));
+    });
+}
+
+#[test]
+fn networks() {
+    let mut written = 0;
+    over_seeds(3_000..3_300, |rng| {
+        let mut named = named(rng);
+        named.words = names(rng, named.grammar.words, &['a', 'b', 'é', '*', '<', '>', '"']);
+        let utterance = utterance(rng, Size::Middle, named.grammar.words);
+        let scale = rng.pick(&[0.5, 100.0, 1_000.0]);
+        let Some(text) = named.network_text(&utterance, scale) else {
+            assert_eq!(scale, 0.5, "with a greater scale each cost has a posterior of its own");
+            return;
+        };
+        let mut reader = UtteranceReader::new(&named);
+        reader.scale = Some(scale);
+        assert_eq!(reader.read(&text), Ok(utterance), "{text}");
+        written += 1;
+    });
+    assert!(written > 150, "{written} networks");
+}
+
+#[test]
+fn readings_and_a_lister_that_is_kept() {
+    over_seeds(4_000..4_200, |rng| {
+        let shape = rng.pick(&[&AMBIGUOUS, &SPARSE]);
+        let (grammar, utterance) = case(rng, shape);
+        let mut lister = Lister::new(&grammar).expect("an accepted grammar");
+        for wanted in [1, 30, 2] {
+            let readings = lister.list(&utterance, wanted);
+            assert_eq!(readings, grammar.list(&utterance, wanted));
+            for reading in readings.into_iter().flatten() {
+                assert_eq!(parse_reading(&reading_text(&reading)), Ok(reading));
+            }
+        }
+    });
+}
+
+#[test]
+fn readings_of_graphs() {
+    let mut read = 0;
+    over_seeds(6_000..6_200, |rng| {
+        let shape = rng.pick(&[&AMBIGUOUS, &SPARSE]);
+        let (grammar, graph) = graph_case(rng, shape);
+        let block = grammar.to_block().expect("an accepted grammar");
+        let graph_block = graph.to_block(&block).expect("an accepted graph");
+        for found in grammar.list_graph(&graph, 30).expect("an accepted number") {
+            assert_eq!(parse_graph_reading(&graph_reading_text(&found)).as_ref(), Ok(&found));
+            let packed = found.to_block(&grammar).expect("a reading of the library's");
+            assert_eq!(packed, graph_reading::pack(&grammar, &found));
+            assert_eq!(GraphReading::from_block(&block, &graph_block, &packed), Ok(found));
+            read += 1;
+        }
+    });
+    assert!(read > 1_000, "{read} readings");
+}
