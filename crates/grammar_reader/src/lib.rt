@@ -35,13 +35,13 @@ pub enum GrammarRead {
 }
 
 // Sizes and the next place, or the refusal.
-enum SizesRead {
+pub enum SizesRead {
     Sizes(Sizes, Cursor),
     Refused(u32),
 }
 
 // S, W and R, from a place of the source.
-fn read_sizes(src: Source, block: &[u8], sheet: &[u32], at: usize) -> SizesRead
+pub fn read_sizes(src: Source, block: &[u8], sheet: &[u32], at: usize) -> SizesRead
     requires { ⌜ at < 2 ^ 16 ⌝ }
     ensures { λ r. do ⌜ (r ≡ sizesOf (sizesFrom (sourceOf src (now (block .entry)) (now (sheet .entry))) at)) × SizesNear (at + (← ⟦SIZES_WIDTH⟧ .entry)) r ⌝ }
 {

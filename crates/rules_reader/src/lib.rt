@@ -59,7 +59,7 @@ fn below(n: u32, refusal: u32) -> Field
 }
 
 // The field of a symbol.
-fn symbol_of(v: Vocabulary) -> Field
+pub fn symbol_of(v: Vocabulary) -> Field
     requires { ⌜ Ranges (v .symbols) (v .words) ⌝ }
     ensures { λ f. do ⌜ (f ≡ symbol (v .symbols)) × (f .width ≤ (← ⟦MAX_WIDTH⟧ .entry)) ⌝ }
 {
@@ -67,7 +67,7 @@ fn symbol_of(v: Vocabulary) -> Field
 }
 
 // The field of the first number of a rule's body.
-fn first_of(v: Vocabulary, kind: u32) -> Field
+pub fn first_of(v: Vocabulary, kind: u32) -> Field
     requires { ⌜ Ranges (v .symbols) (v .words) ⌝ }
     ensures { λ f. do ⌜ (f ≡ firstOf (v .symbols) (v .words) kind) × (f .width ≤ (← ⟦MAX_WIDTH⟧ .entry)) ⌝ }
 {

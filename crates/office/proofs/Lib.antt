@@ -1,0 +1,5 @@
+pub mod Steps
+pub mod Read
+pub mod Accepted
+pub mod Refusals
+pub mod Examples
