@@ -1,6 +1,6 @@
 -- An office grammar in normal form: document 02, request N5. Helper symbols are numbered from S as they are met: rule by rule,
 -- first a body's new words, in the items' order, then its chain. Stands on Office.
-use mathlib.Core.Bool.{Bool, false}
+use mathlib.Core.Bool.{Bool, true, false}
 use mathlib.Core.List.{List, [], _∷_, _++_, map}
 use Prim.Native.Nat.{ℕ, suc, _+_}
 use lib.Dec.{eqb}
@@ -10,7 +10,7 @@ use Rattle.packing.specs.declared.Sym.{Sym}
 use Rattle.packing.specs.declared.Word as W
 use Rattle.packing.specs.declared.Rule as R
 use Rattle.packing.specs.declared.Rule.the-variants.{Pair, Word}
-use Rattle.packing.specs.Meaning.{symbolOf, word, Grammar}
+use Rattle.packing.specs.Meaning.{symbolOf, word, Grammar, marked, Marked}
 use Rattle.office.specs.Office.{Item, symbol, spoken, OfficeRule, rule, Office}
 
 -- what a helper symbol stands for: a word, or two symbols joined. A list of helpers is in the order of their numbers
@@ -122,3 +122,13 @@ convert o = record {
 unfoldable pub marks : Office → List ℕ
 unfolding helpers
 marks o = map (λ r. 0) (o .rules) ++ map (λ h. 1) (helpers o)
+
+-- the packed grammar of kind 4: the office's rules unmarked, the helpers' marked
+unfoldable pub convertMarked : Office → Marked
+unfolding rulesBehind helpers helperRules
+convertMarked o = record {
+  marking = true;
+  symbols = o .symbols + length (helpers o);
+  words = o .words;
+  rules = map (λ r. marked r 0) (rulesBehind (o .symbols) [] (o .rules)) ++ map (λ r. marked r 1) (helperRules (o .symbols) 0 (helpers o));
+}
