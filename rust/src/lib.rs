@@ -15,6 +15,7 @@
 //! | [`services`] | the library's functions over lent slices, with no allocation |
 //! | [`Refusal`] | why one of them refused, by number and in words |
 //! | [`Grammar`], [`Utterance`], [`Reading`] | values that turn into blocks and sheets and back; [`Grammar::list`] |
+//! | [`Office`], [`MarkedGrammar`] | rules as offices write them, and what they become; [`Office::to_grammar`] |
 //! | [`Graph`], [`GraphReading`] | word graphs, which have blocks and no sheets; [`Grammar::list_graph`] |
 //! | [`Lister`] | many listings under one grammar, in memory that is kept |
 //! | [`Tree`] | a reading as a tree |
@@ -53,6 +54,8 @@ mod fields;
 mod grammar;
 mod graph;
 mod lister;
+mod marked;
+mod office;
 mod reading;
 mod refusal;
 mod tree;
@@ -62,6 +65,8 @@ pub use error::{Error, Position};
 pub use grammar::{Body, Grammar, Rule};
 pub use graph::{Edge, Graph};
 pub use lister::Lister;
+pub use marked::MarkedGrammar;
+pub use office::{Item, Office, OfficeRule};
 pub use reading::{GraphReading, Reading};
 pub use refusal::Refusal;
 pub use tree::{Parts, Tree};

@@ -70,7 +70,7 @@ module _ (m : meaning.Marked) (l marks : List ℕ) (b : Begins (ruleNumbers (gra
   size : length (map ruleIn (m .rules)) ≡ length (m .rules)
   size = length-map (m .rules) ruleIn
 
-  block-is : blockOfMarked m ≡ blockOf (grammarFields (m .marking) (m .symbols) (m .words) (length (map ruleIn (m .rules))) l marks)
+  pub block-is : blockOfMarked m ≡ blockOf (grammarFields (m .marking) (m .symbols) (m .words) (length (map ruleIn (m .rules))) l marks)
   unfolding blockOfMarked markedEntries
   block-is = rw (size, marked-rules-of m l marks b c)
 

@@ -47,10 +47,26 @@ fn join_rule(rules: &[u32], marks: &[u32], r: usize, joined: &mut [u32])
     let from = NUMBERS_PER_RULE * r;
     let at = NUMBERS_PER_MARKED_RULE * r;
     arrays::store(joined, at, arrays::narrow_at(rules, from));
-    arrays::store(joined, at + 1, arrays::narrow_at(rules, from + format::RULE_HEAD_AT));
-    arrays::store(joined, at + 1 + 1, arrays::narrow_at(rules, from + format::RULE_WEIGHT_AT));
-    arrays::store(joined, at + 1 + 1 + 1, arrays::narrow_at(rules, from + format::RULE_FIRST_AT));
-    arrays::store(joined, at + 1 + 1 + 1 + 1, arrays::narrow_at(rules, from + format::RULE_SECOND_AT));
+    arrays::store(
+        joined,
+        at + 1,
+        arrays::narrow_at(rules, from + format::RULE_HEAD_AT),
+    );
+    arrays::store(
+        joined,
+        at + 1 + 1,
+        arrays::narrow_at(rules, from + format::RULE_WEIGHT_AT),
+    );
+    arrays::store(
+        joined,
+        at + 1 + 1 + 1,
+        arrays::narrow_at(rules, from + format::RULE_FIRST_AT),
+    );
+    arrays::store(
+        joined,
+        at + 1 + 1 + 1 + 1,
+        arrays::narrow_at(rules, from + format::RULE_SECOND_AT),
+    );
     arrays::store(joined, at + 1 + 1 + 1 + 1 + 1, arrays::narrow_at(marks, r));
 }
 

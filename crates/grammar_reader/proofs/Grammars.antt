@@ -138,7 +138,7 @@ module _ {marking : Bool} {src : Source} {at : ℕ} {r : SizesRead} {rules marks
         let (m, x, s, k) = was-read in
         record {
           answer = ap (λ (y : Z.Sizes). answer.the-variants.Grammar y marking) s
-          ∙ ap (λ (y : Bool). answer.the-variants.Grammar (sizes (meaning.grammarOf m)) y) k ∙ rw (x, h);
+              ∙ ap (λ (y : Bool). answer.the-variants.Grammar (sizes (meaning.grammarOf m)) y) k ∙ rw (x, h);
           stands = rw (x, h) (rw x at (t .stands));
           bounds = b;
         }

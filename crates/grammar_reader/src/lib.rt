@@ -86,7 +86,8 @@ fn unfit(src: Source, sheet: &[u32], rules: u32, marked: bool) -> bool
         Source::Block(_) => false,
         Source::Sheet => {
             if marked {
-                return sheet.len() != GRAMMAR_SHEET_HEAD + NUMBERS_PER_MARKED_RULE * (rules as usize);
+                return sheet.len()
+                    != GRAMMAR_SHEET_HEAD + NUMBERS_PER_MARKED_RULE * (rules as usize);
             }
             sheet.len() != GRAMMAR_SHEET_HEAD + NUMBERS_PER_RULE * (rules as usize)
         }

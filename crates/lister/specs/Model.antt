@@ -12,6 +12,7 @@ use Rattle.packing.specs.Flat.{Begins, rulesOf, nodeRule}
 use Rattle.packing.specs.Valid.{ValidReading}
 use Rattle.packing.specs.declared.Rule as R
 use Rattle.derivation.specs.Path.{nodeFrom}
+use Rattle.office_theory.specs.Matching.{withoutMarked}
 use Rattle.lister.specs.declared.Shape.{Shape}
 use Rattle.lister.specs.declared.Line.{Line}
 
@@ -37,3 +38,7 @@ GraphSays rules s block r array =
     (d : GraphHead) (l : List ℕ) (next : ℕ) → graphHeadFrom (s .last) (s .rules) block ≡ parsed d 34
     → rulesRead (rulesOf rules (s .rules)) (bytes 31 block) (2 * d .edges - 1) 34 ≡ parsed l next
     → (r .weight ≡ d .weight) × (r .nodes ≡ 2 * d .edges - 1) × Begins l array
+
+-- the n numbers of a walk whose rules are not marked stand at the front of the array
+abbrev pub Shown : (marks walk : List ℕ) (n : ℕ) (array : List ℕ) → Type 0
+Shown marks walk n array = (n ≡ length (withoutMarked marks walk)) × Begins (withoutMarked marks walk) array

@@ -1,13 +1,14 @@
 -- The converted grammar of kind 4 is the converted grammar with its marks.
 use mathlib.Core.Path.{_≡_, refl, ap, _∙_}
 use mathlib.Core.List.{List, [], _∷_, _++_, map, map-append}
-use Prim.Native.Nat.{ℕ, suc}
+use Prim.Native.Nat.{ℕ}
 use native.Mathlib.Omega.{arith}
 use lib.ListN.{length}
 use Rattle.packing.specs.declared.Rule as R
 use Rattle.packing.specs.Meaning.{MarkedRule, marked, ruleIn, markIn, grammarOf}
-use Rattle.office.specs.Office.{Office, OfficeRule}
-use Rattle.office.specs.Conversion.{Helper, after, rulesBehind, helpers, helperRules, convert, marks, convertMarked}
+use Rattle.office.specs.Office.{Office}
+use Rattle.office.specs.Conversion.{rulesBehind, helpers, helperRules, convert, marks, convertMarked}
+use Rattle.office.proofs.Steps.{rules-length, helpers-length}
 
 rules-in : (m : ℕ) (rs : List R.Rule) → map ruleIn (map (λ r. marked r m) rs) ≡ rs
 rules-in m [] = refl
@@ -19,16 +20,6 @@ marks-in m [] [] e = refl
 marks-in m [] (x ∷ l) e = let z : _≡_ {A = ℕ} 0 1 = cc in absurd (omega arith)
 marks-in m (r ∷ rs) [] e = let z : _≡_ {A = ℕ} 0 1 = cc in absurd (omega arith)
 marks-in m (r ∷ rs) (x ∷ l) e = ap (λ (k : List ℕ). m ∷ k) (marks-in m rs l (omega arith))
-
-length-behind : (S : ℕ) (hs : List Helper) (rs : List OfficeRule) → length (rulesBehind S hs rs) ≡ length rs
-unfolding rulesBehind
-length-behind S hs [] = refl
-length-behind S hs (r ∷ rs) = ap suc (length-behind S (after S hs r) rs)
-
-length-helpers : (S k : ℕ) (hs : List Helper) → length (helperRules S k hs) ≡ length hs
-unfolding helperRules
-length-helpers S k [] = refl
-length-helpers S k (h ∷ hs) = ap suc (length-helpers S (suc k) hs)
 
 pub marked-grammar : (o : Office) → grammarOf (convertMarked o) ≡ convert o
 unfolding convert convertMarked
@@ -44,6 +35,6 @@ marked-marks o =
     let gs = helperRules (o .symbols) 0 (helpers o) in
     rw (
       map-append markIn (map (λ r. marked r 0) qs) (map (λ r. marked r 1) gs),
-      marks-in 0 qs (o .rules) (length-behind (o .symbols) [] (o .rules)),
-      marks-in 1 gs (helpers o) (length-helpers (o .symbols) 0 (helpers o)),
+      marks-in 0 qs (o .rules) (rules-length (o .symbols) [] (o .rules)),
+      marks-in 1 gs (helpers o) (helpers-length (o .symbols) 0 (helpers o)),
     )

@@ -1,19 +1,18 @@
--- Every refusal of an office sheet is a number of its row (specs/Sheet): the refusals of each field are.
+-- Every refusal of an office sheet is a number of its row (packing's Rows): the refusals of each field are.
 use mathlib.Core.Bool.{Bool, true, false}
 use mathlib.Core.List.{List, []}
 use mathlib.Core.Logic.{inl, inr}
-use mathlib.Core.Path.{_≡_}
 use Prim.Native.Nat.{ℕ, zero, suc}
 use native.Mathlib.Omega.{arith}
 use lib.Dec.{eqb}
 use lib.ListN.{length}
 use Rattle.bits.specs.Bits.{pick}
-use Rattle.packing.specs.Parse.{refused}
 use Rattle.packing.specs.Source.{numbers, fieldAt}
 use Rattle.packing.specs.Grammar as G
+use Rattle.packing.specs.Rows.{OfficeSheetRow}
 use Rattle.packing.specs.declared.Field.{Field}
-use Rattle.packing.proofs.Refusals.{Stops, going, Refuses, refusal-number, bind, unlike-row, finish-row, Told, told, ranged, field-at-row}
-use Rattle.office.specs.Sheet.{OfficeSheetRow, itemFrom, itemsFrom, officeRuleFrom, ruleAlike, officeFrom, officeSheet}
+use Rattle.packing.proofs.Refusals.{Stops, going, Refuses, bind, unlike-row, finish-row, Told, told, ranged, field-at-row}
+use Rattle.office.specs.Sheet.{itemFrom, itemsFrom, officeRuleFrom, ruleAlike, officeFrom, officeSheet}
 
 short : OfficeSheetRow 41
 short = inl (inr (omega arith, omega arith))
@@ -65,11 +64,8 @@ module _ (s : List ℕ) where
       bind (at-field at (ranged symbols)) (λ head at. bind (at-field at (ranged wrong)) (λ w at. bind (at-field at (ranged count)) (λ n at.
       bind (items-row S W n n at) (λ l at. going))))
 
-  office-row : Refuses OfficeSheetRow (officeSheet s)
+  pub office-row : Refuses OfficeSheetRow (officeSheet s)
   unfolding officeSheet officeFrom
   office-row =
       finish-row _ 41 short (bind (at-field 0 (ranged sizes)) (λ S at. bind (at-field at (ranged sizes)) (λ W at.
       bind (at-field at (ranged sizes)) (λ R at. bind (unlike-row ruleAlike (rule-row S W) again R at []) (λ rs at. going)))))
-
-  pub office-sheet-refused : (n : ℕ) → officeSheet s ≡ refused n → OfficeSheetRow n
-  office-sheet-refused n = refusal-number office-row

@@ -1,16 +1,16 @@
 -- The conversion in the steps of one pass: rules one after the other, a word that is known or new, a symbol that keeps its
--- number, a chain's length.
+-- number, a chain's length, the sizes.
 use mathlib.Core.Path.{_≡_, refl, sym, ap, _∙_}
 use mathlib.Core.Bool.{Bool, true, false}
 use mathlib.Core.List.{List, [], _∷_, _++_, append-nil, append-assoc}
 use Prim.Native.Nat.{ℕ, suc, _+_, _≤_, _<_}
 use native.Mathlib.Omega.{arith}
-use lib.ListN.{length}
+use lib.ListN.{length, length-append}
 use Rattle.bits.specs.Bits.{pick}
 use Rattle.packing.specs.declared.Sym.{Sym}
 use Rattle.packing.specs.declared.Word as W
-use Rattle.office.specs.Office.{Item, symbol, spoken, OfficeRule}
-use Rattle.office.specs.Conversion.{Helper, forWord, isFor, placeOf, withWord, withWords, chain, after, rulesBehind, helpersBehind, helperRules}
+use Rattle.office.specs.Office.{Item, symbol, spoken, OfficeRule, Office}
+use Rattle.office.specs.Conversion.{Helper, forWord, isFor, placeOf, withWord, withWords, chain, after, rulesBehind, helpersBehind, helpers, helperRules, convert}
 
 -- rules behind rules
 pub rules-then : (S : ℕ) (hs : List Helper) (qs rs : List OfficeRule)
@@ -103,3 +103,18 @@ pub helpers-length : (S k : ℕ) (hs : List Helper) → length (helperRules S k 
 unfolding helperRules
 helpers-length S k [] = refl
 helpers-length S k (h ∷ hs) = ap suc (helpers-length S (suc k) hs)
+
+-- the result's sizes
+pub result-symbols : (o : Office) → convert o .symbols ≡ o .symbols + length (helpers o)
+unfolding convert
+result-symbols o = refl
+
+pub result-words : (o : Office) → convert o .words ≡ o .words
+unfolding convert
+result-words o = refl
+
+pub result-rules : (o : Office) → length (convert o .rules) ≡ length (o .rules) + length (helpers o)
+unfolding convert
+result-rules o =
+    length-append (rulesBehind (o .symbols) [] (o .rules)) (helperRules (o .symbols) 0 (helpers o))
+    ∙ rw (rules-length (o .symbols) [] (o .rules), helpers-length (o .symbols) 0 (helpers o))

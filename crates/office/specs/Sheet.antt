@@ -12,7 +12,6 @@ use Rattle.packing.specs.Source.{numbers, fieldAt, within}
 use Rattle.packing.specs.Alike.{unlikeFrom}
 use Rattle.packing.specs.Grammar as G
 use Rattle.packing.specs.Grammar.{sizeField, weightField, firstOf}
-use Rattle.packing.specs.Rows.{Between, _∪_, GrammarSheetRow}
 use Rattle.packing.specs.declared.Field.{Field}
 use Rattle.office.specs.Office.{Item, symbol, spoken, OfficeRule, rule, Office}
 
@@ -70,7 +69,3 @@ officeFrom s at =
 -- the meaning of an office sheet: nothing is left behind the rules, else 41
 unfoldable pub officeSheet : List ℕ → Verdict Office
 officeSheet s = finish (λ at. eqb at (length s)) 41 (officeFrom s 0)
-
--- the numbers that it can be refused with: "3 to 5, 41 and 42 stand at their fields", 6, 54 and 55
-abbrev pub OfficeSheetRow : ℕ → Type 0
-OfficeSheetRow n = (GrammarSheetRow ∪ Between 54 55) n

@@ -8,15 +8,16 @@ use packing::format::MAX_RULES;
 use packing::format::RULES_LENGTH;
 ghost use mathlib.Core.Path.{_≡_};
 ghost use Prim.Native.Nat.{_-_, _≤_};
+ghost use lib.ListN.{replicate};
 ghost use Rattle.packing.specs.Conversion.{fitting, written};
 ghost use Rattle.packing.specs.Store.{storeAll};
 ghost use Rattle.sheet_writer.specs.Answer.{writtenOf};
-ghost use Rattle.office_block.specs.Block.{officeToBlock, ones};
+ghost use Rattle.office_block.specs.Block.{officeToBlock};
 
 // The marks of helpers, from place `first` up to place n.
 fn mark_helpers(marks: &mut [u32], first: usize, n: usize)
     requires { do ⌜ (first ≤ n) × (n ≤ (← ⟦MAX_RULES⟧)) ⌝ }
-    ensures { λ _. ⌜ now (marks .exit) ≡ storeAll (now (marks .entry)) first (ones (n - first)) ⌝ }
+    ensures { λ _. ⌜ now (marks .exit) ≡ storeAll (now (marks .entry)) first (replicate (n - first) 1) ⌝ }
 {
     let mut i = first;
     while i < n {

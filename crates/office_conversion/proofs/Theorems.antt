@@ -1,4 +1,4 @@
--- What the pass leaves of an accepted sheet is the converted grammar, and the marks are those of the rules from rule R on.
+-- What the pass leaves of an accepted sheet is the converted grammar.
 use mathlib.Core.Path.{_≡_, refl, sym, ap, _∙_, subst}
 use mathlib.Core.List.{List, [], _∷_, _++_, map, map-append}
 use Prim.Native.Nat.{ℕ, zero, suc, _+_, _-_, _*_, _≤_, _<_}
@@ -15,7 +15,7 @@ use Rattle.packing.specs.declared.Rule as K
 use Rattle.packing.specs.declared.Rule.the-variants.{Pair, Word}
 use Rattle.packing.proofs.Store.{store-append, store-at}
 use Rattle.office.specs.Office.{Item, symbol, spoken, OfficeRule, rule, Office, ItemsWithin, RuleWithin, RulesWithin, Valid}
-use Rattle.office.proofs.Steps.{rules-length, helpers-length}
+use Rattle.office.proofs.Steps.{rules-length, helpers-length, result-symbols, result-rules}
 use Rattle.office.specs.Conversion.{Helper, helperRules, becomes, after, rulesBehind, helpersBehind, helpers, convert, marks}
 use Rattle.office_conversion.specs.Pass.{rowOf, rowsOf, Converted, WordsBelow, Passable, AllPassable}
 use Rattle.office_conversion.proofs.Rows.{length-rows, rows-append, store-swap}
@@ -43,14 +43,12 @@ rows-values S W (Word h x w ∷ rs) = rw (rows-values S W rs)
 module _ (o : Office) {a rules : List ℕ} {k : ℕ} (v : Converted (o .symbols) (length (o .rules)) (o .rules) a rules k) where
   -- S and R of the result, however many helpers there are: 56 is a test of these
   pub symbols-are : convert o .symbols ≡ o .symbols + k
-  unfolding convert helpers
-  symbols-are = rw (v .count)
+  unfolding helpers
+  symbols-are = result-symbols o ∙ rw (v .count)
 
   pub rules-are : length (convert o .rules) ≡ length (o .rules) + k
-  unfolding convert helpers
-  rules-are =
-      let hs = helpersBehind (o .symbols) [] (o .rules) in
-      omega (arith, length-append (rulesBehind (o .symbols) [] (o .rules)) (helperRules (o .symbols) 0 hs), rules-length (o .symbols) [] (o .rules), helpers-length (o .symbols) 0 hs, v .count)
+  unfolding helpers
+  rules-are = result-rules o ∙ rw (v .count)
 
   -- the result's rules, where it passes no limit
   pub rules-there : length (o .rules) + k ≤ 256 → 1280 ≤ length a → Begins (ruleNumbers (convert o)) rules
@@ -70,26 +68,3 @@ module _ (o : Office) {a rules : List ℕ} {k : ℕ} (v : Converted (o .symbols)
       let same : values (rulesEntries (o .symbols + length hs) (o .words) (qs ++ gs)) ≡ rowsOf qs ++ rowsOf gs =
       sym (rows-values (o .symbols + length hs) (o .words) (qs ++ gs)) ∙ rows-append qs gs in
       rw (same, whole) (take-at (rowsOf qs ++ rowsOf gs) (drop (0 + length (rowsOf qs ++ rowsOf gs)) a) (length (rowsOf qs ++ rowsOf gs)) refl)
-
--- marks
-mark-left : {A : Type 0} (l : List A) (ms : List ℕ) (r : ℕ) → r < length l → getD (map (λ x. 0) l ++ ms) r 0 ≡ 0
-mark-left [] ms r h = absurd (omega arith)
-mark-left (x ∷ l) ms zero h = refl
-mark-left (x ∷ l) ms (suc r) h = mark-left l ms r (omega arith)
-
-ones : {B : Type 0} (m : List B) (k : ℕ) → k < length m → _≡_ {A = ℕ} (getD (map (λ x. 1) m) k 0) 1
-ones [] k h = absurd (omega arith)
-ones (y ∷ m) zero h = refl
-ones (y ∷ m) (suc k) h = ones m k (omega arith)
-
-mark-right : {A B : Type 0} (l : List A) (m : List B) (k : ℕ) → k < length m → _≡_ {A = ℕ} (getD (map (λ x. 0) l ++ map (λ x. 1) m) (length l + k) 0) 1
-mark-right [] m k h = let z : 0 + k ≡ k = omega arith in rw z (ones m k h)
-mark-right (x ∷ l) m k h = let z : suc (length l) + k ≡ suc (length l + k) = omega arith in rw z (mark-right l m k h)
-
-pub office-mark : (o : Office) (r : ℕ) → r < length (o .rules) → getD (marks o) r 0 ≡ 0
-unfolding marks
-office-mark o r h = mark-left (o .rules) (map (λ x. 1) (helpers o)) r h
-
-pub helper-mark : (o : Office) (k : ℕ) → k < length (helpers o) → getD (marks o) (length (o .rules) + k) 0 ≡ 1
-unfolding marks
-helper-mark o k h = mark-right (o .rules) (helpers o) k h

@@ -2,11 +2,11 @@
 use grammar_reader::Sizes;
 use office_reader::ITEM_COUNT_AT;
 use office_reader::ITEMS_AT;
-use office_reader::MAX_ITEMS;
 use office_reader::NUMBERS_PER_ITEM;
 use office_reader::OfficeRead;
 use office_reader::SYMBOL_ITEM;
 use packing::format::GRAMMAR_SHEET_HEAD;
+use packing::format::MAX_ITEMS;
 use packing::format::MAX_RULES;
 use packing::format::MAX_SYMBOLS;
 use packing::format::MAX_WORDS;
@@ -14,6 +14,7 @@ use packing::format::NUMBERS_PER_RULE;
 use packing::format::PAIR_RULE;
 use packing::format::RULES_LENGTH;
 use packing::format::WORD_RULE;
+use packing::refused;
 ghost use mathlib.Core.Path.{_≡_};
 ghost use mathlib.Core.List.{List, [], _∷_, _++_};
 ghost use Prim.Native.Nat.{ℕ, _+_, _-_, _*_, _^_, _≤_, _<_};
@@ -38,9 +39,6 @@ pub struct Base {
     pub symbols: u32,
     pub rules: u32,
 }
-
-// The refusal of a result that passes 32 symbols or 256 rules.
-const RESULT_SIZE: u32 = 56;
 
 // The greatest S and R of a grammar.
 const MOST_SYMBOLS: u32 = MAX_SYMBOLS as u32;
@@ -262,10 +260,10 @@ pub fn read_grammar(sheet: &[u32], rules: &mut [u32]) -> OfficeGrammar
             let symbols = z.symbols + k;
             let count = z.rules + k;
             if MOST_SYMBOLS < symbols {
-                return OfficeGrammar::Refused(RESULT_SIZE);
+                return OfficeGrammar::Refused(refused::OFFICE_SIZE);
             }
             if MOST_RULES < count {
-                return OfficeGrammar::Refused(RESULT_SIZE);
+                return OfficeGrammar::Refused(refused::OFFICE_SIZE);
             }
             let sizes = Sizes {
                 symbols,

@@ -7,6 +7,7 @@ use packing::Field;
 use packing::Read;
 use packing::Source;
 use packing::format::GRAMMAR_SHEET_HEAD;
+use packing::format::MAX_ITEMS;
 use packing::format::MAX_RULES;
 use packing::format::WEIGHT_FIELD;
 use packing::refused;
@@ -32,16 +33,9 @@ pub const ITEMS_AT: usize = 3;
 
 pub const NUMBERS_PER_ITEM: usize = 2;
 
-pub const MAX_ITEMS: u32 = 6;
-
 pub const SYMBOL_ITEM: u32 = 0;
 
 pub const WORD_ITEM: u32 = 1;
-
-// The refusals of an office sheet beside those of a grammar's.
-const ITEM_COUNT: u32 = 54; // items of a body outside 1 to 6
-
-const LONE_SYMBOL: u32 = 55; // a body of one symbol
 
 // The place behind a part of the sheet, or the refusal.
 pub enum Passed {
@@ -59,8 +53,8 @@ const ITEM_COUNT_FIELD: Field = Field {
     width: 0,
     least: 1,
     most: MAX_ITEMS,
-    below: ITEM_COUNT,
-    above: ITEM_COUNT,
+    below: refused::ITEM_COUNT,
+    above: refused::ITEM_COUNT,
 };
 
 // The number at a place of the sheet.
@@ -81,7 +75,7 @@ fn kind_field(count: u32) -> Field
             width: 0,
             least: WORD_ITEM,
             most: WORD_ITEM,
-            below: LONE_SYMBOL,
+            below: refused::ITEM_ALONE,
             above: refused::SHEET_VALUE,
         };
     }
@@ -89,7 +83,7 @@ fn kind_field(count: u32) -> Field
         width: 0,
         least: SYMBOL_ITEM,
         most: WORD_ITEM,
-        below: LONE_SYMBOL,
+        below: refused::ITEM_ALONE,
         above: refused::SHEET_VALUE,
     }
 }

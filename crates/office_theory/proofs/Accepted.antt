@@ -2,27 +2,30 @@
 -- alike.
 use mathlib.Core.Path.{_≡_, refl, sym, ap, _∙_}
 use mathlib.Core.Bool.{Bool, true, false, false≢true, _&&_}
-use mathlib.Core.List.{List, [], _∷_}
+use mathlib.Core.List.{List, [], _∷_, _++_, map, append-nil}
 use Prim.Native.Nat.{ℕ, suc, _+_, _≤_, _<_}
 use native.Mathlib.Omega.{arith}
 use borrow.Author.Tests.{eqb-true}
-use lib.ListN.{length, length-append}
+use lib.ListN.{length}
 use Rattle.bits.specs.Bits.{pick}
 use Rattle.packing.specs.declared.Sym.{Sym}
 use Rattle.packing.specs.declared.Word as W
 use Rattle.packing.specs.declared.Rule as R
 use Rattle.packing.specs.declared.Rule.the-variants.{Pair, Word}
-use Rattle.packing.specs.Alike.{anyLike}
+use Rattle.packing.specs.Meaning.{MarkedRule, marked}
+use Rattle.packing.specs.Alike.{anyLike, All}
 use Rattle.packing.specs.Grammar.{alike, ruleEntries, rulesEntries, grammarEntries}
-use Rattle.packing.specs.Valid.{InRange, Fits, ValidGrammar}
+use Rattle.packing.specs.Valid.{InRange, Fits, ValidGrammar, MarkWithin, ValidMarked}
 use Rattle.packing.specs.Valid as P
 use Rattle.packing.proofs.Entries.{each-join}
+use Rattle.packing.proofs.Grammar.{valid-marked}
 use Rattle.derivation.specs.Derivation.{At}
 use Rattle.derivation.proofs.Lists.{at-length}
 use Rattle.derivation.proofs.Trees.{same-sym, same-word}
 use Rattle.office.specs.Office.{OfficeRule, Office, Valid, Within, Unlike}
-use Rattle.office.proofs.Steps.{rules-length, helpers-length}
-use Rattle.office.specs.Conversion.{Helper, forWord, joins, helper, helpers, convert, rulesBehind, helperRules}
+use Rattle.office.proofs.Marked.{marked-grammar}
+use Rattle.office.proofs.Steps.{result-symbols, result-words, result-rules}
+use Rattle.office.specs.Conversion.{Helper, forWord, joins, helper, helpers, convert, rulesBehind, helperRules, convertMarked}
 use Rattle.office_theory.proofs.Spelled.{Becomes, word-rule, pair-rule, Meant, for-word, for-items, spells-below}
 use Rattle.office_theory.proofs.Facts.{headOf, Origin, of-office, of-word, of-joined, origin, ranges, helper-meant, Place, office, helping, place, spells-one}
 
@@ -125,21 +128,6 @@ module _ (o : Office) (v : Within o) where
     alike-one q r c d (helping k h m) (office b p s) e = absurd (omega (arith, alike-heads c d e))
     alike-one q r c d (helping k h m) (helping k′ h′ m′) e = omega (arith, alike-heads c d e)
 
--- its sizes
-pub result-symbols : (o : Office) → convert o .symbols ≡ o .symbols + length (helpers o)
-unfolding convert
-result-symbols o = refl
-
-pub result-words : (o : Office) → convert o .words ≡ o .words
-unfolding convert
-result-words o = refl
-
-pub result-rules : (o : Office) → length (convert o .rules) ≡ length (o .rules) + length (helpers o)
-unfolding convert
-result-rules o =
-    length-append (rulesBehind (o .symbols) [] (o .rules)) (helperRules (o .symbols) 0 (helpers o))
-    ∙ rw (rules-length (o .symbols) [] (o .rules), helpers-length (o .symbols) 0 (helpers o))
-
 -- what is converted is accepted, unless it passes 32 symbols or 256 rules
 pub converted-valid : (o : Office) → Valid o → convert o .symbols ≤ 32 → length (convert o .rules) ≤ 256 → ValidGrammar (convert o)
 unfolding grammarEntries
@@ -163,3 +151,16 @@ converted-valid o v h m = (
 
     all : (r : ℕ) (c : R.Rule) → At (convert o .rules) r c → Fits (ruleEntries (convert o .symbols) (o .words) c)
     all r c p = rw (result-symbols o) (fits o w r c (origin o w r p))
+
+-- and so it is with its marks
+marks-within : (x : ℕ) → x ≤ 1 → (rs : List R.Rule) (more : List MarkedRule) → All (MarkWithin true) more → All (MarkWithin true) (map (λ r. marked r x) rs ++ more)
+marks-within x h [] more w = w
+marks-within x h (r ∷ rs) more w = (h, marks-within x h rs more w)
+
+pub marked-valid : (o : Office) → Valid o → convert o .symbols ≤ 32 → length (convert o .rules) ≤ 256 → ValidMarked (convertMarked o)
+unfolding convertMarked
+marked-valid o v h m =
+    let qs = rulesBehind (o .symbols) [] (o .rules) in
+    let gs = helperRules (o .symbols) 0 (helpers o) in
+    let helping : All (MarkWithin true) (map (λ r. marked r 1) gs) = rw append-nil at (marks-within 1 (omega arith) gs [] tt) in
+    valid-marked (convertMarked o) (rw (marked-grammar o) (converted-valid o v h m)) (marks-within 0 (omega arith) qs (map (λ r. marked r 1) gs) helping)

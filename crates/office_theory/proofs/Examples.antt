@@ -9,7 +9,7 @@ use Rattle.derivation.specs.Derivation.{leaf, node}
 use Rattle.office.specs.Office.{Item, symbol, spoken, OfficeRule, rule, Office, Within}
 use Rattle.office_theory.specs.Derivations.{OfficeTree, heard, ruled, parted, OfficeDerives, by-edge, by-rule, by-parts, officeWeight}
 use Rattle.office.specs.Conversion.{convert, marks}
-use Rattle.office_theory.specs.Matching.{unlessMarked, reduced, leftOf, rightOf, helperNumber, expandedBy, toGrammar, toOffice, unmarked}
+use Rattle.office_theory.specs.Matching.{unlessMarked, reduced, leftOf, rightOf, helperNumber, expandedBy, toGrammar, toOffice, withoutMarked}
 use Rattle.office.proofs.Examples.{desk}
 
 desk-within : Within desk
@@ -42,8 +42,8 @@ first-back : toOffice desk (node 3 1 (leaf 4 0) (node 9 2 (leaf 1 1) (node 10 3 
 unfolding reduced unlessMarked marks
 first-back = refl
 
-first-walk : unmarked (marks desk) (3 ∷ 4 ∷ 9 ∷ 1 ∷ 10 ∷ 5 ∷ 5 ∷ []) ≡ 3 ∷ 1 ∷ []
-unfolding unmarked marks
+first-walk : withoutMarked (marks desk) (3 ∷ 4 ∷ 9 ∷ 1 ∷ 10 ∷ 5 ∷ 5 ∷ []) ≡ 3 ∷ 1 ∷ []
+unfolding withoutMarked marks
 first-walk = refl
 
 -- rules 0 and 2, of weight 39

@@ -9,16 +9,18 @@ use lib.ListN.{length}
 use Rattle.packing.specs.declared.Sym.{Sym}
 use Rattle.packing.specs.declared.Rule as R
 use Rattle.packing.specs.Meaning.{symbolOf, Edge, Heard, heardEdges, lastPlace}
-use Rattle.packing.specs.Valid.{ValidGrammar}
+use Rattle.packing.specs.Parse.{accepted}
+use Rattle.packing.specs.Grammar.{markedBlock, blockOfMarked}
+use Rattle.packing.proofs.Whole.{marked-block-back}
 use Rattle.derivation.specs.Derivation.{At, ruleWeight, walk}
 use Rattle.office.specs.Office.{Item, rule, Office, Valid}
 use Rattle.office_theory.specs.Derivations.{OfficeTree, officeWalk}
-use Rattle.office.specs.Conversion.{Helper, helper, helpers, helperRule, convert, marks}
-use Rattle.office_theory.specs.Matching.{OfficeDerivation, toGrammar, Match, unmarked}
+use Rattle.office.specs.Conversion.{Helper, helper, helpers, helperRule, convert, marks, convertMarked}
+use Rattle.office_theory.specs.Matching.{OfficeDerivation, toGrammar, Match, withoutMarked}
 use Rattle.office_theory.proofs.Spelled.{Becomes, word-rule, pair-rule}
 use Rattle.office_theory.proofs.Facts.{headOf, helper-rule, Place, office, helping, place, office-rule}
 use Rattle.office_theory.proofs.Matching.{one-to-one}
-use Rattle.office_theory.proofs.Accepted.{converted-valid}
+use Rattle.office_theory.proofs.Accepted.{marked-valid}
 use Rattle.office_theory.proofs.Walks.{office-walk}
 
 module _ (o : Office) (v : Valid o) where
@@ -56,9 +58,10 @@ module _ (o : Office) (v : Valid o) where
 
   -- "The lister leaves helper nodes out": what is left is the office's own walk
   pub helper-nodes-out : (es : List Edge) (i k : ℕ) (t : OfficeTree) → OfficeDerivation o es (symbolOf 0) i k t
-      → unmarked (marks o) (walk (toGrammar o t)) ≡ officeWalk t
+      → withoutMarked (marks o) (walk (toGrammar o t)) ≡ officeWalk t
   helper-nodes-out es i k t d = office-walk o (v .within) es (symbolOf 0) i k (v .symbols .0) t d
 
-  -- what does not pass 32 symbols or 256 rules is accepted
-  pub result-accepted : convert o .symbols ≤ 32 → length (convert o .rules) ≤ 256 → ValidGrammar (convert o)
-  result-accepted h m = converted-valid o v h m
+  -- "The result is a packed grammar of kind 4": what does not pass 32 symbols or 256 rules is accepted as one
+  pub result-accepted : convert o .symbols ≤ 32 → length (convert o .rules) ≤ 256
+      → markedBlock (blockOfMarked (convertMarked o)) ≡ accepted (convertMarked o)
+  result-accepted h m = marked-block-back (convertMarked o) (marked-valid o v h m)

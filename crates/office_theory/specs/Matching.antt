@@ -70,6 +70,6 @@ abbrev pub Match : Office → Heard → Type 0
 Match o h = OneToOne o (heardEdges h) (symbolOf 0) 0 (lastPlace h)
 
 -- a walk without its marked numbers, as the lister prints it
-unfoldable pub unmarked : List ℕ → List ℕ → List ℕ
-unmarked ms [] = []
-unmarked ms (r ∷ rs) = pick (eqb (getD ms r 0) 0) (r ∷ unmarked ms rs) (unmarked ms rs)
+unfoldable pub withoutMarked : List ℕ → List ℕ → List ℕ
+withoutMarked ms [] = []
+withoutMarked ms (r ∷ rs) = pick (eqb (getD ms r 0) 0) (r ∷ withoutMarked ms rs) (withoutMarked ms rs)

@@ -149,3 +149,28 @@ unfolding markedEntries grammarEntries
 valid-unmarked m ((a, (b, (c, h))), u, w) =
     let n : length (m .rules) ≡ length (map ruleIn (m .rules)) = rw length-map in
     ((a, (b, (rw n at c, rules-fit (m .marking) (m .symbols) (m .words) (m .rules) h))), unlike-unmarked (m .rules) u)
+
+-- and with marks, where each is within its range
+mark-fits : (marking : Bool) (m : ℕ) → m ≤ pick marking 1 0 → Fits (markEntries marking m)
+mark-fits false m h = tt
+mark-fits true m h = ((omega arith, h), tt)
+
+marked-fit : (marking : Bool) (S W : ℕ) (rs : List MarkedRule) → All (MarkWithin marking) rs → Fits (rulesEntries S W (map ruleIn rs))
+    → Fits (markedRulesEntries marking S W rs)
+unfolding markedRulesEntries rulesEntries
+marked-fit marking S W [] w h = tt
+marked-fit marking S W (marked r m ∷ rs) (p, w) h =
+    let es = ruleEntries S W r in
+    each-join InRange (markedRuleEntries marking S W (marked r m)) (markedRulesEntries marking S W rs)
+    (each-join InRange es (markEntries marking m) (each-left InRange es (rulesEntries S W (map ruleIn rs)) h) (mark-fits marking m p))
+    (marked-fit marking S W rs w (each-right InRange es (rulesEntries S W (map ruleIn rs)) h))
+
+unlike-marked : (l : List MarkedRule) → Unlike (map ruleIn l) → NoTwo markedAlike l
+unlike-marked [] h = tt
+unlike-marked (x ∷ l) (p, h) = (rw (like-unmarked x l) p, unlike-marked l h)
+
+pub valid-marked : (m : Marked) → ValidGrammar (grammarOf m) → All (MarkWithin (m .marking)) (m .rules) → ValidMarked m
+unfolding markedEntries grammarEntries
+valid-marked m ((a, (b, (c, h))), u) w =
+    let n : length (map ruleIn (m .rules)) ≡ length (m .rules) = rw length-map in
+    ((a, (b, (rw n at c, marked-fit (m .marking) (m .symbols) (m .words) (m .rules) w h))), unlike-marked (m .rules) u, w)

@@ -247,7 +247,7 @@ three-rows r h f =
     then-row (wider (λ n p. inl (inl p)) r) λ a e. then-row (wider (λ n q. inl (inr q)) (h a e)) λ b d. wider (λ n. inr) (f a b e d)
 
 -- the conversions: of what is read, and of the output
-fitting-row : {Row : ℕ → Type 0} {v : Verdict (List ℕ)} (out : List ℕ) → Refuses Row v → Refuses (Row ∪ OutputRow) (fitting v out)
+pub fitting-row : {Row : ℕ → Type 0} {v : Verdict (List ℕ)} (out : List ℕ) → Refuses Row v → Refuses (Row ∪ OutputRow) (fitting v out)
 unfolding fitting
 fitting-row out r = then-rows r (λ l e. choose-row (ltb (length out) (length l)) (denied refl) granted)
 

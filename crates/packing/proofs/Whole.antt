@@ -124,9 +124,10 @@ unfolding markedSheet sheetBy sheetOfMarked
 marked-sheet-out s m e =
     let (l, d) = accepted-else (ltb (length s) 3) 41 _ e in
     let (next, p) = verdict-out (grammarFrom (markingOf (numbers s)) (numbers s) 0) d in
-    let (b, r) = grammar-out (markingOf (numbers s)) (numbers s) 0 p in
-    ((taken-fits (r .taken), r .unlike, r .within),
-      taken-sheet s (markedEntries m) (r .taken) (fit _ _ (r .fit) ∙ sym (length-grammar m) ∙ length-map (markedEntries m) valueOf))
+    let (b, r) = grammar-out (markingOf (numbers s)) (numbers s) 0 p in (
+      (taken-fits (r .taken), r .unlike, r .within),
+      taken-sheet s (markedEntries m) (r .taken) (fit _ _ (r .fit) ∙ sym (length-grammar m) ∙ length-map (markedEntries m) valueOf),
+    )
 
 -- and its length decides whether rules bear marks, since it has a rule
 length-marks : (b : Bool) (R : ℕ) → 1 ≤ R → eqb (3 + numbersPerRule b * R) (3 + 6 * R) ≡ b
@@ -143,8 +144,11 @@ unfolding sheetBy
 sheet-by-back m (f, u, w) =
     let es : List Entry = markedEntries m in
     let n = length-grammar m in
-    rw (le-ltb (length (values es)) 3 (omega arith), grammar-back (numbers (values es)) m
-    (record { taken = sheet-taken es f; unlike = u; within = w; fit = rw (eq-eqb _ _ n) }))
+    rw (
+      le-ltb (length (values es)) 3 (omega arith),
+      grammar-back (numbers (values es)) m
+          (record { taken = sheet-taken es f; unlike = u; within = w; fit = rw (eq-eqb _ _ n) }),
+    )
 
 pub marked-sheet-back : (m : Marked) → ValidMarked m → markedSheet (sheetOfMarked m) ≡ accepted m
 unfolding markedSheet sheetOfMarked

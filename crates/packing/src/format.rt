@@ -18,7 +18,7 @@ pub const MAX_PLACES: usize = 25; // P, of a word graph
 
 pub const MAX_EDGES: usize = 96; // of a word graph
 
-pub const MAX_ITEMS: usize = 6; // of the body of an office's rule
+pub const MAX_ITEMS: u32 = 6; // of the body of an office's rule
 
 pub const MAX_PATH_EDGES: usize = MAX_PLACES - 1;
 
@@ -137,8 +137,6 @@ pub const RULE_WEIGHT_AT: usize = 2;
 pub const RULE_FIRST_AT: usize = 3;
 
 pub const RULE_SECOND_AT: usize = 4;
-
-pub const RULE_MARK_AT: usize = NUMBERS_PER_RULE;
 
 // An utterance's sheet has n, then of each slot its count and the numbers of its candidates: word, cost.
 pub const NUMBERS_PER_CANDIDATE: usize = 2;

@@ -155,7 +155,14 @@ fn read_mark(src: Source, block: &[u8], sheet: &[u32], at: usize, marked: bool) 
 }
 
 // The rule at a place of the source with its mark.
-fn read_marked(src: Source, block: &[u8], sheet: &[u32], at: usize, v: Vocabulary, marked: bool) -> MarkedRead
+fn read_marked(
+    src: Source,
+    block: &[u8],
+    sheet: &[u32],
+    at: usize,
+    v: Vocabulary,
+    marked: bool,
+) -> MarkedRead
     requires { ⌜ (at < 2 ^ 16) × Ranges (v .symbols) (v .words) ⌝ }
     ensures { λ r. do ⌜ (markedRead r ≡ markedRuleFrom marked (sourceOf src (now (block .entry)) (now (sheet .entry))) (v .symbols) (v .words) at) × MarkedNear (at + (← ⟦MAX_MARKED_RULE_WIDTH⟧ .entry)) r ⌝ }
 {

@@ -37,13 +37,13 @@ slice-aggregate-write-grammar-2 : tie.Need-slice-aggregate-write-grammar-2
 slice-aggregate-write-grammar-2 c = search needs
 
 write-grammar-requires : tie.Need-write-grammar-requires
-write-grammar-requires c κs = 
+write-grammar-requires c κs =
     let b = rw (c .before .before .before .before .before .z .given .1) at (c .before .before .before .before .before .before .before .before .before .read-sheet .ensures .bounds) in
     (omega (arith, b .rules, c .before .before .before .wide .ensures .0), record { some-symbol = b .some-symbol; symbols = b .symbols; some-word = b .some-word; words = b .words })
 
 returns : tie.Need-returns
 unfolding grammarToBlock
-returns c = 
+returns c =
     let a = c .before .before .before .before .before .before .before .before .before .before .args in
     and-back (grammarToBlock (a .sheet .now)) (grammar-sheet-and-back (a .sheet .now)) (a .out .now)
     (handed-up (a .out .now) (marked-refused (markedSheet (a .sheet .now)) (λ m. accepted (blockOfMarked m)) (sym (c .before .before .before .before .before .read-sheet .ensures .answer) ∙ c .before .n .given .1)))
@@ -53,7 +53,7 @@ same-length c = search needs
 
 returns-2 : tie.Need-returns-2
 unfolding grammarToBlock
-returns-2 c = 
+returns-2 c =
     let a = c .before .before .before .before .before .before .before .before .before .before .before .before .before .before .before .before .before .args in
     let r = c .before .before .before .before .before .before .before .before .before .before .before .before .read-sheet in
     let e = block-told (markedSheet (a .sheet .now)) (sym (r .ensures .answer) ∙ c .before .before .before .before .before .before .before .before .z .given .1) (r .last .1 .0) (r .last .1 .1 .0) (r .ensures .stands) in

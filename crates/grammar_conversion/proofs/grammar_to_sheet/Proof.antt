@@ -40,7 +40,7 @@ slice-aggregate-join-marks-3 : tie.Need-slice-aggregate-join-marks-3
 slice-aggregate-join-marks-3 c = search needs
 
 join-marks-requires : tie.Need-join-marks-requires
-join-marks-requires c κs = 
+join-marks-requires c κs =
     let b = rw (c .before .before .before .before .before .before .z .given .1) at (c .before .before .before .before .before .before .before .before .before .before .read-marked-block .ensures .bounds) in
     omega (arith, b .rules, c .before .before .before .before .wide .ensures .0)
 
@@ -54,7 +54,7 @@ mul-write-sheet : tie.Need-mul-write-sheet
 mul-write-sheet c = omega (arith, c .before .before .before .before .before .before .before .before .before .wide .ensures .1)
 
 write-sheet-requires : tie.Need-write-sheet-requires
-write-sheet-requires c κs = 
+write-sheet-requires c κs =
     let b = rw (c .before .before .before .before .before .before .before .before .before .before .before .z .given .1) at (c .before .before .before .before .before .before .before .before .before .before .before .before .before .before .before .read-marked-block .ensures .bounds) in
     (omega arith, omega (arith, b .rules, c .before .before .before .before .before .before .before .before .before .wide .ensures .0, c .before .before .before .before .join-marks .kept .1 .1 .1 .0))
 
@@ -63,7 +63,7 @@ same-length c = search needs
 
 returns : tie.Need-returns
 unfolding grammarToSheet
-returns c = 
+returns c =
     let a = c .before .before .before .before .before .before .before .before .before .before .before .before .before .before .before .before .before .before .before .before .before .before .before .args in
     let r = c .before .before .before .before .before .before .before .before .before .before .before .before .before .before .before .before .before .before .read-marked-block in
     let b = rw (c .before .before .before .before .before .before .before .before .before .before .before .before .before .before .z .given .1) at (r .ensures .bounds) in
@@ -82,13 +82,13 @@ mul-write-sheet-2 : tie.Need-mul-write-sheet-2
 mul-write-sheet-2 c = omega (arith, c .before .before .before .before .wide .ensures .1)
 
 write-sheet-requires-2 : tie.Need-write-sheet-requires-2
-write-sheet-requires-2 c κs = 
+write-sheet-requires-2 c κs =
     let b = rw (c .before .before .before .before .before .before .z .given .1) at (c .before .before .before .before .before .before .before .before .before .before .read-marked-block .ensures .bounds) in
     (omega arith, omega (arith, b .rules, c .before .before .before .before .wide .ensures .0, c .before .before .before .before .before .before .before .before .before .before .read-marked-block .kept .1 .0))
 
 returns-2 : tie.Need-returns-2
 unfolding grammarToSheet
-returns-2 c = 
+returns-2 c =
     let a = c .before .before .before .before .before .before .before .before .before .before .args in
     and-back (grammarToSheet (a .block .now)) (λ l. grammar-block-and-back (a .block .now) l (λ i. c .before .before .before .before .before .before .before .before .before .shared-slice-known .given i .fits)) (a .out .now)
     (handed-up (a .out .now) (marked-refused (markedBlock (a .block .now)) (λ m. accepted (sheetOfMarked m)) (sym (c .before .before .before .before .before .read-marked-block .ensures .answer) ∙ c .before .n .given .1)))
@@ -98,7 +98,7 @@ same-length-2 c = search needs
 
 returns-3 : tie.Need-returns-3
 unfolding grammarToSheet
-returns-3 c = 
+returns-3 c =
     let a = c .before .before .before .before .before .before .before .before .before .before .before .before .before .before .before .before .before .before .args in
     let r = c .before .before .before .before .before .before .before .before .before .before .before .before .before .read-marked-block in
     let e = plain-told (markedBlock (a .block .now)) (sym (r .ensures .answer) ∙ c .before .before .before .before .before .before .before .before .before .z .given .1) (r .last .1 .0) (r .last .1 .1 .0) (r .ensures .stands) (c .before .before .before .before .before .before .if1 .left) in

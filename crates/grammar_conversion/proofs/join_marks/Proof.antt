@@ -30,10 +30,10 @@ loop-less c = omega (arith, c .before .before .before .before .loop-test .taken)
 
 loop-again : tie.Need-loop-again Inv-loop μ-loop
 loop-again c = (
-      omega (arith, c .before .before .before .before .loop-test .taken),
-      c .before .before .join-rule .kept .1 .1 .1 .0 ∙ c .before .before .before .before .before .loop .inv .1,
-      rows-turn (c .before .before .before .before .before .before .before .before .before .args .rules .now) (c .before .before .before .before .before .before .before .before .before .args .marks .now) (c .before .before .before .before .before .before .before .before .before .args .n) (c .before .before .before .before .before .loop .i) (c .before .before .before .before .loop-test .taken) (c .before .before .before .before .before .loop .joined) (c .before .before .join-rule .ensures) ∙ c .before .before .before .before .before .loop .inv .2,
-    )
+  omega (arith, c .before .before .before .before .loop-test .taken),
+  c .before .before .join-rule .kept .1 .1 .1 .0 ∙ c .before .before .before .before .before .loop .inv .1,
+  rows-turn (c .before .before .before .before .before .before .before .before .before .args .rules .now) (c .before .before .before .before .before .before .before .before .before .args .marks .now) (c .before .before .before .before .before .before .before .before .before .args .n) (c .before .before .before .before .before .loop .i) (c .before .before .before .before .loop-test .taken) (c .before .before .before .before .before .loop .joined) (c .before .before .join-rule .ensures) ∙ c .before .before .before .before .before .loop .inv .2,
+)
 
 same-length : tie.Need-same-length Inv-loop μ-loop
 same-length c = c .before .loop .inv .1

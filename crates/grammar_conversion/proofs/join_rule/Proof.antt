@@ -109,7 +109,7 @@ same-length c = c .before .before .store6 .kept .0 ∙ c .before .before .before
 
 returns : tie.Need-returns
 unfolding storeAll
-returns c = 
+returns c =
     rw (
       c .before .before .store6 .ensures,
       c .before .before .before .before .before .before .before .store5 .ensures,

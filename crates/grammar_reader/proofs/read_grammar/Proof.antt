@@ -58,7 +58,7 @@ same-length-2 : tie.Need-same-length-2
 same-length-2 c = search needs
 
 returns-3 : tie.Need-returns-3
-returns-3 c = 
+returns-3 c =
     rules-refused _ _ _ (c .before .before .before .before .before .before .before .before .before .before .before .before .before .before .before .read-sizes .ensures .0) _ _ (c .before .before .before .before .before .before .before .before .before .before .before .before .before .head .given .1) (sym (c .before .before .before .before .before .before .before .before .before .before .before .unfit .ensures _) ∙ c .before .before .before .before .before .before .before .before .before .before .if1 .left) (c .before .before .before .before .before .before .before .read-rules .ensures) (c .before .enum-told2 .given .1)
     (c .refusal .ensures)
 
@@ -69,7 +69,7 @@ same-length-4 : tie.Need-same-length-4
 same-length-4 c = search needs
 
 returns-4 : tie.Need-returns-4
-returns-4 c = 
+returns-4 c =
     rules-read _ _ _ (c .before .before .before .before .before .before .before .before .before .before .before .before .before .before .before .read-sizes .ensures .0) _ _ (c .before .before .before .before .before .before .before .before .before .before .before .before .before .head .given .1) (sym (c .before .before .before .before .before .before .before .before .before .before .before .unfit .ensures _) ∙ c .before .before .before .before .before .before .before .before .before .before .if1 .left) (c .before .before .before .before .before .before .before .read-rules .ensures) (c .before .body .given .1)
     (near (c .before .before .before .before .before .before .before .before .before .before .before .before) .0) (near (c .before .before .before .before .before .before .before .before .before .before .before .before) .1)
 

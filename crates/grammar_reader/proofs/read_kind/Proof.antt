@@ -96,7 +96,7 @@ same-length-2 : tie.Need-same-length-2
 same-length-2 c = search needs
 
 returns-2 : tie.Need-returns-2
-returns-2 c = 
+returns-2 c =
     let block = c .before .before .before .before .before .before .before .before .before .before .before .before .before .before .before .before .before .before .before .before .before .before .args .block .now in
     after-kind block _ (kind-read (c .before .before .before .before .before .before .before .before .before .before .before .before .before))
     (end-passed {src = bytes 1 block} (c .before .before .before .before .before .before .before .before .before .read-grammar .ensures) (ended block) 7 (c .before .before .before .read2 .given .1) (sym (c .before .zero-from .ensures) ∙ c .if1 .taken) (near (c .before .before) .0))
@@ -108,7 +108,7 @@ same-length-4 : tie.Need-same-length-4
 same-length-4 c = search needs
 
 returns-3 : tie.Need-returns-3
-returns-3 c = 
+returns-3 c =
     let block = c .before .before .before .before .before .before .before .before .before .before .before .before .before .before .before .before .before .before .before .before .args .block .now in
     after-kind block _ (kind-read (c .before .before .before .before .before .before .before .before .before .before .before)) (end-refused {src = bytes 1 block} (c .before .before .before .before .before .before .before .read-grammar .ensures) (ended block) 7 (c .before .read .given .1))
 
@@ -119,7 +119,7 @@ same-length-6 : tie.Need-same-length-6
 same-length-6 c = search needs
 
 returns-4 : tie.Need-returns-4
-returns-4 c = 
+returns-4 c =
     let block = c .before .before .before .before .before .before .before .before .before .before .before .before .before .before .before .before .before .before .before .before .before .before .args .block .now in
     after-kind block _ (kind-read (c .before .before .before .before .before .before .before .before .before .before .before .before .before))
     (end-failed {src = bytes 1 block} (c .before .before .before .before .before .before .before .before .before .read-grammar .ensures) (ended block) 7 (c .before .before .before .read2 .given .1) (sym (c .before .zero-from .ensures) ∙ c .if1 .left))

@@ -61,7 +61,7 @@ same-length-4 : tie.Need-same-length-4
 same-length-4 c = search needs
 
 returns-3 : tie.Need-returns-3
-returns-3 c = 
+returns-3 c =
     long _ _ (c .before .before .before .before .before .before .before .before .before .before .before .before .if1 .left) (c .before .before .before .before .before .before .before .before .before .before .before .is-marked-sheet .ensures)
     (end-passed (c .before .before .before .before .before .before .before .read-grammar .ensures) (λ (at : ℕ). true) 41 (c .before .read2 .given .1) refl (subst (SizesNear _) (c .before .read2 .given .1) (c .before .before .before .before .before .before .before .read-grammar .ensures .near) .0))
 

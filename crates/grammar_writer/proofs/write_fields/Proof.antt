@@ -14,7 +14,7 @@ kind-of-requires c κs = search needs
 
 write-field-requires : tie.Need-write-field-requires
 unfolding widths
-write-field-requires c κs = 
+write-field-requires c κs =
     let a = c .before .before .before .before .before .args in
     let f = a .form in
     let fs = grammarFields (f .marked) (f .symbols) (f .words) (f .rules) (a .rules .now) (a .marks .now) in
@@ -22,7 +22,7 @@ write-field-requires c κs =
 
 write-field-requires-2 : tie.Need-write-field-requires-2
 unfolding widths
-write-field-requires-2 c κs = 
+write-field-requires-2 c κs =
     let a = c .before .before .before .before .before .before .before .before .before .args in
     let f = a .form in
     let fs = grammarFields (f .marked) (f .symbols) (f .words) (f .rules) (a .rules .now) (a .marks .now) in
@@ -30,7 +30,7 @@ write-field-requires-2 c κs =
 
 write-field-requires-3 : tie.Need-write-field-requires-3
 unfolding widths
-write-field-requires-3 c κs = 
+write-field-requires-3 c κs =
     let a = c .before .before .before .before .before .before .before .before .before .before .before .before .before .args in
     let f = a .form in
     let fs = grammarFields (f .marked) (f .symbols) (f .words) (f .rules) (a .rules .now) (a .marks .now) in
@@ -41,7 +41,7 @@ cast-write-field c = omega (arith, c .before .before .before .before .before .be
 
 write-field-requires-4 : tie.Need-write-field-requires-4
 unfolding widths
-write-field-requires-4 c κs = 
+write-field-requires-4 c κs =
     let a = c .before .before .before .before .before .before .before .before .before .before .before .before .before .before .before .before .before .args in
     let f = a .form in
     let fs = grammarFields (f .marked) (f .symbols) (f .words) (f .rules) (a .rules .now) (a .marks .now) in
@@ -49,7 +49,7 @@ write-field-requires-4 c κs =
 
 write-rules-requires : tie.Need-write-rules-requires
 unfolding widths
-write-rules-requires c κs = 
+write-rules-requires c κs =
     let a = c .before .before .before .before .before .before .before .before .before .before .before .before .before .before .before .before .before .before .before .before .before .args in
     let f = a .form in
     let fs = grammarFields (f .marked) (f .symbols) (f .words) (f .rules) (a .rules .now) (a .marks .now) in
@@ -60,7 +60,7 @@ same-length : tie.Need-same-length
 same-length c = search needs
 
 returns : tie.Need-returns
-returns c = 
+returns c =
     let a = c .before .before .before .before .before .before .before .before .before .before .before .before .before .before .before .before .before .before .before .before .before .before .before .before .args in
     let f = a .form in
     let fs = grammarFields (f .marked) (f .symbols) (f .words) (f .rules) (a .rules .now) (a .marks .now) in

@@ -10,7 +10,7 @@ grammar-length-requires : tie.Need-grammar-length-requires
 grammar-length-requires c κs = search needs
 
 returns : tie.Need-returns
-returns c = 
+returns c =
     let a = c .before .before .before .before .before .args in
     let f = a .form in
     let block = blockOf (grammarFields (f .marked) (f .symbols) (f .words) (f .rules) (a .rules .now) (a .marks .now)) in
@@ -23,7 +23,7 @@ same-length : tie.Need-same-length
 same-length c = search needs
 
 returns-2 : tie.Need-returns-2
-returns-2 c = 
+returns-2 c =
     let a = c .before .before .before .before .before .before .before .before .before .args in
     let f = a .form in
     let block = blockOf (grammarFields (f .marked) (f .symbols) (f .words) (f .rules) (a .rules .now) (a .marks .now)) in

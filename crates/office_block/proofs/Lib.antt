@@ -1,0 +1,3 @@
+pub mod Marks
+pub mod Blocks
+pub mod Refused
