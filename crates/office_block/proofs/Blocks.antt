@@ -45,7 +45,8 @@ block-made : (o : Office) (rules array : List ℕ) → Begins (ruleNumbers (conv
 unfolding convertMarked
 block-made o rules array b c =
     subst (λ (g : meaning.Grammar). blockOfMarked (convertMarked o) ≡ blockOf (grammarFields true (g .symbols) (g .words) (length (g .rules)) rules array)) (marked-grammar o)
-    (block-is (convertMarked o) rules array (rw (marked-grammar o) b) (rw (marked-marks o) c))
+    (block-is (convertMarked o) rules array (subst (λ (g : meaning.Grammar). Begins (ruleNumbers g) rules) (sym (marked-grammar o)) b)
+    (subst (λ (l : List ℕ). Begins l array) (sym (marked-marks o)) c))
 
 module _ (s : List ℕ) where
   pub not-converted : {n : ℕ} → answerOf (officeGrammar s) ≡ Refused n → officeToBlock s ≡ refused n

@@ -1,6 +1,6 @@
 -- A converted grammar that keeps the limits of symbols and rules is accepted: every field is in its range, and no two rules are
 -- alike.
-use mathlib.Core.Path.{_≡_, refl, sym, ap, _∙_}
+use mathlib.Core.Path.{_≡_, refl, sym, ap, _∙_, subst}
 use mathlib.Core.Bool.{Bool, true, false, false≢true, _&&_}
 use mathlib.Core.List.{List, [], _∷_, _++_, map, append-nil}
 use Prim.Native.Nat.{ℕ, suc, _+_, _≤_, _<_}
@@ -157,10 +157,13 @@ marks-within : (x : ℕ) → x ≤ 1 → (rs : List R.Rule) (more : List MarkedR
 marks-within x h [] more w = w
 marks-within x h (r ∷ rs) more w = (h, marks-within x h rs more w)
 
-pub marked-valid : (o : Office) → Valid o → convert o .symbols ≤ 32 → length (convert o .rules) ≤ 256 → ValidMarked (convertMarked o)
+all-within : (o : Office) → All (MarkWithin (convertMarked o .marking)) (convertMarked o .rules)
 unfolding convertMarked
-marked-valid o v h m =
+all-within o =
     let qs = rulesBehind (o .symbols) [] (o .rules) in
     let gs = helperRules (o .symbols) 0 (helpers o) in
     let helping : All (MarkWithin true) (map (λ r. marked r 1) gs) = rw append-nil at (marks-within 1 (omega arith) gs [] tt) in
-    valid-marked (convertMarked o) (rw (marked-grammar o) (converted-valid o v h m)) (marks-within 0 (omega arith) qs (map (λ r. marked r 1) gs) helping)
+    marks-within 0 (omega arith) qs (map (λ r. marked r 1) gs) helping
+
+pub marked-valid : (o : Office) → Valid o → convert o .symbols ≤ 32 → length (convert o .rules) ≤ 256 → ValidMarked (convertMarked o)
+marked-valid o v h m = valid-marked (convertMarked o) (subst ValidGrammar (sym (marked-grammar o)) (converted-valid o v h m)) (all-within o)
