@@ -185,13 +185,7 @@ fn leave_out(walk: &[u32], nodes: usize, marks: &[u32], shown: &mut [u32]) -> us
 }
 
 // The line of a reading as it is printed, with the numbers of its rules that are not marked at the front of `shown`.
-fn printed_line(
-    block: &[u8],
-    rules: &[u32],
-    marks: &[u32],
-    s: Shape,
-    shown: &mut [u32],
-) -> Line
+fn printed_line(block: &[u8], rules: &[u32], marks: &[u32], s: Shape, shown: &mut [u32]) -> Line
     requires { do ⌜ (Bounded s) × ((← ⟦WALK_LENGTH⟧) ≤ length (now shown)) ⌝ }
     ensures { λ r. ⌜ Prints (now (rules .entry)) (now (marks .entry)) s (now (block .entry)) r (now (shown .exit)) ⌝ }
 {

@@ -24,7 +24,7 @@ module _ (n : ℕ) where
   unfolding storeAll
   ones-end i h a = let z : n - i ≡ 0 = omega arith in rw z
 
-zeros : (n m : ℕ) → n ≤ m → take n (replicate m 0) ≡ replicate n 0
+zeros : (n m : ℕ) → n ≤ m → take {A = ℕ} n (replicate m 0) ≡ replicate n 0
 zeros zero m h = refl
 zeros (suc n) zero h = absurd (omega arith)
 zeros (suc n) (suc m) h = ap (λ (l : List ℕ). 0 ∷ l) (zeros n m (omega arith))
@@ -37,19 +37,17 @@ all-one (y ∷ l) x = ap (λ (m : List ℕ). x ∷ m) (all-one l x)
 pub marks-stand : (o : Office) (m n : ℕ) → n ≡ length (o .rules) + length (helpers o) → n ≤ m → {array : List ℕ}
     → array ≡ Left n (replicate m 0) (length (o .rules)) → Begins (marks o) array
 unfolding marks
-marks-stand o m n e h w =
+marks-stand o m n e h {array} w =
     let R = length (o .rules) in
     let K = length (helpers o) in
     let k : n - R ≡ K = omega arith in
-    let ones : length (replicate K 1) ≡ K = length-replicate K 1 in
-    let whole = length-replicate m 0 in
-    let rest = drop (R + length (replicate K 1)) (replicate m 0) in
-    rw (
-      w,
-      k,
-      store-at (replicate m 0) R (replicate K 1) (omega arith),
-      zeros R m (omega arith),
-      all-one (o .rules) 0,
-      all-one (helpers o) 1,
-      sym (append-assoc (replicate R 0) (replicate K 1) rest),
-    ) (take-append-seam (replicate R 0 ++ replicate K 1) rest)
+    let zero-marks : List ℕ = replicate R 0 in
+    let one-marks : List ℕ = replicate K 1 in
+    let all : List ℕ = replicate m 0 in
+    let ones : length one-marks ≡ K = length-replicate K 1 in
+    let whole : length all ≡ m = length-replicate m 0 in
+    let rest : List ℕ = drop (R + length one-marks) all in
+    let stored : array ≡ (zero-marks ++ one-marks) ++ rest =
+    w ∙ ap (λ (j : ℕ). storeAll all R (replicate j 1)) k ∙ store-at all R one-marks (omega arith)
+    ∙ ap (λ (l : List ℕ). l ++ (one-marks ++ rest)) (zeros R m (omega arith)) ∙ sym (append-assoc zero-marks one-marks rest) in
+    rw (all-one (o .rules) 0, all-one (helpers o) 1, stored) (take-append-seam (zero-marks ++ one-marks) rest)

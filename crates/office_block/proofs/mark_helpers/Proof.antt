@@ -1,42 +1,43 @@
+-- What is left of the ones, stored behind those that are, gives all. Assumes nothing.
+use mathlib.Core.Path.{_≡_, refl, sym, _∙_}
+use Prim.Native.Nat.{_-_, _≤_}
+use native.Mathlib.Omega.{arith}
+use borrow.Author.Needs.{needs}
+use lib.ListN.{length, length-set}
+use Rattle.office_block.proofs.Marks.{Left, ones-turn, ones-end}
 use Rattle.office_block.proofs.mark_helpers.Statement.{statement}
 use Rattle.office_block.proofs.mark_helpers.Tie as tie
-use Rattle.office_block.proofs.mark_helpers.Reads as reads
-use Rattle.office_block.proofs.mark_helpers.Lts as lts
-use Rattle.arrays.proofs.store.Reads as store-reads
 
 abbrev Inv-loop : tie.InvT-loop
-Inv-loop marks₀ first n i₀ marks i = ?
+Inv-loop marks₀ first n i₀ marks i = (i ≤ n) × (length marks ≡ length marks₀) × (Left n marks i ≡ Left n marks₀ first)
 
 abbrev μ-loop : tie.MeasureT-loop
-μ-loop marks₀ first n i₀ marks i = ?
+μ-loop marks₀ first n i₀ marks i = n - i
 
--- src/lib.rt:23:5
 loop-holds : tie.Need-loop-holds Inv-loop μ-loop
-loop-holds c = ?
+loop-holds c = (search needs, refl, refl)
 
--- src/lib.rt:24:9
 store-requires : tie.Need-store-requires Inv-loop μ-loop
-store-requires c κs = ?
+store-requires c κs = tt
 
--- src/lib.rt:25:9
 add-i : tie.Need-add-i Inv-loop μ-loop
-add-i c = ?
+add-i c = search needs
 
--- src/lib.rt:23:5
 loop-less : tie.Need-loop-less Inv-loop μ-loop
-loop-less c = ?
+loop-less c = search needs
 
--- src/lib.rt:23:5
 loop-again : tie.Need-loop-again Inv-loop μ-loop
-loop-again c = ?
+loop-again c = (
+  omega (arith, c .before .before .before .before .loop-test .taken),
+  search needs,
+  ones-turn (c .before .before .before .before .before .before .before .args .n) (c .before .before .before .before .before .loop .i) (c .before .before .before .before .loop-test .taken) (c .before .before .before .before .before .loop .marks) (c .before .before .store .ensures) ∙ c .before .before .before .before .before .loop .inv .2,
+)
 
--- src/lib.rt:18:1
 same-length : tie.Need-same-length Inv-loop μ-loop
-same-length c = ?
+same-length c = search needs
 
--- src/lib.rt:18:1
 returns : tie.Need-returns Inv-loop μ-loop
-returns c = ?
+returns c = sym (ones-end (c .before .before .before .args .n) (c .before .loop .i) (omega (arith, c .loop-test .left)) (c .before .loop .marks)) ∙ c .before .loop .inv .2
 
 pub mark-helpers-spec : {M : Type 1} → statement M
 mark-helpers-spec =
