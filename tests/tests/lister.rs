@@ -125,17 +125,17 @@ fn an_edge_that_was_not_heard() {
 /// Nodes whose rule is marked are left out (document 02, N5), of slots and of graphs alike.
 #[test]
 fn marked_rules() {
-    let desk = [2, 4, 4, 0, 5, 3, 1, 0, 0, 1, 1, 2, 1, 1, 1, 1, 1, 1, 2, 2, 1, 3, 1, 1, 0, 7, 4, 1, 0, 0, 1, 1, 2, 1, 2];
+    let desk =
+        [2, 4, 4, 0, 5, 3, 1, 0, 0, 1, 1, 2, 1, 1, 1, 1, 1, 1, 2, 2, 1, 3, 1, 1, 0, 7, 4, 1, 0, 0, 1, 1, 2, 1, 2];
     let mut block = [0; 41];
     assert_eq!(services::office_to_block(&desk, &mut block), Ok(41));
-    let heard = [
-        0x21, 0x08, 0x00, 0x08, 0x90, 0x00, 0x9c, 0x00, 0x31, 0x20, 0x01, 0x30, 0x00, 0x39, 0x80, 0x01, 0xc0,
-    ];
+    let heard = [0x21, 0x08, 0x00, 0x08, 0x90, 0x00, 0x9c, 0x00, 0x31, 0x20, 0x01, 0x30, 0x00, 0x39, 0x80, 0x01, 0xc0];
     assert_eq!(printed("marks_of_an_office", Some(&block), Some(&heard)), "readings 2\n1 35 3 1\n2 39 0 2\n");
     let g = [0x40, 0x40, 0x40, 0x40, 0x00, 0x08, 0x80, 0x00, 0x10];
     let lines = [1, 2, 3, 4, 5].map(|rank| format!("{rank} 3 0 0 0\n")).concat();
     let redrawn = [0x52, 0x84, 0x00, 0x40, 0x00, 0x01, 0x10, 0x00, 0x00, 0x43, 0x00, 0x00, 0x0c, 0x80, 0x00, 0x00];
-    for (name, heard) in [("marks_of_slots", read("examples/g/utterance.bin")), ("marks_of_a_graph", redrawn.to_vec())] {
+    for (name, heard) in [("marks_of_slots", read("examples/g/utterance.bin")), ("marks_of_a_graph", redrawn.to_vec())]
+    {
         assert_eq!(printed(name, Some(&g), Some(&heard)), format!("readings 5\n{lines}"), "{name}");
     }
     // all marked, and none

@@ -26,9 +26,8 @@ const OFFICE_TO_BLOCK: Conversion<u32, u8> = Conversion {
 const BOTH: [Service<u32, u8>; 2] = [OFFICE_TO_BLOCK.library, OFFICE_TO_BLOCK.second];
 
 /// The main example: words in longer bodies, one of them in several, and bodies of three and four items.
-const DESK: [u32; 35] = [
-    2, 4, 4, 0, 5, 3, 1, 0, 0, 1, 1, 2, 1, 1, 1, 1, 1, 1, 2, 2, 1, 3, 1, 1, 0, 7, 4, 1, 0, 0, 1, 1, 2, 1, 2,
-];
+const DESK: [u32; 35] =
+    [2, 4, 4, 0, 5, 3, 1, 0, 0, 1, 1, 2, 1, 1, 1, 1, 1, 1, 2, 2, 1, 3, 1, 1, 0, 7, 4, 1, 0, 0, 1, 1, 2, 1, 2];
 const DESK_BLOCK: [u8; 41] = [
     0x42, 0x41, 0x01, 0x60, 0x00, 0x05, 0x24, 0x44, 0x00, 0x05, 0x04, 0x00, 0x09, 0x58, 0x00, 0x00, 0x72, 0x74, 0x80,
     0x00, 0x0c, 0xc0, 0x00, 0x29, 0x00, 0x00, 0x04, 0xf5, 0x00, 0x00, 0xf6, 0x00, 0x00, 0x67, 0x00, 0x00, 0x18, 0xa0,

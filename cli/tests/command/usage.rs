@@ -112,7 +112,10 @@ fn mistakes_in_files() {
         ("check g u empty", "empty:1:1: the line ends where a weight should stand"),
         ("list weight u", "weight:1:11: refused 42: 65536 is too large: a weight is at most 65535"),
         ("list g word", "word:2:1: refused 14: the grammar has no word `y`"),
-        ("lint latin", "latin: refused 2: the grammar block's kind is not 1 or 4; and no text, for byte 0xfc in line 1"),
+        (
+            "lint latin",
+            "latin: refused 2: the grammar block's kind is not 1 or 4; and no text, for byte 0xfc in line 1",
+        ),
         (
             "lint cut",
             "cut: refused 1: a field of the grammar block passes its end; and no text, for byte 0x10 in line 1",

@@ -35,15 +35,15 @@ module _ (marks shown : List ℕ) (rule k : ℕ) where
 
 -- a walk, rule by rule
 module _ (marks walk : List ℕ) where
-  pub one-more : (i k n : ℕ) {shown after : List ℕ} → i < length walk → take k shown ≡ withoutMarked marks (take i walk)
+  pub one-more : (i k n : ℕ) (shown after : List ℕ) → i < length walk → take k shown ≡ withoutMarked marks (take i walk)
       → take n after ≡ take k shown ++ withoutMarked marks (getD walk i 0 ∷ []) → take n after ≡ withoutMarked marks (take (i + 1) walk)
-  one-more i k n h e f =
+  one-more i k n shown after h e f =
       f ∙ ap (λ (l : List ℕ). l ++ withoutMarked marks (getD walk i 0 ∷ [])) e ∙ sym (without-append marks (take i walk) (getD walk i 0 ∷ []))
       ∙ ap (withoutMarked marks) (sym (rw (add-one i) (take-suc walk i 0 h)))
 
-  pub all-shown : (nodes k : ℕ) {shown : List ℕ} → k ≤ length shown → take k shown ≡ withoutMarked marks (take nodes walk)
+  pub all-shown : (nodes k : ℕ) (shown : List ℕ) → k ≤ length shown → take k shown ≡ withoutMarked marks (take nodes walk)
       → Shown marks (take nodes walk) k shown
-  all-shown nodes k {shown} h e =
+  all-shown nodes k shown h e =
       let same : k ≡ length (withoutMarked marks (take nodes walk)) = sym (length-take-le k shown h) ∙ ap length e in
       (same, rw (← same) e)
 

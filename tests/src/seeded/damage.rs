@@ -1,8 +1,8 @@
 //! Ways to damage a block or a sheet.
 
+use super::offices::marked;
 use super::rng::{Noise, Rng};
 use super::utterances::unheard;
-use super::offices::marked;
 use super::{graphs, raw};
 use crate::{grammar, graph, utterance};
 use spireyerba::{Grammar, Graph, Utterance};
