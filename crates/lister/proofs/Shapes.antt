@@ -32,12 +32,16 @@ least = record { graph = false; last = 1; rules = 1 }
 least-bounded : Bounded least
 least-bounded = record { some-place = omega arith; places = omega arith; some-rule = omega arith; rules = omega arith }
 
+-- that a block is refused does not depend on what is made of it
+abbrev nothing : Marked → Verdict (List ℕ)
+nothing m = accepted []
+
 module _ (grammar heard rules marks : List ℕ) where
   pub no-grammar : {n : ℕ} → markedAnswer (markedBlock grammar) ≡ answer.the-variants.Refused n → ShapeOf grammar heard rules marks least
-  no-grammar {n} e = record { bounded = least-bounded; right = λ m h p q. absurd (refused≢accepted (sym none ∙ ap (λ (v : Verdict Marked). v then λ m. accepted []) p)) }
-    where
-      none : (markedBlock grammar then λ m. accepted []) ≡ refused n
-      none = marked-refused (markedBlock grammar) (λ m. accepted []) e
+  no-grammar e = record {
+    bounded = least-bounded;
+    right = λ m h p q. absurd (refused≢accepted (sym (marked-refused (markedBlock grammar) nothing e) ∙ ap (λ (v : Verdict Marked). v then nothing) p));
+  }
 
   module _ {z : Sizes} {b : Bool} (e : markedAnswer (markedBlock grammar) ≡ answer.the-variants.Grammar z b) where
     pub no-heard : {n : ℕ} → heardBlock (z .words) heard ≡ refused n → ShapeOf grammar heard rules marks least
@@ -67,7 +71,8 @@ module _ (grammar heard rules marks : List ℕ) where
         right m m′ h′ a c w d =
             let same : m ≡ m′ = accepted-is (sym a ∙ c) in
             let one : h ≡ h′ = accepted-is (sym (rw same at w) ∙ d) in
-            (rw (q, same, one), rw c at stand)
+            let (x, y) = rw c at stand in
+            (rw (q, same, one), x, y)
 
 -- a reading has at most 73 bytes
 pub size-small : (s : Shape) → Bounded s → sizeOf s ≤ 73

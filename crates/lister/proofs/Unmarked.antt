@@ -62,9 +62,9 @@ module _ (g : Grammar) (es : List Edge) (marks ms : List ℕ) (same : (r : ℕ) 
       )
 
 -- what the whole line says of a reading, and what is shown of it
-pub prints : (rules marks : List ℕ) (s : Shape) (block : List ℕ) (line : Line) (walked : List ℕ) {n : ℕ} {shown : List ℕ} → Says rules s block line walked
+pub prints : (rules marks : List ℕ) (s : Shape) (block : List ℕ) (line : Line) (walked : List ℕ) (n : ℕ) (shown : List ℕ) → Says rules s block line walked
     → Shown marks (take (line .nodes) walked) n shown → Prints rules marks s block (record { weight = line .weight; nodes = n }) shown
-prints rules marks s block line walked say (count, begins) m h t ok valid stand marked shape d is =
+prints rules marks s block line walked n shown say (count, begins) m h t ok valid stand marked shape d is =
     let (a, b, c) = say (grammarOf m) h t (valid-unmarked m ok) valid stand shape d is in
     let w : take (line .nodes) walked ≡ walk t = rw b c in
     let size : length (map ruleIn (m .rules)) ≡ length (markNumbers m) = length-map (m .rules) ruleIn ∙ sym (length-map (m .rules) markIn) in
