@@ -10,7 +10,7 @@ use Rattle.lister.proofs.leave_out.Statement.{statement}
 use Rattle.lister.proofs.leave_out.Tie as tie
 
 abbrev Inv-loop : tie.InvT-loop
-Inv-loop walk nodes marks shown₀ k₀ i₀ shown k i = 
+Inv-loop walk nodes marks shown₀ k₀ i₀ shown k i =
     (i ≤ nodes) × (k ≤ i) × (length shown ≡ length shown₀) × (take k shown ≡ withoutMarked marks (take i walk))
 
 abbrev μ-loop : tie.MeasureT-loop
@@ -37,18 +37,18 @@ loop-less c = omega (arith, c .before .before .before .before .before .loop-test
 
 loop-again : tie.Need-loop-again Inv-loop μ-loop
 loop-again c = (
-      omega (arith, c .before .before .before .before .before .loop-test .taken),
-      omega (arith, c .before .before .show-rule .ensures .0, c .before .before .before .before .before .before .loop .inv .1),
-      c .before .before .show-rule .kept .1 .1 .0 ∙ c .before .before .before .before .before .before .loop .inv .2,
-      one-more (c .before .before .before .before .before .before .before .before .before .before .args .marks .now) (c .before .before .before .before .before .before .before .before .before .before .args .walk .now) (c .before .before .before .before .before .before .loop .i) (c .before .before .before .before .before .before .loop .k) (c .before .before .show-rule .result) (c .before .before .before .before .before .before .loop .shown) (c .before .before .show-rule .last .1 .1 .0)
-          (omega (arith, c .before .before .before .before .before .loop-test .taken, c .before .before .before .before .before .before .before .before .before .before .pre .0)) (c .before .before .before .before .before .before .loop .inv .3) (c .before .before .show-rule .ensures .1),
-    )
+  omega (arith, c .before .before .before .before .before .loop-test .taken),
+  omega (arith, c .before .before .show-rule .ensures .0, c .before .before .before .before .before .before .loop .inv .1),
+  c .before .before .show-rule .kept .1 .1 .0 ∙ c .before .before .before .before .before .before .loop .inv .2,
+  one-more (c .before .before .before .before .before .before .before .before .before .before .args .marks .now) (c .before .before .before .before .before .before .before .before .before .before .args .walk .now) (c .before .before .before .before .before .before .loop .i) (c .before .before .before .before .before .before .loop .k) (c .before .before .show-rule .result) (c .before .before .before .before .before .before .loop .shown) (c .before .before .show-rule .last .1 .1 .0)
+      (omega (arith, c .before .before .before .before .before .loop-test .taken, c .before .before .before .before .before .before .before .before .before .before .pre .0)) (c .before .before .before .before .before .before .loop .inv .3) (c .before .before .show-rule .ensures .1),
+)
 
 same-length : tie.Need-same-length Inv-loop μ-loop
 same-length c = c .before .loop .inv .2
 
 returns : tie.Need-returns Inv-loop μ-loop
-returns c = 
+returns c =
     let e : c .before .loop .i ≡ c .before .before .before .before .before .args .nodes = omega (arith, c .before .loop .inv .0, c .loop-test .left) in
     all-shown (c .before .before .before .before .before .args .marks .now) (c .before .before .before .before .before .args .walk .now) (c .before .before .before .before .before .args .nodes) (c .before .loop .k) (c .before .loop .shown)
     (omega (arith, c .before .loop .inv .0, c .before .loop .inv .1, c .before .loop .inv .2, c .before .before .before .before .before .pre .1)) (rw e at (c .before .loop .inv .3))

@@ -95,10 +95,10 @@ slice-aggregate-print-lines-3 c = search needs
 
 print-lines-requires : tie.Need-print-lines-requires
 print-lines-requires c κs =
-    let bounded = $shape-of .ensures .bounded in
-    let few : $m .given .0 .0 ≤ 8 = found-few _ _ 8 _ _ ($listing .ensures .0) ($m .given .1) in
-    let all : $m .given .0 .0 * sizeOf ($shape-of .result) ≤ 8 * 73 = mul-le-mul {n₂ = 8} {m₂ = 73} few (size-small ($shape-of .result) bounded) in
-    (bounded, omega (arith, $listing .kept))
+    let bounded = c .before .before .before .before .before .before .before .before .before .before .before .before .before .before .before .before .before .before .before .shape-of .ensures .bounded in
+    let few : c .before .before .before .before .before .before .before .before .m .given .0 .0 ≤ 8 = found-few _ _ 8 _ _ (c .before .before .before .before .before .before .before .before .before .before .before .before .listing .ensures .0) (c .before .before .before .before .before .before .before .before .m .given .1) in
+    let all : c .before .before .before .before .before .before .before .before .m .given .0 .0 * sizeOf (c .before .before .before .before .before .before .before .before .before .before .before .before .before .before .before .before .before .before .before .shape-of .result) ≤ 8 * 73 = mul-le-mul {n₂ = 8} {m₂ = 73} few (size-small (c .before .before .before .before .before .before .before .before .before .before .before .before .before .before .before .before .before .before .before .shape-of .result) bounded) in
+    (bounded, omega (arith, c .before .before .before .before .before .before .before .before .before .before .before .before .listing .kept))
 
 enum-known-n : tie.Need-enum-known-n
 enum-known-n c = search needs

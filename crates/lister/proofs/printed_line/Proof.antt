@@ -20,7 +20,7 @@ same-length : tie.Need-same-length
 same-length c = search needs
 
 returns : tie.Need-returns
-returns c = 
+returns c =
     let a = c .before .before .before .before .before .before .before .before .before .before .before .before .args in
     prints (a .rules .now) (a .marks .now) (a .s) (a .block .now) (c .before .before .before .before .before .before .line-of .result) (c .before .before .before .before .before .before .line-of .last .1 .1 .1 .0) (c .before .before .leave-out .result) (c .before .before .leave-out .last .1 .1 .1 .0) (c .before .before .before .before .before .before .line-of .ensures .1) (c .before .before .leave-out .ensures)
 

@@ -24,7 +24,7 @@ same-length-2 : tie.Need-same-length-2
 same-length-2 c = search needs
 
 returns : tie.Need-returns
-returns c = 
+returns c =
     let a = c .before .before .before .before .before .before .before .before .before .before .before .before .before .args in
     let r = c .before .before .before .before .before .before .read-marked-block in
     no-grammar (a .grammar .now) (a .utterance .now) (r .last .1 .0) (r .last .1 .1 .0) (sym (r .ensures .answer) ∙ c .enum-told .given .1)
@@ -33,7 +33,7 @@ slice-aggregate-read-heard : tie.Need-slice-aggregate-read-heard
 slice-aggregate-read-heard c = search needs
 
 read-heard-requires : tie.Need-read-heard-requires
-read-heard-requires c κs = 
+read-heard-requires c κs =
     let b = rw (c .before .before .read .given .1) at (c .before .before .before .before .before .before .before .before .read-marked-block .ensures .bounds) in
     (b .some-word, b .words, search needs)
 
@@ -50,7 +50,7 @@ same-length-4 : tie.Need-same-length-4
 same-length-4 c = search needs
 
 returns-2 : tie.Need-returns-2
-returns-2 c = 
+returns-2 c =
     let a = c .before .before .before .before .before .before .before .before .before .before .before .before .before .before .before .before .before .before .before .args in
     let r = c .before .before .before .before .before .before .before .before .before .before .before .before .read-marked-block in
     let W = c .before .before .before .before .before .before .read .given .0 .0 .words in
@@ -67,7 +67,7 @@ same-length-6 : tie.Need-same-length-6
 same-length-6 c = search needs
 
 returns-3 : tie.Need-returns-3
-returns-3 c = 
+returns-3 c =
     let a = c .before .before .before .before .before .before .before .before .before .before .before .before .before .before .before .before .before .before .before .before .before .args in
     let r = c .before .before .before .before .before .before .before .before .before .before .before .before .before .before .read-marked-block in
     let W = c .before .before .before .before .before .before .before .before .read .given .0 .0 .words in

@@ -25,13 +25,13 @@ same-length : tie.Need-same-length
 same-length c = search needs
 
 returns : tie.Need-returns
-returns c = 
+returns c =
     let a = c .before .before .before .before .before .args in
     let e = sym (rw (c .before .before .wide .ensures .0) at (c .before .narrow-at .ensures)) ∙ c .if1 .taken in
     (omega arith, shows (a .marks .now) (a .shown .now) (a .rule) (a .k) e (c .before .before .before .before .before .pre))
 
 returns-2 : tie.Need-returns-2
-returns-2 c = 
+returns-2 c =
     let a = c .before .before .before .before .before .args in
     (omega arith, hides (a .marks .now) (a .shown .now) (a .rule) (a .k) (λ z. c .if1 .left (rw (c .before .before .wide .ensures .0) at (c .before .narrow-at .ensures) ∙ z)))
 
