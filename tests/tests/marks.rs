@@ -77,7 +77,7 @@ fn refusals_of_a_sheet() {
     for (sheet, refusal) in known {
         assert_eq!(packed(sheet), Err(refusal), "{sheet:?}");
     }
-    assert_eq!(packed(&[1, 1, 1, 1, 0, 0, 0, 0, 1]), Ok(vec![0x40, 0x40, 0x40, 0x30, 0x00, 0x01]));
+    assert_eq!(packed(&[1, 1, 1, 1, 0, 0, 0, 0, 1]), Ok(vec![0x40, 0x40, 0x40, 0x30, 0x00, 0x02]));
     assert_eq!(packed(&[1, 1, 1, 1, 0, 0, 0, 0]), Ok(vec![0x10, 0x40, 0x40, 0x30, 0x00, 0x00]));
 }
 
@@ -90,10 +90,9 @@ fn refusals_of_a_block() {
     }
     assert_eq!(unpacked(&BLOCK[..8]), Err(GrammarEnd));
     assert_eq!(unpacked(&[&BLOCK[..], &[0]].concat()), Err(GrammarFill));
-    // without its mark the last bit is a fill bit that is not zero
-    let mut plain = BLOCK;
-    plain[0] = 0x10;
-    assert_eq!(unpacked(&plain), Err(GrammarFill));
+    // one rule that is marked; as a block without marks, its mark is a fill bit that is not zero
+    assert_eq!(unpacked(&[0x40, 0x40, 0x40, 0x30, 0x00, 0x02]), Ok(vec![1, 1, 1, 1, 0, 0, 0, 0, 1]));
+    assert_eq!(unpacked(&[0x10, 0x40, 0x40, 0x30, 0x00, 0x02]), Err(GrammarFill));
 }
 
 #[test]

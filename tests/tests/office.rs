@@ -3,7 +3,7 @@
 
 use spireyerba::limits::{work_length, GRAMMAR_BLOCK_MAX};
 use spireyerba::Refusal::*;
-use spireyerba::{services, Grammar, Item, MarkedGrammar, Office, OfficeRule, Refusal};
+use spireyerba::{services, Grammar, Item, MarkedGrammar, Office, OfficeRule, Refusal, Utterance};
 use spireyerba_tests::compare::conversions::{Conversion, Service};
 use spireyerba_tests::compare::{over_seeds, Tally};
 use spireyerba_tests::conversions;
@@ -11,9 +11,9 @@ use spireyerba_tests::heard::Offers;
 use spireyerba_tests::office::{convert, derivations, from_sheet};
 use spireyerba_tests::seeded::damage::sheets;
 use spireyerba_tests::seeded::grammars::Size;
-use spireyerba_tests::seeded::offices::{office, repeated};
+use spireyerba_tests::seeded::offices::{generous, office, repeated};
 use spireyerba_tests::seeded::raw;
-use spireyerba_tests::seeded::utterances::utterance;
+use spireyerba_tests::seeded::utterances::{slot, Costs};
 use spireyerba_tests::{grammar, seeded};
 
 const OFFICE_TO_BLOCK: Conversion<u32, u8> = Conversion {
@@ -196,9 +196,12 @@ fn listed(marked: &MarkedGrammar, heard: &[u8], longest: usize) -> Option<Vec<(u
 fn derivations_match_one_to_one() {
     let (mut compared, mut derived) = (0, 0);
     over_seeds(2_000..3_500, |rng| {
-        let office = office(rng, Size::Small);
-        let Ok(marked) = office.to_grammar() else { return };
-        let utterance = utterance(rng, Size::Small, office.words);
+        let office = generous(rng);
+        let marked = office.to_grammar().expect("a result within the limits");
+        let known: Vec<u32> = (0..office.words).collect();
+        let costs = Costs::any(rng);
+        let slots = (0..rng.within(1..=6)).map(|_| slot(rng, &known, 3, costs)).collect();
+        let utterance = Utterance { slots };
         let block = utterance.to_block(&grammar::pack(&marked.grammar)).expect("an accepted utterance");
         let own = derivations(&office, &Offers::of_slots(&utterance));
         if let Some(listed) = listed(&marked, &block, utterance.slots.len()) {
@@ -214,9 +217,9 @@ fn derivations_match_one_to_one() {
 #[test]
 fn derivations_of_graphs_match_one_to_one() {
     let mut derived = 0;
-    over_seeds(4_000..4_500, |rng| {
-        let office = office(rng, Size::Small);
-        let Ok(marked) = office.to_grammar() else { return };
+    over_seeds(4_000..6_000, |rng| {
+        let office = generous(rng);
+        let marked = office.to_grammar().expect("a result within the limits");
         let graph = seeded::graphs::graph(rng, Size::Small, office.words);
         let own = derivations(&office, &Offers::of_graph(&graph));
         let readings = marked.grammar.list_graph(&graph, 256).expect("a listing");

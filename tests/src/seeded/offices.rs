@@ -30,6 +30,24 @@ pub fn office(rng: &mut Rng, size: Size) -> Office {
     office
 }
 
+/// A small one that derives much: each symbol has a rule of one word, and the bodies of the others have up to six items.
+pub fn generous(rng: &mut Rng) -> Office {
+    let (symbols, words) = (rng.within(1..=2), rng.within(1..=2));
+    let weights = Weights::any(rng);
+    let mut office = Office { symbols, words, rules: Vec::new() };
+    for head in 0..symbols {
+        let items = vec![Item::Word(rng.within(0..=words - 1))];
+        office.rules.push(OfficeRule { head, weight: weights.draw(rng), items });
+    }
+    for _ in 0..rng.within(2..=5) {
+        let (head, items) = (rng.within(0..=symbols - 1), body(rng, &office, MAX_ITEMS));
+        if !office.rules.iter().any(|rule| rule.head == head && rule.items == items) {
+            office.rules.push(OfficeRule { head, weight: weights.draw(rng), items });
+        }
+    }
+    office
+}
+
 /// One word, or as many items as are wanted.
 fn body(rng: &mut Rng, office: &Office, longest: u32) -> Vec<Item> {
     // of two items at most, so that there are many rules and few helpers: symbols
