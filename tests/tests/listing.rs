@@ -115,7 +115,7 @@ fn short_slices_and_numbers_out_of_range() {
 #[test]
 fn damaged_blocks() {
     let mut tally = Tally::default();
-    over_seeds(40_000..40_600, |rng| {
+    over_seeds(40_000..40_200, |rng| {
         let (grammar, utterance) = case(rng, &SPARSE);
         let (grammar_block, utterance_block) = (grammar::pack(&grammar), utterance::pack(&grammar, &utterance));
         let mut inputs = Vec::new();

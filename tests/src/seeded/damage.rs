@@ -1,6 +1,5 @@
 //! Ways to damage a block or a sheet.
 
-use super::offices::marked;
 use super::rng::{Noise, Rng};
 use super::utterances::unheard;
 use super::{graphs, raw};
@@ -99,10 +98,6 @@ pub fn some_grammar_blocks(rng: &mut Rng, grammar: &Grammar, count: usize) -> Ve
     let mut some = some_blocks(rng, &grammar::pack(grammar), count);
     some.push(grammar::pack(&repeated_rule(rng, grammar)));
     some.push(raw::grammar_block(rng));
-    // with marks, as it is and damaged
-    let marked = grammar::pack_marked(&marked(rng, grammar));
-    some.extend(some_blocks(rng, &marked, 1));
-    some.push(marked);
     some
 }
 

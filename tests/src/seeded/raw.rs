@@ -44,8 +44,7 @@ fn with_random_end(rng: &mut Rng, writer: BitWriter, bits: usize) -> Vec<u8> {
 pub fn grammar_block(rng: &mut Rng) -> Vec<u8> {
     let (symbols, words, rules) = (rng.within(1..=6), rng.within(1..=6), rng.within(1..=5));
     let mut writer = BitWriter::default();
-    let kind = rng.pick(&[1, 4]);
-    writer.field(4, mostly(rng, kind, 4));
+    writer.field(4, mostly(rng, 1, 4));
     writer.field(6, mostly(rng, symbols, 6));
     writer.field(8, mostly(rng, words, 8));
     writer.field(9, mostly(rng, rules, 9));
@@ -59,9 +58,6 @@ pub fn grammar_block(rng: &mut Rng) -> Vec<u8> {
         } else {
             writer.field(width(symbols - 1), around(rng, symbols));
             writer.field(width(symbols - 1), around(rng, symbols));
-        }
-        if kind == 4 {
-            writer.field(1, rng.within(0..=1));
         }
     }
     if rng.once_in(2) {
