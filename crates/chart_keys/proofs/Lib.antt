@@ -1,2 +1,2 @@
--- Heights above the floor.
-pub mod Heights
+-- Keys as numbers.
+pub mod Numbers

@@ -3,6 +3,7 @@ use Prim.Native.Nat.{_≤_, _-_, _+_}
 use mathlib.Core.Path.{refl, _∙_}
 use native.Mathlib.Omega.{arith}
 use Rattle.packing.proofs.Loop.{iter-end}
+use Rattle.chart_keys.specs.Keys.{keyNumber}
 use Rattle.chart_candidates.specs.Candidates.{splitSeeds}
 use Rattle.chart_candidates.proofs.Splits.{InRange, step-small, Kept, Long, at-first, at-next, left-read, right-read}
 use borrow.Author.Needs.{needs}
@@ -10,10 +11,10 @@ use Rattle.chart_candidates.proofs.seeds.split_seeds_within.Statement.{
 use Rattle.chart_candidates.proofs.seeds.split_seeds_within.Tie as tie
 
 abbrev Inv-loop : tie.InvT-loop
-Inv-loop t rule floor best step first x₀ y₀ height₀ end j₀ x y height j = InRange step first end j x y × (height + (floor + 1) ≤ best) × Kept t rule floor best step first end x₀ y₀ j x y (height + (floor + 1)) × Long t rule floor best step first end x₀ y₀
+Inv-loop t rule floor step first x₀ y₀ so-far₀ end j₀ x y so-far j = InRange step first end j x y × Kept t rule (keyNumber floor) (keyNumber so-far₀) step first end x₀ y₀ j x y (keyNumber so-far) × Long t rule (keyNumber floor) (keyNumber so-far₀) step first end x₀ y₀
 
 abbrev μ-loop : tie.MeasureT-loop
-μ-loop t rule floor best step first x₀ y₀ height₀ end j₀ x y height j = end - j
+μ-loop t rule floor step first x₀ y₀ so-far₀ end j₀ x y so-far j = end - j
 
 mul-step : tie.Need-mul-step Inv-loop μ-loop
 mul-step c = search needs
@@ -39,75 +40,42 @@ cell-number-requires-2 c κs = rw (c .right-part .ensures) (search (needs, c .be
 entry-of-requires-2 : tie.Need-entry-of-requires-2 Inv-loop μ-loop
 entry-of-requires-2 c κs = search needs
 
-add-height : tie.Need-add-height Inv-loop μ-loop
-add-height c = search needs
-
-sub-height : tie.Need-sub-height Inv-loop μ-loop
-sub-height c = search needs
-
 loop-holds : tie.Need-loop-holds Inv-loop μ-loop
-loop-holds c =
-    let c₂ = c .before .before in
-    let c₃ = c₂ .before in
-    let c₄ = c₃ .before in
-    let c₅ = c₄ .before in
-    let c₉ = c₅ .before .before .before .before in (
-      search needs,
-      search needs,
-      at-first _ _ _ _ _ _ _ _ _ _ (search needs),
-      record {
-        d = c₉ .args .d;
-        c = c₉ .args .c;
-        from-first = record {
-          kept = c₉ .pre .0 .0 .sized .kept;
-          apart = refl;
-          left = rw (← c₅ .left-part .ensures, ← c₄ .cell-number .ensures .0) (c₃ .entry-of .ensures .0);
-          right = rw (← c₂ .right-part .ensures, ← c .before .cell-number2 .ensures .0) (c .entry-of2 .ensures .0);
-        };
-        last = refl;
-        left = c₉ .pre .1 .1;
-        right = c₉ .pre .1 .2;
-      },
-    )
+loop-holds c = (
+  search needs,
+  at-first _ _ _ _ _ _ _ _ _ _ refl,
+  record {
+    d = c .before .before .before .before .before .before .before .before .before .args .d;
+    c = c .before .before .before .before .before .before .before .before .before .args .c;
+    from-first = record {
+      kept = c .before .before .before .before .before .before .before .before .before .pre .0 .0 .sized .kept;
+      apart = refl;
+      left = rw (← c .before .before .before .before .before .left-part .ensures, ← c .before .before .before .before .cell-number .ensures .0) (c .before .before .before .entry-of .ensures .0);
+      right = rw (← c .before .before .right-part .ensures, ← c .before .cell-number2 .ensures .0) (c .entry-of2 .ensures .0);
+    };
+    last = refl;
+    left = c .before .before .before .before .before .before .before .before .before .pre .1 .0;
+    right = c .before .before .before .before .before .before .before .before .before .pre .1 .1;
+  },
+)
 
-mul-join-key : tie.Need-mul-join-key Inv-loop μ-loop
-mul-join-key c = search needs
+price-within-requires : tie.Need-price-within-requires Inv-loop μ-loop
+price-within-requires c κs = left-read _ _ _ _ _ _ _ _ _ (c .before .loop .inv .2) _ _ _ _ (c .before .loop .inv .1) (search needs)
 
-shared-slice-read-join-key : tie.Need-shared-slice-read-join-key Inv-loop μ-loop
-shared-slice-read-join-key c = left-read _ _ _ _ _ _ _ _ _ (c .before .before .loop .inv .3) _ _ _ _ (c .before .before .loop .inv .2) (search needs)
+price-within-requires-2 : tie.Need-price-within-requires-2 Inv-loop μ-loop
+price-within-requires-2 c κs = right-read _ _ _ _ _ _ _ _ _ (c .before .before .loop .inv .2) _ _ _ _ (c .before .before .loop .inv .1) (search needs)
 
-mul-join-key-2 : tie.Need-mul-join-key-2 Inv-loop μ-loop
-mul-join-key-2 c = search needs
+join-price-requires : tie.Need-join-price-requires Inv-loop μ-loop
+join-price-requires c κs = search needs
 
-shared-slice-read-join-key-2 : tie.Need-shared-slice-read-join-key-2 Inv-loop μ-loop
-shared-slice-read-join-key-2 c = right-read _ _ _ _ _ _ _ _ _ (c .before .before .before .loop .inv .3) _ _ _ _ (c .before .before .before .loop .inv .2) (search needs)
-
-seed-requires : tie.Need-seed-requires Inv-loop μ-loop
-seed-requires c κs = search needs
-
-back-number-requires : tie.Need-back-number-requires Inv-loop μ-loop
-back-number-requires c κs = rw (c .seed .ensures) (search (needs, c .before .before .before .before .before .before .before .before .before .before .before .before .before .before .pre .0 .1))
-
-join-key-requires : tie.Need-join-key-requires Inv-loop μ-loop
-join-key-requires c κs = search needs
-
-lesser-height-requires : tie.Need-lesser-height-requires Inv-loop μ-loop
-lesser-height-requires c κs =
-    let c₆ = c .before .before .before .before .before .before in
-    let c₁₆ = c₆ .before .before .before .before .before .before .before .before .before .before in
-    omega (arith, c₆ .loop .inv .1, c₁₆ .fits .best .fits)
+lesser-seed-requires : tie.Need-lesser-seed-requires Inv-loop μ-loop
+lesser-seed-requires c κs = search (needs, c .before .before .before .before .before .before .before .before .before .before .before .before .before .before .pre .0 .1)
 
 mul-x : tie.Need-mul-x Inv-loop μ-loop
-mul-x c =
-    let c₆ = c .before .before .before .before .before .before in
-    let c₇ = c₆ .before in
-    omega (arith, step-small (c₇ .loop .inv .0) (c₆ .loop-test .taken))
+mul-x c = omega (arith, step-small (c .before .before .before .before .before .loop .inv .0) (c .before .before .before .before .loop-test .taken))
 
 add-x : tie.Need-add-x Inv-loop μ-loop
-add-x c =
-    let c₆ = c .before .before .before .before .before .before in
-    let c₇ = c₆ .before in
-    omega (arith, step-small (c₇ .loop .inv .0) (c₆ .loop-test .taken))
+add-x c = omega (arith, step-small (c .before .before .before .before .before .loop .inv .0) (c .before .before .before .before .loop-test .taken))
 
 add-y : tie.Need-add-y Inv-loop μ-loop
 add-y c = search needs
@@ -120,12 +88,8 @@ loop-less c = search needs
 
 loop-again : tie.Need-loop-again Inv-loop μ-loop
 loop-again c =
-    let c₂ = c .before .before in
-    let c₃ = c₂ .before in
-    let c₆ = c₃ .before .before .before in
-    let c₇ = c₆ .before in
-    let r = c₇ .loop .inv .0 in
-    let s = step-small r (c₆ .loop-test .taken) in (
+    let r = c .before .before .before .before .before .loop .inv .0 in
+    let s = step-small r (c .before .before .before .before .loop-test .taken) in (
       record {
         after-first = omega arith;
         turns = omega arith;
@@ -134,38 +98,19 @@ loop-again c =
         left = omega arith;
         right = omega arith;
       },
-      omega (arith, c .lesser-height .ensures .1),
-      rw (
-        c .lesser-height .ensures .0,
-        c .before .join-key .ensures,
-        c₂ .back-number .ensures .0,
-        c₃ .seed .ensures,
-      ) (at-next _ _ _ _ _ _ _ _ _ _ _ _ _ (r .after-first) (c₇ .loop .inv .2)),
-      c₇ .loop .inv .3,
+      rw (c .lesser-seed .ensures, c .before .join-price .ensures, c .before .before .before .price-within .ensures .0, c .before .before .price-within2 .ensures .0)
+          (at-next _ _ _ _ _ _ _ _ _ _ _ _ _ (r .after-first) (c .before .before .before .before .before .loop .inv .1)),
+      c .before .before .before .before .before .loop .inv .2,
     )
-
-add-result : tie.Need-add-result Inv-loop μ-loop
-add-result c = search needs
-
-add-result-2 : tie.Need-add-result-2 Inv-loop μ-loop
-add-result-2 c = search needs
 
 returns : tie.Need-returns Inv-loop μ-loop
 unfolding splitSeeds
-returns c =
-    let c₂ = c .before .before in
-    let c₃ = c₂ .before in
-    let c₄ = c₃ .before in
-    let c₅ = c₄ .before in
-    let c₆ = c₅ .before in
-    let c₇ = c₆ .before in
-    let c₁₁ = c₇ .before .before .before .before in
-    c .before .loop .inv .2 (c₁₁ .args .d) (c₁₁ .args .c) (record {
-      kept = c₁₁ .pre .0 .0 .sized .kept;
-      apart = refl;
-      left = rw (← c₇ .left-part .ensures, ← c₆ .cell-number .ensures .0) (c₅ .entry-of .ensures .0);
-      right = rw (← c₄ .right-part .ensures, ← c₃ .cell-number2 .ensures .0) (c₂ .entry-of2 .ensures .0);
-    }) .seeds ∙ iter-end _ _ _ _ (c .before .loop .inv .0 .turns) (omega arith)
+returns c = c .before .loop .inv .1 (c .before .before .before .before .before .before .before .before .before .before .before .args .d) (c .before .before .before .before .before .before .before .before .before .before .before .args .c) (record {
+  kept = c .before .before .before .before .before .before .before .before .before .before .before .pre .0 .0 .sized .kept;
+  apart = refl;
+  left = rw (← c .before .before .before .before .before .before .before .left-part .ensures, ← c .before .before .before .before .before .before .cell-number .ensures .0) (c .before .before .before .before .before .entry-of .ensures .0);
+  right = rw (← c .before .before .before .before .right-part .ensures, ← c .before .before .before .cell-number2 .ensures .0) (c .before .before .entry-of2 .ensures .0);
+}) .seeds ∙ iter-end _ _ _ _ (c .before .loop .inv .0 .turns) (omega arith)
 
 pub split-seeds-within-spec : {M : Type 1} → statement M
 split-seeds-within-spec =
@@ -181,23 +126,15 @@ split-seeds-within-spec =
     right-part-requires
     cell-number-requires-2
     entry-of-requires-2
-    add-height
-    sub-height
     loop-holds
-    mul-join-key
-    shared-slice-read-join-key
-    mul-join-key-2
-    shared-slice-read-join-key-2
-    seed-requires
-    back-number-requires
-    join-key-requires
-    lesser-height-requires
+    price-within-requires
+    price-within-requires-2
+    join-price-requires
+    lesser-seed-requires
     mul-x
     add-x
     add-y
     add-j
     loop-less
     loop-again
-    add-result
-    add-result-2
     returns)
