@@ -9,9 +9,14 @@ use chart_index::class_end;
 use chart_index::class_start;
 use chart_keys::BackPointer;
 use chart_keys::Key;
-use chart_keys::back_number;
 use chart_keys::join_price;
 use chart_keys::lesser;
+use chart_keys::seed_numbers::ceiling_number;
+use chart_keys::seed_numbers::divides;
+use chart_keys::seed_numbers::floor_number;
+use chart_keys::seed_numbers::lesser_height;
+use chart_keys::seed_numbers::key_of_number;
+use chart_keys::seed_numbers::seed_number;
 use chart_table::Cell;
 use chart_table::ENTRY_NUMBERS;
 use chart_table::Layout;
@@ -21,13 +26,17 @@ use chart_table::left_part;
 use chart_table::price_within;
 use chart_table::right_part;
 use packing::Rule;
+use packing::format::MAX_RULES;
+use packing::format::MAX_WEIGHT;
 ghost use mathlib.Core.Path.{_≡_};
+ghost use mathlib.Core.Bool.{true};
 ghost use Prim.Native.Nat.{_+_, _-_, _*_, _<_, _≤_};
 ghost use lib.ListN.{length};
 ghost use Rattle.packing.specs.Flat.{ruleAt};
-ghost use Rattle.chart_keys.specs.Keys.{splits, back, backNumber, keyOf, keyNumber, lesser};
+ghost use Rattle.chart_keys.specs.Keys.{back, keyNumber};
+ghost use Rattle.chart_keys.specs.Seeds.{Divides};
 ghost use Rattle.chart_table.specs.Table.{InTable, leftPart, rightPart, cellNumber, entryOf};
-ghost use Rattle.chart_candidates.specs.Candidates.{splitSeeds, ruleSeeds, seeds};
+ghost use Rattle.chart_candidates.specs.Candidates.{Small, splitSeeds, ruleSeeds, seeds};
 
 // The back pointer of the first of the left part with the first of the right.
 fn seed(r: usize, split: usize) -> BackPointer
@@ -57,22 +66,20 @@ fn split_seeds_anywhere(t: &[u32], d: Layout, rule: PairRule, c: Cell, floor: Ke
     so_far
 }
 
-// The best so far and the seed of a rule and a split, of a price plus 1. Most are dearer than the best: then nothing else is done.
-fn lesser_seed(floor: Key, best: Key, price: usize, r: usize, split: usize) -> Key
-    requires { ⌜ (r < 4294967296) × (split < splits) ⌝ }
-    ensures { λ x. ⌜ keyNumber x ≡ lesser (keyNumber floor) (keyNumber best) (keyOf price (backNumber (back r split 0 0))) ⌝ }
+// Whether a rule's number and weight are those of a grammar.
+fn is_small(rule: PairRule) -> bool
+    ensures { λ r. ⌜ (r ≡ true → Small rule) ⌝ }
 {
-    if price <= best.price {
-        let back = back_number(seed(r, split));
-        return lesser(floor, best, Key { price, back });
+    if rule.number < MAX_RULES {
+        return rule.weight <= MAX_WEIGHT;
     }
-    best
+    false
 }
 
-// The same where the table is long enough for the last split. The parts' entries go from split to split by sums, so that no
-// product stands in the way of the reads, and the reads need no test.
+// The same by seeds as numbers, where they divide and the table is long enough for the last split. The parts' entries go from split
+// to split by sums, so that no product stands in the way of the reads, and the reads need no test.
 fn split_seeds_within(t: &[u32], d: Layout, rule: PairRule, c: Cell, floor: Key, best: Key) -> Key
-    requires { ⌜ (InTable d c) × (rule .number < 4294967296) ⌝ }
+    requires { ⌜ (InTable d c) × (Small rule) × (Divides floor best) ⌝ }
     requires { ⌜ (entryOf d (cellNumber d (leftPart c (rule .first) (c .to - 1))) 0 + 1 < length (now t)) × (entryOf d (cellNumber d (rightPart c (rule .second) (c .to - 1))) 0 + 1 < length (now t)) ⌝ }
     ensures { λ x. ⌜ keyNumber x ≡ splitSeeds (now (t .entry)) d rule c (keyNumber floor) (keyNumber best) ⌝ }
 {
@@ -80,15 +87,16 @@ fn split_seeds_within(t: &[u32], d: Layout, rule: PairRule, c: Cell, floor: Key,
     let first = c.from + 1;
     let mut x = entry_of(d, cell_number(d, left_part(c, rule.first, first)), 0);
     let mut y = entry_of(d, cell_number(d, right_part(c, rule.second, first)), 0);
-    let mut so_far = best;
+    let low = floor_number(floor);
+    let mut height = ceiling_number(best) - (low + 1);
     let end = c.to;
     for j in first..end {
         let price = join_price(rule.weight, price_within(t, x), price_within(t, y));
-        so_far = lesser_seed(floor, so_far, price, rule.number, j);
+        height = lesser_height(low, height, seed_number(price, rule.number, j));
         x = x + step * j;
         y = y + step;
     }
-    so_far
+    key_of_number(best, height + (low + 1))
 }
 
 // The same: no part's entry stands behind that of the last split.
@@ -102,7 +110,11 @@ fn split_seeds(t: &[u32], d: Layout, rule: PairRule, c: Cell, floor: Key, best: 
         let right = entry_of(d, cell_number(d, right_part(c, rule.second, last)), 0);
         if left + 1 < t.len() {
             if right + 1 < t.len() {
-                return split_seeds_within(t, d, rule, c, floor, best);
+                if is_small(rule) {
+                    if divides(floor, best) {
+                        return split_seeds_within(t, d, rule, c, floor, best);
+                    }
+                }
             }
         }
     }

@@ -1,2 +1,4 @@
--- Keys as numbers.
+-- Keys as numbers, and seeds as numbers.
+pub mod Heights
 pub mod Numbers
+pub mod Seeds

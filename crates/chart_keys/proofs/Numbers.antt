@@ -2,14 +2,14 @@
 -- pointers where those are equal, and the price decides whether it is a key.
 use mathlib.Core.Path.{_≡_, refl, sym}
 use mathlib.Core.Bool.{Bool, true, false}
-use Prim.Native.Nat.{ℕ, _+_, _*_, _≤_, _<_}
+use Prim.Native.Nat.{ℕ, _+_, _-_, _*_, _≤_, _<_}
 use native.Mathlib.Nat.{mul-le-mul-right}
 use native.Mathlib.Decide.{decLt}
 use native.Mathlib.Omega.{arith}
-use lib.Dec.{ltb}
+use lib.Dec.{ltb, eqb}
 use borrow.Author.Tests.{lt-ltb, le-ltb, ltb-true}
 use Rattle.bits.specs.Bits.{pick}
-use Rattle.chart_keys.specs.Keys.{lesser}
+use Rattle.chart_keys.specs.Keys.{prices, partPrice, joinPrice, lesser}
 
 -- to any base
 module _ (u : ℕ) where
@@ -54,3 +54,16 @@ lesser-best floor best key e = rw e (go (ltb floor key))
     go : (b : Bool) → best ≡ pick b best best
     go true = refl
     go false = refl
+
+-- the price of a part is below 2 ^ 43, and with a rule's weight that of two stays below 2 ^ 45
+pub part-small : (x : ℕ) → x < prices → partPrice x < prices
+unfolding partPrice
+part-small x h = go (eqb x 0)
+  where
+    go : (b : Bool) → pick b 8796093022207 (x - 1) < prices
+    go true = omega arith
+    go false = omega arith
+
+pub join-small : (w left right : ℕ) → w ≤ 65535 → left < prices → right < prices → joinPrice w left right < 35184372088832
+unfolding joinPrice
+join-small w left right hw hl hr = omega (arith, part-small left hl, part-small right hr)

@@ -14,6 +14,10 @@ splits = 32
 abbrev pub digits : ℕ
 digits = 256
 
+-- the rules that a grammar may have
+abbrev pub rules : ℕ
+rules = 256
+
 -- what one split and one rule count for in a back pointer's number, and one unit of weight in a price
 abbrev pub splitUnit : ℕ
 splitUnit = 65536

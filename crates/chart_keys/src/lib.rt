@@ -1,4 +1,6 @@
 // Back pointers, prices and keys: how a tree of a cell was made, what it costs, and how two trees compare.
+pub mod seed_numbers;
+
 use arrays::wide;
 ghost use mathlib.Core.Path.{_≡_};
 ghost use Prim.Native.Nat.{_+_, _-_, _*_, _<_, _≤_};
@@ -11,17 +13,15 @@ pub const SPLITS: usize = 32;
 pub const DIGITS: usize = 256;
 
 // What one split and one rule count for in a back pointer's number.
-const SPLIT_UNIT: usize = DIGITS * DIGITS;
+pub const SPLIT_UNIT: usize = DIGITS * DIGITS;
 
 const RULE_UNIT: usize = SPLITS * SPLIT_UNIT;
 
 // What one unit of weight counts for in a price: sums of costs are below it, since 24 words cost less than 24 × 2 ^ 16.
 pub const WEIGHT_UNIT: usize = 1572864;
 
-// Prices plus 1 are below PRICES. A part that is missing has the price NO_PRICE, so that with it a price plus 1 reaches PRICES.
+// Prices plus 1 are below PRICES. A part that is missing has the price PRICES - 1, so that with it a price plus 1 reaches PRICES.
 pub const PRICES: usize = 8796093022208;
-
-const NO_PRICE: usize = PRICES - 1;
 
 // How a tree was made: its rule, the place where its parts meet, and their ranks; of a leaf the rule, 0, the edge, 0.
 pub struct BackPointer {
@@ -70,12 +70,12 @@ pub fn back_pointer(x: usize) -> BackPointer
     }
 }
 
-// The price of a part from its price plus 1.
+// The price of a part from its price plus 1. Where it is missing the 0 wraps round to the greatest, without a test.
 fn part_price(x: usize) -> usize
     requires { ⌜ x < prices ⌝ }
     ensures { λ r. ⌜ (r ≡ partPrice x) × (r < prices) ⌝ }
 {
-    if x == 0 { NO_PRICE } else { x - 1 }
+    std::num::wrapping_sub_usize(x, 1) % PRICES
 }
 
 // The price plus 1 of a leaf: a rule of weight w and a word's cost.

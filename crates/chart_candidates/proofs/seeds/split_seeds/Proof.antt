@@ -33,12 +33,18 @@ add-if2 c = search needs
 add-if3 : tie.Need-add-if3
 add-if3 c = search needs
 
+is-small-requires : tie.Need-is-small-requires
+is-small-requires c κs = search needs
+
+divides-requires : tie.Need-divides-requires
+divides-requires c κs = search needs
+
 split-seeds-within-requires : tie.Need-split-seeds-within-requires
 split-seeds-within-requires c κs = (
-  c .before .before .before .before .before .before .before .before .before .before .before .before .before .pre,
+  (c .before .before .before .before .before .before .before .before .before .before .before .before .before .before .before .before .before .pre .0, c .before .before .before .is-small .ensures (c .before .before .if4 .taken), c .before .divides .ensures (c .if5 .taken)),
   (
-    rw (← c .before .before .before .before .before .before .before .left-part .ensures, ← c .before .before .before .before .before .before .cell-number .ensures .0, ← c .before .before .before .before .before .entry-of .ensures .0) (search needs),
-    rw (← c .before .before .before .before .right-part .ensures, ← c .before .before .before .cell-number2 .ensures .0, ← c .before .before .entry-of2 .ensures .0) (search needs),
+    rw (← c .before .before .before .before .before .before .before .before .before .before .before .left-part .ensures, ← c .before .before .before .before .before .before .before .before .before .before .cell-number .ensures .0, ← c .before .before .before .before .before .before .before .before .before .entry-of .ensures .0) (search needs),
+    rw (← c .before .before .before .before .before .before .before .before .right-part .ensures, ← c .before .before .before .before .before .before .before .cell-number2 .ensures .0, ← c .before .before .before .before .before .before .entry-of2 .ensures .0) (search needs),
   ),
 )
 
@@ -65,6 +71,8 @@ split-seeds-spec =
     entry-of-requires-2
     add-if2
     add-if3
+    is-small-requires
+    divides-requires
     split-seeds-within-requires
     returns
     split-seeds-anywhere-requires
