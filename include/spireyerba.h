@@ -259,12 +259,11 @@ int32_t spireyerba_next_phrase(
     uint32_t first,
     uint8_t *out, size_t out_len);
 
-/* Refusals of the listing. */
+/* Refusals of the listing. The number 24 was one, of a weight that passes 24 bits; no input reaches it, and it is not used again. */
 enum {
     SPIREYERBA_LISTING_WANTED = 21,  /* the number wanted is not 1 to 256         */
     SPIREYERBA_LISTING_WORK = 22,    /* the work table is short                   */
-    SPIREYERBA_LISTING_OUTPUT = 23,  /* the output is short                       */
-    SPIREYERBA_LISTING_WEIGHT = 24   /* a weight passes 24 bits: no input reaches it */
+    SPIREYERBA_LISTING_OUTPUT = 23   /* the output is short                       */
 };
 
 #define SPIREYERBA_MAX_READINGS 256

@@ -56,7 +56,6 @@ refusals! {
     21 ListingWanted "the number of readings wanted is not 1 to 256",
     22 ListingWork "the work table is short",
     23 ListingOutput "the output is short for the readings wanted",
-    24 ListingWeight "a weight passes 24 bits, which no input reaches",
     25 SpecimenLength "the length wanted is not 1 to 24",
     26 SpecimenOutput "the output is shorter than the length wanted",
     31 ReadingEnd "a field of the reading block passes its end",

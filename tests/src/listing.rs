@@ -21,9 +21,6 @@ pub fn listing(grammar: &[u8], heard: &[u8], wanted: u32, work: &mut [u32], out:
         return Err(Refusal::ListingOutput);
     }
     let readings = heard.least(&grammar, wanted);
-    if readings.iter().any(|&(weight, _)| weight >= 1 << 24) {
-        return Err(Refusal::ListingWeight);
-    }
     for (place, (_, reading)) in out.chunks_exact_mut(length).zip(&readings) {
         let (own, behind) = place.split_at_mut(reading.len());
         own.copy_from_slice(reading);

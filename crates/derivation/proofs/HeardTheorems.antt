@@ -3,13 +3,19 @@
 -- `ValidGrammar` and `ValidHeard` are packing's, of accepted blocks.
 use mathlib.Core.Path.{_≡_, refl, sym, ap, _∙_}
 use mathlib.Core.Logic.{_⊎_, inl, inr, _↔_}
-use Prim.Native.Nat.{ℕ, suc, _+_, _-_, _*_, _≤_, _<_, min, Ordering, Ordering·lt, Ordering·eq, Ordering·gt}
+use mathlib.Core.List.{List}
+use Prim.Native.Nat.{ℕ, suc, _+_, _-_, _*_, _^_, _≤_, _<_, min, Ordering, Ordering·lt, Ordering·eq, Ordering·gt}
 use native.Mathlib.Omega.{arith}
 use lib.ListN.{length, length-take}
 use Rattle.packing.specs.declared.Sym.{Sym}
 use Rattle.packing.specs.Meaning.{symbolOf, Grammar, Utterance, Graph, Heard, slots, graph, lastPlace, heardEdges, redrawn}
 use Rattle.packing.specs.GraphReading.{graphReadingLength}
+use Rattle.packing.specs.Parse.{accepted}
+use Rattle.packing.specs.Grammar.{grammarBlock}
+use Rattle.packing.specs.Heard.{heardBlock}
 use Rattle.packing.specs.Valid.{ValidGrammar, ValidGraph, ValidHeard}
+use Rattle.packing.proofs.Whole.{grammar-block-out}
+use Rattle.packing.proofs.Heard.{heard-block-out}
 use Rattle.derivation.specs.Derivation.{At, Tree, leaf, Derives, weight, walk, Derivation}
 use Rattle.derivation.specs.Order.{order, Before}
 use Rattle.derivation.specs.Rank.{Number, Rank}
@@ -128,6 +134,13 @@ module _ (g : Grammar) (h : Heard) where
 
     pub longest-output : outputLength g h ≤ 73
     longest-output = output-small g ok h valid
+
+-- Document 02, N10: "no accepted input reaches it, on slots or graphs": of accepted blocks no weight passes document 01's bound, nor 24 bits.
+pub weight-fits : (grammar heard : List ℕ) (g : Grammar) (h : Heard) → grammarBlock grammar ≡ accepted g → heardBlock (g .words) heard ≡ accepted h
+    → (t : Tree) → Derivation g h t → (weight g (heardEdges h) t ≤ 4652985) × (weight g (heardEdges h) t < 2 ^ 24)
+weight-fits grammar heard g h p q t d =
+    let bound = greatest-weight g h (grammar-block-out grammar g p .0) (heard-block-out (g .words) heard h q .0) t d in
+    (bound, omega (arith, bound))
 
 -- "its own length": that of a reading of its path's edges.
 pub own-length : (g : Grammar) → ValidGrammar g → (h : Graph) → ValidGraph (g .words) h → (t : Tree) → Derivation g (graph h) t

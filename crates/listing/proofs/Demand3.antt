@@ -81,7 +81,7 @@ module _ (grammar heard : List ℕ) (N : ℕ) (work out : List ℕ) where
   demand-3 AnswerIs answers work′ out′ works writes g p h q h₁ h₂ h₃ h₄ =
       let okg = grammar-block-out grammar g p .0 in
       let okh = heard-block-out (g .words) heard h q .0 in
-      let met : due ≡ accepted (blocks g h N) = rw (p, q) (listing-accepts g h N okg okh (length work) (length out) h₁ h₂ h₃ h₄) in
+      let met : due ≡ accepted (blocks g h N) = rw (p, q) (listing-accepts g h N (length work) (length out) h₁ h₂ h₃ h₄) in
       let writes : out′ ≡ outputAfter (accepted (blocks g h N)) out = rw met at writes in
       record {
         different = readings-differ g h okg okh;

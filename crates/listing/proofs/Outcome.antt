@@ -44,7 +44,7 @@ module _ (g : Grammar) (h : Heard) (okg : ValidGrammar g) (okh : ValidHeard (g .
       let count = count-found g N rules (filled .table) h some okh m holds in
       let size : length (joined ls) ≡ m * outputLength g h =
       length-joined (outputLength g h) ls (sized-blocks g h N okg okh) ∙ ap (λ (k : ℕ). k * outputLength g h) count in
-      rw (listing-accepts g h N okg okh (length work) (length out) (met .positive) (met .few) (met .table) (met .room)) (
+      rw (listing-accepts g h N (length work) (length out) (met .positive) (met .few) (met .table) (met .room)) (
         ap Found (sym count),
         (
           filled .emptied ∙ holds .clears ∙ ap (λ (k : ℕ). replicate k 0) (filled .size),

@@ -1,8 +1,7 @@
--- The refusals of the listing are of the rows grammar block, utterance block with those of graphs, and listing, and 24 is none of them: of accepted blocks
--- no weight passes 24 bits, so where the numbers asked for and lent suffice the listing accepts (Accepted).
+-- The refusals of the listing are of the rows grammar block, utterance block with those of graphs, and listing: where the numbers asked for
+-- and lent suffice the listing accepts (Accepted).
 use mathlib.Core.Path.{_≡_, refl}
 use mathlib.Core.Bool.{Bool, true, false}
-use mathlib.Core.Logic.{⊎-elim}
 use mathlib.Core.List.{List}
 use Prim.Native.Nat.{ℕ, _*_}
 use native.Mathlib.Omega.{arith}
@@ -10,18 +9,14 @@ use borrow.Author.Tests.{ltb-false}
 use lib.Dec.{ltb}
 use lib.ListN.{length}
 use Rattle.packing.specs.Meaning.{Grammar, Heard, lastPlace}
-use Rattle.packing.specs.Parse.{refused}
 use Rattle.packing.specs.Rows.{_∪_, GrammarBlockRow, HeardBlockRow, ListingRow}
-use Rattle.packing.specs.Valid.{ValidGrammar, ValidHeard}
-use Rattle.packing.proofs.Refusals.{Refuses, granted, denied, refusal-number, three-rows, grammar-block-row}
+use Rattle.packing.proofs.Refusals.{Refuses, granted, denied, three-rows, grammar-block-row}
 use Rattle.packing.proofs.GraphRefusals.{heard-block-row}
-use Rattle.packing.proofs.Whole.{grammar-block-out}
-use Rattle.packing.proofs.Heard.{heard-block-out}
 use Rattle.derivation.specs.Heard.{outputLength}
 use Rattle.listing.specs.Listing.{tableSize, listed, list}
 use Rattle.listing.proofs.Accepted.{listing-accepts}
 
-module _ (g : Grammar) (h : Heard) (okg : ValidGrammar g) (okh : ValidHeard (g .words) h) (N work out : ℕ) where
+module _ (g : Grammar) (h : Heard) (N work out : ℕ) where
   listed-row : Refuses ListingRow (listed g h N work out)
   unfolding listed
   listed-row =
@@ -35,16 +30,10 @@ module _ (g : Grammar) (h : Heard) (okg : ValidGrammar g) (okh : ValidHeard (g .
       go false false true d p q r s = rw (p, q, r) (denied {n = 22} (omega arith, omega arith))
       go false false false true p q r s = rw (p, q, r, s) (denied {n = 23} (omega arith, omega arith))
       go false false false false p q r s =
-          rw (listing-accepts g h N okg okh work out (ltb-false _ _ p) (ltb-false _ _ q) (ltb-false _ _ r) (ltb-false _ _ s)) granted
+          rw (listing-accepts g h N work out (ltb-false _ _ p) (ltb-false _ _ q) (ltb-false _ _ r) (ltb-false _ _ s)) granted
 
 module _ (grammar heard : List ℕ) (N work out : ℕ) where
   -- "a refusal is a number of its row"
   pub list-row : Refuses (GrammarBlockRow ∪ HeardBlockRow ∪ ListingRow) (list grammar heard N work out)
   unfolding list
-  list-row = three-rows (grammar-block-row grammar) (λ g e. heard-block-row (g .words) heard) λ g h e f.
-      listed-row g h (grammar-block-out grammar g e .0) (heard-block-out (g .words) heard h f .0) N work out
-
-  -- 24, "a weight that passes 24 bits", never comes
-  pub never-24 : list grammar heard N work out ≡ refused 24 → ⊥
-  never-24 e =
-      ⊎-elim (⊎-elim (λ r. omega (arith, r)) (⊎-elim (λ r. omega (arith, r)) (λ r. omega (arith, r)))) (λ r. omega (arith, r)) (refusal-number list-row e)
+  list-row = three-rows (grammar-block-row grammar) (λ g e. heard-block-row (g .words) heard) (λ g h e f. listed-row g h N work out)

@@ -1,16 +1,14 @@
 -- The listing: document 01, "Tables", "The list of demand 3" and the rows grammar block, utterance block and listing of
 -- "Where each check stands"; document 02, N1, of slots and of word graphs. Stands on packing's and derivation's definitions.
-use mathlib.Core.Bool.{Bool, true, false}
 use mathlib.Core.List.{List, [], _∷_, _++_, map}
 use Prim.Native.Nat.{ℕ, _+_, _*_, _/_}
 use lib.Dec.{ltb}
 use lib.ListN.{length, drop, replicate}
 use Rattle.bits.specs.Bits.{pick}
-use Rattle.packing.specs.Meaning.{Grammar, Heard, lastPlace, heardEdges}
+use Rattle.packing.specs.Meaning.{Grammar, Heard, lastPlace}
 use Rattle.packing.specs.Parse.{Verdict, accepted, refused, _then_}
 use Rattle.packing.specs.Grammar.{grammarBlock}
 use Rattle.packing.specs.Heard.{heardBlock}
-use Rattle.derivation.specs.Derivation.{weight}
 use Rattle.derivation.specs.Heard.{outputLength, packed}
 use Rattle.derivation.specs.HeardList.{leastDerivations}
 use Rattle.listing.specs.declared.Listed.{Listed}
@@ -20,12 +18,7 @@ use Rattle.listing.specs.declared.Listed.the-variants.{Found, Refused}
 unfoldable pub tableSize : ℕ → ℕ → ℕ → ℕ
 tableSize S n N = 4 * S * (n * (n + 1) / 2) * N
 
--- some weight passes 24 bits
-unfoldable pub tooHeavy : List ℕ → Bool
-tooHeavy [] = false
-tooHeavy (w ∷ ws) = pick (ltb w 16777216) (tooHeavy ws) true
-
--- the conditions 21 to 24, in this order, of a grammar and of what was heard, both accepted; then the readings, each packed as it stands
+-- the conditions 21 to 23, in this order, of a grammar and of what was heard, both accepted; then the readings, each packed as it stands
 -- in the output
 unfoldable pub listed : Grammar → Heard → ℕ → ℕ → ℕ → Verdict (List (List ℕ))
 listed g h N work out =
@@ -33,8 +26,7 @@ listed g h N work out =
     (pick (ltb 256 N) (refused 21)
     (pick (ltb work (tableSize (g .symbols) (lastPlace h) N)) (refused 22)
     (pick (ltb out (N * outputLength g h)) (refused 23)
-    (pick (tooHeavy (map (weight g (heardEdges h)) (leastDerivations g h N))) (refused 24)
-    (accepted (map (packed g h) (leastDerivations g h N)))))))
+    (accepted (map (packed g h) (leastDerivations g h N))))))
 
 -- the readings found, or the refusal, for a work table and an output of these lengths
 unfoldable pub list : List ℕ → List ℕ → ℕ → ℕ → ℕ → Verdict (List (List ℕ))

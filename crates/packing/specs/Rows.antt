@@ -29,7 +29,6 @@ GraphBlockRow n = (Between 11 14 ∪ Between 16 16 ∪ EdgeRow) n
 abbrev pub HeardBlockRow : ℕ → Type 0
 HeardBlockRow n = (UtteranceBlockRow ∪ EdgeRow) n
 
--- 24, "a weight that passes 24 bits", never comes
 abbrev pub ListingRow : ℕ → Type 0
 ListingRow n = Between 21 23 n
 
