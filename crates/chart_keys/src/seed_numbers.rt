@@ -2,8 +2,8 @@
 // A floor and a best so far, which may be keys of other trees, go by the numbers that divide the seeds as they do.
 use crate::Key;
 use crate::PRICES;
-use crate::SPLITS;
 use crate::SPLIT_UNIT;
+use crate::SPLITS;
 use packing::format::MAX_RULES;
 ghost use mathlib.Core.Path.{_≡_};
 ghost use mathlib.Core.Bool.{true};
