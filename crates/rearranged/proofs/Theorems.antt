@@ -4,7 +4,7 @@
 use mathlib.Core.Path.{_≡_, refl, sym, ap, _∙_}
 use mathlib.Core.Logic.{_↔_}
 use mathlib.Core.List.{List}
-use Prim.Native.Nat.{ℕ, _<_, min, compare, Ordering, Ordering·lt, Ordering·eq, Ordering·gt}
+use Prim.Native.Nat.{ℕ, min, compare, Ordering, Ordering·lt, Ordering·eq, Ordering·gt}
 use native.Mathlib.Omega.{arith}
 use lib.ListN.{length, take, length-take}
 use lib.Seq.{take-all}
@@ -116,11 +116,9 @@ module _ {f : ℕ → ℕ} {g g′ : Grammar} (re : Rearranged f g g′) (h : He
   same-derivations = record { each = derives-both re (heardEdges h); no-other = λ t′ d. derives-renumbered re (heardEdges h) d }
 
   module _ (N : ℕ) where
-    -- a list shorter than what is wanted is whole
-    short-lists : length (take N l) < N → SameRenumbered f (length (g .rules)) (λ t. t ∈ take N l) (λ t. t ∈ take N l′)
-    short-lists short =
-        let whole : take N l ≡ l = take-all N l (omega (arith, length-take N l)) in
-        let whole′ : take N l′ ≡ l′ = take-all N l′ (omega (arith, length-take N l, same-length into back)) in
+    -- of lists that are whole
+    whole-lists : take N l ≡ l → take N l′ ≡ l′ → SameRenumbered f (length (g .rules)) (λ t. t ∈ take N l) (λ t. t ∈ take N l′)
+    whole-lists whole whole′ =
         rw (whole, whole′) record {
           each = λ t b. (
             (λ m. all-derive g′ h (renumber f t) .1 (same-derivations .each t b .0 (all-derive g h t .0 m))),
@@ -138,6 +136,14 @@ module _ {f : ℕ → ℕ} {g g′ : Grammar} (re : Rearranged f g g′) (h : He
     equal-lengths : length (take N l) ≡ length (take N l′)
     equal-lengths = length-take N l ∙ ap (min N) (same-length into back) ∙ sym (length-take N l′)
 
--- N13, of the lists of least derivations.
+-- N13, of the lists of least derivations: one that is shorter than what is wanted is whole.
 pub rearranged-lists : RearrangedLists
-rearranged-lists f g g′ re h N = record { lengths = equal-lengths re h N; ranks = equal-ranks re h N; same = short-lists re h N }
+rearranged-lists f g g′ re h N =
+    let count = length-take N (derivations g h) in
+    record {
+      lengths = equal-lengths re h N;
+      ranks = equal-ranks re h N;
+      same = λ short.
+          whole-lists re h N (take-all N (derivations g h) (omega (arith, count)))
+          (take-all N (derivations g′ h) (omega (arith, count, same-length (into re h) (back re h))));
+    }

@@ -1,5 +1,6 @@
--- Rules in another order: document 02, N13, of the lists of least derivations, slots and graphs alike. What it says of the listing's
--- answers stands in spireyerba's Rearranged. Stands on derivation's Derivation, Order and HeardList.
+-- Rules in another order: document 02, N13, of the lists of least derivations, of slots and of graphs. What the listing answers and writes
+-- stands in spireyerba's RearrangedCalls. Stands on derivation's Derivation, Order and HeardList, of whose `leastDerivations` derivation's
+-- HeardTheorems says that it has the derivations by their ranks, each once and none left out.
 use mathlib.Core.Path.{_≡_}
 use mathlib.Core.Logic.{_↔_}
 use mathlib.Core.List.{List}
