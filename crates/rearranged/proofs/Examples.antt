@@ -1,14 +1,14 @@
 -- Two word rules swapped, as one theorem: the definitions compute.
 use mathlib.Core.Path.{_≡_, refl}
 use mathlib.Core.Option.{some}
-use mathlib.Core.List.{List, [], _∷_}
+use mathlib.Core.List.{[], _∷_}
 use Prim.Native.Nat.{ℕ, zero, suc, _<_}
 use native.Mathlib.Omega.{arith}
 use lib.ListN.{getElem?}
 use Rattle.packing.specs.declared.Rule as R
 use Rattle.packing.specs.declared.Rule.the-variants.{Word}
 use Rattle.packing.specs.Meaning.{symbolOf, word, Grammar, Heard, slots, candidate, slotEdges, edgesFrom}
-use Rattle.derivation.specs.Derivation.{Tree, leaf}
+use Rattle.derivation.specs.Derivation.{leaf}
 use Rattle.derivation.specs.List.{ranked}
 use Rattle.derivation.specs.HeardList.{leastDerivations}
 use Rattle.derivation.proofs.Lists.{none≢some}

@@ -8,7 +8,7 @@ use lib.ListN.{length}
 use Rattle.bits.specs.Bits.{field}
 use Rattle.packing.specs.declared.Field.{Field}
 use Rattle.packing.specs.Meaning.{Grammar, Heard, slots, graph, heardEdges}
-use Rattle.packing.specs.Source.{bytes, Entry, entry, within}
+use Rattle.packing.specs.Source.{bytes, Entry, entry}
 use Rattle.packing.specs.Reading.{readingWeight, readingEntries, blockOfReading}
 use Rattle.packing.specs.GraphReading.{graphReadingEntries}
 use Rattle.packing.specs.Valid.{ValidGrammar, ValidHeard}

@@ -26,7 +26,7 @@ taken (List·Memᴰ·tail {x = x} k) =
     )
 
 -- the pigeonhole principle
-pub pigeons : {A B : Type 0} (Q : A → B → Type 0) → ((x x′ : A) (y : B) → Q x y → Q x′ y → x ≡ x′) → (l : List A) (m : List B)
+pigeons : {A B : Type 0} (Q : A → B → Type 0) → ((x x′ : A) (y : B) → Q x y → Q x′ y → x ≡ x′) → (l : List A) (m : List B)
     → Distinct l → ((x : A) → x ∈ l → (y : B) × (y ∈ m) × Q x y) → length l ≤ length m
 pigeons Q one [] m d h = zero-le
 pigeons {A} {B} Q one (x ∷ l) m d h =
