@@ -327,9 +327,10 @@ static inline size_t spireyerba_work_length(uint32_t symbols, uint32_t slots, ui
 /*
 ** LISTING. Finds the readings of least weight of an utterance under a grammar,
 ** as many as wanted or as there are, the least first. Where weights are equal
-** the lower rule number comes first, then the tree with fewer slots in its left
-** part (in a graph: whose left part ends at a lower place), then the lesser left
-** part by this same order, weight included, then the lesser right part.
+** the lower sum of the costs of its words comes first, then the lower rule
+** number, then the tree with fewer slots in its left part (in a graph: whose left
+** part ends at a lower place), then the lesser left part by this same order,
+** weight and costs included, then the lesser right part.
 **
 ** Answers the number found, m, which is 0 if the grammar does not derive the
 ** utterance. A word of cost NOT_HEARD is not offered and so in no reading; if a

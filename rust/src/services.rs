@@ -315,8 +315,9 @@ pub fn next_phrase(grammar: &[u8], length: u32, first: bool, out: &mut [u8]) -> 
 /// [`NOT_HEARD`](crate::limits::NOT_HEARD) is not offered and so in no reading; if a slot has no other, m is 0. All of `work`
 /// is zero afterwards, also beyond the length needed.
 ///
-/// Where weights are equal the lower rule number comes first, then the tree with fewer slots in its left part (in a graph the
-/// one whose left part ends at a lower place), then the lesser left part by this same order, weight included, then the lesser
+/// Where weights are equal the lower sum of the costs of its words comes first, then the lower rule number, then the tree with
+/// fewer slots in its left part (in a graph the one whose left part ends at a lower place), then the lesser left part by this
+/// same order, weight and costs included, then the lesser
 /// right part.
 ///
 /// Refuses with 1 to 7 for the grammar; with 11 to 16, [`EdgePlaces`](Refusal::EdgePlaces) or

@@ -46,9 +46,10 @@ fn run(arguments: &Arguments, output: &mut Output) -> Result<(), Failure> {
     }
     if difference == 0 {
         output.line(
-            "of equal weights the one with the lower rule number comes first, then the one whose left part ends",
+            "of equal weights the one whose words cost less comes first, then the one with the lower rule number,",
         )?;
-        output.line("earlier, then the one with the lesser left part, then the one with the lesser right part")?;
+        output
+            .line("then the one whose left part ends earlier, then the lesser left part, then the lesser right part")?;
     }
     output.line("")?;
     let mut rows = words(&listed, rank as usize);

@@ -129,7 +129,7 @@ fn why_of_equal_weights() {
     let folder = folder("equal", &[("g", b"A -> A A [1] | \"x\""), ("u", b"x 0; x 0; x 0")]);
     let text = answered(run_in(&folder, "why g u 2"), "why");
     assert!(text.starts_with("reading 2 weighs 2, as much as the first\n"), "{text}");
-    assert!(text.contains("ends\nearlier") && text.ends_with("0\n"), "{text}");
+    assert!(text.contains("words cost less") && text.contains("ends earlier") && text.ends_with("0\n"), "{text}");
 }
 
 #[test]
