@@ -26,7 +26,7 @@ use Rattle.spireyerba.specs.Demands.{Demand1, answers, refuses, Converts
 use Rattle.spireyerba.proofs.Small.{low-grammar-to-block, low-grammar-to-sheet, low-utterance-to-block, low-utterance-to-sheet, low-check}
 
 -- the code of an answer is not a refusal's, and the other way round
-low-code : (m n : ℕ) → 1 ≤ m → negℤ (pos m) ≡ pos n → ⊥
+pub low-code : (m n : ℕ) → 1 ≤ m → negℤ (pos m) ≡ pos n → ⊥
 low-code zero n l e = omega arith
 low-code (suc m) n l e = let z : _≡_ {A = ℕ} 0 1 = cc in omega arith
 

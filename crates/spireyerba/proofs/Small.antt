@@ -16,7 +16,7 @@ use Rattle.packing.specs.Grammar.{grammarBlock, grammarSheet, grammarEntries, s
 use Rattle.packing.specs.Utterance.{utteranceBlock, utteranceSheet, utteranceEntries, sheetOfUtterance}
 use Rattle.packing.specs.Heard.{heardBlock}
 use Rattle.packing.specs.Conversion.{grammarToBlock, grammarToSheet, utteranceToBlock, utteranceToSheet, fitting}
-use Rattle.packing.specs.Rows.{Between, _∪_, GrammarBlockRow, UtteranceBlockRow, HeardBlockRow}
+use Rattle.packing.specs.Rows.{Between, _∪_, GrammarBlockRow, UtteranceBlockRow, HeardBlockRow, ListingRow}
 use Rattle.packing.specs.Valid.{ValidGrammar, ValidUtterance}
 use Rattle.packing.proofs.Bounds.{length-rules, length-slots}
 use Rattle.packing.proofs.Parse as P
@@ -85,8 +85,11 @@ low-heard = low-both (λ n r. omega (arith, r)) (λ n r. omega (arith, r))
 pub low-utterance-to-sheet : (s t out : List ℕ) → Refuses Low (fitting (utteranceToSheet s t) out)
 low-utterance-to-sheet s t out = wider (low-three (λ n r. omega (arith, r)) (λ n r. omega (arith, r))) (utterance-to-sheet-row s t out)
 
+pub low-listing : (n : ℕ) → (GrammarBlockRow ∪ HeardBlockRow ∪ ListingRow) n → Low n
+low-listing = low-three low-heard (λ n r. omega (arith, r))
+
 pub low-list : (grammar heard : List ℕ) (N work out : ℕ) → Refuses Low (list grammar heard N work out)
-low-list grammar heard N work out = wider (low-three low-heard (λ n r. omega (arith, r))) (list-row grammar heard N work out)
+low-list grammar heard N work out = wider low-listing (list-row grammar heard N work out)
 
 pub low-check : (grammar heard reading : List ℕ) → Refuses Low (check grammar heard reading)
 low-check grammar heard reading = wider (low-three low-heard (λ n r. omega (arith, r))) (check-row grammar heard reading)

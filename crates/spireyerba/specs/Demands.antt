@@ -1,7 +1,8 @@
 -- The three demands, of the exported functions: of the number that a call answers, its code, and of the slices that it was lent.
 -- `grammar`, `sheet`, `out` .. are the numbers of a slice before the call, `work′` and `out′` those afterwards. Each exported function's
 -- contract, in src/lib.rt, promises of every call the record of this page with the function's name; proofs/Demands has the theorem
--- about two calls, proofs/Calls that about many. Every other name is defined on the page that its `use` line names.
+-- about two calls, proofs/Calls that about many. RearrangedCalls is about two calls of the listing. Every other name is defined on the page
+-- that its `use` line names.
 use mathlib.Core.Path.{_≡_}
 use mathlib.Core.Logic.{_⊎_, _↔_}
 use mathlib.Core.List.{List, _++_}
