@@ -56,7 +56,7 @@ refusals! {
     21 ListingWanted "the number of readings wanted is not 1 to 256",
     22 ListingWork "the work table is short",
     23 ListingOutput "the output is short for the readings wanted",
-    25 SpecimenLength "the length wanted is not 1 to 24",
+    25 SpecimenLength "the length wanted is not 1 to 24, or for phrases not 1 to 6",
     26 SpecimenOutput "the output is shorter than the length wanted",
     31 ReadingEnd "a field of the reading block passes its end",
     32 ReadingKind "the reading block's kind is not 3, or for a word graph not 6",

@@ -69,13 +69,10 @@ fn the_door_schedule() {
     assert_eq!(grammar::from_sheet(&named.grammar.to_sheet()), Ok(named.grammar));
 }
 
-/// The same grammar over a word graph.
+/// The same grammar over a word graph, which stands there as a lattice too.
 #[test]
 fn the_door_schedule_as_a_graph() {
     const FOLDER: &str = "doors_graph";
-    for name in ["grammar.txt", "grammar.bin"] {
-        assert_eq!(bytes(FOLDER, name), bytes("doors", name), "{name}");
-    }
     let named = NamedGrammar::parse(&text(FOLDER, "grammar.txt")).unwrap();
     let graph = named.parse_graph(&text(FOLDER, "graph.txt")).unwrap();
     let (grammar_block, block) = (bytes(FOLDER, "grammar.bin"), bytes(FOLDER, "utterance.bin"));
@@ -86,5 +83,8 @@ fn the_door_schedule_as_a_graph() {
     assert_eq!(print_list(list.iter().map(|found| &found.reading)), readings);
     assert_eq!(Graph::from_block(&grammar_block, &block).as_ref(), Ok(&graph));
     assert_eq!(named.grammar.list_graph(&graph, 8), Ok(list));
+    let mut reader = UtteranceReader::new(&named);
+    reader.scale = Some(100.0);
+    assert_eq!(reader.read_graph(&text(FOLDER, "lattice.slf")), Ok(graph.clone()));
     expect_chances(FOLDER, &named.grammar, &Heard::Graph(graph));
 }

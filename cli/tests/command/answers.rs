@@ -201,7 +201,10 @@ fn specimen_of_a_length() {
     let none = run("specimen grammar.txt 2");
     assert_eq!(none.err, "none: the grammar derives no string of 2 words\n");
     assert_eq!((none.status, none.out.as_str()), (0, ""));
-    assert_eq!(refused(run("specimen grammar.txt 25"), 1), "refused 25: the length wanted is not 1 to 24\n");
+    assert_eq!(
+        refused(run("specimen grammar.txt 25"), 1),
+        "refused 25: the length wanted is not 1 to 24, or for phrases not 1 to 6\n"
+    );
 }
 
 #[test]
@@ -218,7 +221,7 @@ fn phrases_of_a_length() {
     assert_eq!((none.status, none.out.as_str()), (0, ""));
     for length in [0, 7] {
         let refusal = refused(run(&format!("phrases grammar.txt {length}")), 1);
-        assert_eq!(refusal, "refused 25: the length wanted is not 1 to 6\n");
+        assert_eq!(refusal, "refused 25: the length wanted is not 1 to 24, or for phrases not 1 to 6\n");
     }
 }
 
