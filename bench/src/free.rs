@@ -54,11 +54,13 @@ struct Span {
     to: usize,
 }
 
-/// A tree of a cell, by the ranks of its parts. The derived order is that of document 01. A leaf has split 0, and the number of
+/// A tree of a cell, by the ranks of its parts. The derived order is that of document 02, N6. A leaf has split 0, and the number of
 /// its edge on the left.
 #[derive(Clone, Copy, PartialEq, Eq, PartialOrd, Ord)]
 struct Candidate {
     weight: u32,
+    /// The sum of the costs used.
+    costs: u32,
     rule: u16,
     split: u16,
     left: u16,
@@ -102,8 +104,8 @@ struct Chart {
     parts: Vec<(usize, usize)>,
     /// Of each span.
     offers: Vec<Vec<Offer>>,
-    /// The weight of each cell's first tree, side by side for the first pass.
-    first: Vec<Option<u32>>,
+    /// The weight and the sum of costs of each cell's first tree, side by side for the first pass.
+    first: Vec<Option<(u32, u32)>>,
     cells: Vec<Cell>,
 }
 
@@ -172,7 +174,7 @@ impl Chart {
                         }
                     });
                     let index = self.index(span);
-                    self.first[index] = first.map(|first| first.weight);
+                    self.first[index] = first.map(|first| (first.weight, first.costs));
                     self.cells[index].found.extend(first);
                 }
             }
@@ -185,7 +187,8 @@ impl Chart {
         for offer in &self.offers[self.span(from, to)] {
             for rule in self.words[offer.word].iter().filter(|rule| rule.head == head) {
                 let weight = rule.weight + offer.cost;
-                visit(Candidate { weight, rule: rule.number, split: 0, left: offer.number, right: 0 });
+                let costs = offer.cost;
+                visit(Candidate { weight, costs, rule: rule.number, split: 0, left: offer.number, right: 0 });
             }
         }
         for rule in &self.pairs[head] {
@@ -193,8 +196,8 @@ impl Chart {
                 let left = self.first[self.index(Span { head: rule.first, from, to: split })];
                 let right = self.first[self.index(Span { head: rule.second, from: split, to })];
                 if let (Some(left), Some(right)) = (left, right) {
-                    let weight = rule.weight + left + right;
-                    visit(Candidate { weight, rule: rule.number, split: split as u16, left: 0, right: 0 });
+                    let (weight, costs) = (rule.weight + left.0 + right.0, left.1 + right.1);
+                    visit(Candidate { weight, costs, rule: rule.number, split: split as u16, left: 0, right: 0 });
                 }
             }
         }
@@ -234,11 +237,13 @@ impl Chart {
         for follower in followers.into_iter().flatten() {
             let of_parts = |candidate: Candidate| {
                 let (lefts, rights) = (&self.cell(left).found, &self.cell(right).found);
-                lefts[candidate.left as usize].weight + rights[candidate.right as usize].weight
+                let (left, right) = (lefts[candidate.left as usize], rights[candidate.right as usize]);
+                (left.weight + right.weight, left.costs + right.costs)
             };
-            let weight = last.weight - of_parts(last) + of_parts(follower);
+            let (weight, costs) = of_parts(follower);
+            let weight = last.weight - of_parts(last).0 + weight;
             let waiting = self.cells[index].waiting.as_mut().expect("the cell was opened before");
-            waiting.push(Reverse(Candidate { weight, ..follower }));
+            waiting.push(Reverse(Candidate { weight, costs, ..follower }));
         }
     }
 

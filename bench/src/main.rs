@@ -1,19 +1,25 @@
-//! Prints Markdown tables of times in microseconds, medians of alternating calls in one process, and of their ratios.
+//! Prints Markdown tables of times in microseconds, medians of alternating calls in one process, and of their ratios: those
+//! that the command line names, or all.
 
 use spireyerba_bench::{batch, conversions, listing, next_phrase, specimen};
 
+const TABLES: [(&str, fn()); 7] = [
+    ("free", listing::print_beside_free),
+    ("graphs", listing::print_graphs),
+    ("conversions", conversions::print_table),
+    ("specimen", specimen::print_table),
+    ("phrases", next_phrase::print_table),
+    ("batch", batch::print_table),
+    ("second", listing::print_beside_second),
+];
+
 fn main() {
-    listing::print_beside_free();
-    println!();
-    listing::print_graphs();
-    println!();
-    conversions::print_table();
-    println!();
-    specimen::print_table();
-    println!();
-    next_phrase::print_table();
-    println!();
-    batch::print_table();
-    println!();
-    listing::print_beside_second();
+    let wanted: Vec<String> = std::env::args().skip(1).collect();
+    let tables = TABLES.iter().filter(|(name, _)| wanted.is_empty() || wanted.iter().any(|wanted| wanted == name));
+    for (number, (_, print)) in tables.enumerate() {
+        if number > 0 {
+            println!();
+        }
+        print();
+    }
 }

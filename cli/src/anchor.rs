@@ -7,8 +7,10 @@ use spireyerba::limits::NOT_HEARD;
 use spireyerba::text::NamedGrammar;
 use spireyerba::Candidate;
 
-/// Strikes out, slot by slot, what stands beside the words that the command line says were said: they were not heard.
-pub fn apply(arguments: &Arguments, grammar: &NamedGrammar, heard: &mut Heard) -> Result<(), Failure> {
+/// Strikes out, slot by slot, what stands beside the words that the command line says were said: they were not heard. Answers
+/// the slots of those words.
+pub fn apply(arguments: &Arguments, grammar: &NamedGrammar, heard: &mut Heard) -> Result<Vec<usize>, Failure> {
+    let mut known = Vec::new();
     for said in arguments.values(&SAID) {
         let Heard::Slots(utterance) = heard else {
             return Err(Failure::Refused(format!("--said {said}: a word graph has no slots")));
@@ -26,6 +28,7 @@ pub fn apply(arguments: &Arguments, grammar: &NamedGrammar, heard: &mut Heard) -
             return Err(Failure::Refused(format!("--said {said}: slot {number} does not offer it, but {offered}")));
         }
         slot.iter_mut().filter(|candidate| !is_said(candidate)).for_each(|candidate| candidate.cost = NOT_HEARD);
+        known.push(number);
     }
-    Ok(())
+    Ok(known)
 }

@@ -6,7 +6,7 @@
 
 use crate::failure::Failure;
 use crate::heard::Heard;
-use crate::options::{Arguments, DROP_DELETES, DROP_UNKNOWN, FILE, SCALE};
+use crate::options::{Arguments, DROP_DELETES, DROP_UNKNOWN, EMPTY, FILE, SCALE};
 use crate::output::Output;
 use spireyerba::services::check;
 use spireyerba::text::{is_graph, parse_graph_reading, parse_reading, NamedGrammar, Places, UtteranceReader};
@@ -109,10 +109,11 @@ pub fn utterance_reader<'a>(arguments: &Arguments, grammar: &'a NamedGrammar) ->
     reader.scale = scale(arguments)?;
     reader.drop_unknown = arguments.has(&DROP_UNKNOWN);
     reader.drop_deletes = arguments.has(&DROP_DELETES);
+    reader.empty_words = arguments.values(&EMPTY).map(str::to_owned).collect();
     Ok(reader)
 }
 
-/// The scale by which posteriors become costs, if the command line has one.
+/// The scale by which posteriors or scores become costs, if the command line has one.
 pub fn scale(arguments: &Arguments) -> Result<Option<f64>, Failure> {
     match arguments.number::<f64>(&SCALE)? {
         Some(scale) if !(scale.is_finite() && scale > 0.0) => Err(arguments.wrong("--scale is a number above 0")),

@@ -47,6 +47,15 @@ A word graph, where an utterance may stand: an edge a line, from place to place,
   1 3 forty 24                               # up to 25 places
   3                                          # the last place
 
+A lattice in HTK's standard format (SLF) is a word graph too, whose scores become costs by --scale X:
+
+  VERSION=1.0                                # also lmscale=, acscale=, wdpenalty=, base=, start=, end=
+  I=0 t=0.00                                 # nodes; a word may stand on a link or on the node where it ends
+  I=1 t=0.31
+  J=0 S=0 E=1 W=door a=-0.03 l=-0.01         # links; nothing is said on one with !NULL, <s>, </s> or no word
+
+Its links without words go to the word before them, of two alike the cheapest stays, and what is on no path is left out.
+
 A reading: its weight, and the rule number of each node, a node before its left part and that before its right part.
 
   72 0 2 12 3 13 15 8 17 11 20 21            # of slots

@@ -1,122 +1,187 @@
 //! JSON, as much of it as is printed here.
 
 use spireyerba::text::NamedGrammar;
-use spireyerba::{Parts, Reading, Tree};
-use std::fmt::Write;
+use spireyerba::{Body, Parts, Reading, Tree};
+use std::io::Write;
 
 /// Adds a string in quotes.
-pub fn push_string(json: &mut String, text: &str) {
-    json.push('"');
+pub fn push_string(json: &mut Vec<u8>, text: &str) {
+    json.push(b'"');
     for letter in text.chars() {
         match letter {
-            '"' => json.push_str("\\\""),
-            '\\' => json.push_str("\\\\"),
+            '"' => json.extend(b"\\\""),
+            '\\' => json.extend(b"\\\\"),
             letter if letter.is_control() => push_escape(json, letter),
-            letter => json.push(letter),
+            letter => json.extend(letter.encode_utf8(&mut [0; 4]).as_bytes()),
         }
     }
-    json.push('"');
+    json.push(b'"');
 }
 
 /// Adds a control character, none of which needs more than four digits.
-fn push_escape(json: &mut String, letter: char) {
-    write!(json, "\\u{:04x}", u32::from(letter)).expect("a string takes all");
-}
-
-/// Adds a list of what is added for each item.
-pub fn push_list<T>(json: &mut String, items: impl IntoIterator<Item = T>, mut push: impl FnMut(&mut String, T)) {
-    json.push('[');
-    for (number, item) in items.into_iter().enumerate() {
-        if number > 0 {
-            json.push(',');
-        }
-        push(json, item);
-    }
-    json.push(']');
+fn push_escape(json: &mut Vec<u8>, letter: char) {
+    write!(json, "\\u{:04x}", u32::from(letter)).expect("a list takes all");
 }
 
 /// Adds a whole number. Many are printed, and this is several times as fast as `write!`.
-pub fn push_number(json: &mut String, number: u32) {
-    let begin = json.len();
-    let mut rest = number;
+pub fn push_number(json: &mut Vec<u8>, number: u32) {
+    let (mut digits, mut at, mut rest) = ([0; 10], 10, number);
     loop {
-        json.insert(begin, char::from(b'0' + (rest % 10) as u8));
+        at -= 1;
+        digits[at] = b'0' + (rest % 10) as u8;
         rest /= 10;
         if rest == 0 {
-            return;
+            break;
+        }
+    }
+    json.extend_from_slice(&digits[at..]);
+}
+
+/// Adds the name of a value that follows another.
+pub fn push_key(json: &mut Vec<u8>, key: &str) {
+    json.push(b',');
+    push_string(json, key);
+    json.push(b':');
+}
+
+/// Adds a list of numbers with its name.
+pub fn push_numbers(json: &mut Vec<u8>, key: &str, numbers: impl Iterator<Item = u32>) {
+    push_key(json, key);
+    json.push(b'[');
+    for number in numbers {
+        push_number(json, number);
+        json.push(b',');
+    }
+    end_list(json);
+}
+
+/// Ends a list in which a comma stands behind each item.
+pub fn end_list(json: &mut Vec<u8>) {
+    if json.last() == Some(&b',') {
+        json.pop();
+    }
+    json.push(b']');
+}
+
+/// Ends a reading in a list.
+pub fn end_reading(json: &mut Vec<u8>) {
+    json.extend_from_slice(b"},");
+}
+
+/// The bytes that are copied at once.
+const SHORT: usize = 16;
+
+/// A piece of JSON that is added many times. A short one is copied whole and then cut, which takes no call.
+struct Piece {
+    short: [u8; SHORT],
+    length: usize,
+    /// The piece, if it is long.
+    long: Box<[u8]>,
+}
+
+impl Piece {
+    fn new(bytes: &[u8]) -> Self {
+        let (mut short, length) = ([0; SHORT], bytes.len());
+        match short.get_mut(..length) {
+            Some(front) => {
+                front.copy_from_slice(bytes);
+                Self { short, length, long: Box::default() }
+            }
+            None => Self { short, length, long: bytes.into() },
+        }
+    }
+
+    fn push(&self, json: &mut Vec<u8>) {
+        if self.long.is_empty() {
+            let end = json.len() + self.length;
+            json.extend_from_slice(&self.short);
+            json.truncate(end);
+        } else {
+            json.extend_from_slice(&self.long);
         }
     }
 }
 
-/// A grammar's words and rule numbers as they stand in JSON, written once for many readings.
-pub struct Names<'a> {
-    grammar: &'a NamedGrammar,
-    words: Vec<String>,
-    rules: Vec<String>,
+/// The word, if it has one, and the number of each rule of a grammar as they stand in lists, written once for many readings.
+pub struct Names {
+    words: Vec<Option<Piece>>,
+    rules: Vec<Piece>,
 }
 
-impl<'a> Names<'a> {
-    pub fn new(grammar: &'a NamedGrammar) -> Self {
-        let quoted = |word: &String| {
-            let mut json = String::new();
-            push_string(&mut json, word);
-            json
+impl Names {
+    pub fn new(named: &NamedGrammar) -> Self {
+        let rules = &named.grammar.rules;
+        let word = |body| match body {
+            Body::Pair(..) => None,
+            Body::Word(word) => {
+                let mut json = Vec::new();
+                push_string(&mut json, named.word(word));
+                json.push(b',');
+                Some(Piece::new(&json))
+            }
         };
-        let rules = (0..grammar.grammar.rules.len()).map(|rule| rule.to_string()).collect();
-        Self { grammar, words: grammar.words.iter().map(quoted).collect(), rules }
+        let words = rules.iter().map(|rule| word(rule.body)).collect();
+        Self { words, rules: (0..rules.len()).map(|rule| Piece::new(format!("{rule},").as_bytes())).collect() }
     }
 
-    /// Adds a list of readings, the first of which has rank 1, with the edges of each if there are paths.
-    pub fn push_readings(&self, json: &mut String, readings: &[Reading], paths: &[Vec<u32>], with_trees: bool) {
-        push_list(json, (1..).zip(readings), |json, (rank, reading): (u32, &Reading)| {
-            json.push_str("{\"rank\":");
-            push_number(json, rank);
-            json.push_str(",\"weight\":");
-            push_number(json, reading.weight);
-            json.push_str(",\"words\":");
-            push_list(json, self.grammar.words_of(reading), |json, word| json.push_str(&self.words[word as usize]));
-            json.push_str(",\"rules\":");
-            push_list(json, &reading.walk, |json, &rule| json.push_str(&self.rules[rule as usize]));
-            if let Some(path) = paths.get(rank as usize - 1) {
-                json.push_str(",\"edges\":");
-                push_list(json, path, |json, &edge| push_number(json, edge));
-            }
-            if let Some(tree) = with_trees.then(|| Tree::from_walk(&self.grammar.grammar, &reading.walk)).flatten() {
-                json.push_str(",\"tree\":");
-                push_tree(json, self.grammar, &tree);
-            }
-            json.push('}');
-        });
+    /// Adds a reading but for its end: rank, weight, words and rules.
+    pub fn begin_reading(&self, json: &mut Vec<u8>, rank: u32, reading: &Reading) {
+        json.extend_from_slice(b"{\"rank\":");
+        push_number(json, rank);
+        json.extend_from_slice(b",\"weight\":");
+        push_number(json, reading.weight);
+        json.extend_from_slice(b",\"words\":[");
+        let words = reading.walk.iter().filter_map(|rule| self.words[*rule as usize].as_ref());
+        words.for_each(|word| word.push(json));
+        end_list(json);
+        json.extend_from_slice(b",\"rules\":[");
+        reading.walk.iter().for_each(|rule| self.rules[*rule as usize].push(json));
+        end_list(json);
     }
 }
 
 /// Adds a tree: a list of its symbol and its parts, of which a word is a string.
-fn push_tree(json: &mut String, grammar: &NamedGrammar, tree: &Tree) {
-    json.push('[');
+pub fn push_tree(json: &mut Vec<u8>, grammar: &NamedGrammar, tree: &Tree) {
+    json.push(b'[');
     push_string(json, grammar.symbol(grammar.grammar.rules[tree.rule as usize].head));
     match &tree.parts {
         Parts::Word { word, .. } => {
-            json.push(',');
+            json.push(b',');
             push_string(json, grammar.word(*word));
         }
         Parts::Pair(parts) => {
             for part in parts.iter() {
-                json.push(',');
+                json.push(b',');
                 push_tree(json, grammar, part);
             }
         }
     }
-    json.push(']');
+    json.push(b']');
 }
 
 #[cfg(test)]
 mod tests {
     use super::*;
 
+    fn pushed(push: impl FnOnce(&mut Vec<u8>)) -> String {
+        let mut json = Vec::new();
+        push(&mut json);
+        String::from_utf8(json).expect("a text")
+    }
+
     #[test]
-    fn strings() {
-        let mut json = String::new();
-        push_string(&mut json, "a \"b\"\\ \t\u{7f}ü");
-        assert_eq!(json, r#""a \"b\"\\ \u0009\u007fü""#);
+    fn strings_and_numbers() {
+        assert_eq!(pushed(|json| push_string(json, "a \"b\"\\ \t\u{7f}ü")), r#""a \"b\"\\ \u0009\u007fü""#);
+        for number in [0, 9, 10, 65_535, u32::MAX] {
+            assert_eq!(pushed(|json| push_number(json, number)), number.to_string());
+        }
+    }
+
+    #[test]
+    fn pieces_of_any_length() {
+        for length in [0, 1, 15, 16, 17, 40] {
+            let text = "x".repeat(length);
+            assert_eq!(pushed(|json| Piece::new(text.as_bytes()).push(json)), text);
+        }
     }
 }

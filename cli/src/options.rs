@@ -26,13 +26,19 @@ pub const SAID: Opt = Opt {
     value: Some("SLOT=WORD"),
     help: "the word is known for certain: strike out the slot's others; slots count from 0",
 };
+pub const SKIP: Opt = Opt {
+    long: "skip",
+    short: None,
+    value: Some("COST"),
+    help: "words too many: slots may be passed over, each at this cost",
+};
 pub const FILE: Opt =
     Opt { long: "output", short: Some('o'), value: Some("FILE"), help: "write to a file, not to standard output" };
 pub const SCALE: Opt = Opt {
     long: "scale",
     short: None,
     value: Some("X"),
-    help: "confusion networks: a word's cost is -X times the logarithm of its posterior",
+    help: "networks and lattices: a cost is -X times the logarithm of a posterior or of a likelihood",
 };
 pub const NETWORK: Opt = Opt {
     long: "network",
@@ -40,10 +46,22 @@ pub const NETWORK: Opt = Opt {
     value: None,
     help: "write the utterance as a confusion network; needs --scale",
 };
+pub const LATTICE: Opt = Opt {
+    long: "lattice",
+    short: None,
+    value: None,
+    help: "write the word graph as a lattice in HTK's standard format; needs --scale",
+};
 pub const DROP_UNKNOWN: Opt =
     Opt { long: "drop-unknown", short: None, value: None, help: "leave out words that the grammar does not have" };
 pub const DROP_DELETES: Opt =
     Opt { long: "drop-deletes", short: None, value: None, help: "confusion networks: leave out *DELETE*" };
+pub const EMPTY: Opt = Opt {
+    long: "empty",
+    short: None,
+    value: Some("WORD"),
+    help: "lattices: nobody says this word, such as one for silence; it is as !NULL",
+};
 pub const JOBS: Opt = Opt {
     long: "jobs",
     short: Some('j'),

@@ -20,7 +20,8 @@ pub struct Position {
 ///
 /// let error = NamedGrammar::parse("Entry -> Door Number [70000]").unwrap_err().in_file("doors.txt");
 /// assert_eq!(error.to_string(), "doors.txt:1:23: refused 42: 70000 is too large: a weight is at most 65535");
-/// assert_eq!(error.refusal().map(|refusal| refusal.number()), Some(42));
+/// assert_eq!((error.number(), error.file()), (Some(42), Some("doors.txt")));
+/// assert_eq!(error.position().map(|position| (position.line, position.column)), Some((1, 23)));
 /// ```
 #[derive(Clone, Debug, PartialEq)]
 pub enum Error {
@@ -53,6 +54,25 @@ impl Error {
         match self {
             Self::Refused { refusal, .. } => Some(*refusal),
             Self::Text { fault, .. } => fault.refusal(),
+        }
+    }
+
+    /// The number of the refusal, if there is one.
+    pub fn number(&self) -> Option<u32> {
+        self.refusal().map(Refusal::number)
+    }
+
+    /// The file, if it is known.
+    pub fn file(&self) -> Option<&str> {
+        let (Self::Refused { file, .. } | Self::Text { file, .. }) = self;
+        file.as_deref()
+    }
+
+    /// Where in the text, if a text cannot be read.
+    pub fn position(&self) -> Option<Position> {
+        match self {
+            Self::Refused { .. } => None,
+            Self::Text { position, .. } => Some(*position),
         }
     }
 

@@ -1,9 +1,8 @@
 //! Grammars as values.
 
-use crate::limits::{graph_reading_length, reading_length, work_length};
-use crate::limits::{GRAMMAR_BLOCK_MAX, MAX_READINGS};
-use crate::services::{grammar_to_block, listing};
-use crate::{Graph, GraphReading, MarkedGrammar, Reading, Refusal, Utterance};
+use crate::limits::GRAMMAR_BLOCK_MAX;
+use crate::services::{check, grammar_to_block};
+use crate::{Graph, GraphReading, Lister, MarkedGrammar, Reading, Refusal, Utterance};
 
 /// What a rule puts in the place of its head.
 #[derive(Clone, Copy, Debug, PartialEq, Eq, Hash)]
@@ -92,36 +91,42 @@ impl Grammar {
     /// [`grammar_to_block`] and [`utterance_to_block`](crate::services::utterance_to_block) do, then with
     /// [`Refusal::ListingWanted`].
     ///
-    /// A call sizes and zeroes a work table of its own; to keep one between calls, use [`listing`].
+    /// A call has a work table of its own; a [`Lister`] keeps one between calls.
     pub fn list(&self, utterance: &Utterance, wanted: u32) -> Result<Vec<Reading>, Refusal> {
-        let grammar = self.to_block()?;
-        let block = utterance.to_block(&grammar)?;
-        let (slots, rules) = (utterance.slots.len(), self.rules.len());
-        let length = reading_length(slots, rules);
-        let readings = self.list_blocks([&grammar, &block], slots, length, wanted)?;
-        Ok(readings.chunks_exact(length).map(|block| Reading::of_accepted(block, slots, rules)).collect())
+        Lister::new(self)?.list(utterance, wanted)
     }
 
     /// The `wanted` least readings of a word graph, the least first; fewer if there are no more. Refuses as
     /// [`grammar_to_block`] and [`Graph::to_block`] do, then with [`Refusal::ListingWanted`].
     ///
-    /// A call sizes and zeroes a work table of its own; to keep one between calls, use [`listing`].
+    /// A call has a work table of its own; a [`Lister`] keeps one between calls.
     pub fn list_graph(&self, graph: &Graph, wanted: u32) -> Result<Vec<GraphReading>, Refusal> {
-        let grammar = self.to_block()?;
-        let block = graph.to_block(&grammar)?;
-        let longest = graph.places as usize - 1;
-        let length = graph_reading_length(longest, self.rules.len());
-        let readings = self.list_blocks([&grammar, &block], longest, length, wanted)?;
-        Ok(readings.chunks_exact(length).map(|block| GraphReading::of_accepted(block, self)).collect())
+        Lister::new(self)?.list_graph(graph, wanted)
     }
 
-    /// The blocks of the readings found, one after another, of so many slots and of so many bytes each.
-    fn list_blocks(&self, blocks: [&[u8]; 2], slots: usize, length: usize, wanted: u32) -> Result<Vec<u8>, Refusal> {
-        let most = wanted.min(MAX_READINGS) as usize;
-        let mut work = vec![0; work_length(self.symbols as usize, slots, most)];
-        let mut out = vec![0; most * length];
-        let found = listing(blocks[0], blocks[1], wanted, &mut work, &mut out)?;
-        out.truncate(found * length);
-        Ok(out)
+    /// Passes a reading of an utterance exactly if it is that of a derivation, with its true weight. Refuses the grammar and
+    /// the utterance as they are when packed, then the reading as [`Reading::to_block`] and [`check`] do.
+    ///
+    /// ```
+    /// use spireyerba::{text::NamedGrammar, Refusal};
+    ///
+    /// let named = NamedGrammar::parse("A -> A A [1] | \"x\"")?;
+    /// let utterance = named.parse_utterance("x 2; x 3")?;
+    /// let mut reading = named.grammar.list(&utterance, 1)?.remove(0);
+    /// assert_eq!(named.grammar.check(&utterance, &reading), Ok(()));
+    /// reading.weight -= 1;
+    /// assert_eq!(named.grammar.check(&utterance, &reading), Err(Refusal::ReadingWeight));
+    /// # Ok::<(), spireyerba::Error>(())
+    /// ```
+    pub fn check(&self, utterance: &Utterance, reading: &Reading) -> Result<(), Refusal> {
+        let grammar = self.to_block()?;
+        check(&grammar, &utterance.to_block(&grammar)?, &reading.to_block(self.rules.len())?)
+    }
+
+    /// Passes a reading of a word graph exactly if it is that of a derivation, with its true weight. Refuses the grammar and
+    /// the graph as they are when packed, then the reading as [`GraphReading::to_block`] and [`check`] do.
+    pub fn check_graph(&self, graph: &Graph, reading: &GraphReading) -> Result<(), Refusal> {
+        let grammar = self.to_block()?;
+        check(&grammar, &graph.to_block(&grammar)?, &reading.to_block(self)?)
     }
 }

@@ -103,7 +103,11 @@ impl Graph {
     /// # Ok::<(), Refusal>(())
     /// ```
     pub fn to_block(&self, grammar: &[u8]) -> Result<Vec<u8>, Refusal> {
-        let words = Grammar::from_block(grammar)?.words;
+        self.pack(Grammar::from_block(grammar)?.words)
+    }
+
+    /// Packs the graph under a grammar of so many words.
+    pub(crate) fn pack(&self, words: u32) -> Result<Vec<u8>, Refusal> {
         self.check(words)?;
         let mut packer = Packer::default();
         packer.put(KIND_WIDTH, KIND);

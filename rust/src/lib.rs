@@ -14,13 +14,14 @@
 //! |---|---|
 //! | [`services`] | the library's functions over lent slices, with no allocation |
 //! | [`Refusal`] | why one of them refused, by number and in words |
-//! | [`Grammar`], [`Utterance`], [`Reading`] | values that turn into blocks and sheets and back; [`Grammar::list`] |
+//! | [`Grammar`], [`Utterance`], [`Reading`] | values that turn into blocks and sheets and back; [`Grammar::list`], [`Grammar::check`] |
 //! | [`Office`], [`MarkedGrammar`] | rules as offices write them, and what they become; [`Office::to_grammar`] |
-//! | [`Graph`], [`GraphReading`] | word graphs, which have blocks and no sheets; [`Grammar::list_graph`] |
+//! | [`Graph`], [`GraphReading`] | word graphs, which have blocks and no sheets; [`Grammar::list_graph`], [`Grammar::check_graph`] |
+//! | [`Grammar::specimen`], [`Phrases`] | what can be said in a grammar |
 //! | [`Lister`] | many listings under one grammar, in memory that is kept |
 //! | [`Tree`] | a reading as a tree |
 //! | [`limits`] | how large things may be, and how much is to be lent |
-//! | [`text`] | grammars, utterances, word graphs and confusion networks with names |
+//! | [`text`] | grammars, utterances, word graphs, confusion networks and lattices with names |
 //! | [`Error`] | a refusal, or a fault of a text with its file, line and column |
 //!
 //! # Example
@@ -56,6 +57,7 @@ mod graph;
 mod lister;
 mod marked;
 mod office;
+mod phrases;
 mod reading;
 mod refusal;
 mod tree;
@@ -64,9 +66,10 @@ mod utterance;
 pub use error::{Error, Position};
 pub use grammar::{Body, Grammar, Rule};
 pub use graph::{Edge, Graph};
-pub use lister::Lister;
+pub use lister::{Found, Lister};
 pub use marked::MarkedGrammar;
 pub use office::{Item, Office, OfficeRule};
+pub use phrases::Phrases;
 pub use reading::{GraphReading, Reading};
 pub use refusal::Refusal;
 pub use tree::{Parts, Tree};

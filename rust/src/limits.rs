@@ -22,6 +22,8 @@ pub const MAX_WEIGHT: u32 = 65_535;
 pub const NOT_HEARD: u32 = 65_535;
 /// The body of an office's rule has 1 to so many items; one item is a word.
 pub const MAX_ITEMS: u32 = 6;
+/// The greatest share of a rule, and what shares are of; the least is 1.
+pub const MAX_SHARE: u32 = 1_024;
 /// A listing answers 1 to so many readings.
 pub const MAX_READINGS: u32 = 256;
 

@@ -1,8 +1,8 @@
 //! Many listings under one grammar.
 
-use crate::limits::{reading_length, work_length, MAX_READINGS, UTTERANCE_BLOCK_MAX};
+use crate::limits::{graph_reading_length, reading_length, work_length, MAX_READINGS, UTTERANCE_BLOCK_MAX};
 use crate::services::{listing, utterance_to_block};
-use crate::{Grammar, Reading, Refusal, Utterance};
+use crate::{Grammar, Graph, GraphReading, Reading, Refusal, Utterance};
 
 /// A grammar that was packed once, and the memory that its listings need, which is kept from one to the next.
 ///
@@ -20,9 +20,8 @@ use crate::{Grammar, Reading, Refusal, Utterance};
 /// ```
 #[derive(Clone, Debug)]
 pub struct Lister {
-    grammar: Vec<u8>,
-    symbols: usize,
-    rules: usize,
+    grammar: Grammar,
+    block: Vec<u8>,
     work: Vec<u32>,
     out: Vec<u8>,
 }
@@ -31,25 +30,67 @@ impl Lister {
     /// Packs the grammar, or refuses it as [`Grammar::to_block`] does.
     pub fn new(grammar: &Grammar) -> Result<Self, Refusal> {
         let block = grammar.to_block()?;
-        let (symbols, rules) = (grammar.symbols as usize, grammar.rules.len());
-        Ok(Self { grammar: block, symbols, rules, work: Vec::new(), out: Vec::new() })
+        Ok(Self { grammar: grammar.clone(), block, work: Vec::new(), out: Vec::new() })
     }
 
     /// The grammar's block.
     pub fn grammar_block(&self) -> &[u8] {
-        &self.grammar
+        &self.block
     }
 
     /// The `wanted` least readings of an utterance, as [`Grammar::list`] has them.
     pub fn list(&mut self, utterance: &Utterance, wanted: u32) -> Result<Vec<Reading>, Refusal> {
+        let found = self.find(&utterance.to_sheet(), wanted)?;
+        Ok(found.readings().map(|found| found.reading).collect())
+    }
+
+    /// The `wanted` least readings of a word graph, as [`Grammar::list_graph`] has them.
+    pub fn list_graph(&mut self, graph: &Graph, wanted: u32) -> Result<Vec<GraphReading>, Refusal> {
+        Ok(self.find_in_graph(graph, wanted)?.readings().collect())
+    }
+
+    /// The `wanted` least readings of an utterance, given as its sheet, left packed. Once the tables are as large as the
+    /// utterances need, no memory is allocated.
+    ///
+    /// ```
+    /// use spireyerba::text::{NamedGrammar, UtteranceReader};
+    /// use spireyerba::{GraphReading, Lister};
+    ///
+    /// let doors = NamedGrammar::parse("Entry -> Door Number\nDoor -> \"door\"\nNumber -> \"four\" | \"five\" [2]")?;
+    /// let reader = UtteranceReader::new(&doors);
+    /// let (mut lister, mut sheet, mut kept) = (Lister::new(&doors.grammar)?, Vec::new(), GraphReading::default());
+    /// for (heard, weights) in [("door 3; four 9 | five 5", &[10, 12][..]), ("door 7; four 1", &[8])] {
+    ///     reader.read_sheet(heard, &mut sheet)?;
+    ///     let found = lister.find(&sheet, 8)?;
+    ///     assert_eq!(found.len(), weights.len());
+    ///     for (number, weight) in weights.iter().enumerate() {
+    ///         found.read(number, &mut kept);
+    ///         assert_eq!(kept.reading.weight, *weight);
+    ///     }
+    /// }
+    /// # Ok::<(), spireyerba::Error>(())
+    /// ```
+    pub fn find(&mut self, sheet: &[u32], wanted: u32) -> Result<Found<'_>, Refusal> {
         let mut block = [0; UTTERANCE_BLOCK_MAX];
-        let bytes = utterance_to_block(&self.grammar, &utterance.to_sheet(), &mut block)?;
-        let (slots, most) = (utterance.slots.len(), wanted.min(MAX_READINGS) as usize);
-        let length = reading_length(slots, self.rules);
-        let work = lent(&mut self.work, work_length(self.symbols, slots, most));
+        let bytes = utterance_to_block(&self.block, sheet, &mut block)?;
+        let slots = sheet[0] as usize;
+        self.find_in_block(&block[..bytes], slots, reading_length(slots, self.grammar.rules.len()), wanted)
+    }
+
+    /// The `wanted` least readings of a word graph, left packed.
+    pub fn find_in_graph(&mut self, graph: &Graph, wanted: u32) -> Result<Found<'_>, Refusal> {
+        let block = graph.pack(self.grammar.words)?;
+        let longest = graph.places as usize - 1;
+        self.find_in_block(&block, longest, graph_reading_length(longest, self.grammar.rules.len()), wanted)
+    }
+
+    /// The readings of a block of at most so many words, in so many bytes each.
+    fn find_in_block(&mut self, block: &[u8], words: usize, length: usize, wanted: u32) -> Result<Found<'_>, Refusal> {
+        let most = wanted.min(MAX_READINGS) as usize;
+        let work = lent(&mut self.work, work_length(self.grammar.symbols as usize, words, most));
         let out = lent(&mut self.out, most * length);
-        let found = listing(&self.grammar, &block[..bytes], wanted, work, out)?;
-        Ok(out.chunks_exact(length).take(found).map(|block| Reading::of_accepted(block, slots, self.rules)).collect())
+        let found = listing(&self.block, block, wanted, work, out)?;
+        Ok(Found { grammar: &self.grammar, blocks: &self.out[..found * length], length })
     }
 }
 
@@ -59,4 +100,36 @@ fn lent<T: Clone + Default>(table: &mut Vec<T>, length: usize) -> &mut [T] {
         table.resize(length, T::default());
     }
     &mut table[..length]
+}
+
+/// The readings that a [`Lister`] found, the least first, still packed.
+#[derive(Clone, Copy, Debug)]
+pub struct Found<'a> {
+    grammar: &'a Grammar,
+    blocks: &'a [u8],
+    /// The bytes of each.
+    length: usize,
+}
+
+impl<'a> Found<'a> {
+    /// How many there are.
+    pub fn len(&self) -> usize {
+        self.blocks.len() / self.length
+    }
+
+    /// Whether there are none.
+    pub fn is_empty(&self) -> bool {
+        self.blocks.is_empty()
+    }
+
+    /// Puts the reading with a number, from 0 on, in the place of another, in the memory that it has. Of slots its path is
+    /// empty.
+    pub fn read(&self, number: usize, into: &mut GraphReading) {
+        into.unpack(&self.blocks[number * self.length..][..self.length], self.grammar);
+    }
+
+    /// The readings. Those of slots have empty paths.
+    pub fn readings(self) -> impl Iterator<Item = GraphReading> + 'a {
+        self.blocks.chunks_exact(self.length).map(|block| GraphReading::of_accepted(block, self.grammar))
+    }
 }

@@ -10,7 +10,7 @@ const KIND: u32 = 3;
 const GRAPH_KIND: u32 = 6;
 
 /// A derivation written down.
-#[derive(Clone, Debug, PartialEq, Eq, Hash)]
+#[derive(Clone, Debug, Default, PartialEq, Eq, Hash)]
 pub struct Reading {
     /// The sum of the rules' weights and of the words' costs.
     pub weight: u32,
@@ -19,21 +19,12 @@ pub struct Reading {
 }
 
 impl Reading {
-    /// The reading of a block that the library accepted or wrote, over so many slots under so many rules.
-    pub(crate) fn of_accepted(block: &[u8], slots: usize, rules: usize) -> Self {
-        let mut fields = Fields::new(block);
-        fields.take(KIND_WIDTH + READING_SLOTS_WIDTH);
-        let weight = fields.take(READING_WEIGHT_WIDTH);
-        let walk = (0..nodes(slots)).map(|_| fields.take(width(rules as u32 - 1))).collect();
-        Self { weight, walk }
-    }
-
     /// Unpacks a block under a grammar and an utterance, given as their blocks, if it passes [`check`], or refuses it as
     /// that does.
     pub fn from_block(grammar: &[u8], utterance: &[u8], block: &[u8]) -> Result<Self, Refusal> {
+        Utterance::from_block(grammar, utterance)?;
         check(grammar, utterance, block)?;
-        let slots = Utterance::from_block(grammar, utterance)?.slots.len();
-        Ok(Self::of_accepted(block, slots, Grammar::from_block(grammar)?.rules.len()))
+        Ok(GraphReading::of_accepted(block, &Grammar::from_block(grammar)?).reading)
     }
 
     /// Packs the reading under a grammar of so many rules, right or wrong: [`check`] says which.
@@ -76,7 +67,7 @@ fn head(kind: u32, slots: u32, weight: u32) -> Packer {
 }
 
 /// A derivation of a word graph written down: which rules it uses, and which path the words are on.
-#[derive(Clone, Debug, PartialEq, Eq, Hash)]
+#[derive(Clone, Debug, Default, PartialEq, Eq, Hash)]
 pub struct GraphReading {
     /// The weight and the rules. A path of n edges has 2n − 1 nodes, so readings of one graph may be of different lengths.
     pub reading: Reading,
@@ -85,21 +76,31 @@ pub struct GraphReading {
 }
 
 impl GraphReading {
-    /// The reading of a block that the library accepted or wrote under a grammar, with or without zeros behind it.
+    /// The reading of a block that the library accepted or wrote under a grammar, with or without zeros behind it. That of
+    /// slots has no path.
     pub(crate) fn of_accepted(block: &[u8], grammar: &Grammar) -> Self {
+        let mut found = Self::default();
+        found.unpack(block, grammar);
+        found
+    }
+
+    /// Puts the reading of such a block in the place of this one, in the memory that it has.
+    pub(crate) fn unpack(&mut self, block: &[u8], grammar: &Grammar) {
+        let Self { reading: Reading { weight, walk }, path } = self;
         let mut fields = Fields::new(block);
-        fields.take(KIND_WIDTH);
-        let edges = fields.take(READING_SLOTS_WIDTH) as usize;
-        let weight = fields.take(READING_WEIGHT_WIDTH);
-        let (mut walk, mut path) = (Vec::with_capacity(nodes(edges)), Vec::with_capacity(edges));
-        for _ in 0..nodes(edges) {
-            let rule = fields.take(width(grammar.rules.len() as u32 - 1));
+        let of_graph = fields.take(KIND_WIDTH) == GRAPH_KIND;
+        let leaves = fields.take(READING_SLOTS_WIDTH) as usize;
+        *weight = fields.take(READING_WEIGHT_WIDTH);
+        let rule_width = width(grammar.rules.len() as u32 - 1);
+        walk.clear();
+        path.clear();
+        for _ in 0..nodes(leaves) {
+            let rule = fields.take(rule_width);
             walk.push(rule);
-            if matches!(grammar.rules[rule as usize].body, Body::Word(_)) {
+            if of_graph && matches!(grammar.rules[rule as usize].body, Body::Word(_)) {
                 path.push(fields.take(EDGE_NUMBER_WIDTH));
             }
         }
-        Self { reading: Reading { weight, walk }, path }
     }
 
     /// Unpacks a block under a grammar and a word graph, given as their blocks, if it passes [`check`], or refuses it as that

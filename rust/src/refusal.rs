@@ -8,7 +8,7 @@ macro_rules! refusals {
         /// Why a service refused what it was handed. A refusal changes nothing that was lent.
         ///
         /// Where several conditions hold, the one that is met first is answered: the grammar's, then the utterance's, then
-        /// the reading's, each field by field, then those of a number wanted and of lengths lent. Each function of
+        /// the reading's, each field by field, then those of a number wanted, of shares and of lengths lent. Each function of
         /// [`services`](crate::services) says where it departs from this.
         ///
         /// ```
@@ -56,7 +56,7 @@ refusals! {
     21 ListingWanted "the number of readings wanted is not 1 to 256",
     22 ListingWork "the work table is short",
     23 ListingOutput "the output is short for the readings wanted",
-    25 SpecimenLength "the length wanted is not 1 to 24",
+    25 SpecimenLength "the length wanted is not 1 to 24, or for phrases not 1 to 6",
     26 SpecimenOutput "the output is shorter than the length wanted",
     31 ReadingEnd "a field of the reading block passes its end",
     32 ReadingKind "the reading block's kind is not 3, or for a word graph not 6",
@@ -72,6 +72,8 @@ refusals! {
     54 ItemCount "a body of an office sheet does not have 1 to 6 items",
     55 ItemAlone "a body of an office sheet is one symbol",
     56 OfficeSize "the grammar that an office sheet becomes passes 32 symbols or 256 rules",
+    60 SharesCount "there is not one share for each rule of the grammar",
+    61 ShareRange "a share is not 1 to 1,024",
 }
 
 impl Refusal {

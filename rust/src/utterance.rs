@@ -71,8 +71,8 @@ impl Utterance {
         Ok(block)
     }
 
-    /// The utterance of a sheet that the library accepted or wrote.
-    fn of_accepted(sheet: &[u32]) -> Self {
+    /// The utterance of a sheet that the library accepted or wrote, or that has all its numbers.
+    pub(crate) fn of_accepted(sheet: &[u32]) -> Self {
         let mut numbers = sheet.iter().copied();
         let mut next = || numbers.next().expect("an accepted sheet has all its numbers");
         let slots = next();

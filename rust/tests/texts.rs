@@ -209,7 +209,7 @@ fn mistakes_in_graphs() {
         ("0 1 | x", "1:5: `|` where a word should stand"),
         ("0 1 x y", "1:7: `y` is not a whole number"),
         ("0 1 x |", "1:7: `|` where a cost should stand"),
-        ("0 1 x 1 2", "1:9: `2` where the end of the line should stand"),
+        ("0 1 x 1 2", "1:9: `2` where `;` or the end of the line should stand"),
         ("0 1 x 65536", "1:7: refused 42: 65536 is too large: a cost is at most 65535"),
         ("0 1 z 1", "1:5: refused 14: the grammar has no word `z`"),
         ("1 1 x 1", "1:3: refused 51: an edge ends above where it starts: not 1 to 1"),

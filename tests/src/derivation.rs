@@ -1,4 +1,4 @@
-//! Derivations, their weight, their order, and all of them (document 01, "Grammars and derivations"; document 02, N1 and N3).
+//! Derivations, their weight, their order, and all of them (document 01, "Grammars and derivations"; document 02, N1, N3 and N6).
 
 use crate::heard::Offers;
 use spireyerba::{Body, Grammar, Graph, GraphReading, Reading, Utterance};
@@ -11,6 +11,8 @@ use std::rc::Rc;
 pub struct Tree {
     pub rule: usize,
     pub weight: u32,
+    /// The sum of the costs used.
+    pub costs: u32,
     /// The place where it ends: in front of the slot of that number.
     pub end: usize,
     pub kind: Kind,
@@ -62,7 +64,7 @@ pub fn order(a: &Tree, b: &Tree) -> Ordering {
         // leaves of one rule over one span are the same leaf
         _ => Ordering::Equal,
     };
-    a.weight.cmp(&b.weight).then(a.rule.cmp(&b.rule)).then_with(parts)
+    a.weight.cmp(&b.weight).then(a.costs.cmp(&b.costs)).then(a.rule.cmp(&b.rule)).then_with(parts)
 }
 
 /// A head, and the places from where to where its trees go.
@@ -115,7 +117,7 @@ impl Forest<'_> {
     fn leaf(&self, (_, from, to): Span, number: usize, word: u32) -> Option<Rc<Tree>> {
         let offer = self.offers.get(from, to, word)?;
         let weight = self.grammar.rules[number].weight + offer.cost;
-        Some(Rc::new(Tree { rule: number, weight, end: to, kind: Kind::Leaf(offer.number) }))
+        Some(Rc::new(Tree { rule: number, weight, costs: offer.cost, end: to, kind: Kind::Leaf(offer.number) }))
     }
 
     /// Each left part joined with each right part, over adjoining spans.
@@ -127,8 +129,9 @@ impl Forest<'_> {
             for left in lefts.iter() {
                 for right in rights.iter() {
                     let weight = self.grammar.rules[number].weight + left.weight + right.weight;
+                    let costs = left.costs + right.costs;
                     let kind = Kind::Join(left.clone(), right.clone());
-                    trees.push(Rc::new(Tree { rule: number, weight, end: to, kind }));
+                    trees.push(Rc::new(Tree { rule: number, weight, costs, end: to, kind }));
                 }
             }
         }

@@ -29,10 +29,11 @@ fn least_of(grammar: &Grammar, offers: &Offers, wanted: usize) -> Vec<GraphReadi
     cell.iter().enumerate().map(reading).collect()
 }
 
-/// A tree of a cell; the derived order, field by field, is that of document 01. A leaf has split, left and right 0.
+/// A tree of a cell; the derived order, field by field, is that of document 02, N6. A leaf has split, left and right 0.
 #[derive(Clone, Copy, PartialEq, Eq, PartialOrd, Ord)]
 struct Entry {
     weight: u32,
+    costs: u32,
     rule: usize,
     split: usize,
     left: usize,
@@ -76,14 +77,15 @@ impl<'a> Chart<'a> {
             match of_rule.body {
                 Body::Word(word) => {
                     if let Some(offer) = self.offers.get(from, to, word) {
-                        best.offer(Entry { weight: of_rule.weight + offer.cost, rule, split: 0, left: 0, right: 0 });
+                        let weight = of_rule.weight + offer.cost;
+                        best.offer(Entry { weight, costs: offer.cost, rule, split: 0, left: 0, right: 0 });
                     }
                 }
                 Body::Pair(first, second) => {
                     for split in from + 1..to {
                         let (lefts, rights) = (self.cell(first, from, split), self.cell(second, split, to));
                         best.offer_pairs(
-                            Entry { weight: of_rule.weight, rule, split, left: 0, right: 0 },
+                            Entry { weight: of_rule.weight, costs: 0, rule, split, left: 0, right: 0 },
                             lefts,
                             rights,
                         );
@@ -132,7 +134,8 @@ impl Best {
         for (left, of_left) in lefts.iter().enumerate() {
             for (right, of_right) in rights.iter().enumerate() {
                 let weight = rule.weight + of_left.weight + of_right.weight;
-                if !self.offer(Entry { weight, left, right, ..rule }) {
+                let costs = of_left.costs + of_right.costs;
+                if !self.offer(Entry { weight, costs, left, right, ..rule }) {
                     if right == 0 {
                         return;
                     }

@@ -65,13 +65,14 @@ fn tree_on_path(
             let number_of_edge = path.next().expect("an edge for each word");
             let edge = graph.edges[number_of_edge as usize];
             let kind = Kind::Leaf(number_of_edge);
-            Tree { rule: number, weight: rule.weight + edge.cost, end: edge.to as usize, kind }
+            Tree { rule: number, weight: rule.weight + edge.cost, costs: edge.cost, end: edge.to as usize, kind }
         }
         Body::Pair(..) => {
             let left = tree_on_path(grammar, graph, walk, path);
             let right = tree_on_path(grammar, graph, walk, path);
             let weight = rule.weight + left.weight + right.weight;
-            Tree { rule: number, weight, end: right.end, kind: Kind::Join(left, right) }
+            let costs = left.costs + right.costs;
+            Tree { rule: number, weight, costs, end: right.end, kind: Kind::Join(left, right) }
         }
     })
 }

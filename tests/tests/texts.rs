@@ -3,7 +3,7 @@
 
 use spireyerba::text::{graph_reading_text, is_graph, parse_graph_reading, parse_reading, reading_text};
 use spireyerba::text::{NamedGrammar, UtteranceReader};
-use spireyerba::{GraphReading, Lister};
+use spireyerba::{Body, Grammar, Graph, GraphReading, Lister, Rule};
 use spireyerba_tests::compare::over_seeds;
 use spireyerba_tests::graph_reading;
 use spireyerba_tests::seeded::grammars::{grammar, Size};
@@ -11,7 +11,7 @@ use spireyerba_tests::seeded::graphs::graph;
 use spireyerba_tests::seeded::parsable::{case, graph_case, AMBIGUOUS, SPARSE};
 use spireyerba_tests::seeded::rng::Rng;
 use spireyerba_tests::seeded::utterances::utterance;
-use std::collections::HashSet;
+use std::collections::{HashMap, HashSet};
 
 const SIZES: [Size; 3] = [Size::Small, Size::Middle, Size::Greatest];
 /// Characters of names, some of which mean something in texts.
@@ -89,6 +89,9 @@ fn graphs() {
         );
         let read = named.parse_graph(&text).unwrap_or_else(|error| panic!("{error}\n{text}"));
         assert_eq!(read, graph, "{text}");
+        let in_a_line = text.trim_end().replace('\n', " ; ");
+        assert!(is_graph(&in_a_line));
+        assert_eq!(named.parse_graph(&in_a_line), Ok(read.clone()), "{in_a_line}");
         let block = named.grammar.to_block().expect("an accepted grammar");
         assert_eq!(read.to_block(&block), graph.to_block(&block));
     });
@@ -114,6 +117,78 @@ fn networks() {
     assert!(written > 150, "{written} networks");
 }
 
+/// A graph of which every edge is on a path has a lattice, and that of any other has none.
+#[test]
+fn lattices() {
+    let (mut written, mut dead) = (0, 0);
+    over_seeds(7_000..7_600, |rng| {
+        let mut named = named(rng);
+        named.words = names(rng, named.grammar.words, &['a', 'b', 'é', '=', '\'', '"', '\\', ' ', '#']);
+        let size = rng.pick(&SIZES);
+        let graph = graph(rng, size, named.grammar.words);
+        let scale = rng.pick(&[0.5, 100.0, 1_000.0]);
+        let Some(text) = named.lattice_text(&graph, scale) else {
+            assert!(!is_on_paths(&graph), "{graph:?}");
+            dead += 1;
+            return;
+        };
+        assert!(is_graph(&text) && is_on_paths(&graph), "{text}");
+        let mut reader = UtteranceReader::new(&named);
+        reader.scale = Some(scale);
+        assert_eq!(reader.read_graph(&text), Ok(graph), "{text}");
+        written += 1;
+    });
+    assert!(written > 100 && dead > 100, "{written} lattices, {dead} graphs without");
+}
+
+/// Whether every place and every edge is on a path from the first place to the last.
+fn is_on_paths(graph: &Graph) -> bool {
+    let inner = 1..graph.places - 1;
+    let reached = |place| graph.edges.iter().any(|edge| edge.to == place);
+    let left = |place| graph.edges.iter().any(|edge| edge.from == place);
+    // edges go up, so what every place is reached from goes back to the first one
+    inner.clone().all(reached) && reached(graph.places - 1) && inner.clone().all(left) && left(0)
+}
+
+/// A grammar in which every string of three words has one derivation.
+fn any_words() -> NamedGrammar {
+    let rule = |head, body| Rule { head, weight: 0, body };
+    let words = (0..3).flat_map(|word| [0, 1].map(|head| rule(head, Body::Word(word))));
+    let rules = [rule(0, Body::Pair(1, 0))].into_iter().chain(words).collect();
+    NamedGrammar::numbered(Grammar { symbols: 2, words: 3, rules })
+}
+
+/// Lattices in which every word need not be said: each string that is left has its least weight, and there are no others.
+#[test]
+fn links_without_words_are_passed_over() {
+    let named = any_words();
+    let mut reader = UtteranceReader::new(&named);
+    reader.scale = Some(1.0);
+    over_seeds(8_000..8_200, |rng| {
+        let costs: Vec<[u32; 2]> = (0..rng.within(1..=6)).map(|_| [rng.within(0..=50), rng.within(0..=50)]).collect();
+        let words: Vec<u32> = costs.iter().map(|_| rng.within(0..=2)).collect();
+        let mut text = format!("VERSION=1.0\nstart=0 end={}\n", costs.len());
+        text.extend((0..=costs.len()).map(|node| format!("I={node}\n")));
+        for (from, (word, [said, passed])) in words.iter().zip(&costs).enumerate() {
+            text += &format!("J={} S={from} E={} W=w{word} a=-{said}\n", 2 * from, from + 1);
+            text += &format!("J={} S={from} E={} W=!NULL a=-{passed}\n", 2 * from + 1, from + 1);
+        }
+        let graph = reader.read_graph(&text).unwrap_or_else(|error| panic!("{error}\n{text}"));
+        let mut found: HashMap<Vec<u32>, u32> = HashMap::new();
+        for GraphReading { reading, .. } in named.grammar.list_graph(&graph, 256).expect("a list") {
+            found.entry(named.words_of(&reading).collect()).or_insert(reading.weight);
+        }
+        let mut least: HashMap<Vec<u32>, u32> = HashMap::new();
+        for choice in 1_u32..1 << costs.len() {
+            let is_said = |slot: &usize| choice >> slot & 1 == 1;
+            let weight: u32 = (0..costs.len()).map(|slot| costs[slot][usize::from(!is_said(&slot))]).sum();
+            let string = (0..costs.len()).filter(is_said).map(|slot| words[slot]).collect();
+            least.entry(string).and_modify(|known| *known = weight.min(*known)).or_insert(weight);
+        }
+        assert_eq!(found, least, "{text}");
+    });
+}
+
 #[test]
 fn readings_and_a_lister_that_is_kept() {
     over_seeds(4_000..4_200, |rng| {
@@ -124,6 +199,7 @@ fn readings_and_a_lister_that_is_kept() {
             let readings = lister.list(&utterance, wanted);
             assert_eq!(readings, grammar.list(&utterance, wanted));
             for reading in readings.into_iter().flatten() {
+                assert_eq!(grammar.check(&utterance, &reading), Ok(()));
                 assert_eq!(parse_reading(&reading_text(&reading)), Ok(reading));
             }
         }
@@ -138,7 +214,10 @@ fn readings_of_graphs() {
         let (grammar, graph) = graph_case(rng, shape);
         let block = grammar.to_block().expect("an accepted grammar");
         let graph_block = graph.to_block(&block).expect("an accepted graph");
-        for found in grammar.list_graph(&graph, 30).expect("an accepted number") {
+        let mut lister = Lister::new(&grammar).expect("an accepted grammar");
+        assert_eq!(lister.list_graph(&graph, 2), grammar.list_graph(&graph, 2));
+        for found in lister.list_graph(&graph, 30).expect("an accepted number") {
+            assert_eq!(grammar.check_graph(&graph, &found), Ok(()));
             assert_eq!(parse_graph_reading(&graph_reading_text(&found)).as_ref(), Ok(&found));
             let packed = found.to_block(&grammar).expect("a reading of the library's");
             assert_eq!(packed, graph_reading::pack(&grammar, &found));

@@ -6,8 +6,8 @@ use crate::files;
 use crate::json;
 use crate::options::{Arguments, DROP_UNKNOWN, JOBS, WANTED};
 use crate::output::Output;
-use spireyerba::text::UtteranceReader;
-use spireyerba::{Error, Lister};
+use spireyerba::text::{is_graph, UtteranceReader};
+use spireyerba::{Error, GraphReading, Lister};
 use std::collections::BTreeMap;
 use std::io::{stderr, BufRead, BufReader, IsTerminal, Read};
 use std::sync::mpsc::{sync_channel, Receiver, SyncSender};
@@ -19,11 +19,12 @@ pub const COMMAND: Command = Command {
     operands: &["GRAMMAR", "FILE"],
     needed: 2,
     options: &[WANTED, JOBS, DROP_UNKNOWN],
-    summary: "list the readings of many utterances, one a line, on all cores",
+    summary: "list the readings of many utterances or word graphs, one a line, on all cores",
     details: "\
-A line of the file has an utterance, with semicolons between its slots: `door 4 | four 61 ; twenty 12`. Empty lines and
-comments are passed over. The answers are lines of JSON in the same order, with the number of the utterance's line;
-what is refused has \"error\" in place of \"readings\", and a message on standard error.",
+A line of the file has an utterance, with semicolons between its slots: `door 4 | four 61 ; twenty 12`, or a word graph,
+with semicolons between its edges: `0 1 door 4 ; 1 3 twenty 12 ; 3`. Empty lines and comments are passed over. The
+answers are lines of JSON in the same order, with the number of the line; what is refused has \"error\" in place of
+\"readings\", and a message on standard error.",
     example: "spireyerba batch grammar.txt utterances.txt -n 1 > readings.jsonl",
     run,
 };
@@ -45,6 +46,7 @@ fn run(arguments: &Arguments, output: &mut Output) -> Result<(), Failure> {
         reader: files::utterance_reader(arguments, &grammar.named)?,
         lister: Lister::new(&grammar.named.grammar).map_err(Error::from)?,
         names: json::Names::new(&grammar.named),
+        written: Mutex::default(),
     };
     let source = Mutex::new(Source::new(files::open(arguments.operands[1])?));
     std::thread::scope(|scope| {
@@ -55,7 +57,7 @@ fn run(arguments: &Arguments, output: &mut Output) -> Result<(), Failure> {
             scope.spawn(move || batch.work(source, &sender));
         }
         drop(sender);
-        write_in_order(&receiver, output)
+        write_in_order(&batch, &receiver, output)
     })
 }
 
@@ -95,9 +97,8 @@ impl Source {
 }
 
 /// What became of some lines.
-#[derive(Default)]
 struct Answers {
-    json: String,
+    json: Vec<u8>,
     /// The messages about lines that were refused.
     messages: Vec<String>,
     utterances: usize,
@@ -107,22 +108,24 @@ type Numbered = (usize, Result<Answers, Failure>);
 
 struct Batch<'a> {
     name: &'a str,
-    names: json::Names<'a>,
+    names: json::Names,
     reader: UtteranceReader<'a>,
     lister: Lister,
     wanted: u32,
+    /// Memory of answers that were written.
+    written: Mutex<Vec<Vec<u8>>>,
 }
 
 impl Batch<'_> {
     /// Answers lines until there are none, or nobody wants the answers.
     fn work(&self, source: &Mutex<Source>, sender: &SyncSender<Numbered>) {
-        let mut lister = self.lister.clone();
+        let mut worker = Worker::new(self);
         loop {
             let next = source.lock().map(|mut source| (source.pieces, source.next()));
             let Ok((number, next)) = next else { return };
             let answers = match next {
                 Ok(None) => return,
-                Ok(Some(piece)) => (piece.number, Ok(self.answers(&mut lister, &piece))),
+                Ok(Some(piece)) => (piece.number, Ok(worker.answers(&piece))),
                 Err(error) => (number, Err(Failure::file(self.name, &error))),
             };
             let failed = answers.1.is_err();
@@ -132,15 +135,43 @@ impl Batch<'_> {
         }
     }
 
-    fn answers(&self, lister: &mut Lister, piece: &Piece) -> Answers {
-        let mut answers = Answers::default();
+    /// Memory for answers.
+    fn memory(&self) -> Vec<u8> {
+        self.written.lock().ok().and_then(|mut written| written.pop()).unwrap_or_default()
+    }
+
+    /// Keeps the memory of answers that were written.
+    fn keep(&self, mut json: Vec<u8>) {
+        json.clear();
+        if let Ok(mut written) = self.written.lock() {
+            written.push(json);
+        }
+    }
+}
+
+/// What a thread needs for one line after another.
+struct Worker<'a> {
+    batch: &'a Batch<'a>,
+    lister: Lister,
+    sheet: Vec<u32>,
+    reading: GraphReading,
+}
+
+impl<'a> Worker<'a> {
+    fn new(batch: &'a Batch) -> Self {
+        Self { batch, lister: batch.lister.clone(), sheet: Vec::new(), reading: GraphReading::default() }
+    }
+
+    fn answers(&mut self, piece: &Piece) -> Answers {
+        let mut answers = Answers { json: self.batch.memory(), messages: Vec::new(), utterances: 0 };
         for (number, line) in piece.text.split(|byte| *byte == b'\n').enumerate() {
             let line = String::from_utf8_lossy(line);
-            if line.trim_start().chars().next().is_none_or(|first| first == '#') {
+            let first = line.trim_start().chars().next();
+            if first.is_none_or(|first| first == '#') {
                 continue;
             }
             answers.utterances += 1;
-            if let Err(error) = self.answer(lister, &line, piece.before + number, &mut answers.json) {
+            if let Err(error) = self.answer(&line, piece.before + number, &mut answers.json) {
                 refuse(&mut answers, &error, piece.before + number + 1);
             }
         }
@@ -148,32 +179,53 @@ impl Batch<'_> {
     }
 
     /// Adds the answer of a line with so many before it, or nothing if it is refused.
-    fn answer(&self, lister: &mut Lister, line: &str, before: usize, json: &mut String) -> Result<(), Error> {
-        let in_file = |error: Error| error.in_file(self.name).after_lines(before);
-        let utterance = self.reader.read_line(line).map_err(in_file)?;
-        let readings = lister.list(&utterance, self.wanted).map_err(|refusal| in_file(refusal.into()))?;
-        json.push_str("{\"line\":");
-        json::push_number(json, before as u32 + 1);
-        json.push_str(",\"readings\":");
-        self.names.push_readings(json, &readings, &[], false);
-        json.push_str("}\n");
+    fn answer(&mut self, line: &str, before: usize, json: &mut Vec<u8>) -> Result<(), Error> {
+        let Batch { name, names, reader, wanted, .. } = self.batch;
+        let in_file = |error: Error| error.in_file(name).after_lines(before);
+        let is_graph = line.trim_start().starts_with(|first: char| first.is_ascii_digit()) && is_graph(line);
+        let found = if is_graph {
+            let graph = reader.read_graph(line).map_err(in_file)?;
+            self.lister.find_in_graph(&graph, *wanted)
+        } else {
+            reader.read_sheet(line, &mut self.sheet).map_err(in_file)?;
+            self.lister.find(&self.sheet, *wanted)
+        };
+        let found = found.map_err(|refusal| in_file(refusal.into()))?;
+        begin_line(json, before + 1);
+        json::push_key(json, "readings");
+        json.push(b'[');
+        for number in 0..found.len() {
+            found.read(number, &mut self.reading);
+            names.begin_reading(json, number as u32 + 1, &self.reading.reading);
+            if is_graph {
+                json::push_numbers(json, "edges", self.reading.path.iter().copied());
+            }
+            json::end_reading(json);
+        }
+        json::end_list(json);
+        json.extend_from_slice(b"}\n");
         Ok(())
     }
+}
+
+/// Begins the answer of a line.
+fn begin_line(json: &mut Vec<u8>, line: usize) {
+    json.extend_from_slice(b"{\"line\":");
+    json::push_number(json, line as u32);
 }
 
 /// Adds the answer of a line that is refused.
 fn refuse(answers: &mut Answers, error: &Error, line: usize) {
     let message = error.to_string();
-    answers.json.push_str("{\"line\":");
-    json::push_number(&mut answers.json, line as u32);
-    answers.json.push_str(",\"error\":");
+    begin_line(&mut answers.json, line);
+    json::push_key(&mut answers.json, "error");
     json::push_string(&mut answers.json, &message);
-    answers.json.push_str("}\n");
+    answers.json.extend_from_slice(b"}\n");
     answers.messages.push(message);
 }
 
 /// Writes the answers in the order of the lines.
-fn write_in_order(receiver: &Receiver<Numbered>, output: &mut Output) -> Result<(), Failure> {
+fn write_in_order(batch: &Batch, receiver: &Receiver<Numbered>, output: &mut Output) -> Result<(), Failure> {
     let mut progress = Progress::begin(output);
     let mut early = BTreeMap::new();
     let mut refused = 0;
@@ -181,13 +233,14 @@ fn write_in_order(receiver: &Receiver<Numbered>, output: &mut Output) -> Result<
         early.insert(number, answers);
         while let Some(answers) = early.remove(&progress.pieces) {
             let answers = answers?;
-            output.text(&answers.json)?;
+            output.bytes(&answers.json)?;
             if !answers.messages.is_empty() {
                 progress.clear();
                 answers.messages.iter().for_each(|message| eprintln!("{message}"));
                 refused += answers.messages.len();
             }
             progress.advance(answers.utterances);
+            batch.keep(answers.json);
         }
     }
     progress.clear();

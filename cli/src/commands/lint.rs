@@ -6,7 +6,6 @@ use crate::files::{self, GrammarFile};
 use crate::options::Arguments;
 use crate::output::Output;
 use spireyerba::limits::{MAX_RULES, MAX_SLOTS, MAX_SYMBOLS, MAX_WORDS};
-use spireyerba::services::specimen;
 use spireyerba::text::Places;
 use spireyerba::{Body, Error, Grammar, Position, Refusal, Rule};
 
@@ -62,17 +61,16 @@ fn room(file: &GrammarFile) -> String {
 /// The length of the shortest string that each symbol derives, if an utterance has room for one: the library's specimens of
 /// the grammar that starts with that symbol.
 fn shortest_strings(grammar: &Grammar) -> Result<Vec<Option<u32>>, Refusal> {
-    let mut string = [0; MAX_SLOTS as usize];
-    let mut shortest = |symbol| {
-        let block = started_with(grammar, symbol).to_block()?;
+    let shortest = |symbol| {
+        let grammar = started_with(grammar, symbol);
         for length in 1..=MAX_SLOTS {
-            if specimen(&block, length, &mut string)? {
+            if grammar.specimen(length)?.is_some() {
                 return Ok(Some(length));
             }
         }
         Ok(None)
     };
-    (0..grammar.symbols).map(&mut shortest).collect()
+    (0..grammar.symbols).map(shortest).collect()
 }
 
 /// The grammar with another start: that symbol and symbol 0 change their numbers.

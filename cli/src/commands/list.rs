@@ -7,8 +7,9 @@ use crate::failure::Failure;
 use crate::files::{self, GrammarFile};
 use crate::heard::{Heard, Taken};
 use crate::json;
-use crate::options::{Arguments, DROP_DELETES, DROP_UNKNOWN, JSON, RULES, SAID, SCALE, TREE, WANTED};
+use crate::options::{Arguments, DROP_DELETES, DROP_UNKNOWN, EMPTY, JSON, RULES, SAID, SCALE, SKIP, TREE, WANTED};
 use crate::output::{Output, Style};
+use crate::skip;
 use spireyerba::text::print_list;
 use spireyerba::{Error, Reading, Tree};
 
@@ -16,11 +17,12 @@ pub const COMMAND: Command = Command {
     name: "list",
     operands: &["GRAMMAR", "UTTERANCE"],
     needed: 2,
-    options: &[WANTED, TREE, RULES, JSON, SAID, SCALE, DROP_UNKNOWN, DROP_DELETES],
+    options: &[WANTED, TREE, RULES, JSON, SAID, SKIP, SCALE, DROP_UNKNOWN, DROP_DELETES, EMPTY],
     summary: "list the readings of least weight, the least first",
     details: "\
 A line has rank, weight and words. Fewer readings than were asked for are all that there are.
-In a tree [5] is a rule's weight, and 12 behind a word its cost.",
+In a tree [5] is a rule's weight, and 12 behind a word its cost. With --skip some slots may have been words too many: as
+many in a row as 96 edges of a word graph have room for, and a message says how many that is.",
     example: "spireyerba list grammar.txt utterance.txt -n 3 --tree --said 0=door",
     run,
 };
@@ -35,6 +37,8 @@ pub struct Listed {
     pub readings: Vec<Reading>,
     /// The path of each reading of a word graph.
     paths: Vec<Vec<u32>>,
+    /// The slot of each edge, if the graph was drawn so that slots may be passed over.
+    slots: Option<Vec<u32>>,
 }
 
 impl Listed {
@@ -42,10 +46,11 @@ impl Listed {
     pub fn new(arguments: &Arguments, wanted: u32) -> Result<Self, Failure> {
         let grammar = files::grammar(arguments.operands[0])?;
         let mut heard = files::heard(arguments, &grammar, arguments.operands[1])?;
-        anchor::apply(arguments, &grammar.named, &mut heard)?;
+        let known = anchor::apply(arguments, &grammar.named, &mut heard)?;
+        let slots = skip::apply(arguments, &known, &mut heard)?;
         let list = heard.list(&grammar.named.grammar, wanted).map_err(Error::from)?;
         let (readings, paths) = list.into_iter().map(|found| (found.reading, found.path)).unzip();
-        Ok(Self { grammar, heard, readings, paths })
+        Ok(Self { grammar, heard, readings, paths, slots })
     }
 
     /// The words of the reading with a rank, each where it was heard; none if there is no such reading.
@@ -69,16 +74,33 @@ fn run(arguments: &Arguments, output: &mut Output) -> Result<(), Failure> {
     let listed = Listed::new(arguments, arguments.wanted()?)?;
     match forms {
         [_, true, _] => output.text(&print_list(&listed.readings)),
-        [_, _, true] => output.line(&json_of(&listed)),
+        [_, _, true] => output.bytes(&json_of(&listed)),
         [with_trees, ..] => print(&listed, with_trees, output),
     }
 }
 
-fn json_of(listed: &Listed) -> String {
-    let mut line = String::from("{\"readings\":");
-    let paths = if matches!(listed.heard, Heard::Graph(_)) { &listed.paths[..] } else { &[] };
-    json::Names::new(&listed.grammar.named).push_readings(&mut line, &listed.readings, paths, true);
-    line + "}"
+/// The readings as a line of JSON. Those of a word graph have edges, and those of slots that may be passed over the slots of
+/// their words.
+fn json_of(listed: &Listed) -> Vec<u8> {
+    let named = &listed.grammar.named;
+    let (names, mut line) = (json::Names::new(named), b"{\"readings\":[".to_vec());
+    for (rank, (reading, path)) in (1..).zip(listed.readings.iter().zip(&listed.paths)) {
+        names.begin_reading(&mut line, rank, reading);
+        match (&listed.slots, &listed.heard) {
+            (Some(slots), _) => {
+                let slots = path.iter().map(|edge| slots[*edge as usize]);
+                json::push_numbers(&mut line, "slots", slots);
+            }
+            (None, Heard::Graph(_)) => json::push_numbers(&mut line, "edges", path.iter().copied()),
+            (None, Heard::Slots(_)) => {}
+        }
+        json::push_key(&mut line, "tree");
+        json::push_tree(&mut line, named, &listed.tree(reading));
+        json::end_reading(&mut line);
+    }
+    json::end_list(&mut line);
+    line.extend(b"}\n");
+    line
 }
 
 fn print(listed: &Listed, with_trees: bool, output: &mut Output) -> Result<(), Failure> {

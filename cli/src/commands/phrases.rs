@@ -5,9 +5,7 @@ use crate::failure::Failure;
 use crate::files;
 use crate::options::Arguments;
 use crate::output::Output;
-use spireyerba::limits::MAX_PHRASE;
-use spireyerba::services::next_phrase;
-use spireyerba::{Error, Refusal};
+use spireyerba::Error;
 
 pub const COMMAND: Command = Command {
     name: "phrases",
@@ -24,26 +22,14 @@ printed as soon as it is found. If there is none, nothing is printed, and a mess
 
 fn run(arguments: &Arguments, output: &mut Output) -> Result<(), Failure> {
     let length = arguments.operand_number(1)?;
-    let grammar = files::grammar(arguments.operands[0])?;
-    let mut words = [0; MAX_PHRASE as usize];
-    let mut first = true;
-    while next_phrase(&grammar.block, length, first, &mut words).map_err(refused)? {
-        first = false;
-        let phrase = words[..length as usize].iter().map(|&word| grammar.named.word(word.into()));
-        output.line(&phrase.collect::<Vec<_>>().join(" "))?;
+    let named = files::grammar(arguments.operands[0])?.named;
+    let mut is_empty = true;
+    for phrase in named.grammar.phrases(length).map_err(Error::from)? {
+        is_empty = false;
+        output.line(&named.string(&phrase))?;
     }
-    if first {
+    if is_empty {
         eprintln!("none: the grammar derives no string of {length} words");
     }
     Ok(())
-}
-
-/// The words of the refusal speak of 24, which is the greatest length of a specimen.
-fn refused(refusal: Refusal) -> Failure {
-    match refusal {
-        Refusal::SpecimenLength => {
-            Failure::Refused(format!("refused {}: the length wanted is not 1 to {MAX_PHRASE}", refusal.number()))
-        }
-        refusal => Error::from(refusal).into(),
-    }
 }

@@ -3,7 +3,7 @@
 use super::list::{line, Listed};
 use super::Command;
 use crate::failure::Failure;
-use crate::options::{Arguments, DROP_DELETES, DROP_UNKNOWN, SAID, SCALE};
+use crate::options::{Arguments, DROP_DELETES, DROP_UNKNOWN, EMPTY, SAID, SCALE, SKIP};
 use crate::output::Output;
 use spireyerba::limits::MAX_READINGS;
 use std::io::BufRead;
@@ -12,7 +12,7 @@ pub const COMMAND: Command = Command {
     name: "pick",
     operands: &["GRAMMAR", "UTTERANCE"],
     needed: 2,
-    options: &[SAID, SCALE, DROP_UNKNOWN, DROP_DELETES],
+    options: &[SAID, SKIP, SCALE, DROP_UNKNOWN, DROP_DELETES, EMPTY],
     summary: "show one reading after another until one is taken",
     details: "\
 Shows the readings on standard error, the least first and at most 256. Enter shows the next one, y takes the one

@@ -4,7 +4,7 @@ use super::list::Listed;
 use super::Command;
 use crate::failure::Failure;
 use crate::files;
-use crate::options::{Arguments, DROP_DELETES, DROP_UNKNOWN, FILE, SAID, SCALE, WANTED};
+use crate::options::{Arguments, DROP_DELETES, DROP_UNKNOWN, EMPTY, FILE, SAID, SCALE, SKIP, WANTED};
 use crate::output::Output;
 use crate::page::{page, Source};
 
@@ -12,7 +12,7 @@ pub const COMMAND: Command = Command {
     name: "report",
     operands: &["GRAMMAR", "UTTERANCE"],
     needed: 2,
-    options: &[FILE, WANTED, SAID, SCALE, DROP_UNKNOWN, DROP_DELETES],
+    options: &[FILE, WANTED, SAID, SKIP, SCALE, DROP_UNKNOWN, DROP_DELETES, EMPTY],
     summary: "write a page with what was heard and the readings as drawn trees",
     details: "The page is one file of HTML that needs no other, to be looked at in a browser or printed.",
     example: "spireyerba report grammar.txt utterance.txt -o page.html",

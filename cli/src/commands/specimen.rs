@@ -5,8 +5,6 @@ use crate::failure::Failure;
 use crate::files;
 use crate::options::Arguments;
 use crate::output::Output;
-use spireyerba::limits::MAX_SLOTS;
-use spireyerba::services::specimen;
 use spireyerba::Error;
 
 pub const COMMAND: Command = Command {
@@ -24,12 +22,12 @@ grammar's text. If there is no string of that length, nothing is printed, and a 
 
 fn run(arguments: &Arguments, output: &mut Output) -> Result<(), Failure> {
     let length = arguments.operand_number(1)?;
-    let grammar = files::grammar(arguments.operands[0])?;
-    let mut words = [0; MAX_SLOTS as usize];
-    if !specimen(&grammar.block, length, &mut words).map_err(Error::from)? {
-        eprintln!("none: the grammar derives no string of {length} words");
-        return Ok(());
+    let named = files::grammar(arguments.operands[0])?.named;
+    match named.grammar.specimen(length).map_err(Error::from)? {
+        Some(string) => output.line(&named.string(&string)),
+        None => {
+            eprintln!("none: the grammar derives no string of {length} words");
+            Ok(())
+        }
     }
-    let words = words[..length as usize].iter().map(|&word| grammar.named.word(word.into()));
-    output.line(&words.collect::<Vec<_>>().join(" "))
 }

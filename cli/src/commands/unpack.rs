@@ -4,7 +4,7 @@ use super::Command;
 use crate::failure::Failure;
 use crate::files::{self, GrammarFile};
 use crate::heard::Heard;
-use crate::options::{Arguments, DROP_DELETES, DROP_UNKNOWN, FILE, NETWORK, SCALE};
+use crate::options::{Arguments, DROP_DELETES, DROP_UNKNOWN, EMPTY, FILE, LATTICE, NETWORK, SCALE};
 use crate::output::Output;
 use spireyerba::text::{graph_reading_text, reading_text};
 
@@ -12,7 +12,7 @@ pub const COMMAND: Command = Command {
     name: "unpack",
     operands: &["GRAMMAR", "UTTERANCE", "READING"],
     needed: 1,
-    options: &[FILE, NETWORK, SCALE, DROP_UNKNOWN, DROP_DELETES],
+    options: &[FILE, NETWORK, LATTICE, SCALE, DROP_UNKNOWN, DROP_DELETES, EMPTY],
     summary: "turn a block into a text: the last file, under those before it",
     details: "\
 A block has no names: those of an utterance come from the grammar's text, and if the grammar is a block too, symbols
@@ -39,18 +39,27 @@ fn run(arguments: &Arguments, output: &mut Output) -> Result<(), Failure> {
 }
 
 fn heard_text(arguments: &Arguments, grammar: &GrammarFile, heard: &Heard) -> Result<String, Failure> {
-    let utterance = match heard {
-        Heard::Slots(utterance) if arguments.has(&NETWORK) => utterance,
-        Heard::Slots(utterance) => return Ok(grammar.named.utterance_text(utterance)),
-        Heard::Graph(_) if arguments.has(&NETWORK) => {
-            let why = "--network: a word graph is no confusion network";
-            return Err(Failure::Refused(format!("{}: {why}", arguments.operands[1])));
-        }
-        Heard::Graph(graph) => return Ok(grammar.named.graph_text(graph)),
+    let forms = [&NETWORK, &LATTICE].map(|form| arguments.has(form));
+    let no_form = |why: &str| Err(Failure::Refused(format!("{}: {why}", arguments.operands[1])));
+    let scale = || match files::scale(arguments)? {
+        Some(scale) => Ok(scale),
+        None => Err(arguments.wrong("--network and --lattice need --scale X")),
     };
-    let scale = files::scale(arguments)?.ok_or_else(|| arguments.wrong("--network needs --scale X"))?;
-    grammar.named.network_text(utterance, scale).ok_or_else(|| {
-        let why = "a word has a blank, or a cost is too great beside --scale";
-        Failure::Refused(format!("{}: no confusion network can say this: {why}", arguments.operands[1]))
-    })
+    match (heard, forms) {
+        (_, [true, true]) => Err(arguments.wrong("--network and --lattice: only one of them")),
+        (Heard::Slots(utterance), [false, false]) => Ok(grammar.named.utterance_text(utterance)),
+        (Heard::Graph(graph), [false, false]) => Ok(grammar.named.graph_text(graph)),
+        (Heard::Slots(utterance), [true, _]) => match grammar.named.network_text(utterance, scale()?) {
+            Some(text) => Ok(text),
+            None => {
+                no_form("no confusion network can say this: a word has a blank, or a cost is too great beside --scale")
+            }
+        },
+        (Heard::Graph(graph), [_, true]) => match grammar.named.lattice_text(graph, scale()?) {
+            Some(text) => Ok(text),
+            None => no_form("no lattice can say this: an edge is on no path, or a cost is too great beside --scale"),
+        },
+        (Heard::Graph(_), [true, _]) => no_form("--network: a word graph is no confusion network"),
+        (Heard::Slots(_), [_, true]) => no_form("--lattice: slots are no word graph"),
+    }
 }

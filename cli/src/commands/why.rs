@@ -4,7 +4,7 @@ use super::list::{line, Listed};
 use super::Command;
 use crate::failure::Failure;
 use crate::heard::Taken;
-use crate::options::{Arguments, DROP_DELETES, DROP_UNKNOWN, SAID, SCALE};
+use crate::options::{Arguments, DROP_DELETES, DROP_UNKNOWN, EMPTY, SAID, SCALE, SKIP};
 use crate::output::{Output, Style};
 use spireyerba::{Candidate, Reading};
 use std::collections::BTreeSet;
@@ -13,7 +13,7 @@ pub const COMMAND: Command = Command {
     name: "why",
     operands: &["GRAMMAR", "UTTERANCE", "K"],
     needed: 3,
-    options: &[SAID, SCALE, DROP_UNKNOWN, DROP_DELETES],
+    options: &[SAID, SKIP, SCALE, DROP_UNKNOWN, DROP_DELETES, EMPTY],
     summary: "lay reading K beside the first: what differs, and what each difference costs",
     details: "K is a rank of the list, 2 to 256. The last column adds up to the difference of both weights.",
     example: "spireyerba why grammar.txt utterance.txt 2",
@@ -46,9 +46,10 @@ fn run(arguments: &Arguments, output: &mut Output) -> Result<(), Failure> {
     }
     if difference == 0 {
         output.line(
-            "of equal weights the one with the lower rule number comes first, then the one whose left part ends",
+            "of equal weights the one whose words cost less comes first, then the one with the lower rule number,",
         )?;
-        output.line("earlier, then the one with the lesser left part, then the one with the lesser right part")?;
+        output
+            .line("then the one whose left part ends earlier, then the lesser left part, then the lesser right part")?;
     }
     output.line("")?;
     let mut rows = words(&listed, rank as usize);

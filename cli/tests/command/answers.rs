@@ -129,7 +129,7 @@ fn why_of_equal_weights() {
     let folder = folder("equal", &[("g", b"A -> A A [1] | \"x\""), ("u", b"x 0; x 0; x 0")]);
     let text = answered(run_in(&folder, "why g u 2"), "why");
     assert!(text.starts_with("reading 2 weighs 2, as much as the first\n"), "{text}");
-    assert!(text.contains("ends\nearlier") && text.ends_with("0\n"), "{text}");
+    assert!(text.contains("words cost less") && text.contains("ends earlier") && text.ends_with("0\n"), "{text}");
 }
 
 #[test]
@@ -201,7 +201,10 @@ fn specimen_of_a_length() {
     let none = run("specimen grammar.txt 2");
     assert_eq!(none.err, "none: the grammar derives no string of 2 words\n");
     assert_eq!((none.status, none.out.as_str()), (0, ""));
-    assert_eq!(refused(run("specimen grammar.txt 25"), 1), "refused 25: the length wanted is not 1 to 24\n");
+    assert_eq!(
+        refused(run("specimen grammar.txt 25"), 1),
+        "refused 25: the length wanted is not 1 to 24, or for phrases not 1 to 6\n"
+    );
 }
 
 #[test]
@@ -218,7 +221,7 @@ fn phrases_of_a_length() {
     assert_eq!((none.status, none.out.as_str()), (0, ""));
     for length in [0, 7] {
         let refusal = refused(run(&format!("phrases grammar.txt {length}")), 1);
-        assert_eq!(refusal, "refused 25: the length wanted is not 1 to 6\n");
+        assert_eq!(refusal, "refused 25: the length wanted is not 1 to 24, or for phrases not 1 to 6\n");
     }
 }
 

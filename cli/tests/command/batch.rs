@@ -48,3 +48,27 @@ fn batch_goes_on_after_a_refusal() {
     assert_eq!(lines[1], r#"{"line":2,"error":"<stdin>:2:9: refused 14: the grammar has no word `green`"}"#);
     assert!(lines[3].starts_with(r#"{"line":6,"readings":[{"rank":1,"weight":41,"#), "{}", lines[3]);
 }
+
+/// Graphs stand between utterances, and their answers say which edges were taken.
+#[test]
+fn batch_of_graphs() {
+    let graph = std::fs::read_to_string(doors().join("../doors_graph/graph.txt")).expect("the example");
+    let edges = graph.lines().map(|line| line.split('#').next().unwrap_or_default().trim());
+    let graph = edges.filter(|edge| !edge.is_empty()).collect::<Vec<_>>().join(" ; ");
+    let text = format!("door 1; four 2; oak 3\n  {graph}\n0 1 door 1 ; 1 1 four 2\n0 1 door 1 ; 2 3 oak 4\n");
+    let run = run_with(&doors(), "batch grammar.txt - -n 3", text.as_bytes());
+    assert_eq!(
+        run.err,
+        "<stdin>:3:16: refused 51: an edge ends above where it starts: not 1 to 1\n1 of 4 utterances refused\n"
+    );
+    let lines: Vec<&str> = run.out.lines().collect();
+    assert_eq!(lines.len(), 4);
+    assert!(!lines[0].contains("edges"), "{}", lines[0]);
+    let third = r#"{"rank":3,"weight":80,"words":["door","twenty","four","oak","fire","sixty"],"rules":[0,2,12,3,13,15,8,17,11,20,22],"edges":[0,2,4,7,9,13]}]}"#;
+    assert!(
+        lines[1].starts_with(r#"{"line":2,"readings":[{"rank":1,"weight":72,"#) && lines[1].ends_with(third),
+        "{}",
+        lines[1]
+    );
+    assert_eq!(lines[3], r#"{"line":4,"readings":[]}"#);
+}

@@ -20,13 +20,13 @@ fn answer_graph(words: &str) -> String {
 fn list_in_words() {
     let list = "\
 1  72  door twenty four oak fire thirty
-2  80  door twenty four oak fire sixty
-3  80  door forty oak fire thirty
+2  80  door forty oak fire thirty
+3  80  door twenty four oak fire sixty
 4  88  door twenty glass fire thirty
 5  88  door twenty four oak right
 6  88  door forty oak fire sixty
-7  96  door twenty glass fire sixty
-8  96  door forty oak right
+7  96  door forty oak right
+8  96  door twenty glass fire sixty
 ";
     assert_eq!(answer_graph("list grammar.txt graph.txt"), list);
     assert_eq!(answer_graph("list grammar.txt utterance.bin"), list);
@@ -37,10 +37,10 @@ fn list_in_words() {
 
 #[test]
 fn list_as_trees_and_for_programs() {
-    let trees = answer_graph("list grammar.txt graph.txt --tree -n 3");
+    let trees = answer_graph("list grammar.txt graph.txt --tree -n 2");
     assert!(trees.ends_with("         └─ Minutes [0]  thirty 25\n"), "{trees}");
     assert!(trees.contains("   │  └─ Number [10]  forty 24\n"), "{trees}");
-    let json = r#"{"rank":3,"weight":80,"words":["door","forty","oak","fire","thirty"],"#.to_owned()
+    let json = r#"{"rank":2,"weight":80,"words":["door","forty","oak","fire","thirty"],"#.to_owned()
         + r#""rules":[0,2,12,5,8,17,11,20,21],"edges":[0,3,7,9,12],"tree":["#;
     assert!(answer_graph("list grammar.txt graph.txt --json").contains(&json));
     assert!(!answer("list grammar.txt utterance.txt --json").contains("edges"));
@@ -78,8 +78,8 @@ rule 18                            Leaf -> \"glass\" [5]         +5
 
 #[test]
 fn pick_one() {
-    let taken = run_with(&doors_graph(), "pick grammar.txt graph.txt", b"\n\ny\n");
-    assert_eq!((taken.status, taken.out.trim_start()), (0, "3   80  door forty oak fire thirty\n"));
+    let taken = run_with(&doors_graph(), "pick grammar.txt graph.txt", b"\ny\n");
+    assert_eq!((taken.status, taken.out.trim_start()), (0, "2   80  door forty oak fire thirty\n"));
 }
 
 #[test]

@@ -4,6 +4,8 @@ mod answers;
 mod batch;
 mod common;
 mod graphs;
+mod lattices;
 mod readme;
 mod report;
+mod skips;
 mod usage;

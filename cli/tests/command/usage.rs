@@ -54,9 +54,16 @@ fn examples_of_the_help_run() {
     }
 }
 
+/// Holds what the command says of wrong usage to messages: its words, which command it is, and what is wrong.
+fn expect_usage(rows: &[(&str, &str, &str)]) {
+    for (words, command, message) in rows {
+        assert_eq!(refused(run(words), 2), format!("{command}: {message}\ntry `{command} --help`\n"), "{words}");
+    }
+}
+
 #[test]
-fn wrong_usage() {
-    for (words, command, message) in [
+fn wrong_usage_of_list() {
+    expect_usage(&[
         ("", "spireyerba", "no command"),
         ("lst", "spireyerba", "there is no command `lst`"),
         ("help lst", "spireyerba", "there is no command `lst`"),
@@ -74,17 +81,33 @@ fn wrong_usage() {
         ("list grammar.txt utterance.txt --said x=door", "spireyerba list", "--said x=door: not SLOT=WORD"),
         ("list grammar.txt network.txt --scale 0", "spireyerba list", "--scale is a number above 0"),
         ("list grammar.txt network.txt --scale -1", "spireyerba list", "--scale is a number above 0"),
+    ]);
+}
+
+#[test]
+fn wrong_usage_of_others() {
+    expect_usage(&[
         ("why grammar.txt utterance.txt", "spireyerba why", "K is missing"),
         ("why grammar.txt utterance.txt two", "spireyerba why", "K: `two` is no number"),
         ("why grammar.txt utterance.txt 1", "spireyerba why", "K is 2 or more: the first reading is laid beside it"),
         ("pick grammar.txt -", "spireyerba pick", "the answers come from standard input, so no file can"),
         ("specimen grammar.txt x", "spireyerba specimen", "LENGTH: `x` is no number"),
         ("phrases grammar.txt x", "spireyerba phrases", "LENGTH: `x` is no number"),
-        ("unpack grammar.txt utterance.txt --network", "spireyerba unpack", "--network needs --scale X"),
+        ("unpack grammar.txt utterance.txt --network", "spireyerba unpack", "--network and --lattice need --scale X"),
+        (
+            "unpack grammar.txt ../doors_graph/graph.txt --lattice",
+            "spireyerba unpack",
+            "--network and --lattice need --scale X",
+        ),
+        (
+            "unpack grammar.txt utterance.txt --lattice --network",
+            "spireyerba unpack",
+            "--network and --lattice: only one of them",
+        ),
+        ("list grammar.txt utterance.txt --skip much", "spireyerba list", "--skip: `much` is no number"),
+        ("list grammar.txt utterance.txt --skip", "spireyerba list", "--skip needs COST"),
         ("batch grammar.txt utterances.txt -j x", "spireyerba batch", "--jobs: `x` is no number"),
-    ] {
-        assert_eq!(refused(run(words), 2), format!("{command}: {message}\ntry `{command} --help`\n"), "{words}");
-    }
+    ]);
 }
 
 /// Two files that are as they should be, and others.

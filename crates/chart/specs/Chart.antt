@@ -3,8 +3,9 @@
 use mathlib.Core.List.{List}
 use Prim.Native.Nat.{ℕ, _+_, _-_, _*_, _/_}
 use lib.ListN.{replicate}
+use Rattle.chart_keys.specs.Keys.{weightUnit}
 use Rattle.chart_table.specs.declared.Layout.{Layout}
-use Rattle.chart_table.specs.Table.{root, cellNumber, weightAt, countFound}
+use Rattle.chart_table.specs.Table.{root, cellNumber, priceAt, countFound}
 use Rattle.chart_index.specs.Index.{indexNumbers}
 use Rattle.chart_index.specs.Build.{makeIndex}
 use Rattle.chart_search.specs.Search.{search}
@@ -19,12 +20,12 @@ unfoldable pub enumerate : List ℕ → ℕ → List ℕ → ℕ → Layout → 
 enumerate rules R edges E d size =
     search rules edges (makeIndex rules R (d .symbols) edges E (d .places) (replicate indexNumbers 0)) d (replicate size 0)
 
--- how many ranks of the root a table has, and of one of them the weight, which is stored plus 1, and the trace
+-- how many ranks of the root a table has, and of one of them the weight, by its price plus 1, and the trace
 unfoldable pub rootsFound : List ℕ → Layout → ℕ
 rootsFound t d = countFound t d (cellNumber d (root d))
 
 unfoldable pub rootWeight : List ℕ → Layout → ℕ → ℕ
-rootWeight t d rank = weightAt t d (cellNumber d (root d)) rank - 1
+rootWeight t d rank = (priceAt t d (cellNumber d (root d)) rank - 1) / weightUnit
 
 unfoldable pub rootTrace : List ℕ → List ℕ → Layout → ℕ → List ℕ
 rootTrace t rules d rank = traceBack t rules d (d .places) (root d) rank

@@ -2,20 +2,22 @@
 // table cleared.
 use chart_index::INDEX_NUMBERS;
 use chart_index::make_index;
+use chart_keys::WEIGHT_UNIT;
 use chart_search::search;
 use chart_table::ENTRY_NUMBERS;
 use chart_table::Layout;
 use chart_table::cell_number;
 use chart_table::clearing::clear;
 use chart_table::count_found;
+use chart_table::price_at;
 use chart_table::root;
-use chart_table::weight_at;
 use chart_table::zero;
 use chart_trace::trace_back;
 ghost use mathlib.Core.Path.{_≡_};
-ghost use Prim.Native.Nat.{_-_, _*_, _<_, _≤_};
+ghost use Prim.Native.Nat.{_-_, _*_, _/_, _<_, _≤_};
 ghost use lib.ListN.{length};
 ghost use Rattle.packing.specs.Store.{storeAll};
+ghost use Rattle.chart_keys.specs.Keys.{prices, weightUnit};
 ghost use Rattle.chart_table.specs.Table.{lastPlace, mostRanks, Sized, clear};
 ghost use Rattle.chart.specs.Chart.{layOut, enumerate, rootsFound, rootWeight, rootTrace};
 
@@ -61,12 +63,16 @@ pub fn enumerate(
     count_found(&t[..], d, cell_number(d, root(d)))
 }
 
-// The weight of a tree from its weight plus 1.
+// The weight of a tree from its price plus 1.
 fn found_weight(x: usize) -> u32
-    requires { ⌜ x < 4294967296 ⌝ }
-    ensures { λ r. ⌜ r ≡ x - 1 ⌝ }
+    requires { ⌜ x < prices ⌝ }
+    ensures { λ r. ⌜ r ≡ (x - 1) / weightUnit ⌝ }
 {
-    if x == 0 { 0 } else { (x - 1) as u32 }
+    if x == 0 {
+        0
+    } else {
+        ((x - 1) / WEIGHT_UNIT) as u32
+    }
 }
 
 // The weight of a rank of the root.
@@ -74,7 +80,7 @@ pub fn root_weight(t: &[u32], d: Layout, rank: usize) -> u32
     requires { ⌜ (Sized d) × (0 < d .places) × (rank < d .ranks) ⌝ }
     ensures { λ w. ⌜ w ≡ rootWeight (now (t .entry)) d rank ⌝ }
 {
-    found_weight(weight_at(t, d, cell_number(d, root(d)), rank))
+    found_weight(price_at(t, d, cell_number(d, root(d)), rank))
 }
 
 // Writes the trace of a rank of the root from the first place on, and answers how many numbers it has.

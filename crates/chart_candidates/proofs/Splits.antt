@@ -6,14 +6,14 @@ use mathlib.Core.List.{List}
 use Prim.Native.Nat.{ℕ, zero, suc, _+_, _-_, _*_, _≤_, _<_}
 use native.Mathlib.Nat.{mul-le-mul}
 use native.Mathlib.Omega.{arith}
-use lib.ListN.{getD, length}
+use lib.ListN.{length}
 use Rattle.packing.specs.Loop.{over}
 use Rattle.packing.specs.declared.Sym.{Sym}
-use Rattle.chart_keys.specs.Keys.{back, backNumber, lesser, joinKey}
+use Rattle.chart_keys.specs.Keys.{back, backNumber, joinPrice, keyOf, lesser}
 use Rattle.chart_table.specs.declared.Cell.{Cell}
 use Rattle.chart_table.specs.declared.Layout.{Layout}
-use Rattle.chart_table.specs.Table.{lastPlace, cell, leftPart, rightPart, cellNumber, entryOf}
-use Rattle.chart_table.proofs.Cells.{entry-from-suc, entry-to-suc, first-weight}
+use Rattle.chart_table.specs.Table.{lastPlace, cell, leftPart, rightPart, cellNumber, entryOf, priceIn}
+use Rattle.chart_table.proofs.Cells.{entry-from-suc, entry-to-suc, first-price}
 use Rattle.chart_candidates.specs.declared.PairRule.{PairRule}
 use Rattle.chart_candidates.specs.Candidates.{pairKey}
 use Rattle.chart_candidates.proofs.Loops.{from-none, from-more, from-turn}
@@ -73,8 +73,8 @@ module _ (t : List ℕ) (rule : PairRule) (floor best step first end x₀ y₀ :
     pub c : Cell
     pub from-first : From d c
     pub last : end ≡ c .to
-    pub left : entryOf d (cellNumber d (leftPart c (rule .first) (c .to - 1))) 0 < length t
-    pub right : entryOf d (cellNumber d (rightPart c (rule .second) (c .to - 1))) 0 < length t
+    pub left : entryOf d (cellNumber d (leftPart c (rule .first) (c .to - 1))) 0 + 1 < length t
+    pub right : entryOf d (cellNumber d (rightPart c (rule .second) (c .to - 1))) 0 + 1 < length t
 
   abbrev pub Kept : ℕ → ℕ → ℕ → ℕ → Type 0
   Kept j x y so-far = (d : Layout) (c : Cell) → From d c → At j x y so-far d c
@@ -84,7 +84,7 @@ module _ (t : List ℕ) (rule : PairRule) (floor best step first end x₀ y₀ :
 
   pub at-next : (j x y so-far : ℕ) → first ≤ j → Kept j x y so-far
       → Kept (j + 1) (x + step * j) (y + step)
-      (lesser floor so-far (joinKey (rule .weight) (getD t x 0) (getD t y 0) (backNumber (back (rule .number) j 0 0))))
+      (lesser floor so-far (keyOf (joinPrice (rule .weight) (priceIn t x) (priceIn t y)) (backNumber (back (rule .number) j 0 0))))
   unfolding pairKey
   at-next j x y so-far h kept d c f =
       let a = kept d c f in
@@ -96,15 +96,15 @@ module _ (t : List ℕ) (rule : PairRule) (floor best step first end x₀ y₀ :
               from-more,
               from-turn,
               ← a .seeds,
-              first-weight t d (cellNumber d (leftPart c (rule .first) j)) (f .kept),
-              first-weight t d (cellNumber d (rightPart c (rule .second) j)) (f .kept),
+              first-price t d (cellNumber d (leftPart c (rule .first) j)) (f .kept),
+              first-price t d (cellNumber d (rightPart c (rule .second) j)) (f .kept),
               ← a .left,
               ← a .right,
             );
       }
 
   module _ (long : Long) (j x y so-far : ℕ) (kept : Kept j x y so-far) (h : j < end) where
-    pub left-read : x < length t
+    pub left-read : x + 1 < length t
     left-read =
         omega (
           arith,
@@ -113,7 +113,7 @@ module _ (t : List ℕ) (rule : PairRule) (floor best step first end x₀ y₀ :
           long .left,
         )
 
-    pub right-read : y < length t
+    pub right-read : y + 1 < length t
     right-read =
         omega (
           arith,

@@ -8,8 +8,9 @@ use chart_index::WORD_BASE;
 use chart_index::class_end;
 use chart_index::class_start;
 use chart_keys::BackPointer;
+use chart_keys::Key;
 use chart_keys::back_number;
-use chart_keys::key_of;
+use chart_keys::leaf_price;
 use chart_keys::lesser;
 use chart_table::Cell;
 use packing::Rule;
@@ -20,13 +21,14 @@ use packing::format::NUMBERS_PER_EDGE;
 ghost use mathlib.Core.Path.{_≡_};
 ghost use Prim.Native.Nat.{_+_, _-_, _*_, _<_, _≤_};
 ghost use Rattle.packing.specs.Flat.{ruleAt};
+ghost use Rattle.chart_keys.specs.Keys.{keyNumber};
 ghost use Rattle.chart_table.specs.Table.{lastPlace};
 ghost use Rattle.chart_candidates.specs.Candidates.{wordLeaf, edgeLeaves, leaves};
 
 // The best so far and the leaf of an edge by a rule, if that is a rule of the edge's word.
-fn word_leaf(rules: &[u32], edges: &[u32], e: usize, r: usize, floor: usize, best: usize) -> usize
+fn word_leaf(rules: &[u32], edges: &[u32], e: usize, r: usize, floor: Key, best: Key) -> Key
     requires { ⌜ (e < 4294967296) × (r < 4294967296) ⌝ }
-    ensures { λ x. ⌜ x ≡ wordLeaf (now (edges .entry)) e floor best r (ruleAt (now (rules .entry)) r) ⌝ }
+    ensures { λ x. ⌜ keyNumber x ≡ wordLeaf (now (edges .entry)) e (keyNumber floor) (keyNumber best) r (ruleAt (now (rules .entry)) r) ⌝ }
 {
     let rule = rule_at(rules, r);
     match rule {
@@ -40,7 +42,8 @@ fn word_leaf(rules: &[u32], edges: &[u32], e: usize, r: usize, floor: usize, bes
                     left: e,
                     right: 0,
                 });
-                lesser(floor, best, key_of(wide(w) + cost + 1, back))
+                let price = leaf_price(w, cost);
+                lesser(floor, best, Key { price, back })
             } else {
                 best
             }
@@ -55,11 +58,11 @@ fn edge_leaves(
     index: &[u32],
     c: Cell,
     e: usize,
-    floor: usize,
-    best: usize,
-) -> usize
+    floor: Key,
+    best: Key,
+) -> Key
     requires { ⌜ e < 4294967296 ⌝ }
-    ensures { λ x. ⌜ x ≡ edgeLeaves (now (rules .entry)) (now (edges .entry)) (now (index .entry)) c floor best e ⌝ }
+    ensures { λ x. ⌜ keyNumber x ≡ edgeLeaves (now (rules .entry)) (now (edges .entry)) (now (index .entry)) c (keyNumber floor) (keyNumber best) e ⌝ }
 {
     if number_at(edges, NUMBERS_PER_EDGE * e + EDGE_TO_AT) != c.to {
         return best;
@@ -75,16 +78,9 @@ fn edge_leaves(
 }
 
 // The best so far and the leaves of a cell.
-pub fn leaves(
-    rules: &[u32],
-    edges: &[u32],
-    index: &[u32],
-    c: Cell,
-    floor: usize,
-    best: usize,
-) -> usize
+pub fn leaves(rules: &[u32], edges: &[u32], index: &[u32], c: Cell, floor: Key, best: Key) -> Key
     requires { ⌜ c .from ≤ lastPlace ⌝ }
-    ensures { λ x. ⌜ x ≡ leaves (now (rules .entry)) (now (edges .entry)) (now (index .entry)) c floor best ⌝ }
+    ensures { λ x. ⌜ keyNumber x ≡ leaves (now (rules .entry)) (now (edges .entry)) (now (index .entry)) c (keyNumber floor) (keyNumber best) ⌝ }
 {
     let from = c.from;
     let start = class_start(index, EDGE_BASE, from);

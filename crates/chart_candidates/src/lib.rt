@@ -3,16 +3,17 @@ pub mod leaves;
 pub mod seeds;
 
 use chart_keys::BackPointer;
+use chart_keys::Key;
 use chart_keys::back_number;
-use chart_keys::join_key;
+use chart_keys::join_price;
 use chart_table::Cell;
 use chart_table::Layout;
 use chart_table::cell_number;
-use chart_table::weight_at;
+use chart_table::price_at;
 use packing::Sym;
 ghost use mathlib.Core.Path.{_≡_};
 ghost use Prim.Native.Nat.{_<_, _≤_};
-ghost use Rattle.chart_keys.specs.Keys.{splits, digits};
+ghost use Rattle.chart_keys.specs.Keys.{splits, digits, keyNumber};
 ghost use Rattle.chart_table.specs.Table.{lastPlace, Sized};
 ghost use Rattle.chart_candidates.specs.Candidates.{pairKey};
 
@@ -25,13 +26,15 @@ pub struct PairRule {
 }
 
 // The key of the tree that a rule of weight w joins from two cells, with the ranks of a back pointer.
-pub fn pair_key(t: &[u32], d: Layout, left: Cell, right: Cell, w: u32, b: BackPointer) -> usize
+pub fn pair_key(t: &[u32], d: Layout, left: Cell, right: Cell, w: u32, b: BackPointer) -> Key
     requires { ⌜ (Sized d) × (left .from ≤ lastPlace) × (0 < left .to) × (left .to ≤ lastPlace) ⌝ }
     requires { ⌜ (right .from ≤ lastPlace) × (0 < right .to) × (right .to ≤ lastPlace) ⌝ }
     requires { ⌜ (b .rule < 4294967296) × (b .split < splits) × (b .left ≤ digits) × (b .right ≤ digits) ⌝ }
-    ensures { λ x. ⌜ x ≡ pairKey (now (t .entry)) d left right w b ⌝ }
+    ensures { λ x. ⌜ keyNumber x ≡ pairKey (now (t .entry)) d left right w b ⌝ }
 {
-    let x = weight_at(t, d, cell_number(d, left), b.left);
-    let y = weight_at(t, d, cell_number(d, right), b.right);
-    join_key(w, x as u32, y as u32, back_number(b))
+    let x = price_at(t, d, cell_number(d, left), b.left);
+    let y = price_at(t, d, cell_number(d, right), b.right);
+    let price = join_price(w, x, y);
+    let back = back_number(b);
+    Key { price, back }
 }

@@ -8,25 +8,35 @@ use chart_index::PAIR_BASE;
 use chart_index::class_end;
 use chart_index::class_start;
 use chart_keys::BackPointer;
-use chart_keys::back_number;
-use chart_keys::join_key;
+use chart_keys::Key;
+use chart_keys::join_price;
 use chart_keys::lesser;
-use chart_keys::lesser_height;
+use chart_keys::seed_numbers::ceiling_number;
+use chart_keys::seed_numbers::divides;
+use chart_keys::seed_numbers::floor_number;
+use chart_keys::seed_numbers::key_of_number;
+use chart_keys::seed_numbers::lesser_height;
+use chart_keys::seed_numbers::seed_number;
 use chart_table::Cell;
 use chart_table::ENTRY_NUMBERS;
 use chart_table::Layout;
 use chart_table::cell_number;
 use chart_table::entry_of;
 use chart_table::left_part;
+use chart_table::price_within;
 use chart_table::right_part;
 use packing::Rule;
+use packing::format::MAX_RULES;
+use packing::format::MAX_WEIGHT;
 ghost use mathlib.Core.Path.{_≡_};
+ghost use mathlib.Core.Bool.{true};
 ghost use Prim.Native.Nat.{_+_, _-_, _*_, _<_, _≤_};
 ghost use lib.ListN.{length};
 ghost use Rattle.packing.specs.Flat.{ruleAt};
-ghost use Rattle.chart_keys.specs.Keys.{back};
+ghost use Rattle.chart_keys.specs.Keys.{back, keyNumber};
+ghost use Rattle.chart_keys.specs.Seeds.{Divides};
 ghost use Rattle.chart_table.specs.Table.{InTable, leftPart, rightPart, cellNumber, entryOf};
-ghost use Rattle.chart_candidates.specs.Candidates.{splitSeeds, ruleSeeds, seeds};
+ghost use Rattle.chart_candidates.specs.Candidates.{Small, splitSeeds, ruleSeeds, seeds};
 
 // The back pointer of the first of the left part with the first of the right.
 fn seed(r: usize, split: usize) -> BackPointer
@@ -41,16 +51,9 @@ fn seed(r: usize, split: usize) -> BackPointer
 }
 
 // The best so far and the first with the first of a pair rule's parts, for each split.
-fn split_seeds_anywhere(
-    t: &[u32],
-    d: Layout,
-    rule: PairRule,
-    c: Cell,
-    floor: usize,
-    best: usize,
-) -> usize
+fn split_seeds_anywhere(t: &[u32], d: Layout, rule: PairRule, c: Cell, floor: Key, best: Key) -> Key
     requires { ⌜ (InTable d c) × (rule .number < 4294967296) ⌝ }
-    ensures { λ x. ⌜ x ≡ splitSeeds (now (t .entry)) d rule c floor best ⌝ }
+    ensures { λ x. ⌜ keyNumber x ≡ splitSeeds (now (t .entry)) d rule c (keyNumber floor) (keyNumber best) ⌝ }
 {
     let mut so_far = best;
     let end = c.to;
@@ -63,48 +66,54 @@ fn split_seeds_anywhere(
     so_far
 }
 
-// The same where the best is above the floor and the table long enough for the last split. The parts' entries go from split
+// Whether a rule's number and weight are those of a grammar.
+fn is_small(rule: PairRule) -> bool
+    ensures { λ r. ⌜ (r ≡ true → Small rule) ⌝ }
+{
+    if rule.number < MAX_RULES {
+        return rule.weight <= MAX_WEIGHT;
+    }
+    false
+}
+
+// The same by seeds as numbers, where they divide and the table is long enough for the last split. The parts' entries go from split
 // to split by sums, so that no product stands in the way of the reads, and the reads need no test.
-fn split_seeds_within(
-    t: &[u32],
-    d: Layout,
-    rule: PairRule,
-    c: Cell,
-    floor: usize,
-    best: usize,
-) -> usize
-    requires { ⌜ (InTable d c) × (rule .number < 4294967296) ⌝ }
-    requires { ⌜ (floor < best) × (entryOf d (cellNumber d (leftPart c (rule .first) (c .to - 1))) 0 < length (now t)) × (entryOf d (cellNumber d (rightPart c (rule .second) (c .to - 1))) 0 < length (now t)) ⌝ }
-    ensures { λ x. ⌜ x ≡ splitSeeds (now (t .entry)) d rule c floor best ⌝ }
+fn split_seeds_within(t: &[u32], d: Layout, rule: PairRule, c: Cell, floor: Key, best: Key) -> Key
+    requires { ⌜ (InTable d c) × (Small rule) × (Divides floor best) ⌝ }
+    requires { ⌜ (entryOf d (cellNumber d (leftPart c (rule .first) (c .to - 1))) 0 + 1 < length (now t)) × (entryOf d (cellNumber d (rightPart c (rule .second) (c .to - 1))) 0 + 1 < length (now t)) ⌝ }
+    ensures { λ x. ⌜ keyNumber x ≡ splitSeeds (now (t .entry)) d rule c (keyNumber floor) (keyNumber best) ⌝ }
 {
     let step = d.symbols * ENTRY_NUMBERS;
     let first = c.from + 1;
     let mut x = entry_of(d, cell_number(d, left_part(c, rule.first, first)), 0);
     let mut y = entry_of(d, cell_number(d, right_part(c, rule.second, first)), 0);
-    let mut height = best - (floor + 1);
+    let low = floor_number(floor);
+    let mut height = ceiling_number(best) - (low + 1);
     let end = c.to;
     for j in first..end {
-        let key = join_key(rule.weight, t[x], t[y], back_number(seed(rule.number, j)));
-        height = lesser_height(floor, height, key);
+        let price = join_price(rule.weight, price_within(t, x), price_within(t, y));
+        height = lesser_height(low, height, seed_number(price, rule.number, j));
         x = x + step * j;
         y = y + step;
     }
-    height + (floor + 1)
+    key_of_number(best, height + (low + 1))
 }
 
 // The same: no part's entry stands behind that of the last split.
-fn split_seeds(t: &[u32], d: Layout, rule: PairRule, c: Cell, floor: usize, best: usize) -> usize
+fn split_seeds(t: &[u32], d: Layout, rule: PairRule, c: Cell, floor: Key, best: Key) -> Key
     requires { ⌜ (InTable d c) × (rule .number < 4294967296) ⌝ }
-    ensures { λ x. ⌜ x ≡ splitSeeds (now (t .entry)) d rule c floor best ⌝ }
+    ensures { λ x. ⌜ keyNumber x ≡ splitSeeds (now (t .entry)) d rule c (keyNumber floor) (keyNumber best) ⌝ }
 {
     if c.from + 1 < c.to {
         let last = c.to - 1;
         let left = entry_of(d, cell_number(d, left_part(c, rule.first, last)), 0);
         let right = entry_of(d, cell_number(d, right_part(c, rule.second, last)), 0);
-        if left < t.len() {
-            if right < t.len() {
-                if floor < best {
-                    return split_seeds_within(t, d, rule, c, floor, best);
+        if left + 1 < t.len() {
+            if right + 1 < t.len() {
+                if is_small(rule) {
+                    if divides(floor, best) {
+                        return split_seeds_within(t, d, rule, c, floor, best);
+                    }
                 }
             }
         }
@@ -113,17 +122,9 @@ fn split_seeds(t: &[u32], d: Layout, rule: PairRule, c: Cell, floor: usize, best
 }
 
 // The same for rule r, if it is a pair rule.
-fn rule_seeds(
-    t: &[u32],
-    d: Layout,
-    rules: &[u32],
-    c: Cell,
-    r: usize,
-    floor: usize,
-    best: usize,
-) -> usize
+fn rule_seeds(t: &[u32], d: Layout, rules: &[u32], c: Cell, r: usize, floor: Key, best: Key) -> Key
     requires { ⌜ (InTable d c) × (r < 4294967296) ⌝ }
-    ensures { λ x. ⌜ x ≡ ruleSeeds (now (t .entry)) d c floor best r (ruleAt (now (rules .entry)) r) ⌝ }
+    ensures { λ x. ⌜ keyNumber x ≡ ruleSeeds (now (t .entry)) d c (keyNumber floor) (keyNumber best) r (ruleAt (now (rules .entry)) r) ⌝ }
 {
     let rule = rule_at(rules, r);
     match rule {
@@ -147,11 +148,11 @@ pub fn seeds(
     rules: &[u32],
     index: &[u32],
     c: Cell,
-    floor: usize,
-    best: usize,
-) -> usize
+    floor: Key,
+    best: Key,
+) -> Key
     requires { ⌜ InTable d c ⌝ }
-    ensures { λ x. ⌜ x ≡ seeds (now (t .entry)) d (now (rules .entry)) (now (index .entry)) c floor best ⌝ }
+    ensures { λ x. ⌜ keyNumber x ≡ seeds (now (t .entry)) d (now (rules .entry)) (now (index .entry)) c (keyNumber floor) (keyNumber best) ⌝ }
 {
     let head = wide(c.head.0);
     let start = class_start(index, PAIR_BASE, head);

@@ -1,2 +1,4 @@
--- Heights above the floor.
+-- Keys as numbers, and seeds as numbers.
 pub mod Heights
+pub mod Numbers
+pub mod Seeds

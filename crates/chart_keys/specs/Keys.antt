@@ -1,9 +1,11 @@
--- Back pointers and keys: how a tree of a cell was made, and a tree as one number, so that the lesser comes first in the order.
+-- Back pointers, prices and keys: how a tree of a cell was made, what it costs, and a tree as one number, so that the lesser comes
+-- first in the order.
 -- Nobody need believe this page: the theorems of chart_theory join it to the derivations. Assumes nothing.
 use Prim.Native.Nat.{ℕ, _+_, _-_, _*_, _/_, _%_, _<_}
 use lib.Dec.{ltb, eqb}
 use Rattle.bits.specs.Bits.{pick}
 use Rattle.chart_keys.specs.declared.BackPointer.{BackPointer}
+use Rattle.chart_keys.specs.declared.Key.{Key}
 
 -- the bases of a back pointer's digits: a split is below `splits`, and a rank or an edge below `digits`
 abbrev pub splits : ℕ
@@ -12,7 +14,11 @@ splits = 32
 abbrev pub digits : ℕ
 digits = 256
 
--- what one split and one rule count for in a back pointer's number, and one unit of weight in a key
+-- the rules that a grammar may have
+abbrev pub rules : ℕ
+rules = 256
+
+-- what one split and one rule count for in a back pointer's number, and one unit of weight in a price
 abbrev pub splitUnit : ℕ
 splitUnit = 65536
 
@@ -20,7 +26,7 @@ abbrev pub ruleUnit : ℕ
 ruleUnit = 2097152
 
 abbrev pub weightUnit : ℕ
-weightUnit = 536870912
+weightUnit = 1572864
 
 -- a back pointer: rule, split, and the ranks of the parts; of a leaf the rule, 0, the edge, 0
 abbrev pub back : ℕ → ℕ → ℕ → ℕ → BackPointer
@@ -56,19 +62,33 @@ pub record Digits (b : BackPointer) : Type 0 where
   pub left : b .left < digits
   pub right : b .right < digits
 
--- a key: the weight plus 1, then the back pointer. No key of a found tree reaches `noKey`: a part that is missing weighs 2 ^ 32 - 1
+-- prices plus 1 are below `prices`: 2 ^ 43. A part that is missing has the price 2 ^ 43 - 1
+abbrev pub prices : ℕ
+prices = 8796093022208
+
+unfoldable pub partPrice : ℕ → ℕ
+partPrice x = pick (eqb x 0) 8796093022207 (x - 1)
+
+-- a price plus 1: of a leaf, from its rule's weight and its word's cost, and of two parts, from their prices plus 1
+abbrev pub leafPrice : ℕ → ℕ → ℕ
+leafPrice w cost = (w + cost) * weightUnit + cost + 1
+
+unfoldable pub joinPrice : ℕ → ℕ → ℕ → ℕ
+joinPrice w left right = w * weightUnit + partPrice left + partPrice right + 1
+
+-- a key: the price plus 1, then the back pointer, to a base that is above every number of 64 bits. No key of a found tree
+-- reaches `noKey`
+abbrev pub keyUnit : ℕ
+keyUnit = 18446744073709551616
+
 abbrev pub keyOf : ℕ → ℕ → ℕ
-keyOf w x = w * weightUnit + x
+keyOf p x = p * keyUnit + x
+
+abbrev pub keyNumber : Key → ℕ
+keyNumber k = keyOf (k .price) (k .back)
 
 abbrev pub noKey : ℕ
-noKey = 2305843008676823040
-
--- the key of two parts, given by their weights plus 1
-unfoldable pub partWeight : ℕ → ℕ
-partWeight x = pick (eqb x 0) 4294967295 (x - 1)
-
-unfoldable pub joinKey : ℕ → ℕ → ℕ → ℕ → ℕ
-joinKey w left right x = keyOf (w + partWeight left + partWeight right + 1) x
+noKey = prices * keyUnit
 
 -- the lesser of the best and a key above the floor
 unfoldable pub lesser : ℕ → ℕ → ℕ → ℕ

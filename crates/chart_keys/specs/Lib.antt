@@ -1,2 +1,3 @@
--- Back pointers and keys.
+-- Back pointers and keys, and seeds as numbers.
 pub mod Keys
+pub mod Seeds

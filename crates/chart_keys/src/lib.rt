@@ -1,25 +1,27 @@
-// Back pointers and keys: how a tree of a cell was made, and a tree as one number, so that the lesser comes first in the order.
+// Back pointers, prices and keys: how a tree of a cell was made, what it costs, and how two trees compare.
+pub mod seed_numbers;
+
 use arrays::wide;
 ghost use mathlib.Core.Path.{_≡_};
-ghost use Prim.Native.Nat.{_+_, _-_, _*_, _^_, _<_, _≤_};
-ghost use Rattle.chart_keys.specs.Keys.{splits, digits, withRanks, backNumber, backPointer, Digits, keyOf, partWeight, joinKey, lesser};
+ghost use Prim.Native.Nat.{_+_, _-_, _*_, _<_, _≤_};
+ghost use lib.Dec.{ltb};
+ghost use Rattle.chart_keys.specs.Keys.{splits, digits, prices, withRanks, backNumber, backPointer, Digits, partPrice, leafPrice, joinPrice, keyNumber, noKey, lesser};
 
 // The bases of a back pointer's digits: a split is below SPLITS, and a rank or an edge below DIGITS.
 pub const SPLITS: usize = 32;
 
 pub const DIGITS: usize = 256;
 
-// What one split and one rule count for in a back pointer's number, and one unit of weight in a key.
-const SPLIT_UNIT: usize = DIGITS * DIGITS;
+// What one split and one rule count for in a back pointer's number.
+pub const SPLIT_UNIT: usize = DIGITS * DIGITS;
 
 const RULE_UNIT: usize = SPLITS * SPLIT_UNIT;
 
-pub const WEIGHT_UNIT: usize = DIGITS * RULE_UNIT;
+// What one unit of weight counts for in a price: sums of costs are below it, since 24 words cost less than 24 × 2 ^ 16.
+pub const WEIGHT_UNIT: usize = 1572864;
 
-// The weight of a part that is missing, and the key of no tree, which the sum of two parts of which one is missing reaches.
-const NO_WEIGHT: u32 = 4294967295;
-
-pub const NO_KEY: usize = NO_WEIGHT as usize * WEIGHT_UNIT;
+// Prices plus 1 are below PRICES. A part that is missing has the price PRICES - 1, so that with it a price plus 1 reaches PRICES.
+pub const PRICES: usize = 8796093022208;
 
 // How a tree was made: its rule, the place where its parts meet, and their ranks; of a leaf the rule, 0, the edge, 0.
 pub struct BackPointer {
@@ -27,6 +29,12 @@ pub struct BackPointer {
     pub split: usize,
     pub left: usize,
     pub right: usize,
+}
+
+// What trees of a cell are compared by: the price plus 1, then the back pointer's number.
+pub struct Key {
+    pub price: usize,
+    pub back: usize,
 }
 
 // A back pointer with other ranks.
@@ -62,49 +70,66 @@ pub fn back_pointer(x: usize) -> BackPointer
     }
 }
 
-// A key: the weight plus 1, then the back pointer's number.
-pub fn key_of(w: usize, x: usize) -> usize
-    requires { ⌜ (w < 17179869184) × (x < 18014398509481984) ⌝ }
-    ensures { λ key. ⌜ key ≡ keyOf w x ⌝ }
+// The price of a part from its price plus 1. Where it is missing the 0 wraps round to the greatest, without a test.
+fn part_price(x: usize) -> usize
+    requires { ⌜ x < prices ⌝ }
+    ensures { λ r. ⌜ (r ≡ partPrice x) × (r < prices) ⌝ }
 {
-    w * WEIGHT_UNIT + x
+    std::num::wrapping_sub_usize(x, 1) % PRICES
 }
 
-// The weight of a part from its weight plus 1; one that is missing weighs 2 ^ 32 - 1.
-fn part_weight(x: u32) -> u32
-    ensures { λ r. ⌜ r ≡ partWeight x ⌝ }
+// The price plus 1 of a leaf: a rule of weight w and a word's cost.
+pub fn leaf_price(w: u32, cost: usize) -> usize
+    requires { ⌜ cost < 4294967296 ⌝ }
+    ensures { λ p. ⌜ p ≡ leafPrice w cost ⌝ }
 {
-    if x == 0 { NO_WEIGHT } else { x - 1 }
+    (wide(w) + cost) * WEIGHT_UNIT + cost + 1
 }
 
-// The key of a tree joined from two parts, given by their weights plus 1.
-pub fn join_key(w: u32, left: u32, right: u32, x: usize) -> usize
-    requires { ⌜ x < 18014398509481984 ⌝ }
-    ensures { λ key. ⌜ key ≡ joinKey w left right x ⌝ }
+// The price plus 1 of a tree that a rule of weight w joins from two parts, given by their prices plus 1.
+pub fn join_price(w: u32, left: usize, right: usize) -> usize
+    requires { ⌜ (left < prices) × (right < prices) ⌝ }
+    ensures { λ p. ⌜ p ≡ joinPrice w left right ⌝ }
 {
-    key_of(
-        wide(w) + wide(part_weight(left)) + wide(part_weight(right)) + 1,
-        x,
-    )
+    wide(w) * WEIGHT_UNIT + part_price(left) + part_price(right) + 1
 }
 
-// The lesser of the best and a key above the floor.
-pub fn lesser(floor: usize, best: usize, key: usize) -> usize
-    ensures { λ x. ⌜ x ≡ lesser floor best key ⌝ }
+// The key of no tree, which that of a tree with a part missing reaches.
+pub fn no_key() -> Key
+    ensures { λ k. ⌜ keyNumber k ≡ noKey ⌝ }
 {
-    if floor < key {
-        if key < best { key } else { best }
-    } else {
-        best
+    Key {
+        price: PRICES,
+        back: 0,
     }
 }
 
-// The same by heights above the floor: of height h is the key h + floor + 1. A key that is not above the floor wraps round to
-// a height that is too great, so that one test decides.
-pub fn lesser_height(floor: usize, height: usize, key: usize) -> usize
-    requires { ⌜ height + (floor + 1) < 2 ^ 64 ⌝ }
-    ensures { λ x. ⌜ (x + (floor + 1) ≡ lesser floor (height + (floor + 1)) key) × (x ≤ height) ⌝ }
+// Whether a key is below that of no tree.
+pub fn is_some(k: Key) -> bool
+    ensures { λ r. ⌜ r ≡ ltb (keyNumber k) noKey ⌝ }
 {
-    let other = std::num::wrapping_sub_usize(key, floor + 1);
-    if other < height { other } else { height }
+    k.price < PRICES
+}
+
+// Whether a key is below another.
+pub fn before(a: Key, b: Key) -> bool
+    ensures { λ r. ⌜ r ≡ ltb (keyNumber a) (keyNumber b) ⌝ }
+{
+    if a.price == b.price {
+        a.back < b.back
+    } else {
+        a.price < b.price
+    }
+}
+
+// The lesser of the best and a key above the floor.
+pub fn lesser(floor: Key, best: Key, key: Key) -> Key
+    ensures { λ x. ⌜ keyNumber x ≡ lesser (keyNumber floor) (keyNumber best) (keyNumber key) ⌝ }
+{
+    if before(key, best) {
+        if before(floor, key) {
+            return key;
+        }
+    }
+    best
 }

@@ -1,2 +1,2 @@
--- The ranks that stand one behind another.
-pub mod Ranks
+-- The tests of the queue: places, prices, tags.
+pub mod Least

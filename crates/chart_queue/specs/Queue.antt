@@ -1,36 +1,67 @@
 -- The priority queue of a cell: candidates that were met and not found yet, in the table beside the cell's ranks.
 -- Nobody need believe this page: the theorems of chart_theory join it to the derivations. Assumes nothing.
 use mathlib.Core.List.{List}
-use Prim.Native.Nat.{ℕ, _+_, _-_, _/_, _%_}
-use lib.Dec.{ltb}
-use lib.ListN.{getD, set}
+use mathlib.Core.Bool.{Bool, true, false}
+use Prim.Native.Nat.{ℕ, _+_, _-_, _*_, _/_, _%_}
+use lib.Dec.{ltb, eqb}
 use Rattle.bits.specs.Bits.{pick}
 use Rattle.packing.specs.Loop.{iter}
-use Rattle.chart_keys.specs.Keys.{weightUnit, keyOf, noKey}
+use Rattle.chart_keys.specs.declared.BackPointer.{BackPointer}
+use Rattle.chart_keys.specs.Keys.{backPointer, keyUnit, keyOf, noKey}
 use Rattle.chart_table.specs.declared.Layout.{Layout}
-use Rattle.chart_table.specs.Table.{entryOf, putKey}
+use Rattle.chart_table.specs.Table.{backAt, besideAt, putBeside, putKey}
 
--- place y of the queue stands beside rank y + 1 of the cell, as a weight plus 1 and a back pointer, and beside the first rank
--- stands the queue's length, of which no more than the ranks kept is taken
+-- a leaf, or first with first: a candidate that follows none
+abbrev pub isInitial : BackPointer → Bool
+isInitial b = pick (eqb (b .split) 0) true (pick (eqb (b .left) 0) (eqb (b .right) 0) false)
+
+-- how a back pointer comes from that of the last rank found: the next right rank, the next left rank, and from either of
+-- these two the other; and the back pointer again
+unfoldable pub codeOf : ℕ → ℕ → ℕ
+codeOf last back = pick (eqb back (last + 1)) 0 (pick (eqb back (last + 256)) 1 (pick (eqb back (last + 255)) 2 3))
+
+unfoldable pub shifted : ℕ → ℕ → ℕ
+shifted last code = pick (eqb code 0) (last + 1) (pick (eqb code 1) (last + 256) (pick (eqb code 2) (last + 255) (last - 255)))
+
+-- a candidate's tag, below `tags`, and the back pointer of a tag: a rank of the cell that has a next one, and a code, or the
+-- candidate that follows none
+abbrev pub tags : ℕ
+tags = 1024
+
+unfoldable pub tagOf : List ℕ → Layout → ℕ → ℕ → ℕ → ℕ
+tagOf t d c rank back = pick (isInitial (backPointer back)) 1023 ((rank - 1) * 4 + codeOf (backAt t d c (rank - 1)) back)
+
+unfoldable pub taggedBack : List ℕ → Layout → ℕ → ℕ → ℕ
+taggedBack t d c tag =
+    pick (ltb (tag / 4 + 1) (d .ranks)) (shifted (backAt t d c (tag / 4)) (tag % 4)) (besideAt t d c 0 / 262144)
+
+-- place y of the queue stands beside rank y + 1 of the cell, as a price plus 1 and a tag, and beside the first rank stands the
+-- queue's length, of which no more than the ranks kept is taken
+abbrev pub numberKey : List ℕ → Layout → ℕ → ℕ → ℕ
+numberKey t d c n = keyOf (n / 1024) (taggedBack t d c (n % 1024))
+
 unfoldable pub queuedKey : List ℕ → Layout → ℕ → ℕ → ℕ
-queuedKey t d c y = keyOf (getD t (entryOf d c (y + 1) + 1) 0) (getD t (entryOf d c (y + 1) + 3) 0)
+queuedKey t d c y = numberKey t d c (besideAt t d c (y + 1))
 
 unfoldable pub queueLength : List ℕ → Layout → ℕ → ℕ
-queueLength t d c =
-    let m = getD t (entryOf d c 0 + 1) 0 in
-    pick (ltb m (d .ranks)) m (d .ranks)
+queueLength t d c = pick (ltb (besideAt t d c 0 % 512) (d .ranks)) (besideAt t d c 0 % 512) (d .ranks)
 
-unfoldable pub putQueued : List ℕ → Layout → ℕ → ℕ → ℕ → List ℕ
-putQueued t d c y key =
-    set (set t (entryOf d c (y + 1) + 1) (key / weightUnit)) (entryOf d c (y + 1) + 3) (key % weightUnit)
+-- the back pointer of a candidate that follows none is kept beside the first rank
+unfoldable pub keepInitial : List ℕ → Layout → ℕ → ℕ → List ℕ
+keepInitial t d c back =
+    pick (isInitial (backPointer back)) (putBeside t d c 0 (back * 262144 + besideAt t d c 0 % 262144)) t
+
+-- a key that is met as a rank is looked for is written at place y
+unfoldable pub putQueued : List ℕ → Layout → ℕ → ℕ → ℕ → ℕ → List ℕ
+putQueued t d c rank y key =
+    putBeside (keepInitial t d c (key % keyUnit % 4294967296)) d c (y + 1)
+    (key / keyUnit * 1024 + tagOf t d c rank (key % keyUnit % 4294967296))
 
 unfoldable pub moveQueued : List ℕ → Layout → ℕ → ℕ → ℕ → List ℕ
-moveQueued t d c from y =
-    set (set t (entryOf d c (y + 1) + 1) (getD t (entryOf d c (from + 1) + 1) 0)) (entryOf d c (y + 1) + 3)
-    (getD t (entryOf d c (from + 1) + 3) 0)
+moveQueued t d c from y = putBeside t d c (y + 1) (besideAt t d c (from + 1))
 
 unfoldable pub putQueueLength : List ℕ → Layout → ℕ → ℕ → List ℕ
-putQueueLength t d c m = set t (entryOf d c 0 + 1) m
+putQueueLength t d c m = putBeside t d c 0 (besideAt t d c 0 / 512 * 512 + m)
 
 -- of two places the one with the lesser key, the first where neither is; and of the first m, 0 where the queue is empty
 unfoldable pub lesserPlace : List ℕ → Layout → ℕ → ℕ → ℕ → ℕ
@@ -40,12 +71,12 @@ unfoldable pub leastPlace : List ℕ → Layout → ℕ → ℕ → ℕ
 leastPlace t d c m = iter (lesserPlace t d c) 0 m
 
 -- place y of m is given to a key, or, where there is none, to the last of the queue; and a key is pushed behind m
-unfoldable pub replace : List ℕ → Layout → ℕ → ℕ → ℕ → ℕ → List ℕ
-replace t d c m y key =
-    pick (ltb key noKey) (putQueued t d c y key) (putQueueLength (moveQueued t d c (m - 1) y) d c (m - 1))
+unfoldable pub replace : List ℕ → Layout → ℕ → ℕ → ℕ → ℕ → ℕ → List ℕ
+replace t d c rank m y key =
+    pick (ltb key noKey) (putQueued t d c rank y key) (putQueueLength (moveQueued t d c (m - 1) y) d c (m - 1))
 
-unfoldable pub push : List ℕ → Layout → ℕ → ℕ → ℕ → List ℕ
-push t d c m key = pick (ltb key noKey) (putQueueLength (putQueued t d c m key) d c (m + 1)) t
+unfoldable pub push : List ℕ → Layout → ℕ → ℕ → ℕ → ℕ → List ℕ
+push t d c rank m key = pick (ltb key noKey) (putQueueLength (putQueued t d c rank m key) d c (m + 1)) t
 
 -- the least of the queue and two more keys is written at a rank, and the others are in the queue
 unfoldable pub extractMin : List ℕ → Layout → ℕ → ℕ → ℕ → ℕ → List ℕ
@@ -53,5 +84,5 @@ extractMin t d c rank lo hi =
     let m = queueLength t d c in
     let y = leastPlace t d c m in
     let key = queuedKey t d c y in
-    let pushed = push (putKey t d c rank lo) d c m hi in
-    pick (ltb 0 m) (pick (ltb key lo) (push (replace (putKey t d c rank key) d c m y lo) d c m hi) pushed) pushed
+    let pushed = push (putKey t d c rank lo) d c rank m hi in
+    pick (ltb 0 m) (pick (ltb key lo) (push (replace (putKey t d c rank key) d c rank m y lo) d c rank m hi) pushed) pushed

@@ -1,28 +1,133 @@
 // The priority queue of a cell: candidates that were met and not found yet, beside ranks 1, 2, .., and beside the first rank
-// how many. A cell is given by its number.
-use arrays::number_at;
-use arrays::store;
-use arrays::wide;
-use chart_keys::NO_KEY;
-use chart_keys::WEIGHT_UNIT;
-use chart_table::ENTRY_NUMBERS;
+// how many. A cell is given by its number. There is no room for a candidate's back pointer: it is given by a tag, the rank that
+// was the last found when the candidate was met, and how its back pointer comes from that rank's. Of the candidates that follow
+// none at most one is queued; its back pointer stands beside the first rank.
+use chart_keys::BackPointer;
+use chart_keys::Key;
+use chart_keys::back_pointer;
+use chart_keys::before;
+use chart_keys::is_some;
+use chart_table::COUNTS;
 use chart_table::Layout;
-use chart_table::entry_of;
+use chart_table::back_at;
+use chart_table::beside_at;
+use chart_table::put_beside;
 use chart_table::put_key;
 ghost use mathlib.Core.Path.{_≡_};
-ghost use Prim.Native.Nat.{_+_, _<_, _≤_};
-ghost use lib.ListN.{length, getD};
-ghost use Rattle.chart_keys.specs.Keys.{keyOf, noKey};
-ghost use Rattle.chart_table.specs.Table.{mostRanks, cellBound, entryOf, Sized};
-ghost use Rattle.chart_queue.specs.Queue.{queuedKey, queueLength, putQueued, moveQueued, putQueueLength, lesserPlace, leastPlace, replace, push, extractMin};
+ghost use Prim.Native.Nat.{_+_, _*_, _/_, _<_, _≤_};
+ghost use Rattle.chart_keys.specs.Keys.{prices, keyNumber};
+ghost use Rattle.chart_table.specs.Table.{mostRanks, cellBound, besides, Sized};
+ghost use Rattle.chart_queue.specs.Queue.{tags, isInitial, codeOf, shifted, tagOf, taggedBack, numberKey, queuedKey, queueLength, keepInitial, putQueued, moveQueued, putQueueLength, leastPlace, replace, push, extractMin};
+
+// Tags are below TAGS: CODES ways from each rank. Rank 255 has no next one, so no candidate has it: its tags are free, and the
+// greatest is that of the candidates that follow none.
+const TAGS: usize = 1024;
+
+const CODES: usize = 4;
+
+const INITIAL_TAG: usize = 1023;
+
+// What stands beside the first rank has the initial candidate's back pointer above two counts.
+const TALLIES: usize = COUNTS * COUNTS;
+
+// The numbers of 32 bits, which hold a back pointer.
+const BACKS: usize = 4294967296;
+
+// How the back pointer of a candidate comes from another: the next right rank, the next left rank, and from either of these
+// two the other.
+const NEXT_RIGHT: usize = 1;
+
+const NEXT_LEFT: usize = 256;
+
+const SIBLING: usize = 255;
+
+// Whether a back pointer is of a leaf or a seed: a candidate that follows none.
+pub fn is_initial(b: BackPointer) -> bool
+    ensures { λ r. ⌜ r ≡ isInitial b ⌝ }
+{
+    if b.split == 0 {
+        return true;
+    }
+    if b.left == 0 {
+        return b.right == 0;
+    }
+    false
+}
+
+// How a back pointer comes from that of the last rank found, and the back pointer again.
+fn code_of(last: usize, back: usize) -> usize
+    requires { ⌜ last < 4294967296 ⌝ }
+    ensures { λ r. ⌜ (r ≡ codeOf last back) × (r < 4) ⌝ }
+{
+    if back == last + NEXT_RIGHT {
+        return 0;
+    }
+    if back == last + NEXT_LEFT {
+        return 1;
+    }
+    if back == last + SIBLING {
+        return 2;
+    }
+    3
+}
+
+fn shifted(last: usize, code: usize) -> usize
+    requires { ⌜ last < 4294967296 ⌝ }
+    ensures { λ r. ⌜ r ≡ shifted last code ⌝ }
+{
+    if code == 0 {
+        return last + NEXT_RIGHT;
+    }
+    if code == 1 {
+        return last + NEXT_LEFT;
+    }
+    if code == 2 {
+        return last + SIBLING;
+    }
+    if last < SIBLING { 0 } else { last - SIBLING }
+}
+
+// The tag of a candidate that is met as a rank is looked for.
+fn tag_of(t: &[u32], d: Layout, c: usize, rank: usize, back: usize) -> usize
+    requires { ⌜ (Sized d) × (c < cellBound) × (0 < rank) × (rank ≤ mostRanks) × (back < 4294967296) ⌝ }
+    ensures { λ r. ⌜ (r ≡ tagOf (now (t .entry)) d c rank back) × (r < tags) ⌝ }
+{
+    if is_initial(back_pointer(back)) {
+        return INITIAL_TAG;
+    }
+    (rank - 1) * CODES + code_of(back_at(t, d, c, rank - 1), back)
+}
+
+// The back pointer of a tag.
+fn tagged_back(t: &[u32], d: Layout, c: usize, tag: usize) -> usize
+    requires { ⌜ (Sized d) × (c < cellBound) × (tag < tags) ⌝ }
+    ensures { λ r. ⌜ r ≡ taggedBack (now (t .entry)) d c tag ⌝ }
+{
+    let rank = tag / CODES;
+    if rank + 1 < d.ranks {
+        return shifted(back_at(t, d, c, rank), tag % CODES);
+    }
+    beside_at(t, d, c, 0) / TALLIES
+}
+
+// The key that a number beside a rank stands for.
+fn key_of(t: &[u32], d: Layout, c: usize, n: usize) -> Key
+    requires { ⌜ (Sized d) × (c < cellBound) ⌝ }
+    ensures { λ r. ⌜ (keyNumber r ≡ numberKey (now (t .entry)) d c n) × (r .price ≡ n / tags) ⌝ }
+{
+    let back = tagged_back(t, d, c, n % TAGS);
+    Key {
+        price: n / TAGS,
+        back,
+    }
+}
 
 // The key at place y.
-fn queued_key(t: &[u32], d: Layout, c: usize, y: usize) -> usize
+fn queued_key(t: &[u32], d: Layout, c: usize, y: usize) -> Key
     requires { ⌜ (Sized d) × (c < cellBound) × (y ≤ mostRanks) ⌝ }
-    ensures { λ r. ⌜ r ≡ queuedKey (now (t .entry)) d c y ⌝ }
+    ensures { λ r. ⌜ keyNumber r ≡ queuedKey (now (t .entry)) d c y ⌝ }
 {
-    let at = entry_of(d, c, y + 1);
-    number_at(t, at + 1) * WEIGHT_UNIT + number_at(t, at + 3)
+    key_of(t, d, c, beside_at(t, d, c, y + 1))
 }
 
 // The queue's length, at most the number of ranks kept.
@@ -30,18 +135,30 @@ fn queue_length(t: &[u32], d: Layout, c: usize) -> usize
     requires { ⌜ (Sized d) × (c < cellBound) ⌝ }
     ensures { λ r. ⌜ (r ≡ queueLength (now (t .entry)) d c) × (r ≤ mostRanks) ⌝ }
 {
-    let m = number_at(t, entry_of(d, c, 0) + 1);
+    let m = beside_at(t, d, c, 0) % COUNTS;
     if m < d.ranks { m } else { d.ranks }
 }
 
-// Writes a key at place y.
-fn put_queued(t: &mut [u32], d: Layout, c: usize, y: usize, key: usize)
-    requires { ⌜ (Sized d) × (c < cellBound) × (y ≤ mostRanks) × (key < noKey) ⌝ }
-    ensures { λ _. ⌜ now (t .exit) ≡ putQueued (now (t .entry)) d c y key ⌝ }
+// Keeps the back pointer of a candidate that follows none.
+fn keep_initial(t: &mut [u32], d: Layout, c: usize, back: usize)
+    requires { ⌜ (Sized d) × (c < cellBound) × (back < 4294967296) ⌝ }
+    ensures { λ _. ⌜ now (t .exit) ≡ keepInitial (now (t .entry)) d c back ⌝ }
 {
-    let at = entry_of(d, c, y + 1);
-    store(t, at + 1, (key / WEIGHT_UNIT) as u32);
-    store(t, at + 3, (key % WEIGHT_UNIT) as u32);
+    if is_initial(back_pointer(back)) {
+        let tally = beside_at(&t[..], d, c, 0) % TALLIES;
+        put_beside(t, d, c, 0, back * TALLIES + tally);
+    }
+}
+
+// Writes a key that is met as a rank is looked for at place y.
+fn put_queued(t: &mut [u32], d: Layout, c: usize, rank: usize, y: usize, key: Key)
+    requires { ⌜ (Sized d) × (c < cellBound) × (0 < rank) × (rank ≤ mostRanks) × (y ≤ mostRanks) × (key .price < prices) ⌝ }
+    ensures { λ _. ⌜ now (t .exit) ≡ putQueued (now (t .entry)) d c rank y (keyNumber key) ⌝ }
+{
+    let back = key.back % BACKS;
+    let tag = tag_of(&t[..], d, c, rank, back);
+    keep_initial(t, d, c, back);
+    put_beside(t, d, c, y + 1, key.price * TAGS + tag);
 }
 
 // Writes the key of one place at another.
@@ -49,12 +166,8 @@ fn move_queued(t: &mut [u32], d: Layout, c: usize, from: usize, y: usize)
     requires { ⌜ (Sized d) × (c < cellBound) × (from ≤ mostRanks) × (y ≤ mostRanks) ⌝ }
     ensures { λ _. ⌜ now (t .exit) ≡ moveQueued (now (t .entry)) d c from y ⌝ }
 {
-    let at = entry_of(d, c, from + 1);
-    let weight = number_at(&t[..], at + 1);
-    let back = number_at(&t[..], at + 3);
-    let to = entry_of(d, c, y + 1);
-    store(t, to + 1, weight as u32);
-    store(t, to + 3, back as u32);
+    let n = beside_at(&t[..], d, c, from + 1);
+    put_beside(t, d, c, y + 1, n);
 }
 
 // Writes the queue's length.
@@ -62,80 +175,38 @@ fn put_queue_length(t: &mut [u32], d: Layout, c: usize, m: usize)
     requires { ⌜ (Sized d) × (c < cellBound) × (m ≤ mostRanks + 1) ⌝ }
     ensures { λ _. ⌜ now (t .exit) ≡ putQueueLength (now (t .entry)) d c m ⌝ }
 {
-    store(t, entry_of(d, c, 0) + 1, m as u32);
+    let n = beside_at(&t[..], d, c, 0) / COUNTS;
+    put_beside(t, d, c, 0, n * COUNTS + m);
 }
 
-// Of two places the one with the lesser key, the first where neither is.
-fn lesser_place(t: &[u32], d: Layout, c: usize, x: usize, y: usize) -> usize
-    requires { ⌜ (Sized d) × (c < cellBound) × (x ≤ mostRanks) × (y ≤ mostRanks) ⌝ }
-    ensures { λ r. ⌜ (r ≡ lesserPlace (now (t .entry)) d c x y) × (r ≤ mostRanks) ⌝ }
-{
-    if queued_key(t, d, c, y) < queued_key(t, d, c, x) {
-        y
-    } else {
-        x
-    }
-}
-
-// The place of the least key of the first m, 0 where there are none. A table may be too short: the reads are total.
-fn least_place_anywhere(t: &[u32], d: Layout, c: usize, m: usize) -> usize
-    requires { ⌜ (Sized d) × (c < cellBound) × (m ≤ mostRanks) ⌝ }
-    ensures { λ r. ⌜ (r ≡ leastPlace (now (t .entry)) d c m) × (r ≤ mostRanks) ⌝ }
-{
-    let mut x: usize = 0;
-    for y in 0..m {
-        x = lesser_place(t, d, c, x, y);
-    }
-    x
-}
-
-// The key beside the entry at an index, where that stands in the table.
-fn key_beside(t: &[u32], at: usize) -> usize
-    requires { ⌜ at + 3 < length (now t) ⌝ }
-    ensures { λ r. ⌜ r ≡ keyOf (getD (now (t .entry)) (at + 1) 0) (getD (now (t .entry)) (at + 3) 0) ⌝ }
-{
-    wide(t[at + 1]) * WEIGHT_UNIT + wide(t[at + 3])
-}
-
-// The place of the least key of the first m, at least one, where they stand in the table: each is read once, for the
-// least so far is carried beside its place.
-fn least_place_within(t: &[u32], d: Layout, c: usize, m: usize) -> usize
-    requires { ⌜ (Sized d) × (c < cellBound) × (0 < m) × (m ≤ mostRanks) × (entryOf d c m + 3 < length (now t)) ⌝ }
-    ensures { λ r. ⌜ (r ≡ leastPlace (now (t .entry)) d c m) × (r ≤ mostRanks) ⌝ }
-{
-    let start = entry_of(d, c, 1);
-    let mut x: usize = 0;
-    let mut best = key_beside(t, start);
-    for y in 1..m {
-        let key = key_beside(t, start + ENTRY_NUMBERS * y);
-        if key < best {
-            best = key;
-            x = y;
-        }
-    }
-    x
-}
-
-// The place of the least key of the first m, 0 where there are none.
+// The place of the least key of the first m, 0 where there are none. Only where a price is not above the least so far is the back
+// pointer looked up.
 fn least_place(t: &[u32], d: Layout, c: usize, m: usize) -> usize
     requires { ⌜ (Sized d) × (c < cellBound) × (m ≤ mostRanks) ⌝ }
     ensures { λ r. ⌜ (r ≡ leastPlace (now (t .entry)) d c m) × (r ≤ mostRanks) ⌝ }
 {
-    if 0 < m {
-        if entry_of(d, c, m) + 3 < t.len() {
-            return least_place_within(t, d, c, m);
+    let mut x: usize = 0;
+    let mut best = queued_key(t, d, c, 0);
+    for y in 0..m {
+        let n = beside_at(t, d, c, y + 1);
+        if n / TAGS <= best.price {
+            let key = key_of(t, d, c, n);
+            if before(key, best) {
+                best = key;
+                x = y;
+            }
         }
     }
-    least_place_anywhere(t, d, c, m)
+    x
 }
 
 // Place y of m gets a key, or, where there is none, the last of the queue.
-fn replace(t: &mut [u32], d: Layout, c: usize, m: usize, y: usize, key: usize)
-    requires { ⌜ (Sized d) × (c < cellBound) × (0 < m) × (m ≤ mostRanks) × (y ≤ mostRanks) ⌝ }
-    ensures { λ _. ⌜ now (t .exit) ≡ replace (now (t .entry)) d c m y key ⌝ }
+fn replace(t: &mut [u32], d: Layout, c: usize, rank: usize, m: usize, y: usize, key: Key)
+    requires { ⌜ (Sized d) × (c < cellBound) × (0 < rank) × (rank ≤ mostRanks) × (0 < m) × (m ≤ mostRanks) × (y ≤ mostRanks) ⌝ }
+    ensures { λ _. ⌜ now (t .exit) ≡ replace (now (t .entry)) d c rank m y (keyNumber key) ⌝ }
 {
-    if key < NO_KEY {
-        put_queued(t, d, c, y, key);
+    if is_some(key) {
+        put_queued(t, d, c, rank, y, key);
         return;
     }
     move_queued(t, d, c, m - 1, y);
@@ -143,32 +214,32 @@ fn replace(t: &mut [u32], d: Layout, c: usize, m: usize, y: usize, key: usize)
 }
 
 // Pushes a key, if there is one, behind m others.
-fn push(t: &mut [u32], d: Layout, c: usize, m: usize, key: usize)
-    requires { ⌜ (Sized d) × (c < cellBound) × (m ≤ mostRanks) ⌝ }
-    ensures { λ _. ⌜ now (t .exit) ≡ push (now (t .entry)) d c m key ⌝ }
+fn push(t: &mut [u32], d: Layout, c: usize, rank: usize, m: usize, key: Key)
+    requires { ⌜ (Sized d) × (c < cellBound) × (0 < rank) × (rank ≤ mostRanks) × (m ≤ mostRanks) ⌝ }
+    ensures { λ _. ⌜ now (t .exit) ≡ push (now (t .entry)) d c rank m (keyNumber key) ⌝ }
 {
-    if key < NO_KEY {
-        put_queued(t, d, c, m, key);
+    if is_some(key) {
+        put_queued(t, d, c, rank, m, key);
         put_queue_length(t, d, c, m + 1);
     }
 }
 
 // Writes the least of the queue and two more keys, the lesser first, at a rank; the others are in the queue afterwards.
-pub fn extract_min(t: &mut [u32], d: Layout, c: usize, rank: usize, lo: usize, hi: usize)
-    requires { ⌜ (Sized d) × (c < cellBound) × (rank ≤ mostRanks) ⌝ }
-    ensures { λ _. ⌜ now (t .exit) ≡ extractMin (now (t .entry)) d c rank lo hi ⌝ }
+pub fn extract_min(t: &mut [u32], d: Layout, c: usize, rank: usize, lo: Key, hi: Key)
+    requires { ⌜ (Sized d) × (c < cellBound) × (0 < rank) × (rank ≤ mostRanks) ⌝ }
+    ensures { λ _. ⌜ now (t .exit) ≡ extractMin (now (t .entry)) d c rank (keyNumber lo) (keyNumber hi) ⌝ }
 {
     let m = queue_length(&t[..], d, c);
     let y = least_place(&t[..], d, c, m);
     let key = queued_key(&t[..], d, c, y);
     if 0 < m {
-        if key < lo {
+        if before(key, lo) {
             put_key(t, d, c, rank, key);
-            replace(t, d, c, m, y, lo);
-            push(t, d, c, m, hi);
+            replace(t, d, c, rank, m, y, lo);
+            push(t, d, c, rank, m, hi);
             return;
         }
     }
     put_key(t, d, c, rank, lo);
-    push(t, d, c, m, hi);
+    push(t, d, c, rank, m, hi);
 }

@@ -1,7 +1,6 @@
 -- The next rank of a cell, from the last one found: its successors, and what replaces it in the queue.
 -- Nobody need believe this page: the theorems of chart_theory join it to the derivations. Assumes nothing.
 use mathlib.Core.List.{List}
-use mathlib.Core.Bool.{Bool, true, false}
 use Prim.Native.Nat.{ℕ, _+_, _-_}
 use lib.Dec.{ltb, eqb}
 use Rattle.bits.specs.Bits.{pick}
@@ -9,22 +8,18 @@ use Rattle.packing.specs.Flat.{ruleAt}
 use Rattle.packing.specs.declared.Rule.{Rule}
 use Rattle.packing.specs.declared.Rule.the-variants.{Pair, Word}
 use Rattle.chart_keys.specs.declared.BackPointer.{BackPointer}
-use Rattle.chart_keys.specs.Keys.{withRanks, backPointer, keyOf, noKey, lesser}
+use Rattle.chart_keys.specs.Keys.{withRanks, backPointer, keyNumber, noKey, lesser}
 use Rattle.chart_table.specs.declared.Cell.{Cell}
 use Rattle.chart_table.specs.declared.Layout.{Layout}
-use Rattle.chart_table.specs.Table.{leftPart, rightPart, cellNumber, weightAt, backAt, putKey}
-use Rattle.chart_queue.specs.Queue.{extractMin}
+use Rattle.chart_table.specs.Table.{leftPart, rightPart, cellNumber, priceAt, backAt, putKey}
+use Rattle.chart_queue.specs.Queue.{isInitial, extractMin}
 use Rattle.chart_candidates.specs.Candidates.{pairKey, leaves, seeds}
 use Rattle.chart_ranks.specs.declared.Found.{Found}
-
--- a leaf, or first with first: a candidate that follows none
-abbrev pub isInitial : BackPointer → Bool
-isInitial b = pick (eqb (b .split) 0) true (pick (eqb (b .left) 0) (eqb (b .right) 0) false)
 
 -- the key and the back pointer of a rank that is found
 unfoldable pub foundAt : List ℕ → Layout → ℕ → ℕ → Found
 foundAt t d c rank =
-    record { key = keyOf (weightAt t d c rank) (backAt t d c rank); back = backPointer (backAt t d c rank) }
+    record { key = record { price = priceAt t d c rank; back = backAt t d c rank }; back = backPointer (backAt t d c rank) }
 
 module _ (t : List ℕ) (d : Layout) where
   -- the key of a pairing of a rule over a cell, with the split and the ranks of a back pointer
@@ -42,7 +37,7 @@ module _ (t : List ℕ) (d : Layout) where
   unfoldable pub successors : List ℕ → Cell → Found → ℕ → ℕ
   successors rules c last best =
       pick (eqb (last .back .split) 0) best
-      (pairSuccessors c (last .key) (last .back) best (ruleAt rules (last .back .rule)))
+      (pairSuccessors c (keyNumber (last .key)) (last .back) best (ruleAt rules (last .back .rule)))
 
   -- the other successor of the pairing that a successor follows, where that has two
   unfoldable pub pairSibling : Cell → ℕ → BackPointer → Rule → ℕ
@@ -54,7 +49,7 @@ module _ (t : List ℕ) (d : Layout) where
   pairSibling c floor b (Word h x w) = noKey
 
   unfoldable pub sibling : List ℕ → Cell → Found → ℕ
-  sibling rules c last = pairSibling c (last .key) (last .back) (ruleAt rules (last .back .rule))
+  sibling rules c last = pairSibling c (keyNumber (last .key)) (last .back) (ruleAt rules (last .back .rule))
 
   -- the least above the floor of the candidates that follow none
   unfoldable pub leastInitial : List ℕ → List ℕ → List ℕ → Cell → ℕ → ℕ
@@ -63,7 +58,7 @@ module _ (t : List ℕ) (d : Layout) where
   -- what replaces a candidate that was found: the next that follows none, or its sibling
   unfoldable pub replacement : List ℕ → List ℕ → List ℕ → Cell → Found → ℕ
   replacement rules edges index c last =
-      pick (isInitial (last .back)) (leastInitial rules edges index c (last .key)) (sibling rules c last)
+      pick (isInitial (last .back)) (leastInitial rules edges index c (keyNumber (last .key))) (sibling rules c last)
 
 module _ (rules edges index : List ℕ) (d : Layout) where
   -- the first rank: the least of what follows none

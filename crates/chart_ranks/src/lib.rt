@@ -2,16 +2,17 @@
 mod selection;
 
 use chart_keys::BackPointer;
-use chart_keys::NO_KEY;
+use chart_keys::Key;
 use chart_keys::back_pointer;
-use chart_keys::key_of;
+use chart_keys::before;
+use chart_keys::no_key;
 use chart_queue::extract_min;
 use chart_table::Cell;
 use chart_table::Layout;
 use chart_table::back_at;
 use chart_table::cell_number;
+use chart_table::price_at;
 use chart_table::put_key;
-use chart_table::weight_at;
 use selection::least_initial;
 use selection::replacement;
 use selection::successors;
@@ -23,7 +24,7 @@ ghost use Rattle.chart_ranks.specs.Ranks.{foundAt, firstRank, nextRank};
 
 // A rank that is found: its key and its back pointer.
 pub struct Found {
-    pub key: usize,
+    pub key: Key,
     pub back: BackPointer,
 }
 
@@ -32,10 +33,11 @@ fn found_at(t: &[u32], d: Layout, c: usize, rank: usize) -> Found
     requires { ⌜ (Sized d) × (c < cellBound) × (rank ≤ mostRanks) ⌝ }
     ensures { λ r. ⌜ (r ≡ foundAt (now (t .entry)) d c rank) × Digits (r .back) ⌝ }
 {
+    let price = price_at(t, d, c, rank);
     let back = back_at(t, d, c, rank);
     let pointer = back_pointer(back);
     Found {
-        key: key_of(weight_at(t, d, c, rank), back),
+        key: Key { price, back },
         back: pointer,
     }
 }
@@ -45,7 +47,8 @@ pub fn first_rank(t: &mut [u32], rules: &[u32], edges: &[u32], index: &[u32], d:
     requires { ⌜ InTable d c ⌝ }
     ensures { λ _. ⌜ now (t .exit) ≡ firstRank (now (rules .entry)) (now (edges .entry)) (now (index .entry)) d c (now (t .entry)) ⌝ }
 {
-    let key = least_initial(&t[..], d, rules, edges, index, c, 0);
+    let floor = Key { price: 0, back: 0 };
+    let key = least_initial(&t[..], d, rules, edges, index, c, floor);
     put_key(t, d, cell_number(d, c), 0, key);
 }
 
@@ -65,9 +68,9 @@ pub fn next_rank(
 {
     let number = cell_number(d, c);
     let last = found_at(&t[..], d, number, rank - 1);
-    let successor = successors(&t[..], d, rules, c, last, NO_KEY);
+    let successor = successors(&t[..], d, rules, c, last, no_key());
     let other = replacement(&t[..], d, rules, edges, index, c, last);
-    if other < successor {
+    if before(other, successor) {
         extract_min(t, d, number, rank, other, successor);
         return;
     }

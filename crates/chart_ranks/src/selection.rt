@@ -4,9 +4,11 @@ use arrays::rule_at;
 use chart_candidates::leaves::leaves;
 use chart_candidates::pair_key;
 use chart_candidates::seeds::seeds;
-use chart_keys::NO_KEY;
+use chart_keys::Key;
 use chart_keys::lesser;
+use chart_keys::no_key;
 use chart_keys::with_ranks;
+use chart_queue::is_initial;
 use chart_table::Cell;
 use chart_table::Layout;
 use chart_table::left_part;
@@ -14,15 +16,15 @@ use chart_table::right_part;
 use packing::Rule;
 ghost use mathlib.Core.Path.{_≡_};
 ghost use Prim.Native.Nat.{_+_, _-_, _*_, _<_, _≤_};
-ghost use Rattle.chart_keys.specs.Keys.{Digits};
+ghost use Rattle.chart_keys.specs.Keys.{Digits, keyNumber};
 ghost use Rattle.chart_table.specs.Table.{InTable};
 ghost use Rattle.chart_ranks.specs.Ranks.{successors, sibling, leastInitial, replacement};
 
 // The best so far and the successors of a found pairing: the next of its right part, and where that was the first, the next of
 // its left part. A leaf has no split and no successors.
-pub fn successors(t: &[u32], d: Layout, rules: &[u32], c: Cell, last: Found, best: usize) -> usize
+pub fn successors(t: &[u32], d: Layout, rules: &[u32], c: Cell, last: Found, best: Key) -> Key
     requires { ⌜ (InTable d c) × Digits (last .back) ⌝ }
-    ensures { λ x. ⌜ x ≡ successors (now (t .entry)) d (now (rules .entry)) c last best ⌝ }
+    ensures { λ x. ⌜ keyNumber x ≡ successors (now (t .entry)) d (now (rules .entry)) c last (keyNumber best) ⌝ }
 {
     let floor = last.key;
     let b = last.back;
@@ -47,9 +49,9 @@ pub fn successors(t: &[u32], d: Layout, rules: &[u32], c: Cell, last: Found, bes
 }
 
 // The other successor of the pairing that a successor follows, where that has two and the other is above the floor.
-fn sibling(t: &[u32], d: Layout, rules: &[u32], c: Cell, last: Found) -> usize
+fn sibling(t: &[u32], d: Layout, rules: &[u32], c: Cell, last: Found) -> Key
     requires { ⌜ (InTable d c) × Digits (last .back) × (0 < last .back .split) ⌝ }
-    ensures { λ x. ⌜ x ≡ sibling (now (t .entry)) d (now (rules .entry)) c last ⌝ }
+    ensures { λ x. ⌜ keyNumber x ≡ sibling (now (t .entry)) d (now (rules .entry)) c last ⌝ }
 {
     let floor = last.key;
     let b = last.back;
@@ -60,17 +62,17 @@ fn sibling(t: &[u32], d: Layout, rules: &[u32], c: Cell, last: Found) -> usize
             let right = right_part(c, second, b.split);
             if b.right == 1 {
                 let other = pair_key(t, d, left, right, w, with_ranks(b, b.left + 1, 0));
-                return lesser(floor, NO_KEY, other);
+                return lesser(floor, no_key(), other);
             }
             if b.right == 0 {
                 if 0 < b.left {
                     let other = pair_key(t, d, left, right, w, with_ranks(b, b.left - 1, 1));
-                    return lesser(floor, NO_KEY, other);
+                    return lesser(floor, no_key(), other);
                 }
             }
-            NO_KEY
+            no_key()
         }
-        Rule::Word(_, _, _) => NO_KEY,
+        Rule::Word(_, _, _) => no_key(),
     }
 }
 
@@ -82,12 +84,12 @@ pub fn least_initial(
     edges: &[u32],
     index: &[u32],
     c: Cell,
-    floor: usize,
-) -> usize
+    floor: Key,
+) -> Key
     requires { ⌜ InTable d c ⌝ }
-    ensures { λ x. ⌜ x ≡ leastInitial (now (t .entry)) d (now (rules .entry)) (now (edges .entry)) (now (index .entry)) c floor ⌝ }
+    ensures { λ x. ⌜ keyNumber x ≡ leastInitial (now (t .entry)) d (now (rules .entry)) (now (edges .entry)) (now (index .entry)) c (keyNumber floor) ⌝ }
 {
-    let leaf = leaves(rules, edges, index, c, floor, NO_KEY);
+    let leaf = leaves(rules, edges, index, c, floor, no_key());
     seeds(t, d, rules, index, c, floor, leaf)
 }
 
@@ -100,18 +102,12 @@ pub fn replacement(
     index: &[u32],
     c: Cell,
     last: Found,
-) -> usize
+) -> Key
     requires { ⌜ (InTable d c) × Digits (last .back) ⌝ }
-    ensures { λ x. ⌜ x ≡ replacement (now (t .entry)) d (now (rules .entry)) (now (edges .entry)) (now (index .entry)) c last ⌝ }
+    ensures { λ x. ⌜ keyNumber x ≡ replacement (now (t .entry)) d (now (rules .entry)) (now (edges .entry)) (now (index .entry)) c last ⌝ }
 {
-    let b = last.back;
-    if b.split == 0 {
+    if is_initial(last.back) {
         return least_initial(t, d, rules, edges, index, c, last.key);
-    }
-    if b.left == 0 {
-        if b.right == 0 {
-            return least_initial(t, d, rules, edges, index, c, last.key);
-        }
     }
     sibling(t, d, rules, c, last)
 }

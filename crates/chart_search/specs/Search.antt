@@ -14,7 +14,7 @@ use Rattle.chart_keys.specs.declared.BackPointer.{BackPointer}
 use Rattle.chart_keys.specs.Keys.{backPointer}
 use Rattle.chart_table.specs.declared.Cell.{Cell}
 use Rattle.chart_table.specs.declared.Layout.{Layout}
-use Rattle.chart_table.specs.Table.{cell, leftPart, rightPart, root, cellNumber, weightAt, backAt}
+use Rattle.chart_table.specs.Table.{cell, leftPart, rightPart, root, cellNumber, priceAt, backAt}
 use Rattle.chart_ranks.specs.Ranks.{firstRank, nextRank}
 
 -- what finds a rank of a cell in a table
@@ -24,7 +24,7 @@ Finder = List ℕ → Cell → ℕ → List ℕ
 -- a rank of a cell is looked for where it is kept and not found
 unfoldable pub extend : Layout → Finder → List ℕ → Cell → ℕ → List ℕ
 extend d next t c rank =
-    pick (ltb rank (d .ranks)) (pick (eqb (weightAt t d (cellNumber d c) rank) 0) (next t c rank) t) t
+    pick (ltb rank (d .ranks)) (pick (eqb (priceAt t d (cellNumber d c) rank) 0) (next t c rank) t) t
 
 unfoldable pub extendParts : Layout → Finder → List ℕ → Cell → BackPointer → Rule → List ℕ
 extendParts d next t c b (Pair h x y w) =
@@ -59,7 +59,7 @@ module _ (rules edges index : List ℕ) (d : Layout) where
   -- the further ranks of the root: each is looked for where the one before it is found
   unfoldable pub nextOfRoot : List ℕ → ℕ → List ℕ
   nextOfRoot t x =
-      pick (eqb (weightAt t d (cellNumber d (root d)) x) 0) t (extend d (nextOfSpan (d .places)) t (root d) (x + 1))
+      pick (eqb (priceAt t d (cellNumber d (root d)) x) 0) t (extend d (nextOfSpan (d .places)) t (root d) (x + 1))
 
   unfoldable pub search : List ℕ → List ℕ
   search t = iter nextOfRoot (firstPass t) (d .ranks - 1)

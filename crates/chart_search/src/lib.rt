@@ -9,9 +9,9 @@ use chart_table::Layout;
 use chart_table::back_at;
 use chart_table::cell_number;
 use chart_table::left_part;
+use chart_table::price_at;
 use chart_table::right_part;
 use chart_table::root;
-use chart_table::weight_at;
 use packing::Rule;
 use packing::Sym;
 ghost use mathlib.Core.Path.{_≡_};
@@ -90,7 +90,7 @@ fn extend(
     ensures { λ _. ⌜ ((f : ℕ) → c .to - c .from ≤ f → now (t .exit) ≡ extend d (nextOfSpan (now (rules .entry)) (now (edges .entry)) (now (index .entry)) d f) (now (t .entry)) c rank) ⌝ }
 {
     if rank < d.ranks {
-        if weight_at(&t[..], d, cell_number(d, c), rank) == 0 {
+        if price_at(&t[..], d, cell_number(d, c), rank) == 0 {
             next_of_span(t, rules, edges, index, d, c, rank);
         }
     }
@@ -155,7 +155,7 @@ fn next_of_root(t: &mut [u32], rules: &[u32], edges: &[u32], index: &[u32], d: L
     ensures { λ _. ⌜ now (t .exit) ≡ nextOfRoot (now (rules .entry)) (now (edges .entry)) (now (index .entry)) d (now (t .entry)) x ⌝ }
 {
     let c = root(d);
-    if weight_at(&t[..], d, cell_number(d, c), x) == 0 {
+    if price_at(&t[..], d, cell_number(d, c), x) == 0 {
         return;
     }
     extend(t, rules, edges, index, d, c, x + 1);

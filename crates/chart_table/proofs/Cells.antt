@@ -10,7 +10,7 @@ use lib.ListN.{getD}
 use borrow.Author.Tests.{lt-ltb}
 use Rattle.packing.specs.declared.Sym.{Sym}
 use Rattle.chart_table.specs.declared.Layout.{Layout}
-use Rattle.chart_table.specs.Table.{cell, cellNumber, entryOf, weightAt}
+use Rattle.chart_table.specs.Table.{cell, cellNumber, entryOf, priceIn, priceAt}
 
 -- how many spans end before place k
 abbrev pub spans : ℕ → ℕ
@@ -39,7 +39,7 @@ module _ (d : Layout) (a : Sym) (i k : ℕ) where
       let m : d .symbols * 4 * k ≡ k * d .symbols * 4 = simp (mul-assoc, mul-comm, mul-left-comm) in
       rw (e, m, add-mul (spans k + i) k (d .symbols)) (omega arith)
 
--- the weight of a first rank, which is always kept
-pub first-weight : (t : List ℕ) (d : Layout) (c : ℕ) → 0 < d .ranks → weightAt t d c 0 ≡ getD t (entryOf d c 0) 0
-unfolding weightAt
-first-weight t d c h = rw (lt-ltb 0 (d .ranks) h)
+-- the price of a first rank, which is always kept
+pub first-price : (t : List ℕ) (d : Layout) (c : ℕ) → 0 < d .ranks → priceAt t d c 0 ≡ priceIn t (entryOf d c 0)
+unfolding priceAt
+first-price t d c kept = rw (lt-ltb 0 (d .ranks) kept)

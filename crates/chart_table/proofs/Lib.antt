@@ -2,3 +2,4 @@
 pub mod Cells
 pub mod Places
 pub mod Zeros
+pub mod Keys

@@ -9,7 +9,7 @@ use Rattle.bits.specs.Bits.{pick}
 use Rattle.packing.specs.Meaning.{symbolOf}
 use Rattle.packing.specs.Loop.{iter}
 use Rattle.packing.specs.declared.Sym.{Sym}
-use Rattle.chart_keys.specs.Keys.{weightUnit, noKey}
+use Rattle.chart_keys.specs.Keys.{keyUnit, noKey}
 use Rattle.chart_table.specs.declared.Cell.{Cell}
 use Rattle.chart_table.specs.declared.Layout.{Layout}
 
@@ -37,35 +37,67 @@ abbrev pub root : Layout → Cell
 root d = cell (symbolOf 0) 0 (d .places)
 
 -- the number of a cell, and the entry of a rank of it: rank 0 of all cells stands first, cell by cell, then for each cell its
--- further ranks. An entry is four numbers: the weight plus 1 (0: not found), the back pointer as its third, and beside them
--- the last rank found (below) and the cell's queue (chart_queue). From here on a cell is given by its number
+-- further ranks. An entry is four numbers: the tree's price plus 1 (0: not found), its back pointer as the third, and beside them
+-- the cell's queue (chart_queue). From here on a cell is given by its number
 unfoldable pub cellNumber : Layout → Cell → ℕ
 cellNumber d c = (c .to * (c .to - 1) / 2 + c .from) * d .symbols + c .head .0
 
 unfoldable pub entryOf : Layout → ℕ → ℕ → ℕ
 entryOf d c rank = pick (eqb rank 0) (c * 4) ((d .cells + c * (d .ranks - 1) + (rank - 1)) * 4)
 
-unfoldable pub weightAt : List ℕ → Layout → ℕ → ℕ → ℕ
-weightAt t d c rank = pick (ltb rank (d .ranks)) (getD t (entryOf d c rank) 0) 0
+-- the price plus 1 is the first number and the lower 11 bits of the second
+abbrev pub priceOf : ℕ → ℕ → ℕ
+priceOf low high = high % 2048 * 4294967296 + low
+
+abbrev pub priceIn : List ℕ → ℕ → ℕ
+priceIn t at = priceOf (getD t at 0) (getD t (at + 1) 0)
+
+unfoldable pub priceAt : List ℕ → Layout → ℕ → ℕ → ℕ
+priceAt t d c rank = pick (ltb rank (d .ranks)) (priceIn t (entryOf d c rank)) 0
 
 unfoldable pub backAt : List ℕ → Layout → ℕ → ℕ → ℕ
 backAt t d c rank = getD t (entryOf d c rank + 2) 0
 
--- the last rank found of a cell is the fourth number of the entry of its first rank
+-- what stands beside the tree is the fourth number, and the upper 21 bits of the second: a number below `besides`, 2 ^ 53
+abbrev pub besides : ℕ
+besides = 9007199254740992
+
+unfoldable pub besideAt : List ℕ → Layout → ℕ → ℕ → ℕ
+besideAt t d c rank = getD t (entryOf d c rank + 1) 0 / 2048 * 4294967296 + getD t (entryOf d c rank + 3) 0
+
+-- each is written without the other
+unfoldable pub putBeside : List ℕ → Layout → ℕ → ℕ → ℕ → List ℕ
+putBeside t d c rank n =
+    set (set t (entryOf d c rank + 1) (n / 4294967296 * 2048 + getD t (entryOf d c rank + 1) 0 % 2048)) (entryOf d c rank + 3)
+    (n % 4294967296)
+
+unfoldable pub putFound : List ℕ → Layout → ℕ → ℕ → ℕ → ℕ → List ℕ
+putFound t d c rank price back =
+    set
+    (set (set t (entryOf d c rank) (price % 4294967296)) (entryOf d c rank + 1)
+    (getD t (entryOf d c rank + 1) 0 / 2048 * 2048 + price / 4294967296))
+    (entryOf d c rank + 2) (back % 4294967296)
+
+-- beside the first rank stand the queue's length (chart_queue), the last rank found, each below `counts`, and above them a back
+-- pointer of the queue
+abbrev pub counts : ℕ
+counts = 512
+
 unfoldable pub lastRank : List ℕ → Layout → ℕ → ℕ
-lastRank t d c = getD t (entryOf d c 0 + 3) 0
+lastRank t d c = besideAt t d c 0 / 512 % 512
 
 unfoldable pub putLastRank : List ℕ → Layout → ℕ → ℕ → List ℕ
-putLastRank t d c rank = pick (ltb (lastRank t d c) rank) (set t (entryOf d c 0 + 3) rank) t
+putLastRank t d c rank =
+    let n = besideAt t d c 0 in
+    pick (ltb (lastRank t d c) rank) (putBeside t d c 0 ((n / 262144 * 512 + rank) * 512 + n % 512)) t
 
 unfoldable pub putKey : List ℕ → Layout → ℕ → ℕ → ℕ → List ℕ
 putKey t d c rank key =
-    pick (ltb key noKey)
-    (putLastRank (set (set t (entryOf d c rank) (key / weightUnit)) (entryOf d c rank + 2) (key % weightUnit)) d c rank) t
+    pick (ltb key noKey) (putLastRank (putFound t d c rank (key / keyUnit) (key % keyUnit)) d c rank) t
 
 -- how many ranks of a cell are found
 unfoldable pub countFound : List ℕ → Layout → ℕ → ℕ
-countFound t d c = iter (λ m x. pick (eqb (weightAt t d c x) 0) m (m + 1)) 0 (d .ranks)
+countFound t d c = iter (λ m x. pick (eqb (priceAt t d c x) 0) m (m + 1)) 0 (d .ranks)
 
 -- how many ranks of a cell there are up to the last found, of those that are kept, and one where none is found
 unfoldable pub ranksToClear : List ℕ → Layout → ℕ → ℕ

@@ -1,23 +1,32 @@
 // The work table's cells and entries. Reads past its end give 0, and stores there do nothing.
 pub mod clearing;
 
+use arrays::narrow_at;
 use arrays::number_at;
 use arrays::store;
 use arrays::wide;
 use chart_keys::DIGITS;
-use chart_keys::NO_KEY;
-use chart_keys::WEIGHT_UNIT;
+use chart_keys::Key;
+use chart_keys::PRICES;
 use packing::Sym;
 ghost use mathlib.Core.Path.{_≡_};
-ghost use Prim.Native.Nat.{_<_, _≤_};
+ghost use Prim.Native.Nat.{_+_, _<_, _≤_};
 ghost use lib.ListN.{length, replicate};
-ghost use Rattle.chart_table.specs.Table.{lastPlace, cellBound, leftPart, rightPart, root, cellNumber, entryOf, weightAt, backAt, lastRank, putLastRank, putKey, countFound, Sized};
+ghost use Rattle.chart_keys.specs.Keys.{prices, keyNumber};
+ghost use Rattle.chart_table.specs.Table.{lastPlace, mostRanks, cellBound, besides, counts, leftPart, rightPart, root, cellNumber, entryOf, priceOf, priceIn, priceAt, backAt, besideAt, putBeside, putFound, lastRank, putLastRank, putKey, countFound, Sized};
 
 // The most ranks that are kept of a cell.
 pub const MOST_RANKS: usize = DIGITS;
 
 // An entry's numbers.
 pub const ENTRY_NUMBERS: usize = 4;
+
+// The numbers of 32 bits; those that the upper bits of a price are below; and those that a rank and a queue's length are below.
+const NUMBERS: usize = 4294967296;
+
+const PRICE_HIGH: usize = PRICES / NUMBERS;
+
+pub const COUNTS: usize = 512;
 
 // A head over a span.
 pub struct Cell {
@@ -86,13 +95,29 @@ pub fn entry_of(d: Layout, c: usize, rank: usize) -> usize
     }
 }
 
-// The weight plus 1 of a rank of a cell, or 0 where it is not found or not kept.
-pub fn weight_at(t: &[u32], d: Layout, c: usize, rank: usize) -> usize
+// The price of an entry's tree, plus 1, from the entry's first two numbers: of 64 bits the lower 43.
+fn price_of(low: u32, high: u32) -> usize
+    ensures { λ r. ⌜ (r ≡ priceOf low high) × (r < prices) ⌝ }
+{
+    (wide(high) * NUMBERS + wide(low)) % PRICES
+}
+
+// The same of an entry that stands in the table.
+pub fn price_within(t: &[u32], at: usize) -> usize
+    requires { ⌜ at + 1 < length (now t) ⌝ }
+    ensures { λ r. ⌜ (r ≡ priceIn (now (t .entry)) at) × (r < prices) ⌝ }
+{
+    price_of(t[at], t[at + 1])
+}
+
+// The price plus 1 of a rank of a cell, or 0 where it is not found or not kept.
+pub fn price_at(t: &[u32], d: Layout, c: usize, rank: usize) -> usize
     requires { ⌜ (Sized d) × (c < cellBound) ⌝ }
-    ensures { λ r. ⌜ (r ≡ weightAt (now (t .entry)) d c rank) × (r < 4294967296) ⌝ }
+    ensures { λ r. ⌜ (r ≡ priceAt (now (t .entry)) d c rank) × (r < prices) ⌝ }
 {
     if rank < d.ranks {
-        number_at(t, entry_of(d, c, rank))
+        let at = entry_of(d, c, rank);
+        price_of(narrow_at(t, at), narrow_at(t, at + 1))
     } else {
         0
     }
@@ -106,33 +131,74 @@ pub fn back_at(t: &[u32], d: Layout, c: usize, rank: usize) -> usize
     number_at(t, entry_of(d, c, rank) + 2)
 }
 
+// What stands beside the tree of an entry, a number of 53 bits: the fourth number, and above it 21 bits of the second.
+pub fn beside_at(t: &[u32], d: Layout, c: usize, rank: usize) -> usize
+    requires { ⌜ (Sized d) × (c < cellBound) × (rank ≤ 512) ⌝ }
+    ensures { λ r. ⌜ (r ≡ besideAt (now (t .entry)) d c rank) × (r < besides) ⌝ }
+{
+    let at = entry_of(d, c, rank);
+    number_at(t, at + 1) / PRICE_HIGH * NUMBERS + number_at(t, at + 3)
+}
+
+// Writes what stands beside the tree of an entry; the tree stays.
+pub fn put_beside(t: &mut [u32], d: Layout, c: usize, rank: usize, n: usize)
+    requires { ⌜ (Sized d) × (c < cellBound) × (rank ≤ 512) × (n < besides) ⌝ }
+    ensures { λ _. ⌜ now (t .exit) ≡ putBeside (now (t .entry)) d c rank n ⌝ }
+{
+    let at = entry_of(d, c, rank);
+    let high = number_at(&t[..], at + 1) % PRICE_HIGH;
+    store(t, at + 1, (n / NUMBERS * PRICE_HIGH + high) as u32);
+    store(t, at + 3, (n % NUMBERS) as u32);
+}
+
+// Writes the tree of an entry; what stands beside it stays.
+fn put_found(t: &mut [u32], d: Layout, c: usize, rank: usize, key: Key)
+    requires { ⌜ (Sized d) × (c < cellBound) × (rank ≤ 512) × (key .price < prices) ⌝ }
+    ensures { λ _. ⌜ now (t .exit) ≡ putFound (now (t .entry)) d c rank (key .price) (key .back) ⌝ }
+{
+    let at = entry_of(d, c, rank);
+    let beside = number_at(&t[..], at + 1) / PRICE_HIGH;
+    store(t, at, (key.price % NUMBERS) as u32);
+    store(
+        t,
+        at + 1,
+        (beside * PRICE_HIGH + key.price / NUMBERS) as u32,
+    );
+    store(t, at + 2, (key.back % NUMBERS) as u32);
+}
+
 // The last rank found of a cell, which stands beside the first.
 fn last_rank(t: &[u32], d: Layout, c: usize) -> usize
     requires { ⌜ (Sized d) × (c < cellBound) ⌝ }
-    ensures { λ r. ⌜ (r ≡ lastRank (now (t .entry)) d c) × (r < 4294967296) ⌝ }
+    ensures { λ r. ⌜ (r ≡ lastRank (now (t .entry)) d c) × (r < counts) ⌝ }
 {
-    number_at(t, entry_of(d, c, 0) + 3)
+    beside_at(t, d, c, 0) / COUNTS % COUNTS
 }
 
 // A rank is found, and is the last one unless one behind it was.
 fn put_last_rank(t: &mut [u32], d: Layout, c: usize, rank: usize)
-    requires { ⌜ (Sized d) × (c < cellBound) × (rank ≤ 512) ⌝ }
+    requires { ⌜ (Sized d) × (c < cellBound) × (rank ≤ mostRanks) ⌝ }
     ensures { λ _. ⌜ now (t .exit) ≡ putLastRank (now (t .entry)) d c rank ⌝ }
 {
-    if last_rank(&t[..], d, c) < rank {
-        store(t, entry_of(d, c, 0) + 3, rank as u32);
+    let tally = beside_at(&t[..], d, c, 0);
+    if tally / COUNTS % COUNTS < rank {
+        put_beside(
+            t,
+            d,
+            c,
+            0,
+            (tally / (COUNTS * COUNTS) * COUNTS + rank) * COUNTS + tally % COUNTS,
+        );
     }
 }
 
-// Writes a key at a rank of a cell; NO_KEY and what is above it change nothing.
-pub fn put_key(t: &mut [u32], d: Layout, c: usize, rank: usize, key: usize)
-    requires { ⌜ (Sized d) × (c < cellBound) × (rank ≤ 512) ⌝ }
-    ensures { λ _. ⌜ now (t .exit) ≡ putKey (now (t .entry)) d c rank key ⌝ }
+// Writes a key at a rank of a cell; the key of no tree and what is above it change nothing.
+pub fn put_key(t: &mut [u32], d: Layout, c: usize, rank: usize, key: Key)
+    requires { ⌜ (Sized d) × (c < cellBound) × (rank ≤ mostRanks) ⌝ }
+    ensures { λ _. ⌜ now (t .exit) ≡ putKey (now (t .entry)) d c rank (keyNumber key) ⌝ }
 {
-    if key < NO_KEY {
-        let at = entry_of(d, c, rank);
-        store(t, at, (key / WEIGHT_UNIT) as u32);
-        store(t, at + 2, (key % WEIGHT_UNIT) as u32);
+    if key.price < PRICES {
+        put_found(t, d, c, rank, key);
         put_last_rank(t, d, c, rank);
     }
 }
@@ -155,7 +221,7 @@ pub fn count_found(t: &[u32], d: Layout, c: usize) -> usize
     let ranks = d.ranks;
     let mut m: usize = 0;
     for x in 0..ranks {
-        if weight_at(t, d, c, x) != 0 {
+        if price_at(t, d, c, x) != 0 {
             m = m + 1;
         }
     }

@@ -19,7 +19,7 @@ use Rattle.derivation.specs.Heard.{trace}
 use Rattle.derivation.specs.HeardList.{derivations, leastDerivations}
 use Rattle.derivation.proofs.Lists.{at-take}
 use Rattle.derivation.proofs.Ranges.{all-at, Within, valid-rules, valid-sizes, valid-within, valid-light}
-use Rattle.derivation.proofs.Paths.{forward-weight}
+use Rattle.derivation.proofs.Paths.{forward-weight, forward-costs}
 use Rattle.derivation.proofs.HeardReadings.{heard-forward, heard-cheap, heard-last}
 use Rattle.chart_table.specs.declared.Layout.{Layout}
 use Rattle.chart_table.specs.Table.{root, clear}
@@ -94,10 +94,12 @@ module _ (g : Grammar) (h : Heard) (N : ℕ) where
           (valid-rules g okg) (valid-sizes g okg .1) few-edges few-places (rw length-replicate (le-refl indexNumbers));
       parts = λ A B C r w p.
           let (a, b, c) = all-at (Within (g .symbols) (g .words)) (g .rules) r (valid-within g okg) p in (b, c);
-      weight-bound = λ c z within p.
+      price-bound = λ c z within p.
           let forward = heard-forward (g .words) h okh in
-          let bound = forward-weight g (heardEdges h) forward (valid-light g okg) (heard-cheap (g .words) h okh) p in
-          omega (arith, bound, heard-last (g .words) h okh);
+          let weight = forward-weight g (heardEdges h) forward (valid-light g okg) (heard-cheap (g .words) h okh) p in
+          let costs = forward-costs g (heardEdges h) forward p in
+          let n = heard-last (g .words) h okh in
+          (omega arith, omega arith);
     }
 
     in-root : InChart layout (root layout)

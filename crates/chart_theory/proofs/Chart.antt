@@ -1,20 +1,22 @@
 -- The chart's theorem: from a table of zeros the search finds the ranked derivations of the root, the least first, each at its
 -- rank, as many as are kept or as there are; a found rank has the weight of its derivation, its back trace has the nodes of the derivation, and
 -- clearing the entries found leaves zeros. For the search keeps the invariant, and in the end knows every rank that is kept.
-use mathlib.Core.Path.{_≡_, refl}
+use mathlib.Core.Path.{_≡_, refl, ap, _∙_}
 use mathlib.Core.List.{List}
-use Prim.Native.Nat.{ℕ, zero, suc, _-_, _*_, _≤_, _<_, min}
+use Prim.Native.Nat.{ℕ, zero, suc, _+_, _-_, _*_, _/_, _≤_, _<_, min}
 use native.Mathlib.Omega.{arith}
 use lib.ListN.{length, replicate, length-replicate}
 use Rattle.packing.specs.Meaning.{Grammar, Edge}
 use Rattle.packing.specs.Flat.{nodesIn}
 use Rattle.derivation.specs.Derivation.{At, Tree, weight}
 use Rattle.derivation.specs.Heard.{trace}
-use Rattle.derivation.proofs.Rows.{row-weight}
+use Rattle.derivation.proofs.Rows.{Price, price, weightIn, costsIn, rowPrice, row-price}
+use Rattle.chart_keys.specs.Keys.{weightUnit}
 use Rattle.chart_table.specs.declared.Layout.{Layout}
 use Rattle.chart_table.specs.Table.{root, cellNumber, clear}
 use Rattle.chart_search.specs.Search.{search}
 use Rattle.chart.specs.Chart.{rootsFound, rootWeight, rootTrace}
+use Rattle.chart_theory.proofs.Table.Keys.{priceNumber}
 use Rattle.chart_theory.proofs.Table.Cells.{InChart, rankedIn}
 use Rattle.chart_theory.proofs.Table.Entries.{cell-below, found-kept}
 use Rattle.chart_theory.proofs.Table.Cleared.{clear-zeros}
@@ -33,6 +35,10 @@ pub record Lists (g : Grammar) (es : List Edge) (rules : List ℕ) (d : Layout) 
   pub number : rootsFound t d ≡ min (d .ranks) (length (rankedIn g es (root d)))
   pub each : (x : ℕ) → x < rootsFound t d → (z : Tree) × RankIs g es rules d t x z
   pub clears : clear t d ≡ replicate (length t) 0
+
+-- the weight of a price
+weight-of : {n : ℕ} (a : Price) → n ≡ priceNumber a + 1 → costsIn a < weightUnit → (n - 1) / weightUnit ≡ weightIn a
+weight-of (price w s) e cheap = rw e (omega arith)
 
 replicate-zeros : (len : ℕ) → Zeros (replicate len 0)
 replicate-zeros zero y = refl
@@ -67,7 +73,7 @@ module _ {g : Grammar} {es : List Edge} {rules edges index : List ℕ} {d : Layo
             z,
             record {
               place = place;
-              weighs = omega (arith, held .weighs, row-weight g es o);
+              weighs = weight-of (rowPrice v) (held .priced) (held .fits .cheap) ∙ ap weightIn (row-price g es o);
               nodes = traced s (listed .invariant) (d .places) (root d) x z in-root (omega arith) found place;
             },
           )

@@ -12,16 +12,18 @@ use Rattle.packing.specs.declared.Rule.the-variants.{Pair}
 use Rattle.packing.specs.Meaning.{word, Grammar, Edge, edge}
 use Rattle.packing.specs.Flat.{ruleAt}
 use Rattle.derivation.specs.Derivation.{At, Tree, weight}
-use Rattle.derivation.proofs.Rows.{Row, row, rowWeight}
-use Rattle.chart_keys.specs.Keys.{backNumber, backPointer}
+use Rattle.derivation.specs.Order.{costSum}
+use Rattle.derivation.proofs.Rows.{Row, row}
+use Rattle.chart_keys.specs.Keys.{weightUnit, backNumber, backPointer}
 use Rattle.chart_table.specs.declared.Cell.{Cell}
 use Rattle.chart_table.specs.declared.Layout.{Layout}
-use Rattle.chart_table.specs.Table.{leftPart, rightPart, cellNumber, weightAt, backAt, lastRank}
+use Rattle.chart_table.specs.Table.{leftPart, rightPart, cellNumber, priceAt, backAt, lastRank}
 use Rattle.chart_queue.specs.Queue.{queuedKey, queueLength}
 use Rattle.chart_index.specs.Index.{Indexed}
-use Rattle.chart_theory.proofs.Table.Keys.{rowBack, RowFits, decoded}
+use Rattle.chart_theory.proofs.Table.Keys.{rowNumber, rowBack, RowFits, decoded}
 use Rattle.chart_theory.proofs.Table.Cells.{InChart, Planned, span, rankedIn, DerivesIn, RowAtIn}
 use Rattle.chart_theory.proofs.Table.Entries.{InEntry}
+use Rattle.chart_theory.proofs.Queue.Numbers.{tagAt}
 use Rattle.chart_theory.proofs.Queue.Pool.{Queue, Fresh}
 
 -- the arrays hold the grammar and the edges, the index is theirs, and a key has room for all of their numbers
@@ -38,14 +40,15 @@ pub record Setting (g : Grammar) (es : List Edge) (rules edges index : List ℕ)
       (edge (getD edges (4 * e) 0) (getD edges (4 * e + 1) 0) (word (getD edges (4 * e + 2) 0)) (getD edges (4 * e + 3) 0))
   pub indexed : Indexed rules edges index (d .symbols) (length (g .rules)) (length es) (d .places)
   pub parts : (A B C : Sym) (r w : ℕ) → At (g .rules) r (Pair A B C w) → (B .0 < d .symbols) × (C .0 < d .symbols)
-  pub weight-bound : (c : Cell) (z : Tree) → c .to ≤ d .places → DerivesIn g es c z → weight g es z < 16777216
+  pub price-bound : (c : Cell) (z : Tree) → c .to ≤ d .places → DerivesIn g es c z
+      → (weight g es z < 5592405) × (costSum es z < weightUnit)
 
--- the weight of a rank of a cell, plus 1; the rank, from 0, is found
-abbrev pub weightIn : Layout → List ℕ → Cell → ℕ → ℕ
-weightIn d t c = weightAt t d (cellNumber d c)
+-- the price of a rank of a cell, plus 1; the rank, from 0, is found
+abbrev pub priceIn : Layout → List ℕ → Cell → ℕ → ℕ
+priceIn d t c = priceAt t d (cellNumber d c)
 
 abbrev pub Found : Layout → List ℕ → Cell → ℕ → Type 0
-Found d t c x = 0 < weightIn d t c x
+Found d t c x = 0 < priceIn d t c x
 
 module _ (g : Grammar) (es : List Edge) (d : Layout) (t : List ℕ) where
   -- rank x is found, or there is none, or it is not kept
@@ -68,18 +71,19 @@ module _ (g : Grammar) (es : List Edge) (d : Layout) (t : List ℕ) (c : Cell) w
   pub record HoldsRow (x : ℕ) (v : Row) : Type 0 where
     pub place : RowAtIn g es c x v
     pub fits : RowFits v
-    pub weighs : weightIn d t c x ≡ rowWeight v + 1
+    pub priced : priceIn d t c x ≡ rowNumber v + 1
     pub points : backAt t d (cellNumber d c) x ≡ backNumber (rowBack v)
     pub parts : PartsFound v
 
   pub row-back : {v : Row} (x : ℕ) → HoldsRow x v → backPointer (backAt t d (cellNumber d c) x) ≡ rowBack v
-  row-back {v} x holds = rw (holds .points) (decoded (rowBack v) (holds .fits))
+  row-back {v} x holds = rw (holds .points) (decoded (rowBack v) (holds .fits .has-key))
 
 module _ (g : Grammar) (es : List Edge) (d : Layout) (t : List ℕ) (c : Cell) where
   -- the queue of the cell where n ranks are found, of which l is the last, and a candidate that follows o
   abbrev pub QueueIn : ℕ → Row → Type 0
   QueueIn n l =
       Queue g es (d .ranks) c (PartsFound g es d t c) n l (queueLength t d (cellNumber d c)) (queuedKey t d (cellNumber d c))
+      (tagAt t d (cellNumber d c))
 
   abbrev pub FreshIn : (n : ℕ) → Row → (o key : ℕ) → Type 0
   FreshIn = Fresh g es (d .ranks) c (PartsFound g es d t c)
@@ -95,13 +99,13 @@ pub record Invariant (g : Grammar) (es : List Edge) (d : Layout) (m : ℕ) (t : 
   pub nonzero-found : (z : ℕ) → 0 < getD t z 0
       → (c : Cell) × (x : ℕ) × InChart d c × Found d t c x × InEntry d (cellNumber d c) x z
   pub last : {c : Cell} (x : ℕ) → InChart d c → Found d t c x → x ≤ lastRank t d (cellNumber d c)
-  pub no-queue : {c : Cell} → InChart d c → weightIn d t c 0 ≡ 0 → queueLength t d (cellNumber d c) ≡ 0
-  pub queued : {c : Cell} {v : Row} (x : ℕ) → InChart d c → Found d t c x → suc x < d .ranks → weightIn d t c (suc x) ≡ 0
+  pub no-queue : {c : Cell} → InChart d c → priceIn d t c 0 ≡ 0 → queueLength t d (cellNumber d c) ≡ 0
+  pub queued : {c : Cell} {v : Row} (x : ℕ) → InChart d c → Found d t c x → suc x < d .ranks → priceIn d t c (suc x) ≡ 0
       → RowAtIn g es c x v → QueueIn g es d t c (suc x) v
 
 -- u has found what t has
 pub record Grows (d : Layout) (t u : List ℕ) : Type 0 where
-  pub keeps : (c x : ℕ) → 0 < weightAt t d c x → 0 < weightAt u d c x
+  pub keeps : (c x : ℕ) → 0 < priceAt t d c x → 0 < priceAt u d c x
 
 module _ (g : Grammar) (es : List Edge) {d : Layout} {t u : List ℕ} (grows : Grows d t u) where
   pub known-grows : (c : Cell) (x : ℕ) → Known g es d t c x → Known g es d u c x

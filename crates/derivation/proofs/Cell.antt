@@ -5,7 +5,7 @@ use mathlib.Core.List.{List}
 use Prim.Native.Nat.{ℕ, compare}
 use Rattle.packing.specs.declared.Sym.{Sym}
 use Rattle.packing.specs.Meaning.{Grammar, Edge}
-use Rattle.derivation.specs.Derivation.{At, Tree, Derives, weight}
+use Rattle.derivation.specs.Derivation.{At, Tree, Derives}
 use Rattle.derivation.specs.Order.{order}
 use Rattle.derivation.specs.Rank.{_∈_}
 use Rattle.derivation.specs.List.{trees, ranked}
@@ -16,8 +16,8 @@ use Rattle.derivation.proofs.Sorted.{Ascending, at-order, sort-mem, sor
 use Rattle.derivation.proofs.Trees.{trees-derive}
 
 module _ (g : Grammar) (es : List Edge) (A : Sym) (i k : ℕ) where
-  law : Lawful (order (weight g es))
-  law = order-lawful (weight g es)
+  law : Lawful (order g es)
+  law = order-lawful g es
 
   pub ranked-derives : (t : Tree) → t ∈ ranked g es A i k ↔ Derives g es A i k t
   unfolding ranked
@@ -26,12 +26,12 @@ module _ (g : Grammar) (es : List Edge) (A : Sym) (i k : ℕ) where
     (λ d. sort-mem law (trees g es A i k) t .1 (trees-derive g es A i k t .1 d)),
   )
 
-  pub ranked-ascending : Ascending (order (weight g es)) (ranked g es A i k)
+  pub ranked-ascending : Ascending (order g es) (ranked g es A i k)
   unfolding ranked
   ranked-ascending = sort-ascending law (trees g es A i k)
 
   pub ranked-order : (m n : ℕ) {s t : Tree} → At (ranked g es A i k) m s → At (ranked g es A i k) n t
-      → order (weight g es) s t ≡ compare m n
+      → order g es s t ≡ compare m n
   ranked-order m n {s} {t} e f = at-order law (ranked g es A i k) m n s t ranked-ascending e f
 
   -- a place holds a tree, and a tree has a place

@@ -143,10 +143,15 @@ pub weigh : (m n : ℕ) (o : Ordering) → compare m n ▸ o ≡ Ordering·lt �
 weigh m n o h =
     ⊎-elim (λ e. omega (arith, compare-below m n e)) (λ e. omega (arith, compare-same m n (e .0))) (▸-lt (compare m n) o h)
 
-pub ▸-le : (m n : ℕ) (o : Ordering) → m ≤ n → o ≡ Ordering·lt → compare m n ▸ o ≡ Ordering·lt
+-- what is left to say where two numbers are equal
+pub ▸-rest : (m n : ℕ) (o : Ordering) → m ≡ n → compare m n ▸ o ≡ Ordering·lt → o ≡ Ordering·lt
+▸-rest m n o e h =
+    ⊎-elim (λ l. absurd (omega (arith, compare-below m n l))) (λ l. l .1) (▸-lt (compare m n) o h)
+
+pub ▸-le : (m n : ℕ) (o : Ordering) → m ≤ n → (m ≡ n → o ≡ Ordering·lt) → compare m n ▸ o ≡ Ordering·lt
 ▸-le m n o h e = go (compare m n) refl
   where
     go : (c : Ordering) → compare m n ≡ c → compare m n ▸ o ≡ Ordering·lt
     go Ordering·lt p = ▸-first _ o p
-    go Ordering·eq p = ▸-second _ o p e
+    go Ordering·eq p = ▸-second _ o p (e (compare-same m n p))
     go Ordering·gt p = absurd (omega (arith, compare-below n m (turn-gt compare-lawful m n p)))

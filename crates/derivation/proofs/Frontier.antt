@@ -13,13 +13,13 @@ use Rattle.packing.specs.declared.Word as W
 use Rattle.packing.specs.declared.Rule.the-variants.{Pair, Word}
 use Rattle.packing.specs.Meaning.{Grammar, Edge, edge}
 use Rattle.derivation.specs.Derivation.{At, Offered, Tree, leaf, node, Derives, weight}
-use Rattle.derivation.specs.Order.{order, Before}
+use Rattle.derivation.specs.Order.{costSum, order, Before}
 use Rattle.derivation.specs.List.{ranked}
 use Rattle.derivation.proofs.Comparison.{compare-self, compare-lt, compare-below, ▸-le, ▸-first, ▸-second}
-use Rattle.derivation.proofs.Order.{order-lawful, order-weight}
+use Rattle.derivation.proofs.Order.{order-lawful, order-price}
 use Rattle.derivation.proofs.Lists.{at-length, length-at}
 use Rattle.derivation.proofs.Cell.{ranked-order, derives-place}
-use Rattle.derivation.proofs.Rows.{Row, row, rowWeight, rowOrder, RowOf, leaf-row, node-row, row-weight, row-derives, row-order, RowAt, place-row}
+use Rattle.derivation.proofs.Rows.{Price, price, joined, Row, row, rowPrice, rowOrder, RowOf, leaf-row, node-row, row-price, row-derives, row-order, RowAt, place-row}
 
 at-pred : {A : Type 0} {x : A} (l : List A) (n : ℕ) → At l (suc n) x → (y : A) × At l n y
 at-pred l n e = length-at l n (omega (arith, at-length l (suc n) e))
@@ -27,16 +27,21 @@ at-pred l n e = length-at l n (omega (arith, at-length l (suc n) e))
 module _ (g : Grammar) (es : List Edge) where
   -- a node whose part comes earlier comes earlier
   node-left : (r j : ℕ) (s s′ t : Tree) → Before g es s s′ → Before g es (node r j s t) (node r j s′ t)
-  unfolding order weight
+  unfolding order weight costSum
   node-left r j s s′ t h =
-      ▸-le _ _ _ (omega (arith, order-weight (weight g es) s s′ h))
-      (▸-second _ _ (compare-self r) (▸-second _ _ (compare-self j) (▸-first _ _ h)))
+      let (lighter, cheaper) = order-price g es s s′ h in
+      ▸-le _ _ _ (omega arith) (λ e.
+      let c = cheaper (omega arith) in
+      ▸-le _ _ _ (omega arith) (λ _. ▸-second _ _ (compare-self r) (▸-second _ _ (compare-self j) (▸-first _ _ h))))
 
   node-right : (r j : ℕ) (s t t′ : Tree) → Before g es t t′ → Before g es (node r j s t) (node r j s t′)
-  unfolding order weight
+  unfolding order weight costSum
   node-right r j s t t′ h =
-      ▸-le _ _ _ (omega (arith, order-weight (weight g es) t t′ h))
-      (▸-second _ _ (compare-self r) (▸-second _ _ (compare-self j) (▸-second _ _ (order-lawful (weight g es) .self s) h)))
+      let (lighter, cheaper) = order-price g es t t′ h in
+      ▸-le _ _ _ (omega arith) (λ e.
+      let c = cheaper (omega arith) in
+      ▸-le _ _ _ (omega arith) (λ _.
+      ▸-second _ _ (compare-self r) (▸-second _ _ (compare-self j) (▸-second _ _ (order-lawful g es .self s) h))))
 
   module _ (A : Sym) (i k : ℕ) where
     -- an earlier tree has an earlier place
@@ -80,24 +85,24 @@ module _ (g : Grammar) (es : List Edge) where
     -- the frontier at place m, of N places: leaves, first with first, and both followers of each row before place m
     pub data Frontier (N m : ℕ) : Row → Type 0 where
       a-leaf : {x : W.Word} {r e w c : ℕ} → At (g .rules) r (Word A x w) → Offered es e (edge i k x c)
-          → Frontier N m (row (w + c) r 0 e 0)
+          → Frontier N m (row (price (w + c) c) r 0 e 0)
       a-seed : {B C : Sym} {r w j : ℕ} {vl vr : Row} → At (g .rules) r (Pair A B C w) → i < j → j < k → RowAt g es B i j 0 vl
-          → RowAt g es C j k 0 vr → Frontier N m (row (w + rowWeight vl + rowWeight vr) r j 0 0)
-      right-follower : {B C : Sym} {r w j p q x w′ : ℕ} {vl vr : Row} → At (g .rules) r (Pair A B C w) → i < j → j < k → x < m
+          → RowAt g es C j k 0 vr → Frontier N m (row (joined w (rowPrice vl) (rowPrice vr)) r j 0 0)
+      right-follower : {B C : Sym} {r w j p q x : ℕ} {w′ : Price} {vl vr : Row} → At (g .rules) r (Pair A B C w) → i < j → j < k → x < m
           → RowAt g es A i k x (row w′ r j p q)
           → p < N → suc q < N → RowAt g es B i j p vl → RowAt g es C j k (suc q) vr
-          → Frontier N m (row (w + rowWeight vl + rowWeight vr) r j p (suc q))
-      left-follower : {B C : Sym} {r w j p x w′ : ℕ} {vl vr : Row} → At (g .rules) r (Pair A B C w) → i < j → j < k → x < m
+          → Frontier N m (row (joined w (rowPrice vl) (rowPrice vr)) r j p (suc q))
+      left-follower : {B C : Sym} {r w j p x : ℕ} {w′ : Price} {vl vr : Row} → At (g .rules) r (Pair A B C w) → i < j → j < k → x < m
           → RowAt g es A i k x (row w′ r j p 0)
           → suc p < N → RowAt g es B i j (suc p) vl → RowAt g es C j k 0 vr
-          → Frontier N m (row (w + rowWeight vl + rowWeight vr) r j (suc p) 0)
+          → Frontier N m (row (joined w (rowPrice vl) (rowPrice vr)) r j (suc p) 0)
 
     -- a row whose parts are rows of their cells is a tree's
     paired : {B C : Sym} {r w j p q : ℕ} {vl vr : Row} → At (g .rules) r (Pair A B C w) → i < j → j < k
         → RowAt g es B i j p vl → RowAt g es C j k q vr
-        → (t : Tree) × RowOf g es A i k (row (w + rowWeight vl + rowWeight vr) r j p q) t
+        → (t : Tree) × RowOf g es A i k (row (joined w (rowPrice vl) (rowPrice vr)) r j p q) t
     paired {r = r} {j = j} e h₁ h₂ (s, l, o) (t, n, o′) =
-        (node r j s t, rw (row-weight g es o, row-weight g es o′) (node-row e h₁ h₂ l n))
+        (node r j s t, rw (row-price g es o, row-price g es o′) (node-row e h₁ h₂ l n))
 
     pub frontier-row : (N m : ℕ) {v : Row} → Frontier N m v → (t : Tree) × RowOf g es A i k v t
     frontier-row N m (a-leaf {r = r} {e = e} p q) = (leaf r e, leaf-row p q)
@@ -105,26 +110,30 @@ module _ (g : Grammar) (es : List Edge) where
     frontier-row N m (right-follower p h₁ h₂ x f a b l n) = paired p h₁ h₂ l n
     frontier-row N m (left-follower p h₁ h₂ x f a l n) = paired p h₁ h₂ l n
 
+    with-prices : (w : ℕ) {N m r j p q : ℕ} {a a′ b b′ : Price} → a ≡ a′ → b ≡ b′ → Frontier N m (row (joined w a b) r j p q)
+        → Frontier N m (row (joined w a′ b′) r j p q)
+    with-prices w e f on = rw (← e, ← f) on
+
     frontier : (N m : ℕ) {v : Row} {t : Tree} → m < N → At (ranked g es A i k) m t → RowOf g es A i k v t → Frontier N m v
     frontier N m h f (leaf-row p q) = a-leaf p q
-    frontier N m h f (node-row {B} {C} {j = j} {p = zero} {q = zero} rule h₁ h₂ l n) =
+    frontier N m h f (node-row {B} {C} {w = w} {j = j} {p = zero} {q = zero} rule h₁ h₂ l n) =
         let (vl, a) = place-row g es B i j 0 l in
         let (vr, b) = place-row g es C j k 0 n in
-        rw (← row-weight g es a, ← row-weight g es b) (a-seed rule h₁ h₂ (_, l, a) (_, n, b))
-    frontier N m h f (node-row {B} {C} {j = j} {p = suc p} {q = zero} rule h₁ h₂ l n) =
+        with-prices w (row-price g es a) (row-price g es b) (a-seed rule h₁ h₂ (_, l, a) (_, n, b))
+    frontier N m h f (node-row {B} {C} {w = w} {j = j} {p = suc p} {q = zero} rule h₁ h₂ l n) =
         let (vl, a) = place-row g es B i j (suc p) l in
         let (vr, b) = place-row g es C j k 0 n in
         let (x, s′, y, f′, l′) = left-before rule h₁ h₂ m p zero l n f in
         let low = left-bound rule h₁ h₂ (suc p) m zero l n f in
-        rw (← row-weight g es a, ← row-weight g es b)
+        with-prices w (row-price g es a) (row-price g es b)
         (left-follower rule h₁ h₂ y (_, f′, node-row rule h₁ h₂ l′ n) (omega arith) (_, l, a) (_, n, b))
-    frontier N m h f (node-row {B} {C} {j = j} {p = p} {q = suc q} rule h₁ h₂ l n) =
+    frontier N m h f (node-row {B} {C} {w = w} {j = j} {p = p} {q = suc q} rule h₁ h₂ l n) =
         let (vl, a) = place-row g es B i j p l in
         let (vr, b) = place-row g es C j k (suc q) n in
         let (x, t′, y, f′, n′) = right-before rule h₁ h₂ m p q l n f in
         let low = left-bound rule h₁ h₂ p m (suc q) l n f in
         let low′ = right-bound rule h₁ h₂ (suc q) m p l n f in
-        rw (← row-weight g es a, ← row-weight g es b)
+        with-prices w (row-price g es a) (row-price g es b)
         (right-follower {p = p} rule h₁ h₂ y (_, f′, node-row rule h₁ h₂ l n′) (omega arith) (omega arith) (_, l, a) (_, n, b))
 
     -- above the row just before place m
@@ -140,7 +149,7 @@ module _ (g : Grammar) (es : List Edge) where
     not-known y (suc x) b (t, f, o) above c =
         let (s, e) = length-at (ranked g es A i k) x b in
         let (l, o′) = place-row g es A i k x e in
-        let order : order (weight g es) s t ≡ Ordering·lt = row-order g es o′ o ∙ above x l refl (s, e, o′) in
+        let order : order g es s t ≡ Ordering·lt = row-order g es o′ o ∙ above x l refl (s, e, o′) in
         omega (arith, compare-below x y (sym (ranked-order g es A i k x y e f) ∙ order))
 
     -- what is on the frontier and beyond, and above nothing else that is, is the next row

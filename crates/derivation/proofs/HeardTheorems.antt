@@ -46,8 +46,8 @@ module _ (g : Grammar) (u : Utterance) where
   redrawn-rank t k = rw last-slot (λ r. r, λ r. r)
 
 module _ (g : Grammar) (h : Heard) where
-  law : Lawful (order (weight g (heardEdges h)))
-  law = order-lawful (weight g (heardEdges h))
+  law : Lawful (order g (heardEdges h))
+  law = order-lawful g (heardEdges h)
 
   -- "There are finitely many": the list has each once and nothing else.
   pub finitely-many : Number (Derivation g h) (length (derivations g h))
@@ -55,9 +55,9 @@ module _ (g : Grammar) (h : Heard) where
 
   -- "of two different ones, one always comes before the other in the order", never itself, and no circle is possible
   pub one-comes-before : (s t : Tree) → (s ≡ t) ⊎ (Before g (heardEdges h) s t ⊎ Before g (heardEdges h) t s)
-  one-comes-before s t = go (order (weight g (heardEdges h)) s t) refl
+  one-comes-before s t = go (order g (heardEdges h) s t) refl
     where
-      go : (o : Ordering) → order (weight g (heardEdges h)) s t ≡ o → (s ≡ t) ⊎ (Before g (heardEdges h) s t ⊎ Before g (heardEdges h) t s)
+      go : (o : Ordering) → order g (heardEdges h) s t ≡ o → (s ≡ t) ⊎ (Before g (heardEdges h) s t ⊎ Before g (heardEdges h) t s)
       go Ordering·lt e = inr (inl e)
       go Ordering·eq e = inl (law .same s t e)
       go Ordering·gt e = inr (inr (turn-gt law s t e))

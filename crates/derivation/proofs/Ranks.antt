@@ -8,7 +8,7 @@ use lib.ListN.{length, take}
 use lib.Seq.{length-take-le}
 use Rattle.packing.specs.declared.Sym.{Sym}
 use Rattle.packing.specs.Meaning.{Grammar, Edge}
-use Rattle.derivation.specs.Derivation.{At, Tree, Derives, weight}
+use Rattle.derivation.specs.Derivation.{At, Tree, Derives}
 use Rattle.derivation.specs.Order.{order, Before}
 use Rattle.derivation.specs.Rank.{Number}
 use Rattle.derivation.specs.List.{ranked}
@@ -19,13 +19,13 @@ use Rattle.derivation.proofs.Sorted.{Ascending, ascending-distinct, tak
 use Rattle.derivation.proofs.Cell.{ranked-derives, ranked-ascending, place-derives, derives-place}
 
 module _ (g : Grammar) (es : List Edge) (A : Sym) (i k : ℕ) where
-  law : Lawful (order (weight g es))
-  law = order-lawful (weight g es)
+  law : Lawful (order g es)
+  law = order-lawful g es
 
   all : List Tree
   all = ranked g es A i k
 
-  ascending : Ascending (order (weight g es)) all
+  ascending : Ascending (order g es) all
   unfolding all
   ascending = ranked-ascending g es A i k
 

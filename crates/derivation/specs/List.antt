@@ -10,7 +10,7 @@ use Rattle.packing.specs.declared.Rule as R
 use Rattle.packing.specs.declared.Rule.the-variants.{Pair, Word}
 use Rattle.packing.specs.Meaning.{notHeard, Grammar, Edge, edge}
 use Rattle.derivation.specs.Derivation.{Tree, leaf, node, weight}
-use Rattle.derivation.specs.Order.{_▸_, order}
+use Rattle.derivation.specs.Order.{_▸_, costSum, order}
 
 -- f at each element of a list and its number, the results joined
 unfoldable pub each : {A B : Type 0} → (ℕ → A → List B) → List A → List B
@@ -85,5 +85,5 @@ module _ {A : Type 0} (cmp : A → A → Ordering) where
 
 -- the trees of a cell, the least first
 unfoldable pub ranked : Grammar → List Edge → Sym → ℕ → ℕ → List Tree
-unfolding sort order _▸_ weight trees
-ranked g es A i k = sort (order (weight g es)) (trees g es A i k)
+unfolding sort order _▸_ weight costSum trees
+ranked g es A i k = sort (order g es) (trees g es A i k)

@@ -71,3 +71,8 @@ pub const ITEM_COUNT: u32 = 54; // items of a body outside 1 to 6
 pub const ITEM_ALONE: u32 = 55; // a body of one symbol
 
 pub const OFFICE_SIZE: u32 = 56; // the result passes 32 symbols or 256 rules
+
+// Of the shares of a grammar's rules.
+pub const SHARES_COUNT: u32 = 60; // their number is not R
+
+pub const SHARE_RANGE: u32 = 61; // a share out of range

@@ -11,6 +11,7 @@ use Rattle.bits.specs.Fields.{bitsOfAll}
 use Rattle.packing.specs.Source.{inRange, fieldAt}
 use Rattle.packing.specs.Alike.{anyLike, unlikeFrom}
 use Rattle.derivation.specs.Derivation.{weight, walk, reading}
+use Rattle.derivation.specs.Order.{costSum}
 use Rattle.derivation.specs.List.{trees, ranked}
 use Rattle.listing.specs.Listing.{tableSize, listed, list, joined}
 use Rattle.checker.specs.Check.{fieldsFrom, firstWith, derivationOf, check}
@@ -18,8 +19,12 @@ use Rattle.phrases.specs.Phrases.{wordOrder}
 use Rattle.phrases.specs.Enumeration.{firstPhrase, nextPhrase}
 use Rattle.specimen.specs.Specimen.{specimen}
 use Rattle.next_phrase.specs.NextPhrase.{next}
-use Rattle.proved_cases.specs.Table.{AllHold, P-cases}
+use Rattle.proved_cases.specs.Table.{AllHold, N6-cases, P-cases}
+
+pub ties-hold : AllHold N6-cases
+unfolding slotEdges edgesFrom num bitsOf pack ended widthOf widthFrom bitsOfAll inRange fieldAt ruleFrom markedRuleFrom anyLike unlikeFrom grammarFrom blockBy markedBlock grammarBlock markedRulesEntries markedEntries blockOfMarked candidatesFrom slotFrom slotsFrom utteranceFrom utteranceBlock heardBlock candidatesEntries slotsEntries utteranceEntries blockOfUtterance walkFrom readingFrom walkEntries readingEntries blockOfReading weight costSum walk reading trees ranked tableSize readingLength listed list joined fieldsFrom firstWith derivationOf check firstPhrase specimen
+ties-hold = (refl, (refl, tt))
 
 pub cases-hold : AllHold P-cases
-unfolding slotEdges edgesFrom num bitsOf pack ended widthOf widthFrom bitsOfAll inRange fieldAt ruleFrom markedRuleFrom anyLike unlikeFrom grammarFrom blockBy markedBlock grammarBlock markedRulesEntries markedEntries blockOfMarked candidatesFrom slotFrom slotsFrom utteranceFrom utteranceBlock heardBlock candidatesEntries slotsEntries utteranceEntries blockOfUtterance walkFrom readingFrom walkEntries readingEntries blockOfReading weight walk reading trees ranked tableSize readingLength listed list joined fieldsFrom firstWith derivationOf check firstPhrase specimen wordOrder nextPhrase next
+unfolding slotEdges edgesFrom num bitsOf pack ended widthOf widthFrom bitsOfAll inRange fieldAt ruleFrom markedRuleFrom anyLike unlikeFrom grammarFrom blockBy markedBlock grammarBlock markedRulesEntries markedEntries blockOfMarked candidatesFrom slotFrom slotsFrom utteranceFrom utteranceBlock heardBlock candidatesEntries slotsEntries utteranceEntries blockOfUtterance walkFrom readingFrom walkEntries readingEntries blockOfReading weight costSum walk reading trees ranked tableSize readingLength listed list joined fieldsFrom firstWith derivationOf check firstPhrase specimen wordOrder nextPhrase next
 cases-hold = (refl, (refl, (refl, ((refl, λ out. refl), (refl, (refl, (refl, (refl, ((refl, refl), (refl, (refl, (refl, ((refl, refl), ((refl, refl), (refl, ((refl, refl), (refl, ((refl, refl), ((refl, refl), ((refl, refl), (refl, ((refl, refl), ((refl, refl), ((refl, refl), ((refl, refl), ((refl, refl), ((refl, refl), ((refl, refl), tt))))))))))))))))))))))))))))

@@ -124,6 +124,20 @@ fourth-reading = readingWith 4 3 (0 ∷ 0 ∷ 1 ∷ 0 ∷ 1 ∷ 1 ∷ 1 ∷ [])
 abbrev pub fifth-reading : Reading
 fifth-reading = readingWith 4 3 (0 ∷ 0 ∷ 0 ∷ 1 ∷ 1 ∷ 1 ∷ 1 ∷ [])
 
+-- N6's: two words that weigh the same with their rules, of which the second was heard better
+abbrev pub heard-better : Grammar
+heard-better = record { symbols = 1; words = 2; rules = wordRule 0 0 0 ∷ wordRule 0 1 1 ∷ pairRule 0 0 0 0 ∷ [] }
+
+abbrev pub heard-twice : Utterance
+heard-twice = (offer 0 2 ∷ offer 1 1 ∷ []) ∷ (offer 0 2 ∷ offer 1 1 ∷ []) ∷ []
+
+abbrev pub N6-cases : List Case
+N6-cases =
+    lists heard-better ((offer 0 2 ∷ offer 1 1 ∷ []) ∷ []) 8 (readingWith 1 2 (1 ∷ []) ∷ readingWith 1 2 (0 ∷ []) ∷ [])
+    ∷ lists heard-better heard-twice 8
+    (readingWith 2 4 (2 ∷ 1 ∷ 1 ∷ []) ∷ readingWith 2 4 (2 ∷ 1 ∷ 0 ∷ []) ∷ readingWith 2 4 (2 ∷ 0 ∷ 1 ∷ []) ∷ readingWith 2 4 (2 ∷ 0 ∷ 0 ∷ []) ∷ [])
+    ∷ []
+
 abbrev pub P-cases : List Case
 P-cases =
     grammar G (0x10 ∷ 0x40 ∷ 0x40 ∷ 0x40 ∷ 0x00 ∷ 0x09 ∷ 0x00 ∷ 0x00 ∷ 0x00 ∷ [])

@@ -16,7 +16,7 @@ use Rattle.packing.specs.Grammar.{grammarBlock, markedBlock, markedSheet, block
 use Rattle.packing.specs.Utterance.{utteranceBlock, utteranceSheet, utteranceEntries, sheetOfUtterance}
 use Rattle.packing.specs.Heard.{heardBlock}
 use Rattle.packing.specs.Conversion.{grammarToBlock, grammarToSheet, utteranceToBlock, utteranceToSheet, fitting}
-use Rattle.packing.specs.Rows.{Between, _∪_, GrammarBlockRow, UtteranceBlockRow, HeardBlockRow}
+use Rattle.packing.specs.Rows.{Between, _∪_, GrammarBlockRow, UtteranceBlockRow, HeardBlockRow, ListingRow}
 use Rattle.packing.specs.Valid.{ValidMarked, ValidUtterance}
 use Rattle.packing.proofs.Bounds.{length-slots}
 use Rattle.packing.proofs.Parse as P
@@ -29,9 +29,10 @@ use Rattle.office_conversion.proofs.Limits.{limited}
 use Rattle.office_block.specs.Block.{officeToBlock}
 use Rattle.office_block.proofs.Refused.{office-to-block-row}
 use Rattle.office_theory.proofs.Accepted.{marked-valid}
-use Rattle.derivation.specs.Derivation.{Tree}
 use Rattle.checker.specs.Check.{check}
 use Rattle.checker.proofs.Refused.{check-row}
+use Rattle.chance.specs.Chance.{chance}
+use Rattle.chance.proofs.Shown.{chance-row}
 use Rattle.listing.specs.Listing.{list, listed, listedOf}
 use Rattle.listing.proofs.Accepted.{found-few}
 use Rattle.listing.proofs.Refused.{list-row}
@@ -103,8 +104,11 @@ low-heard = low-both (λ n r. omega (arith, r)) (λ n r. omega (arith, r))
 pub low-utterance-to-sheet : (s t out : List ℕ) → Refuses Low (fitting (utteranceToSheet s t) out)
 low-utterance-to-sheet s t out = wider (low-three (λ n r. omega (arith, r)) (λ n r. omega (arith, r))) (utterance-to-sheet-row s t out)
 
+pub low-listing : (n : ℕ) → (GrammarBlockRow ∪ HeardBlockRow ∪ ListingRow) n → Low n
+low-listing = low-three low-heard (λ n r. omega (arith, r))
+
 pub low-list : (grammar heard : List ℕ) (N work out : ℕ) → Refuses Low (list grammar heard N work out)
-low-list grammar heard N work out = wider (low-three low-heard (λ n r. omega (arith, r))) (list-row grammar heard N work out)
+low-list grammar heard N work out = wider low-listing (list-row grammar heard N work out)
 
 pub low-check : (grammar heard reading : List ℕ) → Refuses Low (check grammar heard reading)
 low-check grammar heard reading = wider (low-three low-heard (λ n r. omega (arith, r))) (check-row grammar heard reading)
@@ -162,13 +166,23 @@ module _ (most : ℕ) (few : most ≤ 24) (s : List ℕ) (n out : ℕ) {find : G
           found-wanted {P = search .Sought g} (search .as-long g) (search .least g (grammar-block-out s g p .0)) (omega arith)
       go e (denied {n = m} l) = refusal {m = m} (omega arith)
 
+-- an answer whose code is 0
+answers-low : {A : Type 0} {v : Verdict A} → Refuses Low v → Small (λ a. 0) v
+answers-low (granted {a}) = small-size {a = a} (omega arith)
+answers-low (denied {n} l) = small-refusal {n = n} (omega arith)
+
 -- the check
-checked-low : {v : Verdict Tree} → Refuses Low v → Small (λ d. 0) v
-checked-low (granted {a}) = small-size {a = a} (omega arith)
-checked-low (denied {n} l) = small-refusal {n = n} (omega arith)
 
 pub check-small : (grammar heard reading : List ℕ) → Small (λ d. 0) (check grammar heard reading)
-check-small grammar heard reading = checked-low (low-check grammar heard reading)
+check-small grammar heard reading = answers-low (low-check grammar heard reading)
+
+-- the chance
+pub low-chance : (grammar heard reading shares : List ℕ) → Refuses Low (chance grammar heard reading shares)
+low-chance grammar heard reading shares =
+    wider (low-both (low-three low-heard (λ n r. omega (arith, r))) (λ n r. omega (arith, r))) (chance-row grammar heard reading shares)
+
+pub chance-small : (grammar heard reading shares : List ℕ) → Small (λ x. 0) (chance grammar heard reading shares)
+chance-small grammar heard reading shares = answers-low (low-chance grammar heard reading shares)
 
 -- the listing: at most 256 readings
 most-wanted : (grammar heard : List ℕ) (N work out : ℕ) (ls : List (List ℕ)) → list grammar heard N work out ≡ accepted ls → N ≤ 256

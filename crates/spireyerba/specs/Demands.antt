@@ -1,18 +1,20 @@
 -- The three demands, of the exported functions: of the number that a call answers, its code, and of the slices that it was lent.
 -- `grammar`, `sheet`, `out` .. are the numbers of a slice before the call, `work′` and `out′` those afterwards. Each exported function's
 -- contract, in src/lib.rt, promises of every call the record of this page with the function's name; proofs/Demands has the theorem
--- about two calls, proofs/Calls that about many. Every other name is defined on the page that its `use` line names.
+-- about two calls, proofs/Calls that about many. RearrangedCalls is about two calls of the listing. Every other name is defined on the page
+-- that its `use` line names.
 use mathlib.Core.Path.{_≡_}
 use mathlib.Core.Logic.{_⊎_, _↔_}
 use mathlib.Core.List.{List, _++_}
 use Prim.Native.Nat.{ℕ, zero, suc, _≤_, _<_}
+use lib.Ieee.{Float}
 use lib.IntN.{ℤ, pos, negℤ}
 use lib.ListN.{length, take, drop, replicate}
 use Rattle.packing.specs.Meaning.{Grammar, Heard}
 use Rattle.packing.specs.Parse.{Verdict, accepted, refused}
 use Rattle.packing.specs.Grammar.{markedBlock, grammarBlock}
 use Rattle.packing.specs.Conversion.{grammarToBlock, grammarToSheet, utteranceToBlock, utteranceToSheet, fitting, TurnsBack}
-use Rattle.packing.specs.Rows.{_∪_, GrammarBlockRow, UtteranceBlockRow, HeardBlockRow, ListingRow, SpecimenRow, ReadingBlockRow, GrammarSheetRow, UtteranceSheetRow, OfficeSheetRow, OfficeSizeRow, OutputRow}
+use Rattle.packing.specs.Rows.{_∪_, GrammarBlockRow, UtteranceBlockRow, HeardBlockRow, ListingRow, SpecimenRow, ReadingBlockRow, SharesRow, GrammarSheetRow, UtteranceSheetRow, OfficeSheetRow, OfficeSizeRow, OutputRow}
 use Rattle.office.specs.Office.{Office}
 use Rattle.office.specs.Sheet.{officeSheet}
 use Rattle.office.specs.Conversion.{convert, convertMarked}
@@ -21,6 +23,7 @@ use Rattle.office_theory.specs.Matching.{Match}
 use Rattle.derivation.specs.Derivation.{At}
 use Rattle.derivation.specs.Rank.{_∈_}
 use Rattle.checker.specs.Check.{check, OfDerivation, NoWalk, OtherWeight, Surplus}
+use Rattle.chance.specs.Chance.{chance, Shown}
 use Rattle.listing.specs.Listing.{list, joined}
 use Rattle.listing.specs.Demand3.{Demand3}
 use Rattle.phrases.specs.Phrases.{Phrase, Precedes, Least}
@@ -84,6 +87,14 @@ pub record Check (grammar heard reading : List ℕ) (code : ℤ) : Type 0 where
   pub no-walk : (code ≡ negℤ (pos 34)) ↔ NoWalk grammar heard reading
   pub other-weight : (code ≡ negℤ (pos 35)) ↔ OtherWeight grammar heard reading
   pub surplus : (code ≡ negℤ (pos 36)) ↔ Surplus grammar heard reading
+
+-- Document 02, N14: the chance is written, with the code 0, or nothing is. Where it is, the reading passes the check, and the float is near to
+-- the exact product of its nodes' shares: `Shown` has "differs from P by at most m × P divided by 2 to the power 52" and "A reading of one node
+-- is exact".
+pub record Chance (grammar heard reading shares : List ℕ) (float : Float) (code : ℤ) (float′ : Float) : Type 0 where
+  pub demand-1 : Demand1 (chance grammar heard reading shares) (λ x n. (n ≡ 0) × (float′ ≡ x))
+      (GrammarBlockRow ∪ HeardBlockRow ∪ ReadingBlockRow ∪ SharesRow) (float′ ≡ float) code
+  pub near : code ≡ pos 0 → Shown grammar heard reading shares float′
 
 -- The least string with a property, whose length n is answered, stands at the front of the output; or there is none, 0 is answered and
 -- nothing was written.

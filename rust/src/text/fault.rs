@@ -88,8 +88,12 @@ pub enum Fault {
         /// What does.
         found: String,
     },
-    /// A network that has not as many alignments as it says.
-    AlignmentCount {
+    /// A network or a lattice that has not as much of something as it says.
+    Count {
+        /// Which of both.
+        text: &'static str,
+        /// Of what, in the plural.
+        what: &'static str,
         /// How many it says.
         said: usize,
         /// How many it has.
@@ -97,12 +101,50 @@ pub enum Fault {
     },
     /// A posterior that is not a number from 0 to that of the whole network.
     Posterior(String),
-    /// A posterior whose cost passes 65,534, the greatest of a word that was heard.
+    /// A posterior or a score whose cost passes 65,534, the greatest of a word that was heard.
     CostTooLarge(String),
     /// `*DELETE*`: perhaps nothing was said, which a slot cannot say.
     Deletion,
-    /// A network, whose posteriors become costs by a scale, where none was given.
-    NoScale,
+    /// A network or a lattice, whose posteriors or scores become costs by a scale, where none was given.
+    NoScale {
+        /// Which of both.
+        text: &'static str,
+        /// What becomes costs, in the plural.
+        what: &'static str,
+    },
+    /// A score, a time or a scale of a lattice that is not a number, or not one that it can have.
+    Real(String),
+    /// Not a base of logarithms.
+    Base(String),
+    /// A score of a lattice that is so good that its cost is below 0.
+    NegativeCost(String),
+    /// Bytes of a lattice's word, written as octal digits, that are no characters.
+    Bytes(String),
+    /// A lattice within a lattice.
+    Sublattice,
+    /// A node of a lattice with the number of an earlier one.
+    RepeatedNode {
+        /// The line of that one.
+        line: usize,
+    },
+    /// A link of a lattice, or its start or end, names a node that the lattice does not have.
+    NoNode(String),
+    /// A link of a lattice has a word, and so has the node where it ends.
+    TwoWords {
+        /// The link's.
+        link: String,
+        /// The node's.
+        node: String,
+    },
+    /// Links of a lattice that go round in a circle.
+    Circle,
+    /// A lattice that does not say where its paths start or end, and has two nodes where they could.
+    TwoEnds {
+        /// The field that would say it.
+        field: &'static str,
+        /// The two nodes.
+        nodes: [u32; 2],
+    },
 }
 
 impl Fault {
@@ -165,15 +207,41 @@ impl Fault {
             Self::AlignmentOrder { expected, found } => {
                 write!(formatter, "alignment `{found}` where alignment {expected} should stand")
             }
-            Self::AlignmentCount { said, found } => {
-                write!(formatter, "the network says {said} alignments and has {found}")
+            Self::Count { text, what, said, found } => {
+                write!(formatter, "the {text} says {said} {what} and has {found}")
             }
             Self::Posterior(item) => write!(formatter, "`{item}` is not a posterior from 0 to the network's"),
             Self::CostTooLarge(item) => {
                 write!(formatter, "`{item}` gives a cost that passes {}: a smaller scale is needed", NOT_HEARD - 1)
             }
             Self::Deletion => write!(formatter, "`*DELETE*`: a word is said in every slot, so no slot can hold this"),
-            Self::NoScale => write!(formatter, "a confusion network needs a scale by which posteriors become costs"),
+            Self::NoScale { text, what } => write!(formatter, "a {text} needs a scale by which {what} become costs"),
+            _ => self.lattice_words(formatter),
+        }
+    }
+
+    /// What is wrong in a lattice.
+    fn lattice_words(&self, formatter: &mut Formatter) -> std::fmt::Result {
+        match self {
+            Self::Real(item) => write!(formatter, "`{item}` is not a number that can stand here"),
+            Self::Base(item) => write!(formatter, "`{item}` is not a base of logarithms"),
+            Self::NegativeCost(item) => {
+                write!(
+                    formatter,
+                    "`{item}` gives a cost below 0: a score is the logarithm of a likelihood of at most 1"
+                )
+            }
+            Self::Bytes(item) => write!(formatter, "`{item}` has bytes that are no characters"),
+            Self::Sublattice => write!(formatter, "a lattice within a lattice is not read"),
+            Self::RepeatedNode { line } => write!(formatter, "a node with this number stands in line {line}"),
+            Self::NoNode(item) => write!(formatter, "there is no node `{item}`"),
+            Self::TwoWords { link, node } => {
+                write!(formatter, "the link has the word `{link}`, and the node where it ends has `{node}`")
+            }
+            Self::Circle => write!(formatter, "links go round in a circle, and this is one of them"),
+            Self::TwoEnds { field, nodes: [one, other] } => {
+                write!(formatter, "there is no {field}=, and it could be node {one} or node {other}")
+            }
             _ => unreachable!("the other faults are worded before"),
         }
     }

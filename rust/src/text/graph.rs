@@ -1,19 +1,25 @@
 //! The text of a word graph.
 
+use super::lattice::is_lattice;
 use super::scan::{digits, weight, Token, Tokens, UTTERANCE};
 use super::utterance::UtteranceReader;
 use super::{without_mark, Fault, NamedGrammar};
 use crate::limits::{MAX_EDGES, MAX_PLACES};
 use crate::{Candidate, Edge, Error, Graph, Position, Refusal};
 
-/// Whether a text is a word graph: it has a line with two numbers and a word, which no text of slots can have.
+/// Whether a text is a word graph: it has a line with two numbers and a word, which no text of slots can have, or it is a
+/// lattice.
 pub fn is_graph(text: &str) -> bool {
+    let text = without_mark(text);
+    text.lines().any(begins_with_edge) || is_lattice(text)
+}
+
+/// Whether two numbers and a word stand at the front of a line.
+pub(super) fn begins_with_edge(line: &str) -> bool {
     let number = |item: Option<&str>| item.and_then(digits).is_some();
-    without_mark(text).lines().any(|line| {
-        let mut items = line.split_whitespace();
-        let is_edge = number(items.next()) && number(items.next());
-        is_edge && items.next().is_some_and(|item| !item.starts_with(['|', ';', '#']))
-    })
+    let mut items = line.split_whitespace();
+    let is_edge = number(items.next()) && number(items.next());
+    is_edge && items.next().is_some_and(|item| !item.starts_with(['|', ';', '#']))
 }
 
 /// A word graph that is being read.
@@ -29,23 +35,42 @@ struct Lines {
 }
 
 impl UtteranceReader<'_> {
-    /// Reads the text of a word graph.
+    /// Reads the text of a word graph, or a lattice.
     pub fn read_graph(&self, text: &str) -> Result<Graph, Error> {
+        let text = without_mark(text);
+        if is_lattice(text) {
+            return self.read_lattice(text);
+        }
         let mut graph = Lines::default();
         let mut end = Position { line: 1, column: 1 };
-        for (before, line) in without_mark(text).lines().enumerate() {
+        for (before, line) in text.lines().enumerate() {
             end.line = before + 1;
             self.graph_line(&mut graph, &mut Tokens::new(line, end.line, &UTTERANCE))?;
         }
         graph.finish(end)
     }
 
-    /// Reads an edge, the last place, or nothing.
+    /// Reads what stands in a line, with semicolons between: edges, and the last place.
     fn graph_line(&self, graph: &mut Lines, tokens: &mut Tokens) -> Result<(), Error> {
-        let Some(first) = tokens.next()? else { return Ok(()) };
+        let mut next = tokens.next()?;
+        while let Some(first) = next {
+            next = match self.edge(graph, first, tokens)? {
+                Some(Token::Mark(';')) => tokens.next()?,
+                None => None,
+                other => return tokens.expected("`;` or the end of the line", other),
+            };
+        }
+        Ok(())
+    }
+
+    /// Reads an edge or the last place, whose first token is at hand; answers the token behind it.
+    fn edge<'b>(&self, graph: &mut Lines, first: Token, tokens: &mut Tokens<'b>) -> Result<Option<Token<'b>>, Error> {
         let begin = tokens.position();
         let from = place(first, tokens)?;
-        let Some(second) = tokens.next()? else { return graph.end(from, begin) };
+        let second = match tokens.next()? {
+            Some(second @ (Token::Bare(_) | Token::Quoted(_))) => second,
+            other => return graph.end(from, begin).map(|()| other),
+        };
         let to = place(second, tokens)?;
         if from >= to {
             return Err(tokens.fault(Fault::EdgePlaces { from, to }));
@@ -59,15 +84,12 @@ impl UtteranceReader<'_> {
             other => return tokens.expected("a word", other),
         };
         let word = word.map_err(|fault| tokens.fault(fault))?;
-        let cost = match tokens.next()? {
-            None => 0,
-            Some(Token::Bare(item)) => weight(item, "cost").map_err(|fault| tokens.fault(fault))?,
+        let (cost, behind) = match tokens.next()? {
+            Some(Token::Bare(item)) => (weight(item, "cost").map_err(|fault| tokens.fault(fault))?, tokens.next()?),
+            other @ (None | Some(Token::Mark(';'))) => (0, other),
             other => return tokens.expected("a cost", other),
         };
-        match tokens.next()? {
-            None => graph.lay(from, to, word.map(|word| Candidate { word, cost }), begin),
-            other => tokens.expected("the end of the line", other),
-        }
+        graph.lay(from, to, word.map(|word| Candidate { word, cost }), begin).map(|()| behind)
     }
 }
 
@@ -115,7 +137,7 @@ impl Lines {
     }
 }
 
-fn too_many(what: &'static str, limit: u32) -> Fault {
+pub(super) fn too_many(what: &'static str, limit: u32) -> Fault {
     Fault::TooMany { what, within: "a word graph", limit, refusal: Refusal::UtteranceRange }
 }
 

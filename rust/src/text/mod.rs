@@ -52,7 +52,30 @@
 //!
 //! An edge a line, as OpenFst and Kaldi print lattices: the place where a word starts, the one where it ends, the word, and its
 //! cost, which is 0 if it is left out. Edges are numbered as they stand. A line with one number has the last place; without
-//! it that is the last one that an edge reaches.
+//! it that is the last one that an edge reaches. A semicolon ends an edge too, so that a graph can stand in one line. Lattices
+//! in HTK's standard lattice format (SLF) are word graphs too:
+//!
+//! ```text
+//! VERSION=1.0
+//! lmscale=2.0 wdpenalty=-0.01
+//! N=4 L=3
+//! I=0 t=0.00
+//! I=1 t=0.31
+//! I=2 t=0.74
+//! I=3 t=0.74
+//! J=0 S=0 E=1 W=door a=-0.01 l=-0.01
+//! J=1 S=1 E=2 W=twenty a=-0.05 l=-0.03
+//! J=2 S=2 E=3 W=!NULL
+//! ```
+//!
+//! A line that begins with `I=` is a node, with its time, and one that begins with `J=` a link from node `S=` to node `E=`. A
+//! link's word is its own or that of the node where it ends; `!NULL`, the marks of a sentence's ends and a link without a word
+//! say nothing. Its score is `a=` times `acscale=`, `l=` times `lmscale=`, `r=` times `prscale=`, and for a word `wdpenalty=`,
+//! all of them logarithms to `base=` (e unless given, and 0 for likelihoods), and its cost is minus the natural logarithm
+//! times the reader's scale, rounded. HTK's logarithm of 0, -1e10, says that the word was not heard. Other fields are passed
+//! over. The graph has no links without words: their scores go to the word before them, or at the beginning to that behind
+//! them. Of links with one word between the same places, such as pronunciations, the cheapest stays, and what is on no path
+//! from the start to the end is left out. Places are numbered so that edges go up, the earlier first.
 //!
 //! # Readings
 //!
@@ -79,10 +102,12 @@
 mod fault;
 mod grammar;
 mod graph;
+mod lattice;
 mod names;
 mod network;
 mod reading;
 mod scan;
+mod score;
 mod utterance;
 
 pub use fault::Fault;

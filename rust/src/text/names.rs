@@ -86,7 +86,12 @@ impl NamedGrammar {
 
     /// The words of a reading in their order, with a blank between two.
     pub fn sentence(&self, reading: &Reading) -> String {
-        let words: Vec<&str> = self.words_of(reading).map(|word| self.word(word)).collect();
+        self.string(&self.words_of(reading).collect::<Vec<u32>>())
+    }
+
+    /// Some words, with a blank between two.
+    pub fn string(&self, words: &[u32]) -> String {
+        let words: Vec<&str> = words.iter().map(|word| self.word(*word)).collect();
         words.join(" ")
     }
 

@@ -1,10 +1,12 @@
 //! Confusion networks as SRILM writes them (wlat-format(5)): lines `numaligns COUNT`, `posterior SUM` and, for each
 //! alignment, `align NUMBER WORD POSTERIOR WORD POSTERIOR ..`. Other lines are passed over.
 
-use super::utterance::{finish, Slot, UtteranceReader};
+use super::score::{scaled, shortest};
+use super::utterance::{Slots, UtteranceReader};
 use super::{Fault, NamedGrammar};
 use crate::limits::NOT_HEARD;
 use crate::{Candidate, Error, Position, Utterance};
+use std::cmp::Ordering;
 
 const COUNT: &str = "numaligns";
 const POSTERIOR: &str = "posterior";
@@ -14,8 +16,6 @@ const DELETION: &str = "*DELETE*";
 /// The words at the ends of a sentence, which nobody says.
 const SENTENCE_ENDS: [&str; 2] = ["<s>", "</s>"];
 
-/// The digits behind the point of a 64-bit float, written as it is in science.
-const MOST_DIGITS: usize = 16;
 /// Lesser posteriors are written with an exponent.
 const LEAST_PLAIN: f64 = 1e-4;
 
@@ -86,7 +86,7 @@ impl<'a> Alignments<'a> {
         if let Some(item) = said {
             let (said, found) = (item.count()?, network.alignments.len());
             if said != found {
-                return Err(item.fault(Fault::AlignmentCount { said, found }));
+                return Err(item.fault(Fault::Count { text: "network", what: "alignments", said, found }));
             }
         }
         Ok(network)
@@ -109,28 +109,30 @@ impl<'a> Alignments<'a> {
     /// The network as slots. Marks of a sentence's ends are no slots.
     pub(super) fn utterance(&self, reader: &UtteranceReader) -> Result<Utterance, Error> {
         let begin = self.alignments.first().map_or(self.end, |(position, _)| *position);
-        let scale = reader.scale.ok_or(Error::at(begin, Fault::NoScale))?;
-        let mut slots = Vec::new();
+        let no_scale = Fault::NoScale { text: "confusion network", what: "posteriors" };
+        let scale = reader.scale.ok_or(Error::at(begin, no_scale))?;
+        let mut numbers = Vec::new();
+        let mut slots = Slots::begin(&mut numbers);
         for (position, words) in &self.alignments {
             if !words.is_empty() && words.iter().all(|[word, _]| SENTENCE_ENDS.contains(&word.text)) {
                 continue;
             }
             let at = |fault| Error::at(*position, fault);
-            let mut slot = Slot::begin(slots.len()).map_err(at)?;
+            slots.begin_slot().map_err(at)?;
             for [word, posterior] in words {
-                self.candidate(reader, &mut slot, word, posterior, scale)?;
+                self.candidate(reader, &mut slots, [word, posterior], scale)?;
             }
-            slots.push(slot.finish().map_err(at)?);
+            slots.finish_slot().map_err(at)?;
         }
-        finish(slots).map_err(|fault| Error::at(self.end, fault))
+        slots.finish().map_err(|fault| Error::at(self.end, fault))?;
+        Ok(Utterance::of_accepted(&numbers))
     }
 
     fn candidate(
         &self,
         reader: &UtteranceReader,
-        slot: &mut Slot,
-        word: &Item,
-        posterior: &Item,
+        slots: &mut Slots,
+        [word, posterior]: [&Item; 2],
         scale: f64,
     ) -> Result<(), Error> {
         if word.text == DELETION {
@@ -138,8 +140,10 @@ impl<'a> Alignments<'a> {
         }
         let share = posterior.posterior()? / self.posterior;
         let cost = cost(share, scale).map_err(|fault| posterior.fault(fault(posterior.text.to_owned())))?;
-        let word = reader.take(slot, word.text).map_err(|fault| word.fault(fault))?;
-        slot.candidates.extend(word.map(|word| Candidate { word, cost }));
+        let taken = reader.take(slots, word.text).map_err(|fault| word.fault(fault))?;
+        if let Some(word) = taken {
+            slots.add(Candidate { word, cost });
+        }
         Ok(())
     }
 }
@@ -152,20 +156,12 @@ fn needed<'a>(item: Option<Item<'a>>, line: &str, number: usize, wanted: &'stati
     })
 }
 
-/// The cost of a word with this share of the network's posterior: minus its logarithm, times the scale, rounded. A word
-/// whose posterior is 0 was not heard.
+/// The cost of a word with this share of the network's posterior. A word whose posterior is 0 was not heard.
 fn cost(share: f64, scale: f64) -> Result<u32, fn(String) -> Fault> {
-    if share == 0.0 {
-        return Ok(NOT_HEARD);
-    }
-    let cost = (-scale * share.ln()).round();
-    if cost >= f64::from(NOT_HEARD) {
-        Err(Fault::CostTooLarge)
-    } else if cost >= 0.0 {
-        Ok(cost as u32)
-    } else {
-        Err(Fault::Posterior)
-    }
+    scaled(share.ln(), scale).map_err(|beyond| match beyond {
+        Ordering::Less => Fault::Posterior as fn(String) -> Fault,
+        _ => Fault::CostTooLarge,
+    })
 }
 
 /// The posterior of a word with this cost, with as few digits as give that cost again, if any do.
@@ -174,8 +170,7 @@ fn posterior(word_cost: u32, scale: f64) -> Option<String> {
         return Some("0".to_owned());
     }
     let share = (-f64::from(word_cost) / scale).exp();
-    let rounded = |digits: usize| format!("{share:.digits$e}").parse().unwrap_or(share);
-    let share = (0..=MOST_DIGITS).map(rounded).find(|share| cost(*share, scale).ok() == Some(word_cost))?;
+    let share = shortest(share, |share| cost(share, scale).ok() == Some(word_cost))?;
     Some(if share < LEAST_PLAIN { format!("{share:e}") } else { share.to_string() })
 }
 

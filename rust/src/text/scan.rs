@@ -16,6 +16,8 @@ pub(super) struct Syntax {
     is_mark: [bool; 128],
     /// Whether a token without quotes ends before it.
     ends_bare: [bool; 128],
+    /// Whether a byte is a character within such a token, and not one that an arrow begins with.
+    is_plain: [bool; 256],
 }
 
 pub(super) static GRAMMAR: Syntax = Syntax::new(b"|[]");
@@ -23,7 +25,7 @@ pub(super) static UTTERANCE: Syntax = Syntax::new(b"|;");
 
 impl Syntax {
     const fn new(marks: &[u8]) -> Self {
-        let mut syntax = Self { is_mark: [false; 128], ends_bare: [false; 128] };
+        let mut syntax = Self { is_mark: [false; 128], ends_bare: [false; 128], is_plain: [false; 256] };
         let mut number = 0;
         while number < marks.len() {
             syntax.is_mark[marks[number] as usize] = true;
@@ -34,6 +36,7 @@ impl Syntax {
             let letter = byte as u8 as char;
             syntax.ends_bare[byte] =
                 syntax.is_mark[byte] || letter.is_whitespace() || letter == QUOTE || letter == COMMENT;
+            syntax.is_plain[byte] = !syntax.ends_bare[byte] && letter != '-';
             byte += 1;
         }
         syntax
@@ -107,7 +110,7 @@ impl<'a> Tokens<'a> {
 
     /// The next token, and nothing at the end of the line or before a comment.
     pub(super) fn next(&mut self) -> Result<Option<Token<'a>>, Error> {
-        self.at += prefix(&self.line[self.at..], char::is_whitespace);
+        self.pass_blanks();
         self.last = self.at;
         let rest = &self.line[self.at..];
         match rest.bytes().next().map(char::from) {
@@ -125,12 +128,30 @@ impl<'a> Tokens<'a> {
         }
     }
 
+    fn pass_blanks(&mut self) {
+        let bytes = self.line.as_bytes();
+        // nearly always it is one
+        self.at += usize::from(bytes.get(self.at) == Some(&b' '));
+        if bytes.get(self.at).is_some_and(|byte| !byte.is_ascii_graphic()) {
+            self.at += prefix(&self.line[self.at..], char::is_whitespace);
+        }
+    }
+
     /// A token that ends at a blank, before a mark or before an arrow.
     fn bare(&mut self, rest: &'a str) -> Token<'a> {
-        let end = prefix(rest, |letter| !self.syntax.ends_bare(letter));
-        let end = rest.as_bytes()[..end].windows(ARROW.len()).position(|pair| pair == ARROW.as_bytes()).unwrap_or(end);
+        let plain = rest.bytes().position(|byte| !self.syntax.is_plain[usize::from(byte)]).unwrap_or(rest.len());
+        let end = match rest.as_bytes().get(plain) {
+            Some(b'-' | 128..) => self.bare_end(rest),
+            _ => plain,
+        };
         self.at += end;
         Token::Bare(&rest[..end])
+    }
+
+    /// The bytes of a token that has characters of several bytes in it, or what may be an arrow.
+    fn bare_end(&self, rest: &str) -> usize {
+        let end = prefix(rest, |letter| !self.syntax.ends_bare(letter));
+        rest.as_bytes()[..end].windows(ARROW.len()).position(|pair| pair == ARROW.as_bytes()).unwrap_or(end)
     }
 
     fn quoted(&mut self) -> Result<Token<'a>, Error> {

@@ -8,8 +8,8 @@ use crate::{Candidate, Error, Position, Refusal, Utterance};
 use std::collections::HashMap;
 use std::hash::{BuildHasherDefault, Hasher};
 
-/// Reads utterances over a grammar's words, as text or as confusion networks, and word graphs. [`text`](crate::text) says how they are
-/// written.
+/// Reads utterances over a grammar's words, as text or as confusion networks, and word graphs, as text or as lattices.
+/// [`text`](crate::text) says how they are written.
 ///
 /// ```
 /// use spireyerba::text::{NamedGrammar, UtteranceReader};
@@ -26,19 +26,22 @@ use std::hash::{BuildHasherDefault, Hasher};
 #[derive(Clone, Debug)]
 pub struct UtteranceReader<'a> {
     words: HashMap<&'a str, u32, BuildHasherDefault<ShortHasher>>,
-    /// The cost of a word with a posterior of 1/e in a confusion network; twice as much has one with 1/e².
+    /// The cost of a word with a posterior of 1/e in a confusion network, or a likelihood of 1/e in a lattice; twice as much
+    /// has one with 1/e².
     pub scale: Option<f64>,
     /// Leave out words that the grammar does not have, which no reading could use, in place of refusing them.
     pub drop_unknown: bool,
     /// Leave `*DELETE*` out of confusion networks in place of refusing it: something was said in every slot.
     pub drop_deletes: bool,
+    /// Words that nobody says in lattices, such as those for silence, beside `!NULL` and the marks of a sentence's ends.
+    pub empty_words: Vec<String>,
 }
 
 impl<'a> UtteranceReader<'a> {
     /// A reader that leaves nothing out and knows no scale.
     pub fn new(grammar: &'a NamedGrammar) -> Self {
         let words = grammar.words.iter().zip(0..).map(|(word, number)| (word.as_str(), number)).collect();
-        Self { words, scale: None, drop_unknown: false, drop_deletes: false }
+        Self { words, scale: None, drop_unknown: false, drop_deletes: false, empty_words: Vec::new() }
     }
 
     /// Reads the text of an utterance, or a confusion network.
@@ -47,41 +50,56 @@ impl<'a> UtteranceReader<'a> {
         if is_network(text) {
             return Alignments::parse(text)?.utterance(self);
         }
-        let mut slots = Vec::new();
+        let mut numbers = Vec::new();
+        let mut slots = Slots::begin(&mut numbers);
         let mut lines = 1;
         for (before, line) in text.lines().enumerate() {
             lines = before + 1;
             self.line(&mut slots, &mut Tokens::new(line, lines, &UTTERANCE))?;
         }
         let end = Position { line: lines, column: 1 };
-        finish(slots).map_err(|fault| Error::at(end, fault))
+        slots.finish().map_err(|fault| Error::at(end, fault))?;
+        Ok(Utterance::of_accepted(&numbers))
     }
 
     /// Reads the text of an utterance that stands in one line, with semicolons between its slots.
     pub fn read_line(&self, line: &str) -> Result<Utterance, Error> {
-        let mut slots = Vec::new();
+        let mut sheet = Vec::new();
+        self.read_sheet(line, &mut sheet)?;
+        Ok(Utterance::of_accepted(&sheet))
+    }
+
+    /// Reads the text of an utterance that stands in one line into a sheet, in the place of what that held and in the memory
+    /// that it has.
+    pub fn read_sheet(&self, line: &str, sheet: &mut Vec<u32>) -> Result<(), Error> {
+        let mut slots = Slots::begin(sheet);
         let mut tokens = Tokens::new(line, 1, &UTTERANCE);
         self.line(&mut slots, &mut tokens)?;
-        finish(slots).map_err(|fault| tokens.fault(fault))
+        slots.finish().map_err(|fault| tokens.fault(fault))
     }
 
     /// Adds the slots of one line.
-    fn line(&self, slots: &mut Vec<Vec<Candidate>>, tokens: &mut Tokens) -> Result<(), Error> {
+    fn line(&self, slots: &mut Slots, tokens: &mut Tokens) -> Result<(), Error> {
         let mut next = tokens.next()?;
         while let Some(first) = next {
             let mark = tokens.mark();
-            let mut slot = Slot::begin(slots.len()).map_err(|fault| tokens.fault(fault))?;
-            next = self.slot(&mut slot, first, tokens)?;
-            slots.push(slot.finish().map_err(|fault| Error::at(tokens.position_of(mark), fault))?);
+            slots.begin_slot().map_err(|fault| tokens.fault(fault))?;
+            next = self.slot(slots, first, tokens)?;
+            slots.finish_slot().map_err(|fault| Error::at(tokens.position_of(mark), fault))?;
         }
         Ok(())
     }
 
     /// Reads the candidates of a slot; answers the first token of the next slot, if there is one in the line.
-    fn slot<'b>(&self, slot: &mut Slot, first: Token<'b>, tokens: &mut Tokens<'b>) -> Result<Option<Token<'b>>, Error> {
+    fn slot<'b>(
+        &self,
+        slots: &mut Slots,
+        first: Token<'b>,
+        tokens: &mut Tokens<'b>,
+    ) -> Result<Option<Token<'b>>, Error> {
         let mut word = Some(first);
         loop {
-            self.candidate(slot, word, tokens)?;
+            self.candidate(slots, word, tokens)?;
             match tokens.next()? {
                 None => return Ok(None),
                 Some(Token::Mark(';')) => return tokens.next(),
@@ -92,10 +110,10 @@ impl<'a> UtteranceReader<'a> {
     }
 
     /// Reads a candidate whose word is at hand.
-    fn candidate(&self, slot: &mut Slot, word: Option<Token>, tokens: &mut Tokens) -> Result<(), Error> {
+    fn candidate(&self, slots: &mut Slots, word: Option<Token>, tokens: &mut Tokens) -> Result<(), Error> {
         let known = match &word {
-            Some(Token::Bare(word)) => self.take(slot, word),
-            Some(Token::Quoted(word)) => self.take(slot, word),
+            Some(Token::Bare(word)) => self.take(slots, word),
+            Some(Token::Quoted(word)) => self.take(slots, word),
             _ => return tokens.expected("a word", word),
         };
         let known = known.map_err(|fault| tokens.fault(fault))?;
@@ -103,17 +121,17 @@ impl<'a> UtteranceReader<'a> {
             Some(Token::Bare(item)) => weight(item, "cost").map_err(|fault| tokens.fault(fault))?,
             other => return tokens.expected("a cost", other),
         };
-        slot.candidates.extend(known.map(|word| Candidate { word, cost }));
+        if let Some(word) = known {
+            slots.add(Candidate { word, cost });
+        }
         Ok(())
     }
 
-    /// The number of a word that a slot is to have; nothing if it is left out.
-    pub(super) fn take(&self, slot: &Slot, word: &str) -> Result<Option<u32>, Fault> {
+    /// The number of a word that the last slot is to have; nothing if it is left out.
+    pub(super) fn take(&self, slots: &Slots, word: &str) -> Result<Option<u32>, Fault> {
         match self.number(word)? {
-            Some(number) if slot.candidates.iter().any(|known| known.word == number) => {
-                Err(Fault::RepeatedWord(word.to_owned()))
-            }
-            Some(_) if slot.candidates.len() == MAX_CANDIDATES as usize => {
+            Some(number) if slots.has(number) => Err(Fault::RepeatedWord(word.to_owned())),
+            Some(_) if slots.candidates() == MAX_CANDIDATES => {
                 let refusal = Refusal::UtteranceRange;
                 Err(Fault::TooMany { what: "words", within: "a slot", limit: MAX_CANDIDATES, refusal })
             }
@@ -153,37 +171,70 @@ impl Hasher for ShortHasher {
     }
 }
 
-/// A slot that is being read.
-pub(super) struct Slot {
-    pub(super) candidates: Vec<Candidate>,
+/// Slots that are being read, as the numbers of a sheet.
+pub(super) struct Slots<'a> {
+    numbers: &'a mut Vec<u32>,
+    /// Where the number of the last slot's candidates stands.
+    last: usize,
 }
 
-impl Slot {
-    /// A slot behind so many others.
-    pub(super) fn begin(before: usize) -> Result<Self, Fault> {
-        if before == MAX_SLOTS as usize {
+impl<'a> Slots<'a> {
+    /// No slots, in the place of other numbers.
+    pub(super) fn begin(numbers: &'a mut Vec<u32>) -> Self {
+        numbers.clear();
+        numbers.push(0);
+        Self { numbers, last: 0 }
+    }
+
+    /// Begins the next slot.
+    pub(super) fn begin_slot(&mut self) -> Result<(), Fault> {
+        if self.numbers[0] == MAX_SLOTS {
             let refusal = Refusal::UtteranceRange;
             return Err(Fault::TooMany { what: "slots", within: "an utterance", limit: MAX_SLOTS, refusal });
         }
-        Ok(Self { candidates: Vec::with_capacity(MAX_CANDIDATES as usize) })
+        self.numbers[0] += 1;
+        self.last = self.numbers.len();
+        self.numbers.push(0);
+        Ok(())
     }
 
-    /// The candidates, words ascending.
-    pub(super) fn finish(mut self) -> Result<Vec<Candidate>, Fault> {
-        if self.candidates.is_empty() {
-            return Err(none("word of the grammar in the slot"));
+    /// How many candidates the last slot has.
+    fn candidates(&self) -> u32 {
+        self.numbers[self.last]
+    }
+
+    /// Whether the last slot has a word.
+    fn has(&self, word: u32) -> bool {
+        self.numbers[self.last + 1..].iter().step_by(2).any(|known| *known == word)
+    }
+
+    /// Adds a candidate to the last slot, behind those with lesser words.
+    pub(super) fn add(&mut self, Candidate { word, cost }: Candidate) {
+        self.numbers[self.last] += 1;
+        let mut at = self.numbers.len();
+        self.numbers.extend([word, cost]);
+        while at > self.last + 1 && self.numbers[at - 2] > word {
+            self.numbers.copy_within(at - 2..at, at);
+            at -= 2;
+            self.numbers[at..at + 2].copy_from_slice(&[word, cost]);
         }
-        self.candidates.sort_unstable_by_key(|candidate| candidate.word);
-        Ok(self.candidates)
     }
-}
 
-/// The utterance of the slots that were read.
-pub(super) fn finish(slots: Vec<Vec<Candidate>>) -> Result<Utterance, Fault> {
-    if slots.is_empty() {
-        return Err(none("slot"));
+    /// Ends the last slot.
+    pub(super) fn finish_slot(&self) -> Result<(), Fault> {
+        match self.candidates() {
+            0 => Err(none("word of the grammar in the slot")),
+            _ => Ok(()),
+        }
     }
-    Ok(Utterance { slots })
+
+    /// Ends the utterance.
+    pub(super) fn finish(&self) -> Result<(), Fault> {
+        match self.numbers[0] {
+            0 => Err(none("slot")),
+            _ => Ok(()),
+        }
+    }
 }
 
 fn none(what: &'static str) -> Fault {

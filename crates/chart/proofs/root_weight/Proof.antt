@@ -10,8 +10,8 @@ root-requires c κs = search needs
 cell-number-requires : tie.Need-cell-number-requires
 cell-number-requires c κs = rw (c .root .ensures) (search needs)
 
-weight-at-requires : tie.Need-weight-at-requires
-weight-at-requires c κs = search needs
+price-at-requires : tie.Need-price-at-requires
+price-at-requires c κs = search needs
 
 found-weight-requires : tie.Need-found-weight-requires
 found-weight-requires c κs = search needs
@@ -20,7 +20,7 @@ returns : tie.Need-returns
 unfolding rootWeight
 returns c =
     let c₂ = c .before .before in
-    rw (← c₂ .before .root .ensures, ← c₂ .cell-number .ensures .0, ← c .before .weight-at .ensures .0) (c .found-weight .ensures)
+    rw (← c₂ .before .root .ensures, ← c₂ .cell-number .ensures .0, ← c .before .price-at .ensures .0) (c .found-weight .ensures)
 
 pub root-weight-spec : {M : Type 1} → statement M
-root-weight-spec = tie.close (tie.spec root-requires cell-number-requires weight-at-requires found-weight-requires returns)
+root-weight-spec = tie.close (tie.spec root-requires cell-number-requires price-at-requires found-weight-requires returns)

@@ -15,6 +15,9 @@ least-place-requires c κs = search needs
 queued-key-requires : tie.Need-queued-key-requires
 queued-key-requires c κs = search needs
 
+before-requires : tie.Need-before-requires
+before-requires c κs = search needs
+
 put-key-requires : tie.Need-put-key-requires
 put-key-requires c κs = search needs
 
@@ -30,27 +33,14 @@ same-length c = search needs
 returns : tie.Need-returns
 unfolding extractMin
 returns c =
-    let c₂ = c .before .before in
-    let c₆ = c₂ .before .before .before .before in
-    let c₁₀ = c₆ .before .before .before .before in
-    let c₁₂ = c₁₀ .before .before in
-    let c₁₃ = c₁₂ .before in
-    let c₁₄ = c₁₃ .before in
-    let c₁₆ = c₁₄ .before .before in
-    let c₁₈ = c₁₆ .before .before in
     simp (
-      ← c₁₈ .queue-length .ensures .0,
-      ← c₁₆ .least-place .ensures .0,
-      ← c₁₄ .queued-key .ensures,
-      lt-ltb _ _ (c₁₃
-          .if1 .taken),
-      lt-ltb _ _ (c₁₂ .if2 .taken),
-    ) (rw (
-      c₂ .push .ensures,
-      c₆ .replace .ensures,
-      c₁₀ .put-key
-          .ensures,
-    ))
+      ← c .before .before .before .before .before .before .before .before .before .before .before .before .before .before .before .before .before .before .before .queue-length .ensures .0,
+      ← c .before .before .before .before .before .before .before .before .before .before .before .before .before .before .before .before .before .least-place .ensures .0,
+      ← c .before .before .before .before .before .before .before .before .before .before .before .before .before .before .before .queued-key .ensures,
+      lt-ltb _ _ (c .before .before .before .before .before .before .before .before .before .before .before .before .before .before .if1 .taken),
+      ← c .before .before .before .before .before .before .before .before .before .before .before .before .before .before2 .ensures,
+      c .before .before .before .before .before .before .before .before .before .before .before .before .if2 .taken,
+    ) (rw (c .before .before .push .ensures, c .before .before .before .before .before .before .replace .ensures, c .before .before .before .before .before .before .before .before .before .before .put-key .ensures))
 
 put-key-requires-2 : tie.Need-put-key-requires-2
 put-key-requires-2 c κs = search needs
@@ -64,19 +54,11 @@ same-length-2 c = search needs
 returns-2 : tie.Need-returns-2
 unfolding extractMin
 returns-2 c =
-    let c₂ = c .before .before in
-    let c₆ = c₂ .before .before .before .before in
-    let c₈ = c₆ .before .before in
-    let c₉ = c₈ .before in
-    let c₁₁ = c₉ .before .before in
-    let c₁₃ = c₁₁ .before .before in
-    rw (c₂ .push2 .ensures, c₆ .put-key2 .ensures) (simp (
-      ← c₁₃ .queue-length .ensures .0,
-      ← c₁₁ .least-place .ensures
-          .0,
-      ← c₉ .queued-key .ensures,
-    ) (⊎-elim (λ w. simp (lt-ltb _ _ (w .0 .taken), le-ltb _ _ (w .1 .left))) (λ w.
-    simp (le-ltb _ _ (w .left))) (c₈ .if1 .came)))
+    rw (c .before .before .push2 .ensures, c .before .before .before .before .before .before .put-key2 .ensures) (simp (
+      ← c .before .before .before .before .before .before .before .before .before .before .before .before .before .queue-length .ensures .0,
+      ← c .before .before .before .before .before .before .before .before .before .before .before .least-place .ensures .0,
+      ← c .before .before .before .before .before .before .before .before .before .queued-key .ensures,
+    ) (⊎-elim (λ w. simp (lt-ltb _ _ (w .0 .taken), ← w .1 .ensures, w .2 .left)) (λ w. simp (le-ltb _ _ (w .left))) (c .before .before .before .before .before .before .before .before .if1 .came)))
 
 pub extract-min-spec : {M : Type 1} → statement M
 extract-min-spec =
@@ -85,6 +67,7 @@ extract-min-spec =
     queue-length-requires
     least-place-requires
     queued-key-requires
+    before-requires
     put-key-requires
     replace-requires
     push-requires

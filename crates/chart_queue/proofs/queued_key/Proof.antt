@@ -1,47 +1,27 @@
--- The key of the two numbers that stand beside the rank.
+-- What stands beside the rank.
 use Rattle.chart_queue.specs.Queue.{queuedKey}
 use borrow.Author.Needs.{needs}
 use Rattle.chart_queue.proofs.queued_key.Statement.{statement}
 use Rattle.chart_queue.proofs.queued_key.Tie as tie
 
-add-entry-of : tie.Need-add-entry-of
-add-entry-of c = search needs
+add-beside-at : tie.Need-add-beside-at
+add-beside-at c = search needs
 
-entry-of-requires : tie.Need-entry-of-requires
-entry-of-requires c κs = search needs
+beside-at-requires : tie.Need-beside-at-requires
+beside-at-requires c κs = search needs
 
-add-number-at : tie.Need-add-number-at
-add-number-at c = search needs
-
-number-at-requires : tie.Need-number-at-requires
-number-at-requires c κs = search needs
-
-mul-result : tie.Need-mul-result
-mul-result c = search needs
-
-add-number-at-2 : tie.Need-add-number-at-2
-add-number-at-2 c = search needs
-
-number-at-requires-2 : tie.Need-number-at-requires-2
-number-at-requires-2 c κs = search needs
-
-add-result : tie.Need-add-result
-add-result c = search needs
+key-of-requires : tie.Need-key-of-requires
+key-of-requires c κs = search needs
 
 returns : tie.Need-returns
 unfolding queuedKey
-returns c = rw (c .before .number-at .ensures .0, c .number-at2 .ensures .0, c .before .before .entry-of .ensures .0)
+returns c = rw (c .key-of .ensures .0, c .before .beside-at .ensures .0)
 
 pub queued-key-spec : {M : Type 1} → statement M
 queued-key-spec =
     tie.close
     (tie.spec
-    add-entry-of
-    entry-of-requires
-    add-number-at
-    number-at-requires
-    mul-result
-    add-number-at-2
-    number-at-requires-2
-    add-result
+    add-beside-at
+    beside-at-requires
+    key-of-requires
     returns)

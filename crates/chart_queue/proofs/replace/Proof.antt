@@ -1,19 +1,22 @@
 -- By the test, as in the definition.
-use borrow.Author.Tests.{lt-ltb, le-ltb}
+use Rattle.chart_queue.proofs.Least.{price-fits}
 use Rattle.chart_queue.specs.Queue.{replace}
 use borrow.Author.Needs.{needs}
 use Rattle.chart_queue.proofs.replace.Statement.{statement}
 use Rattle.chart_queue.proofs.replace.Tie as tie
 
+is-some-requires : tie.Need-is-some-requires
+is-some-requires c κs = search needs
+
 put-queued-requires : tie.Need-put-queued-requires
-put-queued-requires c κs = search needs
+put-queued-requires c κs = search (needs, price-fits (c .before .before .before .before .args .key) (c .before .before .is-some .ensures) (c .before .if1 .taken))
 
 same-length : tie.Need-same-length
 same-length c = search needs
 
 returns : tie.Need-returns
 unfolding replace
-returns c = simp (lt-ltb _ _ (c .before .before .before .before .if1 .taken)) (c .before .before .put-queued .ensures)
+returns c = simp (← c .before .before .before .before .before .is-some .ensures, c .before .before .before .before .if1 .taken) (c .before .before .put-queued .ensures)
 
 sub-move-queued : tie.Need-sub-move-queued
 sub-move-queued c = search needs
@@ -32,16 +35,13 @@ same-length-2 c = search needs
 
 returns-2 : tie.Need-returns-2
 unfolding replace
-returns-2 c =
-    let c₂ = c .before .before in
-    let c₆ = c₂ .before .before .before .before in
-    let c₈ = c₆ .before .before in
-    simp (le-ltb _ _ (c₈ .if1 .left)) (rw (c₂ .put-queue-length .ensures, c₆ .move-queued .ensures))
+returns-2 c = simp (← c .before .before .before .before .before .before .before .before .before .is-some .ensures, c .before .before .before .before .before .before .before .before .if1 .left) (rw (c .before .before .put-queue-length .ensures, c .before .before .before .before .before .before .move-queued .ensures))
 
 pub replace-spec : {M : Type 1} → statement M
 replace-spec =
     tie.close
     (tie.spec
+    is-some-requires
     put-queued-requires
     same-length
     returns

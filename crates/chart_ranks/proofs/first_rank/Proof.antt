@@ -18,13 +18,14 @@ same-length c = search needs
 
 returns : tie.Need-returns
 unfolding firstRank
-returns c =
-    let c₂ = c .before .before in
-    let c₃ = c₂ .before in
-    let c₅ = c₃ .before .before in
-    rw (← c₃ .cell-number .ensures .0, ← c₅ .least-initial .ensures) (c₂ .put-key .ensures)
+returns c = rw (← c .before .before .before .cell-number .ensures .0, ← c .before .before .before .before .before .least-initial .ensures) (c .before .before .put-key .ensures)
 
 pub first-rank-spec : {M : Type 1} → statement M
 first-rank-spec =
     tie.close
-    (tie.spec least-initial-requires cell-number-requires put-key-requires same-length returns)
+    (tie.spec
+    least-initial-requires
+    cell-number-requires
+    put-key-requires
+    same-length
+    returns)

@@ -1,5 +1,6 @@
 -- Each call has the meaning of its part of the definition; the two more are ordered as there.
-use borrow.Author.Tests.{lt-ltb, le-ltb}
+use mathlib.Core.Path.{sym, _∙_}
+use Rattle.chart_ranks.proofs.Initial.{kept-fits}
 use Rattle.chart_ranks.specs.Ranks.{nextRank}
 use borrow.Author.Needs.{needs}
 use Rattle.chart_ranks.proofs.next_rank.Statement.{statement}
@@ -14,14 +15,20 @@ sub-found-at c = search needs
 found-at-requires : tie.Need-found-at-requires
 found-at-requires c κs = search needs
 
+no-key-requires : tie.Need-no-key-requires
+no-key-requires c κs = search needs
+
 successors-requires : tie.Need-successors-requires
 successors-requires c κs = search needs
 
 replacement-requires : tie.Need-replacement-requires
 replacement-requires c κs = search needs
 
+before-requires : tie.Need-before-requires
+before-requires c κs = search needs
+
 extract-min-requires : tie.Need-extract-min-requires
-extract-min-requires c κs = search needs
+extract-min-requires c κs = (c .before .before .before .before .before .before .before .before .before .before .before .before .before .before .before .pre .0 .sized, c .before .before .before .before .before .before .before .before .before .before .cell-number .ensures .1, c .before .before .before .before .before .before .before .before .before .before .before .before .before .before .before .pre .1, kept-fits _ _ (c .before .before .before .before .before .before .before .before .before .before .before .before .before .before .before .pre .2) (c .before .before .before .before .before .before .before .before .before .before .before .before .before .before .before .pre .0 .sized .ranks))
 
 same-length : tie.Need-same-length
 same-length c = search needs
@@ -29,22 +36,17 @@ same-length c = search needs
 returns : tie.Need-returns
 unfolding nextRank
 returns c =
-    let c₂ = c .before .before in
-    let c₄ = c₂ .before .before in
-    let c₅ = c₄ .before in
-    let c₇ = c₅ .before .before in
-    let c₉ = c₇ .before .before in
-    let c₁₁ = c₉ .before .before in
     rw (
-      ← c₁₁ .cell-number .ensures .0,
-      ← c₉ .found-at .ensures .0,
-      ← c₇ .successors .ensures,
-      ← c₅ .replacement .ensures,
-      lt-ltb _ _ (c₄ .if1 .taken),
-    ) (c₂ .extract-min .ensures)
+      ← c .before .before .before .before .before .before .before .before .before .before .before .before .before .cell-number .ensures .0,
+      ← c .before .before .before .before .before .before .before .before .before .before .before .found-at .ensures .0,
+      ← c .before .before .before .before .before .before .before .before .before .no-key .ensures,
+      ← c .before .before .before .before .before .before .before .before .successors .ensures,
+      ← c .before .before .before .before .before .before .replacement .ensures,
+      sym (c .before .before .before .before .before .before2 .ensures) ∙ c .before .before .before .before .if1 .taken,
+    ) (c .before .before .extract-min .ensures)
 
 extract-min-requires-2 : tie.Need-extract-min-requires-2
-extract-min-requires-2 c κs = search needs
+extract-min-requires-2 c κs = (c .before .before .before .before .before .before .before .before .before .before .before .before .before .before .before .pre .0 .sized, c .before .before .before .before .before .before .before .before .before .before .cell-number .ensures .1, c .before .before .before .before .before .before .before .before .before .before .before .before .before .before .before .pre .1, kept-fits _ _ (c .before .before .before .before .before .before .before .before .before .before .before .before .before .before .before .pre .2) (c .before .before .before .before .before .before .before .before .before .before .before .before .before .before .before .pre .0 .sized .ranks))
 
 same-length-2 : tie.Need-same-length-2
 same-length-2 c = search needs
@@ -52,19 +54,14 @@ same-length-2 c = search needs
 returns-2 : tie.Need-returns-2
 unfolding nextRank
 returns-2 c =
-    let c₂ = c .before .before in
-    let c₄ = c₂ .before .before in
-    let c₅ = c₄ .before in
-    let c₇ = c₅ .before .before in
-    let c₉ = c₇ .before .before in
-    let c₁₁ = c₉ .before .before in
     rw (
-      ← c₁₁ .cell-number .ensures .0,
-      ← c₉ .found-at .ensures .0,
-      ← c₇ .successors .ensures,
-      ← c₅ .replacement .ensures,
-      le-ltb _ _ (c₄ .if1 .left),
-    ) (c₂ .extract-min2 .ensures)
+      ← c .before .before .before .before .before .before .before .before .before .before .before .before .before .cell-number .ensures .0,
+      ← c .before .before .before .before .before .before .before .before .before .before .before .found-at .ensures .0,
+      ← c .before .before .before .before .before .before .before .before .before .no-key .ensures,
+      ← c .before .before .before .before .before .before .before .before .successors .ensures,
+      ← c .before .before .before .before .before .before .replacement .ensures,
+      sym (c .before .before .before .before .before .before2 .ensures) ∙ c .before .before .before .before .if1 .left,
+    ) (c .before .before .extract-min2 .ensures)
 
 pub next-rank-spec : {M : Type 1} → statement M
 next-rank-spec =
@@ -73,8 +70,10 @@ next-rank-spec =
     cell-number-requires
     sub-found-at
     found-at-requires
+    no-key-requires
     successors-requires
     replacement-requires
+    before-requires
     extract-min-requires
     same-length
     returns

@@ -26,7 +26,7 @@ use Rattle.chart_table.proofs.back_at.Reads as back-at-reads
 use Rattle.chart_table.proofs.cell_number.Reads as cell-number-reads
 use Rattle.chart_table.proofs.left_part.Reads as left-part-reads
 use Rattle.chart_table.proofs.right_part.Reads as right-part-reads
-use Rattle.chart_table.proofs.weight_at.Reads as weight-at-reads
+use Rattle.chart_table.proofs.price_at.Reads as price-at-reads
 use Rattle.chart_search.proofs.+advance_pairing+extend+next_of_span.{statement}
 use Rattle.chart_search.proofs.+advance_pairing+extend+next_of_span.Tie.{close}
 
@@ -77,7 +77,7 @@ abbrev advance-pairing-claims : ℕ → advance-pairing-lts.Claims
 advance-pairing-claims t = (rule-at-reads.Asked, rule-at-reads.Learnt, right-part-reads.Asked, right-part-reads.Learnt, extend-below t, extend.Post, left-part-reads.Asked, left-part-reads.Learnt)
 
 abbrev extend-claims : ℕ → extend-lts.Claims
-extend-claims t = (cell-number-reads.Asked, cell-number-reads.Learnt, weight-at-reads.Asked, weight-at-reads.Learnt, next-of-span-below t, next-of-span.Post)
+extend-claims t = (cell-number-reads.Asked, cell-number-reads.Learnt, price-at-reads.Asked, price-at-reads.Learnt, next-of-span-below t, next-of-span.Post)
 
 abbrev next-of-span-claims : ℕ → next-of-span-lts.Claims
 next-of-span-claims t = (first-rank-reads.Asked, first-rank-reads.Learnt, cell-number-reads.Asked, cell-number-reads.Learnt, back-at-reads.Asked, back-at-reads.Learnt, back-pointer-reads.Asked, back-pointer-reads.Learnt, advance-pairing-below t, advance-pairing.Post, next-rank-reads.Asked, next-rank-reads.Learnt)
@@ -198,8 +198,8 @@ advance-pairing-returns-5 t c = λ f h. simp (le-ltb _ _ (c .if1 .left))
 extend-cell-number-requires : (t : ℕ) → extend-lts.Need-cell-number-requires (extend-claims t) (extend-at t) extend.Post
 extend-cell-number-requires t c κs = search needs
 
-extend-weight-at-requires : (t : ℕ) → extend-lts.Need-weight-at-requires (extend-claims t) (extend-at t) extend.Post
-extend-weight-at-requires t c κs = search needs
+extend-price-at-requires : (t : ℕ) → extend-lts.Need-price-at-requires (extend-claims t) (extend-at t) extend.Post
+extend-price-at-requires t c κs = search needs
 
 extend-next-of-span-requires : (t : ℕ) → extend-lts.Need-next-of-span-requires (extend-claims t) (extend-at t) extend.Post
 extend-next-of-span-requires t c κs = search needs
@@ -218,7 +218,7 @@ extend-returns t c =
     λ f h. simp (
       lt-ltb _ _ (c₈ .if1 .taken),
       ← c₆ .cell-number .ensures .0,
-      ← c₅ .weight-at .ensures .0,
+      ← c₅ .price-at .ensures .0,
       eq-eqb _ _ (c₄ .if2 .taken),
     ) (c₂ .next-of-span .ensures f h)
 
@@ -230,7 +230,7 @@ unfolding extend
 extend-returns-2 t c =
     let c₂ = c .before .before in
     let c₄ = c₂ .before .before in
-    λ f h. simp (lt-ltb _ _ (c₄ .if1 .taken), ← c₂ .cell-number .ensures .0, ← c .before .weight-at .ensures .0, ne-eqb _ _ (c .if2 .left))
+    λ f h. simp (lt-ltb _ _ (c₄ .if1 .taken), ← c₂ .cell-number .ensures .0, ← c .before .price-at .ensures .0, ne-eqb _ _ (c .if2 .left))
 
 extend-returns-3 : (t : ℕ) → extend-lts.Need-returns-3 (extend-claims t) (extend-at t) extend.Post
 unfolding extend
@@ -323,7 +323,7 @@ pub +advance-pairing+extend+next-of-span-spec : {M : Type 1} → statement M
     (extend-at t)
     extend.Post
     (extend-cell-number-requires t)
-    (extend-weight-at-requires t)
+    (extend-price-at-requires t)
     (extend-next-of-span-requires t)
     (extend-same-length t)
     (extend-returns t)

@@ -12,8 +12,8 @@ root-requires c κs = search needs
 cell-number-requires : tie.Need-cell-number-requires
 cell-number-requires c κs = rw (c .before .root .ensures) (search needs)
 
-weight-at-requires : tie.Need-weight-at-requires
-weight-at-requires c κs = search needs
+price-at-requires : tie.Need-price-at-requires
+price-at-requires c κs = search needs
 
 same-length : tie.Need-same-length
 same-length c = search needs
@@ -23,7 +23,7 @@ unfolding nextOfRoot
 returns c =
     let c₂ = c .before .before in
     let c₄ = c₂ .before .before in
-    simp (← c₄ .root .ensures, ← c₂ .cell-number .ensures .0, ← c .before .weight-at .ensures .0, eq-eqb _ _ (c .if1 .taken))
+    simp (← c₄ .root .ensures, ← c₂ .cell-number .ensures .0, ← c .before .price-at .ensures .0, eq-eqb _ _ (c .if1 .taken))
 
 add-extend : tie.Need-add-extend
 add-extend c = search needs
@@ -42,7 +42,7 @@ returns-2 c =
     let c₅ = c₄ .before in
     let c₆ = c₅ .before in
     let c₈ = c₆ .before .before in
-    simp (← c₈ .root .ensures, ← c₆ .cell-number .ensures .0, ← c₅ .weight-at .ensures .0, ne-eqb _ _ (c₄ .if1 .left)) (c₂ .extend .ensures _ (rw (c₈ .root .ensures) (omega arith)))
+    simp (← c₈ .root .ensures, ← c₆ .cell-number .ensures .0, ← c₅ .price-at .ensures .0, ne-eqb _ _ (c₄ .if1 .left)) (c₂ .extend .ensures _ (rw (c₈ .root .ensures) (omega arith)))
 
 pub next-of-root-spec : {M : Type 1} → statement M
 next-of-root-spec =
@@ -50,7 +50,7 @@ next-of-root-spec =
     (tie.spec
     root-requires
     cell-number-requires
-    weight-at-requires
+    price-at-requires
     same-length
     returns
     add-extend

@@ -9,12 +9,12 @@ use borrow.Author.Tests.{eq-eqb, ne-eqb}
 use Rattle.bits.specs.Bits.{pick}
 use Rattle.packing.specs.Loop.{iter}
 use Rattle.packing.proofs.Loop.{iter-more, iter-end}
-use Rattle.chart_table.specs.Table.{weightAt, countFound}
+use Rattle.chart_table.specs.Table.{priceAt, countFound}
 use Rattle.chart_table.proofs.count_found.Statement.{statement}
 use Rattle.chart_table.proofs.count_found.Tie as tie
 
 abbrev Inv-loop : tie.InvT-loop
-Inv-loop t d c ranks m₀ x₀ m x = (x ≤ d .ranks) × (m ≤ x) × (m ≡ iter (λ m x. pick (eqb (weightAt t d c x) 0) m (m + 1)) 0 x)
+Inv-loop t d c ranks m₀ x₀ m x = (x ≤ d .ranks) × (m ≤ x) × (m ≡ iter (λ m x. pick (eqb (priceAt t d c x) 0) m (m + 1)) 0 x)
 
 abbrev μ-loop : tie.MeasureT-loop
 μ-loop t d c ranks m₀ x₀ m x = d .ranks - x
@@ -23,8 +23,8 @@ loop-holds : tie.Need-loop-holds Inv-loop μ-loop
 unfolding iter
 loop-holds c = (search needs, search needs, refl)
 
-weight-at-requires : tie.Need-weight-at-requires Inv-loop μ-loop
-weight-at-requires c κs = search needs
+price-at-requires : tie.Need-price-at-requires Inv-loop μ-loop
+price-at-requires c κs = search needs
 
 add-m : tie.Need-add-m Inv-loop μ-loop
 add-m c = search needs
@@ -43,13 +43,13 @@ loop-again c =
       ⊎-elim (λ w. rw (
         iter-more,
         ← c
-            .before .weight-at .ensures .0,
+            .before .price-at .ensures .0,
         ← c₃ .loop .inv .2,
         ne-eqb _ _ (w .0 .taken),
       ) (w .1)) (λ w. rw (
         iter-more,
         ← c
-            .before .weight-at .ensures .0,
+            .before .price-at .ensures .0,
         ← c₃ .loop .inv .2,
         eq-eqb _ _ (w .0 .left),
       ) (w .1)) (c .if1 .came),
@@ -66,7 +66,7 @@ count-found-spec =
     Inv-loop
     μ-loop
     loop-holds
-    weight-at-requires
+    price-at-requires
     add-m
     add-x
     loop-less

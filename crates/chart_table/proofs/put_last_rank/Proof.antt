@@ -1,57 +1,60 @@
 -- The test is the definition's.
 use borrow.Author.Tests.{lt-ltb, le-ltb}
-use Rattle.chart_table.specs.Table.{putLastRank}
+use Rattle.chart_table.specs.Table.{lastRank, putLastRank}
 use borrow.Author.Needs.{needs}
 use Rattle.chart_table.proofs.put_last_rank.Statement.{statement}
 use Rattle.chart_table.proofs.put_last_rank.Tie as tie
 
-last-rank-requires : tie.Need-last-rank-requires
-last-rank-requires c κs = search needs
+beside-at-requires : tie.Need-beside-at-requires
+beside-at-requires c κs = search needs
 
-entry-of-requires : tie.Need-entry-of-requires
-entry-of-requires c κs = search needs
+mul-put-beside : tie.Need-mul-put-beside
+mul-put-beside c = search needs
 
-add-store : tie.Need-add-store
-add-store c = search needs
+div-put-beside : tie.Need-div-put-beside
+div-put-beside c = search needs
 
-cast-store : tie.Need-cast-store
-cast-store c = search needs
+mul-put-beside-2 : tie.Need-mul-put-beside-2
+mul-put-beside-2 c = search needs
 
-store-requires : tie.Need-store-requires
-store-requires c κs = search needs
+add-put-beside : tie.Need-add-put-beside
+add-put-beside c = search needs
+
+mul-put-beside-3 : tie.Need-mul-put-beside-3
+mul-put-beside-3 c = search needs
+
+add-put-beside-2 : tie.Need-add-put-beside-2
+add-put-beside-2 c = search needs
+
+put-beside-requires : tie.Need-put-beside-requires
+put-beside-requires c κs = search needs
 
 same-length : tie.Need-same-length
 same-length c = search needs
 
 returns : tie.Need-returns
-unfolding putLastRank
-returns c =
-    let c₂ = c .before .before in
-    let c₃ = c₂ .before in
-    let c₅ = c₃ .before .before in
-    let c₆ = c₅ .before in
-    simp (← c₆ .last-rank .ensures .0, lt-ltb _ _ (c₅ .if1 .taken)) (rw (
-      c₂ .store .ensures,
-      c₃ .entry-of .ensures
-          .0,
-    ))
+unfolding lastRank putLastRank
+returns c = simp (← c .before .before .before .before .before .beside-at .ensures .0, lt-ltb _ _ (c .before .before .before .before .if1 .taken)) (rw (c .before .before .put-beside .ensures))
 
 same-length-2 : tie.Need-same-length-2
 same-length-2 c = search needs
 
 returns-2 : tie.Need-returns-2
-unfolding putLastRank
-returns-2 c = simp (← c .before .last-rank .ensures .0, le-ltb _ _ (c .if1 .left))
+unfolding lastRank putLastRank
+returns-2 c = simp (← c .before .beside-at .ensures .0, le-ltb _ _ (c .if1 .left))
 
 pub put-last-rank-spec : {M : Type 1} → statement M
 put-last-rank-spec =
     tie.close
     (tie.spec
-    last-rank-requires
-    entry-of-requires
-    add-store
-    cast-store
-    store-requires
+    beside-at-requires
+    mul-put-beside
+    div-put-beside
+    mul-put-beside-2
+    add-put-beside
+    mul-put-beside-3
+    add-put-beside-2
+    put-beside-requires
     same-length
     returns
     same-length-2

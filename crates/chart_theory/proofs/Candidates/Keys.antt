@@ -18,9 +18,9 @@ use Rattle.packing.specs.Meaning.{word, Grammar, Edge, edge}
 use Rattle.packing.specs.Flat.{ruleAt}
 use Rattle.derivation.specs.Derivation.{At, Offered, Tree}
 use Rattle.derivation.proofs.Lists.{at-length}
-use Rattle.derivation.proofs.Rows.{Row, row, leaf-row, node-row}
+use Rattle.derivation.proofs.Rows.{Price, Row, row, leaf-row, node-row}
 use Rattle.chart_keys.specs.declared.BackPointer.{BackPointer}
-use Rattle.chart_keys.specs.Keys.{back, backNumber, keyOf}
+use Rattle.chart_keys.specs.Keys.{back, backNumber, leafPrice, keyOf, keyNumber}
 use Rattle.chart_table.specs.declared.Cell.{Cell}
 use Rattle.chart_table.specs.declared.Layout.{Layout}
 use Rattle.chart_table.specs.Table.{leftPart, rightPart, cellNumber}
@@ -28,7 +28,7 @@ use Rattle.chart_index.specs.Index.{wordBase, pairBase, edgeBase, WordWith, Pai
 use Rattle.chart_candidates.specs.Candidates.{pairKey, wordLeaf, edgeLeaves, leaves, splitSeeds, ruleSeeds, seeds}
 use Rattle.chart_ranks.specs.declared.Found.{Found}
 use Rattle.chart_ranks.specs.Ranks.{foundAt, pairSuccessors, successors}
-use Rattle.chart_theory.proofs.Table.Keys.{rowBack, rowKey}
+use Rattle.chart_theory.proofs.Table.Keys.{rowNumber, rowBack, rowKey}
 use Rattle.chart_theory.proofs.Table.Cells.{InChart, rankedIn, RowOfIn, RowAtIn, row-unique}
 use Rattle.chart_theory.proofs.Invariant.{Setting, HoldsRow, row-back}
 use Rattle.chart_theory.proofs.Candidates.Select.{Selects, Between, Among, selects-one, selects-none, selects-same, selects-then, selects-when, selects-unless, selects-over, selects-members}
@@ -48,13 +48,13 @@ module _ (g : Grammar) (es : List Edge) (c : Cell) where
   -- successor of a rank of the cell
   pub data Reached (r j : ℕ) : (o p q : ℕ) → Type 0 where
     first : Reached r j 0 0 0
-    right : {w p q x : ℕ} → RowAtIn g es c x (row w r j p q) → Reached r j (suc x) p (suc q)
-    left : {w p x : ℕ} → RowAtIn g es c x (row w r j p 0) → Reached r j (suc x) (suc p) 0
+    right : {w : Price} {p q x : ℕ} → RowAtIn g es c x (row w r j p q) → Reached r j (suc x) p (suc q)
+    left : {w : Price} {p x : ℕ} → RowAtIn g es c x (row w r j p 0) → Reached r j (suc x) (suc p) 0
 
   module _ (d : Layout) (t : List ℕ) where
     pub data Candidate : (o key : ℕ) → Type 0 where
       leaf-key : {x : W.Word} {w cost : ℕ} (r e : ℕ) → At (g .rules) r (Word (c .head) x w) → Offered es e (edge (c .from) (c .to) x cost)
-          → Candidate 0 (keyOf (w + cost + 1) (backNumber (back r 0 e 0)))
+          → Candidate 0 (keyOf (leafPrice w cost) (backNumber (back r 0 e 0)))
       pair-key : {B C : Sym} {r w j o p q : ℕ} → Splits g c B C r w j → Reached r j o p q
           → Candidate o (joinedKey t d c B C w (back r j p q))
 
@@ -62,7 +62,7 @@ module _ (g : Grammar) (es : List Edge) (c : Cell) where
 abbrev LeafKey : List ℕ → ℕ → ℕ → Rule → ℕ → Type 0
 LeafKey edges e r (Pair h b c w) key = ⊥
 LeafKey edges e r (Word h x w) key =
-    (eqb (x .0) (getD edges (4 * e + 2) 0) ≡ true) × (key ≡ keyOf (w + getD edges (4 * e + 3) 0 + 1) (backNumber (back r 0 e 0)))
+    (eqb (x .0) (getD edges (4 * e + 2) 0) ≡ true) × (key ≡ keyOf (leafPrice w (getD edges (4 * e + 3) 0)) (backNumber (back r 0 e 0)))
 
 word-selects : (edges : List ℕ) (e floor r : ℕ) (rule : Rule)
     → Selects floor (LeafKey edges e r rule) (λ b. wordLeaf edges e floor b r rule)
@@ -104,12 +104,12 @@ module _ (t : List ℕ) (d : Layout) (c : Cell) where
       (eqb (b .split) 0 ≡ false) × PairSuccessor (b .rule) (b .split) (b .left) (b .right) (ruleAt rules (b .rule)) key
 
   successor-selects : (rules : List ℕ) (last : Found)
-      → Selects (last .key) (Successor rules (last .back)) (successors t d rules c last)
+      → Selects (keyNumber (last .key)) (Successor rules (last .back)) (successors t d rules c last)
   unfolding successors
   successor-selects rules last =
       let b = last .back in
-      selects-unless (last .key) (eqb (b .split) 0)
-      (pair-selects (last .key) (b .rule) (b .split) (b .left) (b .right) (ruleAt rules (b .rule)))
+      selects-unless (keyNumber (last .key)) (eqb (b .split) 0)
+      (pair-selects (keyNumber (last .key)) (b .rule) (b .split) (b .left) (b .right) (ruleAt rules (b .rule)))
 
 module _ {g : Grammar} {es : List Edge} {rules edges index : List ℕ} {d : Layout} (s : Setting g es rules edges index d) where
   -- the array's rule is the grammar's, and the array's edge is the list's
@@ -152,7 +152,7 @@ module _ {g : Grammar} {es : List Edge} {rules edges index : List ℕ} {d : Layo
         rw is (leaf-key r e (rw z at p) (rw (f, u, x-is) at (s .edge-at e le), heard))
 
     leaf-complete : (r e : ℕ) {x : W.Word} {w cost : ℕ} → At (g .rules) r (Word (c .head) x w)
-        → Offered es e (edge (c .from) (c .to) x cost) → Leaf (keyOf (w + cost + 1) (backNumber (back r 0 e 0)))
+        → Offered es e (edge (c .from) (c .to) x cost) → Leaf (keyOf (leafPrice w cost) (backNumber (back r 0 e 0)))
     leaf-complete r e p q =
         let is = edge-is e (q .0) in
         let has-word : Words r = (at-length (g .rules) r p, rw (rule-is r p) refl) in (
@@ -217,12 +217,12 @@ module _ {g : Grammar} {es : List Edge} {rules edges index : List ℕ} {d : Layo
 
 -- a row as the code has it of a rank that is found
 abbrev pub rowFound : Row → Found
-rowFound v = record { key = rowKey v; back = rowBack v }
+rowFound v = record { key = record { price = rowNumber v + 1; back = backNumber (rowBack v) }; back = rowBack v }
 
 pub found-row : {g : Grammar} {es : List Edge} {d : Layout} {t : List ℕ} {c : Cell} {x : ℕ} {v : Row} → HoldsRow g es d t c x v
     → foundAt t d (cellNumber d c) x ≡ rowFound v
 unfolding foundAt
-found-row {g} {es} {d} {t} {c} {x} holds = rw (row-back g es d t c x holds, holds .weighs, holds .points)
+found-row {g} {es} {d} {t} {c} {x} holds = rw (row-back g es d t c x holds, holds .priced, holds .points)
 
 -- the successors of a rank whose row the table holds
 module _ {g : Grammar} {es : List Edge} {rules edges index : List ℕ} {d : Layout} (s : Setting g es rules edges index d) (t : List ℕ)
@@ -237,7 +237,7 @@ module _ {g : Grammar} {es : List Edge} {rules edges index : List ℕ} {d : Layo
       ⊎-elim (λ e. rw (rw (add-one q) at e) (pair-key splits (right here)))
       (λ e. rw (rw (add-one p) at (e .1)) (pair-key splits (left (rw (e .0) at here)))) plain
 
-  pairing-complete : {B C : Sym} {r w j : ℕ} (p q key : ℕ) {w′ : ℕ} → RowAtIn g es c x (row w′ r j p q) → Splits g c B C r w j
+  pairing-complete : {B C : Sym} {r w j : ℕ} (p q key : ℕ) {w′ : Price} → RowAtIn g es c x (row w′ r j p q) → Splits g c B C r w j
       → PairSuccessor t d c r j p q (Pair (c .head) B C w) key → Successor t d c rules (rowBack v) key
   pairing-complete {r = r} {j = j} p q key here splits f =
       let same : v ≡ row _ r j p q = row-unique g es c x at here in

@@ -10,20 +10,21 @@ use lib.Dec.{eqb·suc-zero}
 use borrow.Author.Tests.{ne-eqb, lt-ltb}
 use Rattle.packing.specs.declared.Sym.{Sym}
 use Rattle.packing.specs.Meaning.{Grammar, Edge}
-use Rattle.derivation.specs.Derivation.{At, Tree, weight}
-use Rattle.derivation.proofs.Rows.{Row, row, leaf-row, node-row, row-weight, place-row}
+use Rattle.derivation.specs.Derivation.{At, Tree}
+use Rattle.derivation.proofs.Rows.{Price, joined, priceOf, Row, row, leaf-row, node-row, row-price, place-row}
 use Rattle.chart_keys.specs.Keys.{back, lesser}
 use Rattle.chart_table.specs.declared.Cell.{Cell}
 use Rattle.chart_table.specs.declared.Layout.{Layout}
 use Rattle.chart_table.specs.Table.{leftPart, rightPart}
-use Rattle.chart_ranks.specs.Ranks.{isInitial, leastInitial, pairSibling, sibling, replacement}
+use Rattle.chart_queue.specs.Queue.{isInitial}
+use Rattle.chart_ranks.specs.Ranks.{leastInitial, pairSibling, sibling, replacement}
 use Rattle.chart_theory.proofs.Table.Keys.{rowBack, rowKey}
 use Rattle.chart_theory.proofs.Table.Cells.{rankedIn, RowOfIn, RowAtIn, row-unique}
 use Rattle.chart_theory.proofs.Queue.Owners.{OwnerOf, owner-unique, seed-owner, right-owned, left-owned}
 use Rattle.chart_theory.proofs.Invariant.{Setting, Found, PartsFound, FreshIn}
 use Rattle.chart_theory.proofs.Candidates.Select.{Selects, selects-one, selects-none, selects-above}
 use Rattle.chart_theory.proofs.Candidates.Keys.{joinedKey, Splits, Candidate, pair-key, right, left, rule-is, initial-selects, rowFound}
-use Rattle.chart_theory.proofs.Candidates.Frontier.{part-cells, Ready, found-weight, pair-value, fresh}
+use Rattle.chart_theory.proofs.Candidates.Frontier.{part-cells, Ready, found-price, pair-value, fresh}
 
 -- a pairing that follows one is not initial
 not-initial : (r j p q : ℕ) → 0 < j → 0 < p + q → isInitial (back r j p q) ≡ false
@@ -37,7 +38,7 @@ module _ {g : Grammar} {es : List Edge} {rules edges index : List ℕ} {d : Layo
   abbrev Key : (o key : ℕ) → Type 0
   Key = Candidate g es c d t
 
-  same : {u u′ r j p q r′ j′ p′ q′ : ℕ} (x : ℕ) → RowAtIn g es c x (row u r j p q) → RowAtIn g es c x (row u′ r′ j′ p′ q′)
+  same : {u u′ : Price} {r j p q r′ j′ p′ q′ : ℕ} (x : ℕ) → RowAtIn g es c x (row u r j p q) → RowAtIn g es c x (row u′ r′ j′ p′ q′)
       → (r′ ≡ r) × (j′ ≡ j) × (p′ ≡ p) × (q′ ≡ q)
   same x at at′ = let e = row-unique g es c x at′ at in (cc, cc, cc, cc)
 
@@ -56,7 +57,7 @@ module _ {g : Grammar} {es : List Edge} {rules edges index : List ℕ} {d : Layo
         rw (e₁, e₂, e₃, e₄, eb, ec, ew)
 
     -- where the last found succeeds rank x on the right, and that rank's right part is the first, the successor on the left is left
-    module _ (x : ℕ) {u : ℕ} (at : RowAtIn g es c x (row u r j p 0)) (is : q ≡ 1) where
+    module _ (x : ℕ) {u : Price} (at : RowAtIn g es c x (row u r j p 0)) (is : q ≡ 1) where
       abbrev on-left : ℕ
       on-left = joinedKey t d c B C w (back r j (p + 1) 0)
 
@@ -75,7 +76,7 @@ module _ {g : Grammar} {es : List Edge} {rules edges index : List ℕ} {d : Layo
       left-selects = selects-above floor (λ key above. (to-left key, from-left key above)) (selects-one floor on-left)
 
     -- where that rank's right part is not the first, nothing is left
-    module _ (x q₀ : ℕ) {u : ℕ} (at : RowAtIn g es c x (row u r j p (suc q₀))) (is : q ≡ suc (suc q₀)) where
+    module _ (x q₀ : ℕ) {u : Price} (at : RowAtIn g es c x (row u r j p (suc q₀))) (is : q ≡ suc (suc q₀)) where
       none-left : (key : ℕ) → floor < key → Key (suc x) key → ⊥
       none-left key above (pair-key splits′ (right at′)) =
           let (e₁, e₂, e₃, e₄) = same x at at′ in
@@ -87,7 +88,7 @@ module _ {g : Grammar} {es : List Edge} {rules edges index : List ℕ} {d : Layo
           selects-above floor (λ key above. ((λ z. absurd z), none-left key above)) (selects-none floor {C = λ _. ⊥} (λ key z. z))
 
     -- where the last found succeeds rank x on the left, the successor on the right is left
-    module _ (x p₀ : ℕ) {u : ℕ} (at : RowAtIn g es c x (row u r j p₀ 0)) (is : p ≡ suc p₀) (first : q ≡ 0) where
+    module _ (x p₀ : ℕ) {u : Price} (at : RowAtIn g es c x (row u r j p₀ 0)) (is : p ≡ suc p₀) (first : q ≡ 0) where
       abbrev on-right : ℕ
       on-right = joinedKey t d c B C w (back r j (p - 1) 1)
 
@@ -119,13 +120,16 @@ module _ {g : Grammar} {es : List Edge} {rules edges index : List ℕ} {d : Layo
   -- a successor's key is that of its parts
   own-key : {B C : Sym} {r w j : ℕ} {y z : Tree} (p q : ℕ) → Splits g c B C r w j → At (rankedIn g es (leftPart c B j)) p y
       → At (rankedIn g es (rightPart c C j)) q z → Found d t (leftPart c B j) p × Found d t (rightPart c C j) q
-      → joinedKey t d c B C w (back r j p q) ≡ rowKey (row (w + weight g es y + weight g es z) r j p q)
+      → joinedKey t d c B C w (back r j p q) ≡ rowKey (row (joined w (priceOf g es y) (priceOf g es z)) r j p q)
   own-key {B} {C} {r} {w} {j} p q splits l m (fl, fr) =
       let (cl, cr) = part-cells s (ready .in-chart) splits in
       let (vl, o) = place-row g es B (c .from) j p l in
       let (vr, o′) = place-row g es C j (c .to) q m in
-      rw (← row-weight g es o, ← row-weight g es o′)
-      (pair-value t d c B C w r j p q vl vr (found-weight s ready p cl fl (_, l, o)) (found-weight s ready q cr fr (_, m, o′)))
+      pair-value t d c B C w r j p q vl vr (found-price s ready p cl fl (_, l, o)) (found-price s ready q cr fr (_, m, o′))
+      ∙ with-prices (row-price g es o) (row-price g es o′)
+    where
+      with-prices : {a a′ b b′ : Price} → a ≡ a′ → b ≡ b′ → rowKey (row (joined w a b) r j p q) ≡ rowKey (row (joined w a′ b′) r j p q)
+      with-prices e e′ = rw (e, e′)
 
   pub replaced : {l : Row} {z : Tree} {o : ℕ} → RowOfIn g es c l z → PartsFound g es d t c l → OwnerOf g es c l o → o ≤ n
       → Replaced l o

@@ -10,7 +10,7 @@ use lib.Dec.{ltb, eqb}
 use borrow.Author.Tests.{lt-ltb, le-ltb, eq-eqb, ne-eqb}
 use Rattle.bits.specs.Bits.{pick}
 use Rattle.chart_keys.specs.Keys.{noKey}
-use Rattle.chart_theory.proofs.Queue.Pool.{Member, inside, low, high, Valid, keyIn, Arranged}
+use Rattle.chart_theory.proofs.Queue.Pool.{Member, inside, low, high, Valid, Arranged}
 
 inside≢low : (y : ℕ) → inside y ≢ low
 inside≢low y e = let z : _≡_ {A = ℕ} 0 1 = cc in omega arith
@@ -24,17 +24,17 @@ low≢high e = let z : _≡_ {A = ℕ} 0 1 = cc in omega arith
 inside-injective : (y z : ℕ) → inside y ≡ inside z → y ≡ z
 inside-injective y z e = cc
 
-module _ (n m lo hi : ℕ) (key : ℕ → ℕ) (m′ : ℕ) (key′ : ℕ → ℕ) (few : m′ ≤ n) where
+module _ (n m lo hi m′ : ℕ) (Has : ℕ → Member → Type 0) (few : m′ ≤ n) where
   -- the greater of two more was pushed, if there is one
   abbrev pub Pushed : Type 0
-  Pushed = ((m′ ≡ suc m) × (hi < noKey) × (key′ m ≡ hi)) ⊎ ((m′ ≡ m) × (noKey ≤ hi))
+  Pushed = ((m′ ≡ suc m) × (hi < noKey) × Has m high) ⊎ ((m′ ≡ m) × (noKey ≤ hi))
 
   module _ (push : Pushed) where
-    in-place : (y : ℕ) → y < m′ → (y < m) ⊎ ((y ≡ m) × (hi < noKey) × (key′ m ≡ hi))
+    in-place : (y : ℕ) → y < m′ → (y < m) ⊎ ((y ≡ m) × (hi < noKey) × Has m high)
     in-place y h =
         ⊎-elim (λ b. go b (decLt y m)) (λ b. inl (omega (arith, b .0))) push
       where
-        go : (m′ ≡ suc m) × (hi < noKey) × (key′ m ≡ hi) → Dec (y < m) → (y < m) ⊎ ((y ≡ m) × (hi < noKey) × (key′ m ≡ hi))
+        go : (m′ ≡ suc m) × (hi < noKey) × Has m high → Dec (y < m) → (y < m) ⊎ ((y ≡ m) × (hi < noKey) × Has m high)
         go b (yes l) = inl l
         go b (no l) = inr (omega (arith, b .0), b .1, b .2)
 
@@ -45,7 +45,7 @@ module _ (n m lo hi : ℕ) (key : ℕ → ℕ) (m′ : ℕ) (key′ : ℕ → �
     high-place h = ⊎-elim (λ b. omega (arith, b .0)) (λ b. absurd (omega (arith, b .1))) push
 
     -- the lesser was found
-    module _ (kept : (y : ℕ) → y < m → key′ y ≡ key y) where
+    module _ (kept : (y : ℕ) → y < m → Has y (inside y)) where
       pushed : ℕ → Member
       pushed y = pick (ltb y m) (inside y) high
 
@@ -57,10 +57,10 @@ module _ (n m lo hi : ℕ) (key : ℕ → ℕ) (m′ : ℕ) (key′ : ℕ → �
       unfolding pushed
       pushed-high = rw (le-ltb m m (omega arith))
 
-      pub pushed-arranged : Arranged n m lo hi key m′ key′ low
+      pub pushed-arranged : Arranged n m lo hi m′ Has low
       pushed-arranged = record { few = few; source = pushed; from = from; unique = unique; each = each }
         where
-          from : (y : ℕ) → y < m′ → Valid m lo hi (pushed y) × (pushed y ≢ low) × (key′ y ≡ keyIn lo hi key (pushed y))
+          from : (y : ℕ) → y < m′ → Valid m lo hi (pushed y) × (pushed y ≢ low) × Has y (pushed y)
           from y h =
               ⊎-elim (λ l. rw (pushed-inside y l) (l, inside≢low y, kept y l))
               (λ b. rw (b .0, pushed-high) (b .1, (λ e. low≢high (sym e)), b .2)) (in-place y h)
@@ -82,7 +82,7 @@ module _ (n m lo hi : ℕ) (key : ℕ → ℕ) (m′ : ℕ) (key′ : ℕ → �
           each high h other = (m, high-place h, pushed-high)
 
     -- one of the queue was found, and the lesser has its place
-    module _ (x : ℕ) (in-queue : x < m) (some : lo < noKey) (new : key′ x ≡ lo) (kept : (y : ℕ) → y < m → y ≢ x → key′ y ≡ key y) where
+    module _ (x : ℕ) (in-queue : x < m) (some : lo < noKey) (new : Has x low) (kept : (y : ℕ) → y < m → y ≢ x → Has y (inside y)) where
       replaced : ℕ → Member
       replaced y = pick (eqb y x) low (pick (ltb y m) (inside y) high)
 
@@ -101,17 +101,17 @@ module _ (n m lo hi : ℕ) (key : ℕ → ℕ) (m′ : ℕ) (key′ : ℕ → �
       data At (y : ℕ) : Type 0 where
         at-low : y ≡ x → At y
         at-inside : y < m → y ≢ x → At y
-        at-high : y ≡ m → hi < noKey → key′ m ≡ hi → At y
+        at-high : y ≡ m → hi < noKey → Has m high → At y
 
       which : (y : ℕ) → y < m′ → At y
       which y h = go (ℕ-discrete y x) (in-place y h)
         where
-          go : Dec (y ≡ x) → (y < m) ⊎ ((y ≡ m) × (hi < noKey) × (key′ m ≡ hi)) → At y
+          go : Dec (y ≡ x) → (y < m) ⊎ ((y ≡ m) × (hi < noKey) × Has m high) → At y
           go (yes e) _ = at-low e
           go (no other) (inl l) = at-inside l other
           go (no other) (inr b) = at-high (b .0) (b .1) (b .2)
 
-      pub replaced-arranged : Arranged n m lo hi key m′ key′ (inside x)
+      pub replaced-arranged : Arranged n m lo hi m′ Has (inside x)
       replaced-arranged = record {
         few = few;
         source = replaced;
@@ -120,7 +120,7 @@ module _ (n m lo hi : ℕ) (key : ℕ → ℕ) (m′ : ℕ) (key′ : ℕ → �
         each = each;
       }
         where
-          from : (y : ℕ) → At y → Valid m lo hi (replaced y) × (replaced y ≢ inside x) × (key′ y ≡ keyIn lo hi key (replaced y))
+          from : (y : ℕ) → At y → Valid m lo hi (replaced y) × (replaced y ≢ inside x) × Has y (replaced y)
           from y (at-low e) = rw (e, replaced-low) (some, (λ e. inside≢low x (sym e)), new)
           from y (at-inside l other) = rw (replaced-inside y l other) (l, (λ e. other (inside-injective y x e)), kept y l other)
           from y (at-high e h is) = rw (e, replaced-high) (h, (λ e. inside≢high x (sym e)), is)
@@ -146,8 +146,8 @@ module _ (n m lo hi : ℕ) (key : ℕ → ℕ) (m′ : ℕ) (key′ : ℕ → �
           each high h other = (m, high-place h, replaced-high)
 
   -- one of the queue was found, there are no more, and the last has its place
-  module _ (x : ℕ) (in-queue : x < m) (no-lo : noKey ≤ lo) (no-hi : noKey ≤ hi) (fewer : m ≡ suc m′) (new : x < m′ → key′ x ≡ key m′)
-      (kept : (y : ℕ) → y < m′ → y ≢ x → key′ y ≡ key y) where
+  module _ (x : ℕ) (in-queue : x < m) (no-lo : noKey ≤ lo) (no-hi : noKey ≤ hi) (fewer : m ≡ suc m′) (new : x < m′ → Has x (inside m′))
+      (kept : (y : ℕ) → y < m′ → y ≢ x → Has y (inside y)) where
     moved : ℕ → Member
     moved y = pick (eqb y x) (inside m′) (inside y)
 
@@ -159,7 +159,7 @@ module _ (n m lo hi : ℕ) (key : ℕ → ℕ) (m′ : ℕ) (key′ : ℕ → �
     unfolding moved
     moved-other y other = rw (ne-eqb y x other)
 
-    pub moved-arranged : Arranged n m lo hi key m′ key′ (inside x)
+    pub moved-arranged : Arranged n m lo hi m′ Has (inside x)
     moved-arranged = record {
       few = few;
       source = moved;
@@ -168,7 +168,7 @@ module _ (n m lo hi : ℕ) (key : ℕ → ℕ) (m′ : ℕ) (key′ : ℕ → �
       each = each;
     }
       where
-        from : (y : ℕ) → y < m′ → Dec (y ≡ x) → Valid m lo hi (moved y) × (moved y ≢ inside x) × (key′ y ≡ keyIn lo hi key (moved y))
+        from : (y : ℕ) → y < m′ → Dec (y ≡ x) → Valid m lo hi (moved y) × (moved y ≢ inside x) × Has y (moved y)
         from y h (yes e) =
             rw (e, moved-here) (omega arith, (λ s. omega (arith, inside-injective m′ x s)), new (omega arith))
         from y h (no other) = rw (moved-other y other) (omega arith, (λ s. other (inside-injective y x s)), kept y h other)

@@ -1,29 +1,31 @@
 -- Extract-min writes the least of the queue and two more at its rank, and the others are the queue: nothing else changes in the
--- table. For the place with the least key is found by one loop, and each way out is one of those of Arranged.
-use mathlib.Core.Path.{_≡_, refl, _∙_}
+-- table. For the place with the least key is found by one loop, and each way out is one of those of Arranged. A key that is written
+-- into the queue is read again, since its back pointer comes from the last found's in one of four ways, or follows none.
+use mathlib.Core.Path.{_≡_, refl, sym, _∙_}
 use mathlib.Core.Logic.{_⊎_, inl, inr, ⊎-elim, _≢_}
 use mathlib.Core.Bool.{Bool, true, false}
 use mathlib.Core.List.{List}
 use Prim.Native.Nat.{ℕ, zero, suc, _+_, _-_, _*_, _/_, _%_, _≤_, _<_}
 use native.Mathlib.Nat.{eq-or-lt-of-le, le-refl, le-trans}
 use native.Mathlib.Numerals.{add-one}
-use native.Mathlib.Decide.{decLt}
+use native.Mathlib.Decide.{decLt, ℕ-discrete}
 use native.Mathlib.Omega.{arith}
-use lib.ListN.{length, getD}
+use lib.Arith.{digits-div, digits-mod}
+use lib.ListN.{length}
 use lib.Dec.{ltb}
-use borrow.Author.Tests.{ltb-true, ltb-false, le-ltb}
+use borrow.Author.Tests.{ltb-true, ltb-false, lt-ltb, le-ltb}
 use Rattle.bits.specs.Bits.{pick}
 use Rattle.packing.specs.Loop.{iter}
-use Rattle.chart_keys.specs.Keys.{weightUnit, noKey}
+use Rattle.chart_keys.specs.Keys.{backPointer, keyUnit, noKey}
 use Rattle.chart_table.specs.declared.Layout.{Layout}
-use Rattle.chart_table.specs.Table.{entryOf, putKey}
-use Rattle.chart_queue.specs.Queue.{queuedKey, queueLength, putQueued, moveQueued, putQueueLength, lesserPlace, leastPlace, replace, push, extractMin}
+use Rattle.chart_table.specs.Table.{entryOf, backAt, besideAt, putBeside, lastRank, putKey}
+use Rattle.chart_queue.specs.Queue.{isInitial, codeOf, tagOf, taggedBack, queuedKey, queueLength, keepInitial, putQueued, moveQueued, putQueueLength, lesserPlace, leastPlace, replace, push, extractMin}
 use Rattle.chart_theory.proofs.Table.Entries.{entry-within}
-use Rattle.chart_theory.proofs.Table.Numbers.{put-none}
-use Rattle.chart_theory.proofs.Queue.Numbers.{put-queued, put-queue-length, paired, paired-size, paired-same, paired-other, paired-length, length-same, length-queued}
-use Rattle.chart_theory.proofs.Queue.Pool.{Member, inside, low, high, Valid, keyIn, Arranged}
+use Rattle.chart_theory.proofs.Table.Numbers.{beside-size, beside-back, beside-same, beside-other, put-none, put-size, put-back-other, put-beside}
+use Rattle.chart_theory.proofs.Queue.Numbers.{tagAt, TagBelow, TagInitial, put-queued-own, put-queue-length, place-queued, place-tag, place-length, place-last, first-kept, tally-queued, tally-tag, length-same, length-last, length-queued, length-tag, initial-none, initial-kept, kept-back, kept-length, kept-last, Shift, code-shifted, code-below}
+use Rattle.chart_theory.proofs.Queue.Pool.{Member, inside, low, high, Valid, keyIn, Arranged, NewTag, Has}
 use Rattle.chart_theory.proofs.Queue.Arranged.{pushed-arranged, replaced-arranged, moved-arranged}
-use Rattle.chart_theory.proofs.Queue.Stored.{Stored, stored-key, stored-pair, stored-length, apart-rank}
+use Rattle.chart_theory.proofs.Queue.Stored.{Stored, stored-key, stored-beside, apart-rank}
 
 -- the least of some places is one of them, and has the least key
 module _ (t : List ℕ) (d : Layout) (c : ℕ) where
@@ -62,27 +64,79 @@ module _ (t : List ℕ) (d : Layout) (c : ℕ) where
   least-place-least zero h = absurd (omega arith)
   least-place-least (suc m) h = least-place-suc m
 
+pub true≢false : _≡_ {A = Bool} true false → ⊥
+true≢false e = let z : _≡_ {A = ℕ} 0 1 = cc in omega arith
+
+-- the back pointer of a key, and whether it follows none
+abbrev pub backIn : ℕ → ℕ
+backIn key = key % keyUnit % 4294967296
+
+abbrev pub FollowsNone : ℕ → Bool → Type 0
+FollowsNone key b = isInitial (backPointer (backIn key)) ≡ b
+
+-- a key that is met as a rank is looked for can be given by a tag
+pub record Reached (t : List ℕ) (d : Layout) (c rank key : ℕ) : Type 0 where
+  pub small : key % keyUnit < 4294967296
+  pub shift : FollowsNone key false → Shift (backAt t d c (rank - 1)) (backIn key)
+
 -- the least of the pool was written at the rank, and the others are the queue
 pub record Extracted (t : List ℕ) (d : Layout) (c rank lo hi : ℕ) (u : List ℕ) : Type 0 where
   pub member : Member
   pub valid : Valid (queueLength t d c) lo hi member
   pub least : (q : Member) → Valid (queueLength t d c) lo hi q → keyIn lo hi (queuedKey t d c) member ≤ keyIn lo hi (queuedKey t d c) q
   pub stored : Stored t d c rank (keyIn lo hi (queuedKey t d c) member) u
-  pub arranged : Arranged rank (queueLength t d c) lo hi (queuedKey t d c) (queueLength u d c) (queuedKey u d c) member
+  pub arranged : Arranged rank (queueLength t d c) lo hi (queueLength u d c)
+      (Has (d .ranks) rank lo hi (queuedKey t d c) (tagAt t d c) (queuedKey u d c) (tagAt u d c)) member
 
 -- what extract-min comes to
 pub data Outcome (t : List ℕ) (d : Layout) (c rank lo hi : ℕ) (u : List ℕ) : Type 0 where
   nothing : u ≡ t → queueLength t d c ≡ 0 → noKey ≤ lo → noKey ≤ hi → Outcome t d c rank lo hi u
   something : Extracted t d c rank lo hi u → Outcome t d c rank lo hi u
 
+-- the tag of a key
+data TagIs (t : List ℕ) (d : Layout) (c rank key : ℕ) : ℕ → Type 0 where
+  tag-none : FollowsNone key true → TagIs t d c rank key 1023
+  tag-rank : FollowsNone key false → TagIs t d c rank key ((rank - 1) * 4 + codeOf (backAt t d c (rank - 1)) (backIn key))
+
+tag-is : (t : List ℕ) (d : Layout) (c rank key : ℕ) → TagIs t d c rank key (tagOf t d c rank (backIn key))
+unfolding tagOf
+tag-is t d c rank key = go (isInitial (backPointer (backIn key))) refl
+  where
+    go : (b : Bool) → FollowsNone key b
+        → TagIs t d c rank key (pick b 1023 ((rank - 1) * 4 + codeOf (backAt t d c (rank - 1)) (backIn key)))
+    go true e = tag-none e
+    go false e = tag-rank e
+
+-- what it says: its rank is below the one looked for
+tag-new : (t : List ℕ) (d : Layout) (c rank key : ℕ) → 0 < rank → rank < d .ranks → d .ranks ≤ 256 → {tag : ℕ} → TagIs t d c rank key tag
+    → NewTag (d .ranks) rank key tag × (tag < 1024)
+tag-new t d c rank key h l few (tag-none e) = ((λ less. absurd (omega arith), λ _. e), omega arith)
+tag-new t d c rank key h l few (tag-rank e) =
+    let b = code-below (backAt t d c (rank - 1)) (backIn key) in
+    ((λ _. omega arith, λ more. absurd (omega arith)), omega arith)
+
+-- the key of a place whose tag stands for its back pointer
+tagged-key : (t : List ℕ) (d : Layout) (c y key tag : ℕ) → key < noKey → tag < 1024 → besideAt t d c (y + 1) ≡ key / keyUnit * 1024 + tag
+    → taggedBack t d c tag ≡ key % keyUnit → queuedKey t d c y ≡ key
+unfolding queuedKey
+tagged-key t d c y key tag some h e f =
+    rw (e, digits-div (key / keyUnit) {m = 1024} {r = tag} h, digits-mod (key / keyUnit) {m = 1024} {r = tag} h, f) (omega arith)
+
 module _ (t : List ℕ) (d : Layout) (c rank lo hi : ℕ) (below : c < d .cells) (room : 4 * (d .cells * d .ranks) ≤ length t)
-    (last : rank < d .ranks) (few : queueLength t d c < rank) (order : lo ≤ hi)
-    (real : (y : ℕ) → y < queueLength t d c → queuedKey t d c y < noKey) where
+    (last : rank < d .ranks) (few-ranks : d .ranks ≤ 256) (few : queueLength t d c < rank) (order : lo ≤ hi)
+    (real : (y : ℕ) → y < queueLength t d c → queuedKey t d c y < noKey)
+    (tags : (y : ℕ) → y < queueLength t d c → TagBelow d (tagAt t d c y) rank)
+    (reach-lo : lo < noKey → Reached t d c rank lo) (reach-hi : hi < noKey → Reached t d c rank hi)
+    (alone : (y : ℕ) → y < queueLength t d c → TagInitial d (tagAt t d c y) → (lo < noKey → FollowsNone lo false) × (hi < noKey → FollowsNone hi false))
+    (one : lo < noKey → hi < noKey → FollowsNone lo true → FollowsNone hi false) where
   abbrev m : ℕ
   m = queueLength t d c
 
   abbrev queued : ℕ → ℕ
   queued = queuedKey t d c
+
+  abbrev HasIn : List ℕ → ℕ → Member → Type 0
+  HasIn u = Has (d .ranks) rank lo hi queued (tagAt t d c) (queuedKey u d c) (tagAt u d c)
 
   some-kept : 0 < d .ranks
   some-kept = omega arith
@@ -90,66 +144,168 @@ module _ (t : List ℕ) (d : Layout) (c rank lo hi : ℕ) (below : c < d .cells)
   entry-room : (v : List ℕ) (x : ℕ) → length v ≡ length t → x < d .ranks → entryOf d c x + 4 ≤ length v
   entry-room v x e l = omega (arith, entry-within d c x below l)
 
-  far : (x x′ : ℕ) → x ≢ x′ → x < d .ranks → x′ < d .ranks → entryOf d c x ≢ entryOf d c x′
-  far = apart-rank d c below
+  far : (y z : ℕ) → y ≢ z → suc y < d .ranks → suc z < d .ranks → entryOf d c (y + 1) ≢ entryOf d c (z + 1)
+  far y z other l l′ = apart-rank d c below (y + 1) (z + 1) (λ e. other (omega arith)) (omega arith) (omega arith)
 
-  -- the queue of the cell after a key was written beside rank y + 1
-  module _ (v : List ℕ) (size : length v ≡ length t) (y key : ℕ) (l : suc y < d .ranks) where
-    written-here : queuedKey (putQueued v d c y key) d c y ≡ key
-    unfolding putQueued
-    written-here = paired-same v d c y (key / weightUnit) (key % weightUnit) (entry-room v (y + 1) size (omega arith)) ∙ omega arith
+  -- a key that is met is written at place y of a table with the same back pointer at the rank before
+  module _ (v : List ℕ) (size : length v ≡ length t) (same : backAt v d c (rank - 1) ≡ backAt t d c (rank - 1)) (y key : ℕ)
+      (l : suc y < d .ranks) (some : key < noKey) (reach : Reached t d c rank key) where
+    abbrev b : ℕ
+    b = backIn key
 
-    written-other : (z : ℕ) → z ≢ y → suc z < d .ranks → queuedKey (putQueued v d c y key) d c z ≡ queuedKey v d c z
-    unfolding putQueued
-    written-other z other l′ =
-        paired-other v d c y (key / weightUnit) (key % weightUnit) c z
-        (far (z + 1) (y + 1) (λ e. other (omega arith)) (omega arith) (omega arith))
+    abbrev first : List ℕ
+    first = keepInitial v d c b
 
-    written-length : queueLength (putQueued v d c y key) d c ≡ queueLength v d c
+    abbrev tag : ℕ
+    tag = tagOf v d c rank b
+
+    abbrev stub : ℕ
+    stub = key / keyUnit * 1024 + tag
+
+    abbrev written : List ℕ
+    written = putQueued v d c rank y key
+
+    whole : b ≡ key % keyUnit
+    whole = omega (arith, reach .small)
+
+    v-room : entryOf d c 0 + 4 ≤ length v
+    v-room = entry-room v 0 size some-kept
+
+    new-tag : NewTag (d .ranks) rank key tag × (tag < 1024)
+    new-tag = tag-new v d c rank key (omega arith) last few-ranks (tag-is v d c rank key)
+
+    first-size : length first ≡ length v
+    first-size = go (isInitial (backPointer b)) refl
+      where
+        go : (e : Bool) → FollowsNone key e → length first ≡ length v
+        go true e = rw (initial-kept v d c b e) (beside-size v d c 0 (b * 262144 + besideAt v d c 0 % 262144))
+        go false e = rw (initial-none v d c b e)
+
+    first-back : (x : ℕ) → backAt first d c x ≡ backAt v d c x
+    first-back x = go (isInitial (backPointer b)) refl
+      where
+        go : (e : Bool) → FollowsNone key e → backAt first d c x ≡ backAt v d c x
+        go true e = rw (initial-kept v d c b e) (beside-back v d c 0 (b * 262144 + besideAt v d c 0 % 262144) c x)
+        go false e = rw (initial-none v d c b e)
+
+    written-size : length written ≡ length t
     unfolding putQueued
-    written-length =
-        paired-length v d c y (key / weightUnit) (key % weightUnit) c
-        (far 0 (y + 1) (λ e. omega arith) some-kept (omega arith))
+    written-size = beside-size first d c (y + 1) stub ∙ first-size ∙ size
+
+    written-stub : besideAt written d c (y + 1) ≡ stub
+    unfolding putQueued
+    written-stub = beside-same first d c (y + 1) stub (rw first-size (entry-room v (y + 1) size (omega arith)))
+
+    written-tag : NewTag (d .ranks) rank key (tagAt written d c y)
+    written-tag = rw (written-stub, digits-mod (key / keyUnit) {m = 1024} {r = tag} (new-tag .1)) (new-tag .0)
+
+    written-back : (x : ℕ) → backAt written d c x ≡ backAt v d c x
+    unfolding putQueued
+    written-back x = beside-back first d c (y + 1) stub c x ∙ first-back x
+
+    tag-back : {τ : ℕ} → TagIs v d c rank key τ → taggedBack written d c τ ≡ key % keyUnit
+    unfolding taggedBack putQueued
+    tag-back (tag-none e) =
+        rw (le-ltb (1023 / 4 + 1) (d .ranks) (omega arith), first-kept first d c y stub below, initial-kept v d c b e)
+        (kept-back v d c b v-room ∙ whole)
+    tag-back (tag-rank e) =
+        let code = codeOf (backAt v d c (rank - 1)) b in
+        let h = code-below (backAt v d c (rank - 1)) b in
+        let four : ((rank - 1) * 4 + code) / 4 ≡ rank - 1 = digits-div (rank - 1) {m = 4} {r = code} h in
+        let rest : ((rank - 1) * 4 + code) % 4 ≡ code = digits-mod (rank - 1) {m = 4} {r = code} h in
+        rw (four, rest, lt-ltb (rank - 1 + 1) (d .ranks) (omega arith), beside-back first d c (y + 1) stub c (rank - 1), first-back (rank - 1), same)
+        (code-shifted (reach .shift e) ∙ whole)
+
+    written-here : queuedKey written d c y ≡ key
+    written-here = tagged-key written d c y key tag some (new-tag .1) written-stub (tag-back (tag-is v d c rank key))
+
+    written-other : (z : ℕ) → z ≢ y → suc z < d .ranks → (TagInitial d (tagAt v d c z) → FollowsNone key false)
+        → (queuedKey written d c z ≡ queuedKey v d c z) × (tagAt written d c z ≡ tagAt v d c z)
+    unfolding putQueued
+    written-other z other l′ none = go (isInitial (backPointer b)) refl
+      where
+        apart : entryOf d c (z + 1) ≢ entryOf d c (y + 1)
+        apart = far z y other l′ l
+
+        go : (e : Bool) → FollowsNone key e → (queuedKey written d c z ≡ queuedKey v d c z) × (tagAt written d c z ≡ tagAt v d c z)
+        go true e = (
+          place-queued first d c y stub below z apart
+              ∙ rw (initial-kept v d c b e)
+              (tally-queued v d c (b * 262144 + besideAt v d c 0 % 262144) below v-room z (λ h. absurd (true≢false (sym e ∙ none h)))),
+          place-tag first d c y stub below z apart
+              ∙ rw (initial-kept v d c b e) (tally-tag v d c (b * 262144 + besideAt v d c 0 % 262144) below v-room z),
+        )
+        go false e =
+            rw (initial-none v d c b e) (place-queued v d c y stub below z apart, place-tag v d c y stub below z apart)
+
+    written-length : queueLength written d c ≡ queueLength v d c
+    unfolding putQueued
+    written-length = place-length first d c y stub below ∙ go (isInitial (backPointer b)) refl
+      where
+        go : (e : Bool) → FollowsNone key e → queueLength first d c ≡ queueLength v d c
+        go true e = rw (initial-kept v d c b e) (kept-length v d c b v-room)
+        go false e = rw (initial-none v d c b e)
+
+    written-stored : {k : ℕ} → suc y ≤ rank → Stored t d c rank k v → Stored t d c rank k written
+    unfolding putQueued
+    written-stored {k} le st =
+        stored-beside below some-kept (go (isInitial (backPointer b)) refl) (y + 1) stub (omega arith) (omega arith) (place-last first d c y stub below)
+      where
+        go : (e : Bool) → FollowsNone key e → Stored t d c rank k first
+        go true e =
+            rw (initial-kept v d c b e)
+            (stored-beside below some-kept st 0 (b * 262144 + besideAt v d c 0 % 262144) some-kept (omega arith) (kept-last v d c b v-room))
+        go false e = rw (initial-none v d c b e) st
 
   -- the greater of the two was pushed behind m others, if there is one
   record Pushed (key : ℕ) (v u : List ℕ) : Type 0 where
     stored : Stored t d c rank key u
-    at-end : ((queueLength u d c ≡ suc m) × (hi < noKey) × (queuedKey u d c m ≡ hi)) ⊎ ((queueLength u d c ≡ m) × (noKey ≤ hi))
-    same : (y : ℕ) → y < m → queuedKey u d c y ≡ queuedKey v d c y
+    at-end : ((queueLength u d c ≡ suc m) × (hi < noKey) × HasIn u m high) ⊎ ((queueLength u d c ≡ m) × (noKey ≤ hi))
+    same : (y : ℕ) → y < m → (queuedKey u d c y ≡ queuedKey v d c y) × (tagAt u d c y ≡ tagAt v d c y)
     short : queueLength u d c ≤ rank
 
-  pushed : (key : ℕ) (v : List ℕ) → Stored t d c rank key v → queueLength v d c ≡ m → Pushed key v (push v d c m hi)
-  unfolding push putQueued
-  pushed key v st before = go (ltb hi noKey) refl
+  pushed : (key : ℕ) (v : List ℕ) → Stored t d c rank key v → backAt v d c (rank - 1) ≡ backAt t d c (rank - 1) → queueLength v d c ≡ m
+      → ((y : ℕ) → y < m → TagInitial d (tagAt v d c y) → hi < noKey → FollowsNone hi false) → Pushed key v (push v d c rank m hi)
+  unfolding push putQueueLength
+  pushed key v st back before none = go (ltb hi noKey) refl
     where
       w : List ℕ
-      w = putQueued v d c m hi
+      w = putQueued v d c rank m hi
 
-      size : length w ≡ length t
-      size = paired-size v d c m (hi / weightUnit) (hi % weightUnit) ∙ st .size
+      u : List ℕ
+      u = putQueueLength w d c (m + 1)
 
-      stored : Stored t d c rank key (putQueueLength w d c (m + 1))
-      stored =
-          stored-length below some-kept
-          (stored-pair below some-kept st m (hi / weightUnit) (hi % weightUnit) (omega arith) (omega arith)) (m + 1)
+      counted-stored : Stored t d c rank key w → entryOf d c 0 + 4 ≤ length w → Stored t d c rank key u
+      counted-stored st′ w-room =
+          stored-beside below some-kept st′ 0 (besideAt w d c 0 / 512 * 512 + (m + 1)) some-kept (omega arith)
+          (length-last w d c (m + 1) below w-room (omega arith))
 
-      counted : queueLength (putQueueLength w d c (m + 1)) d c ≡ suc m
-      counted = length-same w d c (m + 1) (entry-room w 0 size some-kept) (omega arith) ∙ add-one m
-
-      here : (y : ℕ) → suc y < d .ranks → queuedKey (putQueueLength w d c (m + 1)) d c y ≡ queuedKey w d c y
-      here y l = length-queued w d c (m + 1) c y (far (y + 1) 0 (λ e. omega arith) (omega arith) some-kept)
-
-      go : (b : Bool) → ltb hi noKey ≡ b → Pushed key v (pick b (putQueueLength w d c (m + 1)) v)
-      go true e = record {
-        stored = stored;
-        at-end = inl (counted, ltb-true hi noKey e, here m (omega arith) ∙ written-here v (st .size) m hi (omega arith));
-        same = λ y h. here y (omega arith) ∙ written-other v (st .size) m hi (omega arith) y (λ e. omega arith) (omega arith);
-        short = omega (arith, counted);
-      }
+      go : (b : Bool) → ltb hi noKey ≡ b → Pushed key v (pick b u v)
+      go true e =
+          let some = ltb-true hi noKey e in
+          let reach = reach-hi some in
+          let size = written-size v (st .size) back m hi (omega arith) some reach in
+          let w-room = entry-room (putQueued v d c rank m hi) 0 size some-kept in
+          let counted : queueLength u d c ≡ suc m = length-same w d c (m + 1) below w-room (omega arith) (omega arith) ∙ add-one m in
+          record {
+            stored = counted-stored (written-stored v (st .size) back m hi (omega arith) some reach (omega arith) st) w-room;
+            at-end = inl (
+              counted,
+              some,
+              (
+                length-queued w d c (m + 1) below w-room (omega arith) m ∙ written-here v (st .size) back m hi (omega arith) some reach,
+                rw (length-tag w d c (m + 1) below w-room (omega arith) m) (written-tag v (st .size) back m hi (omega arith) some reach),
+              ),
+            );
+            same = λ y h.
+                let (k, τ) = written-other v (st .size) back m hi (omega arith) some reach y (λ e′. omega arith) (omega arith) (λ i. none y h i some) in
+                (length-queued w d c (m + 1) below w-room (omega arith) y ∙ k, length-tag w d c (m + 1) below w-room (omega arith) y ∙ τ);
+            short = omega (arith, counted);
+          }
       go false e = record {
         stored = st;
         at-end = inr (before, ltb-false hi noKey e);
-        same = λ y h. refl;
+        same = λ y h. (refl, refl);
         short = omega (arith, before);
       }
 
@@ -158,20 +314,32 @@ module _ (t : List ℕ) (d : Layout) (c rank lo hi : ℕ) (below : c < d .cells)
     abbrev v : List ℕ
     v = putKey t d c rank key
 
+    t-room : entryOf d c 0 + 4 ≤ length t
+    t-room = entry-room t 0 refl some-kept
+
     stored : Stored t d c rank key v
-    stored = stored-key t d c rank key below some-kept room some
+    stored = stored-key t d c rank key below last few-ranks room some
 
     counted : queueLength v d c ≡ m
-    counted = put-queue-length t d c rank key some c
+    counted = put-queue-length t d c rank key some below last t-room (omega arith) c
 
-    kept : (y : ℕ) → queuedKey v d c y ≡ queued y
-    kept y = put-queued t d c rank key some below c y
+    kept-tag : (y : ℕ) → tagAt v d c y ≡ tagAt t d c y
+    kept-tag y = rw (put-beside t d c rank key some below c y)
+
+    kept : (y : ℕ) → y < m → (queuedKey v d c y ≡ queued y) × (tagAt v d c y ≡ tagAt t d c y)
+    kept y h = (put-queued-own t d c rank key some below last t-room (omega arith) y (tags y h), kept-tag y)
+
+    before-back : backAt v d c (rank - 1) ≡ backAt t d c (rank - 1)
+    before-back = put-back-other t d c rank key some c (rank - 1) (apart-rank d c below (rank - 1) rank (λ e. omega arith) (omega arith) last)
+
+    none-hi : (y : ℕ) → y < m → TagInitial d (tagAt v d c y) → hi < noKey → FollowsNone hi false
+    none-hi y h i = alone y h (rw (kept-tag y) at i) .1
 
   -- none of the queue is lesser than the two more
   abbrev after-low : List ℕ
-  after-low = push (putKey t d c rank lo) d c m hi
+  after-low = push (putKey t d c rank lo) d c rank m hi
 
-  push-none : (u : List ℕ) → noKey ≤ hi → push u d c m hi ≡ u
+  push-none : (u : List ℕ) → noKey ≤ hi → push u d c rank m hi ≡ u
   unfolding push
   push-none u no-hi = rw (le-ltb hi noKey no-hi)
 
@@ -185,13 +353,16 @@ module _ (t : List ℕ) (d : Layout) (c rank lo hi : ℕ) (below : c < d .cells)
 
       go : Dec (lo < noKey) → Dec (0 < m) → Outcome t d c rank lo hi after-low
       go (yes some) _ =
-          let grown = pushed lo (putKey t d c rank lo) (stored lo some) (counted lo some) in
+          let grown = pushed lo (putKey t d c rank lo) (stored lo some) (before-back lo some) (counted lo some) (none-hi lo some) in
           something (record {
             member = low;
             valid = some;
             least = least;
             stored = grown .stored;
-            arranged = pushed-arranged rank m lo hi queued _ _ (grown .short) (grown .at-end) (λ y h. grown .same y h ∙ kept lo some y);
+            arranged = pushed-arranged rank m lo hi (queueLength after-low d c) (HasIn after-low) (grown .short) (grown .at-end) (λ y h.
+                let (k, τ) = grown .same y h in
+                let (k′, τ′) = kept lo some y h in
+                (k ∙ k′, τ ∙ τ′));
           })
       go (no over) (yes h) = absurd (omega (arith, first 0 h, real 0 h))
       go (no over) (no h) =
@@ -214,85 +385,131 @@ module _ (t : List ℕ) (d : Layout) (c rank lo hi : ℕ) (below : c < d .cells)
     st : Stored t d c rank (queued x) at-rank
     st = stored (queued x) real-x
 
-    replaced-outcome : lo < noKey → Outcome t d c rank lo hi (push (putQueued at-rank d c x lo) d c m hi)
-    unfolding putQueued
+    replaced-outcome : lo < noKey → Outcome t d c rank lo hi (push (putQueued at-rank d c rank x lo) d c rank m hi)
     replaced-outcome some =
         something (record {
           member = inside x;
           valid = in-queue;
           least = inside-least;
           stored = grown .stored;
-          arranged = replaced-arranged rank m lo hi queued _ _ (grown .short) (grown .at-end) x in-queue some
-              (grown .same x in-queue ∙ written-here at-rank (st .size) x lo (omega arith)) (λ y h other.
-              grown .same y h ∙ written-other at-rank (st .size) x lo (omega arith) y other (omega arith) ∙ kept (queued x) real-x y);
+          arranged = replaced-arranged rank m lo hi (queueLength after d c) (HasIn after) (grown .short) (grown .at-end) x in-queue some
+              (let (k, τ) = grown .same x in-queue in (k ∙ written-here at-rank (st .size) back x lo far-enough some reach, rw τ (written-tag at-rank (st .size) back x lo far-enough some reach)))
+              (λ y h other.
+              let (k, τ) = grown .same y h in
+              let (k′, τ′) = unmoved y h other in
+              let (k″, τ″) = kept (queued x) real-x y h in
+              (k ∙ k′ ∙ k″, τ ∙ τ′ ∙ τ″));
         })
       where
-        w : List ℕ
-        w = putQueued at-rank d c x lo
+        far-enough : suc x < d .ranks
+        far-enough = omega arith
 
-        grown : Pushed (queued x) w (push w d c m hi)
+        reach : Reached t d c rank lo
+        reach = reach-lo some
+
+        back : backAt at-rank d c (rank - 1) ≡ backAt t d c (rank - 1)
+        back = before-back (queued x) real-x
+
+        w : List ℕ
+        w = putQueued at-rank d c rank x lo
+
+        after : List ℕ
+        after = push (putQueued at-rank d c rank x lo) d c rank m hi
+
+        unmoved : (y : ℕ) → y < m → y ≢ x → (queuedKey w d c y ≡ queuedKey at-rank d c y) × (tagAt w d c y ≡ tagAt at-rank d c y)
+        unmoved y h other =
+            written-other at-rank (st .size) back x lo far-enough some reach y other (omega arith) (λ i.
+            alone y h (rw (kept-tag (queued x) real-x y) at i) .0 some)
+
+        none : (y : ℕ) → y < m → TagInitial d (tagAt w d c y) → hi < noKey → FollowsNone hi false
+        none y h i some-hi = go (ℕ-discrete y x)
+          where
+            go : Dec (y ≡ x) → FollowsNone hi false
+            go (yes e) = one some some-hi (written-tag at-rank (st .size) back x lo far-enough some reach .1 (rw e at i))
+            go (no other) = none-hi (queued x) real-x y h (rw (unmoved y h other .1) at i) some-hi
+
+        grown : Pushed (queued x) w after
         grown =
-            pushed (queued x) w
-            (stored-pair below some-kept st x (lo / weightUnit) (lo % weightUnit) (omega arith) (omega arith))
-            (written-length at-rank (st .size) x lo (omega arith) ∙ counted (queued x) real-x)
+            pushed (queued x) w (written-stored at-rank (st .size) back x lo far-enough some reach (omega arith) st)
+            (written-back at-rank (st .size) back x lo far-enough some reach (rank - 1) ∙ back)
+            (written-length at-rank (st .size) back x lo far-enough some reach ∙ counted (queued x) real-x) none
 
     -- and there are no more
     moved-outcome : noKey ≤ lo → Outcome t d c rank lo hi (putQueueLength (moveQueued at-rank d c (m - 1) x) d c (m - 1))
-    unfolding moveQueued queuedKey
+    unfolding moveQueued putQueueLength queuedKey taggedBack
     moved-outcome no-lo =
         something (record {
           member = inside x;
           valid = in-queue;
           least = inside-least;
-          stored = stored-length below some-kept
-              (stored-pair below some-kept st x weight number (omega arith) (omega arith)) (m - 1);
-          arranged = moved-arranged rank m lo hi queued _ _ (omega (arith, fewer)) x in-queue no-lo (omega arith) (omega (arith, fewer))
-              (λ h. new) other;
+          stored = counted-stored;
+          arranged = moved-arranged rank m lo hi (queueLength u d c) (HasIn u) (omega (arith, fewer)) x in-queue no-lo (omega arith) (omega (arith, fewer))
+              (λ h. rw fewer (new-key, new-tag)) other;
         })
       where
-        -- the last of the queue, as its two numbers
-        weight : ℕ
-        weight = getD at-rank (entryOf d c (m - 1 + 1) + 1) 0
-
-        number : ℕ
-        number = getD at-rank (entryOf d c (m - 1 + 1) + 3) 0
+        stub : ℕ
+        stub = besideAt at-rank d c (m - 1 + 1)
 
         w : List ℕ
-        w = paired at-rank d c x weight number
+        w = moveQueued at-rank d c (m - 1) x
 
         u : List ℕ
-        u = putQueueLength w d c (m - 1)
+        u = putQueueLength (moveQueued at-rank d c (m - 1) x) d c (m - 1)
 
         size : length w ≡ length t
-        size = paired-size at-rank d c x weight number ∙ st .size
+        size = beside-size at-rank d c (x + 1) (besideAt at-rank d c (m - 1 + 1)) ∙ st .size
+
+        w-room : entryOf d c 0 + 4 ≤ length w
+        w-room = entry-room w 0 size some-kept
+
+        moved-stored : Stored t d c rank (queued x) w
+        moved-stored =
+            stored-beside below some-kept st (x + 1) (besideAt at-rank d c (m - 1 + 1)) (omega arith) (omega arith)
+            (place-last at-rank d c x (besideAt at-rank d c (m - 1 + 1)) below)
+
+        counted-stored : Stored t d c rank (queued x) u
+        counted-stored =
+            stored-beside below some-kept moved-stored 0 (besideAt w d c 0 / 512 * 512 + (m - 1)) some-kept (omega arith)
+            (length-last w d c (m - 1) below w-room (omega arith))
 
         fewer : queueLength u d c ≡ m - 1
-        fewer = length-same w d c (m - 1) (entry-room w 0 size some-kept) (omega arith)
+        fewer = length-same w d c (m - 1) below w-room (omega arith) (omega arith)
 
-        here : (y : ℕ) → suc y < d .ranks → queuedKey u d c y ≡ queuedKey w d c y
-        here y l = length-queued w d c (m - 1) c y (far (y + 1) 0 (λ e. omega arith) (omega arith) some-kept)
+        moved-stub : besideAt w d c (x + 1) ≡ besideAt at-rank d c (m - 1 + 1)
+        moved-stub = beside-same at-rank d c (x + 1) (besideAt at-rank d c (m - 1 + 1)) (entry-room at-rank (x + 1) (st .size) (omega arith))
 
-        new : queuedKey u d c x ≡ queued (queueLength u d c)
-        new =
-            rw fewer
-            (here x (omega arith) ∙ paired-same at-rank d c x weight number (entry-room at-rank (x + 1) (st .size) (omega arith))
-            ∙ kept (queued x) real-x (m - 1))
+        new-key : queuedKey u d c x ≡ queued (m - 1)
+        new-key =
+            length-queued w d c (m - 1) below w-room (omega arith) x ∙ moved-key ∙ kept (queued x) real-x (m - 1) (omega arith) .0
+          where
+            moved-key : queuedKey w d c x ≡ queuedKey at-rank d c (m - 1)
+            moved-key =
+                rw (moved-stub, beside-back at-rank d c (x + 1) (besideAt at-rank d c (m - 1 + 1)) c (besideAt at-rank d c (m - 1 + 1) % 1024 / 4), first-kept at-rank d c x (besideAt at-rank d c (m - 1 + 1)) below)
 
-        other : (y : ℕ) → y < queueLength u d c → y ≢ x → queuedKey u d c y ≡ queued y
+        new-tag : tagAt u d c x ≡ tagAt t d c (m - 1)
+        new-tag = length-tag w d c (m - 1) below w-room (omega arith) x ∙ rw moved-stub (kept-tag (queued x) real-x (m - 1))
+
+        other : (y : ℕ) → y < queueLength u d c → y ≢ x → HasIn u y (inside y)
         other y h apart =
-            let l : suc y < d .ranks = omega (arith, fewer) in
-            here y l
-            ∙ paired-other at-rank d c x weight number c y (far (y + 1) (x + 1) (λ e. apart (omega arith)) (omega arith) (omega arith))
-            ∙ kept (queued x) real-x y
+            let h′ : y < m = omega (arith, fewer) in
+            let far-y = far y x apart (omega arith) (omega arith) in
+            let (k, τ) = kept (queued x) real-x y h′ in
+            (length-queued w d c (m - 1) below w-room (omega arith) y ∙ place-key y far-y ∙ k, length-tag w d c (m - 1) below w-room (omega arith) y ∙ place-mark y far-y ∙ τ)
+          where
+            place-key : (y : ℕ) → entryOf d c (y + 1) ≢ entryOf d c (x + 1) → queuedKey w d c y ≡ queuedKey at-rank d c y
+            place-key y = place-queued at-rank d c x (besideAt at-rank d c (m - 1 + 1)) below y
 
-    inside-outcome : Outcome t d c rank lo hi (push (replace at-rank d c m x lo) d c m hi)
+            place-mark : (y : ℕ) → entryOf d c (y + 1) ≢ entryOf d c (x + 1) → tagAt w d c y ≡ tagAt at-rank d c y
+            place-mark y = place-tag at-rank d c x (besideAt at-rank d c (m - 1 + 1)) below y
+
+    inside-outcome : Outcome t d c rank lo hi (push (replace at-rank d c rank m x lo) d c rank m hi)
     unfolding replace
     inside-outcome = go (ltb lo noKey) refl
       where
         moved : List ℕ
         moved = putQueueLength (moveQueued at-rank d c (m - 1) x) d c (m - 1)
 
-        go : (b : Bool) → ltb lo noKey ≡ b → Outcome t d c rank lo hi (push (pick b (putQueued at-rank d c x lo) moved) d c m hi)
+        go : (b : Bool) → ltb lo noKey ≡ b → Outcome t d c rank lo hi (push (pick b (putQueued at-rank d c rank x lo) moved) d c rank m hi)
         go true e = replaced-outcome (ltb-true lo noKey e)
         go false e =
             let no-lo = ltb-false lo noKey e in
@@ -306,7 +523,7 @@ module _ (t : List ℕ) (d : Layout) (c rank lo hi : ℕ) (below : c < d .cells)
       x = leastPlace t d c m
 
       after-inside : List ℕ
-      after-inside = push (replace (putKey t d c rank (queued x)) d c m x lo) d c m hi
+      after-inside = push (replace (putKey t d c rank (queued x)) d c rank m x lo) d c rank m hi
 
       by-key : (b : Bool) → ltb (queued x) lo ≡ b → 0 < m → Outcome t d c rank lo hi (pick b after-inside after-low)
       by-key true e h =

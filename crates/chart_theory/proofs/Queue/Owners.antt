@@ -1,23 +1,30 @@
 -- What a candidate of a cell follows: nothing, which is written 0, or rank x, which is written suc x.
 -- No candidate follows two: its rule, split and ranks say which pairing it follows, and a pairing has one rank.
 use mathlib.Core.Path.{_≡_, refl, sym, _∙_}
+use mathlib.Core.Bool.{Bool, true, false}
 use mathlib.Core.List.{List}
 use Prim.Native.Nat.{ℕ, zero, suc, _≤_, _<_}
 use native.Mathlib.Nat.{le-trans}
 use native.Mathlib.Omega.{arith}
+use lib.Dec.{eqb·suc-zero}
 use Rattle.packing.specs.Meaning.{Grammar, Edge}
-use Rattle.derivation.specs.Derivation.{Tree, weight}
+use Rattle.derivation.specs.Derivation.{Tree}
 use Rattle.derivation.proofs.Comparison.{compare-same}
 use Rattle.derivation.proofs.Order.{order-lawful}
 use Rattle.derivation.proofs.Cell.{ranked-order}
-use Rattle.derivation.proofs.Rows.{Row, row, leaf-row, node-row}
+use Rattle.derivation.proofs.Rows.{Price, Row, row, leaf-row, node-row}
 use Rattle.derivation.proofs.Frontier.{a-leaf, a-seed, right-follower, left-follower}
 use Rattle.chart_table.specs.declared.Cell.{Cell}
+use Rattle.chart_queue.specs.Queue.{isInitial}
+use Rattle.chart_theory.proofs.Table.Keys.{rowBack}
 use Rattle.chart_theory.proofs.Table.Cells.{RowOfIn, RowAtIn, FrontierIn}
+
+false≢true : _≡_ {A = Bool} false true → ⊥
+false≢true e = let z : _≡_ {A = ℕ} 0 1 = cc in omega arith
 
 module _ (g : Grammar) (es : List Edge) (c : Cell) where
   -- rule, split and ranks of the parts make the tree
-  tree-unique : {w w′ r j p q : ℕ} {t t′ : Tree} → RowOfIn g es c (row w r j p q) t → RowOfIn g es c (row w′ r j p q) t′
+  pub tree-unique : {w w′ : Price} {r j p q : ℕ} {t t′ : Tree} → RowOfIn g es c (row w r j p q) t → RowOfIn g es c (row w′ r j p q) t′
       → t ≡ t′
   tree-unique (leaf-row p q) (leaf-row p′ q′) = refl
   tree-unique (leaf-row p q) (node-row p′ h₁ h₂ l m) = absurd (omega arith)
@@ -31,18 +38,18 @@ module _ (g : Grammar) (es : List Edge) (c : Cell) where
       let f : t ≡ t′ = cc in
       cc
 
-  rank-unique : {w w′ r j p q : ℕ} (x x′ : ℕ) → RowAtIn g es c x (row w r j p q) → RowAtIn g es c x′ (row w′ r j p q)
+  rank-unique : {w w′ : Price} {r j p q : ℕ} (x x′ : ℕ) → RowAtIn g es c x (row w r j p q) → RowAtIn g es c x′ (row w′ r j p q)
       → x ≡ x′
   rank-unique x x′ (t, f, o) (t′, f′, o′) =
       let e : t′ ≡ t = sym (tree-unique o o′) in
-      compare-same x x′ (sym (ranked-order g es (c .head) (c .from) (c .to) x x′ f (rw e at f′)) ∙ order-lawful (weight g es) .self t)
+      compare-same x x′ (sym (ranked-order g es (c .head) (c .from) (c .to) x x′ f (rw e at f′)) ∙ order-lawful g es .self t)
 
   -- what the candidate of rule r, split j and ranks p and q follows
   abbrev pub Owner : (r j q p o : ℕ) → Type 0
   Owner r zero q p o = o ≡ 0
   Owner r (suc j) zero zero o = o ≡ 0
-  Owner r (suc j) zero (suc p) o = (x : ℕ) × (w : ℕ) × (o ≡ suc x) × RowAtIn g es c x (row w r (suc j) p 0)
-  Owner r (suc j) (suc q) p o = (x : ℕ) × (w : ℕ) × (o ≡ suc x) × RowAtIn g es c x (row w r (suc j) p q)
+  Owner r (suc j) zero (suc p) o = (x : ℕ) × (w : Price) × (o ≡ suc x) × RowAtIn g es c x (row w r (suc j) p 0)
+  Owner r (suc j) (suc q) p o = (x : ℕ) × (w : Price) × (o ≡ suc x) × RowAtIn g es c x (row w r (suc j) p q)
 
   abbrev pub OwnerOf : Row → ℕ → Type 0
   OwnerOf (row w r j p q) o = Owner r j q p o
@@ -56,26 +63,34 @@ module _ (g : Grammar) (es : List Edge) (c : Cell) where
   pub owner-unique : (v : Row) {o o′ : ℕ} → OwnerOf v o → OwnerOf v o′ → o ≡ o′
   owner-unique (row w r j p q) = owner-same r j q p
 
+  -- a leaf and first with first follow none
+  pub initial-owner : (v : Row) {o : ℕ} → isInitial (rowBack v) ≡ true → OwnerOf v o → o ≡ 0
+  initial-owner (row w r zero p q) e owns = owns
+  initial-owner (row w r (suc j) zero zero) e owns = owns
+  initial-owner (row w r (suc j) (suc p) zero) e owns = absurd (false≢true (rw (eqb·suc-zero j, eqb·suc-zero p) at e))
+  initial-owner (row w r (suc j) zero (suc q)) e owns = absurd (false≢true (rw (eqb·suc-zero j, eqb·suc-zero q) at e))
+  initial-owner (row w r (suc j) (suc p) (suc q)) e owns = absurd (false≢true (rw (eqb·suc-zero j, eqb·suc-zero p) at e))
+
   -- each candidate follows something
   pub seed-owner : (r j : ℕ) → 0 < j → Owner r j 0 0 0
   seed-owner r zero h = absurd (omega arith)
   seed-owner r (suc j) h = refl
 
-  pub right-owner : (r j p q x w : ℕ) → 0 < j → RowAtIn g es c x (row w r j p q) → Owner r j (suc q) p (suc x)
+  pub right-owner : (r j p q x : ℕ) (w : Price) → 0 < j → RowAtIn g es c x (row w r j p q) → Owner r j (suc q) p (suc x)
   right-owner r zero p q x w h at = absurd (omega arith)
   right-owner r (suc j) p q x w h at = (x, w, refl, at)
 
-  pub left-owner : (r j p x w : ℕ) → 0 < j → RowAtIn g es c x (row w r j p 0) → Owner r j 0 (suc p) (suc x)
+  pub left-owner : (r j p x : ℕ) (w : Price) → 0 < j → RowAtIn g es c x (row w r j p 0) → Owner r j 0 (suc p) (suc x)
   left-owner r zero p x w h at = absurd (omega arith)
   left-owner r (suc j) p x w h at = (x, w, refl, at)
 
   pub right-owned : (r j p q o : ℕ) → 0 < j → Owner r j (suc q) p o
-      → (x : ℕ) × (w : ℕ) × (o ≡ suc x) × RowAtIn g es c x (row w r j p q)
+      → (x : ℕ) × (w : Price) × (o ≡ suc x) × RowAtIn g es c x (row w r j p q)
   right-owned r zero p q o h owns = absurd (omega arith)
   right-owned r (suc j) p q o h owns = owns
 
   pub left-owned : (r j p o : ℕ) → 0 < j → Owner r j 0 (suc p) o
-      → (x : ℕ) × (w : ℕ) × (o ≡ suc x) × RowAtIn g es c x (row w r j p 0)
+      → (x : ℕ) × (w : Price) × (o ≡ suc x) × RowAtIn g es c x (row w r j p 0)
   left-owned r zero p o h owns = absurd (omega arith)
   left-owned r (suc j) p o h owns = owns
 

@@ -2,19 +2,22 @@
 -- a place of its own; only what follows that which the last found followed is to be looked for.
 -- So the least of the pool, that is of the queue, the last found's successors, and what replaces the last found, is the least of
 -- all; and with that one found, the others are the queue.
-use mathlib.Core.Path.{_≡_, refl, sym, ap, _∙_}
+use mathlib.Core.Path.{_≡_, refl, sym, ap, _∙_, subst}
 use mathlib.Core.Logic.{_⊎_, inl, inr, ⊎-elim, _≢_}
 use mathlib.Core.List.{List}
-use Prim.Native.Nat.{ℕ, suc, _≤_, _<_}
+use mathlib.Core.Bool.{true}
+use Prim.Native.Nat.{ℕ, suc, _+_, _/_, _%_, _≤_, _<_}
 use native.Mathlib.Decide.{decLe, ℕ-discrete}
 use native.Mathlib.Omega.{arith}
 use Rattle.packing.specs.Meaning.{Grammar, Edge}
 use Rattle.derivation.proofs.Rows.{Row}
-use Rattle.chart_keys.specs.Keys.{noKey}
+use Rattle.chart_keys.specs.declared.BackPointer.{BackPointer}
+use Rattle.chart_keys.specs.Keys.{backNumber, backPointer, keyUnit, noKey}
 use Rattle.chart_table.specs.declared.Cell.{Cell}
-use Rattle.chart_theory.proofs.Table.Keys.{RowFits, rowKey, key-injective}
+use Rattle.chart_queue.specs.Queue.{isInitial}
+use Rattle.chart_theory.proofs.Table.Keys.{rowBack, RowFits, rowKey, decoded, key-back, key-injective}
 use Rattle.chart_theory.proofs.Table.Cells.{FrontierIn}
-use Rattle.chart_theory.proofs.Queue.Owners.{OwnerOf, owner-unique, frontier-more, frontier-less}
+use Rattle.chart_theory.proofs.Queue.Owners.{OwnerOf, owner-unique, initial-owner, frontier-more, frontier-less}
 
 -- the pool: the queue, and two more
 pub data Member : Type 0 where
@@ -32,13 +35,26 @@ keyIn lo hi key (inside y) = key y
 keyIn lo hi key low = lo
 keyIn lo hi key high = hi
 
--- after one of the pool was found, each of the others has a place of its own in the queue
-pub record Arranged (n m lo hi : ℕ) (key : ℕ → ℕ) (m′ : ℕ) (key′ : ℕ → ℕ) (found : Member) : Type 0 where
+-- after one of the pool was found, each of the others has a place of its own in the queue; Has says which has which
+pub record Arranged (n m lo hi m′ : ℕ) (Has : ℕ → Member → Type 0) (found : Member) : Type 0 where
   pub few : m′ ≤ n
   pub source : ℕ → Member
-  pub from : (y : ℕ) → y < m′ → Valid m lo hi (source y) × (source y ≢ found) × (key′ y ≡ keyIn lo hi key (source y))
+  pub from : (y : ℕ) → y < m′ → Valid m lo hi (source y) × (source y ≢ found) × Has y (source y)
   pub unique : (y z : ℕ) → y < m′ → z < m′ → source y ≡ source z → y ≡ z
   pub each : (p : Member) → Valid m lo hi p → p ≢ found → (y : ℕ) × (y < m′) × (source y ≡ p)
+
+-- the tag of a key that is met with rank n: its rank is n at most, and only what follows none has no rank
+abbrev pub NewTag : (N n key tag : ℕ) → Type 0
+NewTag N n key tag = (tag / 4 + 1 < N → tag / 4 < suc n) × (N ≤ tag / 4 + 1 → isInitial (backPointer (key % keyUnit % 4294967296)) ≡ true)
+
+abbrev pub TagIn : (N n lo hi : ℕ) → (ℕ → ℕ) → Member → ℕ → Type 0
+TagIn N n lo hi tag (inside y) τ = τ ≡ tag y
+TagIn N n lo hi tag low τ = NewTag N n lo τ
+TagIn N n lo hi tag high τ = NewTag N n hi τ
+
+-- a place of the new queue has the key and the tag of a member
+abbrev pub Has : (N n lo hi : ℕ) (key tag key′ tag′ : ℕ → ℕ) → ℕ → Member → Type 0
+Has N n lo hi key tag key′ tag′ y p = (key′ y ≡ keyIn lo hi key p) × TagIn N n lo hi tag p (tag′ y)
 
 -- of a cell of which N ranks are kept; P says what else holds of the rows of its queue
 module _ (g : Grammar) (es : List Edge) (N : ℕ) (c : Cell) (P : Row → Type 0) where
@@ -53,7 +69,7 @@ module _ (g : Grammar) (es : List Edge) (N : ℕ) (c : Cell) (P : Row → Type 0
     pub more : P v
 
   -- a queue of m candidates where n ranks are found, of which l is the last, and `last` what that followed
-  pub record Queue (n : ℕ) (l : Row) (m : ℕ) (key : ℕ → ℕ) : Type 0 where
+  pub record Queue (n : ℕ) (l : Row) (m : ℕ) (key tag : ℕ → ℕ) : Type 0 where
     pub rowIn : ℕ → Row
     pub ownerIn : ℕ → ℕ
     pub last : ℕ
@@ -65,6 +81,8 @@ module _ (g : Grammar) (es : List Edge) (N : ℕ) (c : Cell) (P : Row → Type 0
     pub gone : (y : ℕ) → y < m → ownerIn y ≡ last → ⊥
     pub complete : (v : Row) (o : ℕ) → FrontierIn g es c N n v → OwnerOf g es c v o → o < n → rowKey l < rowKey v
         → (o ≡ last) ⊎ ((y : ℕ) × (y < m) × (ownerIn y ≡ o) × (rowKey (rowIn y) ≤ rowKey v))
+    pub tag-below : (y : ℕ) → y < m → tag y / 4 + 1 < N → tag y / 4 < n
+    pub tag-initial : (y : ℕ) → y < m → N ≤ tag y / 4 + 1 → ownerIn y ≡ 0
 
   -- the least candidate above l that follows o, or none
   pub record Fresh (n : ℕ) (l : Row) (o key : ℕ) : Type 0 where
@@ -73,8 +91,8 @@ module _ (g : Grammar) (es : List Edge) (N : ℕ) (c : Cell) (P : Row → Type 0
     pub least : (v : Row) → FrontierIn g es c N n v → OwnerOf g es c v o → rowKey l < rowKey v → key ≤ rowKey v
 
   -- the queue and two more: one follows the last found, one what that followed
-  pub record Pool (n : ℕ) (l : Row) (m lo hi : ℕ) (key : ℕ → ℕ) : Type 0 where
-    pub queue : Queue n l m key
+  pub record Pool (n : ℕ) (l : Row) (m lo hi : ℕ) (key tag : ℕ → ℕ) : Type 0 where
+    pub queue : Queue n l m key tag
     pub owner-lo : ℕ
     pub owner-hi : ℕ
     pub fresh-lo : Fresh n l owner-lo lo
@@ -82,7 +100,7 @@ module _ (g : Grammar) (es : List Edge) (N : ℕ) (c : Cell) (P : Row → Type 0
     pub both : ((owner-lo ≡ n) × (owner-hi ≡ queue .last)) ⊎ ((owner-lo ≡ queue .last) × (owner-hi ≡ n))
 
   -- nothing is in the queue where the first rank was found, which follows none
-  pub queue-first : {l : Row} {key : ℕ → ℕ} → OwnerOf g es c l 0 → Queue 1 l 0 key
+  pub queue-first : {l : Row} {key tag : ℕ → ℕ} → OwnerOf g es c l 0 → Queue 1 l 0 key tag
   queue-first {l = l} owns = record {
     rowIn = λ y. l;
     ownerIn = λ y. 0;
@@ -94,13 +112,15 @@ module _ (g : Grammar) (es : List Edge) (N : ℕ) (c : Cell) (P : Row → Type 0
     unique = λ y z h. absurd (omega arith);
     gone = λ y h. absurd (omega arith);
     complete = λ v o on owns less above. inl (omega arith);
+    tag-below = λ y h. absurd (omega arith);
+    tag-initial = λ y h. absurd (omega arith);
   }
 
 module _ {g : Grammar} {es : List Edge} {N : ℕ} {c : Cell} {P P′ : Row → Type 0} (grows : (v : Row) → P v → P′ v) {n : ℕ} where
   -- the queue stays as more is found elsewhere
-  pub queue-kept : {m m′ : ℕ} {l : Row} {key key′ : ℕ → ℕ} → m′ ≡ m → ((y : ℕ) → y < m → key′ y ≡ key y)
-      → Queue g es N c P n l m key → Queue g es N c P′ n l m′ key′
-  queue-kept e same queue = record {
+  pub queue-kept : {m m′ : ℕ} {l : Row} {key key′ tag tag′ : ℕ → ℕ} → m′ ≡ m → ((y : ℕ) → y < m → (key′ y ≡ key y) × (tag′ y ≡ tag y))
+      → Queue g es N c P n l m key tag → Queue g es N c P′ n l m′ key′ tag′
+  queue-kept {tag = tag} {tag′ = tag′} e same queue = record {
     rowIn = queue .rowIn;
     ownerIn = queue .ownerIn;
     last = queue .last;
@@ -111,7 +131,7 @@ module _ {g : Grammar} {es : List Edge} {N : ℕ} {c : Cell} {P P′ : Row → T
         let b = rw e at h in
         let w = queue .place y b in
         record {
-          keyed = same y b ∙ w .keyed;
+          keyed = same y b .0 ∙ w .keyed;
           fits = w .fits;
           on = w .on;
           owns = w .owns;
@@ -126,11 +146,19 @@ module _ {g : Grammar} {es : List Edge} {N : ℕ} {c : Cell} {P P′ : Row → T
         let (y, b, owner, le) = w in
         inr (y, rw e b, owner, le))
         (queue .complete v o on owns less above);
+    tag-below = λ y h l.
+        let b = rw e at h in
+        let t = same y b .1 in
+        rw t (queue .tag-below y b (rw t at l));
+    tag-initial = λ y h l.
+        let b = rw e at h in
+        let t = same y b .1 in
+        queue .tag-initial y b (rw t at l);
   }
 
-module _ {g : Grammar} {es : List Edge} {N : ℕ} {c : Cell} {P : Row → Type 0} {n m lo hi : ℕ} {l : Row} {key : ℕ → ℕ}
-    (pool : Pool g es N c P n l m lo hi key) where
-  abbrev queue : Queue g es N c P n l m key
+module _ {g : Grammar} {es : List Edge} {N : ℕ} {c : Cell} {P : Row → Type 0} {n m lo hi : ℕ} {l : Row} {key tag : ℕ → ℕ}
+    (pool : Pool g es N c P n l m lo hi key tag) where
+  abbrev queue : Queue g es N c P n l m key tag
   queue = pool .queue
 
   abbrev pub rowOf : Member → Row
@@ -184,6 +212,23 @@ module _ {g : Grammar} {es : List Edge} {N : ℕ} {c : Cell} {P : Row → Type 0
   pool-unique high low h h′ e = absurd (not-both (sym e))
   pool-unique high high h h′ e = refl
 
+  -- what a member's tag says
+  tag-below-of : (p : Member) (τ : ℕ) → In p → TagIn N n lo hi tag p τ → τ / 4 + 1 < N → τ / 4 < suc n
+  tag-below-of (inside y) τ h e l = rw e (let b = queue .tag-below y h (rw e at l) in omega arith)
+  tag-below-of low τ h e l = e .0 l
+  tag-below-of high τ h e l = e .0 l
+
+  pub fresh-initial : (k : ℕ) (v : Row) (o : ℕ) → Queued g es N c P n l (suc n) k v o → isInitial (backPointer (k % keyUnit % 4294967296)) ≡ true
+      → o ≡ 0
+  fresh-initial k v o q e =
+      let number : isInitial (backPointer (backNumber (rowBack v))) ≡ true = rw (q .keyed, key-back v (q .fits)) at e in
+      initial-owner g es c v (subst (λ (b : BackPointer). isInitial b ≡ true) (decoded (rowBack v) (q .fits .has-key)) number) (q .owns)
+
+  tag-initial-of : (p : Member) (τ : ℕ) → In p → TagIn N n lo hi tag p τ → N ≤ τ / 4 + 1 → ownerOf p ≡ 0
+  tag-initial-of (inside y) τ h e l = queue .tag-initial y h (rw e at l)
+  tag-initial-of low τ h e l = fresh-initial lo (rowOf low) (ownerOf low) (pool-queued low h) (e .1 l)
+  tag-initial-of high τ h e l = fresh-initial hi (rowOf high) (ownerOf high) (pool-queued high h) (e .1 l)
+
   -- at or below a candidate that follows o there is one in the pool that follows o
   abbrev Covered : Row → ℕ → Type 0
   Covered v o = (p : Member) × In p × (ownerOf p ≡ o) × (keyOf p ≤ rowKey v)
@@ -230,11 +275,11 @@ module _ {g : Grammar} {es : List Edge} {N : ℕ} {c : Cell} {P : Row → Type 0
             key-injective (rowOf p) (rowOf ch) (w .fits) (w′ .fits) (omega (arith, w .keyed, w′ .keyed)) in
             absurd (other (pool-unique p ch h valid (owner-unique g es c (rowOf ch) (rw same at (w .owns)) (w′ .owns))))
 
-    module _ {m′ : ℕ} {key′ : ℕ → ℕ} (arranged : Arranged n m lo hi key m′ key′ ch) where
+    module _ {m′ : ℕ} {key′ tag′ : ℕ → ℕ} (arranged : Arranged n m lo hi m′ (Has N n lo hi key tag key′ tag′) ch) where
       abbrev source : ℕ → Member
       source = arranged .source
 
-      pub requeued : Queue g es N c P′ (suc n) (rowOf ch) m′ key′
+      pub requeued : Queue g es N c P′ (suc n) (rowOf ch) m′ key′ tag′
       requeued = record {
         rowIn = λ y. rowOf (source y);
         ownerIn = λ y. ownerOf (source y);
@@ -243,10 +288,10 @@ module _ {g : Grammar} {es : List Edge} {N : ℕ} {c : Cell} {P : Row → Type 0
         last-owned = pool-queued ch valid .owns;
         last-below = pool-queued ch valid .below;
         place = λ y h.
-            let (v, other, e) = arranged .from y h in
+            let (v, other, has) = arranged .from y h in
             let w = pool-queued (source y) v in
             record {
-              keyed = e ∙ w .keyed;
+              keyed = has .0 ∙ w .keyed;
               fits = w .fits;
               on = frontier-more g es c N n (suc n) (omega arith) (w .on);
               owns = w .owns;
@@ -258,6 +303,8 @@ module _ {g : Grammar} {es : List Edge} {N : ℕ} {c : Cell} {P : Row → Type 0
             (pool-unique (source y) (source z) (arranged .from y h .0) (arranged .from z h′ .0) e);
         gone = λ y h e. arranged .from y h .1 (pool-unique (source y) ch (arranged .from y h .0) valid e);
         complete = λ v o on owns less above. held v o on owns less above (ℕ-discrete o (ownerOf ch));
+        tag-below = λ y h. let from = arranged .from y h in tag-below-of (source y) (tag′ y) (from .0) (from .2 .1);
+        tag-initial = λ y h. let from = arranged .from y h in tag-initial-of (source y) (tag′ y) (from .0) (from .2 .1);
       }
         where
           held : (v : Row) (o : ℕ) → FrontierIn g es c N (suc n) v → OwnerOf g es c v o → o < suc n → rowKey (rowOf ch) < rowKey v

@@ -1,4 +1,4 @@
--- The next row of a cell written at its rank keeps the invariant: it changes no other entry's weight and back pointer, and no
+-- The next row of a cell written at its rank keeps the invariant: it changes no other entry's price and back pointer, and no
 -- other cell's queue. So an entry is the written one, whose row is known, or holds what it held; and what was found stays found.
 use mathlib.Core.Path.{_≡_, refl, sym, _∙_}
 use mathlib.Core.Logic.{_⊎_, inl, inr, ⊎-elim, _≢_}
@@ -9,19 +9,19 @@ use native.Mathlib.Decide.{ℕ-discrete, decLt}
 use native.Mathlib.Omega.{arith}
 use lib.ListN.{length, getD}
 use Rattle.packing.specs.Meaning.{Grammar, Edge}
-use Rattle.derivation.proofs.Rows.{Row, rowWeight}
+use Rattle.derivation.proofs.Rows.{Row}
 use Rattle.chart_keys.specs.Keys.{noKey}
 use Rattle.chart_table.specs.declared.Cell.{Cell}
 use Rattle.chart_table.specs.declared.Layout.{Layout}
-use Rattle.chart_table.specs.Table.{cellNumber, entryOf, weightAt, backAt, lastRank}
+use Rattle.chart_table.specs.Table.{cellNumber, entryOf, priceAt, backAt, lastRank}
 use Rattle.chart_queue.specs.Queue.{queueLength}
-use Rattle.chart_theory.proofs.Table.Keys.{RowFits, rowKey, key-weight, key-back}
+use Rattle.chart_theory.proofs.Table.Keys.{rowNumber, RowFits, rowKey, key-price, key-back}
 use Rattle.chart_theory.proofs.Table.Cells.{InChart, span, RowAtIn, FrontierIn}
 use Rattle.chart_theory.proofs.Table.Entries.{cell-below, cell-injective, entry-injective, entry-within, InEntry, past-ranks, same-entry, found-kept}
-use Rattle.chart_theory.proofs.Table.Numbers.{put-weight, put-back, put-weight-other, put-back-other}
+use Rattle.chart_theory.proofs.Table.Numbers.{put-price, put-back, put-price-other, put-back-other}
 use Rattle.chart_theory.proofs.Queue.Pool.{queue-kept}
 use Rattle.chart_theory.proofs.Queue.Stored.{Stored}
-use Rattle.chart_theory.proofs.Invariant.{Setting, weightIn, Found, Known, PartsFound, SuccessorsKnown, HoldsRow, QueueIn, Invariant, Grows, known-grows, parts-grow, successors-grow, Grown}
+use Rattle.chart_theory.proofs.Invariant.{Setting, priceIn, Found, Known, PartsFound, SuccessorsKnown, HoldsRow, QueueIn, Invariant, Grows, known-grows, parts-grow, successors-grow, Grown}
 use Rattle.chart_theory.proofs.Candidates.Frontier.{Ready, frontier-fits, frontier-some}
 
 module _ {g : Grammar} {es : List Edge} {rules edges index : List ℕ} {d : Layout} (s : Setting g es rules edges index d) where
@@ -29,7 +29,7 @@ module _ {g : Grammar} {es : List Edge} {rules edges index : List ℕ} {d : Layo
   pub record Done (m : ℕ) (t u : List ℕ) (c : Cell) (n : ℕ) : Type 0 where
     pub grown : Grown g es d m t u
     pub here : Known g es d u c n
-    pub longer-unchanged : {b : Cell} (x : ℕ) → InChart d b → span c < span b → weightIn d u b x ≡ weightIn d t b x
+    pub longer-unchanged : {b : Cell} (x : ℕ) → InChart d b → span c < span b → priceIn d u b x ≡ priceIn d t b x
 
   -- the next row of a cell, and the table that it was written into
   pub record Written (m : ℕ) (t : List ℕ) (c : Cell) (n : ℕ) (v : Row) (u : List ℕ) : Type 0 where
@@ -65,15 +65,15 @@ module _ {g : Grammar} {es : List Edge} {rules edges index : List ℕ} {d : Layo
   room : entryOf d number n + 4 ≤ length t
   room = omega (arith, entry-within d number n (inside (ready .in-chart)) (ready .kept), before .room)
 
-  new-weight : weightIn d u c n ≡ rowWeight v + 1
-  new-weight = stored .weights number n ∙ put-weight t d number n (rowKey v) some room (ready .kept) ∙ key-weight v fits
+  new-price : priceIn d u c n ≡ rowNumber v + 1
+  new-price = stored .prices number n ∙ put-price t d number n (rowKey v) some room (ready .kept) ∙ key-price v fits
 
   pub new-found : Found d u c n
-  new-found = omega (arith, new-weight)
+  new-found = omega (arith, new-price)
 
   -- an entry is the written one, or as it was
   abbrev Same : Cell → ℕ → Type 0
-  Same b x = (weightIn d u b x ≡ weightIn d t b x) × (backAt u d (cellNumber d b) x ≡ backAt t d (cellNumber d b) x)
+  Same b x = (priceIn d u b x ≡ priceIn d t b x) × (backAt u d (cellNumber d b) x ≡ backAt t d (cellNumber d b) x)
 
   pub look : {b : Cell} (x : ℕ) → InChart d b → x < d .ranks → ((b ≡ c) × (x ≡ n)) ⊎ Same b x
   look {b} x in-chart l = go (ℕ-discrete (entryOf d (cellNumber d b) x) (entryOf d number n))
@@ -84,21 +84,21 @@ module _ {g : Grammar} {es : List Edge} {rules edges index : List ℕ} {d : Layo
           inl (cell-injective in-chart (ready .in-chart) same, rank)
       go (no e) =
           inr (
-            stored .weights (cellNumber d b) x ∙ put-weight-other t d number n (rowKey v) some (cellNumber d b) x e,
+            stored .prices (cellNumber d b) x ∙ put-price-other t d number n (rowKey v) some (cellNumber d b) x e,
             stored .backs (cellNumber d b) x ∙ put-back-other t d number n (rowKey v) some (cellNumber d b) x e,
           )
 
   pub grows : Grows d t u
   grows = record { keeps = λ b x h. go b x h (ℕ-discrete (entryOf d b x) (entryOf d number n)) }
     where
-      go : (b x : ℕ) → 0 < weightAt t d b x → Dec (entryOf d b x ≡ entryOf d number n) → 0 < weightAt u d b x
+      go : (b x : ℕ) → 0 < priceAt t d b x → Dec (entryOf d b x ≡ entryOf d number n) → 0 < priceAt u d b x
       go b x h (yes e) = rw (same-entry u d b x number n (found-kept t d b x h) (ready .kept) e) new-found
-      go b x h (no e) = rw (stored .weights b x, put-weight-other t d number n (rowKey v) some b x e) h
+      go b x h (no e) = rw (stored .prices b x, put-price-other t d number n (rowKey v) some b x e) h
 
-  longer-unchanged : {b : Cell} (x : ℕ) → InChart d b → span c < span b → weightIn d u b x ≡ weightIn d t b x
+  longer-unchanged : {b : Cell} (x : ℕ) → InChart d b → span c < span b → priceIn d u b x ≡ priceIn d t b x
   longer-unchanged {b} x in-chart longer = go (decLt x (d .ranks))
     where
-      go : Dec (x < d .ranks) → weightIn d u b x ≡ weightIn d t b x
+      go : Dec (x < d .ranks) → priceIn d u b x ≡ priceIn d t b x
       go (yes l) = ⊎-elim (λ e. absurd (omega (arith, rw (e .0) at longer))) (λ e. e .0) (look x in-chart l)
       go (no l) = past-ranks u d (cellNumber d b) x (omega arith) ∙ sym (past-ranks t d (cellNumber d b) x (omega arith))
 
@@ -106,7 +106,7 @@ module _ {g : Grammar} {es : List Edge} {rules edges index : List ℕ} {d : Layo
   new-held = record {
     place = new .place;
     fits = fits;
-    weighs = new-weight;
+    priced = new-price;
     points = stored .backs number n ∙ put-back t d number n (rowKey v) some room ∙ key-back v fits;
     parts = parts-grow g es grows c v (new .parts);
   }
@@ -115,7 +115,7 @@ module _ {g : Grammar} {es : List Edge} {rules edges index : List ℕ} {d : Layo
   still-held b x v′ same held = record {
     place = held .place;
     fits = held .fits;
-    weighs = same .0 ∙ held .weighs;
+    priced = same .0 ∙ held .priced;
     points = same .1 ∙ held .points;
     parts = parts-grow g es grows b v′ (held .parts);
   }
@@ -162,19 +162,19 @@ module _ {g : Grammar} {es : List Edge} {rules edges index : List ℕ} {d : Layo
 
   -- the queues
   other-queued : {b : Cell} {v′ : Row} (x : ℕ) → InChart d b → cellNumber d b ≢ number → Found d u b x → suc x < d .ranks
-      → weightIn d u b (suc x) ≡ 0 → RowAtIn g es b x v′ → QueueIn g es d u b (suc x) v′
+      → priceIn d u b (suc x) ≡ 0 → RowAtIn g es b x v′ → QueueIn g es d u b (suc x) v′
   other-queued {b} x in-chart other found kept absent at =
       let queue = before .queued x in-chart (rw (as-it-was x (omega arith)) at found) kept (sym (as-it-was (suc x) kept) ∙ absent) at in
       queue-kept (parts-grow g es grows b) (stored .lengths _ (inside in-chart) other)
       (λ y l. stored .others _ y (inside in-chart) other (omega (arith, queue .few))) queue
     where
-      as-it-was : (y : ℕ) → y < d .ranks → weightIn d u b y ≡ weightIn d t b y
+      as-it-was : (y : ℕ) → y < d .ranks → priceIn d u b y ≡ priceIn d t b y
       as-it-was y l = ⊎-elim (λ e. absurd (other (rw (e .0)))) (λ e. e .0) (look y in-chart l)
 
-  no-queue : {b : Cell} → InChart d b → weightIn d u b 0 ≡ 0 → queueLength u d (cellNumber d b) ≡ 0
+  no-queue : {b : Cell} → InChart d b → priceIn d u b 0 ≡ 0 → queueLength u d (cellNumber d b) ≡ 0
   no-queue {b} in-chart absent = go (ℕ-discrete (cellNumber d b) number)
     where
-      first : (z : ℕ) → n ≡ z → weightIn d u c 0 ≡ 0 → ⊥
+      first : (z : ℕ) → n ≡ z → priceIn d u c 0 ≡ 0 → ⊥
       first zero e z = omega (arith, rw e at new-found)
       first (suc z) e absent = omega (arith, grows .keeps number 0 (ready .all 0 (omega arith)))
 
@@ -186,9 +186,9 @@ module _ {g : Grammar} {es : List Edge} {rules edges index : List ℕ} {d : Layo
           (look 0 in-chart (s .kept))
 
   -- where the cell's own queue is as it should be, the invariant holds
-  module _ (own : (x : ℕ) (v′ : Row) → Found d u c x → suc x < d .ranks → weightIn d u c (suc x) ≡ 0 → RowAtIn g es c x v′
+  module _ (own : (x : ℕ) (v′ : Row) → Found d u c x → suc x < d .ranks → priceIn d u c (suc x) ≡ 0 → RowAtIn g es c x v′
       → QueueIn g es d u c (suc x) v′) where
-    queued : {b : Cell} {v′ : Row} (x : ℕ) → InChart d b → Found d u b x → suc x < d .ranks → weightIn d u b (suc x) ≡ 0
+    queued : {b : Cell} {v′ : Row} (x : ℕ) → InChart d b → Found d u b x → suc x < d .ranks → priceIn d u b (suc x) ≡ 0
         → RowAtIn g es b x v′ → QueueIn g es d u b (suc x) v′
     queued {b} {v′} x in-chart found kept absent at = go (ℕ-discrete (cellNumber d b) number)
       where

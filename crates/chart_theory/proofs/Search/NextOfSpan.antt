@@ -25,7 +25,7 @@ use Rattle.chart_search.specs.Search.{Finder, extend, extendParts, advancePairi
 use Rattle.chart_theory.proofs.Table.Keys.{rowBack}
 use Rattle.chart_theory.proofs.Table.Cells.{InChart, span, rankedIn, RowOfIn, RowAtIn, row-unique}
 use Rattle.chart_theory.proofs.Table.Entries.{found-test}
-use Rattle.chart_theory.proofs.Invariant.{Setting, weightIn, Found, Known, PartsFound, SuccessorsKnown, row-back, Invariant, known-grows, Grown, grown-refl, grown-trans, all-below}
+use Rattle.chart_theory.proofs.Invariant.{Setting, priceIn, Found, Known, PartsFound, SuccessorsKnown, row-back, Invariant, known-grows, Grown, grown-refl, grown-trans, all-below}
 use Rattle.chart_theory.proofs.Candidates.Keys.{Splits, rule-is}
 use Rattle.chart_theory.proofs.Candidates.Frontier.{part-cells}
 use Rattle.chart_theory.proofs.Search.NewRow.{Done}
@@ -39,7 +39,7 @@ module _ {g : Grammar} {es : List Edge} {rules edges index : List ℕ} {d : Layo
     pub due : span c ≤ m
     pub kept : n < d .ranks
     pub all : (x : ℕ) → x < n → Found d t c x
-    pub new : 0 < n → weightIn d t c n ≡ 0
+    pub new : 0 < n → priceIn d t c n ≡ 0
 
   -- `find` finds the wanted rank of a cell over fewer than `size` places
   pub record Finds (find : Finder) (size : ℕ) : Type 0 where
@@ -53,7 +53,7 @@ module _ {g : Grammar} {es : List Edge} {rules edges index : List ℕ} {d : Layo
     extend-done = by-kept (ltb (suc x) (d .ranks)) refl
       where
         weight : ℕ
-        weight = weightIn d t c (suc x)
+        weight = priceIn d t c (suc x)
 
         by-found : (b : Bool) → eqb weight 0 ≡ b → suc x < d .ranks → Done s m t (pick b (find t c (suc x)) t) c (suc x)
         by-found true e l =
@@ -85,7 +85,7 @@ module _ {g : Grammar} {es : List Edge} {rules edges index : List ℕ} {d : Layo
   -- u has grown from t; over the cell's span, and over longer ones, nothing new is found
   record Beside (t u : List ℕ) (c : Cell) : Type 0 where
     grown : Grown g es d m t u
-    unchanged : {b : Cell} (x : ℕ) → InChart d b → span c ≤ span b → weightIn d u b x ≡ weightIn d t b x
+    unchanged : {b : Cell} (x : ℕ) → InChart d b → span c ≤ span b → priceIn d u b x ≡ priceIn d t b x
 
   -- and u knows what the successors of ranks p and q of the parts of a pairing are made of
   record PartsAdvanced (t u : List ℕ) (c : Cell) (B C : Sym) (j p q : ℕ) : Type 0 where

@@ -17,29 +17,29 @@ use Rattle.packing.specs.Meaning.{symbolOf, Grammar, Edge}
 use Rattle.packing.proofs.Loop.{iter-keeps}
 use Rattle.chart_table.specs.declared.Cell.{Cell}
 use Rattle.chart_table.specs.declared.Layout.{Layout}
-use Rattle.chart_table.specs.Table.{cell, root, entryOf, weightAt, countFound}
+use Rattle.chart_table.specs.Table.{cell, root, entryOf, priceAt, countFound, priceOf, besideAt}
 use Rattle.chart_queue.specs.Queue.{queueLength}
 use Rattle.chart_search.specs.Search.{extend, nextOfSpan, firstOfHeads, firstOfLength, firstPass, nextOfRoot, search}
 use Rattle.chart_theory.proofs.Table.Cells.{InChart, span, rankedIn, rank-below}
 use Rattle.chart_theory.proofs.Table.Entries.{found-test}
-use Rattle.chart_theory.proofs.Invariant.{Setting, weightIn, Found, Known, Invariant, known-grows, Grown, grown-refl, grown-trans}
+use Rattle.chart_theory.proofs.Invariant.{Setting, priceIn, Found, Known, Invariant, known-grows, Grown, grown-refl, grown-trans}
 use Rattle.chart_theory.proofs.Search.NextOfSpan.{Wanted, next-finds, extend-done}
 
 abbrev pub Zeros : List ℕ → Type 0
 Zeros t = (y : ℕ) → getD t y 0 ≡ 0
 
 module _ (d : Layout) (t : List ℕ) (zeros : Zeros t) where
-  none-found : (c x : ℕ) → 0 < weightAt t d c x → ⊥
-  unfolding weightAt
+  none-found : (c x : ℕ) → 0 < priceAt t d c x → ⊥
+  unfolding priceAt
   none-found c x = go (ltb x (d .ranks))
     where
-      go : (b : Bool) → 0 < pick b (getD t (entryOf d c x) 0) 0 → ⊥
-      go true h = omega (arith, zeros (entryOf d c x))
+      go : (b : Bool) → 0 < pick b (priceOf (getD t (entryOf d c x) 0) (getD t (entryOf d c x + 1) 0)) 0 → ⊥
+      go true h = omega (arith, rw (zeros (entryOf d c x), zeros (entryOf d c x + 1)) at h)
       go false h = omega arith
 
   none-queued : (c : ℕ) → queueLength t d c ≡ 0
-  unfolding queueLength
-  none-queued c = rw (zeros (entryOf d c 0 + 1)) (go (ltb 0 (d .ranks)) refl)
+  unfolding queueLength besideAt
+  none-queued c = rw (zeros (entryOf d c 0 + 1), zeros (entryOf d c 0 + 3)) (go (ltb 0 (d .ranks)) refl)
     where
       go : (b : Bool) → ltb 0 (d .ranks) ≡ b → pick b 0 (d .ranks) ≡ 0
       go true e = refl
@@ -149,7 +149,7 @@ module _ {g : Grammar} {es : List Edge} {rules edges index : List ℕ} {d : Layo
     next-known x u l listed = rw (add-one x) (go (eqb weight 0) refl)
       where
         weight : ℕ
-        weight = weightIn d u (root d) x
+        weight = priceIn d u (root d) x
 
         -- x is the last rank, so that there is none behind it
         at-end : weight ≡ 0 → suc x < length (rankedIn g es (root d)) → ⊥
@@ -190,15 +190,15 @@ module _ {g : Grammar} {es : List Edge} {rules edges index : List ℕ} {d : Layo
 
 -- where the found ranks are those below a number, their count is that number, or all that are kept
 pub count-found : (t : List ℕ) (d : Layout) (c total : ℕ)
-    → ((x : ℕ) → x < d .ranks → (0 < weightAt t d c x) ↔ (x < total)) → countFound t d c ≡ min (d .ranks) total
+    → ((x : ℕ) → x < d .ranks → (0 < priceAt t d c x) ↔ (x < total)) → countFound t d c ≡ min (d .ranks) total
 unfolding countFound
 count-found t d c total exactly = iter-keeps (λ x count. count ≡ min x total) _ 0 (d .ranks) (omega arith) step
   where
     step : (x count : ℕ) → x < d .ranks → count ≡ min x total
-        → pick (eqb (weightAt t d c x) 0) count (count + 1) ≡ min (suc x) total
-    step x count l e = go (eqb (weightAt t d c x) 0) refl (decLt x total)
+        → pick (eqb (priceAt t d c x) 0) count (count + 1) ≡ min (suc x) total
+    step x count l e = go (eqb (priceAt t d c x) 0) refl (decLt x total)
       where
-        go : (b : Bool) → eqb (weightAt t d c x) 0 ≡ b → Dec (x < total) → pick b count (count + 1) ≡ min (suc x) total
-        go true h (yes less) = absurd (omega (arith, exactly x l .1 less, eqb-true (weightAt t d c x) 0 h))
+        go : (b : Bool) → eqb (priceAt t d c x) 0 ≡ b → Dec (x < total) → pick b count (count + 1) ≡ min (suc x) total
+        go true h (yes less) = absurd (omega (arith, exactly x l .1 less, eqb-true (priceAt t d c x) 0 h))
         go true h (no over) = omega arith
-        go false h less = omega (arith, exactly x l .0 (found-test (weightAt t d c x) h))
+        go false h less = omega (arith, exactly x l .0 (found-test (priceAt t d c x) h))

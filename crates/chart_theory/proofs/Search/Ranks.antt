@@ -4,7 +4,7 @@ use mathlib.Core.Path.{_≡_, refl, sym, _∙_, subst}
 use mathlib.Core.Logic.{_⊎_, inl, inr, ⊎-elim}
 use mathlib.Core.Bool.{Bool, true, false}
 use mathlib.Core.List.{List}
-use Prim.Native.Nat.{ℕ, suc, _-_, _≤_, _<_}
+use Prim.Native.Nat.{ℕ, suc, _+_, _-_, _≤_, _<_}
 use native.Mathlib.Nat.{le-refl, eq-or-lt-of-le}
 use native.Mathlib.Decide.{decLt}
 use native.Mathlib.Omega.{arith}
@@ -18,24 +18,25 @@ use Rattle.derivation.proofs.Frontier.{step-row, stop-row}
 use Rattle.chart_keys.specs.Keys.{noKey}
 use Rattle.chart_table.specs.declared.Cell.{Cell}
 use Rattle.chart_table.specs.declared.Layout.{Layout}
-use Rattle.chart_table.specs.Table.{cellNumber, putKey}
+use Rattle.chart_table.specs.Table.{cellNumber, entryOf, backAt, putKey}
 use Rattle.chart_queue.specs.Queue.{queuedKey, queueLength, extractMin}
 use Rattle.chart_candidates.specs.Candidates.{leaves, seeds}
 use Rattle.chart_ranks.specs.Ranks.{successors, leastInitial, replacement, firstRank, nextRank}
-use Rattle.chart_theory.proofs.Table.Keys.{rowKey, key-lt, order-key}
+use Rattle.chart_theory.proofs.Table.Keys.{rowKey, key-back, key-lt, order-key}
 use Rattle.chart_theory.proofs.Table.Cells.{rankedIn, RowAtIn, row-unique, rank-below, FrontierIn, BeyondIn}
-use Rattle.chart_theory.proofs.Table.Entries.{cell-below}
-use Rattle.chart_theory.proofs.Table.Numbers.{put-none}
-use Rattle.chart_theory.proofs.Queue.Numbers.{put-queued, put-queue-length}
+use Rattle.chart_theory.proofs.Table.Entries.{cell-below, entry-within}
+use Rattle.chart_theory.proofs.Table.Numbers.{put-none, put-back}
+use Rattle.chart_theory.proofs.Queue.Numbers.{tagAt, put-queued-again, put-queue-length}
 use Rattle.chart_theory.proofs.Queue.Owners.{owned}
 use Rattle.chart_theory.proofs.Queue.Pool.{Pool, queue-kept, queue-first, Member, inside, low, high, Valid, keyIn, Queued, rowOf, ownerOf, pool-queued, pool-complete, requeued}
 use Rattle.chart_theory.proofs.Queue.Stored.{stored-key}
 use Rattle.chart_theory.proofs.Queue.ExtractMin.{Extracted, Outcome, nothing, something, extract-min-outcome}
-use Rattle.chart_theory.proofs.Invariant.{Setting, weightIn, Found, PartsFound, HoldsRow, QueueIn, FreshIn, parts-grow, grown-refl, all-below}
+use Rattle.chart_theory.proofs.Invariant.{Setting, priceIn, Found, PartsFound, HoldsRow, QueueIn, FreshIn, parts-grow, grown-refl, all-below}
 use Rattle.chart_theory.proofs.Candidates.Select.{Selects}
 use Rattle.chart_theory.proofs.Candidates.Keys.{Candidate, initial-selects, rowFound, found-row, successors-select}
 use Rattle.chart_theory.proofs.Candidates.Frontier.{Ready, held, candidate-complete, candidate-sound, frontier-fits, frontier-some, fresh}
 use Rattle.chart_theory.proofs.Candidates.Replacement.{replaced}
+use Rattle.chart_theory.proofs.Search.Tags.{reach-low, reach-high, alone, one}
 use Rattle.chart_theory.proofs.Search.NewRow.{Done, Written, look, grows, new-found, written-done}
 
 module _ {g : Grammar} {es : List Edge} {rules edges index : List ℕ} {d : Layout} (s : Setting g es rules edges index d) {m : ℕ}
@@ -90,30 +91,47 @@ module _ {g : Grammar} {es : List Edge} {rules edges index : List ℕ} {d : Layo
       place = at;
       on = on;
       parts = parts;
-      stored = stored-key t d (cellNumber d c) 0 (rowKey v) (cell-below (s .planned) (ready .in-chart)) (s .kept) (ready .invariant .room) some;
+      stored = stored-key t d (cellNumber d c) 0 (rowKey v) (cell-below (s .planned) (ready .in-chart)) (s .kept) (s .few-ranks) (ready .invariant .room) some;
     }
 
-    seen : (x : ℕ) → x < d .ranks → (x ≡ 0) ⊎ (weightIn d u c x ≡ weightIn d t c x)
+    seen : (x : ℕ) → x < d .ranks → (x ≡ 0) ⊎ (priceIn d u c x ≡ priceIn d t c x)
     seen x l = ⊎-elim (λ e. inl (e .1)) (λ e. inr (e .0)) (look first-new x (ready .in-chart) l)
 
-    absent-before : (x : ℕ) → suc x < d .ranks → weightIn d u c (suc x) ≡ 0 → weightIn d t c (suc x) ≡ 0
+    absent-before : (x : ℕ) → suc x < d .ranks → priceIn d u c (suc x) ≡ 0 → priceIn d t c (suc x) ≡ 0
     absent-before x l absent = ⊎-elim (λ e. absurd (omega arith)) (λ e. sym e ∙ absent) (seen (suc x) l)
 
-    first-queued : (x : ℕ) (v′ : Row) → Found d u c x → suc x < d .ranks → weightIn d u c (suc x) ≡ 0 → RowAtIn g es c x v′
+    below : cellNumber d c < d .cells
+    below = cell-below (s .planned) (ready .in-chart)
+
+    first-room : entryOf d (cellNumber d c) 0 + 4 ≤ length t
+    first-room = omega (arith, entry-within d (cellNumber d c) 0 below (s .kept), ready .invariant .room)
+
+    same-length : (c′ : ℕ) → queueLength u d c′ ≡ queueLength t d c′
+    same-length c′ = put-queue-length t d (cellNumber d c) 0 (rowKey v) some below (s .kept) first-room (omega arith) c′
+
+    -- where the first rank was found before, the same back pointer is written again
+    same-back : (x : ℕ) → 0 < priceIn d t c x → backAt u d (cellNumber d c) 0 ≡ backAt t d (cellNumber d c) 0
+    same-back x before =
+        let (v′, held) = ready .invariant .holds 0 (ready .in-chart) (all-below (ready .invariant) (ready .in-chart) x 0 (omega arith) before) in
+        let same : v′ ≡ v = row-unique g es c 0 (held .place) at in
+        put-back t d (cellNumber d c) 0 (rowKey v) some first-room ∙ key-back v (frontier-fits s ready on)
+        ∙ rw same at (sym (held .points))
+
+    first-queued : (x : ℕ) (v′ : Row) → Found d u c x → suc x < d .ranks → priceIn d u c (suc x) ≡ 0 → RowAtIn g es c x v′
         → QueueIn g es d u c (suc x) v′
-    first-queued x v′ found l absent at′ = go (decLt 0 (weightIn d t c x))
+    first-queued x v′ found l absent at′ = go (decLt 0 (priceIn d t c x))
       where
-        go : Dec (0 < weightIn d t c x) → QueueIn g es d u c (suc x) v′
+        go : Dec (0 < priceIn d t c x) → QueueIn g es d u c (suc x) v′
         go (yes before) =
-            queue-kept (parts-grow g es (grows first-new) c) (put-queue-length t d (cellNumber d c) 0 (rowKey v) some (cellNumber d c))
-            (λ y h. put-queued t d (cellNumber d c) 0 (rowKey v) some (cell-below (s .planned) (ready .in-chart)) (cellNumber d c) y)
+            queue-kept (parts-grow g es (grows first-new) c) (same-length (cellNumber d c))
+            (λ y h. put-queued-again t d (cellNumber d c) 0 (rowKey v) some below (s .kept) first-room (omega arith) (same-back x before) y)
             (ready .invariant .queued x (ready .in-chart) before l (absent-before x l absent) at′)
         go (no before) =
             let e : x ≡ 0 = ⊎-elim (λ e. e) (λ e. absurd (before (rw e at found))) (seen x (omega arith)) in
             let same : v′ ≡ v = row-unique g es c 0 (rw e at at′) at in
             let (o, owns, h) = owned g es c (d .ranks) 0 on in
             let empty : queueLength u d (cellNumber d c) ≡ 0 =
-            put-queue-length t d (cellNumber d c) 0 (rowKey v) some (cellNumber d c)
+            same-length (cellNumber d c)
             ∙ ready .invariant .no-queue (ready .in-chart) (let b = rw e at before in omega arith) in
             rw (e, same, empty)
             (queue-first g es (d .ranks) c (PartsFound g es d u c) (let z : o ≡ 0 = omega arith in rw z at owns))
@@ -157,8 +175,8 @@ module _ {g : Grammar} {es : List Edge} {rules edges index : List ℕ} {d : Layo
   abbrev w : ℕ
   w = queueLength t d (cellNumber d c)
 
-  module _ {lo hi : ℕ} (pool : Pool g es (d .ranks) c (PartsFound g es d t c) (suc x) l w lo hi (queuedKey t d (cellNumber d c)))
-      (order : lo ≤ hi) where
+  module _ {lo hi : ℕ} (pool : Pool g es (d .ranks) c (PartsFound g es d t c) (suc x) l w lo hi (queuedKey t d (cellNumber d c))
+      (tagAt t d (cellNumber d c))) (order : lo ≤ hi) where
     abbrev keyAt : Member → ℕ
     keyAt = keyIn lo hi (queuedKey t d (cellNumber d c))
 
@@ -207,7 +225,7 @@ module _ {g : Grammar} {es : List Edge} {rules edges index : List ℕ} {d : Layo
               rw row (key-lt l v (last .fits) (from-pool .fits) (from-pool .above))
 
       -- rank x + 1 is the last that is found
-      last-found : (y : ℕ) → Found d u c y → suc y < d .ranks → weightIn d u c (suc y) ≡ 0 → y ≡ suc x
+      last-found : (y : ℕ) → Found d u c y → suc y < d .ranks → priceIn d u c (suc y) ≡ 0 → y ≡ suc x
       last-found y found h absent = go (decLt y (suc x)) (decLt (suc x) y)
         where
           below : suc y ≤ suc x → ⊥
@@ -229,7 +247,7 @@ module _ {g : Grammar} {es : List Edge} {rules edges index : List ℕ} {d : Layo
           go (no more) (yes over) = absurd (beyond over)
           go (no more) (no over) = omega arith
 
-      last-queued : (y : ℕ) (v′ : Row) → Found d u c y → suc y < d .ranks → weightIn d u c (suc y) ≡ 0 → RowAtIn g es c y v′
+      last-queued : (y : ℕ) (v′ : Row) → Found d u c y → suc y < d .ranks → priceIn d u c (suc y) ≡ 0 → RowAtIn g es c y v′
           → QueueIn g es d u c (suc y) v′
       last-queued y v′ found h absent at′ =
           let e = last-found y found h absent in
@@ -244,10 +262,11 @@ module _ {g : Grammar} {es : List Edge} {rules edges index : List ℕ} {d : Layo
     extract-min-done : Done s m t (extractMin t d (cellNumber d c) (suc x) lo hi) c (suc x)
     extract-min-done =
         go _ (extract-min-outcome t d (cellNumber d c) (suc x) lo hi (cell-below (s .planned) (ready .in-chart)) (ready .invariant .room)
-        (ready .kept) (queue .few) order real)
+        (ready .kept) (s .few-ranks) (pool .queue .few) order real (pool .queue .tag-below) (reach-low pool (last .place) t d (last .points))
+        (reach-high pool (last .place) t d (last .points)) (alone pool (last .place) t d (last .points)) (one pool (last .place) t d (last .points)))
       where
         real : (y : ℕ) → y < w → queuedKey t d (cellNumber d c) y < noKey
-        real y h = let q = queue .place y h in rw (q .keyed) (frontier-some s ready (q .on))
+        real y h = let q = pool .queue .place y h in rw (q .keyed) (frontier-some s ready (q .on))
 
         go : (u : List ℕ) → Outcome t d (cellNumber d c) (suc x) lo hi u → Done s m t u c (suc x)
         go u (nothing e empty no-lo no-hi) = rw e (none-found empty no-lo no-hi)

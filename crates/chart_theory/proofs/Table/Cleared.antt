@@ -15,7 +15,7 @@ use borrow.Author.Tests.{ltb-true}
 use Rattle.bits.specs.Bits.{pick}
 use Rattle.packing.proofs.Loop.{iter-keeps}
 use Rattle.chart_table.specs.declared.Layout.{Layout}
-use Rattle.chart_table.specs.Table.{entryOf, lastRank, ranksToClear, clearEntry, clearCell, clear}
+use Rattle.chart_table.specs.Table.{entryOf, besideAt, lastRank, ranksToClear, clearEntry, clearCell, clear}
 use Rattle.chart_theory.proofs.Table.Entries.{InEntry, entry-injective, entry-four, entry-within}
 
 -- a list of zeros
@@ -161,7 +161,7 @@ module _ (d : Layout) (len : ℕ) (room : 4 * (d .cells * d .ranks) ≤ len) whe
     either : (z : ℕ) → (getD u z 0 ≡ 0) ⊎ (getD u z 0 ≡ getD t z 0)
 
   cells-cleared : (t : List ℕ) → length t ≡ len → 0 < d .ranks → Cells t (d .cells) (clear t d)
-  unfolding clear lastRank
+  unfolding clear lastRank besideAt
   cells-cleared t size kept =
       iter-keeps (Cells t) (λ u c. clearCell u d c) t (d .cells)
       (record {
@@ -188,7 +188,11 @@ module _ (d : Layout) (len : ℕ) (room : 4 * (d .cells * d .ranks) ≤ len) whe
 
           -- the cell was as it is in t
           same-last : lastRank u d c ≡ lastRank t d c
-          same-last = cells .later c 0 (entryOf d c 0 + 3) (le-refl c) l kept (omega arith, omega arith)
+          same-last =
+              rw (
+                cells .later c 0 (entryOf d c 0 + 1) (le-refl c) l kept (omega arith, omega arith),
+                cells .later c 0 (entryOf d c 0 + 3) (le-refl c) l kept (omega arith, omega arith),
+              )
 
           hit : (b x z : ℕ) → b < suc c → x < d .ranks → x ≤ lastRank t d b → InEntry d b x z → getD (clearCell u d c) z 0 ≡ 0
           hit b x z h l′ le in-entry =

@@ -17,7 +17,7 @@ use Rattle.packing.specs.Meaning.{symbolOf}
 use Rattle.chart_table.specs.declared.Cell.{Cell}
 use Rattle.chart_table.specs.declared.Layout.{Layout}
 use Rattle.chart_table.proofs.Cells.{spans, spans-suc}
-use Rattle.chart_table.specs.Table.{cellNumber, entryOf, weightAt}
+use Rattle.chart_table.specs.Table.{cellNumber, entryOf, priceAt}
 use Rattle.chart_theory.proofs.Table.Cells.{InChart, Planned}
 
 spans-before : (k m : ℕ) → k < m → spans k + k ≤ spans m
@@ -93,17 +93,21 @@ module _ (d : Layout) where
   entry-four c zero = omega arith
   entry-four c (suc x) = rw (eqb·suc-zero x) (omega arith)
 
+  pub first-injective : (c c′ : ℕ) → entryOf d c 0 ≡ entryOf d c′ 0 → c ≡ c′
+  unfolding entryOf
+  first-injective c c′ e = omega arith
+
   -- those of further ranks stand behind those of first ranks
   pub entry-behind : (c c′ y : ℕ) → c < d .cells → entryOf d c′ (y + 1) ≢ entryOf d c 0
   unfolding entryOf
   entry-behind c c′ y h e = omega (arith, rw (ne-eqb (y + 1) 0 (λ z. omega arith)) at e)
 
 -- ranks past the last that is kept are not found
-pub past-ranks : (t : List ℕ) (d : Layout) (c x : ℕ) → d .ranks ≤ x → weightAt t d c x ≡ 0
-unfolding weightAt
+pub past-ranks : (t : List ℕ) (d : Layout) (c x : ℕ) → d .ranks ≤ x → priceAt t d c x ≡ 0
+unfolding priceAt
 past-ranks t d c x h = rw (le-ltb x (d .ranks) h)
 
-pub found-kept : (t : List ℕ) (d : Layout) (c x : ℕ) → 0 < weightAt t d c x → x < d .ranks
+pub found-kept : (t : List ℕ) (d : Layout) (c x : ℕ) → 0 < priceAt t d c x → x < d .ranks
 found-kept t d c x h = go (decLe (d .ranks) x)
   where
     go : Dec (d .ranks ≤ x) → x < d .ranks
@@ -115,6 +119,6 @@ pub found-test : (w : ℕ) → eqb w 0 ≡ false → 0 < w
 found-test w e = omega (arith, eqb-false w 0 e)
 
 pub same-entry : (t : List ℕ) (d : Layout) (c x c′ x′ : ℕ) → x < d .ranks → x′ < d .ranks → entryOf d c x ≡ entryOf d c′ x′
-    → weightAt t d c x ≡ weightAt t d c′ x′
-unfolding weightAt
+    → priceAt t d c x ≡ priceAt t d c′ x′
+unfolding priceAt
 same-entry t d c x c′ x′ l l′ e = rw (lt-ltb x (d .ranks) l, lt-ltb x′ (d .ranks) l′, e)

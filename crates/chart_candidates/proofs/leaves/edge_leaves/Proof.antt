@@ -3,21 +3,22 @@ use Prim.Native.Nat.{_≤_, _-_}
 use mathlib.Core.Path.{_≡_, sym, _∙_}
 use native.Mathlib.Omega.{arith}
 use lib.ListN.{getD}
-use borrow.Author.Tests.{eq-eqb, ne-eqb}
 use borrow.Author.Needs.{needs}
-use Rattle.packing.specs.Flat.{ruleAt}
 use Rattle.packing.specs.Loop.{over}
 use Rattle.packing.proofs.Loop.{iter-end}
-use Rattle.chart_candidates.specs.Candidates.{wordLeaf, edgeLeaves}
 use Rattle.chart_candidates.proofs.Loops.{from-none, from-more, from-turn}
+use borrow.Author.Tests.{eq-eqb, ne-eqb}
+use Rattle.packing.specs.Flat.{ruleAt}
+use Rattle.chart_keys.specs.Keys.{keyNumber}
+use Rattle.chart_candidates.specs.Candidates.{wordLeaf, edgeLeaves}
 use Rattle.chart_candidates.proofs.leaves.edge_leaves.Statement.{statement}
 use Rattle.chart_candidates.proofs.leaves.edge_leaves.Tie as tie
 
 abbrev Inv-loop : tie.InvT-loop
-Inv-loop rules edges index e floor best head start end so-far₀ y₀ so-far y = (start ≤ y) × (y - start ≤ end - start) × (so-far ≡ over (λ x y. wordLeaf edges e floor x (getD index y 0) (ruleAt rules (getD index y 0))) best start y)
+Inv-loop rules edges index e floor head start end so-far₀ y₀ so-far y = (start ≤ y) × (y - start ≤ end - start) × (keyNumber so-far ≡ over (λ x y. wordLeaf edges e (keyNumber floor) x (getD index y 0) (ruleAt rules (getD index y 0))) (keyNumber so-far₀) start y)
 
 abbrev μ-loop : tie.MeasureT-loop
-μ-loop rules edges index e floor best head start end so-far₀ y₀ so-far y = end - y
+μ-loop rules edges index e floor head start end so-far₀ y₀ so-far y = end - y
 
 mul-number-at : tie.Need-mul-number-at Inv-loop μ-loop
 mul-number-at c = search needs
@@ -57,28 +58,11 @@ loop-less : tie.Need-loop-less Inv-loop μ-loop
 loop-less c = search needs
 
 loop-again : tie.Need-loop-again Inv-loop μ-loop
-loop-again c =
-    let h = c .before .before .before .loop .inv .0 in (
-      search needs,
-      search needs,
-      rw (from-more, from-turn, ← c .before .before .before .loop .inv .2, ← c .before .number-at2 .ensures .0) (c .word-leaf .ensures),
-    )
+loop-again c = let h = c .before .before .before .loop .inv .0 in (search needs, search needs, rw (from-more, from-turn, ← c .before .before .before .loop .inv .2, ← c .before .number-at2 .ensures .0) (c .word-leaf .ensures))
 
 returns-2 : tie.Need-returns-2 Inv-loop μ-loop
 unfolding edgeLeaves
-returns-2 c =
-    let c₂ = c .before .before in
-    let c₃ = c₂ .before in
-    let c₄ = c₃ .before in
-    let c₅ = c₄ .before in
-    let c₇ = c₅ .before .before in
-    simp (
-      ← c₇ .number-at .ensures .0,
-      eq-eqb _ _ (c₅ .if1 .left),
-      ← c₄ .wide .ensures .0,
-      ← c₃ .class-start .ensures .0,
-      ← c₂ .class-end .ensures .0,
-    ) (c .before .loop .inv .2 ∙ iter-end _ _ _ _ (c .before .loop .inv .1) (omega arith))
+returns-2 c = simp (← c .before .before .before .before .before .before .before .number-at .ensures .0, eq-eqb _ _ (c .before .before .before .before .before .if1 .left), ← c .before .before .before .before .wide .ensures .0, ← c .before .before .before .class-start .ensures .0, ← c .before .before .class-end .ensures .0) (c .before .loop .inv .2 ∙ iter-end _ _ _ _ (c .before .loop .inv .1) (omega arith))
 
 pub edge-leaves-spec : {M : Type 1} → statement M
 edge-leaves-spec =

@@ -6,16 +6,17 @@ use lib.ListN.{getD}
 use borrow.Author.Needs.{needs}
 use Rattle.packing.specs.Loop.{over}
 use Rattle.packing.proofs.Loop.{iter-end}
-use Rattle.chart_candidates.specs.Candidates.{edgeLeaves, leaves}
 use Rattle.chart_candidates.proofs.Loops.{from-none, from-more, from-turn}
+use Rattle.chart_keys.specs.Keys.{keyNumber}
+use Rattle.chart_candidates.specs.Candidates.{edgeLeaves, leaves}
 use Rattle.chart_candidates.proofs.leaves.leaves.Statement.{statement}
 use Rattle.chart_candidates.proofs.leaves.leaves.Tie as tie
 
 abbrev Inv-loop : tie.InvT-loop
-Inv-loop rules edges index c floor best from start end so-far₀ y₀ so-far y = (start ≤ y) × (y - start ≤ end - start) × (so-far ≡ over (λ x y. edgeLeaves rules edges index c floor x (getD index y 0)) best start y)
+Inv-loop rules edges index c floor from start end so-far₀ y₀ so-far y = (start ≤ y) × (y - start ≤ end - start) × (keyNumber so-far ≡ over (λ x y. edgeLeaves rules edges index c (keyNumber floor) x (getD index y 0)) (keyNumber so-far₀) start y)
 
 abbrev μ-loop : tie.MeasureT-loop
-μ-loop rules edges index c floor best from start end so-far₀ y₀ so-far y = end - y
+μ-loop rules edges index c floor from start end so-far₀ y₀ so-far y = end - y
 
 class-start-requires : tie.Need-class-start-requires Inv-loop μ-loop
 class-start-requires c κs = search needs
@@ -39,19 +40,11 @@ loop-less : tie.Need-loop-less Inv-loop μ-loop
 loop-less c = search needs
 
 loop-again : tie.Need-loop-again Inv-loop μ-loop
-loop-again c =
-    let h = c .before .before .before .loop .inv .0 in (
-      search needs,
-      search needs,
-      rw (from-more, from-turn, ← c .before .before .before .loop .inv .2, ← c .before .number-at .ensures .0) (c .edge-leaves .ensures),
-    )
+loop-again c = let h = c .before .before .before .loop .inv .0 in (search needs, search needs, rw (from-more, from-turn, ← c .before .before .before .loop .inv .2, ← c .before .number-at .ensures .0) (c .edge-leaves .ensures))
 
 returns : tie.Need-returns Inv-loop μ-loop
 unfolding leaves
-returns c =
-    let c₂ = c .before .before in
-    let c₃ = c₂ .before in
-    simp (← c₃ .class-start .ensures .0, ← c₂ .class-end .ensures .0) (c .before .loop .inv .2 ∙ iter-end _ _ _ _ (c .before .loop .inv .1) (omega arith))
+returns c = simp (← c .before .before .before .class-start .ensures .0, ← c .before .before .class-end .ensures .0) (c .before .loop .inv .2 ∙ iter-end _ _ _ _ (c .before .loop .inv .1) (omega arith))
 
 pub leaves-spec : {M : Type 1} → statement M
 leaves-spec =

@@ -35,17 +35,8 @@ number-at-requires c κs = search needs
 back-number-requires : tie.Need-back-number-requires
 back-number-requires c κs = search needs
 
-wide-requires : tie.Need-wide-requires
-wide-requires c κs = search needs
-
-add-key-of : tie.Need-add-key-of
-add-key-of c = search needs
-
-add-key-of-2 : tie.Need-add-key-of-2
-add-key-of-2 c = search needs
-
-key-of-requires : tie.Need-key-of-requires
-key-of-requires c κs = search needs
+leaf-price-requires : tie.Need-leaf-price-requires
+leaf-price-requires c κs = search needs
 
 lesser-requires : tie.Need-lesser-requires
 lesser-requires c κs = search needs
@@ -56,29 +47,11 @@ returns c = simp (← c .before .before .rule-at .ensures, c .enum-told .given .
 
 returns-2 : tie.Need-returns-2
 unfolding wordLeaf
-returns-2 c =
-    let c₂ = c .before .before in
-    let c₃ = c₂ .before in
-    let c₄ = c₃ .before in
-    let c₅ = c₄ .before in
-    let c₇ = c₅ .before .before in
-    let c₉ = c₇ .before .before in
-    let c₁₁ = c₉ .before .before in
-    simp (← c₁₁ .rule-at .ensures, c₉ .rule .given .1, ← c₇ .narrow-at .ensures, eq-eqb _ _ (c₅ .if1 .taken)) (rw (
-      c .lesser .ensures,
-      c .before .key-of .ensures,
-      c₃ .back-number .ensures .0,
-      c₂ .wide .ensures .0,
-      c₄ .number-at .ensures .0,
-    ))
+returns-2 c = simp (← c .before .before .before .before .before .before .before .before .before .before .rule-at .ensures, c .before .before .before .before .before .before .before .before .rule .given .1, ← c .before .before .before .before .before .before .narrow-at .ensures, eq-eqb _ _ (c .before .before .before .before .if1 .taken)) (rw (c .lesser .ensures, c .before .before .back-number .ensures .0, c .before .leaf-price .ensures, c .before .before .before .number-at .ensures .0))
 
 returns-3 : tie.Need-returns-3
 unfolding wordLeaf
-returns-3 c =
-    let c₂ = c .before .before in
-    let c₄ = c₂ .before .before in
-    let c₆ = c₄ .before .before in
-    simp (← c₆ .rule-at .ensures, c₄ .rule .given .1, ← c₂ .narrow-at .ensures, ne-eqb _ _ (c .if1 .left))
+returns-3 c = simp (← c .before .before .before .before .before .before .rule-at .ensures, c .before .before .before .before .rule .given .1, ← c .before .before .narrow-at .ensures, ne-eqb _ _ (c .if1 .left))
 
 pub word-leaf-spec : {M : Type 1} → statement M
 word-leaf-spec =
@@ -94,10 +67,7 @@ word-leaf-spec =
     add-number-at
     number-at-requires
     back-number-requires
-    wide-requires
-    add-key-of
-    add-key-of-2
-    key-of-requires
+    leaf-price-requires
     lesser-requires
     returns
     returns-2

@@ -18,10 +18,7 @@ enum-told c = search needs
 
 returns : tie.Need-returns
 unfolding ruleSeeds
-returns c =
-    let c₂ = c .before .before in
-    let c₄ = c₂ .before .before in
-    simp (← c₄ .rule-at .ensures, c₂ .rule .given .1) (c .split-seeds .ensures)
+returns c = simp (← c .before .before .before .before .rule-at .ensures, c .before .before .rule .given .1) (c .split-seeds .ensures)
 
 returns-2 : tie.Need-returns-2
 unfolding ruleSeeds
@@ -30,4 +27,10 @@ returns-2 c = simp (← c .before .before .rule-at .ensures, c .enum-told .given
 pub rule-seeds-spec : {M : Type 1} → statement M
 rule-seeds-spec =
     tie.close
-    (tie.spec rule-at-requires enum-known-rule split-seeds-requires enum-told returns returns-2)
+    (tie.spec
+    rule-at-requires
+    enum-known-rule
+    split-seeds-requires
+    enum-told
+    returns
+    returns-2)

@@ -4,19 +4,20 @@ use mathlib.Core.Path.{_≡_, sym, _∙_}
 use native.Mathlib.Omega.{arith}
 use lib.ListN.{getD}
 use borrow.Author.Needs.{needs}
-use Rattle.packing.specs.Flat.{ruleAt}
 use Rattle.packing.specs.Loop.{over}
 use Rattle.packing.proofs.Loop.{iter-end}
-use Rattle.chart_candidates.specs.Candidates.{ruleSeeds, seeds}
 use Rattle.chart_candidates.proofs.Loops.{from-none, from-more, from-turn}
+use Rattle.packing.specs.Flat.{ruleAt}
+use Rattle.chart_keys.specs.Keys.{keyNumber}
+use Rattle.chart_candidates.specs.Candidates.{ruleSeeds, seeds}
 use Rattle.chart_candidates.proofs.seeds.seeds.Statement.{statement}
 use Rattle.chart_candidates.proofs.seeds.seeds.Tie as tie
 
 abbrev Inv-loop : tie.InvT-loop
-Inv-loop t d rules index c floor best head start end so-far₀ y₀ so-far y = (start ≤ y) × (y - start ≤ end - start) × (so-far ≡ over (λ x y. ruleSeeds t d c floor x (getD index y 0) (ruleAt rules (getD index y 0))) best start y)
+Inv-loop t d rules index c floor head start end so-far₀ y₀ so-far y = (start ≤ y) × (y - start ≤ end - start) × (keyNumber so-far ≡ over (λ x y. ruleSeeds t d c (keyNumber floor) x (getD index y 0) (ruleAt rules (getD index y 0))) (keyNumber so-far₀) start y)
 
 abbrev μ-loop : tie.MeasureT-loop
-μ-loop t d rules index c floor best head start end so-far₀ y₀ so-far y = end - y
+μ-loop t d rules index c floor head start end so-far₀ y₀ so-far y = end - y
 
 wide-requires : tie.Need-wide-requires Inv-loop μ-loop
 wide-requires c κs = search needs
@@ -43,20 +44,11 @@ loop-less : tie.Need-loop-less Inv-loop μ-loop
 loop-less c = search needs
 
 loop-again : tie.Need-loop-again Inv-loop μ-loop
-loop-again c =
-    let h = c .before .before .before .loop .inv .0 in (
-      search needs,
-      search needs,
-      rw (from-more, from-turn, ← c .before .before .before .loop .inv .2, ← c .before .number-at .ensures .0) (c .rule-seeds .ensures),
-    )
+loop-again c = let h = c .before .before .before .loop .inv .0 in (search needs, search needs, rw (from-more, from-turn, ← c .before .before .before .loop .inv .2, ← c .before .number-at .ensures .0) (c .rule-seeds .ensures))
 
 returns : tie.Need-returns Inv-loop μ-loop
 unfolding seeds
-returns c =
-    let c₂ = c .before .before in
-    let c₃ = c₂ .before in
-    let c₄ = c₃ .before in
-    simp (← c₄ .wide .ensures .0, ← c₃ .class-start .ensures .0, ← c₂ .class-end .ensures .0) (c .before .loop .inv .2 ∙ iter-end _ _ _ _ (c .before .loop .inv .1) (omega arith))
+returns c = simp (← c .before .before .before .before .wide .ensures .0, ← c .before .before .before .class-start .ensures .0, ← c .before .before .class-end .ensures .0) (c .before .loop .inv .2 ∙ iter-end _ _ _ _ (c .before .loop .inv .1) (omega arith))
 
 pub seeds-spec : {M : Type 1} → statement M
 seeds-spec =

@@ -27,22 +27,26 @@ cell-number-requires-2 c κs = rw (c .right-part .ensures) (search needs)
 entry-of-requires-2 : tie.Need-entry-of-requires-2
 entry-of-requires-2 c κs = search needs
 
+add-if2 : tie.Need-add-if2
+add-if2 c = search needs
+
+add-if3 : tie.Need-add-if3
+add-if3 c = search needs
+
+is-small-requires : tie.Need-is-small-requires
+is-small-requires c κs = search needs
+
+divides-requires : tie.Need-divides-requires
+divides-requires c κs = search needs
+
 split-seeds-within-requires : tie.Need-split-seeds-within-requires
-split-seeds-within-requires c κs =
-    let c₃ = c .before .before .before in
-    let c₄ = c₃ .before in
-    let c₅ = c₄ .before in
-    let c₆ = c₅ .before in
-    let c₇ = c₆ .before in
-    let c₈ = c₇ .before in
-    let c₁₄ = c₈ .before .before .before .before .before .before in (
-      c₁₄ .pre,
-      (
-        search needs,
-        rw (← c₈ .left-part .ensures, ← c₇ .cell-number .ensures .0, ← c₆ .entry-of .ensures .0) (search needs),
-        rw (← c₅ .right-part .ensures, ← c₄ .cell-number2 .ensures .0, ← c₃ .entry-of2 .ensures .0) (search needs),
-      ),
-    )
+split-seeds-within-requires c κs = (
+  (c .before .before .before .before .before .before .before .before .before .before .before .before .before .before .before .before .before .pre .0, c .before .before .before .is-small .ensures (c .before .before .if4 .taken), c .before .divides .ensures (c .if5 .taken)),
+  (
+    rw (← c .before .before .before .before .before .before .before .before .before .before .before .left-part .ensures, ← c .before .before .before .before .before .before .before .before .before .before .cell-number .ensures .0, ← c .before .before .before .before .before .before .before .before .before .entry-of .ensures .0) (search needs),
+    rw (← c .before .before .before .before .before .before .before .before .right-part .ensures, ← c .before .before .before .before .before .before .before .cell-number2 .ensures .0, ← c .before .before .before .before .before .before .entry-of2 .ensures .0) (search needs),
+  ),
+)
 
 returns : tie.Need-returns
 returns c = search needs
@@ -65,6 +69,10 @@ split-seeds-spec =
     right-part-requires
     cell-number-requires-2
     entry-of-requires-2
+    add-if2
+    add-if3
+    is-small-requires
+    divides-requires
     split-seeds-within-requires
     returns
     split-seeds-anywhere-requires

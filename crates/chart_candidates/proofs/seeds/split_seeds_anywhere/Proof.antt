@@ -1,22 +1,27 @@
 -- The loop is the iteration over the splits.
-use Prim.Native.Nat.{_≤_, _-_, _+_}
+use mir.Syntax.{w64}
+use mir.Val.{Fits}
+use Prim.Native.Nat.{ℕ, _≤_, _<_, _-_, _+_}
 use mathlib.Core.Path.{_≡_, sym, _∙_}
 use native.Mathlib.Omega.{arith}
 use borrow.Author.Needs.{needs}
 use Rattle.packing.specs.Loop.{over}
 use Rattle.packing.proofs.Loop.{iter-end}
-use Rattle.chart_keys.specs.Keys.{lesser}
+use Rattle.chart_keys.specs.Keys.{keyNumber, lesser}
 use Rattle.chart_candidates.specs.Candidates.{splitSeeds}
 use Rattle.chart_candidates.proofs.Loops.{from-none, from-more, from-turn}
 use Rattle.chart_candidates.proofs.Splits.{seedKey}
 use Rattle.chart_candidates.proofs.seeds.split_seeds_anywhere.Statement.{statement}
 use Rattle.chart_candidates.proofs.seeds.split_seeds_anywhere.Tie as tie
 
+next-fits : (j end : ℕ) → j < end → end ≤ 31 → Fits w64 (j + 1)
+next-fits j end h l = omega arith
+
 abbrev Inv-loop : tie.InvT-loop
-Inv-loop t d rule c floor best so-far₀ end j₀ so-far j = (c .from + 1 ≤ j) × (j - (c .from + 1) ≤ end - (c .from + 1)) × (so-far ≡ over (λ x j. lesser floor x (seedKey t d rule c j)) best (c .from + 1) j)
+Inv-loop t d rule c floor so-far₀ end j₀ so-far j = (c .from + 1 ≤ j) × (j - (c .from + 1) ≤ end - (c .from + 1)) × (keyNumber so-far ≡ over (λ x j. lesser (keyNumber floor) x (seedKey t d rule c j)) (keyNumber so-far₀) (c .from + 1) j)
 
 abbrev μ-loop : tie.MeasureT-loop
-μ-loop t d rule c floor best so-far₀ end j₀ so-far j = end - j
+μ-loop t d rule c floor so-far₀ end j₀ so-far j = end - j
 
 add-j : tie.Need-add-j Inv-loop μ-loop
 add-j c = search needs
@@ -40,31 +45,13 @@ lesser-requires : tie.Need-lesser-requires Inv-loop μ-loop
 lesser-requires c κs = search needs
 
 add-j-2 : tie.Need-add-j-2 Inv-loop μ-loop
-add-j-2 c = search needs
+add-j-2 c = next-fits _ _ (c .before .before .before .before .before .loop-test .taken) (c .before .before .before .before .before .before .before .before .before .pre .0 .last)
 
 loop-less : tie.Need-loop-less Inv-loop μ-loop
 loop-less c = search needs
 
 loop-again : tie.Need-loop-again Inv-loop μ-loop
-loop-again c =
-    let c₂ = c .before .before in
-    let c₃ = c₂ .before in
-    let c₄ = c₃ .before in
-    let c₆ = c₄ .before .before in
-    let h = c₆ .loop .inv .0 in (
-      search needs,
-      search needs,
-      rw (
-        from-more,
-        from-turn,
-        c .lesser .ensures,
-        c .before .pair-key .ensures,
-        c₂ .seed .ensures,
-        c₃ .right-part .ensures,
-        c₄ .left-part .ensures,
-        c₆ .loop .inv .2,
-      ),
-    )
+loop-again c = let h = c .before .before .before .before .before .before .loop .inv .0 in (search needs, search needs, rw (from-more, from-turn, c .lesser .ensures, c .before .pair-key .ensures, c .before .before .seed .ensures, c .before .before .before .right-part .ensures, c .before .before .before .before .left-part .ensures, c .before .before .before .before .before .before .loop .inv .2))
 
 returns : tie.Need-returns Inv-loop μ-loop
 unfolding splitSeeds

@@ -1,8 +1,14 @@
--- The loop is the iteration over the splits, with the parts' first entries as Splits has them.
-use Prim.Native.Nat.{_≤_, _-_, _+_}
-use mathlib.Core.Path.{refl, _∙_}
+-- The loop is the iteration over the splits by seeds as numbers, with the parts' first entries as Splits has them. The loop itself knows
+-- the floor by its number only, so what it keeps is said of every floor that has it.
+use Prim.Native.Nat.{_≤_, _<_, _-_, _+_}
+use mathlib.Core.Path.{_≡_, refl, sym, _∙_}
 use native.Mathlib.Omega.{arith}
 use Rattle.packing.proofs.Loop.{iter-end}
+use Rattle.chart_keys.specs.declared.Key.{Key}
+use Rattle.chart_keys.specs.Keys.{keyNumber}
+use Rattle.chart_keys.specs.Seeds.{InNumbers, floorNumber, ceilingNumber, keyOfNumber}
+use Rattle.chart_keys.proofs.Numbers.{join-small}
+use Rattle.chart_keys.proofs.Seeds.{lesser-number, ceiling-key}
 use Rattle.chart_candidates.specs.Candidates.{splitSeeds}
 use Rattle.chart_candidates.proofs.Splits.{InRange, step-small, Kept, Long, at-first, at-next, left-read, right-read}
 use borrow.Author.Needs.{needs}
@@ -10,10 +16,10 @@ use Rattle.chart_candidates.proofs.seeds.split_seeds_within.Statement.{
 use Rattle.chart_candidates.proofs.seeds.split_seeds_within.Tie as tie
 
 abbrev Inv-loop : tie.InvT-loop
-Inv-loop t rule floor best step first x₀ y₀ height₀ end j₀ x y height j = InRange step first end j x y × (height + (floor + 1) ≤ best) × Kept t rule floor best step first end x₀ y₀ j x y (height + (floor + 1)) × Long t rule floor best step first end x₀ y₀
+Inv-loop t rule best step first x₀ y₀ low height₀ end j₀ x y height j = InRange step first end j x y × (height + (low + 1) ≤ ceilingNumber best) × ((floor : Key) → InNumbers floor → low ≡ floorNumber floor → Kept t rule (keyNumber floor) (keyNumber best) step first end x₀ y₀ j x y (keyOfNumber best (height + (low + 1)))) × ((floor : Key) → Long t rule (keyNumber floor) (keyNumber best) step first end x₀ y₀)
 
 abbrev μ-loop : tie.MeasureT-loop
-μ-loop t rule floor best step first x₀ y₀ height₀ end j₀ x y height j = end - j
+μ-loop t rule best step first x₀ y₀ low height₀ end j₀ x y height j = end - j
 
 mul-step : tie.Need-mul-step Inv-loop μ-loop
 mul-step c = search needs
@@ -39,75 +45,71 @@ cell-number-requires-2 c κs = rw (c .right-part .ensures) (search (needs, c .be
 entry-of-requires-2 : tie.Need-entry-of-requires-2 Inv-loop μ-loop
 entry-of-requires-2 c κs = search needs
 
+floor-number-requires : tie.Need-floor-number-requires Inv-loop μ-loop
+floor-number-requires c κs = c .before .before .before .before .before .before .before .before .before .pre .0 .2 .floor-in
+
+ceiling-number-requires : tie.Need-ceiling-number-requires Inv-loop μ-loop
+ceiling-number-requires c κs = c .before .before .before .before .before .before .before .before .before .before .pre .0 .2 .best-in
+
 add-height : tie.Need-add-height Inv-loop μ-loop
 add-height c = search needs
 
 sub-height : tie.Need-sub-height Inv-loop μ-loop
-sub-height c = search needs
+sub-height c = omega (arith, c .before .floor-number .ensures .0, c .ceiling-number .ensures .0, c .before .before .before .before .before .before .before .before .before .before .before .pre .0 .2 .apart)
 
 loop-holds : tie.Need-loop-holds Inv-loop μ-loop
 loop-holds c =
-    let c₂ = c .before .before in
-    let c₃ = c₂ .before in
-    let c₄ = c₃ .before in
-    let c₅ = c₄ .before in
-    let c₉ = c₅ .before .before .before .before in (
-      search needs,
-      search needs,
-      at-first _ _ _ _ _ _ _ _ _ _ (search needs),
+    let whole : c .ceiling-number .result - (c .before .floor-number .result + 1) + (c .before .floor-number .result + 1) ≡ ceilingNumber (c .before .before .before .before .before .before .before .before .before .before .before .args .best) =
+    omega (arith, c .before .floor-number .ensures .0, c .ceiling-number .ensures .0, c .before .before .before .before .before .before .before .before .before .before .before .pre .0 .2 .apart) in (
       record {
-        d = c₉ .args .d;
-        c = c₉ .args .c;
+        after-first = omega arith;
+        turns = omega arith;
+        last = c .before .before .before .before .before .before .before .before .before .before .before .pre .0 .0 .last;
+        apart = omega (arith, c .before .before .before .before .before .before .before .before .before .before .before .pre .0 .0 .sized .symbols);
+        left = omega (arith, c .before .before .before .before .before .entry-of .ensures .1);
+        right = omega (arith, c .before .before .entry-of2 .ensures .1);
+      },
+      omega (arith, whole),
+      λ floor h e. at-first _ _ _ _ _ _ _ _ _ _ (ceiling-key _ _ whole),
+      λ floor. record {
+        d = c .before .before .before .before .before .before .before .before .before .before .before .args .d;
+        c = c .before .before .before .before .before .before .before .before .before .before .before .args .c;
         from-first = record {
-          kept = c₉ .pre .0 .0 .sized .kept;
+          kept = c .before .before .before .before .before .before .before .before .before .before .before .pre .0 .0 .sized .kept;
           apart = refl;
-          left = rw (← c₅ .left-part .ensures, ← c₄ .cell-number .ensures .0) (c₃ .entry-of .ensures .0);
-          right = rw (← c₂ .right-part .ensures, ← c .before .cell-number2 .ensures .0) (c .entry-of2 .ensures .0);
+          left = rw (← c .before .before .before .before .before .before .before .left-part .ensures, ← c .before .before .before .before .before .before .cell-number .ensures .0) (c .before .before .before .before .before .entry-of .ensures .0);
+          right = rw (← c .before .before .before .before .right-part .ensures, ← c .before .before .before .cell-number2 .ensures .0) (c .before .before .entry-of2 .ensures .0);
         };
         last = refl;
-        left = c₉ .pre .1 .1;
-        right = c₉ .pre .1 .2;
+        left = c .before .before .before .before .before .before .before .before .before .before .before .pre .1 .0;
+        right = c .before .before .before .before .before .before .before .before .before .before .before .pre .1 .1;
       },
     )
 
-mul-join-key : tie.Need-mul-join-key Inv-loop μ-loop
-mul-join-key c = search needs
+price-within-requires : tie.Need-price-within-requires Inv-loop μ-loop
+price-within-requires c κs = left-read _ _ _ _ _ _ _ _ _ (c .before .loop .inv .3 (c .before .before .before .before .before .before .before .before .before .before .before .before .before .args .floor)) _ _ _ _ (c .before .loop .inv .2 _ (c .before .before .before .before .before .before .before .before .before .before .before .before .before .pre .0 .2 .floor-in) (c .before .before .before .floor-number .ensures .0)) (search needs)
 
-shared-slice-read-join-key : tie.Need-shared-slice-read-join-key Inv-loop μ-loop
-shared-slice-read-join-key c = left-read _ _ _ _ _ _ _ _ _ (c .before .before .loop .inv .3) _ _ _ _ (c .before .before .loop .inv .2) (search needs)
+price-within-requires-2 : tie.Need-price-within-requires-2 Inv-loop μ-loop
+price-within-requires-2 c κs = right-read _ _ _ _ _ _ _ _ _ (c .before .before .loop .inv .3 (c .before .before .before .before .before .before .before .before .before .before .before .before .before .before .args .floor)) _ _ _ _ (c .before .before .loop .inv .2 _ (c .before .before .before .before .before .before .before .before .before .before .before .before .before .before .pre .0 .2 .floor-in) (c .before .before .before .before .floor-number .ensures .0)) (search needs)
 
-mul-join-key-2 : tie.Need-mul-join-key-2 Inv-loop μ-loop
-mul-join-key-2 c = search needs
+join-price-requires : tie.Need-join-price-requires Inv-loop μ-loop
+join-price-requires c κs = search needs
 
-shared-slice-read-join-key-2 : tie.Need-shared-slice-read-join-key-2 Inv-loop μ-loop
-shared-slice-read-join-key-2 c = right-read _ _ _ _ _ _ _ _ _ (c .before .before .before .loop .inv .3) _ _ _ _ (c .before .before .before .loop .inv .2) (search needs)
-
-seed-requires : tie.Need-seed-requires Inv-loop μ-loop
-seed-requires c κs = search needs
-
-back-number-requires : tie.Need-back-number-requires Inv-loop μ-loop
-back-number-requires c κs = rw (c .seed .ensures) (search (needs, c .before .before .before .before .before .before .before .before .before .before .before .before .before .before .pre .0 .1))
-
-join-key-requires : tie.Need-join-key-requires Inv-loop μ-loop
-join-key-requires c κs = search needs
+seed-number-requires : tie.Need-seed-number-requires Inv-loop μ-loop
+seed-number-requires c κs = (
+  rw (c .join-price .ensures) (join-small _ _ _ (c .before .before .before .before .before .before .before .before .before .before .before .before .before .before .before .before .pre .0 .1 .weight) (search needs) (search needs)),
+  c .before .before .before .before .before .before .before .before .before .before .before .before .before .before .before .before .pre .0 .1 .number,
+  search needs,
+)
 
 lesser-height-requires : tie.Need-lesser-height-requires Inv-loop μ-loop
-lesser-height-requires c κs =
-    let c₆ = c .before .before .before .before .before .before in
-    let c₁₆ = c₆ .before .before .before .before .before .before .before .before .before .before in
-    omega (arith, c₆ .loop .inv .1, c₁₆ .fits .best .fits)
+lesser-height-requires c κs = omega (arith, c .before .before .before .before .before .loop .inv .1, c .before .before .before .before .before .before .ceiling-number .ensures .0, c .before .before .before .before .before .before .ceiling-number .ensures .1)
 
 mul-x : tie.Need-mul-x Inv-loop μ-loop
-mul-x c =
-    let c₆ = c .before .before .before .before .before .before in
-    let c₇ = c₆ .before in
-    omega (arith, step-small (c₇ .loop .inv .0) (c₆ .loop-test .taken))
+mul-x c = omega (arith, step-small (c .before .before .before .before .before .before .loop .inv .0) (c .before .before .before .before .before .loop-test .taken))
 
 add-x : tie.Need-add-x Inv-loop μ-loop
-add-x c =
-    let c₆ = c .before .before .before .before .before .before in
-    let c₇ = c₆ .before in
-    omega (arith, step-small (c₇ .loop .inv .0) (c₆ .loop-test .taken))
+add-x c = omega (arith, step-small (c .before .before .before .before .before .before .loop .inv .0) (c .before .before .before .before .before .loop-test .taken))
 
 add-y : tie.Need-add-y Inv-loop μ-loop
 add-y c = search needs
@@ -120,12 +122,9 @@ loop-less c = search needs
 
 loop-again : tie.Need-loop-again Inv-loop μ-loop
 loop-again c =
-    let c₂ = c .before .before in
-    let c₃ = c₂ .before in
-    let c₆ = c₃ .before .before .before in
-    let c₇ = c₆ .before in
-    let r = c₇ .loop .inv .0 in
-    let s = step-small r (c₆ .loop-test .taken) in (
+    let r = c .before .before .before .before .before .before .loop .inv .0 in
+    let s = step-small r (c .before .before .before .before .before .loop-test .taken) in
+    let p = c .before .before .before .before .before .before .before .before .before .before .before .before .before .before .before .before .before .before .pre .0 in (
       record {
         after-first = omega arith;
         turns = omega arith;
@@ -134,38 +133,35 @@ loop-again c =
         left = omega arith;
         right = omega arith;
       },
-      omega (arith, c .lesser-height .ensures .1),
-      rw (
+      omega (arith, c .lesser-height .ensures .1, c .before .before .before .before .before .before .loop .inv .1),
+      λ floor h e. rw (
         c .lesser-height .ensures .0,
-        c .before .join-key .ensures,
-        c₂ .back-number .ensures .0,
-        c₃ .seed .ensures,
-      ) (at-next _ _ _ _ _ _ _ _ _ _ _ _ _ (r .after-first) (c₇ .loop .inv .2)),
-      c₇ .loop .inv .3,
+        c .before .seed-number .ensures,
+        lesser-number (c .before .before .join-price .result) (c .before .before .before .before .before .before .before .before .before .before .before .before .before .before .before .before .before .before .args .rule .number) (c .before .before .before .before .before .before .loop .j) (p .1 .number) (omega (arith, r .last, c .before .before .before .before .before .loop-test .taken)) floor _ h (p .2 .best-in) _ _ e (c .before .before .before .before .before .before .loop .inv .1),
+        c .before .before .join-price .ensures,
+        c .before .before .before .before .price-within .ensures .0,
+        c .before .before .before .price-within2 .ensures .0,
+      ) (at-next _ _ _ _ _ _ _ _ _ _ _ _ _ (r .after-first) (c .before .before .before .before .before .before .loop .inv .2 floor h e)),
+      c .before .before .before .before .before .before .loop .inv .3,
     )
 
-add-result : tie.Need-add-result Inv-loop μ-loop
-add-result c = search needs
+add-key-of-number : tie.Need-add-key-of-number Inv-loop μ-loop
+add-key-of-number c = search needs
 
-add-result-2 : tie.Need-add-result-2 Inv-loop μ-loop
-add-result-2 c = search needs
+add-key-of-number-2 : tie.Need-add-key-of-number-2 Inv-loop μ-loop
+add-key-of-number-2 c = omega (arith, c .before .loop .inv .1, c .before .before .ceiling-number .ensures .0, c .before .before .ceiling-number .ensures .1)
+
+key-of-number-requires : tie.Need-key-of-number-requires Inv-loop μ-loop
+key-of-number-requires c κs = c .before .before .before .before .before .before .before .before .before .before .before .before .before .pre .0 .2 .best-in
 
 returns : tie.Need-returns Inv-loop μ-loop
 unfolding splitSeeds
-returns c =
-    let c₂ = c .before .before in
-    let c₃ = c₂ .before in
-    let c₄ = c₃ .before in
-    let c₅ = c₄ .before in
-    let c₆ = c₅ .before in
-    let c₇ = c₆ .before in
-    let c₁₁ = c₇ .before .before .before .before in
-    c .before .loop .inv .2 (c₁₁ .args .d) (c₁₁ .args .c) (record {
-      kept = c₁₁ .pre .0 .0 .sized .kept;
-      apart = refl;
-      left = rw (← c₇ .left-part .ensures, ← c₆ .cell-number .ensures .0) (c₅ .entry-of .ensures .0);
-      right = rw (← c₄ .right-part .ensures, ← c₃ .cell-number2 .ensures .0) (c₂ .entry-of2 .ensures .0);
-    }) .seeds ∙ iter-end _ _ _ _ (c .before .loop .inv .0 .turns) (omega arith)
+returns c = c .key-of-number .ensures ∙ c .before .before .loop .inv .2 (c .before .before .before .before .before .before .before .before .before .before .before .before .before .before .args .floor) (c .before .before .before .before .before .before .before .before .before .before .before .before .before .before .pre .0 .2 .floor-in) (c .before .before .before .before .floor-number .ensures .0) (c .before .before .before .before .before .before .before .before .before .before .before .before .before .before .args .d) (c .before .before .before .before .before .before .before .before .before .before .before .before .before .before .args .c) (record {
+  kept = c .before .before .before .before .before .before .before .before .before .before .before .before .before .before .pre .0 .0 .sized .kept;
+  apart = refl;
+  left = rw (← c .before .before .before .before .before .before .before .before .before .before .left-part .ensures, ← c .before .before .before .before .before .before .before .before .before .cell-number .ensures .0) (c .before .before .before .before .before .before .before .before .entry-of .ensures .0);
+  right = rw (← c .before .before .before .before .before .before .before .right-part .ensures, ← c .before .before .before .before .before .before .cell-number2 .ensures .0) (c .before .before .before .before .before .entry-of2 .ensures .0);
+}) .seeds ∙ iter-end _ _ _ _ (c .before .before .loop .inv .0 .turns) (omega arith)
 
 pub split-seeds-within-spec : {M : Type 1} → statement M
 split-seeds-within-spec =
@@ -181,16 +177,15 @@ split-seeds-within-spec =
     right-part-requires
     cell-number-requires-2
     entry-of-requires-2
+    floor-number-requires
+    ceiling-number-requires
     add-height
     sub-height
     loop-holds
-    mul-join-key
-    shared-slice-read-join-key
-    mul-join-key-2
-    shared-slice-read-join-key-2
-    seed-requires
-    back-number-requires
-    join-key-requires
+    price-within-requires
+    price-within-requires-2
+    join-price-requires
+    seed-number-requires
     lesser-height-requires
     mul-x
     add-x
@@ -198,6 +193,7 @@ split-seeds-within-spec =
     add-j
     loop-less
     loop-again
-    add-result
-    add-result-2
+    add-key-of-number
+    add-key-of-number-2
+    key-of-number-requires
     returns)

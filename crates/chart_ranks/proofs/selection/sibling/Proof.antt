@@ -1,4 +1,5 @@
 -- By the rule's variant and the tests of the ranks.
+use mathlib.Core.Logic.{⊎-elim}
 use borrow.Author.Tests.{eq-eqb, ne-eqb, lt-ltb, le-ltb}
 use Rattle.chart_ranks.specs.Ranks.{sibling, pairSibling}
 use borrow.Author.Needs.{needs}
@@ -18,17 +19,16 @@ right-part-requires : tie.Need-right-part-requires
 right-part-requires c κs = search needs
 
 add-with-ranks : tie.Need-add-with-ranks
-add-with-ranks c = search (needs, c .before .before .before .before .before .before .before .before .before .before .before .before .pre .1 .left)
+add-with-ranks c = search (needs, c .before .before .before .before .before .before .before .before .before .before .before .before .before .pre .1 .left)
 
 with-ranks-requires : tie.Need-with-ranks-requires
 with-ranks-requires c κs = search needs
 
 pair-key-requires : tie.Need-pair-key-requires
-pair-key-requires c κs =
-    let c₄ = c .before .before .before .before in
-    let c₅ = c₄ .before in
-    let c₁₃ = c₅ .before .before .before .before .before .before .before .before in
-    rw (c₅ .left-part .ensures, c₄ .right-part .ensures, c .with-ranks .ensures) (search (needs, c₁₃ .pre))
+pair-key-requires c κs = rw (c .before .before .before .before .before .left-part .ensures, c .before .before .before .before .right-part .ensures, c .with-ranks .ensures) (search (needs, c .before .before .before .before .before .before .before .before .before .before .before .before .before .before .pre))
+
+no-key-requires : tie.Need-no-key-requires
+no-key-requires c κs = search needs
 
 lesser-requires : tie.Need-lesser-requires
 lesser-requires c κs = search needs
@@ -36,18 +36,13 @@ lesser-requires c κs = search needs
 returns : tie.Need-returns
 unfolding sibling pairSibling
 returns c =
-    let c₂ = c .before .before in
-    let c₄ = c₂ .before .before in
-    let c₆ = c₄ .before .before in
-    let c₇ = c₆ .before in
-    let c₉ = c₇ .before .before in
-    let c₁₁ = c₉ .before .before in
-    simp (← c₁₁ .rule-at .ensures, c₉ .rule .given .1, eq-eqb _ _ (c₄ .if1 .taken)) (rw (
+    simp (← c .before .before .before .before .before .before .before .before .before .before .before .before .rule-at .ensures, c .before .before .before .before .before .before .before .before .before .before .rule .given .1, eq-eqb _ _ (c .before .before .before .before .before .if1 .taken)) (rw (
       c .lesser .ensures,
-      c .before .pair-key .ensures,
-      c₂ .with-ranks .ensures,
-      c₆ .right-part .ensures,
-      c₇ .left-part .ensures,
+      c .before .no-key .ensures,
+      c .before .before .pair-key .ensures,
+      c .before .before .before .with-ranks .ensures,
+      c .before .before .before .before .before .before .before .right-part .ensures,
+      c .before .before .before .before .before .before .before .before .left-part .ensures,
     ))
 
 sub-with-ranks : tie.Need-sub-with-ranks
@@ -57,11 +52,10 @@ with-ranks-requires-2 : tie.Need-with-ranks-requires-2
 with-ranks-requires-2 c κs = search needs
 
 pair-key-requires-2 : tie.Need-pair-key-requires-2
-pair-key-requires-2 c κs =
-    let c₈ = c .before .before .before .before .before .before .before .before in
-    let c₉ = c₈ .before in
-    let c₁₇ = c₉ .before .before .before .before .before .before .before .before in
-    rw (c₉ .left-part .ensures, c₈ .right-part .ensures, c .with-ranks2 .ensures) (search (needs, c₁₇ .pre))
+pair-key-requires-2 c κs = rw (c .before .before .before .before .before .before .before .before .before .left-part .ensures, c .before .before .before .before .before .before .before .before .right-part .ensures, c .with-ranks2 .ensures) (search (needs, c .before .before .before .before .before .before .before .before .before .before .before .before .before .before .before .before .before .before .pre))
+
+no-key-requires-2 : tie.Need-no-key-requires-2
+no-key-requires-2 c κs = search needs
 
 lesser-requires-2 : tie.Need-lesser-requires-2
 lesser-requires-2 c κs = search needs
@@ -69,57 +63,34 @@ lesser-requires-2 c κs = search needs
 returns-2 : tie.Need-returns-2
 unfolding sibling pairSibling
 returns-2 c =
-    let c₂ = c .before .before in
-    let c₄ = c₂ .before .before in
-    let c₆ = c₄ .before .before in
-    let c₈ = c₆ .before .before in
-    let c₁₀ = c₈ .before .before in
-    let c₁₁ = c₁₀ .before in
-    let c₁₃ = c₁₁ .before .before in
-    let c₁₅ = c₁₃ .before .before in
     simp (
-      ← c₁₅ .rule-at .ensures,
-      c₁₃ .rule .given .1,
-      ne-eqb _ _ (c₈ .if1 .left),
-      eq-eqb _ _ (c₆ .if2 .taken),
-      lt-ltb _ _ (c₄ .if3 .taken),
-    ) (rw (
-      c .lesser2 .ensures,
-      c .before .pair-key2 .ensures,
-      c₂ .with-ranks2 .ensures,
-      c₁₀ .right-part .ensures,
-      c₁₁ .left-part .ensures,
-    ))
+      ← c .before .before .before .before .before .before .before .before .before .before .before .before .before .before .before .before .rule-at .ensures,
+      c .before .before .before .before .before .before .before .before .before .before .before .before .before .before .rule .given .1,
+      ne-eqb _ _ (c .before .before .before .before .before .before .before .before .before .if1 .left),
+      eq-eqb _ _ (c .before .before .before .before .before .before .before .if2 .taken),
+      lt-ltb _ _ (c .before .before .before .before .before .if3 .taken),
+    ) (rw (c .lesser2 .ensures, c .before .no-key2 .ensures, c .before .before .pair-key2 .ensures, c .before .before .before .with-ranks2 .ensures, c .before .before .before .before .before .before .before .before .before .before .before .right-part .ensures, c .before .before .before .before .before .before .before .before .before .before .before .before .left-part .ensures))
+
+no-key-requires-3 : tie.Need-no-key-requires-3
+no-key-requires-3 c κs = search needs
 
 enum-told : tie.Need-enum-told
 enum-told c = search needs
 
+no-key-requires-4 : tie.Need-no-key-requires-4
+no-key-requires-4 c κs = search needs
+
 returns-3 : tie.Need-returns-3
 unfolding sibling pairSibling
 returns-3 c =
-    let c₂ = c .before .before in
-    let c₄ = c₂ .before .before in
-    let c₉ = c₄ .before .before .before .before .before in
-    let c₁₁ = c₉ .before .before in
-    simp (
-      ← c₁₁ .rule-at .ensures,
-      c₉ .rule .given .1,
-      ne-eqb _ _ (c₄ .if1 .left),
-      eq-eqb _ _ (c₂ .if2 .taken),
-      le-ltb _ _ (c .if3 .left),
-    )
+    rw (c .no-key3 .ensures) (⊎-elim
+    (λ w. simp (← c .before .before .before .before .before .before .before .before .before .before .rule-at .ensures, c .before .before .before .before .before .before .before .before .rule .given .1, ne-eqb _ _ (c .before .before .before .if1 .left), eq-eqb _ _ (w .0 .taken), le-ltb _ _ (w .2 .left)))
+    (λ w. simp (← c .before .before .before .before .before .before .before .before .before .before .rule-at .ensures, c .before .before .before .before .before .before .before .before .rule .given .1, ne-eqb _ _ (c .before .before .before .if1 .left), ne-eqb _ _ (w .left)))
+    (c .before .if2 .came))
 
 returns-4 : tie.Need-returns-4
 unfolding sibling pairSibling
-returns-4 c =
-    let c₂ = c .before .before in
-    let c₇ = c₂ .before .before .before .before .before in
-    let c₉ = c₇ .before .before in
-    simp (← c₉ .rule-at .ensures, c₇ .rule .given .1, ne-eqb _ _ (c₂ .if1 .left), ne-eqb _ _ (c .if2 .left))
-
-returns-5 : tie.Need-returns-5
-unfolding sibling pairSibling
-returns-5 c = simp (← c .before .before .rule-at .ensures, c .enum-told .given .1)
+returns-4 c = simp (← c .before .before .before .rule-at .ensures, c .before .enum-told .given .1) (c .no-key4 .ensures)
 
 pub sibling-spec : {M : Type 1} → statement M
 sibling-spec =
@@ -132,14 +103,17 @@ sibling-spec =
     add-with-ranks
     with-ranks-requires
     pair-key-requires
+    no-key-requires
     lesser-requires
     returns
     sub-with-ranks
     with-ranks-requires-2
     pair-key-requires-2
+    no-key-requires-2
     lesser-requires-2
     returns-2
+    no-key-requires-3
     enum-told
+    no-key-requires-4
     returns-3
-    returns-4
-    returns-5)
+    returns-4)

@@ -22,18 +22,13 @@ right-part-requires : tie.Need-right-part-requires
 right-part-requires c κs = search needs
 
 add-with-ranks : tie.Need-add-with-ranks
-add-with-ranks c = search (needs, c .before .before .before .before .before .before .before .before .before .before .before .before .pre .1 .right)
+add-with-ranks c = search (needs, c .before .before .before .before .before .before .before .before .before .before .before .before .before .pre .1 .right)
 
 with-ranks-requires : tie.Need-with-ranks-requires
 with-ranks-requires c κs = search needs
 
 pair-key-requires : tie.Need-pair-key-requires
-pair-key-requires c κs =
-    let c₂ = c .before .before in
-    let c₃ = c₂ .before in
-    let c₈ = c₃ .before .before .before .before .before in
-    let c₁₃ = c₈ .before .before .before .before .before in
-    rw (c₃ .left-part .ensures, c₂ .right-part .ensures, c .with-ranks .ensures) (search (needs, c₈ .if1 .left, c₁₃ .pre))
+pair-key-requires c κs = rw (c .before .before .before .left-part .ensures, c .before .before .right-part .ensures, c .with-ranks .ensures) (search (needs, c .before .before .before .before .before .before .before .before .if1 .left, c .before .before .before .before .before .before .before .before .before .before .before .before .before .before .pre))
 
 lesser-requires : tie.Need-lesser-requires
 lesser-requires c κs = search needs
@@ -41,35 +36,22 @@ lesser-requires c κs = search needs
 returns-2 : tie.Need-returns-2
 unfolding successors pairSuccessors
 returns-2 c =
-    let c₂ = c .before .before in
-    let c₃ = c₂ .before in
-    let c₄ = c₃ .before in
-    let c₆ = c₄ .before .before in
-    let c₇ = c₆ .before in
-    let c₉ = c₇ .before .before in
-    let c₁₁ = c₉ .before .before in
-    let c₁₂ = c₁₁ .before in
-    simp (ne-eqb _ _ (c₁₂ .if1 .left), ← c₁₁ .rule-at .ensures, c₉ .rule .given .1, ne-eqb _ _ (c .if2 .taken)) (rw (
-      c₂ .lesser .ensures,
-      c₃ .pair-key .ensures,
-      c₄ .with-ranks .ensures,
-      c₆ .right-part .ensures,
-      c₇ .left-part .ensures,
+    simp (ne-eqb _ _ (c .before .before .before .before .before .before .before .before .before .before .before .before .if1 .left), ← c .before .before .before .before .before .before .before .before .before .before .before .rule-at .ensures, c .before .before .before .before .before .before .before .before .before .rule .given .1, ne-eqb _ _ (c .if2 .taken)) (rw (
+      c .before .before .lesser .ensures,
+      c .before .before .before .pair-key .ensures,
+      c .before .before .before .before .with-ranks .ensures,
+      c .before .before .before .before .before .before .right-part .ensures,
+      c .before .before .before .before .before .before .before .left-part .ensures,
     ))
 
 add-with-ranks-2 : tie.Need-add-with-ranks-2
-add-with-ranks-2 c = search (needs, c .before .before .before .before .before .before .before .before .before .before .before .before .before .before .before .before .before .before .pre .1 .left)
+add-with-ranks-2 c = search (needs, c .before .before .before .before .before .before .before .before .before .before .before .before .before .before .before .before .before .before .before .pre .1 .left)
 
 with-ranks-requires-2 : tie.Need-with-ranks-requires-2
 with-ranks-requires-2 c κs = search needs
 
 pair-key-requires-2 : tie.Need-pair-key-requires-2
-pair-key-requires-2 c κs =
-    let c₈ = c .before .before .before .before .before .before .before .before in
-    let c₉ = c₈ .before in
-    let c₁₄ = c₉ .before .before .before .before .before in
-    let c₁₉ = c₁₄ .before .before .before .before .before in
-    rw (c₉ .left-part .ensures, c₈ .right-part .ensures, c .with-ranks2 .ensures) (search (needs, c₁₄ .if1 .left, c₁₉ .pre))
+pair-key-requires-2 c κs = rw (c .before .before .before .before .before .before .before .before .before .left-part .ensures, c .before .before .before .before .before .before .before .before .right-part .ensures, c .with-ranks2 .ensures) (search (needs, c .before .before .before .before .before .before .before .before .before .before .before .before .before .before .if1 .left, c .before .before .before .before .before .before .before .before .before .before .before .before .before .before .before .before .before .before .before .before .pre))
 
 lesser-requires-2 : tie.Need-lesser-requires-2
 lesser-requires-2 c κs = search needs
@@ -80,33 +62,20 @@ enum-told c = search needs
 returns-3 : tie.Need-returns-3
 unfolding successors pairSuccessors
 returns-3 c =
-    let c₂ = c .before .before in
-    let c₄ = c₂ .before .before in
-    let c₆ = c₄ .before .before in
-    let c₇ = c₆ .before in
-    let c₈ = c₇ .before in
-    let c₁₀ = c₈ .before .before in
-    let c₁₁ = c₁₀ .before in
-    let c₁₃ = c₁₁ .before .before in
-    let c₁₅ = c₁₃ .before .before in
-    let c₁₆ = c₁₅ .before in
-    simp (ne-eqb _ _ (c₁₆ .if1 .left), ← c₁₅ .rule-at .ensures, c₁₃ .rule .given .1, eq-eqb _ _ (c₄ .if2 .left)) (rw (
+    simp (ne-eqb _ _ (c .before .before .before .before .before .before .before .before .before .before .before .before .before .before .before .before .if1 .left), ← c .before .before .before .before .before .before .before .before .before .before .before .before .before .before .before .rule-at .ensures, c .before .before .before .before .before .before .before .before .before .before .before .before .before .rule .given .1, eq-eqb _ _ (c .before .before .before .before .if2 .left)) (rw (
       c .lesser2 .ensures,
       c .before .pair-key2 .ensures,
-      c₂ .with-ranks2 .ensures,
-      c₆ .lesser .ensures,
-      c₇ .pair-key .ensures,
-      c₈ .with-ranks .ensures,
-      c₁₀ .right-part .ensures,
-      c₁₁ .left-part .ensures,
+      c .before .before .with-ranks2 .ensures,
+      c .before .before .before .before .before .before .lesser .ensures,
+      c .before .before .before .before .before .before .before .pair-key .ensures,
+      c .before .before .before .before .before .before .before .before .with-ranks .ensures,
+      c .before .before .before .before .before .before .before .before .before .before .right-part .ensures,
+      c .before .before .before .before .before .before .before .before .before .before .before .left-part .ensures,
     ))
 
 returns-4 : tie.Need-returns-4
 unfolding successors pairSuccessors
-returns-4 c =
-    let c₂ = c .before .before in
-    let c₃ = c₂ .before in
-    simp (ne-eqb _ _ (c₃ .if1 .left), ← c₂ .rule-at .ensures, c .enum-told .given .1)
+returns-4 c = simp (ne-eqb _ _ (c .before .before .before .if1 .left), ← c .before .before .rule-at .ensures, c .enum-told .given .1)
 
 pub successors-spec : {M : Type 1} → statement M
 successors-spec =

@@ -1,0 +1,5 @@
+pub mod Ranks
+pub mod Renumber
+pub mod Theorems
+pub mod Held
+pub mod Examples
