@@ -32,7 +32,7 @@ use Rattle.checker.specs.Check.{check, checkedOf, OfDerivation}
 use Rattle.checker.specs.declared.Checked as C
 use Rattle.checker.proofs.Refused.{check-row, refused-34, refused-35, refused-36}
 use Rattle.chance.specs.Chance.{chance, chanceOf, Shown}
-use Rattle.chance.specs.declared.Outcome as P
+use Rattle.chance.specs.declared.Outcome as Chance
 use Rattle.chance.proofs.Shown.{chance-row}
 use Rattle.listing.specs.Listing.{list, outputAfter, workAfter}
 use Rattle.listing.proofs.Demand3.{demand-3}
@@ -167,9 +167,9 @@ module _ (grammar utterance reading : List ℕ) where
 
 -- the chance: a code of 0 is no refusal's, so the chance was written
 module _ (grammar heard reading shares : List ℕ) where
-  pub chances : {code : ℤ} {float float′ : Float} {r : P.Outcome} → code ≡ codeOf (λ x. 0) (chance grammar heard reading shares)
+  pub chances : {code : ℤ} {float float′ : Float} {r : Chance.Outcome} → code ≡ codeOf (λ x. 0) (chance grammar heard reading shares)
       → float′ ≡ chanceAfter (chance grammar heard reading shares) float → r ≡ chanceOf (chance grammar heard reading shares)
-      → ((x : Float) → r ≡ P.the-variants.Product x → Shown grammar heard reading shares x)
+      → ((x : Float) → r ≡ Chance.the-variants.Product x → Shown grammar heard reading shares x)
       → D.Chance grammar heard reading shares float code float′
   chances {float = float} e w told shown = record {
     demand-1 = first (λ x. 0) (chance-row grammar heard reading shares) e (λ x p. (refl, w ∙ rw p)) (λ n p. w ∙ rw p);
