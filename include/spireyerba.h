@@ -14,24 +14,26 @@
 ** as -SPIREYERBA_GRAMMAR_KIND. Where several conditions hold, the one that is
 ** met first is answered: the grammar's, then the utterance's, then the
 ** reading's, each field by field unless its function says otherwise; then those
-** of a number wanted and of lengths lent, in the order that its function names.
+** of a number wanted, of shares and of lengths lent, in the order that its
+** function names.
 **
 ** MEMORY. A slice is a pointer and a length, and the length counts elements
-** (uint8_t or uint32_t), not bytes. All memory is the caller's: it is lent for
+** (uint8_t or uint32_t), not bytes. A second result goes to one number that a
+** pointer is given to. All memory is the caller's: it is lent for
 ** the time of one call, and no pointer is kept. The library allocates nothing,
 ** and 64 KiB of stack suffice (measured, not proved: tests/tests/stack.rs). A
 ** pointer must be valid for its length, aligned for its type and not null (for
-** an empty slice, any address that is not null will do); out and work may not
-** overlap each other or another slice.
+** an empty slice, any address that is not null will do); out, work and chance may
+** not overlap each other or another slice.
 **
-** WHAT IS WRITTEN. Only out and work are ever changed, and a refusal changes
-** nothing at all. An answer leaves its result at the front of out, as long as
+** WHAT IS WRITTEN. Only out, work and chance are ever changed, and a refusal
+** changes nothing at all. An answer leaves its result at the front of out, as long as
 ** the function says, everything behind it as it was, and all of work zero. This
 ** holds whatever out and work held before.
 **
 ** THREADS. The library has no state: no variable, no file, no lock. Any
-** functions may run at once on any threads, as long as no out or work is lent
-** to two calls at a time.
+** functions may run at once on any threads, as long as no out, work or chance is
+** lent to two calls at a time.
 */
 #ifndef SPIREYERBA_H
 #define SPIREYERBA_H
@@ -56,6 +58,7 @@ extern "C" {
 #define SPIREYERBA_MAX_EDGES 96        /* of a word graph: 1 to 96            */
 #define SPIREYERBA_MAX_WEIGHT 65535    /* of a rule, and cost of a word       */
 #define SPIREYERBA_NOT_HEARD 65535     /* cost of a word: not offered         */
+#define SPIREYERBA_MAX_SHARE 1024      /* of a rule: 1 to 1,024, of 1,024     */
 
 /*
 ** SIZES. No accepted block or sheet is longer; an output of this length is
@@ -221,6 +224,34 @@ int32_t spireyerba_check(
     const uint8_t *grammar, size_t grammar_len,
     const uint8_t *utterance, size_t utterance_len,
     const uint8_t *reading, size_t reading_len);
+
+/* Refusals of the shares of a grammar's rules. */
+enum {
+    SPIREYERBA_SHARES_COUNT = 60,    /* there is not one share for each rule      */
+    SPIREYERBA_SHARE_RANGE = 61      /* a share is not 1 to 1,024                 */
+};
+
+/*
+** CHANCE. Some offices have a share for each rule, of 1,024. The chance of a
+** reading, of slots or of a graph, is the product of the shares of its nodes,
+** each over 1,024. It is written to *chance as a float of 64 bits: 1.0 times
+** each factor in the order of the walk, every product rounded to the nearest
+** float, to even at a tie. A factor is exact, and so is a chance of one node.
+** With m nodes and P the exact product of their whole shares, the float times
+** 2 to the power 10 m differs from P by at most m * P / 2 to the power 52.
+**
+** Takes the share of each of the R rules, in the order of the rules. Answers 0.
+** Refuses as the check does, with any of GRAMMAR_..., any of UTTERANCE_... and
+** EDGE_..., any of READING_...; then with SHARES_COUNT, SHARE_RANGE. A refusal
+** leaves *chance as it was. The caller's rounding mode is to be the usual one, to
+** nearest.
+*/
+int32_t spireyerba_chance(
+    const uint8_t *grammar, size_t grammar_len,
+    const uint8_t *utterance, size_t utterance_len,
+    const uint8_t *reading, size_t reading_len,
+    const uint32_t *shares, size_t shares_len,
+    double *chance);
 
 /* Refusals of the specimen and of the next phrase. */
 enum {

@@ -1,10 +1,12 @@
-//! Sheets to blocks and back, and the check of a reading, which reads all three blocks: the library beside the second
-//! implementation.
+//! Sheets to blocks and back, and the check and the chance of a reading, which read all three blocks: the library beside the
+//! second implementation.
 
 use crate::inputs::{graphs, greatest, Input};
 use crate::measure::{medians, micros, ratio, Plan};
 use crate::table::{print_head, print_row};
+use spireyerba::limits::MAX_SHARE;
 use spireyerba::{services, Refusal};
+use spireyerba_tests::chance::chance;
 use spireyerba_tests::check::check;
 use spireyerba_tests::heard::Heard;
 use spireyerba_tests::{conversions, grammar, utterance};
@@ -44,6 +46,8 @@ pub fn print_table() {
     );
     print_check("check of a reading", &input);
     print_check("check of a reading of a graph", &graphs()[0]);
+    print_chance("chance of a reading", &input);
+    print_chance("chance of a reading of a graph", &graphs()[0]);
 }
 
 /// The check of the least reading.
@@ -55,6 +59,21 @@ fn print_check(name: &str, Input { grammar, heard, .. }: &Input) {
         &[],
         |_| services::check(&grammar_block, &block, reading).map(|()| 0),
         |_| check(&grammar_block, &block, reading).map(|()| 0),
+    );
+}
+
+/// The chance of the least reading, by shares from the greatest down.
+fn print_chance(name: &str, Input { grammar, heard, .. }: &Input) {
+    let (grammar_block, block) = (grammar::pack(grammar), heard.pack(grammar));
+    let (_, reading) = &heard.least(grammar, 1)[0];
+    let shares: Vec<u32> = (1..=MAX_SHARE).rev().take(grammar.rules.len()).collect();
+    let mut product = 0.0;
+    chance(&grammar_block, &block, reading, &shares, &mut product).expect("a reading that passes the check");
+    print_call(
+        name,
+        &[product],
+        |out| services::chance(&grammar_block, &block, reading, &shares, &mut out[0]).map(|()| 1),
+        |out| chance(&grammar_block, &block, reading, &shares, &mut out[0]).map(|()| 1),
     );
 }
 

@@ -20,6 +20,8 @@ pub const MAX_WEIGHT: u32 = 65_535;
 /// ([`Candidate::is_offered`](crate::Candidate::is_offered), [`Edge::is_offered`](crate::Edge::is_offered)). As the weight
 /// of a rule the number is like any other.
 pub const NOT_HEARD: u32 = 65_535;
+/// The greatest share of a rule, and what shares are of; the least is 1.
+pub const MAX_SHARE: u32 = 1_024;
 /// A listing answers 1 to so many readings.
 pub const MAX_READINGS: u32 = 256;
 

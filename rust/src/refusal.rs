@@ -8,7 +8,7 @@ macro_rules! refusals {
         /// Why a service refused what it was handed. A refusal changes nothing that was lent.
         ///
         /// Where several conditions hold, the one that is met first is answered: the grammar's, then the utterance's, then
-        /// the reading's, each field by field, then those of a number wanted and of lengths lent. Each function of
+        /// the reading's, each field by field, then those of a number wanted, of shares and of lengths lent. Each function of
         /// [`services`](crate::services) says where it departs from this.
         ///
         /// ```
@@ -69,6 +69,8 @@ refusals! {
     43 OutputShort "the output is shorter than the result",
     51 EdgePlaces "an edge does not end above where it starts, or not below the number of places",
     52 EdgeRepeat "an edge has the places and the word of an earlier one",
+    60 SharesCount "there is not one share for each rule of the grammar",
+    61 ShareRange "a share is not 1 to 1,024",
 }
 
 impl Refusal {

@@ -7,8 +7,8 @@
 //!
 //! A *block* is packed bits, a *sheet* the same as plain 32-bit numbers; the header says field by field what they hold.
 //! [`Grammar`](crate::Grammar), [`Utterance`](crate::Utterance) and [`Reading`](crate::Reading) are made from them and
-//! turn into them, and [`limits`](crate::limits) says how long they are. [`listing`] and [`check`] take the block of a word
-//! graph ([`Graph`](crate::Graph)) as well as that of an utterance of slots; to every other function a graph is a block of
+//! turn into them, and [`limits`](crate::limits) says how long they are. [`listing`], [`check`] and [`chance`] take the block of a
+//! word graph ([`Graph`](crate::Graph)) as well as that of an utterance of slots; to every other function a graph is a block of
 //! another kind, [`UtteranceKind`](Refusal::UtteranceKind).
 
 #![expect(unsafe_code, reason = "the library has a C interface")]
@@ -41,6 +41,17 @@ extern "C" {
         utterance_len: usize,
         reading: *const u8,
         reading_len: usize,
+    ) -> i32;
+    fn spireyerba_chance(
+        grammar: *const u8,
+        grammar_len: usize,
+        utterance: *const u8,
+        utterance_len: usize,
+        reading: *const u8,
+        reading_len: usize,
+        shares: *const u32,
+        shares_len: usize,
+        chance: *mut f64,
     ) -> i32;
     fn spireyerba_specimen(grammar: *const u8, grammar_len: usize, length: u32, out: *mut u8, out_len: usize) -> i32;
     fn spireyerba_next_phrase(
@@ -188,6 +199,53 @@ pub fn check(grammar: &[u8], utterance: &[u8], reading: &[u8]) -> Result<(), Ref
         )
     })?;
     debug_assert_eq!(passes, 0, "the answer of a reading that passes");
+    Ok(())
+}
+
+/// Works out the chance of a reading of an utterance or of a word graph: the product of the shares of its nodes' rules.
+///
+/// Takes the three blocks and the share of each of the grammar's rules, 1 to [`MAX_SHARE`](crate::limits::MAX_SHARE), of so
+/// many, and writes the product to `chance`: 1.0 times each share over 1,024, which is exact, in the order of the walk, every
+/// product rounded to the nearest float. With m nodes and P the exact product of their whole shares, the float times 2 to the
+/// power 10 m differs from P by at most m P / 2 to the power 52. A chance of one node is exact.
+///
+/// Refuses as [`check`] does, then with [`SharesCount`](Refusal::SharesCount), then with [`ShareRange`](Refusal::ShareRange).
+/// Then `chance` is as it was.
+///
+/// ```
+/// use spireyerba::{services::chance, Refusal};
+///
+/// let grammar = [0x10, 0x40, 0x40, 0x40, 0x00, 0x09, 0x00, 0x00, 0x00];
+/// let utterance = [0x21, 0x08, 0x00, 0x00, 0x80, 0x00, 0x08, 0x00, 0x00, 0x80, 0x00, 0x00];
+/// let reading = [0x31, 0x00, 0x00, 0x00, 0xd5, 0x80];
+/// let mut product = 0.0;
+/// // half of all phrases are two phrases: three of the seven nodes
+/// assert_eq!(chance(&grammar, &utterance, &reading, &[512, 1024], &mut product), Ok(()));
+/// assert_eq!(product, 0.125);
+/// assert_eq!(chance(&grammar, &utterance, &reading, &[512], &mut product), Err(Refusal::SharesCount));
+/// ```
+pub fn chance(
+    grammar: &[u8],
+    utterance: &[u8],
+    reading: &[u8],
+    shares: &[u32],
+    chance: &mut f64,
+) -> Result<(), Refusal> {
+    // SAFETY: the slices are borrowed until the call returns, `chance` for it alone.
+    let written = answer(unsafe {
+        spireyerba_chance(
+            grammar.as_ptr(),
+            grammar.len(),
+            utterance.as_ptr(),
+            utterance.len(),
+            reading.as_ptr(),
+            reading.len(),
+            shares.as_ptr(),
+            shares.len(),
+            chance,
+        )
+    })?;
+    debug_assert_eq!(written, 0, "the answer of a chance that is written");
     Ok(())
 }
 

@@ -30,6 +30,8 @@ static const uint8_t graph_block[] = {0x52, 0x04, 0x00, 0x40, 0x00, 0x01, 0x10, 
 static const uint8_t graph_readings[3][8] = {{0x60, 0xc0, 0x00, 0x00, 0x90, 0x08, 0x18, 0x30},
                                              {0x60, 0xc0, 0x00, 0x00, 0x88, 0x08, 0x18, 0x30},
                                              {0x60, 0x80, 0x00, 0x01, 0x10, 0x50, 0x60, 0x00}};
+/* Document 02's shares of G's two rules, with the chance of the reading: 2 to the power -3. */
+static const uint32_t shares[] = {512, SPIREYERBA_MAX_SHARE};
 static uint32_t work[320];
 static int failures;
 
@@ -56,6 +58,7 @@ static void fill_outputs(void) {
 
 int main(void) {
     int32_t answer;
+    double chance;
 
     fill_outputs();
     answer = spireyerba_grammar_to_block(g_sheet, LENGTH(g_sheet), block, LENGTH(block));
@@ -80,6 +83,13 @@ int main(void) {
     expect(answer == 0, "document 01's reading passes the check");
     answer = spireyerba_check(g_block, LENGTH(g_block), u_block, LENGTH(u_block), reading, LENGTH(reading) - 1);
     expect(answer == -SPIREYERBA_READING_END, "a reading that is cut is refused");
+
+    chance = -1.0;
+    answer = spireyerba_chance(g_block, LENGTH(g_block), u_block, LENGTH(u_block), reading, LENGTH(reading), shares, 1, &chance);
+    expect(answer == -SPIREYERBA_SHARES_COUNT && chance == -1.0, "a share is missing, and nothing is written");
+    answer = spireyerba_chance(g_block, LENGTH(g_block), u_block, LENGTH(u_block), reading, LENGTH(reading), shares,
+                               LENGTH(shares), &chance);
+    expect(answer == 0 && chance == 0.125, "the chance of document 01's reading is an eighth");
 
     fill_outputs();
     answer = spireyerba_specimen(g_block, LENGTH(g_block), 3, block, LENGTH(block));

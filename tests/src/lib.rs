@@ -8,13 +8,14 @@
 //! | `grammar`, `utterance`, `reading` | the block and the sheet of each |
 //! | `graph`, `graph_reading` | the blocks of word graphs and of their readings |
 //! | `heard` | slots or a graph, and the words that they offer |
-//! | `conversions`, `check`, `listing`, `specimen` | the services over lent slices; the next phrase stands with the specimen |
+//! | `conversions`, `check`, `chance`, `listing`, `specimen` | the services over lent slices; the next phrase stands with the specimen |
 //! | `derivation` | trees, their order, and all derivations sorted by it |
 //! | `nbest` | the N best trees of each cell, where all derivations are too many |
 //! | `compare` | one call of both on the same slices, held to each other |
 //! | `seeded` | seeded inputs, valid and damaged |
 
 pub mod bits;
+pub mod chance;
 pub mod check;
 pub mod compare;
 pub mod conversions;

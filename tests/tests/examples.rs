@@ -1,7 +1,9 @@
 //! The files of examples/ belong together: texts and sheets, blocks, and lists of readings.
 
 use spireyerba::text::{parse_sheet, print_list, NamedGrammar, UtteranceReader};
-use spireyerba::{Grammar, Graph, Utterance};
+use spireyerba::{services, Grammar, Graph, Utterance};
+use spireyerba_tests::chance::chance;
+use spireyerba_tests::heard::Heard;
 use spireyerba_tests::nbest::{least, least_of_graph};
 use spireyerba_tests::{grammar, graph, utterance};
 use std::path::PathBuf;
@@ -30,6 +32,21 @@ fn expect(folder: &str, grammar: &Grammar, utterance: &Utterance) {
     assert_eq!(grammar.list(utterance, 8).map(|list| print_list(&list)), Ok(readings));
 }
 
+/// The chances are these, in both implementations.
+fn expect_chances(folder: &str, grammar: &Grammar, heard: &Heard) {
+    let shares: Vec<u32> = text("doors", "shares.txt").split_whitespace().map(|share| share.parse().unwrap()).collect();
+    let (grammar_block, block, chances) = (grammar::pack(grammar), heard.pack(grammar), text(folder, "chances.txt"));
+    for service in [services::chance, chance] {
+        let mut printed = String::new();
+        for (rank, (_, reading)) in (1..).zip(heard.least(grammar, 8)) {
+            let mut float = f64::NAN;
+            service(&grammar_block, &block, &reading, &shares, &mut float).expect("a chance");
+            printed += &format!("{rank} {float:?}\n");
+        }
+        assert_eq!(printed, chances, "{folder}");
+    }
+}
+
 #[test]
 fn g_and_u() {
     let grammar = grammar::from_sheet(&parse_sheet(&text("g", "grammar.sheet.txt")).unwrap()).unwrap();
@@ -42,6 +59,7 @@ fn the_door_schedule() {
     let named = NamedGrammar::parse(&text("doors", "grammar.txt")).unwrap();
     let utterance = named.parse_utterance(&text("doors", "utterance.txt")).unwrap();
     expect("doors", &named.grammar, &utterance);
+    expect_chances("doors", &named.grammar, &Heard::Slots(utterance.clone()));
     let mut reader = UtteranceReader::new(&named);
     for line in text("doors", "utterances.txt").lines().filter(|line| !line.starts_with('#')) {
         assert!(reader.read(line).is_ok_and(|heard| named.grammar.list(&heard, 1).is_ok_and(|list| list.len() == 1)));
@@ -67,5 +85,6 @@ fn the_door_schedule_as_a_graph() {
     assert_eq!(named.grammar.list_graph(&graph, 8), Ok(list));
     let mut reader = UtteranceReader::new(&named);
     reader.scale = Some(100.0);
-    assert_eq!(reader.read_graph(&text(FOLDER, "lattice.slf")), Ok(graph));
+    assert_eq!(reader.read_graph(&text(FOLDER, "lattice.slf")), Ok(graph.clone()));
+    expect_chances(FOLDER, &named.grammar, &Heard::Graph(graph));
 }

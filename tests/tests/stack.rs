@@ -2,12 +2,13 @@
 //! A stack that is too short ends the whole run.
 
 use spireyerba::limits::{work_length, GRAMMAR_BLOCK_MAX, GRAMMAR_SHEET_MAX, GRAPH_BLOCK_MAX, GRAPH_READING_BLOCK_MAX};
-use spireyerba::limits::{MAX_READINGS, READING_BLOCK_MAX, UTTERANCE_BLOCK_MAX, UTTERANCE_SHEET_MAX};
+use spireyerba::limits::{MAX_READINGS, MAX_RULES, READING_BLOCK_MAX, UTTERANCE_BLOCK_MAX, UTTERANCE_SHEET_MAX};
 use spireyerba::{services, Body, Candidate, Edge, Grammar, Graph, Rule, Utterance};
 use std::thread;
 
 const STACK: usize = 64 * 1024;
 const READINGS: usize = MAX_READINGS as usize;
+const RULES: usize = MAX_RULES as usize;
 
 /// Runs a call on a thread of its own and answers what it does.
 fn on_small_stack<T: Send>(call: impl FnOnce() -> T + Send) -> T {
@@ -54,13 +55,17 @@ fn expect_answers(grammar: &Grammar, utterance: &Utterance) {
     expect_list(&grammar_block, &block, READING_BLOCK_MAX);
 }
 
-/// As many readings as can be wanted, of so many bytes each, which all pass the check.
+/// As many readings as can be wanted, of so many bytes each, which all pass the check; the chance of each is 1 / 1,024 to the
+/// power 47.
 fn expect_list(grammar: &[u8], heard: &[u8], length: usize) {
     let (mut work, mut out) = (vec![7; work_length(32, 24, READINGS)], vec![0; READINGS * length]);
     let answer = on_small_stack(|| services::listing(grammar, heard, MAX_READINGS, &mut work, &mut out));
     assert_eq!(answer, Ok(READINGS));
+    let mut chance = 0.0;
     for reading in out.chunks_exact(length) {
         assert_eq!(on_small_stack(|| services::check(grammar, heard, reading)), Ok(()));
+        let answer = on_small_stack(|| services::chance(grammar, heard, reading, &[1; RULES], &mut chance));
+        assert_eq!((answer, chance), (Ok(()), f64::from_bits(0x2290_0000_0000_0000)));
     }
 }
 

@@ -5,7 +5,7 @@ use mathlib.Core.Path.{_≡_, refl, sym, ap, _∙_}
 use mathlib.Core.Logic.{_↔_}
 use mathlib.Core.Bool.{Bool, true, false}
 use mathlib.Core.Option.{Option, none, some}
-use mathlib.Core.List.{List, [], _∷_, _++_, append-assoc}
+use mathlib.Core.List.{List, [], _∷_, _++_, append-assoc, append-nil}
 use Prim.Native.Nat.{ℕ, zero, suc, _+_, _-_, _*_, _≤_, _<_}
 use native.Mathlib.Omega.{arith}
 use borrow.Author.Tests.{eqb-true, ltb-true, eq-eqb, lt-ltb}
@@ -24,9 +24,9 @@ use Rattle.packing.specs.GraphReading.{edgeNumber, nodeEntries, traceEntries, T
 use Rattle.packing.proofs.Parse.{through, same-parsed}
 use Rattle.packing.proofs.Taken.{Taken, all, more, taken-join, taken-split, taken-held, held-taken}
 use Rattle.packing.proofs.GraphReading.{trace-fits, trace-decided}
-use Rattle.derivation.specs.Derivation.{At, Offered, Tree, node, Derives, by-word, by-pair, weight}
+use Rattle.derivation.specs.Derivation.{At, Offered, Tree, node, Derives, by-word, by-pair, weight, walk}
 use Rattle.derivation.specs.Heard.{pathLength, trace}
-use Rattle.derivation.specs.Path.{State, onward, astray, edgeStep, pairStep, wordStep, step, nodeBy, nodeFrom, runFrom, finished, weightAt, pathWeight}
+use Rattle.derivation.specs.Path.{State, onward, astray, edgeStep, pairStep, wordStep, step, nodeBy, nodeFrom, rulesRead, runFrom, finished, weightAt, pathWeight}
 use Rattle.derivation.proofs.Lists.{none≢some}
 use Rattle.derivation.proofs.Rows.{leaf-weight, node-weight}
 use Rattle.derivation.proofs.Trees.{same-sym, same-word}
@@ -237,6 +237,39 @@ module _ (g : Grammar) (es : List Edge) (src : Source) where
         ∙ complete d₂ t₂ heads (w + v + weight g es s) n m room
         ∙ ap (λ (x : ℕ). runs m (onward k n heads x) end) sum)
 
+-- the nodes of a derivation are read as its walk
+module _ (g : Grammar) (es : List Edge) (src : Source) where
+  abbrev reads : ℕ → ℕ → Parse (List ℕ)
+  reads = rulesRead (g .rules) src
+
+  abbrev behind : List ℕ → Parse (List ℕ) → Parse (List ℕ)
+  behind front p = p ⟫ λ l at. parsed (front ++ l) at
+
+  behind-join : (front next : List ℕ) (p : Parse (List ℕ)) → behind front (behind next p) ≡ behind (front ++ next) p
+  behind-join front next (parsed l at) = rw append-assoc
+  behind-join front next (failed n) = refl
+
+  walks : {A : Sym} {i k : ℕ} {t : Tree} → Derives g es A i k t → {at mid : ℕ} → Taken src at (traceEntries (length (g .rules)) (trace t)) mid → (m : ℕ)
+      → reads (length (trace t) + m) at ≡ behind (walk t) (reads m mid)
+  unfolding trace traceEntries walk rulesRead nodeFrom nodeBy
+  walks (by-word p o) (more q (more s all)) m =
+      let a : 1 + m ≡ suc m = omega arith in
+      rw (a, q, p, s)
+  walks (by-pair {r = r} {s = s} {t = t} p h₁ h₂ d₁ d₂) {mid = end} (more q rest) m =
+      let R : ℕ = length (g .rules) in
+      let (split, t₁, t₂) = taken-split (traceEntries R (trace s)) (rw (trace-append R (trace s) (trace t)) at rest) in
+      let steps : suc (length (trace s ++ trace t)) + m ≡ suc (length (trace s) + (length (trace t) + m)) =
+      rw (length-append (trace s) (trace t)) (omega arith) in
+      rw (steps, q, p, walks d₁ t₁ (length (trace t) + m), walks d₂ t₂ m, behind-join (walk s) (walk t) (reads m end))
+      (behind-join (r ∷ []) (walk s ++ walk t) (reads m end))
+
+  pub walk-read : {A : Sym} {i k : ℕ} {t : Tree} → Derives g es A i k t → {at mid : ℕ} → Taken src at (traceEntries (length (g .rules)) (trace t)) mid → (m : ℕ)
+      → m ≡ 2 * pathLength t - 1 → reads m at ≡ parsed (walk t) mid
+  unfolding rulesRead
+  walk-read {t = t} d k m e =
+      let size : m ≡ length (trace t) + 0 = omega (arith, trace-length t) in
+      rw size (walks d k 0 ∙ rw append-nil)
+
 -- t is a tree from the first place to the last, of n edges, and its nodes stand in the block from bit 34 on
 pub record Stands (g : Grammar) (es : List Edge) (last n : ℕ) (s : List ℕ) (t : Tree) : Type 0 where
   pub derives : Derives g es (symbolOf 0) 0 last t
@@ -253,6 +286,12 @@ module _ (g : Grammar) (es : List Edge) (forward : Forward es) (few : length es 
   nodes-taken {t = t} d h =
       let (f, w) = trace-fits (length (g .rules)) small (trace t) (trace-below g es few d) in
       (_, held-taken 31 s 34 (traceEntries (length (g .rules)) (trace t)) f w h)
+
+  -- the rule numbers that are read are its walk
+  pub rules-read : {t : Tree} → Stands g es last n s t → (next : ℕ) × (rulesRead (g .rules) src (2 * n - 1) 34 ≡ parsed (walk t) next)
+  rules-read d =
+      let (next, k) = nodes-taken (d .derives) (d .nodes) in
+      (next, walk-read g es src (d .derives) k (2 * n - 1) (rw (d .edges)))
 
   whole : {v : ℕ} → Covers g es src forward last (symbolOf 0 ∷ []) 0 n 34 v → (t : Tree) × Stands g es last n s t × (weight g es t ≡ v)
   whole c = go n refl c

@@ -16,6 +16,7 @@ use Rattle.packing.specs.Parse.{Parse, parsed, failed, _⟫_}
 use Rattle.packing.specs.Source.{Source, bytes, fieldAt}
 use Rattle.packing.specs.Reading.{ruleNumber}
 use Rattle.packing.specs.GraphReading.{edgeNumber}
+use Rattle.packing.specs.Flat.{nodeRule}
 
 -- how far a path has come: its place, the edges that are left of it, the heads of the parts that are to come, the next first, and
 -- the weight so far; or that it is none
@@ -62,6 +63,11 @@ nodeBy src r at (some (Word H x v)) = fieldAt src at edgeNumber ⟫ λ e at. par
 unfoldable pub nodeFrom : List R.Rule → Source → ℕ → Parse Node
 unfolding nodeBy
 nodeFrom rules src at = fieldAt src at (ruleNumber (length rules)) ⟫ λ r at. nodeBy src r at (getElem? rules r)
+
+-- the rule numbers of m nodes, from bit `at` on
+unfoldable pub rulesRead : List R.Rule → Source → ℕ → ℕ → Parse (List ℕ)
+rulesRead rules src zero at = parsed [] at
+rulesRead rules src (suc m) at = nodeFrom rules src at ⟫ λ x at. rulesRead rules src m at ⟫ λ l at. parsed (nodeRule x ∷ l) at
 
 -- m nodes
 unfoldable pub runFrom : List R.Rule → List Edge → Source → ℕ → State → ℕ → Parse State

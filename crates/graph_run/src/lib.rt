@@ -1,4 +1,4 @@
-// The weight of the derivation whose nodes stand in a graph's reading block: one node after the other along a path.
+// The weight and the walk of the derivation whose nodes stand in a graph's reading block: one node after the other along a path.
 use graph_reading_reader::Node;
 use graph_reading_reader::NodeRead;
 use packing::Word;
@@ -17,12 +17,12 @@ use parts_stack::Progress;
 use parts_stack::Step;
 ghost use mathlib.Core.Path.{_≡_};
 ghost use mathlib.Core.List.{List};
-ghost use Prim.Native.Nat.{ℕ, _+_, _-_, _^_, _≤_, _<_};
+ghost use Prim.Native.Nat.{ℕ, _+_, _-_, _*_, _^_, _≤_, _<_};
 ghost use lib.ListN.{length, getElem?};
 ghost use Rattle.packing.specs.Flat.{ruleAt, rulesOf, nodeBy};
 ghost use Rattle.derivation.specs.Path.{edgeStep, step, pathWeight};
 ghost use Rattle.parts_stack.specs.Stack.{headsOf, numberOf, standing, Small, Within, Further};
-ghost use Rattle.graph_run.specs.Edges.{edgesOf, costAt};
+ghost use Rattle.graph_run.specs.Edges.{edgesOf, costAt, Kept};
 
 // A graph whose edges stand in an array: how many they are, and its last place.
 pub struct Graph {
@@ -105,8 +105,8 @@ fn follow(
     }
 }
 
-// The weight of the derivation of n edges whose nodes stand in a block from behind its head on. Each part to come has an edge of its
-// own, so where no edge is left no part is.
+// The weight of the derivation of n edges whose nodes stand in a block from behind its head on, with their rule numbers at the front of
+// `walk`. Each part to come has an edge of its own, so where no edge is left no part is.
 pub fn weight_of(
     rules: &[u32],
     count: usize,
@@ -114,9 +114,11 @@ pub fn weight_of(
     graph: Graph,
     n: usize,
     block: &[u8],
+    walk: &mut [u32],
 ) -> Found
-    requires { do ⌜ (1 ≤ count) × (count ≤ (← ⟦MAX_RULES⟧)) × (1 ≤ n) × (n ≤ (← ⟦MAX_PATH_EDGES⟧)) ⌝ }
-    ensures { λ r. ⌜ numberOf r ≡ pathWeight (rulesOf (now (rules .entry)) count) (edgesOf (now (edges .entry)) (graph .edges)) (graph .last) n (now (block .entry)) ⌝ }
+    requires { do ⌜ (1 ≤ count) × (count ≤ (← ⟦MAX_RULES⟧)) × (1 ≤ n) × (n ≤ (← ⟦MAX_PATH_EDGES⟧)) × (2 * n - 1 ≤ length (now walk)) ⌝ }
+    ensures { λ r. ⌜ (numberOf r ≡ pathWeight (rulesOf (now (rules .entry)) count) (edgesOf (now (edges .entry)) (graph .edges)) (graph .last) n (now (block .entry)))
+        × Kept (rulesOf (now (rules .entry)) count) (now (block .entry)) (2 * n - 1) (now (walk .exit)) r ⌝ }
 {
     let mut stack = [0u32; MAX_PARTS];
     let mut at = Progress {
@@ -136,6 +138,7 @@ pub fn weight_of(
         let Step::Onward(next) = follow(rules, count, edges, graph, &mut stack, at, node) else {
             return Found::Nothing;
         };
+        walk[i] = node.rule as u32;
         at = next;
         bit = c.at;
         i += 1;

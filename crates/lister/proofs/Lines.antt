@@ -1,32 +1,29 @@
 -- What a line says: a block that a derivation's reading was packed into is read as that reading. Of a graph, its head is read, and then
 -- its nodes one after another, since each rule says whether an edge follows.
 use mathlib.Core.Path.{_≡_, refl, sym, ap, _∙_}
-use mathlib.Core.Bool.{Bool, true, false, false≢true}
-use mathlib.Core.List.{List, [], _∷_, _++_, append-assoc, append-nil}
-use Prim.Native.Nat.{ℕ, zero, suc, _+_, _-_, _*_, _/_, _≤_}
+use mathlib.Core.Bool.{true, false, false≢true}
+use mathlib.Core.List.{List}
+use Prim.Native.Nat.{ℕ, _+_, _-_, _*_, _/_, _≤_}
 use native.Mathlib.Omega.{arith}
-use lib.ListN.{length, length-append}
+use lib.ListN.{length}
 use Rattle.bits.specs.Fields.{widths}
-use Rattle.packing.specs.declared.Sym.{Sym}
-use Rattle.packing.specs.Meaning.{Grammar, Utterance, Reading, Edge, edges, Graph, slots, graph}
-use Rattle.packing.specs.Parse.{Parse, parsed, failed, _⟫_}
-use Rattle.packing.specs.Source.{Source, bytes, flds}
+use Rattle.packing.specs.Meaning.{Grammar, Utterance, Reading, edges, Graph, slots, graph}
+use Rattle.packing.specs.Parse.{parsed}
+use Rattle.packing.specs.Source.{bytes, flds}
 use Rattle.packing.specs.Reading.{readingFrom, readingEntries, blockOfReading}
 use Rattle.packing.specs.GraphReading.{GraphHead, graphHeadFrom, graphReadingBits, graphReadingLength, traceEntries}
-use Rattle.packing.specs.Flat.{Begins, ruleNumbers, rulesOf}
-use Rattle.packing.specs.Valid.{ValidGrammar, ValidUtterance, ValidGraph, ValidHeard, ValidReading}
+use Rattle.packing.specs.Flat.{Begins, ruleNumbers}
+use Rattle.packing.specs.Valid.{ValidGrammar, ValidUtterance, ValidGraph, ValidReading}
 use Rattle.packing.specs.declared.Cursor.{Cursor}
 use Rattle.packing.proofs.Flat.{rules-of}
-use Rattle.packing.proofs.Taken.{Taken, all, more, taken-split}
+use Rattle.packing.proofs.Taken.{Taken}
 use Rattle.packing.proofs.Whole.{reading-block-back}
 use Rattle.packing.proofs.GraphReading.{padded-taken, head-read, length-less}
-use Rattle.derivation.specs.Derivation.{Tree, Derives, by-word, by-pair, Derivation, weight, walk, reading}
+use Rattle.derivation.specs.Derivation.{Tree, Derivation, weight, walk, reading}
 use Rattle.derivation.specs.Heard.{pathLength, trace, graphReading, packed, outputLength}
-use Rattle.derivation.specs.Path.{nodeBy, nodeFrom}
-use Rattle.derivation.proofs.Path.{trace-append}
+use Rattle.derivation.proofs.Path.{walk-read}
 use Rattle.derivation.proofs.Paths.{walk-path}
 use Rattle.derivation.proofs.Theorems.{nodes, reading-packs}
-use Rattle.derivation.proofs.Trace.{trace-length}
 use Rattle.derivation.proofs.HeardReadings.{path, graph-reading-packs, packed-length}
 use Rattle.reading_reader.specs.Answer.{answerOf, WalkIn}
 use Rattle.graph_reading_reader.specs.Answer as graph-answer
@@ -34,7 +31,7 @@ use Rattle.graph_reading_reader.specs.declared.GraphHead as heads
 use Rattle.graph_reading_reader.specs.declared.HeadRead as graphs
 use Rattle.reading_reader.specs.declared.ReadingRead as read
 use Rattle.lister.specs.Lines.{shapeOf, Says}
-use Rattle.lister.specs.Model.{SlotsSay, rulesRead, WalkRead, GraphSays}
+use Rattle.lister.specs.Model.{SlotsSay, WalkRead, GraphSays}
 use Rattle.lister.specs.declared.Line.{Line}
 use Rattle.lister.specs.declared.Shape.{Shape}
 
@@ -60,32 +57,6 @@ module _ (s : Shape) (block array : List ℕ) (r : read.ReadingRead) (answered :
       let z : _≡_ {A = ℕ} 0 1 = cc in
       absurd (omega arith)
 
--- a graph: the nodes of a derivation are read as its walk
-module _ (g : Grammar) (es : List Edge) (src : Source) where
-  abbrev reads : ℕ → ℕ → Parse (List ℕ)
-  reads = rulesRead (g .rules) src
-
-  abbrev behind : List ℕ → Parse (List ℕ) → Parse (List ℕ)
-  behind front p = p ⟫ λ l at. parsed (front ++ l) at
-
-  behind-join : (front next : List ℕ) (p : Parse (List ℕ)) → behind front (behind next p) ≡ behind (front ++ next) p
-  behind-join front next (parsed l at) = rw append-assoc
-  behind-join front next (failed n) = refl
-
-  walk-read : {A : Sym} {i k : ℕ} {t : Tree} → Derives g es A i k t → {at mid : ℕ} → Taken src at (traceEntries (length (g .rules)) (trace t)) mid → (m : ℕ)
-      → reads (length (trace t) + m) at ≡ behind (walk t) (reads m mid)
-  unfolding trace traceEntries walk rulesRead nodeFrom nodeBy
-  walk-read (by-word p o) (more q (more s all)) m =
-      let a : 1 + m ≡ suc m = omega arith in
-      rw (a, q, p, s)
-  walk-read (by-pair {r = r} {s = s} {t = t} p h₁ h₂ d₁ d₂) {mid = end} (more q rest) m =
-      let R : ℕ = length (g .rules) in
-      let (split, t₁, t₂) = taken-split (traceEntries R (trace s)) (rw (trace-append R (trace s) (trace t)) at rest) in
-      let steps : suc (length (trace s ++ trace t)) + m ≡ suc (length (trace s) + (length (trace t) + m)) =
-      rw (length-append (trace s) (trace t)) (omega arith) in
-      rw (steps, q, p, walk-read d₁ t₁ (length (trace t) + m), walk-read d₂ t₂ m, behind-join (walk s) (walk t) (reads m end))
-      (behind-join (r ∷ []) (walk s ++ walk t) (reads m end))
-
 -- what the reader of a graph's reading says
 module _ (rules : List ℕ) (s : Shape) (block array : List ℕ) {r : graphs.HeadRead}
     (answered : r ≡ graph-answer.answerOf (s .rules) (graphHeadFrom (s .last) (s .rules) block)) where
@@ -110,7 +81,7 @@ module _ (rules : List ℕ) (s : Shape) (block : List ℕ) (r : Line) (array : L
   graph-says : GraphSays rules s block r array → (g : Grammar) (h : Graph) (t : Tree) → ValidGrammar g → ValidGraph (g .words) h → Begins (ruleNumbers g) rules
       → s ≡ shapeOf g (graph h) → Derivation g (graph h) t → block ≡ packed g (graph h) t
       → (r .weight ≡ weight g (h .edges) t) × (r .nodes ≡ length (walk t)) × Begins (walk t) array
-  unfolding graphReading graphReadingLength rulesRead
+  unfolding graphReading graphReadingLength
   graph-says say g h t ok valid stand shape d is =
       let R : ℕ = length (g .rules) in
       let L : ℕ = outputLength g (graph h) in
@@ -120,17 +91,15 @@ module _ (rules : List ℕ) (s : Shape) (block : List ℕ) (r : Line) (array : L
       let fits = room (graphReadingBits (pathLength t) R) (length block) (omega (arith, length-less (pathLength t) (h .places - 1) R most)) in
       let taken = rw (← is) at (padded-taken R L (graphReading g h t) v) in
       let (head, nodes) = head-read (h .places - 1) R block (graphReading g h t) fits most taken in
-      let size : 2 * pathLength t - 1 ≡ length (trace t) + 0 = omega (arith, trace-length t) in
-      go size head nodes
+      go head nodes
     where
-      go : 2 * pathLength t - 1 ≡ length (trace t) + 0
-          → graphHeadFrom (h .places - 1) (length (g .rules)) block ≡ parsed (record { edges = pathLength t; weight = weight g (h .edges) t }) 34
+      go : graphHeadFrom (h .places - 1) (length (g .rules)) block ≡ parsed (record { edges = pathLength t; weight = weight g (h .edges) t }) 34
           → {mid : ℕ} → Taken (bytes 31 block) 34 (traceEntries (length (g .rules)) (trace t)) mid
           → (r .weight ≡ weight g (h .edges) t) × (r .nodes ≡ length (walk t)) × Begins (walk t) array
-      go size head {mid} nodes =
-          let walked = walk-read g (h .edges) (bytes 31 block) d nodes 0 in
-          let (a, b, c) = say (record { edges = pathLength t; weight = weight g (h .edges) t }) (walk t ++ []) mid (rw shape head) (rw (shape, rules-of g rules stand, size) walked) in
-          (a, b ∙ omega (arith, walk-path t), rw append-nil at c)
+      go head {mid} nodes =
+          let walked = walk-read g (h .edges) (bytes 31 block) d nodes (2 * pathLength t - 1) refl in
+          let (a, b, c) = say (record { edges = pathLength t; weight = weight g (h .edges) t }) (walk t) mid (rw shape head) (rw (shape, rules-of g rules stand) walked) in
+          (a, b ∙ omega (arith, walk-path t), c)
 
   slots-says : SlotsSay s block r array → (g : Grammar) (u : Utterance) (t : Tree) → ValidGrammar g → ValidUtterance (g .words) u → s ≡ shapeOf g (slots u)
       → Derivation g (slots u) t → block ≡ packed g (slots u) t

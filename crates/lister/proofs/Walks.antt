@@ -7,13 +7,12 @@ use native.Mathlib.Omega.{arith}
 use lib.ListN.{length, take, set}
 use lib.Seq.{take-suc-set, length-take-le}
 use Rattle.packing.specs.Meaning.{Node}
-use Rattle.packing.specs.Parse.{Parse, parsed, failed, _⟫_}
+use Rattle.packing.specs.Parse.{parsed, failed}
 use Rattle.packing.specs.Source.{Source}
 use Rattle.packing.specs.Flat.{Begins, nodeRule}
 use Rattle.packing.specs.declared.Rule as R
 use Rattle.packing.proofs.Parse.{through, same-parsed}
-use Rattle.derivation.specs.Path.{nodeFrom}
-use Rattle.lister.specs.Model.{rulesRead}
+use Rattle.derivation.specs.Path.{nodeFrom, rulesRead}
 
 module _ (rules : List R.Rule) (src : Source) (nodes : ℕ) where
   -- i nodes were read and the next is at a place

@@ -1,17 +1,15 @@
 -- What the parts of the lister's code promise. Nobody need believe this page: the proofs join it to specs/Lines. Assumes nothing.
 use mathlib.Core.Path.{_≡_}
-use mathlib.Core.List.{List, [], _∷_}
-use Prim.Native.Nat.{ℕ, zero, suc, _-_, _*_}
-use lib.ListN.{length}
+use mathlib.Core.List.{List}
+use Prim.Native.Nat.{ℕ, _-_, _*_}
 use Rattle.packing.specs.Meaning.{Reading}
-use Rattle.packing.specs.Parse.{Parse, parsed, _⟫_}
-use Rattle.packing.specs.Source.{Source, bytes}
+use Rattle.packing.specs.Parse.{parsed}
+use Rattle.packing.specs.Source.{bytes}
 use Rattle.packing.specs.Reading.{blockOfReading}
 use Rattle.packing.specs.GraphReading.{GraphHead, graphHeadFrom}
-use Rattle.packing.specs.Flat.{Begins, rulesOf, nodeRule}
+use Rattle.packing.specs.Flat.{Begins, rulesOf}
 use Rattle.packing.specs.Valid.{ValidReading}
-use Rattle.packing.specs.declared.Rule as R
-use Rattle.derivation.specs.Path.{nodeFrom}
+use Rattle.derivation.specs.Path.{rulesRead}
 use Rattle.lister.specs.declared.Shape.{Shape}
 use Rattle.lister.specs.declared.Line.{Line}
 
@@ -21,12 +19,7 @@ SlotsSay s block r array =
     (d : Reading) → ValidReading (s .rules) d → d .slots ≡ s .last → block ≡ blockOfReading (s .rules) d
     → (r .weight ≡ d .weight) × (r .nodes ≡ 2 * d .slots - 1) × Begins (d .walk) array
 
--- the rule numbers of m nodes of a graph's reading, from bit `at` on
-unfoldable pub rulesRead : List R.Rule → Source → ℕ → ℕ → Parse (List ℕ)
-rulesRead rules src zero at = parsed [] at
-rulesRead rules src (suc m) at = nodeFrom rules src at ⟫ λ x at. rulesRead rules src m at ⟫ λ l at. parsed (nodeRule x ∷ l) at
-
--- these stand in the array, where they can be read
+-- the rule numbers of a graph's reading stand in the array, where they can be read
 abbrev pub WalkRead : (rules : List ℕ) (R nodes : ℕ) (block array : List ℕ) → Type 0
 WalkRead rules R nodes block array =
     (l : List ℕ) (next : ℕ) → rulesRead (rulesOf rules R) (bytes 31 block) nodes 34 ≡ parsed l next → Begins l array

@@ -1,5 +1,5 @@
 -- The numbers that each place can refuse with: document 01's table "Where each check stands", row by row, and document 02, N1, of word
--- graphs. Assumes nothing.
+-- graphs, and N14, of chances. Assumes nothing.
 use mathlib.Core.Logic.{_⊎_}
 use mathlib.Core.Path.{_≡_}
 use Prim.Native.Nat.{ℕ, _≤_}
@@ -51,3 +51,7 @@ UtteranceSheetRow n = (Between 13 15 ∪ Between 41 42) n
 
 abbrev pub OutputRow : ℕ → Type 0
 OutputRow n = n ≡ 43
+
+-- "60 the number of shares is not R ..; 61 a share outside 1 to 1,024"
+abbrev pub SharesRow : ℕ → Type 0
+SharesRow n = Between 60 61 n

@@ -32,6 +32,8 @@ pub const MAX_PLACE_NUMBER: u32 = 31; // that a place's field has room for
 
 pub const MAX_EDGE_NUMBER: u32 = 127; // that an edge number's field has room for
 
+pub const MAX_SHARE: u32 = 1024; // of a rule, and what shares are of
+
 // The kinds of blocks and of rules.
 pub const GRAMMAR_BLOCK: u32 = 1;
 

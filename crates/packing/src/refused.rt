@@ -64,3 +64,8 @@ pub const OUTPUT_SHORT: u32 = 43; // shorter than the result
 pub const EDGE_PLACES: u32 = 51; // from not below to, or to not below P
 
 pub const EDGE_REPEAT: u32 = 52; // from, to and word equal an earlier edge's
+
+// Of the shares of a grammar's rules.
+pub const SHARES_COUNT: u32 = 60; // their number is not R
+
+pub const SHARE_RANGE: u32 = 61; // a share out of range

@@ -5,6 +5,7 @@ use mathlib.Core.List.{List}
 use mathlib.Core.Option.{Option, none, some}
 use Prim.Native.Nat.{ℕ, _<_}
 use native.Mathlib.Omega.{arith}
+use lib.Ieee.{Float}
 use lib.IntN.{ℤ, pos, negℤ}
 use lib.ListN.{length}
 use mir.Syntax.{w32}
@@ -15,11 +16,13 @@ use Rattle.packing.specs.declared.Written as W
 use Rattle.derivation.specs.Derivation.{Tree}
 use Rattle.checker.specs.Check as Check
 use Rattle.checker.specs.declared.Checked as C
+use Rattle.chance.specs.Chance as Chance
+use Rattle.chance.specs.declared.Outcome as P
 use Rattle.listing.specs.Listing as Listing
 use Rattle.listing.specs.declared.Listed as L
 use Rattle.specimen.specs.Specimen as Specimen
 use Rattle.specimen.specs.declared.Answered as A
-use Rattle.spireyerba.specs.Code.{codeOf, stringLength}
+use Rattle.spireyerba.specs.Code.{codeOf, chanceAfter, stringLength}
 use Rattle.spireyerba.specs.Model.{writtenCode, SmallWritten}
 use Rattle.spireyerba.proofs.Signed.{back, fits-pos, fits-neg}
 
@@ -83,6 +86,42 @@ module _ {v : Verdict Tree} (small : Small (λ d. 0) v) {r s : C.Checked} (e : r
 
   pub checked-number : {z : ℤ} → z ≡ checkedCode s → toZ w32 (ofZ w32 z) ≡ codeOf (λ d. 0) v
   checked-number p = told-number (λ d. 0) Check.checkedOf checkedCode v (checked-same v) small e told p
+
+-- the chance
+abbrev shownCode : P.Outcome → ℤ
+shownCode (P.the-variants.Product x) = pos 0
+shownCode (P.the-variants.Refused n) = negℤ (pos n)
+
+abbrev SmallShown : P.Outcome → Type 0
+SmallShown (P.the-variants.Product x) = Unit {0}
+SmallShown (P.the-variants.Refused n) = n < 2147483648
+
+shown-same : (v : Verdict Float) → shownCode (Chance.chanceOf v) ≡ codeOf (λ x. 0) v
+shown-same (accepted x) = refl
+shown-same (refused n) = refl
+
+module _ {v : Verdict Float} (small : Small (λ x. 0) v) {r s : P.Outcome} (e : r ≡ Chance.chanceOf v) (told : r ≡ s) where
+  pub shown-small : SmallShown s
+  shown-small = subst SmallShown (sym e ∙ told) (go small)
+    where
+      go : {v : Verdict Float} → Small (λ x. 0) v → SmallShown (Chance.chanceOf v)
+      go (small-size h) = tt
+      go (small-refusal h) = h
+
+  pub shown-code : shownCode s ≡ codeOf (λ x. 0) v
+  shown-code = told-code (λ x. 0) Chance.chanceOf shownCode v (shown-same v) e told
+
+  pub shown-number : {z : ℤ} → z ≡ shownCode s → toZ w32 (ofZ w32 z) ≡ codeOf (λ x. 0) v
+  shown-number p = told-number (λ x. 0) Chance.chanceOf shownCode v (shown-same v) small e told p
+
+-- and what is written
+pub written-float : (v : Verdict Float) {r : P.Outcome} {x : Float} (before : Float) → r ≡ Chance.chanceOf v → r ≡ P.the-variants.Product x → x ≡ chanceAfter v before
+written-float (accepted y) before e told = cc
+written-float (refused n) before e told = let z : _≡_ {A = ℕ} 0 1 = cc in absurd (omega arith)
+
+pub kept-float : (v : Verdict Float) {r : P.Outcome} {n : ℕ} (before : Float) → r ≡ Chance.chanceOf v → r ≡ P.the-variants.Refused n → before ≡ chanceAfter v before
+kept-float (accepted y) before e told = let z : _≡_ {A = ℕ} 0 1 = cc in absurd (omega arith)
+kept-float (refused m) before e told = refl
 
 -- the listing
 abbrev listedCode : L.Listed → ℤ

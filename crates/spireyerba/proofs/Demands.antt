@@ -5,6 +5,7 @@ use mathlib.Core.List.{List, _++_}
 use Prim.Native.Nat.{ℕ, zero, suc, _≤_}
 use native.Mathlib.Omega.{arith}
 use borrow.Author.Tests.{le-ltb}
+use lib.Ieee.{Float}
 use lib.IntN.{ℤ, pos, negℤ}
 use lib.ListN.{length, take, drop}
 use Rattle.packing.specs.Parse.{Verdict, accepted, refused}
@@ -17,13 +18,16 @@ use Rattle.derivation.specs.Derivation.{Tree}
 use Rattle.checker.specs.Check.{check, checkedOf, OfDerivation}
 use Rattle.checker.specs.declared.Checked as C
 use Rattle.checker.proofs.Refused.{check-row, refused-34, refused-35, refused-36}
+use Rattle.chance.specs.Chance.{chance, chanceOf, Shown}
+use Rattle.chance.specs.declared.Outcome as P
+use Rattle.chance.proofs.Shown.{chance-row}
 use Rattle.listing.specs.Listing.{list, outputAfter, workAfter}
 use Rattle.listing.proofs.Demand3.{demand-3}
 use Rattle.listing.proofs.Refused.{list-row}
-use Rattle.spireyerba.specs.Code.{codeOf}
+use Rattle.spireyerba.specs.Code.{codeOf, chanceAfter}
 use Rattle.spireyerba.specs.Demands as D
 use Rattle.spireyerba.specs.Demands.{Demand1, answers, refuses, Converts, RoundTrip, Demand2}
-use Rattle.spireyerba.proofs.Small.{low-grammar-to-block, low-grammar-to-sheet, low-utterance-to-block, low-utterance-to-sheet, low-check}
+use Rattle.spireyerba.proofs.Small.{low-grammar-to-block, low-grammar-to-sheet, low-utterance-to-block, low-utterance-to-sheet, low-check, low-chance}
 
 -- the code of an answer is not a refusal's, and the other way round
 pub low-code : (m n : ℕ) → 1 ≤ m → negℤ (pos m) ≡ pos n → ⊥
@@ -122,6 +126,20 @@ module _ (grammar utterance reading : List ℕ) where
         other-weight = Iff·trans (refused-code (λ d. 0) low e (omega arith)) (refused-35 grammar utterance reading);
         surplus = Iff·trans (refused-code (λ d. 0) low e (omega arith)) (refused-36 grammar utterance reading);
       }
+
+-- the chance: a code of 0 is no refusal's, so the chance was written
+module _ (grammar heard reading shares : List ℕ) where
+  pub chances : {code : ℤ} {float float′ : Float} {r : P.Outcome} → code ≡ codeOf (λ x. 0) (chance grammar heard reading shares)
+      → float′ ≡ chanceAfter (chance grammar heard reading shares) float → r ≡ chanceOf (chance grammar heard reading shares)
+      → ((x : Float) → r ≡ P.the-variants.Product x → Shown grammar heard reading shares x)
+      → D.Chance grammar heard reading shares float code float′
+  chances {float = float} e w told shown = record {
+    demand-1 = first (λ x. 0) (chance-row grammar heard reading shares) e (λ x p. (refl, w ∙ rw p)) (λ n p. w ∙ rw p);
+    near = λ h.
+        let (x, p, m) = accepted-code (λ x. 0) (low-chance grammar heard reading shares) e h in
+        let is = w ∙ ap (λ v. chanceAfter v float) p in
+        rw is (shown x (told ∙ ap chanceOf p));
+  }
 
 -- two calls: what the first wrote turns back, and there is room for it
 round-trip : (turn back : List ℕ → Verdict (List ℕ)) (Row Row′ : ℕ → Type 0) → RoundTrip (Converts turn back Row) (Converts back turn Row′)

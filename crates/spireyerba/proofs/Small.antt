@@ -23,9 +23,10 @@ use Rattle.packing.proofs.Parse as P
 use Rattle.packing.proofs.Widths.{grammar-length, utterance-length, valid-words}
 use Rattle.packing.proofs.Whole.{grammar-block-out, grammar-sheet-out, utterance-block-out, utterance-sheet-out}
 use Rattle.packing.proofs.Refusals.{Refuses, granted, denied, Low, wider, low-both, grammar-to-block-row, grammar-to-sheet-row, utterance-to-block-row, utterance-to-sheet-row}
-use Rattle.derivation.specs.Derivation.{Tree}
 use Rattle.checker.specs.Check.{check}
 use Rattle.checker.proofs.Refused.{check-row}
+use Rattle.chance.specs.Chance.{chance}
+use Rattle.chance.proofs.Shown.{chance-row}
 use Rattle.listing.specs.Listing.{list, listed, listedOf}
 use Rattle.listing.proofs.Accepted.{found-few}
 use Rattle.listing.proofs.Refused.{list-row}
@@ -141,13 +142,23 @@ module _ (most : ℕ) (few : most ≤ 24) (s : List ℕ) (n out : ℕ) {find : G
           found-wanted {P = search .Sought g} (search .as-long g) (search .least g (grammar-block-out s g p .0)) (omega arith)
       go e (denied {n = m} l) = refusal {m = m} (omega arith)
 
+-- an answer whose code is 0
+answers-low : {A : Type 0} {v : Verdict A} → Refuses Low v → Small (λ a. 0) v
+answers-low (granted {a}) = small-size {a = a} (omega arith)
+answers-low (denied {n} l) = small-refusal {n = n} (omega arith)
+
 -- the check
-checked-low : {v : Verdict Tree} → Refuses Low v → Small (λ d. 0) v
-checked-low (granted {a}) = small-size {a = a} (omega arith)
-checked-low (denied {n} l) = small-refusal {n = n} (omega arith)
 
 pub check-small : (grammar heard reading : List ℕ) → Small (λ d. 0) (check grammar heard reading)
-check-small grammar heard reading = checked-low (low-check grammar heard reading)
+check-small grammar heard reading = answers-low (low-check grammar heard reading)
+
+-- the chance
+pub low-chance : (grammar heard reading shares : List ℕ) → Refuses Low (chance grammar heard reading shares)
+low-chance grammar heard reading shares =
+    wider (low-both (low-three low-heard (λ n r. omega (arith, r))) (λ n r. omega (arith, r))) (chance-row grammar heard reading shares)
+
+pub chance-small : (grammar heard reading shares : List ℕ) → Small (λ x. 0) (chance grammar heard reading shares)
+chance-small grammar heard reading shares = answers-low (low-chance grammar heard reading shares)
 
 -- the listing: at most 256 readings
 most-wanted : (grammar heard : List ℕ) (N work out : ℕ) (ls : List (List ℕ)) → list grammar heard N work out ≡ accepted ls → N ≤ 256

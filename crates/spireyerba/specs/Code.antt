@@ -3,6 +3,7 @@
 use mathlib.Core.List.{List}
 use mathlib.Core.Option.{Option, none, some}
 use Prim.Native.Nat.{ℕ}
+use lib.Ieee.{Float}
 use lib.IntN.{ℤ, pos, negℤ}
 use lib.ListN.{length}
 use Rattle.packing.specs.Parse.{Verdict, accepted, refused}
@@ -20,6 +21,14 @@ lengthCode v = codeOf length v
 -- the check: 0 for a reading that passes
 abbrev pub checkCode : Verdict Tree → ℤ
 checkCode v = codeOf (λ t. 0) v
+
+-- the chance: 0 where there is one, which is then written
+abbrev pub chanceCode : Verdict Float → ℤ
+chanceCode v = codeOf (λ x. 0) v
+
+abbrev pub chanceAfter : Verdict Float → Float → Float
+chanceAfter (accepted x) before = x
+chanceAfter (refused n) before = before
 
 -- the listing: the number of readings found
 abbrev pub listCode : Verdict (List (List ℕ)) → ℤ

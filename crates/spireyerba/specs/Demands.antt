@@ -7,15 +7,17 @@ use mathlib.Core.Path.{_≡_}
 use mathlib.Core.Logic.{_⊎_, _↔_}
 use mathlib.Core.List.{List, _++_}
 use Prim.Native.Nat.{ℕ, zero, suc, _≤_, _<_}
+use lib.Ieee.{Float}
 use lib.IntN.{ℤ, pos, negℤ}
 use lib.ListN.{length, take, drop, replicate}
 use Rattle.packing.specs.Meaning.{Grammar}
 use Rattle.packing.specs.Parse.{Verdict, accepted, refused}
 use Rattle.packing.specs.Conversion.{grammarToBlock, grammarToSheet, utteranceToBlock, utteranceToSheet, fitting, TurnsBack}
-use Rattle.packing.specs.Rows.{_∪_, GrammarBlockRow, UtteranceBlockRow, HeardBlockRow, ListingRow, SpecimenRow, ReadingBlockRow, GrammarSheetRow, UtteranceSheetRow, OutputRow}
+use Rattle.packing.specs.Rows.{_∪_, GrammarBlockRow, UtteranceBlockRow, HeardBlockRow, ListingRow, SpecimenRow, ReadingBlockRow, SharesRow, GrammarSheetRow, UtteranceSheetRow, OutputRow}
 use Rattle.derivation.specs.Derivation.{At}
 use Rattle.derivation.specs.Rank.{_∈_}
 use Rattle.checker.specs.Check.{check, OfDerivation, NoWalk, OtherWeight, Surplus}
+use Rattle.chance.specs.Chance.{chance, Shown}
 use Rattle.listing.specs.Listing.{list, joined}
 use Rattle.listing.specs.Demand3.{Demand3}
 use Rattle.phrases.specs.Phrases.{Phrase, Precedes, Least}
@@ -66,6 +68,14 @@ pub record Check (grammar heard reading : List ℕ) (code : ℤ) : Type 0 where
   pub no-walk : (code ≡ negℤ (pos 34)) ↔ NoWalk grammar heard reading
   pub other-weight : (code ≡ negℤ (pos 35)) ↔ OtherWeight grammar heard reading
   pub surplus : (code ≡ negℤ (pos 36)) ↔ Surplus grammar heard reading
+
+-- Document 02, N14: the chance is written, with the code 0, or nothing is. Where it is, the reading passes the check, and the float is near to
+-- the exact product of its nodes' shares: `Shown` has "differs from P by at most m × P divided by 2 to the power 52" and "A reading of one node
+-- is exact".
+pub record Chance (grammar heard reading shares : List ℕ) (float : Float) (code : ℤ) (float′ : Float) : Type 0 where
+  pub demand-1 : Demand1 (chance grammar heard reading shares) (λ x n. (n ≡ 0) × (float′ ≡ x))
+      (GrammarBlockRow ∪ HeardBlockRow ∪ ReadingBlockRow ∪ SharesRow) (float′ ≡ float) code
+  pub near : code ≡ pos 0 → Shown grammar heard reading shares float′
 
 -- The least string with a property, whose length n is answered, stands at the front of the output; or there is none, 0 is answered and
 -- nothing was written.

@@ -1,5 +1,6 @@
 // The library for C and Rust (include/spireyerba.h): each exported function is a call of a service, with the answer as one
 // number: 0 or more is the answer, less than 0 is minus the refusal's number.
+use chance::Outcome;
 use checker::Checked;
 use listing::Listed;
 use packing::Written;
@@ -10,10 +11,11 @@ ghost use lib.IntN.{pos, negℤ};
 ghost use lib.ListN.{length};
 ghost use Rattle.packing.specs.Conversion.{grammarToBlock, grammarToSheet, utteranceToBlock, utteranceToSheet, fitting, written};
 ghost use Rattle.checker.specs.Check.{check};
+ghost use Rattle.chance.specs.Chance as definition;
 ghost use Rattle.listing.specs.Listing.{list, outputAfter, workAfter};
 ghost use Rattle.specimen.specs.Specimen.{specimen, outputOf};
 ghost use Rattle.next_phrase.specs.NextPhrase.{next};
-ghost use Rattle.spireyerba.specs.Code.{checkCode, listCode, lengthCode, stringCode};
+ghost use Rattle.spireyerba.specs.Code.{checkCode, chanceCode, chanceAfter, listCode, lengthCode, stringCode};
 ghost use Rattle.spireyerba.specs.Demands as demands;
 ghost use Rattle.spireyerba.specs.Model.{writtenCode, SmallWritten};
 
@@ -123,6 +125,29 @@ pub extern "C" fn spireyerba_check(grammar: &[u8], utterance: &[u8], reading: &[
     match answer {
         Checked::Passes => 0,
         Checked::Refused(n) => refusal(n),
+    }
+}
+
+// The chance of a reading that passes the check, by the share of each rule: 0, with the product in `chance`.
+#[no_mangle]
+pub extern "C" fn spireyerba_chance(
+    grammar: &[u8],
+    utterance: &[u8],
+    reading: &[u8],
+    shares: &[u32],
+    chance: &mut f64,
+) -> i32
+    ensures { λ r. ⌜ r ≡ chanceCode (definition.chance (now (grammar .entry)) (now (utterance .entry)) (now (reading .entry)) (now (shares .entry))) ⌝ }
+    ensures { λ r. ⌜ now (chance .exit) ≡ chanceAfter (definition.chance (now (grammar .entry)) (now (utterance .entry)) (now (reading .entry)) (now (shares .entry))) (now (chance .entry)) ⌝ }
+    ensures { λ r. ⌜ demands.Chance (now (grammar .entry)) (now (utterance .entry)) (now (reading .entry)) (now (shares .entry)) (now (chance .entry)) r (now (chance .exit)) ⌝ }
+{
+    let answer = chance::chance(grammar, utterance, reading, shares);
+    match answer {
+        Outcome::Product(x) => {
+            *chance = x;
+            0
+        }
+        Outcome::Refused(n) => refusal(n),
     }
 }
 

@@ -1,5 +1,6 @@
 //! One call of the library and of the second implementation on the same slices, held to each other.
 
+pub mod chance;
 pub mod check;
 pub mod conversions;
 pub mod listing;

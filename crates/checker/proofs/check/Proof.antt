@@ -1,12 +1,13 @@
 -- The array's rules are those of the grammar that was accepted; a slice of bytes has bytes, so the theorem of what passes holds.
-use mathlib.Core.Path.{sym, _∙_}
+use mathlib.Core.Path.{sym, ap, _∙_}
 use borrow.Author.Needs.{needs}
 use native.Mathlib.Omega.{arith}
 use Rattle.packing.specs.Grammar.{grammarBlock}
 use Rattle.grammar_reader.proofs.Outcome.{accepted-told, refused-told}
 use Rattle.checker.specs.Check.{check}
 use Rattle.packing.proofs.Flat.{rules-of}
-use Rattle.checker.proofs.Runs.{under-rules}
+use Rattle.checker.specs.Run.{walkedOf, checkedBy}
+use Rattle.checker.proofs.Runs.{passes-walked, under-rules}
 use Rattle.checker.proofs.Theorems.{promised}
 use Rattle.checker.proofs.check.Statement.{statement}
 use Rattle.checker.proofs.check.Tie as tie
@@ -29,33 +30,35 @@ slice-aggregate-check-heard c = search needs
 cast-check-heard : tie.Need-cast-check-heard
 cast-check-heard c = search needs
 
+slice-aggregate-check-heard-2 : tie.Need-slice-aggregate-check-heard-2
+slice-aggregate-check-heard-2 c = search needs
+
 check-heard-requires : tie.Need-check-heard-requires
 check-heard-requires c κs =
-    let at-sizes = c .before .before .before in
-    let bounded = rw (at-sizes .sizes .given .1) at (at-sizes .before .before .before .read-block .ensures .2) in
+    let bounded = rw (c .before .before .before .before .sizes .given .1) at (c .before .before .before .before .before .before .before .read-block .ensures .2) in
     omega arith
+
+verdict-requires : tie.Need-verdict-requires
+verdict-requires c κs = search needs
 
 returns : tie.Need-returns
 unfolding check
 returns c =
-    let at-m = c .before in
-    let at-read = at-m .before .before .before in
-    let at-known = at-read .before .before in
-    let a = at-known .before .before .before .args in
-    promised (a .grammar .now) (a .heard .now) (a .reading .now) (λ i. at-known .shared-slice-known3 .given i .fits)
-    (rw (refused-told (grammarBlock (a .grammar .now)) (at-read .read-block .ensures .0) (at-m .m .given .1)))
+    let a = c .before .before .before .before .before .before .before .before .before .args in
+    promised (a .grammar .now) (a .heard .now) (a .reading .now) (λ i. c .before .before .before .before .before .before .shared-slice-known3 .given i .fits)
+    (rw (refused-told (grammarBlock (a .grammar .now)) (c .before .before .before .before .read-block .ensures .0) (c .before .m .given .1)))
 
 returns-2 : tie.Need-returns-2
 returns-2 c =
-    let at-sizes = c .before .before .before .before in
-    let at-read = at-sizes .before .before .before in
-    let at-known = at-read .before .before in
-    let a = at-known .before .before .before .args in
-    let read = at-read .read-block in
-    let (g, p, z) = accepted-told (grammarBlock (a .grammar .now)) (read .ensures .0) (at-sizes .sizes .given .1) in
+    let a = c .before .before .before .before .before .before .before .before .before .before .before .before .before .before .before .args in
+    let read = c .before .before .before .before .before .before .before .before .before .before .read-block in
+    let (g, p, z) = accepted-told (grammarBlock (a .grammar .now)) (read .ensures .0) (c .before .before .before .before .before .before .before .sizes .given .1) in
     let rules = rules-of g (read .last .1 .0) (rw p at (read .ensures .1)) in
-    promised (a .grammar .now) (a .heard .now) (a .reading .now) (λ i. at-known .shared-slice-known3 .given i .fits)
-    (c .check-heard .ensures ∙ rw (z, rules) (sym (under-rules (a .grammar .now) (a .heard .now) (a .reading .now) g p)))
+    promised (a .grammar .now) (a .heard .now) (a .reading .now) (λ i. c .before .before .before .before .before .before .before .before .before .before .before .before .shared-slice-known3 .given i .fits)
+    (c .verdict .ensures
+    ∙ ap checkedBy (c .before .before .check-heard .ensures .0)
+    ∙ rw (z, rules) (ap (λ v. checkedBy (walkedOf v)) (sym (under-rules (a .grammar .now) (a .heard .now) (a .reading .now) g p))
+    ∙ passes-walked (check (a .grammar .now) (a .heard .now) (a .reading .now))))
 
 pub check-spec : {M : Type 1} → statement M
 check-spec =
@@ -67,6 +70,8 @@ check-spec =
     enum-known-sizes
     slice-aggregate-check-heard
     cast-check-heard
+    slice-aggregate-check-heard-2
     check-heard-requires
+    verdict-requires
     returns
     returns-2)

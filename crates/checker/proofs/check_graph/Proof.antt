@@ -1,5 +1,5 @@
 -- The array's edges are those of the graph that was accepted.
-use mathlib.Core.Path.{sym, ap, _∙_}
+use mathlib.Core.Path.{refl, sym, ap}
 use Prim.Native.Nat.{_-_}
 use native.Mathlib.Omega.{arith}
 use Rattle.packing.specs.Graph.{graphBlock}
@@ -24,8 +24,8 @@ enum-known-m c = search needs
 enum-known-found : tie.Need-enum-known-found
 enum-known-found c = search needs
 
-sub-t14 : tie.Need-sub-t14
-sub-t14 c =
+sub-t15 : tie.Need-sub-t15
+sub-t15 c =
     let sized = rw (c .before .before .found .given .1) at (c .before .before .before .before .before .read-graph .ensures .2) in
     omega (arith, sized)
 
@@ -34,22 +34,25 @@ slice-aggregate-check-path c = search needs
 
 check-path-requires : tie.Need-check-path-requires
 check-path-requires c κs =
-    let sized = rw (c .before .before .before .found .given .1) at (c .before .before .before .before .before .before .read-graph .ensures .2) in
-    omega (arith, sized, c .before .before .before .before .before .before .before .before .before .before .before .pre)
+    let sized = rw (c .before .before .before .before .found .given .1) at (c .before .before .before .before .before .before .before .read-graph .ensures .2) in
+    omega (arith, sized, c .before .before .before .before .before .before .before .before .before .before .before .before .before .pre)
 
 returns : tie.Need-returns
 returns c =
-    let a = c .before .before .before .before .before .before .before .before .before .args in
-    rw (refused-told (graphBlock (a .words) (a .heard .now)) (c .before .before .before .before .read-graph .ensures .0) (c .before .m .given .1))
+    let a = c .before .before .before .before .before .before .before .before .before .before .args in
+    rw (refused-told (graphBlock (a .words) (a .heard .now)) (c .before .before .before .before .read-graph .ensures .0) (c .before .m .given .1)) (refl, tt)
+
+same-length : tie.Need-same-length
+same-length c = search needs
 
 returns-2 : tie.Need-returns-2
 returns-2 c =
-    let a = c .before .before .before .before .before .before .before .before .before .before .before .before .args in
-    let read = c .before .before .before .before .before .before .before .read-graph in
-    let (h, e, z) = accepted-told (graphBlock (a .words) (a .heard .now)) (read .ensures .0) (c .before .before .before .before .found .given .1) in
-    c .check-path .ensures
-    ∙ graph-judged (a .words) (rulesOf (a .rules .now) (a .count)) (a .heard .now) (a .reading .now) (read .last .1 .1 .0) e (read .ensures .1)
-    (ap (λ (s : GraphSize). s .edges) z) (ap (λ (s : GraphSize). s .places - 1) z) (sym (length-rules-at (a .rules .now) 0 (a .count)))
+    let a = c .before .before .before .before .before .before .before .before .before .before .before .before .before .before .before .before .args in
+    let read = c .before .before .before .before .before .before .before .before .before .before .read-graph in
+    let (h, e, z) = accepted-told (graphBlock (a .words) (a .heard .now)) (read .ensures .0) (c .before .before .before .before .before .before .before .found .given .1) in
+    let judged = graph-judged (a .words) (rulesOf (a .rules .now) (a .count)) (a .heard .now) (a .reading .now) (read .last .1 .1 .0) e (read .ensures .1)
+    (ap (λ (s : GraphSize). s .edges) z) (ap (λ (s : GraphSize). s .places - 1) z) (sym (length-rules-at (a .rules .now) 0 (a .count))) in
+    rw judged at (c .before .before .check-path .ensures)
 
 pub check-graph-spec : {M : Type 1} → statement M
 check-graph-spec =
@@ -59,8 +62,9 @@ check-graph-spec =
     read-graph-requires
     enum-known-m
     enum-known-found
-    sub-t14
+    sub-t15
     slice-aggregate-check-path
     check-path-requires
     returns
+    same-length
     returns-2)

@@ -10,16 +10,29 @@ is-graph-requires c κs = search needs
 check-graph-requires : tie.Need-check-graph-requires
 check-graph-requires c κs = search needs
 
+same-length : tie.Need-same-length
+same-length c = search needs
+
 returns : tie.Need-returns
-returns c = c .check-graph .ensures ∙ rw (sym (c .before .before .is-graph .ensures) ∙ c .before .if1 .taken)
+returns c = rw (sym (c .before .before .before .before .before .is-graph .ensures) ∙ c .before .before .before .before .if1 .taken) (c .before .before .check-graph .ensures)
 
 check-slots-requires : tie.Need-check-slots-requires
 check-slots-requires c κs = search needs
 
+same-length-2 : tie.Need-same-length-2
+same-length-2 c = search needs
+
 returns-2 : tie.Need-returns-2
-returns-2 c = c .check-slots .ensures ∙ rw (sym (c .before .before .is-graph .ensures) ∙ c .before .if1 .left)
+returns-2 c = rw (sym (c .before .before .before .before .before .is-graph .ensures) ∙ c .before .before .before .before .if1 .left) (c .before .before .check-slots .ensures)
 
 pub check-heard-spec : {M : Type 1} → statement M
 check-heard-spec =
     tie.close
-    (tie.spec is-graph-requires check-graph-requires returns check-slots-requires returns-2)
+    (tie.spec
+    is-graph-requires
+    check-graph-requires
+    same-length
+    returns
+    check-slots-requires
+    same-length-2
+    returns-2)

@@ -1,5 +1,7 @@
 -- The nodes stand in the block that was read, so the weight of the derivation that has them is that of the reading's path.
-use mathlib.Core.Path.{sym, _∙_}
+use mathlib.Core.Path.{sym}
+use Prim.Native.Nat.{_-_, _*_, _≤_}
+use lib.ListN.{length}
 use native.Mathlib.Omega.{arith}
 use Rattle.packing.specs.Flat.{rulesOf}
 use Rattle.packing.proofs.Flat.{length-rules-at}
@@ -20,26 +22,42 @@ enum-known-head c = search needs
 
 weight-of-requires : tie.Need-weight-of-requires
 weight-of-requires c κs =
-    let sized = rw (c .before .head .given .1) at (c .before .before .before .read-head .ensures .1) in
-    omega (arith, sized, c .before .before .before .before .before .before .before .pre)
+    let sized = rw (c .before .before .head .given .1) at (c .before .before .before .before .read-head .ensures .1) in
+    omega (arith, sized, c .before .before .before .before .before .before .before .before .before .pre)
+
+mul-judge : tie.Need-mul-judge
+mul-judge c =
+    let sized = rw (c .before .before .before .before .before .head .given .1) at (c .before .before .before .before .before .before .before .read-head .ensures .1) in
+    omega (arith, sized, c .before .before .before .before .before .before .before .before .before .before .before .before .pre)
+
+sub-judge : tie.Need-sub-judge
+sub-judge c =
+    let sized = rw (c .before .before .before .before .before .head .given .1) at (c .before .before .before .before .before .before .before .read-head .ensures .1) in
+    omega (arith, sized, c .before .before .before .before .before .before .before .before .before .before .before .before .pre)
 
 judge-requires : tie.Need-judge-requires
 judge-requires c κs =
-    let sized = rw (c .before .before .head .given .1) at (c .before .before .before .before .read-head .ensures .1) in
+    let sized = rw (c .before .before .before .before .before .head .given .1) at (c .before .before .before .before .before .before .before .read-head .ensures .1) in
     omega (arith, sized)
 
 returns : tie.Need-returns
 returns c =
-    let a = c .before .before .before .before .before .before .before .args in
+    let a = c .before .before .before .before .before .before .before .before .args in
     path-failed (a .count) (a .graph .last) (rulesOf (a .rules .now) (a .count)) (edgesOf (a .edges .now) (a .graph .edges)) (a .reading .now)
-    (c .before .before .before .read-head .ensures .0) (c .before .m .given .1)
+    (a .walk .now) (c .before .before .before .read-head .ensures .0) (c .before .m .given .1)
+
+same-length : tie.Need-same-length
+same-length c = search needs
 
 returns-2 : tie.Need-returns-2
 returns-2 c =
-    let a = c .before .before .before .before .before .before .before .before .before .args in
-    c .judge .ensures
-    ∙ path-judged (a .count) (a .graph .last) (rulesOf (a .rules .now) (a .count)) (edgesOf (a .edges .now) (a .graph .edges)) (a .reading .now)
-    (c .before .before .before .before .before .read-head .ensures .0) (c .before .before .before .head .given .1) (sym (length-rules-at (a .rules .now) 0 (a .count))) (c .before .weight-of .ensures)
+    let a = c .before .before .before .before .before .before .before .before .before .before .before .before .before .args in
+    let sized = rw (c .before .before .before .before .before .before .head .given .1) at (c .before .before .before .before .before .before .before .before .read-head .ensures .1) in
+    let w = c .before .before .before .weight-of in
+    let array = w .last .1 .1 .1 .1 .1 .1 .0 in
+    let room : 2 * c .before .before .before .before .before .before .head .given .0 .0 .edges - 1 ≤ length array = omega (arith, sized, w .kept .1 .1 .1 .1 .1 .1 .0, c .before .before .before .before .before .before .before .before .before .before .before .before .before .pre) in
+    path-judged (a .count) (a .graph .last) (rulesOf (a .rules .now) (a .count)) (edgesOf (a .edges .now) (a .graph .edges)) (a .reading .now) array (w .result)
+    (c .before .before .before .before .before .before .before .before .read-head .ensures .0) (c .before .before .before .before .before .before .head .given .1) (sym (length-rules-at (a .rules .now) 0 (a .count))) (w .ensures .0) (w .ensures .1) room (c .judge .ensures)
 
 pub check-path-spec : {M : Type 1} → statement M
 check-path-spec =
@@ -49,6 +67,9 @@ check-path-spec =
     enum-known-m
     enum-known-head
     weight-of-requires
+    mul-judge
+    sub-judge
     judge-requires
     returns
+    same-length
     returns-2)

@@ -1,5 +1,5 @@
 -- The array's slots are the utterance that was accepted.
-use mathlib.Core.Path.{sym, ap, _∙_}
+use mathlib.Core.Path.{refl, sym, ap}
 use mathlib.Core.List.{List}
 use borrow.Author.Needs.{needs}
 use native.Mathlib.Omega.{arith}
@@ -30,29 +30,26 @@ slice-aggregate-check-walk c = search needs
 
 check-walk-requires : tie.Need-check-walk-requires
 check-walk-requires c κs =
-    let at-found = c .before .before in
-    let at-read = at-found .before .before .before in
-    let sized = rw (at-found .found .given .1) at (at-read .read-block .ensures .2) in
-    omega (arith, at-read .before .before .before .before .before .pre)
+    let sized = rw (c .before .before .before .found .given .1) at (c .before .before .before .before .before .before .read-block .ensures .2) in
+    omega (arith, c .before .before .before .before .before .before .before .before .before .before .before .before .pre)
 
 returns : tie.Need-returns
 returns c =
-    let at-m = c .before in
-    let at-read = at-m .before .before .before in
-    let a = at-read .before .before .before .before .before .args in
-    rw (refused-told (a .words) (utteranceBlock (a .words) (a .heard .now)) (at-read .read-block .ensures .0) (at-m .m .given .1))
+    let a = c .before .before .before .before .before .before .before .before .before .before .args in
+    rw (refused-told (a .words) (utteranceBlock (a .words) (a .heard .now)) (c .before .before .before .before .read-block .ensures .0) (c .before .m .given .1)) (refl, tt)
+
+same-length : tie.Need-same-length
+same-length c = search needs
 
 returns-2 : tie.Need-returns-2
 returns-2 c =
-    let at-found = c .before .before .before in
-    let at-read = at-found .before .before .before in
-    let a = at-read .before .before .before .before .before .args in
-    let read = at-read .read-block in
+    let a = c .before .before .before .before .before .before .before .before .before .before .before .before .before .before .before .args in
+    let read = c .before .before .before .before .before .before .before .before .before .read-block in
     let rules : List R.Rule = rulesOf (a .rules .now) (a .count) in
-    let (u, e, z) = accepted-told (a .words) (utteranceBlock (a .words) (a .heard .now)) (read .ensures .0) (at-found .found .given .1) in
+    let (u, e, z) = accepted-told (a .words) (utteranceBlock (a .words) (a .heard .now)) (read .ensures .0) (c .before .before .before .before .before .before .found .given .1) in
     let judged = slots-judged (a .words) rules (a .heard .now) (a .reading .now) (read .last .1 .1 .0) e (read .ensures .1)
     (ap (λ (s : Slots). s .count) z) (sym (length-rules-at (a .rules .now) 0 (a .count))) in
-    c .check-walk .ensures ∙ judged
+    rw judged at (c .before .before .check-walk .ensures)
 
 pub check-slots-spec : {M : Type 1} → statement M
 check-slots-spec =
@@ -65,4 +62,5 @@ check-slots-spec =
     slice-aggregate-check-walk
     check-walk-requires
     returns
+    same-length
     returns-2)

@@ -1,7 +1,8 @@
 -- Each way out is the one that the tests on the weight and on the end of the block choose.
-use mathlib.Core.Path.{sym, _∙_}
+use mathlib.Core.Path.{sym, ap, _∙_}
 use borrow.Author.Needs.{needs}
 use borrow.Author.Tests.{eq-eqb, ne-eqb}
+use Rattle.checker.specs.declared.Walked.the-variants.{Nodes}
 use Rattle.checker.proofs.judge.Statement.{statement}
 use Rattle.checker.proofs.judge.Tie as tie
 
@@ -12,7 +13,7 @@ enum-told : tie.Need-enum-told
 enum-told c = search needs
 
 returns : tie.Need-returns
-returns c = rw (c .enum-told .given .1)
+returns c = λ walk e. rw (c .enum-told .given .1)
 
 wide-requires : tie.Need-wide-requires
 wide-requires c κs = search needs
@@ -26,7 +27,7 @@ returns-2 c =
     let at-own = at-if1 .before .before .before in
     let weight = at-if1 .if1 .taken ∙ at-if1 .before .wide .ensures .0 in
     let same = eq-eqb (at-own .own .given .0 .0) (at-own .before .before .before .args .weight) weight in
-    rw (at-own .own .given .1, same, sym (c .before .zero-from .ensures) ∙ c .if2 .taken)
+    λ walk e. rw (at-own .own .given .1, same, sym (c .before .zero-from .ensures) ∙ c .if2 .taken) (ap Nodes (sym e))
 
 returns-3 : tie.Need-returns-3
 returns-3 c =
@@ -34,13 +35,13 @@ returns-3 c =
     let at-own = at-if1 .before .before .before in
     let weight = at-if1 .if1 .taken ∙ at-if1 .before .wide .ensures .0 in
     let same = eq-eqb (at-own .own .given .0 .0) (at-own .before .before .before .args .weight) weight in
-    rw (at-own .own .given .1, same, sym (c .before .zero-from .ensures) ∙ c .if2 .left)
+    λ walk e. rw (at-own .own .given .1, same, sym (c .before .zero-from .ensures) ∙ c .if2 .left)
 
 returns-4 : tie.Need-returns-4
 returns-4 c =
     let at-own = c .before .before .before in
     let other = ne-eqb (at-own .own .given .0 .0) (at-own .before .before .before .args .weight) (λ f. c .if1 .left (f ∙ sym (c .before .wide .ensures .0))) in
-    rw (at-own .own .given .1, other)
+    λ walk e. rw (at-own .own .given .1, other)
 
 pub judge-spec : {M : Type 1} → statement M
 judge-spec =

@@ -1,0 +1,3 @@
+pub mod Error
+pub mod Shares
+pub mod Shown

@@ -1,0 +1,95 @@
+-- The chance of a reading: document 02, N14. Stands on the check's definition, on packing's and derivation's, and on the kit's IEEE
+-- numbers (lib.Ieee), whose `round` gives the float nearest to a fraction and whose `mul` rounds once.
+use mathlib.Core.Path.{_≡_}
+use mathlib.Core.Bool.{Bool, true, false}
+use mathlib.Core.List.{List, [], _∷_}
+use Prim.Native.Nat.{ℕ, _+_, _-_, _*_, _^_, _≤_, _<_}
+use lib.Dec.{eqb, leb}
+use lib.IntN.{pos}
+use lib.ListN.{length, getD}
+use lib.Ieee.{Float, fin, binary64, round, mul}
+use lib.Ieee.Exact.{HasValue}
+use Rattle.bits.specs.Bits.{pick}
+use Rattle.packing.specs.Meaning.{Grammar, Heard}
+use Rattle.packing.specs.Parse.{Verdict, accepted, refused, _then_}
+use Rattle.packing.specs.Grammar.{grammarBlock}
+use Rattle.packing.specs.Heard.{heardBlock}
+use Rattle.derivation.specs.Derivation.{Tree, walk, Derivation}
+use Rattle.derivation.specs.Heard.{pathLength, ownBlock}
+use Rattle.checker.specs.Check.{check}
+use Rattle.chance.specs.declared.Outcome as O
+
+-- "shares for their rules, whole numbers from 1 to 1,024"
+abbrev pub isShare : ℕ → Bool
+isShare s = pick (leb 1 s) (leb s 1024) false
+
+unfoldable pub areShares : List ℕ → Bool
+areShares [] = true
+areShares (s ∷ ss) = pick (isShare s) (areShares ss) false
+
+-- the shares of some rules, one after another
+unfoldable pub sharesOf : List ℕ → List ℕ → List ℕ
+sharesOf shares [] = []
+sharesOf shares (r ∷ rs) = getD shares r 0 ∷ sharesOf shares rs
+
+-- 1.0
+abbrev pub one : Float
+one = fin false 1 (pos 0)
+
+-- "each a share over 1,024": the nearest float, which is that fraction itself
+unfoldable pub factorOf : ℕ → Float
+factorOf s = round binary64 false s 1024
+
+-- "The factors .. are multiplied in walk order, every product rounded once"
+unfoldable pub productOf : Float → List ℕ → Float
+productOf p [] = p
+productOf p (s ∷ ss) = productOf (mul binary64 p (factorOf s)) ss
+
+-- "60 the number of shares is not R, after the reading's checks; 61 a share outside 1 to 1,024, next"
+abbrev pub sharedBy : ℕ → List ℕ → List ℕ → Verdict Float
+sharedBy R shares rs =
+    pick (eqb (length shares) R) (pick (areShares shares) (accepted (productOf one (sharesOf shares rs))) (refused 61)) (refused 60)
+
+-- the chance of a reading that passes the check, or the refusal
+unfoldable pub chance : List ℕ → List ℕ → List ℕ → List ℕ → Verdict Float
+chance grammar heard reading shares =
+    grammarBlock grammar then λ g. check grammar heard reading then λ t. sharedBy (length (g .rules)) shares (walk t)
+
+-- the code's answer
+abbrev pub chanceOf : Verdict Float → O.Outcome
+chanceOf (accepted x) = O.the-variants.Product x
+chanceOf (refused n) = O.the-variants.Refused n
+
+-- "P the exact product of the whole shares"
+unfoldable pub exactOf : List ℕ → ℕ
+exactOf [] = 1
+exactOf (s ∷ ss) = s * exactOf ss
+
+-- how far two whole numbers are apart
+abbrev pub apart : ℕ → ℕ → ℕ
+apart a b = (a - b) + (b - a)
+
+-- the float x is the fraction a / c, and "the float times 2 to the power 10m differs from P by at most m × P divided by 2 to the power 52";
+-- here times c and 2 to the power 52, over whole numbers
+pub record Near (x : Float) (m P : ℕ) : Type 0 where
+  pub a : ℕ
+  pub c : ℕ
+  pub c-pos : 0 < c
+  pub value : HasValue x false a c
+  pub near : apart (a * 2 ^ (10 * m)) (P * c) * 2 ^ 52 ≤ m * P * c
+
+-- what is to be shown: the reading is the packing of a derivation, and the float is near to the exact product of its nodes' shares; "A
+-- reading of one node is exact"
+pub record Shown (grammar heard reading shares : List ℕ) (x : Float) : Type 0 where
+  pub g : Grammar
+  pub h : Heard
+  pub t : Tree
+  pub grammar-accepted : grammarBlock grammar ≡ accepted g
+  pub heard-accepted : heardBlock (g .words) heard ≡ accepted h
+  pub derivation : Derivation g h t
+  pub packing : reading ≡ ownBlock g h t
+  pub one-share-a-rule : length shares ≡ length (g .rules)
+  pub product : x ≡ productOf one (sharesOf shares (walk t))
+  pub nodes : length (walk t) ≡ 2 * pathLength t - 1
+  pub near : Near x (length (walk t)) (exactOf (sharesOf shares (walk t)))
+  pub exact : length (walk t) ≡ 1 → HasValue x false (exactOf (sharesOf shares (walk t))) 1024

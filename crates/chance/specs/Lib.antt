@@ -1,0 +1,2 @@
+pub mod Chance
+pub mod Model
