@@ -58,29 +58,31 @@ extern "C" {
 #define SPIREYERBA_MAX_EDGES 96        /* of a word graph: 1 to 96            */
 #define SPIREYERBA_MAX_WEIGHT 65535    /* of a rule, and cost of a word       */
 #define SPIREYERBA_NOT_HEARD 65535     /* cost of a word: not offered         */
+#define SPIREYERBA_MAX_ITEMS 6         /* of the body of an office's rule     */
 #define SPIREYERBA_MAX_SHARE 1024      /* of a rule: 1 to 1,024, of 1,024     */
 
 /*
 ** SIZES. No accepted block or sheet is longer; an output of this length is
 ** never too short for a conversion. Blocks are in bytes, sheets in numbers.
 */
-#define SPIREYERBA_GRAMMAR_BLOCK_MAX 1028
+#define SPIREYERBA_GRAMMAR_BLOCK_MAX 1060   /* without marks 1,028 */
 #define SPIREYERBA_UTTERANCE_BLOCK_MAX 515
 #define SPIREYERBA_GRAPH_BLOCK_MAX 410
-#define SPIREYERBA_GRAMMAR_SHEET_MAX 1283
+#define SPIREYERBA_GRAMMAR_SHEET_MAX 1539   /* without marks 1,283 */
 #define SPIREYERBA_UTTERANCE_SHEET_MAX 361
 
-/* The length of the sheet of a grammar with so many rules. */
+/* The length of the sheet of a grammar with so many rules, without and with marks. */
 #define SPIREYERBA_GRAMMAR_SHEET_LENGTH(rules) (3 + 5 * (size_t)(rules))
+#define SPIREYERBA_MARKED_SHEET_LENGTH(rules) (3 + 6 * (size_t)(rules))
 
 /* Refusals of a grammar. From a sheet: RANGE, SYMBOL, WORD, REPEAT only. */
 enum {
     SPIREYERBA_GRAMMAR_END = 1,      /* a field passes the end of the block       */
-    SPIREYERBA_GRAMMAR_KIND = 2,     /* the block's kind is not 1                 */
+    SPIREYERBA_GRAMMAR_KIND = 2,     /* the block's kind is not 1 or 4            */
     SPIREYERBA_GRAMMAR_RANGE = 3,    /* S, W or R is out of range                 */
     SPIREYERBA_GRAMMAR_SYMBOL = 4,   /* a symbol is not below S                   */
     SPIREYERBA_GRAMMAR_WORD = 5,     /* a word is not below W                     */
-    SPIREYERBA_GRAMMAR_REPEAT = 6,   /* kind, head and body equal an earlier rule's */
+    SPIREYERBA_GRAMMAR_REPEAT = 6,   /* kind, head and body equal an earlier rule's, in an office sheet head and items */
     SPIREYERBA_GRAMMAR_FILL = 7      /* nonzero fill in the last byte, or further bytes */
 };
 
@@ -103,9 +105,16 @@ enum {
 /* Further refusals of sheets, and that of the output of all conversions. */
 enum {
     SPIREYERBA_SHEET_COUNT = 41,     /* numbers are missing or left over          */
-    SPIREYERBA_SHEET_VALUE = 42,     /* a rule's kind is not 0 or 1, a weight or cost passes 65,535,
-                                        or a word rule's fifth number is not 0    */
+    SPIREYERBA_SHEET_VALUE = 42,     /* a rule's or an item's kind or a mark is not 0 or 1, a weight or
+                                        cost passes 65,535, or a word rule's fifth number is not 0 */
     SPIREYERBA_OUTPUT_SHORT = 43     /* the output is shorter than the result     */
+};
+
+/* Further refusals of an office sheet. */
+enum {
+    SPIREYERBA_ITEM_COUNT = 54,      /* a body has not 1 to 6 items               */
+    SPIREYERBA_ITEM_ALONE = 55,      /* a body is one symbol                      */
+    SPIREYERBA_OFFICE_SIZE = 56      /* the result passes 32 symbols or 256 rules */
 };
 
 /*
@@ -114,7 +123,8 @@ enum {
 **
 **   grammar     S, W, R, then for each rule five numbers: 0 (pair rule), head,
 **               weight, first symbol, second symbol; or 1 (word rule), head,
-**               weight, word, 0
+**               weight, word, 0; with marks, each rule has a sixth number: 1 for
+**               a helper's rule, 0 otherwise
 **   utterance   n, then for each slot its count, and word and cost of each
 **               candidate, words ascending; a cost of 65,535 (NOT_HEARD) says
 **               that the word was not heard, and is carried unchanged
@@ -123,7 +133,9 @@ enum {
 ** each rule 0 or 1 (1 bit), head, weight (16), and two symbols or one word. An
 ** utterance block has kind (4 bits, 2), n (6), then of each slot its count (3)
 ** and word and cost (16) of each candidate. A symbol has as many bits as S - 1
-** needs, a word as many as W - 1, at least 1.
+** needs, a word as many as W - 1, at least 1. A grammar block with marks has
+** kind 4, and behind each rule its mark (1 bit). Every function takes a grammar
+** of either kind; only the conversions and the program lister look at marks.
 **
 ** A word graph has no sheet: to a conversion its block is of another kind,
 ** UTTERANCE_KIND.
@@ -137,8 +149,9 @@ enum {
 ** Packs a grammar's sheet. Answers the bytes written to out.
 ** Refuses with GRAMMAR_RANGE, _SYMBOL, _WORD, _REPEAT, SHEET_COUNT,
 ** SHEET_VALUE, OUTPUT_SHORT: SHEET_COUNT for fewer than three numbers, then
-** GRAMMAR_RANGE, then SHEET_COUNT unless there are 3 + 5R numbers, then the
-** rules field by field.
+** GRAMMAR_RANGE, then SHEET_COUNT unless there are 3 + 5R numbers, or 3 + 6R
+** for a grammar with marks, then the rules field by field; _REPEAT comes after
+** the mark, which is no part of it.
 */
 int32_t spireyerba_grammar_to_block(
     const uint32_t *sheet, size_t sheet_len,
@@ -151,6 +164,32 @@ int32_t spireyerba_grammar_to_block(
 int32_t spireyerba_grammar_to_sheet(
     const uint8_t *block, size_t block_len,
     uint32_t *out, size_t out_len);
+
+/*
+** OFFICE SHEETS. An office writes rules whose body is one word, or two to six
+** items, each a symbol or a word. Its sheet has S, W, R, then for each rule head,
+** weight, item count, and for each item 0 (symbol) or 1 (word) and its number.
+** Packs it as a grammar in normal form with marks. Answers the bytes written to
+** out.
+**
+** The office's rules keep their numbers and weights; a body of one word stays
+** one. In a longer body each word becomes a helper symbol, one for each word in
+** the whole grammar, and of the symbols X1 to XL the head joins X1 with a new
+** helper, that one joins X2 with the next, and the last joins the final two.
+** Helpers are numbered from S as met, a rule's words first; helper S + k has
+** the one rule R + k, of weight 0 and with mark 1, and all others have mark 0.
+** The derivations of the office's grammar and of the block's match one to one,
+** with equal weight.
+**
+** Refuses number by number with SHEET_COUNT (a number is missing), GRAMMAR_RANGE,
+** _SYMBOL, _WORD, SHEET_VALUE, ITEM_COUNT at the count, ITEM_ALONE at the 0 of a
+** body's only item, and after a rule's last item with GRAMMAR_REPEAT (the weight
+** is no part of it); then with SHEET_COUNT (numbers are left over), OFFICE_SIZE,
+** OUTPUT_SHORT.
+*/
+int32_t spireyerba_office_to_block(
+    const uint32_t *sheet, size_t sheet_len,
+    uint8_t *out, size_t out_len);
 
 /*
 ** Packs an utterance's sheet under a grammar, given as its block. Answers the

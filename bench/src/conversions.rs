@@ -5,7 +5,7 @@ use crate::inputs::{graphs, greatest, Input};
 use crate::measure::{medians, micros, ratio, Plan};
 use crate::table::{print_head, print_row};
 use spireyerba::limits::MAX_SHARE;
-use spireyerba::{services, Refusal};
+use spireyerba::{services, Item, Office, OfficeRule, Refusal};
 use spireyerba_tests::chance::chance;
 use spireyerba_tests::check::check;
 use spireyerba_tests::heard::Heard;
@@ -32,6 +32,14 @@ pub fn print_table() {
         |out| services::grammar_to_sheet(&grammar_block, out),
         |out| conversions::grammar_to_sheet(&grammar_block, out),
     );
+    let office = office();
+    let (office_sheet, office_block) = (office.to_sheet(), office.to_block().expect("a result within the limits"));
+    print_call(
+        "office sheet to block",
+        &office_block,
+        |out| services::office_to_block(&office_sheet, out),
+        |out| conversions::office_to_block(&office_sheet, out),
+    );
     print_call(
         "utterance sheet to block",
         &block,
@@ -48,6 +56,20 @@ pub fn print_table() {
     print_check("check of a reading of a graph", &graphs()[0]);
     print_chance("chance of a reading", &input);
     print_chance("chance of a reading of a graph", &graphs()[0]);
+}
+
+/// 16 symbols and 240 rules, of which one in eight has a word in a body of two or three items.
+fn office() -> Office {
+    let rule = |number: u32| {
+        let items = match number % 8 {
+            0 if number < 64 => vec![Item::Symbol(number / 8), Item::Word(0), Item::Symbol(number % 16)],
+            0 => vec![Item::Word(number / 64), Item::Symbol(number / 16)],
+            1..=4 => vec![Item::Symbol(number / 16), Item::Symbol(number % 16)],
+            _ => vec![Item::Word(number % 200)],
+        };
+        OfficeRule { head: number % 16, weight: number, items }
+    };
+    Office { symbols: 16, words: 200, rules: (0..240).map(rule).collect() }
 }
 
 /// The check of the least reading.

@@ -1,8 +1,8 @@
 //! Grammars as values.
 
-use crate::limits::{GRAMMAR_BLOCK_MAX, GRAMMAR_SHEET_MAX};
-use crate::services::{check, grammar_to_block, grammar_to_sheet};
-use crate::{Graph, GraphReading, Lister, Reading, Refusal, Utterance};
+use crate::limits::GRAMMAR_BLOCK_MAX;
+use crate::services::{check, grammar_to_block};
+use crate::{Graph, GraphReading, Lister, MarkedGrammar, Reading, Refusal, Utterance};
 
 /// What a rule puts in the place of its head.
 #[derive(Clone, Copy, Debug, PartialEq, Eq, Hash)]
@@ -36,37 +36,47 @@ pub struct Grammar {
 }
 
 /// The numbers of a sheet before its rules, and of each rule.
-const SHEET_HEAD: usize = 3;
-const SHEET_RULE: usize = 5;
+pub(crate) const SHEET_HEAD: usize = 3;
+pub(crate) const SHEET_RULE: usize = 5;
 /// The first number of a rule.
 const PAIR_RULE: u32 = 0;
 const WORD_RULE: u32 = 1;
 
+impl Rule {
+    /// The numbers of a rule in a sheet, but for its mark.
+    pub(crate) fn numbers(&self) -> [u32; SHEET_RULE] {
+        let &Self { head, weight, body } = self;
+        match body {
+            Body::Pair(first, second) => [PAIR_RULE, head, weight, first, second],
+            Body::Word(word) => [WORD_RULE, head, weight, word, 0],
+        }
+    }
+
+    /// The rule of these numbers, which the library accepted or wrote.
+    pub(crate) fn of_accepted(&[kind, head, weight, first, second]: &[u32; SHEET_RULE]) -> Self {
+        let body = if kind == PAIR_RULE { Body::Pair(first, second) } else { Body::Word(first) };
+        Self { head, weight, body }
+    }
+}
+
 impl Grammar {
-    /// Reads a sheet, or refuses it as [`grammar_to_block`] does.
+    /// Reads a sheet with or without marks, or refuses it as [`grammar_to_block`] does. The marks are in a [`MarkedGrammar`].
     pub fn from_sheet(sheet: &[u32]) -> Result<Self, Refusal> {
-        grammar_to_block(sheet, &mut [0; GRAMMAR_BLOCK_MAX])?;
-        Ok(Self::of_accepted(sheet))
+        MarkedGrammar::from_sheet(sheet).map(|marked| marked.grammar)
     }
 
     /// The sheet: plain numbers, written out as they are.
     pub fn to_sheet(&self) -> Vec<u32> {
         let mut sheet = Vec::with_capacity(SHEET_HEAD + SHEET_RULE * self.rules.len());
         sheet.extend([self.symbols, self.words, self.rules.len() as u32]);
-        for &Rule { head, weight, body } in &self.rules {
-            sheet.extend(match body {
-                Body::Pair(first, second) => [PAIR_RULE, head, weight, first, second],
-                Body::Word(word) => [WORD_RULE, head, weight, word, 0],
-            });
-        }
+        sheet.extend(self.rules.iter().flat_map(Rule::numbers));
         sheet
     }
 
-    /// Unpacks a block, or refuses it as [`grammar_to_sheet`] does.
+    /// Unpacks a block with or without marks, or refuses it as [`grammar_to_sheet`](crate::services::grammar_to_sheet) does.
+    /// The marks are in a [`MarkedGrammar`].
     pub fn from_block(block: &[u8]) -> Result<Self, Refusal> {
-        let mut sheet = [0; GRAMMAR_SHEET_MAX];
-        let length = grammar_to_sheet(block, &mut sheet)?;
-        Ok(Self::of_accepted(&sheet[..length]))
+        MarkedGrammar::from_block(block).map(|marked| marked.grammar)
     }
 
     /// Packs the grammar, or refuses it as [`grammar_to_block`] refuses its sheet.
@@ -118,15 +128,5 @@ impl Grammar {
     pub fn check_graph(&self, graph: &Graph, reading: &GraphReading) -> Result<(), Refusal> {
         let grammar = self.to_block()?;
         check(&grammar, &graph.to_block(&grammar)?, &reading.to_block(self)?)
-    }
-
-    /// The grammar of a sheet that the library accepted or wrote.
-    fn of_accepted(sheet: &[u32]) -> Self {
-        let (head, rules) = sheet.split_at(SHEET_HEAD);
-        let rule = |&[kind, head, weight, first, second]: &[u32; SHEET_RULE]| {
-            let body = if kind == PAIR_RULE { Body::Pair(first, second) } else { Body::Word(first) };
-            Rule { head, weight, body }
-        };
-        Self { symbols: head[0], words: head[1], rules: rules.as_chunks().0.iter().map(rule).collect() }
     }
 }

@@ -15,6 +15,7 @@
 //! | [`services`] | the library's functions over lent slices, with no allocation |
 //! | [`Refusal`] | why one of them refused, by number and in words |
 //! | [`Grammar`], [`Utterance`], [`Reading`] | values that turn into blocks and sheets and back; [`Grammar::list`], [`Grammar::check`] |
+//! | [`Office`], [`MarkedGrammar`] | rules as offices write them, and what they become; [`Office::to_grammar`] |
 //! | [`Graph`], [`GraphReading`] | word graphs, which have blocks and no sheets; [`Grammar::list_graph`], [`Grammar::check_graph`] |
 //! | [`Grammar::specimen`], [`Phrases`] | what can be said in a grammar |
 //! | [`Lister`] | many listings under one grammar, in memory that is kept |
@@ -54,6 +55,8 @@ mod fields;
 mod grammar;
 mod graph;
 mod lister;
+mod marked;
+mod office;
 mod phrases;
 mod reading;
 mod refusal;
@@ -64,6 +67,8 @@ pub use error::{Error, Position};
 pub use grammar::{Body, Grammar, Rule};
 pub use graph::{Edge, Graph};
 pub use lister::{Found, Lister};
+pub use marked::MarkedGrammar;
+pub use office::{Item, Office, OfficeRule};
 pub use phrases::Phrases;
 pub use reading::{GraphReading, Reading};
 pub use refusal::Refusal;

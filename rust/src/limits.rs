@@ -20,6 +20,8 @@ pub const MAX_WEIGHT: u32 = 65_535;
 /// ([`Candidate::is_offered`](crate::Candidate::is_offered), [`Edge::is_offered`](crate::Edge::is_offered)). As the weight
 /// of a rule the number is like any other.
 pub const NOT_HEARD: u32 = 65_535;
+/// The body of an office's rule has 1 to so many items; one item is a word.
+pub const MAX_ITEMS: u32 = 6;
 /// The greatest share of a rule, and what shares are of; the least is 1.
 pub const MAX_SHARE: u32 = 1_024;
 /// A listing answers 1 to so many readings.
@@ -28,8 +30,8 @@ pub const MAX_READINGS: u32 = 256;
 /// [`next_phrase`](crate::services::next_phrase) hands out phrases of 1 to so many words.
 pub const MAX_PHRASE: u32 = 6;
 
-/// No grammar block that is accepted has more bytes.
-pub const GRAMMAR_BLOCK_MAX: usize = 1_028;
+/// No grammar block that is accepted has more bytes. It is of 256 rules with marks; without marks, 1,028 is the most.
+pub const GRAMMAR_BLOCK_MAX: usize = 1_060;
 /// No utterance block that is accepted has more bytes.
 pub const UTTERANCE_BLOCK_MAX: usize = 515;
 /// No block of a word graph that is accepted has more bytes.
@@ -38,8 +40,8 @@ pub const GRAPH_BLOCK_MAX: usize = 410;
 pub const READING_BLOCK_MAX: usize = 52;
 /// No block of a reading of a word graph has more bytes.
 pub const GRAPH_READING_BLOCK_MAX: usize = 73;
-/// No grammar sheet that is accepted has more numbers.
-pub const GRAMMAR_SHEET_MAX: usize = 1_283;
+/// No grammar sheet that is accepted has more numbers. It is of 256 rules with marks; without marks, 1,283 is the most.
+pub const GRAMMAR_SHEET_MAX: usize = 1_539;
 /// No utterance sheet that is accepted has more numbers.
 pub const UTTERANCE_SHEET_MAX: usize = 361;
 

@@ -17,7 +17,7 @@ macro_rules! refusals {
         /// let refusal = spireyerba::services::grammar_to_sheet(&[0x20], &mut []).unwrap_err();
         /// assert_eq!(refusal, Refusal::GrammarKind);
         /// assert_eq!(refusal.number(), 2);
-        /// assert_eq!(refusal.to_string(), "refused 2: the grammar block's kind is not 1");
+        /// assert_eq!(refusal.to_string(), "refused 2: the grammar block's kind is not 1 or 4");
         /// ```
         #[derive(Clone, Copy, Debug, PartialEq, Eq, PartialOrd, Ord, Hash)]
         #[non_exhaustive]
@@ -41,11 +41,11 @@ macro_rules! refusals {
 
 refusals! {
     1 GrammarEnd "a field of the grammar block passes its end",
-    2 GrammarKind "the grammar block's kind is not 1",
+    2 GrammarKind "the grammar block's kind is not 1 or 4",
     3 GrammarRange "the grammar's number of symbols, words or rules is out of range",
     4 GrammarSymbol "a symbol of the grammar is not below the number of symbols",
     5 GrammarWord "a word of the grammar is not below the number of words",
-    6 GrammarRepeat "a rule has kind, head and body of an earlier one",
+    6 GrammarRepeat "a rule has kind, head and body of an earlier one, or in an office sheet head and items",
     7 GrammarFill "the grammar block has nonzero fill in its last byte, or further bytes",
     11 UtteranceEnd "a field of the utterance block passes its end",
     12 UtteranceKind "the utterance block's kind is not 2, nor 5 where a word graph is taken",
@@ -65,10 +65,13 @@ refusals! {
     35 ReadingWeight "the reading's weight is not its derivation's",
     36 ReadingFill "the reading block has nonzero fill in its last byte, or further bytes",
     41 SheetCount "numbers of the sheet are missing or left over",
-    42 SheetValue "a rule's kind is not 0 or 1, a weight or cost passes 65,535, or a word rule's last number is not 0",
+    42 SheetValue "a rule's or an item's kind or a mark is not 0 or 1, a weight or cost passes 65,535, or a word rule's fifth number is not 0",
     43 OutputShort "the output is shorter than the result",
     51 EdgePlaces "an edge does not end above where it starts, or not below the number of places",
     52 EdgeRepeat "an edge has the places and the word of an earlier one",
+    54 ItemCount "a body of an office sheet does not have 1 to 6 items",
+    55 ItemAlone "a body of an office sheet is one symbol",
+    56 OfficeSize "the grammar that an office sheet becomes passes 32 symbols or 256 rules",
     60 SharesCount "there is not one share for each rule of the grammar",
     61 ShareRange "a share is not 1 to 1,024",
 }

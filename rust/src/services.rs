@@ -18,6 +18,7 @@ use crate::Refusal;
 extern "C" {
     fn spireyerba_grammar_to_block(sheet: *const u32, sheet_len: usize, out: *mut u8, out_len: usize) -> i32;
     fn spireyerba_grammar_to_sheet(block: *const u8, block_len: usize, out: *mut u32, out_len: usize) -> i32;
+    fn spireyerba_office_to_block(sheet: *const u32, sheet_len: usize, out: *mut u8, out_len: usize) -> i32;
     fn spireyerba_utterance_to_block(
         grammar: *const u8,
         grammar_len: usize,
@@ -84,12 +85,13 @@ fn answer(code: i32) -> Result<usize, Refusal> {
 /// Packs a grammar's sheet.
 ///
 /// Takes the sheet: S, W, R, then five numbers for each rule, which are 0, head, weight, first and second symbol for a pair
-/// rule, and 1, head, weight, word and 0 for a word rule. Answers the bytes written to `out`, at most
+/// rule, and 1, head, weight, word and 0 for a word rule. With a sixth number for each, its mark, which is 1 for a helper's
+/// rule and else 0, the block is one with marks. Answers the bytes written to `out`, at most
 /// [`GRAMMAR_BLOCK_MAX`](crate::limits::GRAMMAR_BLOCK_MAX).
 ///
 /// Refuses with [`SheetCount`](Refusal::SheetCount) for fewer than three numbers, then with
-/// [`GrammarRange`](Refusal::GrammarRange), then with `SheetCount` unless there are 3 + 5R numbers; then, rule by rule and
-/// field by field, with [`SheetValue`](Refusal::SheetValue), [`GrammarSymbol`](Refusal::GrammarSymbol),
+/// [`GrammarRange`](Refusal::GrammarRange), then with `SheetCount` unless there are 3 + 5R or 3 + 6R numbers; then, rule by
+/// rule and field by field, with [`SheetValue`](Refusal::SheetValue), [`GrammarSymbol`](Refusal::GrammarSymbol),
 /// [`GrammarWord`](Refusal::GrammarWord) or [`GrammarRepeat`](Refusal::GrammarRepeat); last with
 /// [`OutputShort`](Refusal::OutputShort).
 ///
@@ -105,7 +107,7 @@ pub fn grammar_to_block(sheet: &[u32], out: &mut [u8]) -> Result<usize, Refusal>
     answer(unsafe { spireyerba_grammar_to_block(sheet.as_ptr(), sheet.len(), out.as_mut_ptr(), out.len()) })
 }
 
-/// Unpacks a grammar's block.
+/// Unpacks a grammar's block, with or without marks.
 ///
 /// Takes the block, and answers the numbers of its sheet that were written to `out`, at most
 /// [`GRAMMAR_SHEET_MAX`](crate::limits::GRAMMAR_SHEET_MAX). Packed again, they are the block.
@@ -115,6 +117,37 @@ pub fn grammar_to_block(sheet: &[u32], out: &mut [u8]) -> Result<usize, Refusal>
 pub fn grammar_to_sheet(block: &[u8], out: &mut [u32]) -> Result<usize, Refusal> {
     // SAFETY: the slices are borrowed until the call returns, `out` for it alone.
     answer(unsafe { spireyerba_grammar_to_sheet(block.as_ptr(), block.len(), out.as_mut_ptr(), out.len()) })
+}
+
+/// Packs an office's sheet, as a grammar in normal form with marks.
+///
+/// Takes the sheet: S, W, R, then for each rule head, weight, item count, and for each item 0 for a symbol or 1 for a word, and
+/// its number. A body is one word, or two to six items ([`MAX_ITEMS`](crate::limits::MAX_ITEMS)). Answers the bytes written to
+/// `out`, at most [`GRAMMAR_BLOCK_MAX`](crate::limits::GRAMMAR_BLOCK_MAX).
+///
+/// The rules of the block are the office's, with their numbers and weights, and then those of helper symbols, of weight 0 and
+/// marked. A word in a longer body becomes a helper symbol, one for each word in the whole grammar; a body of three or more
+/// items becomes a chain of helpers: the head joins the first item with a helper, that one the second with the next, and the
+/// last joins the final two. Helpers are numbered from S as they are met, a rule's words before its chain. The derivations of
+/// the block's grammar match the office's one to one, with equal weight; [`MarkedGrammar::shown`](crate::MarkedGrammar::shown)
+/// leaves the helpers' nodes out of one.
+///
+/// Refuses, number by number, with [`SheetCount`](Refusal::SheetCount) where one is missing,
+/// [`GrammarRange`](Refusal::GrammarRange), [`GrammarSymbol`](Refusal::GrammarSymbol), [`SheetValue`](Refusal::SheetValue),
+/// [`ItemCount`](Refusal::ItemCount), [`ItemAlone`](Refusal::ItemAlone) at the 0 of a body's only item,
+/// [`GrammarWord`](Refusal::GrammarWord), or behind a rule with [`GrammarRepeat`](Refusal::GrammarRepeat); then with
+/// `SheetCount` where numbers are left over, with [`OfficeSize`](Refusal::OfficeSize), and with
+/// [`OutputShort`](Refusal::OutputShort).
+///
+/// ```
+/// // one rule: a phrase is word 0, at weight 0
+/// let mut out = [0xff; 7];
+/// assert_eq!(spireyerba::services::office_to_block(&[1, 1, 1, 0, 0, 1, 1, 0], &mut out), Ok(6));
+/// assert_eq!(out, [0x40, 0x40, 0x40, 0x30, 0x00, 0x00, 0xff]);
+/// ```
+pub fn office_to_block(sheet: &[u32], out: &mut [u8]) -> Result<usize, Refusal> {
+    // SAFETY: the slices are borrowed until the call returns, `out` for it alone.
+    answer(unsafe { spireyerba_office_to_block(sheet.as_ptr(), sheet.len(), out.as_mut_ptr(), out.len()) })
 }
 
 /// Packs an utterance's sheet under a grammar.

@@ -56,6 +56,7 @@ fn sizes() {
         ("MAX_EDGES", MAX_EDGES),
         ("MAX_WEIGHT", MAX_WEIGHT),
         ("NOT_HEARD", NOT_HEARD),
+        ("MAX_ITEMS", MAX_ITEMS),
         ("MAX_SHARE", MAX_SHARE),
         ("MAX_READINGS", MAX_READINGS),
         ("MAX_PHRASE", MAX_PHRASE),

@@ -30,6 +30,12 @@ static const uint8_t graph_block[] = {0x52, 0x04, 0x00, 0x40, 0x00, 0x01, 0x10, 
 static const uint8_t graph_readings[3][8] = {{0x60, 0xc0, 0x00, 0x00, 0x90, 0x08, 0x18, 0x30},
                                              {0x60, 0xc0, 0x00, 0x00, 0x88, 0x08, 0x18, 0x30},
                                              {0x60, 0x80, 0x00, 0x01, 0x10, 0x50, 0x60, 0x00}};
+/* G with marks 0 and 1; one office rule, from symbol 0 to word 0; and one whose body is a symbol. */
+static const uint32_t marked_sheet[] = {1, 1, 2, 0, 0, 1, 0, 0, 0, 1, 0, 0, 0, 0, 1};
+static const uint8_t marked_block[] = {0x40, 0x40, 0x40, 0x40, 0x00, 0x08, 0x80, 0x00, 0x10};
+static const uint32_t office_sheet[] = {1, 1, 1, 0, 0, 1, 1, 0};
+static const uint8_t office_block[] = {0x40, 0x40, 0x40, 0x30, 0x00, 0x00};
+static const uint32_t lone_symbol[] = {1, 1, 1, 0, 0, 1, 0, 0};
 /* Document 02's shares of G's two rules, with the chance of the reading: 2 to the power -3. */
 static const uint32_t shares[] = {512, SPIREYERBA_MAX_SHARE};
 static uint32_t work[320];
@@ -66,6 +72,18 @@ int main(void) {
     answer = spireyerba_grammar_to_sheet(g_block, LENGTH(g_block), sheet, LENGTH(sheet));
     expect_sheet(answer, g_sheet, LENGTH(g_sheet), "the block of G unpacks to its sheet");
     expect(LENGTH(g_sheet) == SPIREYERBA_GRAMMAR_SHEET_LENGTH(2), "a sheet of two rules has the stated length");
+
+    fill_outputs();
+    answer = spireyerba_grammar_to_block(marked_sheet, LENGTH(marked_sheet), block, LENGTH(block));
+    expect_block(answer, marked_block, LENGTH(marked_block), "a sheet with marks packs to its block");
+    answer = spireyerba_grammar_to_sheet(marked_block, LENGTH(marked_block), sheet, LENGTH(sheet));
+    expect_sheet(answer, marked_sheet, LENGTH(marked_sheet), "a block with marks unpacks to its sheet");
+    expect(LENGTH(marked_sheet) == SPIREYERBA_MARKED_SHEET_LENGTH(2), "a sheet with marks has the stated length");
+    fill_outputs();
+    answer = spireyerba_office_to_block(office_sheet, LENGTH(office_sheet), block, LENGTH(block));
+    expect_block(answer, office_block, LENGTH(office_block), "an office's rule of one word stays a word rule");
+    answer = spireyerba_office_to_block(lone_symbol, LENGTH(lone_symbol), block, LENGTH(block));
+    expect(answer == -SPIREYERBA_ITEM_ALONE, "a body of one symbol is refused");
 
     fill_outputs();
     answer = spireyerba_utterance_to_block(g_block, LENGTH(g_block), u_sheet, LENGTH(u_sheet), block, LENGTH(block));
@@ -122,6 +140,9 @@ int main(void) {
     expect(answer == 5 && memcmp(block, reading, LENGTH(reading)) == 0 && block[5 * LENGTH(reading)] == 0xa5,
            "the listing finds five readings of U under G, the known one first");
     expect(work[0] == 0 && work[LENGTH(work) - 1] == 0, "the listing leaves its work table zero");
+    fill_outputs();
+    answer = spireyerba_listing(marked_block, LENGTH(marked_block), u_block, LENGTH(u_block), 8, work, LENGTH(work), block, 48);
+    expect(answer == 5 && memcmp(block, reading, LENGTH(reading)) == 0, "with marks the readings are the same");
 
     answer = spireyerba_utterance_to_block(g_block, LENGTH(g_block), silent_sheet, LENGTH(silent_sheet), silent_block,
                                            LENGTH(silent_block));

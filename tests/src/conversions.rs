@@ -1,14 +1,19 @@
-//! The four conversions: sheets to blocks and back (document 01, "The services").
+//! The conversions: sheets to blocks and back (document 01, "The services"), and office sheets to blocks (document 02, N5).
 
-use crate::{grammar, utterance};
+use crate::{grammar, office, utterance};
 use spireyerba::Refusal;
 
 pub fn grammar_to_block(sheet: &[u32], out: &mut [u8]) -> Result<usize, Refusal> {
-    hand_over(&grammar::pack(&grammar::from_sheet(sheet)?), out)
+    hand_over(&grammar::of_sheet(sheet)?.pack(), out)
 }
 
 pub fn grammar_to_sheet(block: &[u8], out: &mut [u32]) -> Result<usize, Refusal> {
-    hand_over(&grammar::from_block(block)?.to_sheet(), out)
+    hand_over(&grammar::of_block(block)?.to_sheet(), out)
+}
+
+pub fn office_to_block(sheet: &[u32], out: &mut [u8]) -> Result<usize, Refusal> {
+    let marked = office::convert(&office::from_sheet(sheet)?)?;
+    hand_over(&grammar::pack_marked(&marked), out)
 }
 
 pub fn utterance_to_block(grammar: &[u8], sheet: &[u32], out: &mut [u8]) -> Result<usize, Refusal> {

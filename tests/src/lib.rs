@@ -8,6 +8,7 @@
 //! | `grammar`, `utterance`, `reading` | the block and the sheet of each |
 //! | `graph`, `graph_reading` | the blocks of word graphs and of their readings |
 //! | `heard` | slots or a graph, and the words that they offer |
+//! | `office` | rules as offices write them: the sheet, what it becomes, their derivations |
 //! | `conversions`, `check`, `chance`, `listing`, `specimen` | the services over lent slices; the next phrase stands with the specimen |
 //! | `derivation` | trees, their order, and all derivations sorted by it |
 //! | `nbest` | the N best trees of each cell, where all derivations are too many |
@@ -26,6 +27,7 @@ pub mod graph_reading;
 pub mod heard;
 pub mod listing;
 pub mod nbest;
+pub mod office;
 pub mod reading;
 pub mod refusal;
 pub mod seeded;

@@ -1,4 +1,4 @@
-//! The four conversions of the library beside the second implementation, on seeded inputs, valid and damaged.
+//! The conversions of grammars and utterances by the library beside the second implementation, on seeded inputs, valid and damaged.
 
 use spireyerba::limits::{GRAMMAR_BLOCK_MAX, GRAMMAR_SHEET_MAX, UTTERANCE_BLOCK_MAX, UTTERANCE_SHEET_MAX};
 use spireyerba::services;

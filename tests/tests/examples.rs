@@ -1,11 +1,11 @@
 //! The files of examples/ belong together: texts and sheets, blocks, and lists of readings.
 
 use spireyerba::text::{parse_sheet, print_list, NamedGrammar, UtteranceReader};
-use spireyerba::{services, Grammar, Graph, Utterance};
+use spireyerba::{services, Grammar, Graph, Reading, Utterance};
 use spireyerba_tests::chance::chance;
 use spireyerba_tests::heard::Heard;
 use spireyerba_tests::nbest::{least, least_of_graph};
-use spireyerba_tests::{grammar, graph, utterance};
+use spireyerba_tests::{grammar, graph, office, utterance};
 use std::path::PathBuf;
 
 fn path(folder: &str, name: &str) -> PathBuf {
@@ -87,4 +87,26 @@ fn the_door_schedule_as_a_graph() {
     reader.scale = Some(100.0);
     assert_eq!(reader.read_graph(&text(FOLDER, "lattice.slf")), Ok(graph.clone()));
     expect_chances(FOLDER, &named.grammar, &Heard::Graph(graph));
+}
+
+/// The same schedule as an office writes it, over the same utterance. Helpers' nodes are left out, and the weights are the same.
+#[test]
+fn the_door_schedule_of_an_office() {
+    const FOLDER: &str = "doors_office";
+    let heard = bytes(FOLDER, "utterance.bin");
+    assert_eq!(heard, bytes("doors", "utterance.bin"));
+    let sheet = parse_sheet(&text(FOLDER, "office.sheet.txt")).unwrap();
+    let office = office::from_sheet(&sheet).unwrap();
+    assert_eq!(office.to_sheet(), sheet);
+    let (marked, block) = (office::convert(&office).unwrap(), bytes(FOLDER, "grammar.bin"));
+    assert_eq!(grammar::pack_marked(&marked), block);
+    assert_eq!(office.to_block().as_ref(), Ok(&block));
+    let utterance = Utterance::from_block(&block, &heard).unwrap();
+    let shown = |reading: &Reading| Reading { weight: reading.weight, walk: marked.shown(&reading.walk) };
+    let print = |list: Vec<Reading>| print_list(&list.iter().map(shown).collect::<Vec<_>>());
+    let readings = text(FOLDER, "readings.txt");
+    assert_eq!(print(least(&marked.grammar, &utterance, 8)), readings);
+    assert_eq!(marked.grammar.list(&utterance, 8).map(print), Ok(readings.clone()));
+    let weights = |list: &str| list.lines().map(|line| line.split(' ').nth(1).map(str::to_owned)).collect::<Vec<_>>();
+    assert_eq!(weights(&readings), weights(&text("doors", "readings.txt")));
 }

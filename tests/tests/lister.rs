@@ -2,7 +2,7 @@
 //! where the table that it lends is short. `make` and `.ci/run` build it.
 
 use spireyerba::limits::NOT_HEARD;
-use spireyerba::{Body, Candidate, Edge, Grammar, Graph, Rule, Utterance};
+use spireyerba::{services, Body, Candidate, Edge, Grammar, Graph, MarkedGrammar, Rule, Utterance};
 use std::fs;
 use std::path::{Path, PathBuf};
 use std::process::Command;
@@ -44,7 +44,7 @@ fn printed(name: &str, grammar: Option<&[u8]>, utterance: Option<&[u8]>) -> Stri
 
 #[test]
 fn the_examples() {
-    for example in ["examples/doors", "examples/doors_graph", "examples/g"] {
+    for example in ["examples/doors", "examples/doors_graph", "examples/doors_office", "examples/g"] {
         let readings = String::from_utf8(read(&format!("{example}/readings.txt"))).expect("a text");
         assert_eq!(printed_in(&root().join(example)), readings, "{example}");
     }
@@ -120,6 +120,34 @@ fn an_edge_that_was_not_heard() {
     let grammar = [0x10, 0x40, 0x80, 0x50, 0x00, 0x2a, 0x00, 0x03, 0x80];
     let graph = [0x51, 0x02, 0x00, 0x5f, 0xff, 0xe0, 0x0c, 0x00, 0x00];
     assert_eq!(printed("edge_not_heard", Some(&grammar), Some(&graph)), "readings 1\n1 3 1\n");
+}
+
+/// Nodes whose rule is marked are left out (document 02, N5), of slots and of graphs alike.
+#[test]
+fn marked_rules() {
+    let desk =
+        [2, 4, 4, 0, 5, 3, 1, 0, 0, 1, 1, 2, 1, 1, 1, 1, 1, 1, 2, 2, 1, 3, 1, 1, 0, 7, 4, 1, 0, 0, 1, 1, 2, 1, 2];
+    let mut block = [0; 41];
+    assert_eq!(services::office_to_block(&desk, &mut block), Ok(41));
+    let heard = [0x21, 0x08, 0x00, 0x08, 0x90, 0x00, 0x9c, 0x00, 0x31, 0x20, 0x01, 0x30, 0x00, 0x39, 0x80, 0x01, 0xc0];
+    assert_eq!(printed("marks_of_an_office", Some(&block), Some(&heard)), "readings 2\n1 35 3 1\n2 39 0 2\n");
+    let g = [0x40, 0x40, 0x40, 0x40, 0x00, 0x08, 0x80, 0x00, 0x10];
+    let lines = [1, 2, 3, 4, 5].map(|rank| format!("{rank} 3 0 0 0\n")).concat();
+    let redrawn = [0x52, 0x84, 0x00, 0x40, 0x00, 0x01, 0x10, 0x00, 0x00, 0x43, 0x00, 0x00, 0x0c, 0x80, 0x00, 0x00];
+    for (name, heard) in [("marks_of_slots", read("examples/g/utterance.bin")), ("marks_of_a_graph", redrawn.to_vec())]
+    {
+        assert_eq!(printed(name, Some(&g), Some(&heard)), format!("readings 5\n{lines}"), "{name}");
+    }
+    // all marked, and none
+    let all = Grammar { symbols: 1, words: 1, rules: vec![Rule { head: 0, weight: 4, body: Body::Word(0) }] };
+    let one_slot = Utterance { slots: vec![vec![Candidate { word: 0, cost: 3 }]] };
+    let one_slot = one_slot.to_block(&all.to_block().expect("an accepted grammar")).expect("an accepted utterance");
+    for (mark, line) in [(true, "1 7\n"), (false, "1 7 0\n")] {
+        let marked = MarkedGrammar { grammar: all.clone(), marks: vec![mark] };
+        let block = marked.to_block().expect("an accepted grammar");
+        let name = if mark { "all_marked" } else { "none_marked" };
+        assert_eq!(printed(name, Some(&block), Some(&one_slot)), format!("readings 1\n{line}"));
+    }
 }
 
 /// So many symbols of which only the start has a rule, for one word, and so many slots that offer it.

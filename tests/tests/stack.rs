@@ -3,7 +3,8 @@
 
 use spireyerba::limits::{work_length, GRAMMAR_BLOCK_MAX, GRAMMAR_SHEET_MAX, GRAPH_BLOCK_MAX, GRAPH_READING_BLOCK_MAX};
 use spireyerba::limits::{MAX_READINGS, MAX_RULES, READING_BLOCK_MAX, UTTERANCE_BLOCK_MAX, UTTERANCE_SHEET_MAX};
-use spireyerba::{services, Body, Candidate, Edge, Grammar, Graph, Rule, Utterance};
+use spireyerba::{services, Body, Candidate, Edge, Grammar, Graph, Item, MarkedGrammar, Office, OfficeRule, Refusal};
+use spireyerba::{Rule, Utterance};
 use std::thread;
 
 const STACK: usize = 64 * 1024;
@@ -42,7 +43,11 @@ fn expect_answers(grammar: &Grammar, utterance: &Utterance) {
     let answer = on_small_stack(|| services::grammar_to_block(&grammar_sheet, &mut bytes));
     assert_eq!(answer, Ok(grammar_block.len()));
     let answer = on_small_stack(|| services::grammar_to_sheet(&grammar_block, &mut numbers));
-    assert_eq!(answer, Ok(GRAMMAR_SHEET_MAX));
+    assert_eq!(answer, Ok(grammar_sheet.len()));
+    let marked = MarkedGrammar { grammar: grammar.clone(), marks: vec![true; 256] }.to_sheet();
+    let answer = on_small_stack(|| services::grammar_to_block(&marked, &mut bytes));
+    let length = answer.expect("an accepted sheet");
+    assert_eq!(on_small_stack(|| services::grammar_to_sheet(&bytes[..length], &mut numbers)), Ok(GRAMMAR_SHEET_MAX));
     let answer = on_small_stack(|| services::utterance_to_block(&grammar_block, &sheet, &mut bytes));
     assert_eq!(answer, Ok(UTTERANCE_BLOCK_MAX));
     let answer = on_small_stack(|| services::utterance_to_sheet(&grammar_block, &block, &mut numbers));
@@ -83,6 +88,31 @@ fn listing_and_check_of_the_greatest_graph() {
         assert_eq!(block.len(), GRAPH_BLOCK_MAX);
         expect_list(&grammar, &block, GRAPH_READING_BLOCK_MAX);
     }
+}
+
+/// 256 rules of so many items each.
+fn office(items: u32) -> Office {
+    let item = |number: u32, at| match number >> at & 1 {
+        0 => Item::Symbol(0),
+        _ => Item::Word(number % 200),
+    };
+    let body = |number| (0..items).map(|at| item(number, at)).collect();
+    let rule = |number| OfficeRule { head: number % 8, weight: number, items: body(number / 8) };
+    Office { symbols: 8, words: 200, rules: (0..256).map(rule).collect() }
+}
+
+#[test]
+fn office_sheets_of_the_greatest_sizes() {
+    let pairs = (0..256).map(|number| OfficeRule {
+        head: number % 8,
+        weight: number,
+        items: vec![Item::Symbol(number / 8 % 8), Item::Symbol(number / 64)],
+    });
+    let pairs = Office { symbols: 8, words: 200, rules: pairs.collect() }.to_sheet();
+    let mut bytes = [0; GRAMMAR_BLOCK_MAX];
+    assert!(on_small_stack(|| services::office_to_block(&pairs, &mut bytes)).is_ok());
+    let long = office(6).to_sheet();
+    assert_eq!(on_small_stack(|| services::office_to_block(&long, &mut bytes)), Err(Refusal::OfficeSize));
 }
 
 #[test]

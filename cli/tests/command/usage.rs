@@ -119,7 +119,7 @@ const WITH_MISTAKES: [(&str, &[u8]); 10] = [
     ("word", b"x 1\ny 2 | x 3"),
     ("latin", b"T\xfcr -> B B"),
     ("cut", &[0x10, 0x40, 0x40]),
-    ("kind", &[0x40, 0x00]),
+    ("kind", &[0x70, 0x00]),
     ("slots", &[0x2f, 0xff, 0xff]),
     ("network", b"align 0 x 1 *DELETE* 0.5"),
 ];
@@ -135,12 +135,15 @@ fn mistakes_in_files() {
         ("check g u empty", "empty:1:1: the line ends where a weight should stand"),
         ("list weight u", "weight:1:11: refused 42: 65536 is too large: a weight is at most 65535"),
         ("list g word", "word:2:1: refused 14: the grammar has no word `y`"),
-        ("lint latin", "latin: refused 2: the grammar block's kind is not 1; and no text, for byte 0xfc in line 1"),
+        (
+            "lint latin",
+            "latin: refused 2: the grammar block's kind is not 1 or 4; and no text, for byte 0xfc in line 1",
+        ),
         (
             "lint cut",
             "cut: refused 1: a field of the grammar block passes its end; and no text, for byte 0x10 in line 1",
         ),
-        ("lint kind", "kind: refused 2: the grammar block's kind is not 1; and no text, for byte 0x00 in line 1"),
+        ("lint kind", "kind: refused 2: the grammar block's kind is not 1 or 4; and no text, for byte 0x00 in line 1"),
         ("list g slots", &format!("slots: {}; and no text, for byte 0xff in line 1", Refusal::UtteranceRange)),
         ("list g network", "network:1:7: a confusion network needs a scale by which posteriors become costs"),
         (

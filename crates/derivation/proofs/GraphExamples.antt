@@ -8,7 +8,7 @@ use Rattle.bits.specs.Fields.{bitsOfAll}
 use Rattle.packing.specs.Parse.{Verdict, accepted, _then_}
 use Rattle.packing.specs.Source.{inRange, fieldAt}
 use Rattle.packing.specs.Alike.{anyLike, unlikeFrom}
-use Rattle.packing.specs.Grammar.{ruleFrom, grammarFrom, grammarBlock}
+use Rattle.packing.specs.Grammar.{ruleFrom, markedRuleFrom, grammarFrom, blockBy, markedBlock, grammarBlock}
 use Rattle.packing.specs.Graph.{edgeFrom, graphFrom, graphBlock}
 use Rattle.packing.specs.Heard.{heardBlock}
 use Rattle.packing.specs.GraphReading.{traceEntries, graphReadingEntries, blockOfGraphReading, graphReadingLength, padded}
@@ -61,5 +61,5 @@ pub examples :
     × (readings G one-edge ≡ accepted ((96 ∷ 64 ∷ 0 ∷ 1 ∷ 224 ∷ 0 ∷ 0 ∷ []) ∷ []))
     × (readings G no-path ≡ accepted [])
     × (readings two-words one-heard ≡ accepted ((96 ∷ 64 ∷ 0 ∷ 0 ∷ 224 ∷ 64 ∷ []) ∷ []))
-unfolding num bitsOf pack ended widthOf widthFrom bitsOfAll inRange fieldAt anyLike unlikeFrom ruleFrom grammarFrom grammarBlock edgeFrom graphFrom graphBlock heardBlock traceEntries graphReadingEntries blockOfGraphReading graphReadingLength padded ranked graphReading
+unfolding num bitsOf pack ended widthOf widthFrom bitsOfAll inRange fieldAt anyLike unlikeFrom ruleFrom markedRuleFrom grammarFrom blockBy markedBlock grammarBlock edgeFrom graphFrom graphBlock heardBlock traceEntries graphReadingEntries blockOfGraphReading graphReadingLength padded ranked graphReading
 examples = (refl, refl, refl, refl, refl)

@@ -1,1 +1,2 @@
 pub mod Grammars
+pub mod Joined

@@ -1,14 +1,18 @@
 -- What the answer of a grammar's reader tells of what is to be written.
 -- Assumes nothing.
-use mathlib.Core.Path.{_≡_, refl, subst}
+use mathlib.Core.Path.{_≡_, refl, sym, ap, subst, _∙_}
+use mathlib.Core.Bool.{Bool}
 use mathlib.Core.List.{List}
 use Prim.Native.Nat.{ℕ}
 use native.Mathlib.Omega.{arith}
 use Rattle.packing.specs.Meaning as meaning
 use Rattle.packing.specs.Parse.{Verdict, accepted, refused, _then_}
-use Rattle.grammar_reader.specs.Answer.{sizes, answerOf}
+use Rattle.packing.specs.Flat.{RulesIn, MarkedIn}
+use Rattle.grammar_reader.specs.Answer.{sizes, answerOf, Bounded, InBounds, markedAnswer, MarkedTold}
 use Rattle.grammar_reader.specs.declared.Sizes.{Sizes}
+use Rattle.grammar_reader.specs.declared.GrammarRead.{GrammarRead}
 use Rattle.grammar_reader.specs.declared.GrammarRead.the-variants.{Grammar, Refused}
+use Rattle.grammar_reader.specs.declared.MarkedRead as answer
 
 pub refusal-told : (v : Verdict meaning.Grammar) (k : meaning.Grammar → Verdict (List ℕ)) {n : ℕ} → answerOf v ≡ Refused n → (v then k) ≡ refused n
 refusal-told (accepted g) k e = let z : _≡_ {A = ℕ} 0 1 = cc in absurd (omega arith)
@@ -22,3 +26,40 @@ of-sizes P (refused m) e h = let z : _≡_ {A = ℕ} 0 1 = cc in absurd (omega a
 
 pub words-told : (v : Verdict meaning.Grammar) {z : Sizes} → answerOf v ≡ Grammar z → (f : ℕ → Verdict (List ℕ)) → (v then λ g. f (g .words)) ≡ f (z .words)
 words-told v e f = of-sizes (λ y. (v then λ g. f (g .words)) ≡ f (y .words)) v e (λ g q. rw q)
+
+-- the same of grammars with marks
+pub marked-refused : (v : Verdict meaning.Marked) (k : meaning.Marked → Verdict (List ℕ)) {n : ℕ} → markedAnswer v ≡ answer.the-variants.Refused n
+    → (v then k) ≡ refused n
+marked-refused (accepted m) k e = let z : _≡_ {A = ℕ} 0 1 = cc in absurd (omega arith)
+marked-refused (refused m) k e = cc
+
+pub of-marked : (P : Sizes → Bool → Type 0) (v : Verdict meaning.Marked) {z : Sizes} {b : Bool} → markedAnswer v ≡ answer.the-variants.Grammar z b
+    → ((m : meaning.Marked) → v ≡ accepted m → P (sizes (meaning.grammarOf m)) (m .marking)) → P z b
+of-marked P (accepted m) {z} {b} e h =
+    let s : sizes (meaning.grammarOf m) ≡ z = cc in
+    let k : m .marking ≡ b = cc in
+    subst (P z) k (subst (λ (y : Sizes). P y (m .marking)) s (h m refl))
+of-marked P (refused m) e h = let z : _≡_ {A = ℕ} 0 1 = cc in absurd (omega arith)
+
+-- what the reader of both kinds answers tells of the grammar without its marks
+abbrev plain : Verdict meaning.Marked → Verdict meaning.Grammar
+plain v = v then λ m. accepted (meaning.grammarOf m)
+
+-- the answer and the array that go with it
+abbrev Plain : Verdict meaning.Marked → List ℕ → GrammarRead → Type 0
+Plain v rules r = (r ≡ answerOf (plain v)) × RulesIn (plain v) rules × InBounds r
+
+module _ (v : Verdict meaning.Marked) {r : answer.MarkedRead} {rules marks : List ℕ} (t : MarkedTold v r rules marks) where
+  pub plain-refused : {n : ℕ} → r ≡ answer.the-variants.Refused n → Plain v rules (Refused n)
+  plain-refused {n} e = go v (sym (t .answer) ∙ e)
+    where
+      go : (v : Verdict meaning.Marked) → markedAnswer v ≡ answer.the-variants.Refused n → Plain v rules (Refused n)
+      go (accepted m) e = let z : _≡_ {A = ℕ} 0 1 = cc in absurd (omega arith)
+      go (refused m) e = let k : n ≡ m = cc in (ap Refused k, tt, tt)
+
+  pub plain-read : {z : Sizes} {b : Bool} → r ≡ answer.the-variants.Grammar z b → Plain v rules (Grammar z)
+  plain-read {z} {b} e = go v (sym (t .answer) ∙ e) (t .stands) (rw e at (t .bounds))
+    where
+      go : (v : Verdict meaning.Marked) → markedAnswer v ≡ answer.the-variants.Grammar z b → MarkedIn v rules marks → Bounded z → Plain v rules (Grammar z)
+      go (accepted m) e h s = let k : z ≡ sizes (meaning.grammarOf m) = cc in (ap Grammar k, h .0, s)
+      go (refused m) e h s = let z : _≡_ {A = ℕ} 0 1 = cc in absurd (omega arith)

@@ -1,12 +1,16 @@
 -- The answers of the grammar readers: document 01, "Where an answer is an enum, a definition sets out this paper's number
 -- and values for each of its cases". Assumes nothing.
-use Prim.Native.Nat.{_≤_}
+use mathlib.Core.Path.{_≡_}
+use mathlib.Core.List.{List}
+use Prim.Native.Nat.{ℕ, _≤_}
 use lib.ListN.{length}
 use Rattle.packing.specs.Meaning as meaning
 use Rattle.packing.specs.Parse.{Verdict, accepted, refused}
+use Rattle.packing.specs.Flat.{MarkedIn}
 use Rattle.grammar_reader.specs.declared.Sizes.{Sizes}
 use Rattle.grammar_reader.specs.declared.GrammarRead.{GrammarRead}
 use Rattle.grammar_reader.specs.declared.GrammarRead.the-variants.{Grammar, Refused}
+use Rattle.grammar_reader.specs.declared.MarkedRead as marked
 
 -- S, W and R of a grammar
 abbrev pub sizes : meaning.Grammar → Sizes
@@ -28,3 +32,18 @@ pub record Bounded (z : Sizes) : Type 0 where
 abbrev pub InBounds : GrammarRead → Type 0
 InBounds (Grammar z) = Bounded z
 InBounds (Refused n) = Unit {0}
+
+-- of grammars with marks: S, W and R, and whether rules bear marks
+abbrev pub markedAnswer : Verdict meaning.Marked → marked.MarkedRead
+markedAnswer (accepted m) = marked.the-variants.Grammar (sizes (meaning.grammarOf m)) (m .marking)
+markedAnswer (refused n) = marked.the-variants.Refused n
+
+abbrev pub MarkedBounds : marked.MarkedRead → Type 0
+MarkedBounds (marked.the-variants.Grammar z b) = Bounded z
+MarkedBounds (marked.the-variants.Refused n) = Unit {0}
+
+-- what the readers promise of a verdict, the answer and the arrays
+pub record MarkedTold (v : Verdict meaning.Marked) (r : marked.MarkedRead) (rules marks : List ℕ) : Type 0 where
+  pub answer : r ≡ markedAnswer v
+  pub stands : MarkedIn v rules marks
+  pub bounds : MarkedBounds r

@@ -1,12 +1,13 @@
 -- The parts of a grammar reader, for the contracts of its functions: document 01, "Packed blocks". Assumes nothing.
 use mathlib.Core.Path.{_≡_}
+use mathlib.Core.Bool.{Bool}
 use mathlib.Core.List.{List}
 use Prim.Native.Nat.{ℕ, _+_, _*_, _≤_}
 use Rattle.packing.specs.Meaning as meaning
 use Rattle.packing.specs.Parse.{Parse, parsed, failed, _⟫_}
 use Rattle.packing.specs.Source.{Source, fieldAt}
 use Rattle.packing.specs.Grammar.{sizeField, grammarFrom}
-use Rattle.packing.specs.Flat.{Begins, ruleNumbers}
+use Rattle.packing.specs.Flat.{Begins, ruleNumbers, markNumbers}
 use Rattle.grammar_reader.specs.Answer.{sizes, Bounded}
 use Rattle.grammar_reader.specs.declared.Sizes as Z
 use Rattle.grammar_reader.specs.declared.SizesRead.{SizesRead}
@@ -27,17 +28,17 @@ abbrev pub SizesNear : ℕ → SizesRead → Type 0
 SizesNear most (Sizes z c) = Bounded z × (c .at ≤ most)
 SizesNear most (Refused n) = Unit {0}
 
--- the sizes of a grammar that was read, and its rules in an array
-abbrev pub sizesIn : Parse meaning.Grammar → Parse Z.Sizes
-sizesIn (parsed g at) = parsed (sizes g) at
+-- the sizes of a grammar that was read, and its rules and marks in arrays
+abbrev pub sizesIn : Parse meaning.Marked → Parse Z.Sizes
+sizesIn (parsed m at) = parsed (sizes (meaning.grammarOf m)) at
 sizesIn (failed n) = failed n
 
-abbrev pub GrammarIn : Parse meaning.Grammar → List ℕ → Type 0
-GrammarIn (parsed g at) array = Begins (ruleNumbers g) array
-GrammarIn (failed n) array = Unit {0}
+abbrev pub GrammarIn : Parse meaning.Marked → List ℕ → List ℕ → Type 0
+GrammarIn (parsed m at) rules marks = Begins (ruleNumbers (meaning.grammarOf m)) rules × Begins (markNumbers m) marks
+GrammarIn (failed n) rules marks = Unit {0}
 
--- what reading a grammar from a place promises of its answer and of the array
-pub record GrammarTold (src : Source) (at : ℕ) (r : SizesRead) (array : List ℕ) : Type 0 where
-  pub answer : r ≡ sizesOf (sizesIn (grammarFrom src at))
-  pub rules : GrammarIn (grammarFrom src at) array
-  pub near : SizesNear (at + 23 + 41 * 256) r
+-- what reading a grammar from a place promises of its answer and of the arrays
+pub record GrammarTold (marking : Bool) (src : Source) (at : ℕ) (r : SizesRead) (rules marks : List ℕ) : Type 0 where
+  pub answer : r ≡ sizesOf (sizesIn (grammarFrom marking src at))
+  pub stands : GrammarIn (grammarFrom marking src at) rules marks
+  pub near : SizesNear (at + 23 + 42 * 256) r

@@ -1,12 +1,10 @@
 -- The answers of the reader of either kind: each way out is one case of the definition. Assumes nothing.
 use mathlib.Core.Path.{_≡_, refl, ap, _∙_}
 use mathlib.Core.Bool.{true, false}
-use mathlib.Core.List.{List, [], _∷_}
+use mathlib.Core.List.{List}
 use Prim.Native.Nat.{ℕ, _-_, _≤_}
 use native.Mathlib.Omega.{arith}
-use lib.Dec.{eqb}
 use lib.ListN.{length}
-use Rattle.bits.specs.Bits.{num, field}
 use Rattle.packing.specs.Meaning.{Utterance, edges, Graph}
 use Rattle.packing.specs.Parse.{accepted}
 use Rattle.packing.specs.Utterance.{utteranceEntries, utteranceBlock}
@@ -28,12 +26,6 @@ use Rattle.utterance_reader.specs.declared.Slots.{Slots}
 use Rattle.utterance_reader.proofs.Outcome as UO
 use Rattle.heard_reader.specs.Answer.{Promised}
 use Rattle.heard_reader.specs.declared.HeardRead.the-variants.{Heard, Refused}
-
--- a block without bytes has no kind
-pub empty-kind : (s : List ℕ) → length s ≡ 0 → false ≡ eqb (field s 0 4) 5
-unfolding num
-empty-kind [] e = refl
-empty-kind (x ∷ s) e = absurd (omega arith)
 
 -- of a graph
 module _ (W : ℕ) (s after : List ℕ) {r : GR.GraphRead} (told : r ≡ G.graphRead (graphBlock W s)) where

@@ -2,7 +2,6 @@
 use graph_reader::GraphRead;
 use packing::format::EDGES_LENGTH;
 use packing::format::GRAPH_BLOCK;
-use packing::format::KIND_WIDTH;
 use packing::format::MAX_WORDS;
 use packing::format::SLOTS_LENGTH;
 use utterance_reader::UtteranceRead;
@@ -31,10 +30,7 @@ pub enum HeardRead {
 pub fn is_graph(block: &[u8]) -> bool
     ensures { λ r. ⌜ r ≡ eqb (field (now (block .entry)) 0 4) 5 ⌝ }
 {
-    if block.len() == 0 {
-        return false;
-    }
-    bit_reader::read_field(block, 0, KIND_WIDTH) == GRAPH_BLOCK
+    packing::is_kind(block, GRAPH_BLOCK)
 }
 
 // A block read as a graph.

@@ -1,3 +1,4 @@
 pub mod Lines
+pub mod Unmarked
 pub mod Shapes
 pub mod Walks

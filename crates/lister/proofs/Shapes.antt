@@ -1,23 +1,25 @@
 -- A block has one meaning, so the shape is that of whatever meaning it is accepted with.
 use mathlib.Core.Path.{_≡_, sym, ap, _∙_}
 use mathlib.Core.Bool.{Bool, true, false}
-use mathlib.Core.List.{List}
+use mathlib.Core.List.{List, [], map}
 use Prim.Native.Nat.{ℕ, _≤_}
 use native.Mathlib.Omega.{arith}
 use lib.ListN.{length}
-use Rattle.packing.specs.Meaning.{Grammar, Heard}
-use Rattle.packing.specs.Parse.{accepted, refused}
-use Rattle.packing.specs.Grammar.{grammarBlock}
+use Rattle.packing.specs.Meaning.{Marked, ruleIn, grammarOf, Heard}
+use Rattle.packing.specs.Parse.{Verdict, accepted, refused, _then_}
+use Rattle.packing.specs.Grammar.{markedBlock}
 use Rattle.packing.specs.Heard.{heardBlock}
 use Rattle.bits.specs.Bits.{pick}
 use Rattle.packing.specs.Reading.{readingLength}
 use Rattle.packing.specs.GraphReading.{graphReadingLength}
-use Rattle.packing.specs.Flat.{Begins, ruleNumbers, RulesIn}
+use Rattle.packing.specs.Flat.{Begins, ruleNumbers, markNumbers, MarkedIn}
 use Rattle.packing.proofs.Widths.{length-small}
 use Rattle.packing.proofs.GraphReading.{graph-length-small}
 use Rattle.packing.proofs.Parse.{accepted-is, refused≢accepted}
-use Rattle.grammar_reader.specs.Answer.{sizes}
+use Rattle.grammar_reader.specs.Answer.{markedAnswer}
 use Rattle.grammar_reader.specs.declared.Sizes.{Sizes}
+use Rattle.grammar_reader.specs.declared.MarkedRead as answer
+use Rattle.grammar_reader.proofs.Told.{marked-refused, of-marked}
 use Rattle.heard_reader.specs.Answer.{heardSize}
 use Rattle.heard_reader.specs.declared.HeardSize.{HeardSize}
 use Rattle.lister.specs.Lines.{Bounded, ShapeOf, shapeOf, sizeOf}
@@ -30,32 +32,47 @@ least = record { graph = false; last = 1; rules = 1 }
 least-bounded : Bounded least
 least-bounded = record { some-place = omega arith; places = omega arith; some-rule = omega arith; rules = omega arith }
 
-module _ (grammar heard rules : List ℕ) where
-  pub no-grammar : {n : ℕ} → grammarBlock grammar ≡ refused n → ShapeOf grammar heard rules least
-  no-grammar e = record { bounded = least-bounded; right = λ g h p q. absurd (refused≢accepted (sym e ∙ p)) }
+-- that a block is refused does not depend on what is made of it
+abbrev nothing : Marked → Verdict (List ℕ)
+nothing m = accepted []
 
-  module _ {z : Sizes} (g : Grammar) (e : grammarBlock grammar ≡ accepted g) (f : z ≡ sizes g) where
-    pub no-heard : {n : ℕ} → heardBlock (z .words) heard ≡ refused n → ShapeOf grammar heard rules least
-    no-heard r = record { bounded = least-bounded; right = λ g′ h p q. absurd (refused≢accepted (sym (words g′ p r) ∙ q)) }
+module _ (grammar heard rules marks : List ℕ) where
+  pub no-grammar : {n : ℕ} → markedAnswer (markedBlock grammar) ≡ answer.the-variants.Refused n → ShapeOf grammar heard rules marks least
+  no-grammar e = record {
+    bounded = least-bounded;
+    right = λ m h p q. absurd (refused≢accepted (sym (marked-refused (markedBlock grammar) nothing e) ∙ ap (λ (v : Verdict Marked). v then nothing) p));
+  }
+
+  module _ {z : Sizes} {b : Bool} (e : markedAnswer (markedBlock grammar) ≡ answer.the-variants.Grammar z b) where
+    pub no-heard : {n : ℕ} → heardBlock (z .words) heard ≡ refused n → ShapeOf grammar heard rules marks least
+    no-heard {n} =
+        of-marked (λ y k. heardBlock (y .words) heard ≡ refused n → ShapeOf grammar heard rules marks least) (markedBlock grammar) e
+        (λ m a r. record { bounded = least-bounded; right = λ m′ h p q. absurd (refused≢accepted (sym (words (accepted-is (sym a ∙ p)) r) ∙ q)) })
       where
-        words : (g′ : Grammar) → grammarBlock grammar ≡ accepted g′ → {n : ℕ} → heardBlock (z .words) heard ≡ refused n
-            → heardBlock (g′ .words) heard ≡ refused n
-        words g′ p h = rw (← accepted-is (sym e ∙ p)) (rw f at h)
+        words : {m m′ : Marked} → m ≡ m′ → heardBlock (m .words) heard ≡ refused n → heardBlock (m′ .words) heard ≡ refused n
+        words same r = rw (← same) r
 
     pub both-accepted : (h : Heard) {y : HeardSize} → heardBlock (z .words) heard ≡ accepted h → y ≡ heardSize h → 1 ≤ y .last → y .last ≤ 24
-        → 1 ≤ z .rules → z .rules ≤ 256 → RulesIn (grammarBlock grammar) rules
-        → ShapeOf grammar heard rules (record { graph = y .graph; last = y .last; rules = z .rules })
-    both-accepted h {y} p q l₁ l₂ l₃ l₄ stand = record {
-      bounded = record { some-place = l₁; places = l₂; some-rule = l₃; rules = l₄ };
-      right = right;
-    }
+        → 1 ≤ z .rules → z .rules ≤ 256 → MarkedIn (markedBlock grammar) rules marks
+        → ShapeOf grammar heard rules marks (record { graph = y .graph; last = y .last; rules = z .rules })
+    both-accepted h {y} p q l₁ l₂ l₃ l₄ stand =
+        of-marked
+        (λ z′ k. heardBlock (z′ .words) heard ≡ accepted h → 1 ≤ z′ .rules → z′ .rules ≤ 256
+        → ShapeOf grammar heard rules marks (record { graph = y .graph; last = y .last; rules = z′ .rules })) (markedBlock grammar) e
+        (λ m a w r₁ r₂. record {
+          bounded = record { some-place = l₁; places = l₂; some-rule = r₁; rules = r₂ };
+          right = λ m′ h′ c d. right m m′ h′ a c w d;
+        }) p l₃ l₄
       where
-        right : (g′ : Grammar) (h′ : Heard) → grammarBlock grammar ≡ accepted g′ → heardBlock (g′ .words) heard ≡ accepted h′
-            → (record { graph = y .graph; last = y .last; rules = z .rules } ≡ shapeOf g′ h′) × Begins (ruleNumbers g′) rules
-        right g′ h′ a b =
-            let same : g ≡ g′ = accepted-is (sym e ∙ a) in
-            let one : h ≡ h′ = accepted-is (sym (rw (f, same) at p) ∙ b) in
-            (rw (q, f, same, one), rw a at stand)
+        right : (m m′ : Marked) (h′ : Heard) → markedBlock grammar ≡ accepted m → markedBlock grammar ≡ accepted m′
+            → heardBlock (m .words) heard ≡ accepted h → heardBlock (m′ .words) heard ≡ accepted h′
+            → (record { graph = y .graph; last = y .last; rules = length (map ruleIn (m .rules)) } ≡ shapeOf (grammarOf m′) h′)
+            × Begins (ruleNumbers (grammarOf m′)) rules × Begins (markNumbers m′) marks
+        right m m′ h′ a c w d =
+            let same : m ≡ m′ = accepted-is (sym a ∙ c) in
+            let one : h ≡ h′ = accepted-is (sym (rw same at w) ∙ d) in
+            let (x, y) = rw c at stand in
+            (rw (q, same, one), x, y)
 
 -- a reading has at most 73 bytes
 pub size-small : (s : Shape) → Bounded s → sizeOf s ≤ 73

@@ -2,6 +2,7 @@
 use mathlib.Core.Path.{_≡_}
 use mathlib.Core.List.{List}
 use Prim.Native.Nat.{ℕ, _-_, _*_}
+use lib.ListN.{length}
 use Rattle.packing.specs.Meaning.{Reading}
 use Rattle.packing.specs.Parse.{parsed}
 use Rattle.packing.specs.Source.{bytes}
@@ -10,6 +11,7 @@ use Rattle.packing.specs.GraphReading.{GraphHead, graphHeadFrom}
 use Rattle.packing.specs.Flat.{Begins, rulesOf}
 use Rattle.packing.specs.Valid.{ValidReading}
 use Rattle.derivation.specs.Path.{rulesRead}
+use Rattle.office_theory.specs.Matching.{withoutMarked}
 use Rattle.lister.specs.declared.Shape.{Shape}
 use Rattle.lister.specs.declared.Line.{Line}
 
@@ -30,3 +32,7 @@ GraphSays rules s block r array =
     (d : GraphHead) (l : List ℕ) (next : ℕ) → graphHeadFrom (s .last) (s .rules) block ≡ parsed d 34
     → rulesRead (rulesOf rules (s .rules)) (bytes 31 block) (2 * d .edges - 1) 34 ≡ parsed l next
     → (r .weight ≡ d .weight) × (r .nodes ≡ 2 * d .edges - 1) × Begins l array
+
+-- the n numbers of a walk whose rules are not marked stand at the front of the array
+abbrev pub Shown : (marks walk : List ℕ) (n : ℕ) (array : List ℕ) → Type 0
+Shown marks walk n array = (n ≡ length (withoutMarked marks walk)) × Begins (withoutMarked marks walk) array

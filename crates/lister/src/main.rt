@@ -1,6 +1,7 @@
-// The lister of document 01: the eight least readings of what utterance.bin has, slots or a word graph, under the grammar in grammar.bin.
+// The lister of document 01: the eight least readings of what utterance.bin has, slots or a word graph, under the grammar in
+// grammar.bin. Nodes whose rule is marked, as helpers' rules are, are left out.
 use arrays::number_at;
-use grammar_reader::GrammarRead;
+use grammar_reader::MarkedRead;
 use graph_reading_reader::HeadRead;
 use graph_reading_reader::NodeRead;
 use graph_reading_reader::read_head;
@@ -11,16 +12,20 @@ use libc::STDOUT_FILENO;
 use listing::Listed;
 use packing::format::EDGES_LENGTH;
 use packing::format::GRAPH_READING_HEAD;
+use packing::format::MAX_RULES;
 use packing::format::RULES_LENGTH;
+use packing::format::UNMARKED;
 use packing::format::WALK_LENGTH;
 use reading_reader::ReadingRead;
 use reading_writer::reading_length;
 ghost use mathlib.Core.Path.{_≡_};
-ghost use Prim.Native.Nat.{_+_, _-_, _*_, _≤_};
-ghost use lib.ListN.{length};
+ghost use mathlib.Core.List.{[], _∷_, _++_};
+ghost use Prim.Native.Nat.{_+_, _-_, _*_, _≤_, _<_};
+ghost use lib.ListN.{length, take};
 ghost use Rattle.io.specs.Counts.{Counts};
-ghost use Rattle.lister.specs.Lines.{Bounded, ShapeOf, sizeOf, Few, Says};
-ghost use Rattle.lister.specs.Model.{SlotsSay, GraphSays, WalkRead};
+ghost use Rattle.office_theory.specs.Matching.{withoutMarked};
+ghost use Rattle.lister.specs.Lines.{Bounded, ShapeOf, sizeOf, Few, Says, Prints};
+ghost use Rattle.lister.specs.Model.{SlotsSay, GraphSays, WalkRead, Shown};
 
 // What document 01 has the lister take of each file and lend to the listing, and the number of readings that it asks for.
 const BLOCK_BYTES: usize = 2048;
@@ -57,18 +62,18 @@ fn read_file(path: &[u8], bytes: &mut [u8]) -> usize
     n
 }
 
-// The shape of what the blocks mean, with the rules in the array; slots, 1 and 1 where a block is refused.
-fn shape_of(grammar: &[u8], utterance: &[u8], rules: &mut [u32]) -> Shape
-    requires { do ⌜ (← ⟦RULES_LENGTH⟧) ≤ length (now rules) ⌝ }
-    ensures { λ s. ⌜ ShapeOf (now (grammar .entry)) (now (utterance .entry)) (now (rules .exit)) s ⌝ }
+// The shape of what the blocks mean, with the rules and their marks in the arrays; slots, 1 and 1 where a block is refused.
+fn shape_of(grammar: &[u8], utterance: &[u8], rules: &mut [u32], marks: &mut [u32]) -> Shape
+    requires { do ⌜ ((← ⟦RULES_LENGTH⟧) ≤ length (now rules)) × ((← ⟦MAX_RULES⟧) ≤ length (now marks)) ⌝ }
+    ensures { λ s. ⌜ ShapeOf (now (grammar .entry)) (now (utterance .entry)) (now (rules .exit)) (now (marks .exit)) s ⌝ }
 {
     let none = Shape {
         graph: false,
         last: 1,
         rules: 1,
     };
-    let read = grammar_reader::read_block(grammar, rules);
-    let GrammarRead::Grammar(sizes) = read else {
+    let read = grammar_reader::read_marked_block(grammar, rules, marks);
+    let MarkedRead::Grammar(sizes, _) = read else {
         return none;
     };
     let mut edges = [0u32; EDGES_LENGTH];
@@ -142,7 +147,7 @@ fn graph_line(block: &[u8], rules: &[u32], s: Shape, walk: &mut [u32]) -> Line
     }
 }
 
-// The line of a reading.
+// The line of a reading with all its nodes.
 fn line_of(block: &[u8], rules: &[u32], s: Shape, walk: &mut [u32]) -> Line
     requires { do ⌜ (Bounded s) × ((← ⟦WALK_LENGTH⟧) ≤ length (now walk)) ⌝ }
     ensures { λ r. ⌜ (Few r) × Says (now (rules .entry)) s (now (block .entry)) r (now (walk .exit)) ⌝ }
@@ -151,6 +156,46 @@ fn line_of(block: &[u8], rules: &[u32], s: Shape, walk: &mut [u32]) -> Line
         return graph_line(block, rules, s, walk);
     }
     slots_line(block, s, walk)
+}
+
+// A rule's number behind the first k numbers, unless the rule is marked: how many there are then.
+fn show_rule(rule: u32, marks: &[u32], shown: &mut [u32], k: usize) -> usize
+    requires { ⌜ k < length (now shown) ⌝ }
+    ensures { λ n. ⌜ (n ≤ k + 1) × (take n (now (shown .exit)) ≡ take k (now (shown .entry)) ++ withoutMarked (now (marks .entry)) (rule ∷ [])) ⌝ }
+{
+    if arrays::narrow_at(marks, arrays::wide(rule)) == UNMARKED {
+        shown[k] = rule;
+        return k + 1;
+    }
+    k
+}
+
+// The numbers of a walk whose rules are not marked, in their order at the front of `shown`: how many.
+fn leave_out(walk: &[u32], nodes: usize, marks: &[u32], shown: &mut [u32]) -> usize
+    requires { ⌜ (nodes ≤ length (now walk)) × (nodes ≤ length (now shown)) ⌝ }
+    ensures { λ n. ⌜ Shown (now (marks .entry)) (take nodes (now (walk .entry))) n (now (shown .exit)) ⌝ }
+{
+    let mut k: usize = 0;
+    let mut i: usize = 0;
+    while i < nodes {
+        k = show_rule(walk[i], marks, shown, k);
+        i += 1;
+    }
+    k
+}
+
+// The line of a reading as it is printed, with the numbers of its rules that are not marked at the front of `shown`.
+fn printed_line(block: &[u8], rules: &[u32], marks: &[u32], s: Shape, shown: &mut [u32]) -> Line
+    requires { do ⌜ (Bounded s) × ((← ⟦WALK_LENGTH⟧) ≤ length (now shown)) ⌝ }
+    ensures { λ r. ⌜ Prints (now (rules .entry)) (now (marks .entry)) s (now (block .entry)) r (now (shown .exit)) ⌝ }
+{
+    let mut walk = [0u32; WALK_LENGTH];
+    let line = line_of(block, rules, s, &mut walk);
+    let nodes = leave_out(&walk, line.nodes, marks, shown);
+    Line {
+        weight: line.weight,
+        nodes,
+    }
 }
 
 fn print(text: &[u8]) {
@@ -181,16 +226,16 @@ fn print_line(rank: usize, weight: usize, walk: &[u32], nodes: usize) {
 }
 
 // A line for each of the first m readings of the output.
-fn print_lines(out: &[u8], m: usize, rules: &[u32], s: Shape)
+fn print_lines(out: &[u8], m: usize, rules: &[u32], marks: &[u32], s: Shape)
     requires { ⌜ (Bounded s) × (m * sizeOf s ≤ length (now out)) ⌝ }
 {
     let size = size_of(s);
-    let mut walk = [0u32; WALK_LENGTH];
+    let mut shown = [0u32; WALK_LENGTH];
     for k in 0..m {
         let from = k * size;
         let upto = from + size;
-        let line = line_of(&out[from..upto], rules, s, &mut walk);
-        print_line(k + 1, line.weight as usize, &walk, line.nodes);
+        let line = printed_line(&out[from..upto], rules, marks, s, &mut shown);
+        print_line(k + 1, line.weight as usize, &shown, line.nodes);
     }
 }
 
@@ -200,7 +245,8 @@ fn main() {
     let g = read_file(b"grammar.bin", &mut grammar);
     let u = read_file(b"utterance.bin", &mut utterance);
     let mut rules = [0u32; RULES_LENGTH];
-    let s = shape_of(&grammar[..g], &utterance[..u], &mut rules);
+    let mut marks = [0u32; MAX_RULES];
+    let s = shape_of(&grammar[..g], &utterance[..u], &mut rules, &mut marks);
     let mut work = [0u32; WORK_NUMBERS];
     let mut out = [0u8; OUTPUT_BYTES];
     match listing::listing(&grammar[..g], &utterance[..u], WANTED, &mut work, &mut out) {
@@ -208,7 +254,7 @@ fn main() {
             print(b"readings");
             print_further(m);
             print_end();
-            print_lines(&out, m, &rules, s);
+            print_lines(&out, m, &rules, &marks, s);
         }
         Listed::Refused(n) => {
             print(b"refused");

@@ -14,7 +14,7 @@ use lib.Seq.{take-suc-set}
 use Rattle.bits.specs.Bits.{pick}
 use Rattle.packing.specs.Parse.{Parse, parsed}
 use Rattle.packing.specs.Source.{Source, Entry}
-use Rattle.packing.specs.Alike.{anyLike, unlikeFrom, NoTwo}
+use Rattle.packing.specs.Alike.{anyLike, unlikeFrom, NoTwo, All}
 use Rattle.packing.proofs.Parse.{through, same-parsed, parsed-else}
 use Rattle.packing.proofs.Taken.{Taken, all, taken-join, taken-split}
 
@@ -89,45 +89,51 @@ module _ {A : Type 0} (like : A → A → Bool) where
     unlike-fresh : (l : List A) → NoTwo like l → Fresh [] l
     unlike-fresh l u = apart-fresh [] l (apart-none l) u
 
--- items are read from a source, none like an earlier one, exactly if each is fresh and their entries are taken there
+-- what is so of every item is so of each of a list
+pub all-of : {A : Type 0} {P : A → Type 0} → ((x : A) → P x) → (l : List A) → All P l
+all-of f [] = tt
+all-of f (x ∷ l) = (f x, all-of f l)
+
+-- items are read from a source, none like an earlier one, exactly if each is fresh and sound, and their entries are taken there
 module _ {A : Type 0} (src : Source) (item : ℕ → Parse A) (like : A → A → Bool) (m : ℕ) (one : A → List Entry) (entries : List A → List Entry)
-    (none : entries [] ≡ []) (cons : (x : A) (l : List A) → entries (x ∷ l) ≡ one x ++ entries l) where
+    (none : entries [] ≡ []) (cons : (x : A) (l : List A) → entries (x ∷ l) ≡ one x ++ entries l) (Sound : A → Type 0) where
   -- n items behind the earlier ones
   abbrev Behind : ℕ → List A → ℕ → List A → ℕ → Type 0
-  Behind at l n r next = (new : List A) × (r ≡ l ++ new) × (length new ≡ n) × Fresh like l new × Taken src at (entries new) next
+  Behind at l n r next = (new : List A) × (r ≡ l ++ new) × (length new ≡ n) × Fresh like l new × All Sound new × Taken src at (entries new) next
 
-  unlike-out : ((at : ℕ) (x : A) (next : ℕ) → item at ≡ parsed x next → Taken src at (one x) next) → (n at : ℕ) (l : List A) {r : List A} {next : ℕ}
+  unlike-out : ((at : ℕ) (x : A) (next : ℕ) → item at ≡ parsed x next → Sound x × Taken src at (one x) next) → (n at : ℕ) (l : List A) {r : List A} {next : ℕ}
       → unlikeFrom item like m n at l ≡ parsed r next → Behind at l n r next
   unfolding unlikeFrom
-  unlike-out out zero at l e = same-parsed (Behind at l 0) e ([], sym (append-nil l), refl, tt, rw none all)
+  unlike-out out zero at l e = same-parsed (Behind at l 0) e ([], sym (append-nil l), refl, tt, tt, rw none all)
   unlike-out out (suc n) at l {next = next} e =
       through (item at) _ e λ x mid p e.
       let (f, d) = parsed-else (anyLike like x l) _ _ e in
-      let (new, s, k, fresh, t) = unlike-out out n mid (l ++ (x ∷ [])) d in
-      (x ∷ new, rw append-assoc at s, ap suc k, (f, fresh), rw cons (taken-join (out at x mid p) t))
+      let (new, s, k, fresh, sound, t) = unlike-out out n mid (l ++ (x ∷ [])) d in
+      let (o, w) = out at x mid p in
+      (x ∷ new, rw append-assoc at s, ap suc k, (f, fresh), (o, sound), rw cons (taken-join w t))
 
-  unlike-back : ((at : ℕ) (x : A) (next : ℕ) → Taken src at (one x) next → item at ≡ parsed x next) → {at : ℕ} (l new : List A) {next : ℕ}
-      → Fresh like l new → Taken src at (entries new) next → unlikeFrom item like m (length new) at l ≡ parsed (l ++ new) next
+  unlike-back : ((at : ℕ) (x : A) (next : ℕ) → Sound x → Taken src at (one x) next → item at ≡ parsed x next) → {at : ℕ} (l new : List A) {next : ℕ}
+      → Fresh like l new → All Sound new → Taken src at (entries new) next → unlikeFrom item like m (length new) at l ≡ parsed (l ++ new) next
   unfolding unlikeFrom
-  unlike-back back {at} l [] {next} f t = go (rw none at t)
+  unlike-back back {at} l [] {next} f o t = go (rw none at t)
     where
       go : {at : ℕ} → Taken src at [] next → parsed l at ≡ parsed (l ++ []) next
       go all = rw append-nil
-  unlike-back back {at} l (x ∷ new) (p, f) t =
+  unlike-back back {at} l (x ∷ new) (p, f) (o, os) t =
       let (mid, a, b) = taken-split (one x) (rw cons at t) in
-      rw (back at x mid a, p, unlike-back back (l ++ (x ∷ [])) new f b, append-assoc)
+      rw (back at x mid o a, p, unlike-back back (l ++ (x ∷ [])) new f os b, append-assoc)
 
   -- all items
   module _ (like-sym : (x y : A) → like x y ≡ like y x) where
-    pub unlike-all : ((at : ℕ) (x : A) (next : ℕ) → item at ≡ parsed x next → Taken src at (one x) next) → (n at : ℕ) {l : List A} {next : ℕ}
-        → unlikeFrom item like m n at [] ≡ parsed l next → (length l ≡ n) × NoTwo like l × Taken src at (entries l) next
+    pub unlike-all : ((at : ℕ) (x : A) (next : ℕ) → item at ≡ parsed x next → Sound x × Taken src at (one x) next) → (n at : ℕ) {l : List A} {next : ℕ}
+        → unlikeFrom item like m n at [] ≡ parsed l next → (length l ≡ n) × NoTwo like l × All Sound l × Taken src at (entries l) next
     unlike-all out n at e =
-        let (new, s, k, fresh, t) = unlike-out out n at [] e in
-        rw s (k, fresh-unlike like like-sym new fresh, t)
+        let (new, s, k, fresh, sound, t) = unlike-out out n at [] e in
+        rw s (k, fresh-unlike like like-sym new fresh, sound, t)
 
-    pub all-unlike : ((at : ℕ) (x : A) (next : ℕ) → Taken src at (one x) next → item at ≡ parsed x next) → {at : ℕ} (l : List A) {next : ℕ}
-        → NoTwo like l → Taken src at (entries l) next → unlikeFrom item like m (length l) at [] ≡ parsed l next
-    all-unlike back l u t = unlike-back back [] l (unlike-fresh like like-sym l u) t
+    pub all-unlike : ((at : ℕ) (x : A) (next : ℕ) → Sound x → Taken src at (one x) next → item at ≡ parsed x next) → {at : ℕ} (l : List A) {next : ℕ}
+        → NoTwo like l → All Sound l → Taken src at (entries l) next → unlikeFrom item like m (length l) at [] ≡ parsed l next
+    all-unlike back l u o t = unlike-back back [] l (unlike-fresh like like-sym l u) o t
 
 -- items by their numbers, of which a key is made
 module _ {A N : Type 0} (like : A → A → Bool) (item : N → A) (key : N → ℕ) (Sound : N → Type 0) where

@@ -1,14 +1,15 @@
 -- How far reading goes and how many numbers meanings have: bounds for the code that reads and writes them.
 -- Assumes nothing.
 use mathlib.Core.Path.{_≡_, refl}
+use mathlib.Core.Bool.{Bool, true, false}
 use mathlib.Core.List.{List, [], _∷_}
 use Prim.Native.Nat.{ℕ, suc, _+_, _*_, _≤_}
 use native.Mathlib.Omega.{arith}
 use lib.ListN.{length, length-append, length-map}
-use Rattle.packing.specs.Meaning.{Candidate, candidate, Utterance}
+use Rattle.packing.specs.Meaning.{MarkedRule, marked, Candidate, candidate, Utterance}
 use Rattle.packing.specs.Parse.{parsed}
 use Rattle.packing.specs.Source.{Source, bytes, numbers, fieldAt, values}
-use Rattle.packing.specs.Grammar.{rulesEntries}
+use Rattle.packing.specs.Grammar.{numbersPerRule, rulesEntries, markedRulesEntries}
 use Rattle.packing.specs.Utterance.{candidatesEntries, slotsEntries}
 use Rattle.packing.specs.Valid.{InRange, Fits}
 use Rattle.packing.specs.declared.Field.{Field}
@@ -33,6 +34,17 @@ unfolding rulesEntries
 length-rules S W [] = refl
 length-rules S W (Pair h x y w ∷ rs) = omega (arith, length-rules S W rs)
 length-rules S W (Word h x w ∷ rs) = omega (arith, length-rules S W rs)
+
+-- and a mark, where rules bear marks
+pub length-marked : (marking : Bool) (S W : ℕ) (rs : List MarkedRule)
+    → length (values (markedRulesEntries marking S W rs)) ≡ numbersPerRule marking * length rs
+unfolding markedRulesEntries
+length-marked false S W [] = refl
+length-marked true S W [] = refl
+length-marked false S W (marked (Pair h x y w) m ∷ rs) = omega (arith, length-marked false S W rs)
+length-marked false S W (marked (Word h x w) m ∷ rs) = omega (arith, length-marked false S W rs)
+length-marked true S W (marked (Pair h x y w) m ∷ rs) = omega (arith, length-marked true S W rs)
+length-marked true S W (marked (Word h x w) m ∷ rs) = omega (arith, length-marked true S W rs)
 
 -- two for each candidate, and one for each slot
 pub length-candidates : (W least : ℕ) (cs : List Candidate) → length (candidatesEntries W least cs) ≡ 2 * length cs

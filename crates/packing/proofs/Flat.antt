@@ -2,18 +2,18 @@
 -- four of one that begins with the list's, from 4 e on. Slots stand one behind the other, since a slot's count leads to the next.
 -- Assumes nothing.
 use mathlib.Core.Path.{_≡_, refl, sym, ap, _∙_}
-use mathlib.Core.List.{List, [], _∷_, _++_, map-append, append-assoc}
+use mathlib.Core.List.{List, [], _∷_, _++_, map, map-append, append-assoc}
 use mathlib.Core.Option.{none, some}
 use Prim.Native.Nat.{ℕ, zero, suc, _+_, _*_, _≤_, _<_}
 use native.Mathlib.Nat.{add-zero, zero-add}
 use native.Mathlib.Omega.{arith}
-use lib.ListN.{length, getD, getElem?, drop, take-append-drop}
+use lib.ListN.{length, length-map, getD, getElem?, drop, take-append-drop}
 use lib.Seq.{getD-take, getD-drop, drop-drop, take-append-seam}
-use Rattle.packing.specs.Meaning.{word, Grammar, Candidate, candidate, Utterance, Edge, edge}
+use Rattle.packing.specs.Meaning.{word, Grammar, MarkedRule, marked, ruleIn, markIn, Marked, grammarOf, Candidate, candidate, Utterance, Edge, edge}
 use Rattle.packing.specs.Source.{values, valueOf}
 use Rattle.packing.specs.Grammar.{rulesEntries}
 use Rattle.packing.specs.Utterance.{candidatesEntries, slotsEntries}
-use Rattle.packing.specs.Flat.{Begins, ruleNumbers, ruleAt, rulesAt, rulesOf, slotNumbers, candidatesOf, slotsBy, slotsOf, edgeNumbers, nodeBy, nodeRule}
+use Rattle.packing.specs.Flat.{Begins, ruleNumbers, ruleAt, rulesAt, rulesOf, markNumbers, markedRulesAt, slotNumbers, candidatesOf, slotsBy, slotsOf, edgeNumbers, nodeBy, nodeRule}
 use Rattle.packing.specs.Store.{storeAll}
 use Rattle.packing.specs.declared.Rule as R
 use Rattle.packing.specs.declared.Rule.the-variants.{Pair, Word}
@@ -93,6 +93,28 @@ all-rules (r ∷ rs) l k h =
 
 pub rules-of : (g : Grammar) (array : List ℕ) → Begins (ruleNumbers g) array → rulesOf array (length (g .rules)) ≡ g .rules
 rules-of g array b = all-rules (g .rules) array 0 (λ r h. rw zero-add (rule-at g array r b h))
+
+-- and so those of two arrays that begin with a grammar's rules and its marks
+all-marked : (rs : List MarkedRule) (l marks : List ℕ) (k : ℕ)
+    → ((r : ℕ) → r < length rs → (getElem? (map ruleIn rs) r ≡ some (ruleAt l (k + r))) × (getD marks (k + r) 0 ≡ getD (map markIn rs) r 0))
+    → markedRulesAt l marks k (length rs) ≡ rs
+unfolding markedRulesAt
+all-marked [] l marks k h = refl
+all-marked (marked r m ∷ rs) l marks k h =
+    let (e, n) = h 0 (omega arith) in
+    let e′ : some r ≡ some (ruleAt l k) = rw add-zero at e in
+    let f : ruleAt l k ≡ r = cc in
+    let n′ : getD marks k 0 ≡ m = rw add-zero at n in
+    let s : (i : ℕ) → k + suc i ≡ suc k + i = λ i. omega arith in
+    rw (f, n′, all-marked rs l marks (suc k) (λ i b. rw s at (h (suc i) (omega arith))))
+
+pub marked-rules-of : (m : Marked) (array marks : List ℕ) → Begins (ruleNumbers (grammarOf m)) array → Begins (markNumbers m) marks
+    → markedRulesAt array marks 0 (length (m .rules)) ≡ m .rules
+marked-rules-of m array marks b c =
+    let n : length (map ruleIn (m .rules)) ≡ length (m .rules) = length-map (m .rules) ruleIn in
+    let k : length (map markIn (m .rules)) ≡ length (m .rules) = length-map (m .rules) markIn in
+    all-marked (m .rules) array marks 0
+    (λ r h. rw zero-add (rule-at (grammarOf m) array r b (omega arith), begins-at (markNumbers m) marks r c (omega arith)))
 
 -- slots: the number at a place of a list, and what stands behind it
 drop-head : (l : List ℕ) (p : ℕ) {x : ℕ} {rest : List ℕ} → drop p l ≡ x ∷ rest → (getD l p 0 ≡ x) × (drop (p + 1) l ≡ rest)

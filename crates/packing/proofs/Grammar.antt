@@ -1,19 +1,23 @@
--- A grammar is read from a source exactly if its entries are taken there and no two of its rules are alike.
+-- A grammar of either kind is read from a source exactly if its entries are taken there and no two of its rules are alike. Without its
+-- marks it is valid too.
 -- Assumes nothing.
 use mathlib.Core.Path.{_≡_, refl, sym, ap}
-use mathlib.Core.Bool.{false}
-use mathlib.Core.List.{List, [], _∷_, _++_, append-assoc, append-nil}
-use Prim.Native.Nat.{ℕ, zero, suc}
+use mathlib.Core.Bool.{Bool, true, false}
+use mathlib.Core.List.{List, [], _∷_, _++_, map, append-nil}
+use Prim.Native.Nat.{ℕ, zero, suc, _≤_}
 use native.Mathlib.Omega.{arith}
-use lib.ListN.{length}
-use Rattle.packing.specs.Meaning.{Grammar}
+use lib.ListN.{length, length-map}
+use Rattle.bits.specs.Bits.{pick}
+use Rattle.packing.specs.Meaning.{MarkedRule, marked, ruleIn, Marked, grammarOf}
 use Rattle.packing.specs.Parse.{parsed}
 use Rattle.packing.specs.Source.{Source, fieldAt}
-use Rattle.packing.specs.Grammar.{ruleKind, symbol, weightField, nothing, firstOf, secondOf, ruleOf, sizeField, ruleFrom, alike, rulesFrom, unfit, grammarFrom, ruleEntries, rulesEntries, grammarEntries}
-use Rattle.packing.specs.Valid.{Unlike}
+use Rattle.packing.specs.Alike.{anyLike, NoTwo, All}
+use Rattle.packing.specs.Grammar.{ruleKind, symbol, weightField, nothing, firstOf, secondOf, ruleOf, sizeField, markField, ruleFrom, alike, markFrom, markedRuleFrom, markedAlike, rulesFrom, unfit, grammarFrom, ruleEntries, rulesEntries, grammarEntries, markEntries, markedRuleEntries, markedRulesEntries, markedEntries}
+use Rattle.packing.specs.Valid.{InRange, Fits, Unlike, MarkWithin, ValidGrammar, ValidMarked}
 use Rattle.packing.specs.declared.Rule as R
 use Rattle.packing.specs.declared.Rule.the-variants.{Pair, Word}
 use Rattle.packing.proofs.Parse.{through, same-parsed, parsed-else}
+use Rattle.packing.proofs.Entries.{each-left, each-right, each-join}
 use Rattle.packing.proofs.Bounds.{field-at-range}
 use Rattle.packing.proofs.Taken.{Taken, all, more, taken-join, taken-split}
 use Rattle.packing.proofs.Alike.{eqb-sym, unlike-all, all-unlike}
@@ -47,32 +51,126 @@ module _ (src : Source) (S W : ℕ) where
   rule-back (Pair h x y w) (more a (more b (more c (more d (more e all))))) = rw (a, b, c, d, e)
   rule-back (Word h x w) (more a (more b (more c (more d (more e all))))) = rw (a, b, c, d, e)
 
-  rules-out : (n at : ℕ) {rs : List R.Rule} {next : ℕ} → rulesFrom src S W n at [] ≡ parsed rs next
-      → (length rs ≡ n) × Unlike rs × Taken src at (rulesEntries S W rs) next
-  unfolding rulesEntries
-  rules-out = unlike-all src (ruleFrom src S W) alike 6 (ruleEntries S W) (rulesEntries S W) refl (λ r rs. refl) alike-sym (λ at r next. rule-out at)
+  -- a mark, and a rule with its mark
+  module _ (marking : Bool) where
+    marked-out : (at : ℕ) (x : MarkedRule) (next : ℕ) → markedRuleFrom marking src S W at ≡ parsed x next
+        → MarkWithin marking x × Taken src at (markedRuleEntries marking S W x) next
+    unfolding markedRuleFrom
+    marked-out at x next e =
+        through (ruleFrom src S W at) _ e λ r mid p e. through (markFrom marking src mid) _ e λ m z q e.
+        same-parsed (λ x next. MarkWithin marking x × Taken src at (markedRuleEntries marking S W x) next) e
+        (let (o, t) = mark-out marking q in (o, taken-join (rule-out at p) t))
+      where
+        mark-out : (b : Bool) {mid m z : ℕ} → markFrom b src mid ≡ parsed m z → (m ≤ pick b 1 0) × Taken src mid (markEntries b m) z
+        mark-out false {mid} e = same-parsed (λ m z. (m ≤ 0) × Taken src mid [] z) e (omega arith, all)
+        mark-out true {mid} e = (field-at-range markField src mid e .1, more e all)
 
-  rules-back : {at : ℕ} (rs : List R.Rule) {next : ℕ} → Unlike rs → Taken src at (rulesEntries S W rs) next
-      → rulesFrom src S W (length rs) at [] ≡ parsed rs next
-  unfolding rulesEntries
-  rules-back = all-unlike src (ruleFrom src S W) alike 6 (ruleEntries S W) (rulesEntries S W) refl (λ r rs. refl) alike-sym (λ at r next. rule-back r)
+    marked-back : (at : ℕ) (x : MarkedRule) (next : ℕ) → MarkWithin marking x → Taken src at (markedRuleEntries marking S W x) next
+        → markedRuleFrom marking src S W at ≡ parsed x next
+    unfolding markedRuleFrom
+    marked-back at (marked r m) next o t =
+        let (mid, a, b) = taken-split (ruleEntries S W r) t in
+        rw (rule-back r a, mark-back marking o b)
+      where
+        mark-back : (b : Bool) {mid m z : ℕ} → m ≤ pick b 1 0 → Taken src mid (markEntries b m) z → markFrom b src mid ≡ parsed m z
+        mark-back false {m = zero} o all = refl
+        mark-back false {m = suc m} o t = absurd (omega arith)
+        mark-back true o (more p all) = p
+
+    alike-marked : (x y : MarkedRule) → markedAlike x y ≡ markedAlike y x
+    alike-marked (marked r m) (marked r′ m′) = alike-sym r r′
+
+    rules-out : (n at : ℕ) {rs : List MarkedRule} {next : ℕ} → rulesFrom marking src S W n at [] ≡ parsed rs next
+        → (length rs ≡ n) × NoTwo markedAlike rs × All (MarkWithin marking) rs × Taken src at (markedRulesEntries marking S W rs) next
+    unfolding markedRulesEntries
+    rules-out =
+        unlike-all src (markedRuleFrom marking src S W) markedAlike 6 (markedRuleEntries marking S W) (markedRulesEntries marking S W) refl (λ r rs. refl)
+        (MarkWithin marking) alike-marked marked-out
+
+    rules-back : {at : ℕ} (rs : List MarkedRule) {next : ℕ} → NoTwo markedAlike rs → All (MarkWithin marking) rs
+        → Taken src at (markedRulesEntries marking S W rs) next → rulesFrom marking src S W (length rs) at [] ≡ parsed rs next
+    unfolding markedRulesEntries
+    rules-back =
+        all-unlike src (markedRuleFrom marking src S W) markedAlike 6 (markedRuleEntries marking S W) (markedRulesEntries marking S W) refl (λ r rs. refl)
+        (MarkWithin marking) alike-marked marked-back
 
 -- a grammar stands in the source, from a place to the next
-abbrev pub Reads : Source → ℕ → Grammar → ℕ → Type 0
-Reads src at g next = Taken src at (grammarEntries g) next × Unlike (g .rules) × (unfit src (length (g .rules)) ≡ false)
+pub record Reads (src : Source) (at : ℕ) (m : Marked) (next : ℕ) : Type 0 where
+  pub taken : Taken src at (markedEntries m) next
+  pub unlike : NoTwo markedAlike (m .rules)
+  pub within : All (MarkWithin (m .marking)) (m .rules)
+  pub fit : unfit (m .marking) src (length (m .rules)) ≡ false
 
-module _ (src : Source) where
-  pub grammar-out : (at : ℕ) {g : Grammar} {next : ℕ} → grammarFrom src at ≡ parsed g next → Reads src at g next
-  unfolding grammarFrom grammarEntries
+module _ (marking : Bool) (src : Source) where
+  -- what is read has the kind that was asked for
+  pub grammar-out : (at : ℕ) {m : Marked} {next : ℕ} → grammarFrom marking src at ≡ parsed m next → (m .marking ≡ marking) × Reads src at m next
+  unfolding grammarFrom markedEntries
   grammar-out at e =
       through (fieldAt src at (sizeField 6 32)) _ e λ S a p e. through (fieldAt src a (sizeField 8 200)) _ e λ W b q e.
       through (fieldAt src b (sizeField 9 256)) _ e λ R c r e.
-      let (u, d) = parsed-else (unfit src R) _ _ e in
-      through (rulesFrom src S W R c []) _ d λ rs z k e.
-      let (l, unlike, t) = rules-out src S W R c k in
-      let y : Reads src at (record { symbols = S; words = W; rules = rs }) z = rw l (more p (more q (more r t)), unlike, u) in
-      same-parsed (Reads src at) e y
+      let (u, d) = parsed-else (unfit marking src R) _ _ e in
+      through (rulesFrom marking src S W R c []) _ d λ rs z k e.
+      let (l, unlike, within, t) = rules-out src S W marking R c k in
+      let r′ = rw (← l) at r in
+      let u′ = rw (← l) at u in
+      same-parsed (λ m next. (m .marking ≡ marking) × Reads src at m next) e
+      (refl, record { taken = more p (more q (more r′ t)); unlike = unlike; within = within; fit = u′ })
 
-  pub grammar-back : {at : ℕ} (g : Grammar) {next : ℕ} → Reads src at g next → grammarFrom src at ≡ parsed g next
-  unfolding grammarFrom grammarEntries
-  grammar-back g (more a (more b (more c t)), u, f) = rw (a, b, c, f, rules-back src (g .symbols) (g .words) (g .rules) u t)
+module _ (src : Source) where
+  pub grammar-back : {at : ℕ} (m : Marked) {next : ℕ} → Reads src at m next → grammarFrom (m .marking) src at ≡ parsed m next
+  unfolding grammarFrom markedEntries
+  grammar-back m h = go (h .taken)
+    where
+      go : {at next : ℕ} → Taken src at (markedEntries m) next → grammarFrom (m .marking) src at ≡ parsed m next
+      go (more a (more b (more c t))) =
+          rw (a, b, c, h .fit, rules-back src (m .symbols) (m .words) (m .marking) (m .rules) (h .unlike) (h .within) t)
+
+-- without marks
+rules-fit : (marking : Bool) (S W : ℕ) (rs : List MarkedRule) → Fits (markedRulesEntries marking S W rs) → Fits (rulesEntries S W (map ruleIn rs))
+unfolding markedRulesEntries rulesEntries
+rules-fit marking S W [] h = tt
+rules-fit marking S W (marked r m ∷ rs) h =
+    let es = ruleEntries S W r in
+    let both = markedRuleEntries marking S W (marked r m) in
+    each-join InRange es (rulesEntries S W (map ruleIn rs)) (each-left InRange es (markEntries marking m) (each-left InRange both _ h))
+    (rules-fit marking S W rs (each-right InRange both (markedRulesEntries marking S W rs) h))
+
+pub like-unmarked : (x : MarkedRule) (l : List MarkedRule) → anyLike markedAlike x l ≡ anyLike alike (ruleIn x) (map ruleIn l)
+unfolding anyLike
+like-unmarked x [] = refl
+like-unmarked (marked r m) (marked r′ m′ ∷ l) = rw (like-unmarked (marked r m) l)
+
+unlike-unmarked : (l : List MarkedRule) → NoTwo markedAlike l → Unlike (map ruleIn l)
+unlike-unmarked [] h = tt
+unlike-unmarked (x ∷ l) (p, h) = (rw (← like-unmarked x l) p, unlike-unmarked l h)
+
+pub valid-unmarked : (m : Marked) → ValidMarked m → ValidGrammar (grammarOf m)
+unfolding markedEntries grammarEntries
+valid-unmarked m ((a, (b, (c, h))), u, w) =
+    let n : length (m .rules) ≡ length (map ruleIn (m .rules)) = rw length-map in
+    ((a, (b, (rw n at c, rules-fit (m .marking) (m .symbols) (m .words) (m .rules) h))), unlike-unmarked (m .rules) u)
+
+-- and with marks, where each is within its range
+mark-fits : (marking : Bool) (m : ℕ) → m ≤ pick marking 1 0 → Fits (markEntries marking m)
+mark-fits false m h = tt
+mark-fits true m h = ((omega arith, h), tt)
+
+marked-fit : (marking : Bool) (S W : ℕ) (rs : List MarkedRule) → All (MarkWithin marking) rs → Fits (rulesEntries S W (map ruleIn rs))
+    → Fits (markedRulesEntries marking S W rs)
+unfolding markedRulesEntries rulesEntries
+marked-fit marking S W [] w h = tt
+marked-fit marking S W (marked r m ∷ rs) (p, w) h =
+    let es = ruleEntries S W r in
+    each-join InRange (markedRuleEntries marking S W (marked r m)) (markedRulesEntries marking S W rs)
+    (each-join InRange es (markEntries marking m) (each-left InRange es (rulesEntries S W (map ruleIn rs)) h) (mark-fits marking m p))
+    (marked-fit marking S W rs w (each-right InRange es (rulesEntries S W (map ruleIn rs)) h))
+
+unlike-marked : (l : List MarkedRule) → Unlike (map ruleIn l) → NoTwo markedAlike l
+unlike-marked [] h = tt
+unlike-marked (x ∷ l) (p, h) = (rw (like-unmarked x l) p, unlike-marked l h)
+
+pub valid-marked : (m : Marked) → ValidGrammar (grammarOf m) → All (MarkWithin (m .marking)) (m .rules) → ValidMarked m
+unfolding markedEntries grammarEntries
+valid-marked m ((a, (b, (c, h))), u) w =
+    let n : length (map ruleIn (m .rules)) ≡ length (m .rules) = rw length-map in
+    ((a, (b, (rw n at c, marked-fit (m .marking) (m .symbols) (m .words) (m .rules) w h))), unlike-marked (m .rules) u, w)

@@ -23,7 +23,7 @@ use Rattle.packing.specs.Valid.{InRange, InWidth, Each, Fits, ValidGraph
 use Rattle.packing.proofs.Parse.{through, same-parsed}
 use Rattle.packing.proofs.Entries.{each-left, each-right, each-join}
 use Rattle.packing.proofs.Taken.{Taken, all, more}
-use Rattle.packing.proofs.Alike.{eqb-sym, unlike-all, all-unlike}
+use Rattle.packing.proofs.Alike.{eqb-sym, all-of, unlike-all, all-unlike}
 use Rattle.packing.proofs.Widths.{byte-width, number-room}
 
 edges-sym : (e d : Edge) → edgesAlike e d ≡ edgesAlike d e
@@ -41,17 +41,22 @@ module _ (src : Source) (W P : ℕ) where
   unfolding edgeFrom
   edge-back (edge i k w c) (more p (more q (more r (more s all)))) = rw (p, q, r, s)
 
+  -- an edge is sound as it is
   edges-out : (n at : ℕ) {es : List Edge} {next : ℕ} → graphEdgesFrom src W P n at [] ≡ parsed es next
       → (length es ≡ n) × NoTwo edgesAlike es × Taken src at (edgesEntries W P es) next
   unfolding edgesEntries
-  edges-out =
-      unlike-all src (edgeFrom src W P) edgesAlike 52 (edgeEntries W P) (edgesEntries W P) refl (λ e es. refl) edges-sym (λ at e next. edge-out at)
+  edges-out n at e =
+      let (l, unlike, _, t) =
+      unlike-all src (edgeFrom src W P) edgesAlike 52 (edgeEntries W P) (edgesEntries W P) refl (λ e es. refl) (λ e. Unit {0}) edges-sym
+      (λ at e next p. (tt, edge-out at p)) n at e in
+      (l, unlike, t)
 
   edges-back : {at : ℕ} (es : List Edge) {next : ℕ} → NoTwo edgesAlike es → Taken src at (edgesEntries W P es) next
       → graphEdgesFrom src W P (length es) at [] ≡ parsed es next
   unfolding edgesEntries
-  edges-back =
-      all-unlike src (edgeFrom src W P) edgesAlike 52 (edgeEntries W P) (edgesEntries W P) refl (λ e es. refl) edges-sym (λ at e next. edge-back e)
+  edges-back es u t =
+      all-unlike src (edgeFrom src W P) edgesAlike 52 (edgeEntries W P) (edgesEntries W P) refl (λ e es. refl) (λ e. Unit {0}) edges-sym
+      (λ at e next s. edge-back e) es u (all-of (λ e. tt) es) t
 
 -- a graph stands in the source, from a place to the next
 module _ (src : Source) (W : ℕ) where

@@ -18,7 +18,7 @@ use Rattle.packing.specs.Meaning.{Candidate, candidate, Utterance, word}
 use Rattle.packing.specs.Parse.{Parse, parsed, failed, _⟫_, Verdict, accepted, refused, _then_, verdictOf, finish}
 use Rattle.packing.specs.Source.{Source, bytes, numbers, inRange, fieldAt, within}
 use Rattle.packing.specs.Alike.{anyLike, unlikeFrom}
-use Rattle.packing.specs.Grammar.{ruleKind, ruleWord, weightField, nothing, symbol, firstOf, secondOf, ruleFrom, alike, unfit, grammarFrom, grammarBlock, grammarSheet}
+use Rattle.packing.specs.Grammar.{ruleKind, ruleWord, weightField, nothing, markField, symbol, firstOf, secondOf, ruleFrom, markFrom, markedRuleFrom, markedAlike, unfit, grammarFrom, markingOf, blockBy, sheetBy, markedBlock, markedSheet, grammarBlock}
 use Rattle.packing.specs.Utterance.{cost, candidatesFrom, slotFrom, slotsFrom, utteranceFrom, utteranceBlock, utteranceSheet}
 use Rattle.packing.specs.Reading.{ruleNumber, walkFrom, readingFrom}
 use Rattle.packing.specs.Conversion.{grammarToBlock, grammarToSheet, utteranceToBlock, utteranceToSheet, fitting}
@@ -125,7 +125,8 @@ module _ {Row : ℕ → Type 0} (src : Source) (end : Row (missingOf src)) where
 
   -- grammars: the refusals of S, W and R, of symbols, words and equal rules, of what only a sheet can get wrong, and of its length
   module _ (sizes : Row 3) (symbols : Row 4) (words : Row 5) (equals : Row 6)
-      (kinds : Told Row src ruleKind) (weights : Told Row src weightField) (lasts : Told Row src nothing) (count : (R : ℕ) → unfit src R ≡ true → Row 41) where
+      (kinds : Told Row src ruleKind) (weights : Told Row src weightField) (lasts : Told Row src nothing) (marks : Told Row src markField)
+      (marking : Bool) (count : (R : ℕ) → unfit marking src R ≡ true → Row 41) where
     body-row : (S W kind : ℕ) → Told Row src (firstOf S W kind) × Told Row src (secondOf S kind)
     body-row S W kind = go (eqb kind 0)
       where
@@ -139,11 +140,19 @@ module _ {Row : ℕ → Type 0} (src : Source) (end : Row (missingOf src)) where
         bind (at-field at kinds) (λ kind at. bind (at-field at (ranged symbols)) (λ head at. bind (at-field at weights) (λ w at.
         bind (at-field at (body-row S W kind .0)) (λ first at. bind (at-field at (body-row S W kind .1)) (λ second at. going)))))
 
-    grammar-row : (at : ℕ) → Stops Row (grammarFrom src at)
+    marked-row : (S W at : ℕ) → Stops Row (markedRuleFrom marking src S W at)
+    unfolding markedRuleFrom
+    marked-row S W at = bind (rule-row S W at) (λ r at. bind (mark-row marking at) (λ m at. going))
+      where
+        mark-row : (b : Bool) (at : ℕ) → Stops Row (markFrom b src at)
+        mark-row false at = going
+        mark-row true at = at-field at marks
+
+    grammar-row : (at : ℕ) → Stops Row (grammarFrom marking src at)
     unfolding grammarFrom
     grammar-row at =
         bind (at-field at (ranged sizes)) (λ S at. bind (at-field at (ranged sizes)) (λ W at. bind (at-field at (ranged sizes)) (λ R at.
-        test (unfit src R) 41 (count R) (bind (unlike-row alike (rule-row S W) equals R at []) (λ rs at. going)))))
+        test (unfit marking src R) 41 (count R) (bind (unlike-row markedAlike (marked-row S W) equals R at []) (λ rs at. going)))))
 
   -- utterances: of the counts, of a word that is none or does not ascend, and of a cost
   module _ (counts : Row 13) (words : Row 14) (order : Row 15) (costs : Told Row src cost) where
@@ -170,24 +179,28 @@ module _ {Row : ℕ → Type 0} (src : Source) (end : Row (missingOf src)) where
   walk-row R (suc m) at rs t = bind (at-field at t) (λ r at. walk-row R m at (rs ++ (r ∷ [])) t)
 
 -- the rows of document 01
-pub grammar-block-row : (s : List ℕ) → Refuses GrammarBlockRow (grammarBlock s)
-unfolding grammarBlock
-grammar-block-row s =
+pub marked-block-row : (s : List ℕ) → Refuses GrammarBlockRow (markedBlock s)
+unfolding markedBlock blockBy
+marked-block-row s =
     let src : Source = bytes 1 s in
     let end : GrammarBlockRow 1 = (omega arith, omega arith) in
     finish-row _ 7 (omega arith, omega arith) (bind (field-at-row src 0 end (ranged (omega arith, omega arith))) (λ kind at.
     grammar-row src end (omega arith, omega arith) (omega arith, omega arith) (omega arith, omega arith) (omega arith, omega arith)
-    (as-wide (omega arith)) (as-wide (omega arith)) (as-wide (omega arith)) (λ R e. absurd (false≢true e)) at))
+    (as-wide (omega arith)) (as-wide (omega arith)) (as-wide (omega arith)) (as-wide (omega arith)) (markingOf src) (λ R e. absurd (false≢true e)) at))
 
-pub grammar-sheet-row : (s : List ℕ) → Refuses GrammarSheetRow (grammarSheet s)
-unfolding grammarSheet
+pub grammar-block-row : (s : List ℕ) → Refuses GrammarBlockRow (grammarBlock s)
+unfolding grammarBlock
+grammar-block-row s = then-row (marked-block-row s) (λ m e. granted)
+
+pub grammar-sheet-row : (s : List ℕ) → Refuses GrammarSheetRow (markedSheet s)
+unfolding markedSheet sheetBy
 grammar-sheet-row s =
     let src : Source = numbers s in
     let short : GrammarSheetRow 41 = inr (omega arith, omega arith) in
     let wrong : GrammarSheetRow 42 = inr (omega arith, omega arith) in
     choose-row (ltb (length s) 3) (denied short) (verdict-row
     (grammar-row src short (inl (omega arith, omega arith)) (inl (omega arith, omega arith)) (inl (omega arith, omega arith)) (inl (omega arith, omega arith))
-    (ranged wrong) (ranged wrong) (ranged wrong) (λ R e. short) 0))
+    (ranged wrong) (ranged wrong) (ranged wrong) (ranged wrong) (markingOf src) (λ R e. short) 0))
 
 pub utterance-block-row : (W : ℕ) (s : List ℕ) → Refuses UtteranceBlockRow (utteranceBlock W s)
 unfolding utteranceBlock
@@ -234,7 +247,7 @@ three-rows r h f =
     then-row (wider (λ n p. inl (inl p)) r) λ a e. then-row (wider (λ n q. inl (inr q)) (h a e)) λ b d. wider (λ n. inr) (f a b e d)
 
 -- the conversions: of what is read, and of the output
-fitting-row : {Row : ℕ → Type 0} {v : Verdict (List ℕ)} (out : List ℕ) → Refuses Row v → Refuses (Row ∪ OutputRow) (fitting v out)
+pub fitting-row : {Row : ℕ → Type 0} {v : Verdict (List ℕ)} (out : List ℕ) → Refuses Row v → Refuses (Row ∪ OutputRow) (fitting v out)
 unfolding fitting
 fitting-row out r = then-rows r (λ l e. choose-row (ltb (length out) (length l)) (denied refl) granted)
 
@@ -244,7 +257,7 @@ grammar-to-block-row t out = fitting-row out (then-row (grammar-sheet-row t) (λ
 
 pub grammar-to-sheet-row : (s out : List ℕ) → Refuses (GrammarBlockRow ∪ OutputRow) (fitting (grammarToSheet s) out)
 unfolding grammarToSheet
-grammar-to-sheet-row s out = fitting-row out (then-row (grammar-block-row s) (λ g e. granted))
+grammar-to-sheet-row s out = fitting-row out (then-row (marked-block-row s) (λ m e. granted))
 
 pub utterance-to-block-row : (s t out : List ℕ) → Refuses (GrammarBlockRow ∪ UtteranceSheetRow ∪ OutputRow) (fitting (utteranceToBlock s t) out)
 unfolding utteranceToBlock

@@ -6,32 +6,38 @@ use mathlib.Core.Path.{_≡_, ap, _∙_}
 use mathlib.Core.Bool.{true}
 use mathlib.Core.Logic.{_↔_}
 use mathlib.Core.List.{List}
-use Prim.Native.Nat.{ℕ, _≤_}
+use Prim.Native.Nat.{ℕ, _+_, _≤_}
 use lib.ListN.{length}
-use Rattle.bits.specs.Bits.{ended}
+use Rattle.bits.specs.Bits.{pick, ended}
 use Rattle.bits.specs.Fields.{widths}
-use Rattle.packing.specs.Meaning.{Grammar, Utterance, Reading}
+use Rattle.packing.specs.Meaning.{Marked, grammarOf, Utterance, Reading}
 use Rattle.packing.specs.Parse.{parsed, failed, accepted, refused}
 use Rattle.packing.specs.Source.{flds}
-use Rattle.packing.specs.Grammar.{grammarBlock, grammarSheet, blockOfGrammar, sheetOfGrammar}
+use Rattle.packing.specs.Grammar.{markedBlock, markedSheet, grammarBlock, blockOfMarked, sheetOfMarked}
 use Rattle.packing.specs.Utterance.{utteranceBlock, utteranceSheet, blockOfUtterance, sheetOfUtterance}
 use Rattle.packing.specs.Reading.{readingFrom, readingEntries, blockOfReading}
 use Rattle.packing.specs.Conversion.{grammarToBlock, grammarToSheet, utteranceToBlock, utteranceToSheet}
 use Rattle.packing.specs.Rows.{GrammarBlockRow, UtteranceBlockRow, ReadingFieldsRow, GrammarSheetRow, UtteranceSheetRow}
-use Rattle.packing.specs.Valid.{Bytes, ValidGrammar, ValidUtterance, ValidReading}
+use Rattle.packing.specs.Valid.{Bytes, ValidGrammar, ValidMarked, ValidUtterance, ValidReading}
 use Rattle.packing.proofs.Parse.{granted, accepted-is}
 use Rattle.packing.proofs.Refusals.{refusal-number, stop-number, grammar-block-row, grammar-sheet-row, utterance-block-row, utterance-sheet-row, reading-row}
+use Rattle.packing.proofs.Grammar.{valid-unmarked}
 use Rattle.packing.proofs.Widths.{grammar-length, utterance-length, reading-length, valid-words}
-use Rattle.packing.proofs.Whole.{grammar-block-out, grammar-block-back, grammar-sheet-out, grammar-sheet-back, utterance-block-out, utterance-block-back, utterance-sheet-out, utterance-sheet-back, reading-block-out, reading-block-back}
+use Rattle.packing.proofs.Whole.{grammar-block-out, marked-block-out, marked-block-back, marked-sheet-out, marked-sheet-back, utterance-block-out, utterance-block-back, utterance-sheet-out, utterance-sheet-back, reading-block-out, reading-block-back}
 
 -- "A block is accepted if no condition of its row below holds." A block, or a sheet, is accepted with the meaning g exactly if
 -- g is valid and the block, or the sheet, is the one of g: refusals are exact, and nothing else has this meaning.
-pub grammar-block-accepted : (s : List ℕ) (g : Grammar) → Bytes s → (grammarBlock s ≡ accepted g) ↔ (ValidGrammar g × (s ≡ blockOfGrammar g))
-grammar-block-accepted s g y =
-    (λ e. let (v, p) = grammar-block-out s g e in (v, p y), λ (v, p). ap grammarBlock p ∙ grammar-block-back g v)
+-- Grammars, of either kind:
+pub grammar-block-accepted : (s : List ℕ) (m : Marked) → Bytes s → (markedBlock s ≡ accepted m) ↔ (ValidMarked m × (s ≡ blockOfMarked m))
+grammar-block-accepted s m y =
+    (λ e. let (v, p) = marked-block-out s m e in (v, p y), λ (v, p). ap markedBlock p ∙ marked-block-back m v)
 
-pub grammar-sheet-accepted : (t : List ℕ) (g : Grammar) → (grammarSheet t ≡ accepted g) ↔ (ValidGrammar g × (t ≡ sheetOfGrammar g))
-grammar-sheet-accepted t g = (grammar-sheet-out t g, λ (v, p). ap grammarSheet p ∙ grammar-sheet-back g v)
+pub grammar-sheet-accepted : (t : List ℕ) (m : Marked) → (markedSheet t ≡ accepted m) ↔ (ValidMarked m × (t ≡ sheetOfMarked m))
+grammar-sheet-accepted t m = (marked-sheet-out t m, λ (v, p). ap markedSheet p ∙ marked-sheet-back m v)
+
+-- The grammar of a valid one is valid without its marks.
+pub unmarked-valid : (m : Marked) → ValidMarked m → ValidGrammar (grammarOf m)
+unmarked-valid = valid-unmarked
 
 -- The same of utterances, under a grammar of W words.
 module _ (W : ℕ) where
@@ -56,17 +62,17 @@ reading-block-accepted n R s d y = (λ (at, e, end). let (v, m, p) = reading-blo
 pub grammar-sheet-and-back : (sheet block : List ℕ) → grammarToBlock sheet ≡ accepted block → grammarToSheet block ≡ accepted sheet
 unfolding grammarToBlock grammarToSheet
 grammar-sheet-and-back sheet block e =
-    granted (grammarSheet sheet) _ e λ g p q.
-    let (v, s) = grammar-sheet-out sheet g p in
-    rw (← accepted-is q, grammar-block-back g v, s)
+    granted (markedSheet sheet) _ e λ m p q.
+    let (v, s) = marked-sheet-out sheet m p in
+    rw (← accepted-is q, marked-block-back m v, s)
 
 -- The sheet of an accepted block is accepted, and packed again it is that block.
 pub grammar-block-and-back : (block sheet : List ℕ) → Bytes block → grammarToSheet block ≡ accepted sheet → grammarToBlock sheet ≡ accepted block
 unfolding grammarToBlock grammarToSheet
 grammar-block-and-back block sheet y e =
-    granted (grammarBlock block) _ e λ g p q.
-    let (v, s) = grammar-block-out block g p in
-    rw (← accepted-is q, grammar-sheet-back g v, s y)
+    granted (markedBlock block) _ e λ m p q.
+    let (v, s) = marked-block-out block m p in
+    rw (← accepted-is q, marked-sheet-back m v, s y)
 
 -- The same of utterances under a grammar block.
 pub utterance-sheet-and-back : (grammar sheet block : List ℕ) → utteranceToBlock grammar sheet ≡ accepted block → utteranceToSheet grammar block ≡ accepted sheet
@@ -87,9 +93,9 @@ utterance-block-and-back grammar block sheet y e =
     let (v, s) = utterance-block-out (g .words) block u p in
     rw (a, ← accepted-is q, utterance-sheet-back (g .words) u v, s y)
 
--- "Longest: grammar 1,028 bytes, utterance 515, reading 52."
-pub longest-grammar : (s : List ℕ) (g : Grammar) → Bytes s → grammarBlock s ≡ accepted g → length s ≤ 1028
-longest-grammar s g y e = let (v, p) = grammar-block-out s g e in rw (p y) (grammar-length g v)
+-- "Longest: grammar 1,028 bytes, utterance 515, reading 52." Marks are 32 bytes more.
+pub longest-grammar : (s : List ℕ) (m : Marked) → Bytes s → markedBlock s ≡ accepted m → length s ≤ 1028 + pick (m .marking) 32 0
+longest-grammar s m y e = let (v, p) = marked-block-out s m e in rw (p y) (grammar-length m v)
 
 pub longest-utterance : (W : ℕ) (s : List ℕ) (u : Utterance) → 1 ≤ W → W ≤ 200 → Bytes s → utteranceBlock W s ≡ accepted u → length s ≤ 515
 longest-utterance W s u l h y e = let (v, p) = utterance-block-out W s u e in rw (p y) (utterance-length W l h u v)
@@ -110,7 +116,7 @@ utterance-block-refused W s n = refusal-number (utterance-block-row W s)
 pub reading-block-refused : (slots R : ℕ) (s : List ℕ) (n : ℕ) → R ≤ 256 → readingFrom slots R s ≡ failed n → ReadingFieldsRow n
 reading-block-refused slots R s n h = stop-number (reading-row slots R s h)
 
-pub grammar-sheet-refused : (t : List ℕ) (n : ℕ) → grammarSheet t ≡ refused n → GrammarSheetRow n
+pub grammar-sheet-refused : (t : List ℕ) (n : ℕ) → markedSheet t ≡ refused n → GrammarSheetRow n
 grammar-sheet-refused t n = refusal-number (grammar-sheet-row t)
 
 pub utterance-sheet-refused : (W : ℕ) (t : List ℕ) (n : ℕ) → utteranceSheet W t ≡ refused n → UtteranceSheetRow n

@@ -1,23 +1,25 @@
--- The widths in use: every value in its range can be written in its field's width, and blocks have at most 1,028, 515 and 52
--- bytes, since symbols take at most 5 bits, and words and rule numbers at most 8.
+-- The widths in use: every value in its range can be written in its field's width, and grammar blocks have at most 1,060 bytes,
+-- or 1,028 without marks, utterances 515 and readings 52, since symbols take at most 5 bits, and words and rule numbers at most 8.
 -- Assumes nothing.
 use mathlib.Core.Path.{_≡_, refl}
+use mathlib.Core.Bool.{Bool, true, false}
 use mathlib.Core.Option.{some}
 use mathlib.Core.List.{List, [], _∷_, map-append}
-use Prim.Native.Nat.{ℕ, suc, _-_, _*_, _^_, _≤_, _<_}
+use Prim.Native.Nat.{ℕ, suc, _+_, _-_, _*_, _/_, _^_, _≤_, _<_}
 use native.Mathlib.Nat.{mul-le-mul, zero-mul, suc-mul}
 use native.Mathlib.Omega.{arith}
 use lib.ListN.{length, getElem?}
+use Rattle.bits.specs.Bits.{pick}
 use Rattle.bits.specs.Width.{widthOf}
 use Rattle.bits.specs.Fields.{widths}
 use Rattle.bits.proofs.Fields.{widths-append, length-block}
 use Rattle.bits.proofs.Width.{width-le, width-room}
-use Rattle.packing.specs.Meaning.{Grammar, Candidate, candidate, Utterance, Reading}
+use Rattle.packing.specs.Meaning.{Grammar, MarkedRule, marked, Marked, Candidate, candidate, Utterance, Reading}
 use Rattle.packing.specs.Source.{fldOf, flds}
-use Rattle.packing.specs.Grammar.{ruleEntries, rulesEntries, grammarEntries, blockOfGrammar}
+use Rattle.packing.specs.Grammar.{ruleEntries, grammarEntries, markEntries, markedRuleEntries, markedRulesEntries, markedEntries, blockOfMarked}
 use Rattle.packing.specs.Utterance.{candidatesEntries, slotsEntries, utteranceEntries, blockOfUtterance}
 use Rattle.packing.specs.Reading.{walkEntries, readingEntries, blockOfReading, readingLength}
-use Rattle.packing.specs.Valid.{InRange, InWidth, Each, Fits, ValidGrammar, ValidUtterance, ValidReading}
+use Rattle.packing.specs.Valid.{InRange, InWidth, Each, Fits, ValidGrammar, ValidMarked, ValidUtterance, ValidReading}
 use Rattle.packing.specs.declared.Rule as R
 use Rattle.packing.specs.declared.Rule.the-variants.{Pair, Word}
 use Rattle.packing.proofs.Entries.{each-left, each-right, each-join}
@@ -42,37 +44,67 @@ module _ (S W : ℕ) (s : 1 ≤ S) (S≤ : S ≤ 32) (w : 1 ≤ W) (W≤ : W ≤
   rule-room (Word h x v) (a, (b, (c, (d, (e, f))))) =
       (omega arith, (number-room (h .0) S s (omega arith) (b .1), (omega arith, (number-room (x .0) W w (omega arith) (d .1), (omega arith, tt)))))
 
-  rules-room : (rs : List R.Rule) → Fits (rulesEntries S W rs) → Each InWidth (rulesEntries S W rs)
-  unfolding rulesEntries
-  rules-room [] h = tt
-  rules-room (r ∷ rs) h =
-      let es = ruleEntries S W r in
-      let fs = rulesEntries S W rs in
-      each-join InWidth es fs (rule-room r (each-left InRange es fs h)) (rules-room rs (each-right InRange es fs h))
+  module _ (marking : Bool) where
+    marked-room : (x : MarkedRule) → Fits (markedRuleEntries marking S W x) → Each InWidth (markedRuleEntries marking S W x)
+    marked-room (marked r m) h =
+        let es = ruleEntries S W r in
+        let ms = markEntries marking m in
+        each-join InWidth es ms (rule-room r (each-left InRange es ms h)) (mark-room marking (each-right InRange es ms h))
+      where
+        mark-room : (b : Bool) → Fits (markEntries b m) → Each InWidth (markEntries b m)
+        mark-room false h = tt
+        mark-room true (a, h) = (omega arith, tt)
+
+    rules-room : (rs : List MarkedRule) → Fits (markedRulesEntries marking S W rs) → Each InWidth (markedRulesEntries marking S W rs)
+    unfolding markedRulesEntries
+    rules-room [] h = tt
+    rules-room (r ∷ rs) h =
+        let es = markedRuleEntries marking S W r in
+        let fs = markedRulesEntries marking S W rs in
+        each-join InWidth es fs (marked-room r (each-left InRange es fs h)) (rules-room rs (each-right InRange es fs h))
 
   rule-bits : (r : R.Rule) → widths (flds (ruleEntries S W r)) ≤ 32
   unfolding widths
   rule-bits (Pair h x y v) = omega (arith, symbol-width S S≤)
   rule-bits (Word h x v) = omega (arith, symbol-width S S≤, byte-width W (omega arith))
 
-  rules-bits : (rs : List R.Rule) → widths (flds (rulesEntries S W rs)) ≤ 32 * length rs
-  unfolding rulesEntries widths
-  rules-bits [] = omega arith
-  rules-bits (r ∷ rs) = rw (map-append fldOf (ruleEntries S W r) (rulesEntries S W rs), widths-append) (omega (arith, rule-bits r, rules-bits rs))
+  -- a mark takes one bit more
+  marked-bits : (marking : Bool) (x : MarkedRule) → widths (flds (markedRuleEntries marking S W x)) ≤ 32 + pick marking 1 0
+  unfolding widths
+  marked-bits marking (marked r m) = rw (map-append fldOf (ruleEntries S W r) (markEntries marking m), widths-append) (go marking (rule-bits r))
+    where
+      go : {n : ℕ} (b : Bool) → n ≤ 32 → n + widths (flds (markEntries b m)) ≤ 32 + pick b 1 0
+      go false h = omega arith
+      go true h = omega arith
 
-pub grammar-room : (g : Grammar) → Fits (grammarEntries g) → Each InWidth (grammarEntries g)
-unfolding grammarEntries
-grammar-room g (a, (b, (c, h))) =
-    (omega arith, (omega arith, (omega arith, rules-room (g .symbols) (g .words) (a .0) (a .1) (b .0) (b .1) (g .rules) h)))
+  rules-bits : (marking : Bool) (rs : List MarkedRule) → widths (flds (markedRulesEntries marking S W rs)) ≤ (32 + pick marking 1 0) * length rs
+  unfolding markedRulesEntries widths
+  rules-bits marking [] = omega arith
+  rules-bits marking (r ∷ rs) =
+      rw (map-append fldOf (markedRuleEntries marking S W r) (markedRulesEntries marking S W rs), widths-append)
+      (go marking (length rs) (marked-bits marking r) (rules-bits marking rs))
+    where
+      go : {k l : ℕ} (b : Bool) (n : ℕ) → k ≤ 32 + pick b 1 0 → l ≤ (32 + pick b 1 0) * n → k + l ≤ (32 + pick b 1 0) * suc n
+      go false n h i = omega arith
+      go true n h i = omega arith
+
+pub grammar-room : (m : Marked) → Fits (markedEntries m) → Each InWidth (markedEntries m)
+unfolding markedEntries
+grammar-room m (a, (b, (c, h))) =
+    (omega arith, (omega arith, (omega arith, rules-room (m .symbols) (m .words) (a .0) (a .1) (b .0) (b .1) (m .marking) (m .rules) h)))
 
 pub valid-words : (g : Grammar) → ValidGrammar g → (1 ≤ g .words) × (g .words ≤ 200)
 unfolding grammarEntries
 valid-words g v = v .0 .1 .0
 
-pub grammar-length : (g : Grammar) → ValidGrammar g → length (blockOfGrammar g) ≤ 1028
-unfolding blockOfGrammar grammarEntries widths
-grammar-length g ((a, (b, (c, h))), u) =
-    rw length-block (omega (arith, rules-bits (g .symbols) (g .words) (a .0) (a .1) (b .0) (b .1) (g .rules)))
+pub grammar-length : (m : Marked) → ValidMarked m → length (blockOfMarked m) ≤ 1028 + pick (m .marking) 32 0
+unfolding blockOfMarked markedEntries widths
+grammar-length m ((a, (b, (c, h))), u, w) =
+    rw length-block (go (m .marking) (rules-bits (m .symbols) (m .words) (a .0) (a .1) (b .0) (b .1) (m .marking) (m .rules)))
+  where
+    go : {n : ℕ} (b : Bool) → n ≤ (32 + pick b 1 0) * length (m .rules) → (4 + (6 + (8 + (9 + n))) + 7) / 8 ≤ 1028 + pick b 32 0
+    go false i = omega arith
+    go true i = omega arith
 
 module _ (W : ℕ) (w : 1 ≤ W) (W≤ : W ≤ 200) where
   candidates-room : (least : ℕ) (cs : List Candidate) → Fits (candidatesEntries W least cs) → Each InWidth (candidatesEntries W least cs)

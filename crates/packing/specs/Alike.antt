@@ -21,3 +21,8 @@ unlikeFrom item like m (suc n) at l = item at ⟫ λ x at. pick (anyLike like x 
 abbrev pub NoTwo : {A : Type 0} → (A → A → Bool) → List A → Type 0
 NoTwo like [] = Unit {0}
 NoTwo like (x ∷ l) = (anyLike like x l ≡ false) × NoTwo like l
+
+-- it is so of each of the list
+abbrev pub All : {A : Type 0} → (A → Type 0) → List A → Type 0
+All P [] = Unit {0}
+All P (x ∷ l) = P x × All P l

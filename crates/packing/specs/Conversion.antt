@@ -7,15 +7,15 @@ use lib.Dec.{ltb}
 use lib.ListN.{length, take, drop}
 use Rattle.bits.specs.Bits.{pick}
 use Rattle.packing.specs.Parse.{Verdict, accepted, refused, _then_}
-use Rattle.packing.specs.Grammar.{grammarBlock, grammarSheet, blockOfGrammar, sheetOfGrammar}
+use Rattle.packing.specs.Grammar.{markedBlock, markedSheet, grammarBlock, blockOfMarked, sheetOfMarked}
 use Rattle.packing.specs.Utterance.{utteranceBlock, utteranceSheet, blockOfUtterance, sheetOfUtterance}
 
--- what each conversion writes, or its refusal
+-- what each conversion writes, or its refusal; a grammar keeps its kind
 unfoldable pub grammarToBlock : List ℕ → Verdict (List ℕ)
-grammarToBlock sheet = grammarSheet sheet then λ g. accepted (blockOfGrammar g)
+grammarToBlock sheet = markedSheet sheet then λ m. accepted (blockOfMarked m)
 
 unfoldable pub grammarToSheet : List ℕ → Verdict (List ℕ)
-grammarToSheet block = grammarBlock block then λ g. accepted (sheetOfGrammar g)
+grammarToSheet block = markedBlock block then λ m. accepted (sheetOfMarked m)
 
 -- an utterance under a grammar of W words, and under a grammar block
 abbrev pub blockUnder : ℕ → List ℕ → Verdict (List ℕ)

@@ -1,10 +1,10 @@
 -- Accepted meanings in flat arrays of numbers, for the contracts of the layers above: document 01, "The listing stands on the meaning
 -- of an accepted block, never on its bytes". Nobody need believe this page: no service's promise names it. Assumes nothing.
 use mathlib.Core.Path.{_≡_}
-use mathlib.Core.List.{List, [], _∷_}
+use mathlib.Core.List.{List, [], _∷_, map}
 use Prim.Native.Nat.{ℕ, zero, suc, _+_, _*_}
 use lib.ListN.{length, getD, take}
-use Rattle.packing.specs.Meaning.{Grammar, Candidate, candidate, Utterance, Edge, edge, word, Node, byPair, byWord}
+use Rattle.packing.specs.Meaning.{Grammar, MarkedRule, marked, markIn, Marked, grammarOf, Candidate, candidate, Utterance, Edge, edge, word, Node, byPair, byWord}
 use Rattle.packing.specs.Parse.{Verdict, accepted, refused}
 use Rattle.packing.specs.Source.{values}
 use Rattle.packing.specs.Grammar.{ruleOf, rulesEntries}
@@ -35,6 +35,19 @@ rulesAt l r (suc n) = ruleAt l r ∷ rulesAt l (suc r) n
 
 abbrev pub rulesOf : List ℕ → ℕ → List R.Rule
 rulesOf l n = rulesAt l 0 n
+
+-- marks stand in an array of their own, one for each rule
+abbrev pub markNumbers : Marked → List ℕ
+markNumbers m = map markIn (m .rules)
+
+abbrev pub MarkedIn : Verdict Marked → List ℕ → List ℕ → Type 0
+MarkedIn (accepted m) rules marks = Begins (ruleNumbers (grammarOf m)) rules × Begins (markNumbers m) marks
+MarkedIn (refused n) rules marks = Unit {0}
+
+-- n rules of both arrays, from rule r on
+unfoldable pub markedRulesAt : List ℕ → List ℕ → ℕ → ℕ → List MarkedRule
+markedRulesAt l marks r zero = []
+markedRulesAt l marks r (suc n) = marked (ruleAt l r) (getD marks r 0) ∷ markedRulesAt l marks (suc r) n
 
 -- for each slot its count and its words and costs, as in a sheet
 abbrev pub slotNumbers : ℕ → Utterance → List ℕ

@@ -1,5 +1,6 @@
--- What blocks and sheets mean: document 01, "Grammars and derivations", and document 02, N1. Assumes nothing.
-use mathlib.Core.List.{List, [], _∷_, _++_}
+-- What blocks and sheets mean: document 01, "Grammars and derivations", and document 02, N1 and N5. Assumes nothing.
+use mathlib.Core.Bool.{Bool, false}
+use mathlib.Core.List.{List, [], _∷_, _++_, map}
 use Prim.Native.Nat.{ℕ, suc, _-_}
 use lib.ListN.{length}
 use Rattle.packing.specs.declared.Sym.{Sym}
@@ -18,6 +19,33 @@ pub record Grammar : Type 0 where
   pub symbols : ℕ
   pub words : ℕ
   pub rules : List R.Rule
+
+-- a rule with its mark: 1 for a helper's rule, 0 otherwise
+pub data MarkedRule : Type 0 where
+  marked : (r : R.Rule) (mark : ℕ) → MarkedRule
+
+abbrev pub ruleIn : MarkedRule → R.Rule
+ruleIn (marked r m) = r
+
+abbrev pub markIn : MarkedRule → ℕ
+markIn (marked r m) = m
+
+abbrev pub unmarkedRule : R.Rule → MarkedRule
+unmarkedRule r = marked r 0
+
+-- a grammar as a block or a sheet has it: of kind 4, whose rules bear marks, or of kind 1, which reads as unmarked
+pub record Marked : Type 0 where
+  pub marking : Bool
+  pub symbols : ℕ
+  pub words : ℕ
+  pub rules : List MarkedRule
+
+-- its grammar, and a grammar of kind 1
+abbrev pub grammarOf : Marked → Grammar
+grammarOf m = record { symbols = m .symbols; words = m .words; rules = map ruleIn (m .rules) }
+
+abbrev pub unmarked : Grammar → Marked
+unmarked g = record { marking = false; symbols = g .symbols; words = g .words; rules = map unmarkedRule (g .rules) }
 
 -- a word that a slot offers, with its cost
 pub data Candidate : Type 0 where

@@ -1,5 +1,5 @@
 -- The numbers that each place can refuse with: document 01's table "Where each check stands", row by row, and document 02, N1, of word
--- graphs, and N14, of chances. Assumes nothing.
+-- graphs, N5, of office sheets, and N14, of chances. Assumes nothing.
 use mathlib.Core.Logic.{_⊎_}
 use mathlib.Core.Path.{_≡_}
 use Prim.Native.Nat.{ℕ, _≤_}
@@ -48,6 +48,13 @@ GrammarSheetRow n = (Between 3 6 ∪ Between 41 42) n
 
 abbrev pub UtteranceSheetRow : ℕ → Type 0
 UtteranceSheetRow n = (Between 13 15 ∪ Between 41 42) n
+
+-- "3 to 5, 41 and 42 stand at their fields", 6, 54 and 55, and then 56
+abbrev pub OfficeSheetRow : ℕ → Type 0
+OfficeSheetRow n = (GrammarSheetRow ∪ Between 54 55) n
+
+abbrev pub OfficeSizeRow : ℕ → Type 0
+OfficeSizeRow n = n ≡ 56
 
 abbrev pub OutputRow : ℕ → Type 0
 OutputRow n = n ≡ 43

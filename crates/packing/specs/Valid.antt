@@ -1,14 +1,15 @@
 -- Valid meanings: those that a block can have, as no condition of its row in document 01's "Where each check stands" holds.
 -- Assumes nothing.
 use mathlib.Core.Path.{_≡_}
-use mathlib.Core.Bool.{false}
+use mathlib.Core.Bool.{Bool, false}
 use mathlib.Core.List.{List, [], _∷_}
 use Prim.Native.Nat.{ℕ, _-_, _*_, _^_, _≤_, _<_}
 use lib.ListN.{length, getD}
-use Rattle.packing.specs.Meaning.{Grammar, Utterance, Reading, Graph, Heard, slots, graph, GraphReading}
+use Rattle.bits.specs.Bits.{pick}
+use Rattle.packing.specs.Meaning.{Grammar, MarkedRule, marked, Marked, Utterance, Reading, Graph, Heard, slots, graph, GraphReading}
 use Rattle.packing.specs.Source.{Entry, entry}
-use Rattle.packing.specs.Alike.{NoTwo}
-use Rattle.packing.specs.Grammar.{alike, grammarEntries}
+use Rattle.packing.specs.Alike.{NoTwo, All}
+use Rattle.packing.specs.Grammar.{alike, grammarEntries, markedAlike, markedEntries}
 use Rattle.packing.specs.Utterance.{utteranceEntries}
 use Rattle.packing.specs.Reading.{readingEntries}
 use Rattle.packing.specs.Graph.{edgesAlike, graphEntries}
@@ -41,6 +42,13 @@ Unlike rs = NoTwo alike rs
 
 abbrev pub ValidGrammar : Grammar → Type 0
 ValidGrammar g = Fits (grammarEntries g) × Unlike (g .rules)
+
+-- a mark is 0 or 1, and 0 where rules bear none
+abbrev pub MarkWithin : Bool → MarkedRule → Type 0
+MarkWithin marking (marked r m) = m ≤ pick marking 1 0
+
+abbrev pub ValidMarked : Marked → Type 0
+ValidMarked m = Fits (markedEntries m) × NoTwo markedAlike (m .rules) × All (MarkWithin (m .marking)) (m .rules)
 
 -- under a grammar of W words; that words ascend is in the entries' least
 abbrev pub ValidUtterance : ℕ → Utterance → Type 0

@@ -18,6 +18,8 @@ pub const MAX_PLACES: usize = 25; // P, of a word graph
 
 pub const MAX_EDGES: usize = 96; // of a word graph
 
+pub const MAX_ITEMS: u32 = 6; // of the body of an office's rule
+
 pub const MAX_PATH_EDGES: usize = MAX_PLACES - 1;
 
 pub const MAX_WEIGHT: u32 = 65535; // of a rule, and a word's cost
@@ -41,6 +43,8 @@ pub const UTTERANCE_BLOCK: u32 = 2;
 
 pub const READING_BLOCK: u32 = 3;
 
+pub const MARKED_GRAMMAR_BLOCK: u32 = 4; // a grammar whose rules bear marks
+
 pub const GRAPH_BLOCK: u32 = 5;
 
 pub const GRAPH_READING_BLOCK: u32 = 6;
@@ -48,6 +52,11 @@ pub const GRAPH_READING_BLOCK: u32 = 6;
 pub const PAIR_RULE: u32 = 0;
 
 pub const WORD_RULE: u32 = 1;
+
+// Marks: 1 for a helper's rule, 0 otherwise.
+pub const UNMARKED: u32 = 0;
+
+pub const MARKED: u32 = 1;
 
 // Widths in bits.
 pub const KIND_WIDTH: usize = 4; // a block's kind
@@ -61,6 +70,8 @@ pub const RULES_WIDTH: usize = 9; // R
 pub const RULE_KIND_WIDTH: usize = 1;
 
 pub const WEIGHT_WIDTH: usize = 16; // of a rule
+
+pub const MARK_WIDTH: usize = 1;
 
 pub const SLOTS_WIDTH: usize = 6; // n
 
@@ -110,10 +121,16 @@ pub const RULE_FIXED_WIDTH: usize = RULE_KIND_WIDTH + WEIGHT_WIDTH; // a rule's 
 
 pub const MAX_RULE_WIDTH: usize = RULE_FIXED_WIDTH + 3 * bits::MAX_WIDTH; // with a head and two numbers of a body
 
-// A grammar's sheet has S, W and R, then the numbers of each rule: kind, head, weight, first, second.
+pub const MAX_MARKED_RULE_WIDTH: usize = MAX_RULE_WIDTH + MARK_WIDTH;
+
+// A grammar's sheet has S, W and R, then the numbers of each rule: kind, head, weight, first, second, and a mark where rules bear marks.
 pub const GRAMMAR_SHEET_HEAD: usize = 3;
 
+pub const SHEET_RULES_AT: usize = 2; // R
+
 pub const NUMBERS_PER_RULE: usize = 5;
+
+pub const NUMBERS_PER_MARKED_RULE: usize = NUMBERS_PER_RULE + 1;
 
 pub const RULE_HEAD_AT: usize = 1;
 
@@ -140,6 +157,8 @@ pub const EDGE_COST_AT: usize = 3;
 // The lengths of flat arrays with room for the most there can be.
 pub const RULES_LENGTH: usize = MAX_RULES * NUMBERS_PER_RULE; // a grammar's rules
 
+pub const MARKED_RULES_LENGTH: usize = MAX_RULES * NUMBERS_PER_MARKED_RULE; // a grammar's rules with their marks
+
 pub const SLOTS_LENGTH: usize = MAX_SLOTS * SLOT_LENGTH; // an utterance's slots
 
 pub const EDGES_LENGTH: usize = MAX_SLOTS * MAX_CANDIDATES * NUMBERS_PER_EDGE; // an utterance's edges
@@ -154,12 +173,20 @@ pub const NUMBERS_PER_NODE: usize = 2; // of a trace: the rule's number, and of 
 
 pub const TRACE_LENGTH: usize = MAX_NODES * NUMBERS_PER_NODE;
 
-// The fields of a grammar that are the same for every grammar: the block's kind, S, W and R; a rule's kind and weight, and the
-// last number of a word rule, which takes no bits.
+// The fields of a grammar that are the same for every grammar: the block's kind, without and with marks, S, W and R; a rule's kind and
+// weight, the last number of a word rule, which takes no bits, and a mark.
 pub const GRAMMAR_KIND_FIELD: Field = Field {
     width: KIND_WIDTH,
     least: GRAMMAR_BLOCK,
     most: GRAMMAR_BLOCK,
+    below: refused::GRAMMAR_KIND,
+    above: refused::GRAMMAR_KIND,
+};
+
+pub const MARKED_GRAMMAR_KIND_FIELD: Field = Field {
+    width: KIND_WIDTH,
+    least: MARKED_GRAMMAR_BLOCK,
+    most: MARKED_GRAMMAR_BLOCK,
     below: refused::GRAMMAR_KIND,
     above: refused::GRAMMAR_KIND,
 };
@@ -208,6 +235,14 @@ pub const NOTHING_FIELD: Field = Field {
     width: 0,
     least: 0,
     most: 0,
+    below: refused::SHEET_VALUE,
+    above: refused::SHEET_VALUE,
+};
+
+pub const MARK_FIELD: Field = Field {
+    width: MARK_WIDTH,
+    least: UNMARKED,
+    most: MARKED,
     below: refused::SHEET_VALUE,
     above: refused::SHEET_VALUE,
 };

@@ -5,8 +5,9 @@ pub mod refused; // refused.rt: the numbers of document 01's table
 use bits::MAX_FIELD_WIDTH;
 ghost use mathlib.Core.Path.{_≡_};
 ghost use Prim.Native.Nat.{_+_, _*_, _^_, _≤_, _<_};
-ghost use lib.Dec.{leb};
+ghost use lib.Dec.{leb, eqb};
 ghost use lib.ListN.{length};
+ghost use Rattle.bits.specs.Bits.{field};
 ghost use Rattle.packing.specs.Source.{inRange, fieldAt};
 ghost use Rattle.packing.specs.Read.{readOf, refusalOf, sourceOf};
 
@@ -63,6 +64,17 @@ fn has_field(block: &[u8], at: usize, width: usize) -> bool
     ensures { λ r. ⌜ r ≡ leb (at + width) (8 * length (now (block .entry))) ⌝ }
 {
     (at + width + 7) / 8 <= block.len()
+}
+
+// Whether a block is of a kind. An empty one is of none.
+pub fn is_kind(block: &[u8], kind: u32) -> bool
+    requires { ⌜ 0 < kind ⌝ }
+    ensures { λ r. ⌜ r ≡ eqb (field (now (block .entry)) 0 4) kind ⌝ }
+{
+    if block.len() == 0 {
+        return false;
+    }
+    bit_reader::read_field(block, 0, format::KIND_WIDTH) == kind
 }
 
 // A value that was found, if it is in its range.

@@ -56,7 +56,7 @@ pub const READING_FILL: u32 = 36; // nonzero fill or further bytes
 // Of a sheet, and of the output of a conversion.
 pub const SHEET_COUNT: u32 = 41; // numbers missing or left over
 
-pub const SHEET_VALUE: u32 = 42; // kind, weight, cost or last number out of range
+pub const SHEET_VALUE: u32 = 42; // kind, weight, cost, last number or mark out of range
 
 pub const OUTPUT_SHORT: u32 = 43; // shorter than the result
 
@@ -64,6 +64,13 @@ pub const OUTPUT_SHORT: u32 = 43; // shorter than the result
 pub const EDGE_PLACES: u32 = 51; // from not below to, or to not below P
 
 pub const EDGE_REPEAT: u32 = 52; // from, to and word equal an earlier edge's
+
+// Of an office sheet.
+pub const ITEM_COUNT: u32 = 54; // items of a body outside 1 to 6
+
+pub const ITEM_ALONE: u32 = 55; // a body of one symbol
+
+pub const OFFICE_SIZE: u32 = 56; // the result passes 32 symbols or 256 rules
 
 // Of the shares of a grammar's rules.
 pub const SHARES_COUNT: u32 = 60; // their number is not R

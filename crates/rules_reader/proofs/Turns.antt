@@ -1,24 +1,27 @@
 -- The turns of the loop over the rules: what was read so far is what the definition has read. Assumes nothing.
-use mathlib.Core.Path.{_≡_, refl}
+use mathlib.Core.Path.{_≡_, refl, sym, _∙_}
 use mathlib.Core.Bool.{Bool, true, false}
-use mathlib.Core.List.{List, [], _∷_, _++_, append-assoc, append-nil, map-append}
+use mathlib.Core.List.{List, [], _∷_, _++_, map, append-assoc, append-nil, map-append}
 use Prim.Native.Nat.{ℕ, suc, _+_, _-_, _*_, _≤_, _<_}
+use native.Mathlib.Numerals.{add-one}
 use native.Mathlib.Omega.{arith}
 use native.Mathlib.Decide.{ℕ-discrete}
 use borrow.Author.Tests.{eq-eqb, ne-eqb}
 use lib.ListN.{length, take, set, length-append}
-use lib.Seq.{length-take-le}
+use lib.Seq.{length-take-le, take-suc-set}
+use Rattle.packing.specs.Meaning.{MarkedRule, marked, ruleIn, markIn}
 use Rattle.packing.specs.Parse.{Parse, parsed, failed}
 use Rattle.packing.specs.Source.{Source, values, valueOf}
-use Rattle.packing.specs.Alike.{unlikeFrom}
-use Rattle.packing.specs.Grammar.{ruleFrom, alike, rulesFrom, ruleEntries, rulesEntries}
+use Rattle.packing.specs.Alike.{anyLike, unlikeFrom}
+use Rattle.packing.specs.Grammar.{alike, markedRuleFrom, markedAlike, rulesFrom, ruleEntries, rulesEntries}
 use Rattle.packing.proofs.Alike.{keyed-none}
+use Rattle.packing.proofs.Grammar.{like-unmarked}
 use Rattle.packing.specs.declared.Rule.{Rule}
 use Rattle.packing.specs.declared.Cursor.{Cursor}
 use Rattle.packing.specs.declared.Read.the-variants.{Number, Refused}
-use Rattle.rules_reader.specs.Rules.{ruleBy, ruleRead, Sound, row, keyOf, among, RulesTold}
+use Rattle.rules_reader.specs.Rules.{ruleBy, markedRead, Sound, row, keyOf, among, RulesTold}
 use Rattle.rules_reader.specs.declared.RuleNumbers.{RuleNumbers}
-use Rattle.rules_reader.specs.declared.RuleRead as rule
+use Rattle.rules_reader.specs.declared.MarkedRead as read
 use Rattle.rules_reader.proofs.Keys.{RulesKeyed, rules-keyed-more}
 
 -- a rule's entries have its numbers
@@ -43,61 +46,71 @@ values-snoc S W (x ∷ rs) r =
       append-assoc,
     )
 
-module _ (src : Source) (S W R start : ℕ) where
+module _ (marking : Bool) (src : Source) (S W R start : ℕ) where
   -- all that is read
-  abbrev whole : Parse (List Rule)
-  whole = rulesFrom src S W R start []
+  abbrev whole : Parse (List MarkedRule)
+  whole = rulesFrom marking src S W R start []
 
-  -- after i rules, at a place: rs were read, the keys tell which rules these are, and the array begins with their numbers
-  pub record Passed (i at : ℕ) (keys rules : List ℕ) : Type 0 where
-    pub rs : List Rule
+  -- after i rules, at a place: rs were read, the keys tell which rules these are, and the arrays begin with their numbers and marks
+  pub record Passed (i at : ℕ) (keys rules marks : List ℕ) : Type 0 where
+    pub rs : List MarkedRule
     pub size : length rs ≡ i
-    pub keyed : RulesKeyed rs (take i keys)
-    pub rows : take (5 * i) rules ≡ values (rulesEntries S W rs)
-    pub left : rulesFrom src S W (R - i) at rs ≡ whole
+    pub keyed : RulesKeyed (map ruleIn rs) (take i keys)
+    pub rows : take (5 * i) rules ≡ values (rulesEntries S W (map ruleIn rs))
+    pub borne : take i marks ≡ map markIn rs
+    pub left : rulesFrom marking src S W (R - i) at rs ≡ whole
 
-  pub none-passed : (keys rules : List ℕ) → Passed 0 start keys rules
+  pub none-passed : (keys rules marks : List ℕ) → Passed 0 start keys rules marks
   unfolding rulesEntries
-  none-passed keys rules =
+  none-passed keys rules marks =
       let all : R - 0 ≡ R = omega arith in
-      record { rs = []; size = refl; keyed = keyed-none alike ruleBy keyOf Sound; rows = refl; left = rw all }
+      record { rs = []; size = refl; keyed = keyed-none alike ruleBy keyOf Sound; rows = refl; borne = refl; left = rw all }
 
-  -- a refusal leaves the array open
-  told-refused : (n : ℕ) (rules : List ℕ) → failed n ≡ whole → RulesTold src S W R start (Refused n) rules
-  told-refused n rules e = record { answer = rw (← e); rows = rw (← e) tt; near = tt }
+  -- a refusal leaves the arrays open
+  told-refused : (n : ℕ) (rules marks : List ℕ) → failed n ≡ whole → RulesTold marking src S W R start (Refused n) rules marks
+  told-refused n rules marks e = record { answer = rw (← e); rows = rw (← e) tt; near = tt }
 
-  module _ {i at : ℕ} {keys rules : List ℕ} (p : Passed i at keys rules) where
-    pub all-passed : i ≡ R → at ≤ start + 41 * 256 → 5 * i ≤ length rules → RulesTold src S W R start (Number R (record { at = at })) rules
+  module _ {i at : ℕ} {keys rules marks : List ℕ} (p : Passed i at keys rules marks) where
+    pub all-passed : i ≡ R → at ≤ start + 42 * 256 → 5 * i ≤ length rules → i ≤ length marks
+        → RulesTold marking src S W R start (Number R (record { at = at })) rules marks
     unfolding unlikeFrom
-    all-passed e h room =
+    all-passed e h room space =
         let done : R - i ≡ 0 = omega arith in
         let w : parsed (p .rs) at ≡ whole = rw done at (p .left) in
         let size : length (p .rs) ≡ R = omega (arith, p .size) in
-        let count : length (values (rulesEntries S W (p .rs))) ≡ 5 * i = rw (← p .rows) (length-take-le (5 * i) rules room) in
-        record { answer = rw (← w, size); rows = rw (← w, count) (p .rows); near = (refl, h) }
+        let count : length (values (rulesEntries S W (map ruleIn (p .rs)))) ≡ 5 * i = rw (← p .rows) (length-take-le (5 * i) rules room) in
+        let few : length (map markIn (p .rs)) ≡ i = rw (← p .borne) (length-take-le i marks space) in
+        record { answer = rw (← w, size); rows = rw (← w, count, few) (p .rows, p .borne); near = (refl, h) }
 
     one-more : i < R → R - i ≡ suc (R - (i + 1))
     one-more l = omega arith
 
-    module _ (l : i < R) (r : rule.RuleRead) (told : ruleRead r ≡ ruleFrom src S W at) where
-      pub rule-refused : {n : ℕ} → r ≡ rule.the-variants.Refused n → RulesTold src S W R start (Refused n) rules
+    module _ (l : i < R) (r : read.MarkedRead) (told : markedRead r ≡ markedRuleFrom marking src S W at) where
+      pub rule-refused : {n : ℕ} → r ≡ read.the-variants.Refused n → RulesTold marking src S W R start (Refused n) rules marks
       unfolding unlikeFrom
-      rule-refused {n} e = told-refused n rules (rw (one-more l, ← told, e) at (p .left))
+      rule-refused {n} e = told-refused n rules marks (rw (one-more l, ← told, e) at (p .left))
 
-      module _ {n : RuleNumbers} {c : Cursor} (sound : Sound n) (e : r ≡ rule.the-variants.Rule n c) {seen : Bool} (s : seen ≡ among (keyOf n) (take i keys)) where
-        pub rule-repeated : seen ≡ true → RulesTold src S W R start (Refused 6) rules
+      module _ {n : RuleNumbers} {m : ℕ} {c : Cursor} (sound : Sound n) (e : r ≡ read.the-variants.Rule n m c) {seen : Bool}
+          (s : seen ≡ among (keyOf n) (take i keys)) where
+        -- the keys tell whether the rule is like an earlier one
+        alike-seen : anyLike markedAlike (marked (ruleBy n) m) (p .rs) ≡ seen
+        alike-seen = like-unmarked (marked (ruleBy n) m) (p .rs) ∙ p .keyed n sound ∙ sym s
+
+        pub rule-repeated : seen ≡ true → RulesTold marking src S W R start (Refused 6) rules marks
         unfolding unlikeFrom
-        rule-repeated t = told-refused 6 rules (rw (one-more l, ← told, e, p .keyed n sound, ← s, t) at (p .left))
+        rule-repeated t = told-refused 6 rules marks (rw (one-more l, ← told, e, alike-seen, t) at (p .left))
 
         pub rule-passed : seen ≡ false → (k : ℕ) → k ≡ keyOf n → i < length keys → (array : List ℕ) → take (5 * i + 5) array ≡ take (5 * i) rules ++ row n
-            → Passed (i + 1) (c .at) (set keys i k) array
+            → i < length marks → Passed (i + 1) (c .at) (set keys i k) array (set marks i m)
         unfolding unlikeFrom
-        rule-passed f k key room array stored =
+        rule-passed f k key room array stored space =
             let five : 5 * (i + 1) ≡ 5 * i + 5 = omega arith in
+            let more : map ruleIn (p .rs ++ (marked (ruleBy n) m ∷ [])) ≡ map ruleIn (p .rs) ++ (ruleBy n ∷ []) = map-append ruleIn (p .rs) (marked (ruleBy n) m ∷ []) in
             record {
-              rs = p .rs ++ (ruleBy n ∷ []);
+              rs = p .rs ++ (marked (ruleBy n) m ∷ []);
               size = simp length-append (omega (arith, p .size));
-              keyed = rules-keyed-more (p .rs) keys i k n sound room key (p .keyed);
-              rows = rw (five, values-snoc, row-values S W n sound, ← p .rows) stored;
-              left = rw (one-more l, ← told, e, p .keyed n sound, ← s, f) at (p .left);
+              keyed = rw more (rules-keyed-more (map ruleIn (p .rs)) keys i k n sound room key (p .keyed));
+              rows = rw (five, more, values-snoc, row-values S W n sound, ← p .rows) stored;
+              borne = rw (add-one i, take-suc-set marks i m space, p .borne, map-append markIn (p .rs) (marked (ruleBy n) m ∷ []));
+              left = rw (one-more l, ← told, e, alike-seen, f) at (p .left);
             }

@@ -1,11 +1,12 @@
--- The parts of the reader of a grammar's rules, for the contracts of its functions: document 01, "Packed blocks". Assumes
--- nothing.
+-- The parts of the reader of a grammar's rules, for the contracts of its functions: document 01, "Packed blocks", and document 02, N5.
+-- Assumes nothing.
 use mathlib.Core.Path.{_≡_}
-use mathlib.Core.List.{List, [], _∷_}
+use mathlib.Core.List.{List, [], _∷_, map}
 use mathlib.Core.Bool.{Bool}
 use Prim.Native.Nat.{ℕ, _+_, _-_, _*_, _≤_}
 use lib.Dec.{eqb}
 use lib.ListN.{length}
+use Rattle.packing.specs.Meaning.{MarkedRule, marked, ruleIn, markIn}
 use Rattle.packing.specs.Parse.{Parse, parsed, failed}
 use Rattle.packing.specs.Source.{Source, values}
 use Rattle.packing.specs.Read.{readOf}
@@ -18,6 +19,7 @@ use Rattle.packing.specs.declared.Read.the-variants.{Number}
 use Rattle.packing.specs.declared.Read as read
 use Rattle.rules_reader.specs.declared.RuleNumbers.{RuleNumbers}
 use Rattle.rules_reader.specs.declared.RuleRead as rule
+use Rattle.rules_reader.specs.declared.MarkedRead as marking
 
 -- the rule of five numbers, and what was read as a rule
 abbrev pub ruleBy : RuleNumbers → rules.Rule
@@ -38,6 +40,15 @@ abbrev pub RuleNear : ℕ → rule.RuleRead → Type 0
 RuleNear most (rule.the-variants.Rule n c) = Sound n × (c .at ≤ most)
 RuleNear most (rule.the-variants.Refused n) = Unit {0}
 
+-- what was read as a rule with its mark
+abbrev pub markedRead : marking.MarkedRead → Parse MarkedRule
+markedRead (marking.the-variants.Rule n m c) = parsed (marked (ruleBy n) m) (c .at)
+markedRead (marking.the-variants.Refused n) = failed n
+
+abbrev pub MarkedNear : ℕ → marking.MarkedRead → Type 0
+MarkedNear most (marking.the-variants.Rule n m c) = Sound n × (c .at ≤ most)
+MarkedNear most (marking.the-variants.Refused n) = Unit {0}
+
 -- the numbers in their order
 abbrev pub row : RuleNumbers → List ℕ
 row n = n .kind ∷ n .head ∷ n .weight ∷ n .first ∷ n .second ∷ []
@@ -50,20 +61,20 @@ abbrev pub among : ℕ → List ℕ → Bool
 among k xs = anyLike eqb k xs
 
 -- how many rules were read
-abbrev pub counted : Parse (List rules.Rule) → Parse ℕ
+abbrev pub counted : Parse (List MarkedRule) → Parse ℕ
 counted (parsed rs at) = parsed (length rs) at
 counted (failed n) = failed n
 
-abbrev pub RowsIn : ℕ → ℕ → Parse (List rules.Rule) → List ℕ → Type 0
-RowsIn S W (parsed rs at) array = Begins (values (rulesEntries S W rs)) array
-RowsIn S W (failed n) array = Unit {0}
+abbrev pub RowsIn : ℕ → ℕ → Parse (List MarkedRule) → List ℕ → List ℕ → Type 0
+RowsIn S W (parsed rs at) rules marks = Begins (values (rulesEntries S W (map ruleIn rs))) rules × Begins (map markIn rs) marks
+RowsIn S W (failed n) rules marks = Unit {0}
 
 abbrev pub CountNear : ℕ → ℕ → Read → Type 0
 CountNear count most (Number v c) = (v ≡ count) × (c .at ≤ most)
 CountNear count most (read.the-variants.Refused n) = Unit {0}
 
--- what reading the rules from a place promises of its answer and of the array
-pub record RulesTold (src : Source) (S W R at : ℕ) (r : Read) (array : List ℕ) : Type 0 where
-  pub answer : r ≡ readOf (counted (rulesFrom src S W R at []))
-  pub rows : RowsIn S W (rulesFrom src S W R at []) array
-  pub near : CountNear R (at + 41 * 256) r
+-- what reading the rules from a place promises of its answer and of the arrays
+pub record RulesTold (marking : Bool) (src : Source) (S W R at : ℕ) (r : Read) (rules marks : List ℕ) : Type 0 where
+  pub answer : r ≡ readOf (counted (rulesFrom marking src S W R at []))
+  pub rows : RowsIn S W (rulesFrom marking src S W R at []) rules marks
+  pub near : CountNear R (at + 42 * 256) r

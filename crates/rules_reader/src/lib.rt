@@ -1,4 +1,5 @@
-// The rules of a grammar, read from a block or a sheet into a flat array of numbers that the caller lends: five for each rule.
+// The rules of a grammar, read from a block or a sheet into flat arrays of numbers that the caller lends: five for each rule, and its
+// mark.
 use bits::MAX_BELOW;
 use bits::MAX_WIDTH;
 use packing::Cursor;
@@ -6,6 +7,7 @@ use packing::Field;
 use packing::Read;
 use packing::Source;
 use packing::format;
+use packing::format::MAX_MARKED_RULE_WIDTH;
 use packing::format::MAX_RULE_WIDTH;
 use packing::format::MAX_RULES;
 use packing::format::NUMBERS_PER_RULE;
@@ -17,16 +19,24 @@ ghost use mathlib.Core.List.{_++_};
 ghost use Prim.Native.Nat.{_+_, _-_, _*_, _^_, _≤_, _<_};
 ghost use lib.ListN.{length, take};
 ghost use Rattle.packing.specs.Source.{within};
-ghost use Rattle.packing.specs.Read.{sourceOf};
+ghost use Rattle.packing.specs.Read.{readOf, sourceOf};
 ghost use Rattle.bits.specs.Width.{widthOf};
 ghost use Rattle.packing.specs.Ranges.{Ranges};
-ghost use Rattle.packing.specs.Grammar.{symbol, firstOf, secondOf, ruleFrom};
-ghost use Rattle.rules_reader.specs.Rules.{ruleRead, RuleNear, Sound, row, keyOf, among, RulesTold};
+ghost use Rattle.packing.specs.Grammar.{symbol, firstOf, secondOf, ruleFrom, markFrom, markedRuleFrom};
+ghost use Rattle.rules_reader.specs.Rules.{ruleRead, RuleNear, markedRead, MarkedNear, Sound, row, keyOf, among, RulesTold};
 
 // S and W, on which the fields of a rule depend.
 pub struct Vocabulary {
     pub symbols: u32,
     pub words: u32,
+}
+
+// What decides how rules are read: S and W, how many there are, and whether each bears a mark.
+pub struct RulesForm {
+    pub symbols: u32,
+    pub words: u32,
+    pub count: u32,
+    pub marked: bool,
 }
 
 // The five numbers of a rule. For a word rule, kind 1, the first is the word and the second 0.
@@ -41,6 +51,12 @@ struct RuleNumbers {
 // A rule's numbers and the next place, or the refusal.
 enum RuleRead {
     Rule(RuleNumbers, Cursor),
+    Refused(u32),
+}
+
+// A rule's numbers, its mark and the next place, or the refusal.
+enum MarkedRead {
+    Rule(RuleNumbers, u32, Cursor),
     Refused(u32),
 }
 
@@ -59,7 +75,7 @@ fn below(n: u32, refusal: u32) -> Field
 }
 
 // The field of a symbol.
-fn symbol_of(v: Vocabulary) -> Field
+pub fn symbol_of(v: Vocabulary) -> Field
     requires { ⌜ Ranges (v .symbols) (v .words) ⌝ }
     ensures { λ f. do ⌜ (f ≡ symbol (v .symbols)) × (f .width ≤ (← ⟦MAX_WIDTH⟧ .entry)) ⌝ }
 {
@@ -67,7 +83,7 @@ fn symbol_of(v: Vocabulary) -> Field
 }
 
 // The field of the first number of a rule's body.
-fn first_of(v: Vocabulary, kind: u32) -> Field
+pub fn first_of(v: Vocabulary, kind: u32) -> Field
     requires { ⌜ Ranges (v .symbols) (v .words) ⌝ }
     ensures { λ f. do ⌜ (f ≡ firstOf (v .symbols) (v .words) kind) × (f .width ≤ (← ⟦MAX_WIDTH⟧ .entry)) ⌝ }
 {
@@ -127,6 +143,43 @@ fn read_rule(src: Source, block: &[u8], sheet: &[u32], at: usize, v: Vocabulary)
     RuleRead::Rule(numbers, c)
 }
 
+// The mark of a rule at a place of the source, where rules bear marks, and otherwise none.
+fn read_mark(src: Source, block: &[u8], sheet: &[u32], at: usize, marked: bool) -> Read
+    requires { ⌜ at < 2 ^ 17 ⌝ }
+    ensures { λ r. ⌜ r ≡ readOf (markFrom marked (sourceOf src (now (block .entry)) (now (sheet .entry))) at) ⌝ }
+{
+    if marked {
+        return packing::field_at(src, block, sheet, at, format::MARK_FIELD);
+    }
+    Read::Number(format::UNMARKED, Cursor { at: at })
+}
+
+// The rule at a place of the source with its mark.
+fn read_marked(
+    src: Source,
+    block: &[u8],
+    sheet: &[u32],
+    at: usize,
+    v: Vocabulary,
+    marked: bool,
+) -> MarkedRead
+    requires { ⌜ (at < 2 ^ 16) × Ranges (v .symbols) (v .words) ⌝ }
+    ensures { λ r. do ⌜ (markedRead r ≡ markedRuleFrom marked (sourceOf src (now (block .entry)) (now (sheet .entry))) (v .symbols) (v .words) at) × MarkedNear (at + (← ⟦MAX_MARKED_RULE_WIDTH⟧ .entry)) r ⌝ }
+{
+    let rule = read_rule(src, block, sheet, at, v);
+    match rule {
+        RuleRead::Refused(n) => MarkedRead::Refused(n),
+        RuleRead::Rule(numbers, c) => {
+            let at = c.at;
+            let read = read_mark(src, block, sheet, at, marked);
+            match read {
+                Read::Refused(n) => MarkedRead::Refused(n),
+                Read::Number(mark, c) => MarkedRead::Rule(numbers, mark, c),
+            }
+        }
+    }
+}
+
 // How many values a head and each number of a body have at most, in a rule's key.
 const KEY_HEADS: u32 = format::MAX_SYMBOLS as u32;
 
@@ -170,36 +223,45 @@ fn store_rule(rules: &mut [u32], i: usize, numbers: RuleNumbers)
     rules[at + format::RULE_SECOND_AT] = numbers.second;
 }
 
-// The rules, from a place of the source, with their numbers into the array: how many, and the next place.
+// The rules, from a place of the source, with their numbers and their marks into the arrays: how many, and the next place.
 pub fn read_rules(
     src: Source,
     block: &[u8],
     sheet: &[u32],
     start: usize,
-    v: Vocabulary,
-    count: u32,
+    form: RulesForm,
     rules: &mut [u32],
+    marks: &mut [u32],
 ) -> Read
-    requires { do ⌜ (start < 2 ^ 8) × Ranges (v .symbols) (v .words) × (count ≤ (← ⟦MAX_RULES⟧)) × ((← ⟦RULES_LENGTH⟧) ≤ length (now rules)) ⌝ }
-    ensures { λ r. ⌜ RulesTold (sourceOf src (now (block .entry)) (now (sheet .entry))) (v .symbols) (v .words) count start r (now (rules .exit)) ⌝ }
+    requires { do
+      ⌜ (start < 2 ^ 8) × Ranges (form .symbols) (form .words) × (form .count ≤ (← ⟦MAX_RULES⟧))
+          × ((← ⟦RULES_LENGTH⟧) ≤ length (now rules)) × ((← ⟦MAX_RULES⟧) ≤ length (now marks)) ⌝ }
+    ensures { λ r. ⌜ RulesTold (form .marked) (sourceOf src (now (block .entry)) (now (sheet .entry))) (form .symbols) (form .words) (form .count) start r (now (rules .exit)) (now (marks .exit)) ⌝ }
 {
+    let v = Vocabulary {
+        symbols: form.symbols,
+        words: form.words,
+    };
+    let marked = form.marked;
+    let count = form.count;
     let end = count as usize;
     let mut keys = [0u32; MAX_RULES];
     let mut at = start;
     let mut i: usize = 0;
     while i < end {
-        let read = read_rule(src, block, sheet, at, v);
+        let read = read_marked(src, block, sheet, at, v, marked);
         match read {
-            RuleRead::Refused(n) => {
+            MarkedRead::Refused(n) => {
                 return Read::Refused(n);
             }
-            RuleRead::Rule(numbers, c) => {
+            MarkedRead::Rule(numbers, mark, c) => {
                 let key = rule_key(numbers);
                 if seen(&keys, i, key) {
                     return Read::Refused(refused::GRAMMAR_REPEAT);
                 }
                 keys[i] = key;
                 store_rule(rules, i, numbers);
+                marks[i] = mark;
                 at = c.at;
                 i += 1;
             }

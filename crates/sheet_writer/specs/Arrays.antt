@@ -1,18 +1,29 @@
 -- The fields of a grammar and of an utterance that stand in a flat array of numbers, for the contracts of the writers:
 -- document 01, "Packed blocks". Assumes nothing.
-use mathlib.Core.List.{List, _∷_}
-use Prim.Native.Nat.{ℕ, _+_, _-_, _*_, _/_}
+use mathlib.Core.Bool.{Bool}
+use mathlib.Core.List.{List, [], _∷_, _++_}
+use Prim.Native.Nat.{ℕ, zero, suc, _+_, _-_, _*_, _/_}
+use lib.ListN.{getD}
 use Rattle.bits.specs.Bits.{pack}
 use Rattle.bits.specs.Width.{widthOf}
 use Rattle.bits.specs.Fields.{Fld, fld, bitsOfAll}
 use Rattle.packing.specs.Source.{flds}
-use Rattle.packing.specs.Grammar.{rulesEntries}
+use Rattle.packing.specs.Grammar.{kindNumber, markedRulesEntries}
 use Rattle.packing.specs.Utterance.{candidatesEntries, slotsEntries}
-use Rattle.packing.specs.Flat.{rulesAt, candidatesOf, slotsOf}
+use Rattle.packing.specs.Flat.{markedRulesAt, candidatesOf, slotsOf}
 
--- the fields of n rules of an array, from rule r on
-abbrev pub rulesFields : ℕ → ℕ → List ℕ → ℕ → ℕ → List Fld
-rulesFields S W l r n = flds (rulesEntries S W (rulesAt l r n))
+-- the fields of n rules of an array, from rule r on, with their marks where rules bear marks
+abbrev pub rulesFields : Bool → ℕ → ℕ → List ℕ → List ℕ → ℕ → ℕ → List Fld
+rulesFields marking S W l marks r n = flds (markedRulesEntries marking S W (markedRulesAt l marks r n))
+
+-- six numbers for each of n rules, from rule r on: the five of one array, and the mark that stands in the other
+abbrev pub markedRow : List ℕ → List ℕ → ℕ → List ℕ
+markedRow l marks r =
+    getD l (5 * r) 0 ∷ getD l (5 * r + 1) 0 ∷ getD l (5 * r + 2) 0 ∷ getD l (5 * r + 3) 0 ∷ getD l (5 * r + 4) 0 ∷ getD marks r 0 ∷ []
+
+unfoldable pub markedRows : List ℕ → List ℕ → ℕ → ℕ → List ℕ
+markedRows l marks r zero = []
+markedRows l marks r (suc n) = markedRow l marks r ++ markedRows l marks (suc r) n
 
 -- the fields of n candidates, whose words and costs stand from place p on
 abbrev pub candidatesFields : ℕ → List ℕ → ℕ → ℕ → List Fld
@@ -27,8 +38,8 @@ abbrev pub slotsBits : ℕ → ℕ → ℕ → ℕ
 slotsBits W n m = 3 * n + (m - n) / 2 * (widthOf (W - 1) + 16)
 
 -- the fields of a grammar of n rules, and of an utterance of n slots
-abbrev pub grammarFields : ℕ → ℕ → ℕ → List ℕ → List Fld
-grammarFields S W n l = fld 4 1 ∷ fld 6 S ∷ fld 8 W ∷ fld 9 n ∷ rulesFields S W l 0 n
+abbrev pub grammarFields : Bool → ℕ → ℕ → ℕ → List ℕ → List ℕ → List Fld
+grammarFields marking S W n l marks = fld 4 (kindNumber marking) ∷ fld 6 S ∷ fld 8 W ∷ fld 9 n ∷ rulesFields marking S W l marks 0 n
 
 abbrev pub utteranceFields : ℕ → ℕ → List ℕ → List Fld
 utteranceFields W n l = fld 4 2 ∷ fld 6 n ∷ slotsFields W l 0 n

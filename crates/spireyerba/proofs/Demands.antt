@@ -7,27 +7,40 @@ use native.Mathlib.Omega.{arith}
 use borrow.Author.Tests.{le-ltb}
 use lib.Ieee.{Float}
 use lib.IntN.{ℤ, pos, negℤ}
+use lib.Dec.{ltb}
 use lib.ListN.{length, take, drop}
+use lib.Seq.{take-at}
 use Rattle.packing.specs.Parse.{Verdict, accepted, refused}
 use Rattle.packing.specs.Conversion.{grammarToBlock, grammarToSheet, utteranceToBlock, utteranceToSheet, fitting, written, TurnsBack}
-use Rattle.packing.proofs.Parse.{refused≢accepted, accepted-is}
+use Rattle.packing.specs.Grammar.{markedBlock, grammarBlock, blockOfMarked}
+use Rattle.packing.proofs.Parse.{refused≢accepted, accepted-is, accepted-else}
+use Rattle.packing.proofs.Parse as P
 use Rattle.packing.proofs.Refusals.{Refuses, granted, denied, Low, grammar-to-block-row, grammar-to-sheet-row, utterance-to-block-row, utterance-to-sheet-row}
 use Rattle.sheet_writer.specs.Answer.{writtenOf}
 use Rattle.packing.specs.declared.Written as W
+use Rattle.office.specs.Office.{Office}
+use Rattle.office.specs.Sheet.{officeSheet}
+use Rattle.office.specs.Conversion.{convertMarked}
+use Rattle.office.proofs.Marked.{marked-grammar}
+use Rattle.office_conversion.specs.Answer.{officeGrammar}
+use Rattle.office_conversion.proofs.Limits.{limited}
+use Rattle.office_block.specs.Block.{officeToBlock}
+use Rattle.office_block.proofs.Refused.{office-to-block-row}
+use Rattle.office_theory.proofs.Theorems.{derivations-match, result-accepted}
 use Rattle.derivation.specs.Derivation.{Tree}
 use Rattle.checker.specs.Check.{check, checkedOf, OfDerivation}
 use Rattle.checker.specs.declared.Checked as C
 use Rattle.checker.proofs.Refused.{check-row, refused-34, refused-35, refused-36}
 use Rattle.chance.specs.Chance.{chance, chanceOf, Shown}
-use Rattle.chance.specs.declared.Outcome as P
+use Rattle.chance.specs.declared.Outcome as Chance
 use Rattle.chance.proofs.Shown.{chance-row}
 use Rattle.listing.specs.Listing.{list, outputAfter, workAfter}
 use Rattle.listing.proofs.Demand3.{demand-3}
 use Rattle.listing.proofs.Refused.{list-row}
 use Rattle.spireyerba.specs.Code.{codeOf, chanceAfter}
 use Rattle.spireyerba.specs.Demands as D
-use Rattle.spireyerba.specs.Demands.{Demand1, answers, refuses, Converts, RoundTrip, Demand2}
-use Rattle.spireyerba.proofs.Small.{low-grammar-to-block, low-grammar-to-sheet, low-utterance-to-block, low-utterance-to-sheet, low-check, low-chance}
+use Rattle.spireyerba.specs.Demands.{Demand1, answers, refuses, Converts, Result, RoundTrip, Demand2}
+use Rattle.spireyerba.proofs.Small.{low-grammar-to-block, low-grammar-to-sheet, low-office-to-block, low-utterance-to-block, low-utterance-to-sheet, low-check, low-chance}
 
 -- the code of an answer is not a refusal's, and the other way round
 pub low-code : (m n : ℕ) → 1 ≤ m → negℤ (pos m) ≡ pos n → ⊥
@@ -79,6 +92,31 @@ pub grammar-to-sheet : (block out : List ℕ) {out′ : List ℕ} {code : ℤ} {
     → TurnsBack grammarToBlock block (λ n. r ≡ W.the-variants.Length n) out′ → D.GrammarToSheet block out code out′
 grammar-to-sheet block out = converts grammarToSheet block out (grammar-to-sheet-row block out) (low-grammar-to-sheet block out)
 
+-- an office sheet: what was written is the block of the converted grammar
+office-result : (sheet : List ℕ) {l : List ℕ} → officeToBlock sheet ≡ accepted l → (o : Office) × (officeSheet sheet ≡ accepted o) × Result o l
+unfolding officeToBlock grammarBlock
+office-result sheet e =
+    P.granted (officeGrammar sheet) _ e λ o p q.
+    let l = limited sheet p in
+    let marked : markedBlock (blockOfMarked (convertMarked o)) ≡ accepted (convertMarked o) = result-accepted o (l .valid) (l .symbols) (l .rules) in
+    (o, l .read, rw (← accepted-is q) (record { marked = marked; grammar = rw marked (ap accepted (marked-grammar o)); matching = derivations-match o (l .valid) }))
+
+pub office-to-block : (sheet out : List ℕ) {out′ : List ℕ} {code : ℤ} → code ≡ codeOf length (fitting (officeToBlock sheet) out)
+    → out′ ≡ written (fitting (officeToBlock sheet) out) out → D.OfficeToBlock sheet out code out′
+unfolding fitting
+office-to-block sheet out {out′} e w = record {
+  demand-1 = first length (office-to-block-row sheet out) e (λ l p. (refl, rw p at w)) (λ n p. rw p at w);
+  result = λ n h. let (l, p, m) = accepted-code length (low-office-to-block sheet out) e h in go n l p m;
+}
+  where
+    go : (n : ℕ) (l : List ℕ) → fitting (officeToBlock sheet) out ≡ accepted l → length l ≡ n
+        → (o : Office) × (officeSheet sheet ≡ accepted o) × Result o (take n out′)
+    go n l p m =
+        let front : take n out′ ≡ l = rw (rw p at w) (take-at l (drop (length l) out) n m) in
+        P.granted (officeToBlock sheet) _ p λ k a b.
+        let same : k ≡ l = accepted-is (accepted-else (ltb (length out) (length k)) 43 (accepted k) b .1) in
+        rw front (office-result sheet (rw same at a))
+
 pub utterance-to-block : (grammar sheet out : List ℕ) {out′ : List ℕ} {code : ℤ} {r : W.Written}
     → code ≡ codeOf length (fitting (utteranceToBlock grammar sheet) out) → out′ ≡ written (fitting (utteranceToBlock grammar sheet) out) out
     → r ≡ writtenOf (fitting (utteranceToBlock grammar sheet) out)
@@ -129,9 +167,9 @@ module _ (grammar utterance reading : List ℕ) where
 
 -- the chance: a code of 0 is no refusal's, so the chance was written
 module _ (grammar heard reading shares : List ℕ) where
-  pub chances : {code : ℤ} {float float′ : Float} {r : P.Outcome} → code ≡ codeOf (λ x. 0) (chance grammar heard reading shares)
+  pub chances : {code : ℤ} {float float′ : Float} {r : Chance.Outcome} → code ≡ codeOf (λ x. 0) (chance grammar heard reading shares)
       → float′ ≡ chanceAfter (chance grammar heard reading shares) float → r ≡ chanceOf (chance grammar heard reading shares)
-      → ((x : Float) → r ≡ P.the-variants.Product x → Shown grammar heard reading shares x)
+      → ((x : Float) → r ≡ Chance.the-variants.Product x → Shown grammar heard reading shares x)
       → D.Chance grammar heard reading shares float code float′
   chances {float = float} e w told shown = record {
     demand-1 = first (λ x. 0) (chance-row grammar heard reading shares) e (λ x p. (refl, w ∙ rw p)) (λ n p. w ∙ rw p);

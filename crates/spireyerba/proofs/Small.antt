@@ -1,4 +1,4 @@
--- Every answer fits a C number: results are at most 1,283 long, and refusals from 1 to 63. Assumes nothing.
+-- Every answer fits a C number: results are at most 1,539 long, and refusals from 1 to 63. Assumes nothing.
 use mathlib.Core.Bool.{Bool, true, false}
 use mathlib.Core.Logic.{⊎-elim}
 use mathlib.Core.Path.{_≡_, refl, ap}
@@ -10,19 +10,25 @@ use borrow.Author.Tests.{ltb-false}
 use lib.Dec.{ltb}
 use lib.ListN.{length}
 use Rattle.bits.specs.Bits.{pick}
-use Rattle.packing.specs.Meaning.{Grammar, Utterance}
+use Rattle.packing.specs.Meaning.{Grammar, Marked, Utterance}
 use Rattle.packing.specs.Parse.{Verdict, accepted, refused, _then_}
-use Rattle.packing.specs.Grammar.{grammarBlock, grammarSheet, grammarEntries, sheetOfGrammar}
+use Rattle.packing.specs.Grammar.{grammarBlock, markedBlock, markedSheet, blockOfMarked, sheetOfMarked}
 use Rattle.packing.specs.Utterance.{utteranceBlock, utteranceSheet, utteranceEntries, sheetOfUtterance}
 use Rattle.packing.specs.Heard.{heardBlock}
 use Rattle.packing.specs.Conversion.{grammarToBlock, grammarToSheet, utteranceToBlock, utteranceToSheet, fitting}
 use Rattle.packing.specs.Rows.{Between, _∪_, GrammarBlockRow, UtteranceBlockRow, HeardBlockRow, ListingRow}
-use Rattle.packing.specs.Valid.{ValidGrammar, ValidUtterance}
-use Rattle.packing.proofs.Bounds.{length-rules, length-slots}
+use Rattle.packing.specs.Valid.{ValidMarked, ValidUtterance}
+use Rattle.packing.proofs.Bounds.{length-slots}
 use Rattle.packing.proofs.Parse as P
 use Rattle.packing.proofs.Widths.{grammar-length, utterance-length, valid-words}
-use Rattle.packing.proofs.Whole.{grammar-block-out, grammar-sheet-out, utterance-block-out, utterance-sheet-out}
+use Rattle.packing.proofs.Whole.{grammar-block-out, marked-block-out, marked-sheet-out, sheet-length, utterance-block-out, utterance-sheet-out}
 use Rattle.packing.proofs.Refusals.{Refuses, granted, denied, Low, wider, low-both, grammar-to-block-row, grammar-to-sheet-row, utterance-to-block-row, utterance-to-sheet-row}
+use Rattle.office.specs.Conversion.{convertMarked}
+use Rattle.office_conversion.specs.Answer.{officeGrammar}
+use Rattle.office_conversion.proofs.Limits.{limited}
+use Rattle.office_block.specs.Block.{officeToBlock}
+use Rattle.office_block.proofs.Refused.{office-to-block-row}
+use Rattle.office_theory.proofs.Accepted.{marked-valid}
 use Rattle.checker.specs.Check.{check}
 use Rattle.checker.proofs.Refused.{check-row}
 use Rattle.chance.specs.Chance.{chance}
@@ -36,9 +42,9 @@ use Rattle.specimen.proofs.Asked.{asked-out, asked-row}
 use Rattle.spireyerba.proofs.Searches.{Search}
 use Rattle.spireyerba.proofs.Codes.{Small, small-size, small-refusal, Wanted, as-long, no-string, refusal}
 
--- a result of at most 1,283
+-- a result of at most 1,539
 data Short : Verdict (List ℕ) → Type 0 where
-  short : {l : List ℕ} → length l ≤ 1283 → Short (accepted l)
+  short : {l : List ℕ} → length l ≤ 1539 → Short (accepted l)
   none : {n : ℕ} → Short (refused n)
 
 fitting-short : {v : Verdict (List ℕ)} (out : List ℕ) → Short v → Short (fitting v out)
@@ -54,11 +60,18 @@ then-short : {A : Type 0} (v : Verdict A) (k : A → Verdict (List ℕ)) → ((a
 then-short (accepted a) k h = h a refl
 then-short (refused n) k h = none
 
-sheet-short : (g : Grammar) → ValidGrammar g → length (sheetOfGrammar g) ≤ 1283
-unfolding sheetOfGrammar grammarEntries
-sheet-short g v = omega (arith, length-rules (g .symbols) (g .words) (g .rules), v .0 .1 .1 .0 .1)
+-- whether it has marks or not
+more-marked : (b : Bool) (n : ℕ) → pick b n 0 ≤ n
+more-marked false n = omega arith
+more-marked true n = omega arith
 
-slots-short : (W : ℕ) (u : Utterance) → ValidUtterance W u → length (sheetOfUtterance W u) ≤ 1283
+block-short : (m : Marked) → ValidMarked m → length (blockOfMarked m) ≤ 1539
+block-short m v = omega (arith, grammar-length m v, more-marked (m .marking) 32)
+
+sheet-short : (m : Marked) → ValidMarked m → length (sheetOfMarked m) ≤ 1539
+sheet-short m v = omega (arith, sheet-length m v, more-marked (m .marking) 256)
+
+slots-short : (W : ℕ) (u : Utterance) → ValidUtterance W u → length (sheetOfUtterance W u) ≤ 1539
 unfolding sheetOfUtterance utteranceEntries
 slots-short W u v = omega (arith, length-slots W u (v .1), v .0 .1)
 
@@ -71,6 +84,11 @@ low-grammar-to-block t out = wider (low-both (low-sheet (omega arith) (omega ari
 
 pub low-grammar-to-sheet : (s out : List ℕ) → Refuses Low (fitting (grammarToSheet s) out)
 low-grammar-to-sheet s out = wider (low-both (λ n r. omega (arith, r)) (λ n r. omega (arith, r))) (grammar-to-sheet-row s out)
+
+pub low-office-to-block : (s out : List ℕ) → Refuses Low (fitting (officeToBlock s) out)
+low-office-to-block s out =
+    wider (low-both (low-both (low-both (low-sheet (omega arith) (omega arith)) (λ n r. omega (arith, r))) (λ n r. omega (arith, r))) (λ n r. omega (arith, r)))
+    (office-to-block-row s out)
 
 pub low-utterance-to-block : (s t out : List ℕ) → Refuses Low (fitting (utteranceToBlock s t) out)
 low-utterance-to-block s t out =
@@ -106,13 +124,19 @@ small none (denied {n} h) = small-refusal {n = n} (omega arith)
 pub small-grammar-block : (t out : List ℕ) → Small length (fitting (grammarToBlock t) out)
 unfolding grammarToBlock
 small-grammar-block t out =
-    small (fitting-short out (then-short (grammarSheet t) _ (λ g e. short (omega (arith, grammar-length g (grammar-sheet-out t g e .0))))))
-    (low-grammar-to-block t out)
+    small (fitting-short out (then-short (markedSheet t) _ (λ m e. short (block-short m (marked-sheet-out t m e .0))))) (low-grammar-to-block t out)
 
 pub small-grammar-sheet : (s out : List ℕ) → Small length (fitting (grammarToSheet s) out)
 unfolding grammarToSheet
 small-grammar-sheet s out =
-    small (fitting-short out (then-short (grammarBlock s) _ (λ g e. short (sheet-short g (grammar-block-out s g e .0))))) (low-grammar-to-sheet s out)
+    small (fitting-short out (then-short (markedBlock s) _ (λ m e. short (sheet-short m (marked-block-out s m e .0))))) (low-grammar-to-sheet s out)
+
+pub small-office-block : (s out : List ℕ) → Small length (fitting (officeToBlock s) out)
+unfolding officeToBlock
+small-office-block s out =
+    small (fitting-short out (then-short (officeGrammar s) _ (λ o e.
+    let l = limited s e in
+    short (block-short (convertMarked o) (marked-valid o (l .valid) (l .symbols) (l .rules)))))) (low-office-to-block s out)
 
 pub small-utterance-block : (s t out : List ℕ) → Small length (fitting (utteranceToBlock s t) out)
 unfolding utteranceToBlock

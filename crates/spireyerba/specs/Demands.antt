@@ -10,10 +10,16 @@ use Prim.Native.Nat.{ℕ, zero, suc, _≤_, _<_}
 use lib.Ieee.{Float}
 use lib.IntN.{ℤ, pos, negℤ}
 use lib.ListN.{length, take, drop, replicate}
-use Rattle.packing.specs.Meaning.{Grammar}
+use Rattle.packing.specs.Meaning.{Grammar, Heard}
 use Rattle.packing.specs.Parse.{Verdict, accepted, refused}
+use Rattle.packing.specs.Grammar.{markedBlock, grammarBlock}
 use Rattle.packing.specs.Conversion.{grammarToBlock, grammarToSheet, utteranceToBlock, utteranceToSheet, fitting, TurnsBack}
-use Rattle.packing.specs.Rows.{_∪_, GrammarBlockRow, UtteranceBlockRow, HeardBlockRow, ListingRow, SpecimenRow, ReadingBlockRow, SharesRow, GrammarSheetRow, UtteranceSheetRow, OutputRow}
+use Rattle.packing.specs.Rows.{_∪_, GrammarBlockRow, UtteranceBlockRow, HeardBlockRow, ListingRow, SpecimenRow, ReadingBlockRow, SharesRow, GrammarSheetRow, UtteranceSheetRow, OfficeSheetRow, OfficeSizeRow, OutputRow}
+use Rattle.office.specs.Office.{Office}
+use Rattle.office.specs.Sheet.{officeSheet}
+use Rattle.office.specs.Conversion.{convert, convertMarked}
+use Rattle.office_block.specs.Block.{officeToBlock}
+use Rattle.office_theory.specs.Matching.{Match}
 use Rattle.derivation.specs.Derivation.{At}
 use Rattle.derivation.specs.Rank.{_∈_}
 use Rattle.checker.specs.Check.{check, OfDerivation, NoWalk, OtherWeight, Surplus}
@@ -42,6 +48,19 @@ GrammarToBlock sheet out code out′ = Converts grammarToBlock grammarToSheet (G
 
 abbrev pub GrammarToSheet : (block out : List ℕ) (code : ℤ) (out′ : List ℕ) → Type 0
 GrammarToSheet block out code out′ = Converts grammarToSheet grammarToBlock (GrammarBlockRow ∪ OutputRow) block out code out′
+
+-- The conversion of an office sheet: "The result is a packed grammar of kind 4 .. The office's derivations and the converted grammar's match
+-- one to one, with equal weight" (document 02, N5). The block, as a conversion reads it and as every other service does, is of the
+-- sheet's grammar o in normal form, with and without marks.
+pub record Result (o : Office) (block : List ℕ) : Type 0 where
+  pub marked : markedBlock block ≡ accepted (convertMarked o)
+  pub grammar : grammarBlock block ≡ accepted (convert o)
+  pub matching : (h : Heard) → Match o h
+
+pub record OfficeToBlock (sheet out : List ℕ) (code : ℤ) (out′ : List ℕ) : Type 0 where
+  pub demand-1 : Demand1 (fitting (officeToBlock sheet) out) (λ l n. (n ≡ length l) × (out′ ≡ l ++ drop n out))
+      (OfficeSheetRow ∪ OfficeSizeRow ∪ OutputRow) (out′ ≡ out) code
+  pub result : (n : ℕ) → code ≡ pos n → (o : Office) × (officeSheet sheet ≡ accepted o) × Result o (take n out′)
 
 abbrev pub UtteranceToBlock : (grammar sheet out : List ℕ) (code : ℤ) (out′ : List ℕ) → Type 0
 UtteranceToBlock grammar sheet out code out′ =

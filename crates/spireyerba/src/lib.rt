@@ -10,6 +10,7 @@ ghost use Prim.Native.Nat.{_<_};
 ghost use lib.IntN.{pos, negℤ};
 ghost use lib.ListN.{length};
 ghost use Rattle.packing.specs.Conversion.{grammarToBlock, grammarToSheet, utteranceToBlock, utteranceToSheet, fitting, written};
+ghost use Rattle.office_block.specs.Block.{officeToBlock};
 ghost use Rattle.checker.specs.Check.{check};
 ghost use Rattle.chance.specs.Chance as definition;
 ghost use Rattle.listing.specs.Listing.{list, outputAfter, workAfter};
@@ -64,6 +65,16 @@ pub extern "C" fn spireyerba_grammar_to_sheet(block: &[u8], out: &mut [u32]) -> 
     ensures { λ r. ⌜ demands.GrammarToSheet (now (block .entry)) (now (out .entry)) r (now (out .exit)) ⌝ }
 {
     written_code(grammar_conversion::grammar_to_sheet(block, out))
+}
+
+// The block of an office sheet, a grammar's with marks.
+#[no_mangle]
+pub extern "C" fn spireyerba_office_to_block(sheet: &[u32], out: &mut [u8]) -> i32
+    ensures { λ r. ⌜ r ≡ lengthCode (fitting (officeToBlock (now (sheet .entry))) (now (out .entry))) ⌝ }
+    ensures { λ r. ⌜ now (out .exit) ≡ written (fitting (officeToBlock (now (sheet .entry))) (now (out .entry))) (now (out .entry)) ⌝ }
+    ensures { λ r. ⌜ demands.OfficeToBlock (now (sheet .entry)) (now (out .entry)) r (now (out .exit)) ⌝ }
+{
+    written_code(office_block::office_to_block(sheet, out))
 }
 
 // The block of an utterance sheet under a grammar.

@@ -3,6 +3,7 @@
 pub mod damage;
 pub mod grammars;
 pub mod graphs;
+pub mod offices;
 pub mod parsable;
 pub mod phrases;
 pub mod raw;

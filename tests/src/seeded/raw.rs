@@ -112,6 +112,7 @@ pub fn graph_block(rng: &mut Rng, words: u32) -> Vec<u8> {
 pub fn grammar_sheet(rng: &mut Rng) -> Vec<u32> {
     let (symbols, words, rules) = (rng.within(1..=6), rng.within(1..=6), rng.within(1..=5));
     let mut sheet = vec![mostly(rng, symbols, 6), mostly(rng, words, 8), mostly(rng, rules, 9)];
+    let has_marks = rng.once_in(2);
     for _ in 0..mostly(rng, rules, 3) {
         let kind = around(rng, 2);
         sheet.extend([kind, around(rng, symbols), weight(rng)]);
@@ -119,6 +120,24 @@ pub fn grammar_sheet(rng: &mut Rng) -> Vec<u32> {
             sheet.extend([around(rng, words), mostly(rng, 0, 4)]);
         } else {
             sheet.extend([around(rng, symbols), around(rng, symbols)]);
+        }
+        if has_marks {
+            sheet.push(around(rng, 2));
+        }
+    }
+    sheet
+}
+
+/// An office sheet of which each number may be out of range.
+pub fn office_sheet(rng: &mut Rng) -> Vec<u32> {
+    let (symbols, words, rules) = (rng.within(1..=6), rng.within(1..=6), rng.within(1..=5));
+    let mut sheet = vec![mostly(rng, symbols, 6), mostly(rng, words, 8), mostly(rng, rules, 9)];
+    for _ in 0..mostly(rng, rules, 3) {
+        let count = rng.within(1..=6);
+        sheet.extend([around(rng, symbols), weight(rng), mostly(rng, count, 3)]);
+        for _ in 0..mostly(rng, count, 3) {
+            let kind = around(rng, 2);
+            sheet.extend([kind, around(rng, if kind == 1 { words } else { symbols })]);
         }
     }
     sheet

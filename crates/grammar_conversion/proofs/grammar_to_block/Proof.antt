@@ -3,9 +3,9 @@ use mathlib.Core.Path.{sym, _∙_}
 use native.Mathlib.Omega.{arith}
 use borrow.Author.Needs.{needs}
 use Rattle.packing.specs.Parse.{accepted}
-use Rattle.packing.specs.Grammar.{grammarSheet, blockOfGrammar}
+use Rattle.packing.specs.Grammar.{markedSheet, blockOfMarked}
 use Rattle.packing.specs.Conversion.{grammarToBlock}
-use Rattle.grammar_reader.proofs.Told.{refusal-told}
+use Rattle.grammar_reader.proofs.Told.{marked-refused}
 use Rattle.packing.proofs.Theorems.{grammar-sheet-and-back}
 use Rattle.sheet_writer.proofs.Fit.{handed-up, and-back}
 use Rattle.grammar_conversion.proofs.Grammars.{block-told}
@@ -14,6 +14,9 @@ use Rattle.grammar_conversion.proofs.grammar_to_block.Tie as tie
 
 slice-aggregate-read-sheet : tie.Need-slice-aggregate-read-sheet
 slice-aggregate-read-sheet c = search needs
+
+slice-aggregate-read-sheet-2 : tie.Need-slice-aggregate-read-sheet-2
+slice-aggregate-read-sheet-2 c = search needs
 
 read-sheet-requires : tie.Need-read-sheet-requires
 read-sheet-requires c κs = search needs
@@ -24,25 +27,26 @@ enum-known-n c = search needs
 enum-known-z : tie.Need-enum-known-z
 enum-known-z c = search needs
 
-cast-write-grammar : tie.Need-cast-write-grammar
-cast-write-grammar c = search needs
+wide-requires : tie.Need-wide-requires
+wide-requires c κs = tt
 
 slice-aggregate-write-grammar : tie.Need-slice-aggregate-write-grammar
 slice-aggregate-write-grammar c = search needs
 
+slice-aggregate-write-grammar-2 : tie.Need-slice-aggregate-write-grammar-2
+slice-aggregate-write-grammar-2 c = search needs
+
 write-grammar-requires : tie.Need-write-grammar-requires
 write-grammar-requires c κs =
-    let r = c .before .before .before .before .before .before .before .read-sheet in
-    let b = rw (c .before .before .before .before .z .given .1) at (r .ensures .2) in
-    (b .rules, record { some-symbol = b .some-symbol; symbols = b .symbols; some-word = b .some-word; words = b .words })
+    let b = rw (c .before .before .before .before .before .z .given .1) at (c .before .before .before .before .before .before .before .before .before .read-sheet .ensures .bounds) in
+    (omega (arith, b .rules, c .before .before .before .wide .ensures .0), record { some-symbol = b .some-symbol; symbols = b .symbols; some-word = b .some-word; words = b .words })
 
 returns : tie.Need-returns
 unfolding grammarToBlock
 returns c =
-    let a = c .before .before .before .before .before .before .before .before .args in
-    let r = c .before .before .before .before .read-sheet in
+    let a = c .before .before .before .before .before .before .before .before .before .before .args in
     and-back (grammarToBlock (a .sheet .now)) (grammar-sheet-and-back (a .sheet .now)) (a .out .now)
-    (handed-up (a .out .now) (refusal-told (grammarSheet (a .sheet .now)) (λ g. accepted (blockOfGrammar g)) (sym (r .ensures .0) ∙ c .before .n .given .1)))
+    (handed-up (a .out .now) (marked-refused (markedSheet (a .sheet .now)) (λ m. accepted (blockOfMarked m)) (sym (c .before .before .before .before .before .read-sheet .ensures .answer) ∙ c .before .n .given .1)))
 
 same-length : tie.Need-same-length
 same-length c = search needs
@@ -50,22 +54,24 @@ same-length c = search needs
 returns-2 : tie.Need-returns-2
 unfolding grammarToBlock
 returns-2 c =
-    let a = c .before .before .before .before .before .before .before .before .before .before .before .before .before .before .args in
-    let r = c .before .before .before .before .before .before .before .before .before .before .read-sheet in
-    let e = block-told (grammarSheet (a .sheet .now)) (sym (r .ensures .0) ∙ c .before .before .before .before .before .before .before .z .given .1) (r .last .1 .0) (r .ensures .1) in
+    let a = c .before .before .before .before .before .before .before .before .before .before .before .before .before .before .before .before .before .args in
+    let r = c .before .before .before .before .before .before .before .before .before .before .before .before .read-sheet in
+    let e = block-told (markedSheet (a .sheet .now)) (sym (r .ensures .answer) ∙ c .before .before .before .before .before .before .before .before .z .given .1) (r .last .1 .0) (r .last .1 .1 .0) (r .ensures .stands) in
     and-back (grammarToBlock (a .sheet .now)) (grammar-sheet-and-back (a .sheet .now)) (a .out .now)
-    (rw e (c .before .before .write-grammar .ensures))
+    (rw e (rw (c .before .before .before .before .before .before .wide .ensures .0) at (c .before .before .write-grammar .ensures)))
 
 pub grammar-to-block-spec : {M : Type 1} → statement M
 grammar-to-block-spec =
     tie.close
     (tie.spec
     slice-aggregate-read-sheet
+    slice-aggregate-read-sheet-2
     read-sheet-requires
     enum-known-n
     enum-known-z
-    cast-write-grammar
+    wide-requires
     slice-aggregate-write-grammar
+    slice-aggregate-write-grammar-2
     write-grammar-requires
     returns
     same-length

@@ -3,20 +3,23 @@ use mathlib.Core.Path.{sym, _∙_}
 use native.Mathlib.Omega.{arith}
 use borrow.Author.Needs.{needs}
 use Rattle.packing.specs.Parse.{accepted}
-use Rattle.packing.specs.Grammar.{grammarBlock, sheetOfGrammar}
+use Rattle.packing.specs.Grammar.{markedBlock, sheetOfMarked}
 use Rattle.packing.specs.Conversion.{grammarToSheet}
-use Rattle.grammar_reader.proofs.Told.{refusal-told}
+use Rattle.grammar_reader.proofs.Told.{marked-refused}
 use Rattle.packing.proofs.Theorems.{grammar-block-and-back}
 use Rattle.sheet_writer.proofs.Fit.{handed-up, and-back}
-use Rattle.grammar_conversion.proofs.Grammars.{sheet-told}
+use Rattle.grammar_conversion.proofs.Grammars.{plain-told, marked-told}
 use Rattle.grammar_conversion.proofs.grammar_to_sheet.Statement.{statement}
 use Rattle.grammar_conversion.proofs.grammar_to_sheet.Tie as tie
 
-slice-aggregate-read-block : tie.Need-slice-aggregate-read-block
-slice-aggregate-read-block c = search needs
+slice-aggregate-read-marked-block : tie.Need-slice-aggregate-read-marked-block
+slice-aggregate-read-marked-block c = search needs
 
-read-block-requires : tie.Need-read-block-requires
-read-block-requires c κs = search needs
+slice-aggregate-read-marked-block-2 : tie.Need-slice-aggregate-read-marked-block-2
+slice-aggregate-read-marked-block-2 c = search needs
+
+read-marked-block-requires : tie.Need-read-marked-block-requires
+read-marked-block-requires c κs = search needs
 
 enum-known-n : tie.Need-enum-known-n
 enum-known-n c = search needs
@@ -24,58 +27,108 @@ enum-known-n c = search needs
 enum-known-z : tie.Need-enum-known-z
 enum-known-z c = search needs
 
+wide-requires : tie.Need-wide-requires
+wide-requires c κs = tt
+
+slice-aggregate-join-marks : tie.Need-slice-aggregate-join-marks
+slice-aggregate-join-marks c = search needs
+
+slice-aggregate-join-marks-2 : tie.Need-slice-aggregate-join-marks-2
+slice-aggregate-join-marks-2 c = search needs
+
+slice-aggregate-join-marks-3 : tie.Need-slice-aggregate-join-marks-3
+slice-aggregate-join-marks-3 c = search needs
+
+join-marks-requires : tie.Need-join-marks-requires
+join-marks-requires c κs =
+    let b = rw (c .before .before .before .before .before .before .z .given .1) at (c .before .before .before .before .before .before .before .before .before .before .read-marked-block .ensures .bounds) in
+    omega (arith, b .rules, c .before .before .before .before .wide .ensures .0)
+
 slice-aggregate-write-sheet : tie.Need-slice-aggregate-write-sheet
 slice-aggregate-write-sheet c = search needs
 
 slice-aggregate-write-sheet-2 : tie.Need-slice-aggregate-write-sheet-2
 slice-aggregate-write-sheet-2 c = search needs
 
-cast-write-sheet : tie.Need-cast-write-sheet
-cast-write-sheet c = search needs
-
 mul-write-sheet : tie.Need-mul-write-sheet
-mul-write-sheet c = search needs
+mul-write-sheet c = omega (arith, c .before .before .before .before .before .before .before .before .before .wide .ensures .1)
 
 write-sheet-requires : tie.Need-write-sheet-requires
 write-sheet-requires c κs =
-    let r = c .before .before .before .before .before .before .before .before .read-block in
-    omega (arith, rw (c .before .before .before .before .before .z .given .1) at (r .ensures .2))
-
-returns : tie.Need-returns
-unfolding grammarToSheet
-returns c =
-    let at-known = c .before .before .before .before .before .before .before in
-    let a = at-known .before .args in
-    let r = c .before .before .before .before .read-block in
-    and-back (grammarToSheet (a .block .now)) (λ l. grammar-block-and-back (a .block .now) l (λ i. at-known .shared-slice-known .given i .fits)) (a .out .now)
-    (handed-up (a .out .now) (refusal-told (grammarBlock (a .block .now)) (λ g. accepted (sheetOfGrammar g)) (sym (r .ensures .0) ∙ c .before .n .given .1)))
+    let b = rw (c .before .before .before .before .before .before .before .before .before .before .before .z .given .1) at (c .before .before .before .before .before .before .before .before .before .before .before .before .before .before .before .read-marked-block .ensures .bounds) in
+    (omega arith, omega (arith, b .rules, c .before .before .before .before .before .before .before .before .before .wide .ensures .0, c .before .before .before .before .join-marks .kept .1 .1 .1 .0))
 
 same-length : tie.Need-same-length
 same-length c = search needs
 
+returns : tie.Need-returns
+unfolding grammarToSheet
+returns c =
+    let a = c .before .before .before .before .before .before .before .before .before .before .before .before .before .before .before .before .before .before .before .before .before .before .before .args in
+    let r = c .before .before .before .before .before .before .before .before .before .before .before .before .before .before .before .before .before .before .read-marked-block in
+    let b = rw (c .before .before .before .before .before .before .before .before .before .before .before .before .before .before .z .given .1) at (r .ensures .bounds) in
+    let stored = rw (c .before .before .before .before .before .before .before .before .before .before .before .before .wide .ensures .0) at (c .before .before .before .before .before .before .before .join-marks .ensures) in
+    let e = marked-told (markedBlock (a .block .now)) (sym (r .ensures .answer) ∙ c .before .before .before .before .before .before .before .before .before .before .before .before .before .before .z .given .1) (r .last .1 .0) (r .last .1 .1 .0) (r .ensures .stands) (c .before .before .before .before .before .before .before .before .before .before .before .if1 .taken) _ _ stored (omega (arith, b .rules)) in
+    and-back (grammarToSheet (a .block .now)) (λ l. grammar-block-and-back (a .block .now) l (λ i. c .before .before .before .before .before .before .before .before .before .before .before .before .before .before .before .before .before .before .before .before .before .before .shared-slice-known .given i .fits)) (a .out .now)
+    (rw e (rw (c .before .before .before .before .before .before .before .before .before .before .before .before .wide .ensures .0) at (c .before .before .write-sheet .ensures)))
+
+slice-aggregate-write-sheet-3 : tie.Need-slice-aggregate-write-sheet-3
+slice-aggregate-write-sheet-3 c = search needs
+
+slice-aggregate-write-sheet-4 : tie.Need-slice-aggregate-write-sheet-4
+slice-aggregate-write-sheet-4 c = search needs
+
+mul-write-sheet-2 : tie.Need-mul-write-sheet-2
+mul-write-sheet-2 c = omega (arith, c .before .before .before .before .wide .ensures .1)
+
+write-sheet-requires-2 : tie.Need-write-sheet-requires-2
+write-sheet-requires-2 c κs =
+    let b = rw (c .before .before .before .before .before .before .z .given .1) at (c .before .before .before .before .before .before .before .before .before .before .read-marked-block .ensures .bounds) in
+    (omega arith, omega (arith, b .rules, c .before .before .before .before .wide .ensures .0, c .before .before .before .before .before .before .before .before .before .before .read-marked-block .kept .1 .0))
+
 returns-2 : tie.Need-returns-2
 unfolding grammarToSheet
 returns-2 c =
-    let at-known = c .before .before .before .before .before .before .before .before .before .before .before .before .before .before in
-    let a = at-known .before .args in
-    let r = c .before .before .before .before .before .before .before .before .before .before .before .read-block in
-    let e = sheet-told (grammarBlock (a .block .now)) (sym (r .ensures .0) ∙ c .before .before .before .before .before .before .before .before .z .given .1) (r .last .1 .0) (r .ensures .1) in
-    and-back (grammarToSheet (a .block .now)) (λ l. grammar-block-and-back (a .block .now) l (λ i. at-known .shared-slice-known .given i .fits)) (a .out .now)
-    (rw e (c .before .before .write-sheet .ensures))
+    let a = c .before .before .before .before .before .before .before .before .before .before .args in
+    and-back (grammarToSheet (a .block .now)) (λ l. grammar-block-and-back (a .block .now) l (λ i. c .before .before .before .before .before .before .before .before .before .shared-slice-known .given i .fits)) (a .out .now)
+    (handed-up (a .out .now) (marked-refused (markedBlock (a .block .now)) (λ m. accepted (sheetOfMarked m)) (sym (c .before .before .before .before .before .read-marked-block .ensures .answer) ∙ c .before .n .given .1)))
+
+same-length-2 : tie.Need-same-length-2
+same-length-2 c = search needs
+
+returns-3 : tie.Need-returns-3
+unfolding grammarToSheet
+returns-3 c =
+    let a = c .before .before .before .before .before .before .before .before .before .before .before .before .before .before .before .before .before .before .args in
+    let r = c .before .before .before .before .before .before .before .before .before .before .before .before .before .read-marked-block in
+    let e = plain-told (markedBlock (a .block .now)) (sym (r .ensures .answer) ∙ c .before .before .before .before .before .before .before .before .before .z .given .1) (r .last .1 .0) (r .last .1 .1 .0) (r .ensures .stands) (c .before .before .before .before .before .before .if1 .left) in
+    and-back (grammarToSheet (a .block .now)) (λ l. grammar-block-and-back (a .block .now) l (λ i. c .before .before .before .before .before .before .before .before .before .before .before .before .before .before .before .before .before .shared-slice-known .given i .fits)) (a .out .now)
+    (rw e (rw (c .before .before .before .before .before .before .before .wide .ensures .0) at (c .before .before .write-sheet2 .ensures)))
 
 pub grammar-to-sheet-spec : {M : Type 1} → statement M
 grammar-to-sheet-spec =
     tie.close
     (tie.spec
-    slice-aggregate-read-block
-    read-block-requires
+    slice-aggregate-read-marked-block
+    slice-aggregate-read-marked-block-2
+    read-marked-block-requires
     enum-known-n
     enum-known-z
+    wide-requires
+    slice-aggregate-join-marks
+    slice-aggregate-join-marks-2
+    slice-aggregate-join-marks-3
+    join-marks-requires
     slice-aggregate-write-sheet
     slice-aggregate-write-sheet-2
-    cast-write-sheet
     mul-write-sheet
     write-sheet-requires
-    returns
     same-length
-    returns-2)
+    returns
+    slice-aggregate-write-sheet-3
+    slice-aggregate-write-sheet-4
+    mul-write-sheet-2
+    write-sheet-requires-2
+    returns-2
+    same-length-2
+    returns-3)

@@ -1,4 +1,4 @@
--- `grammar_reader::unfit` meets its contract: each arm of the match is the definition's clause for that source. Assumes nothing.
+-- `grammar_reader::unfit` meets its contract: each arm of the match is the definition's clause for that source and kind. Assumes nothing.
 use mathlib.Core.Path.{_≡_, refl}
 use mathlib.Core.Bool.{Bool, true, false, not}
 use Prim.Native.Nat.{_+_, _*_}
@@ -26,10 +26,30 @@ not-pick true = refl
 not-pick false = refl
 
 returns : tie.Need-returns
-returns c = λ block. rw (c .enum-told .given .1)
+returns c = λ block. rw (c .before .enum-told2 .given .1, c .if1 .taken) (not-pick (eqb (length (c .before .before .before .args .sheet .now)) (3 + 6 * c .before .before .before .args .rules)))
+
+mul-result-2 : tie.Need-mul-result-2
+mul-result-2 c = search needs
+
+add-result-2 : tie.Need-add-result-2
+add-result-2 c = search needs
 
 returns-2 : tie.Need-returns-2
-returns-2 c = λ block. rw (c .enum-told2 .given .1) (not-pick (eqb (length (c .before .before .args .sheet .now)) (3 + 5 * c .before .before .args .rules)))
+returns-2 c = λ block. rw (c .enum-told .given .1)
+
+returns-3 : tie.Need-returns-3
+returns-3 c = λ block. rw (c .before .enum-told2 .given .1, c .if1 .left) (not-pick (eqb (length (c .before .before .before .args .sheet .now)) (3 + 5 * c .before .before .before .args .rules)))
 
 pub unfit-spec : {M : Type 1} → statement M
-unfit-spec = tie.close (tie.spec enum-told enum-told-2 mul-result add-result returns returns-2)
+unfit-spec =
+    tie.close
+    (tie.spec
+    enum-told
+    enum-told-2
+    mul-result
+    add-result
+    returns
+    mul-result-2
+    add-result-2
+    returns-2
+    returns-3)

@@ -22,7 +22,15 @@ returns : tie.Need-returns
 unfolding widths
 returns c =
     let a = c .before .before .args in
-    ap (λ (k : ℕ). (k + 7) / 8) (omega arith) ∙ sym (length-block (grammarFields (a .symbols) (a .words) (a .n) (a .rules .now)))
+    let f = a .form in
+    λ marks. ap (λ (k : ℕ). (k + 7) / 8) (omega (arith, c .rules-bits .ensures .0 marks))
+    ∙ sym (length-block (grammarFields (f .marked) (f .symbols) (f .words) (f .rules) (a .rules .now) marks))
 
 pub grammar-length-spec : {M : Type 1} → statement M
-grammar-length-spec = tie.close (tie.spec rules-bits-requires add-result add-result-2 returns)
+grammar-length-spec =
+    tie.close
+    (tie.spec
+    rules-bits-requires
+    add-result
+    add-result-2
+    returns)

@@ -9,71 +9,73 @@ use Rattle.sheet_writer.proofs.Block.{block-room, block-written}
 use Rattle.grammar_writer.proofs.write_fields.Statement.{statement}
 use Rattle.grammar_writer.proofs.write_fields.Tie as tie
 
+kind-of-requires : tie.Need-kind-of-requires
+kind-of-requires c κs = search needs
+
 write-field-requires : tie.Need-write-field-requires
 unfolding widths
 write-field-requires c κs =
-    let a = c .before .before .before .args in
-    let fs = grammarFields (a .symbols) (a .words) (a .n) (a .rules .now) in
-    omega (arith, block-room fs (a .out .now) (c .before .before .before .pre .2))
+    let a = c .before .before .before .before .before .args in
+    let f = a .form in
+    let fs = grammarFields (f .marked) (f .symbols) (f .words) (f .rules) (a .rules .now) (a .marks .now) in
+    omega (arith, block-room fs (a .out .now) (c .before .before .before .before .before .pre .2))
 
 write-field-requires-2 : tie.Need-write-field-requires-2
 unfolding widths
 write-field-requires-2 c κs =
-    let at-start = c .before .before .before .before .before .before .before in
-    let a = at-start .args in
-    let fs = grammarFields (a .symbols) (a .words) (a .n) (a .rules .now) in
-    omega (arith, block-room fs (a .out .now) (at-start .pre .2))
+    let a = c .before .before .before .before .before .before .before .before .before .args in
+    let f = a .form in
+    let fs = grammarFields (f .marked) (f .symbols) (f .words) (f .rules) (a .rules .now) (a .marks .now) in
+    omega (arith, block-room fs (a .out .now) (c .before .before .before .before .before .before .before .before .before .pre .2))
 
 write-field-requires-3 : tie.Need-write-field-requires-3
 unfolding widths
 write-field-requires-3 c κs =
-    let at-start = c .before .before .before .before .before .before .before .before .before .before .before in
-    let a = at-start .args in
-    let fs = grammarFields (a .symbols) (a .words) (a .n) (a .rules .now) in
-    omega (arith, block-room fs (a .out .now) (at-start .pre .2))
+    let a = c .before .before .before .before .before .before .before .before .before .before .before .before .before .args in
+    let f = a .form in
+    let fs = grammarFields (f .marked) (f .symbols) (f .words) (f .rules) (a .rules .now) (a .marks .now) in
+    omega (arith, block-room fs (a .out .now) (c .before .before .before .before .before .before .before .before .before .before .before .before .before .pre .2))
 
 cast-write-field : tie.Need-cast-write-field
-cast-write-field c = search needs
+cast-write-field c = omega (arith, c .before .before .before .before .before .before .before .before .before .before .before .before .before .before .before .before .before .pre .0)
 
 write-field-requires-4 : tie.Need-write-field-requires-4
 unfolding widths
 write-field-requires-4 c κs =
-    let at-start = c .before .before .before .before .before .before .before .before .before .before .before .before .before .before .before in
-    let a = at-start .args in
-    let fs = grammarFields (a .symbols) (a .words) (a .n) (a .rules .now) in
-    omega (arith, block-room fs (a .out .now) (at-start .pre .2))
+    let a = c .before .before .before .before .before .before .before .before .before .before .before .before .before .before .before .before .before .args in
+    let f = a .form in
+    let fs = grammarFields (f .marked) (f .symbols) (f .words) (f .rules) (a .rules .now) (a .marks .now) in
+    omega (arith, block-room fs (a .out .now) (c .before .before .before .before .before .before .before .before .before .before .before .before .before .before .before .before .before .pre .2))
 
 write-rules-requires : tie.Need-write-rules-requires
 unfolding widths
 write-rules-requires c κs =
-    let at-start = c .before .before .before .before .before .before .before .before .before .before .before .before .before .before .before .before .before .before .before in
-    let a = at-start .args in
-    let fs = grammarFields (a .symbols) (a .words) (a .n) (a .rules .now) in
-    omega (arith, block-room fs (a .out .now) (at-start .pre .2))
+    let a = c .before .before .before .before .before .before .before .before .before .before .before .before .before .before .before .before .before .before .before .before .before .args in
+    let f = a .form in
+    let fs = grammarFields (f .marked) (f .symbols) (f .words) (f .rules) (a .rules .now) (a .marks .now) in
+    let room = block-room fs (a .out .now) (c .before .before .before .before .before .before .before .before .before .before .before .before .before .before .before .before .before .before .before .before .before .pre .2) in
+    (omega arith, c .before .before .before .before .before .before .before .before .before .before .before .before .before .before .before .before .before .before .before .before .before .pre .0, c .before .before .before .before .before .before .before .before .before .before .before .before .before .before .before .before .before .before .before .before .before .pre .1, omega (arith, room, c .before .before .before .before .before .before .before .before .before .before .before .before .before .before .before .write-field .kept .0, c .before .before .before .before .before .before .before .before .before .before .before .write-field2 .kept .0, c .before .before .before .before .before .before .before .write-field3 .kept .0, c .before .before .before .write-field4 .kept .0))
 
 same-length : tie.Need-same-length
 same-length c = search needs
 
 returns : tie.Need-returns
 returns c =
-    let at-write-field4 = c .before .before .before .before .before .before in
-    let at-write-field3 = at-write-field4 .before .before .before .before in
-    let at-write-field2 = at-write-field3 .before .before .before .before in
-    let at-write-field = at-write-field2 .before .before .before .before in
-    let at-slice-known = at-write-field .before .before .before in
-    let at-start = at-slice-known .before in
-    let a = at-start .args in
-    let fs = grammarFields (a .symbols) (a .words) (a .n) (a .rules .now) in
-    let f1 = one-written (all-remain {o = a .out .now} {start = 0} {fs = fs}) (at-write-field .write-field .ensures) in
-    let f2 = one-written f1 (at-write-field2 .write-field2 .ensures) in
-    let f3 = one-written f2 (at-write-field3 .write-field3 .ensures) in
-    let f4 = one-written f3 (at-write-field4 .write-field4 .ensures) in
-    block-written fs (a .out .now) (at-start .pre .2) (λ i. at-slice-known .slice-known .given i .fits) (c .before .before .write-rules .ensures ∙ f4 .rest)
+    let a = c .before .before .before .before .before .before .before .before .before .before .before .before .before .before .before .before .before .before .before .before .before .before .before .before .args in
+    let f = a .form in
+    let fs = grammarFields (f .marked) (f .symbols) (f .words) (f .rules) (a .rules .now) (a .marks .now) in
+    let kind = rw (c .before .before .before .before .before .before .before .before .before .before .before .before .before .before .before .before .before .before .before .kind-of .ensures) at (c .before .before .before .before .before .before .before .before .before .before .before .before .before .before .before .before .before .before .write-field .ensures) in
+    let f1 = one-written (all-remain {o = a .out .now} {start = 0} {fs = fs}) kind in
+    let f2 = one-written f1 (c .before .before .before .before .before .before .before .before .before .before .before .before .before .before .write-field2 .ensures) in
+    let f3 = one-written f2 (c .before .before .before .before .before .before .before .before .before .before .write-field3 .ensures) in
+    let f4 = one-written f3 (c .before .before .before .before .before .before .write-field4 .ensures) in
+    block-written fs (a .out .now) (c .before .before .before .before .before .before .before .before .before .before .before .before .before .before .before .before .before .before .before .before .before .before .before .before .pre .2) (λ i. c .before .before .before .before .before .before .before .before .before .before .before .before .before .before .before .before .before .before .before .before .before .before .before .slice-known .given i .fits) (c .before .before .write-rules .ensures ∙ f4 .rest)
 
 pub write-fields-spec : {M : Type 1} → statement M
 write-fields-spec =
     tie.close
     (tie.spec
+    kind-of-requires
     write-field-requires
     write-field-requires-2
     write-field-requires-3

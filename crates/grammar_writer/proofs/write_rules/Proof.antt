@@ -3,20 +3,19 @@ use Prim.Native.Nat.{_+_, _-_, _*_, _≤_}
 use native.Mathlib.Nat.{sub-zero}
 use native.Mathlib.Omega.{arith}
 use Rattle.bits.proofs.Remaining.{Remaining, all-remain, none-remain, some-written, some-within}
-use Rattle.packing.specs.Source.{flds}
-use Rattle.packing.specs.Grammar.{ruleEntries}
-use Rattle.packing.specs.Flat.{ruleAt}
 use Rattle.sheet_writer.specs.Arrays.{rulesFields}
-use Rattle.grammar_writer.proofs.Rules.{rules-more, rules-end}
+use Rattle.grammar_writer.proofs.Rules.{ruleFields, rules-more, rules-end}
 use Rattle.grammar_writer.proofs.write_rules.Statement.{statement}
 use Rattle.grammar_writer.proofs.write_rules.Tie as tie
 
 abbrev Inv-loop : tie.InvT-loop
-Inv-loop out₀ start rules n symbols words at₀ i₀ out at i =
-    (i ≤ n) × (at ≤ 27 + 41 * i) × Remaining out₀ start (rulesFields symbols words rules 0 n) out at (rulesFields symbols words rules i (n - i))
+Inv-loop out₀ start form rules marks n at₀ i₀ out at i =
+    (i ≤ n) × (at ≤ 27 + 42 * i)
+    × Remaining out₀ start (rulesFields (form .marked) (form .symbols) (form .words) rules marks 0 n) out at
+    (rulesFields (form .marked) (form .symbols) (form .words) rules marks i (n - i))
 
 abbrev μ-loop : tie.MeasureT-loop
-μ-loop out₀ start rules n symbols words at₀ i₀ out at i = n - i
+μ-loop out₀ start form rules marks n at₀ i₀ out at i = n - i
 
 loop-holds : tie.Need-loop-holds Inv-loop μ-loop
 loop-holds c = (omega arith, omega arith, rw sub-zero all-remain)
@@ -24,15 +23,18 @@ loop-holds c = (omega arith, omega arith, rw sub-zero all-remain)
 rule-at-requires : tie.Need-rule-at-requires Inv-loop μ-loop
 rule-at-requires c κs = omega arith
 
-write-rule-requires : tie.Need-write-rule-requires Inv-loop μ-loop
-write-rule-requires c κs =
-    let at-start = c .before .before .before .before .before .before in
-    let a = at-start .args in
-    let l = c .before .before .before .loop in
-    let r = flds (ruleEntries (a .symbols) (a .words) (ruleAt (a .rules .now) (l .i))) in
-    let s = rulesFields (a .symbols) (a .words) (a .rules .now) (l .i + 1) (a .n - (l .i + 1)) in
-    let m = rw (rules-more (a .symbols) (a .words) (a .rules .now) (a .n) (l .i) (c .before .before .loop-test .taken)) at (l .inv .2) in
-    rw (c .rule-at .ensures) (omega (arith, some-within r s m))
+narrow-at-requires : tie.Need-narrow-at-requires Inv-loop μ-loop
+narrow-at-requires c κs = tt
+
+write-marked-requires : tie.Need-write-marked-requires Inv-loop μ-loop
+write-marked-requires c κs =
+    let a = c .before .before .before .before .before .before .before .before .args in
+    let f = a .form in
+    let l = c .before .before .before .before .loop in
+    let r = ruleFields (f .marked) (f .symbols) (f .words) (a .rules .now) (a .marks .now) (f .rules) (l .i) in
+    let s = rulesFields (f .marked) (f .symbols) (f .words) (a .rules .now) (a .marks .now) (l .i + 1) (f .rules - (l .i + 1)) in
+    let m = rw (rules-more (f .marked) (f .symbols) (f .words) (a .rules .now) (a .marks .now) (f .rules) (l .i) (c .before .before .before .loop-test .taken)) at (l .inv .2) in
+    rw (c .before .before .rule-at .ensures, c .narrow-at .ensures) (omega (arith, l .inv .1, l .inv .0, c .before .before .before .before .before .before .before .before .pre .1), c .before .before .before .before .before .before .before .before .pre .2, omega (arith, some-within r s m, l .inv .2 .size, c .before .before .before .before .before .before .before .before .pre .3))
 
 add-i : tie.Need-add-i Inv-loop μ-loop
 add-i c = omega arith
@@ -42,26 +44,24 @@ loop-less c = omega arith
 
 loop-again : tie.Need-loop-again Inv-loop μ-loop
 loop-again c =
-    let at-loop-test = c .before .before .before .before .before in
-    let at-loop = at-loop-test .before in
-    let at-start = at-loop .before .before .before in
-    let a = at-start .args in
-    let l = at-loop .loop in
-    let r = flds (ruleEntries (a .symbols) (a .words) (ruleAt (a .rules .now) (l .i))) in
-    let s = rulesFields (a .symbols) (a .words) (a .rules .now) (l .i + 1) (a .n - (l .i + 1)) in
-    let m = rw (rules-more (a .symbols) (a .words) (a .rules .now) (a .n) (l .i) (at-loop-test .loop-test .taken)) at (l .inv .2) in
-    let w = rw (c .before .before .before .rule-at .ensures) at (c .before .before .write-rule .ensures) in
-    (omega arith, omega arith, some-written r s m (w .2) (w .0))
+    let a = c .before .before .before .before .before .before .before .before .before .before .before .args in
+    let f = a .form in
+    let l = c .before .before .before .before .before .before .before .loop in
+    let r = ruleFields (f .marked) (f .symbols) (f .words) (a .rules .now) (a .marks .now) (f .rules) (l .i) in
+    let s = rulesFields (f .marked) (f .symbols) (f .words) (a .rules .now) (a .marks .now) (l .i + 1) (f .rules - (l .i + 1)) in
+    let m = rw (rules-more (f .marked) (f .symbols) (f .words) (a .rules .now) (a .marks .now) (f .rules) (l .i) (c .before .before .before .before .before .before .loop-test .taken)) at (l .inv .2) in
+    let w = rw (c .before .before .before .before .before .rule-at .ensures, c .before .before .before .narrow-at .ensures) at (c .before .before .write-marked .ensures) in
+    (omega (arith, c .before .before .before .before .before .before .loop-test .taken), omega (arith, l .inv .1, w .1), some-written r s m (w .2) (w .0))
 
 same-length : tie.Need-same-length Inv-loop μ-loop
-same-length c = omega arith
+same-length c = c .before .loop .inv .2 .size
 
 returns : tie.Need-returns Inv-loop μ-loop
 returns c =
-    let at-start = c .before .before .before .before in
-    let a = at-start .args in
+    let a = c .before .before .before .before .before .args in
+    let f = a .form in
     let l = c .before .loop in
-    none-remain (rw (rules-end (a .symbols) (a .words) (a .rules .now) (a .n) (l .i) (omega arith)) at (l .inv .2)) .1
+    none-remain (rw (rules-end (f .marked) (f .symbols) (f .words) (a .rules .now) (a .marks .now) (f .rules) (l .i) (omega arith)) at (l .inv .2)) .1
 
 pub write-rules-spec : {M : Type 1} → statement M
 write-rules-spec =
@@ -71,7 +71,8 @@ write-rules-spec =
     μ-loop
     loop-holds
     rule-at-requires
-    write-rule-requires
+    narrow-at-requires
+    write-marked-requires
     add-i
     loop-less
     loop-again

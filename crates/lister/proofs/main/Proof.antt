@@ -42,6 +42,9 @@ slice-aggregate-shape-of-2 c = search needs
 slice-aggregate-shape-of-3 : tie.Need-slice-aggregate-shape-of-3
 slice-aggregate-shape-of-3 c = search needs
 
+slice-aggregate-shape-of-4 : tie.Need-slice-aggregate-shape-of-4
+slice-aggregate-shape-of-4 c = search needs
+
 shape-of-requires : tie.Need-shape-of-requires
 shape-of-requires c κs = search needs
 
@@ -87,12 +90,15 @@ slice-aggregate-print-lines c = search needs
 slice-aggregate-print-lines-2 : tie.Need-slice-aggregate-print-lines-2
 slice-aggregate-print-lines-2 c = search needs
 
+slice-aggregate-print-lines-3 : tie.Need-slice-aggregate-print-lines-3
+slice-aggregate-print-lines-3 c = search needs
+
 print-lines-requires : tie.Need-print-lines-requires
 print-lines-requires c κs =
-    let bounded = c .before .before .before .before .before .before .before .before .before .before .before .before .before .before .before .before .before .shape-of .ensures .bounded in
-    let few : c .before .before .before .before .before .before .before .m .given .0 .0 ≤ 8 = found-few _ _ 8 _ _ (c .before .before .before .before .before .before .before .before .before .before .before .listing .ensures .0) (c .before .before .before .before .before .before .before .m .given .1) in
-    let all : c .before .before .before .before .before .before .before .m .given .0 .0 * sizeOf (c .before .before .before .before .before .before .before .before .before .before .before .before .before .before .before .before .before .shape-of .result) ≤ 8 * 73 = mul-le-mul {n₂ = 8} {m₂ = 73} few (size-small (c .before .before .before .before .before .before .before .before .before .before .before .before .before .before .before .before .before .shape-of .result) bounded) in
-    (bounded, omega (arith, c .before .before .before .before .before .before .before .before .before .before .before .listing .kept))
+    let bounded = c .before .before .before .before .before .before .before .before .before .before .before .before .before .before .before .before .before .before .before .shape-of .ensures .bounded in
+    let few : c .before .before .before .before .before .before .before .before .m .given .0 .0 ≤ 8 = found-few _ _ 8 _ _ (c .before .before .before .before .before .before .before .before .before .before .before .before .listing .ensures .0) (c .before .before .before .before .before .before .before .before .m .given .1) in
+    let all : c .before .before .before .before .before .before .before .before .m .given .0 .0 * sizeOf (c .before .before .before .before .before .before .before .before .before .before .before .before .before .before .before .before .before .before .before .shape-of .result) ≤ 8 * 73 = mul-le-mul {n₂ = 8} {m₂ = 73} few (size-small (c .before .before .before .before .before .before .before .before .before .before .before .before .before .before .before .before .before .before .before .shape-of .result) bounded) in
+    (bounded, omega (arith, c .before .before .before .before .before .before .before .before .before .before .before .before .listing .kept))
 
 enum-known-n : tie.Need-enum-known-n
 enum-known-n c = search needs
@@ -133,6 +139,7 @@ main-spec =
     array-share-prefix-utterance
     slice-aggregate-shape-of-2
     slice-aggregate-shape-of-3
+    slice-aggregate-shape-of-4
     shape-of-requires
     array-share-prefix-grammar-2
     slice-aggregate-listing
@@ -148,6 +155,7 @@ main-spec =
     print-end-requires
     slice-aggregate-print-lines
     slice-aggregate-print-lines-2
+    slice-aggregate-print-lines-3
     print-lines-requires
     enum-known-n
     slice-aggregate-print-2

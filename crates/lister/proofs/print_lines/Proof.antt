@@ -12,10 +12,10 @@ part-within : (k m size n : ℕ) → k < m → m * size ≤ n → k * size + siz
 part-within k m size n l h = let parts : k + 1 ≤ m = omega arith in omega (arith, mul-le-mul-right size parts)
 
 abbrev Inv-loop : tie.InvT-loop
-Inv-loop out m rules s size walk₀ k₀ walk k = (k ≤ m) × (length walk ≡ 47)
+Inv-loop out m rules marks s size shown₀ k₀ shown k = (k ≤ m) × (length shown ≡ 47)
 
 abbrev μ-loop : tie.MeasureT-loop
-μ-loop out m rules s size walk₀ k₀ walk k = m - k
+μ-loop out m rules marks s size shown₀ k₀ shown k = m - k
 
 size-of-requires : tie.Need-size-of-requires Inv-loop μ-loop
 size-of-requires c κs = search needs
@@ -24,25 +24,25 @@ loop-holds : tie.Need-loop-holds Inv-loop μ-loop
 loop-holds c = omega arith
 
 mul-from : tie.Need-mul-from Inv-loop μ-loop
-mul-from c = let w = part-within (c .before .loop .k) (c .before .before .before .before .before .args .m) (c .before .before .size-of .result) (length (c .before .before .before .before .before .args .out .now)) (c .loop-test .taken) (rw (c .before .before .size-of .ensures) (c .before .before .before .before .before .pre .1)) in omega (arith, w)
+mul-from c = let w = part-within (c .before .loop .k) (c .before .before .before .before .before .before .args .m) (c .before .before .size-of .result) (length (c .before .before .before .before .before .before .args .out .now)) (c .loop-test .taken) (rw (c .before .before .size-of .ensures) (c .before .before .before .before .before .before .pre .1)) in omega (arith, w)
 
 add-upto : tie.Need-add-upto Inv-loop μ-loop
-add-upto c = let w = part-within (c .before .loop .k) (c .before .before .before .before .before .args .m) (c .before .before .size-of .result) (length (c .before .before .before .before .before .args .out .now)) (c .loop-test .taken) (rw (c .before .before .size-of .ensures) (c .before .before .before .before .before .pre .1)) in omega (arith, w)
+add-upto c = let w = part-within (c .before .loop .k) (c .before .before .before .before .before .before .args .m) (c .before .before .size-of .result) (length (c .before .before .before .before .before .before .args .out .now)) (c .loop-test .taken) (rw (c .before .before .size-of .ensures) (c .before .before .before .before .before .before .pre .1)) in omega (arith, w)
 
-sub-line-of : tie.Need-sub-line-of Inv-loop μ-loop
-sub-line-of c = search needs
+sub-printed-line : tie.Need-sub-printed-line Inv-loop μ-loop
+sub-printed-line c = search needs
 
-part-line-of-start : tie.Need-part-line-of-start Inv-loop μ-loop
-part-line-of-start c = search needs
+part-printed-line-start : tie.Need-part-printed-line-start Inv-loop μ-loop
+part-printed-line-start c = search needs
 
-part-line-of-end : tie.Need-part-line-of-end Inv-loop μ-loop
-part-line-of-end c = let w = part-within (c .before .loop .k) (c .before .before .before .before .before .args .m) (c .before .before .size-of .result) (length (c .before .before .before .before .before .args .out .now)) (c .loop-test .taken) (rw (c .before .before .size-of .ensures) (c .before .before .before .before .before .pre .1)) in omega (arith, w)
+part-printed-line-end : tie.Need-part-printed-line-end Inv-loop μ-loop
+part-printed-line-end c = let w = part-within (c .before .loop .k) (c .before .before .before .before .before .before .args .m) (c .before .before .size-of .result) (length (c .before .before .before .before .before .before .args .out .now)) (c .loop-test .taken) (rw (c .before .before .size-of .ensures) (c .before .before .before .before .before .before .pre .1)) in omega (arith, w)
 
-slice-aggregate-line-of : tie.Need-slice-aggregate-line-of Inv-loop μ-loop
-slice-aggregate-line-of c = omega (arith, c .before .before .before .loop .inv .1)
+slice-aggregate-printed-line : tie.Need-slice-aggregate-printed-line Inv-loop μ-loop
+slice-aggregate-printed-line c = omega (arith, c .before .before .before .loop .inv .1)
 
-line-of-requires : tie.Need-line-of-requires Inv-loop μ-loop
-line-of-requires c κs = (c .before .before .before .before .before .before .before .pre .0, omega (arith, c .before .before .before .loop .inv .1))
+printed-line-requires : tie.Need-printed-line-requires Inv-loop μ-loop
+printed-line-requires c κs = (c .before .before .before .before .before .before .before .before .pre .0, omega (arith, c .before .before .before .loop .inv .1))
 
 add-print-line : tie.Need-add-print-line Inv-loop μ-loop
 add-print-line c = omega (arith, c .before .before .before .before .loop-test .taken)
@@ -78,11 +78,11 @@ print-lines-spec =
     loop-holds
     mul-from
     add-upto
-    sub-line-of
-    part-line-of-start
-    part-line-of-end
-    slice-aggregate-line-of
-    line-of-requires
+    sub-printed-line
+    part-printed-line-start
+    part-printed-line-end
+    slice-aggregate-printed-line
+    printed-line-requires
     add-print-line
     cast-print-line
     slice-aggregate-print-line

@@ -1,0 +1,6 @@
+pub mod Steps
+pub mod Read
+pub mod Accepted
+pub mod Refusals
+pub mod Marked
+pub mod Examples

@@ -1,0 +1,4 @@
+pub mod Marks
+pub mod Blocks
+pub mod Refused
+pub mod Examples
