@@ -8,6 +8,7 @@ use spireyerba_tests::seeded::grammars::{with_weights, Weights};
 use spireyerba_tests::seeded::rng::Rng;
 use std::collections::HashSet;
 
+#[derive(Clone)]
 pub struct Input {
     pub name: &'static str,
     pub grammar: Grammar,

@@ -7,5 +7,6 @@ pub mod inputs;
 pub mod listing;
 pub mod measure;
 pub mod next_phrase;
+pub mod office;
 pub mod specimen;
 pub mod table;

@@ -3,6 +3,7 @@
 use crate::free;
 use crate::inputs::{graphs, greatest, redrawn, shapes, Input};
 use crate::measure::{medians, micros, ratio, Plan};
+use crate::office;
 use crate::table::{print_head, print_row};
 use spireyerba::limits::work_length;
 use spireyerba::services;
@@ -14,23 +15,44 @@ use std::time::{Duration, Instant};
 /// About how long the calls of one row are measured.
 const BUDGET: Duration = Duration::from_millis(1_500);
 
+/// The readings wanted of what is heard in an office.
+const OFFICE_WANTED: [usize; 3] = [1, 16, 256];
+/// The size by which README states utterances a second.
+const STATED: (usize, usize) = (12, 16);
+
+/// Office grammars with slots and with word graphs, several of each size, and the door schedule.
+fn office_rows() -> impl Iterator<Item = (Vec<Input>, usize)> {
+    let of_sizes = [office::of_slots, office::of_graphs].into_iter().flat_map(|inputs| [6, 12, 24].map(inputs));
+    let of_doors = office::doors().map(|input| vec![input]);
+    of_sizes.chain(of_doors).flat_map(|inputs| OFFICE_WANTED.map(|wanted| (inputs.clone(), wanted)))
+}
+
 /// Growth with the slots and with the readings wanted, then the other shapes.
-fn rows() -> impl Iterator<Item = (Input, usize)> {
+fn rows() -> impl Iterator<Item = (Vec<Input>, usize)> {
     let sizes = [(6, 1), (12, 1), (24, 1), (24, 16), (24, 64), (6, 256), (12, 256), (24, 256)];
-    let of_shapes = shapes().into_iter().map(|input| (input, 256));
-    sizes.map(|(slots, wanted)| (greatest(slots), wanted)).into_iter().chain(of_shapes)
+    let of_shapes = shapes().into_iter().map(|input| (vec![input], 256));
+    sizes.map(|(slots, wanted)| (vec![greatest(slots)], wanted)).into_iter().chain(of_shapes)
 }
 
 /// Word graphs, for one reading and for many.
-fn graph_rows() -> impl Iterator<Item = (Input, usize)> {
-    [1, 256].into_iter().flat_map(|wanted| graphs().into_iter().map(move |input| (input, wanted)))
+fn graph_rows() -> impl Iterator<Item = (Vec<Input>, usize)> {
+    [1, 256].into_iter().flat_map(|wanted| graphs().into_iter().map(move |input| (vec![input], wanted)))
+}
+
+/// What an office hears, and how many such utterances a second one core lists.
+pub fn print_office() {
+    print_rows_beside_free("what an office hears", "n", office_rows());
+    let (slots, wanted) = STATED;
+    let [ours] = times(&office::of_slots(slots), [(wanted, Lent::library as Call)]);
+    let in_a_second = 1.0 / ours.as_secs_f64();
+    println!("\n{in_a_second:.0} utterances of {slots} slots a second on one core, {wanted} readings each, under office grammars.");
 }
 
 /// The library beside the free version, with the clearing of the work table apart and in.
 pub fn print_beside_free() {
     print_rows_beside_free("shape", "n", rows());
     let calls = [(1, Lent::library as Call), (1, Lent::clear), (256, Lent::library), (256, Lent::clear)];
-    let [one, clearing_one, many, clearing_many] = times(&greatest(24), calls);
+    let [one, clearing_one, many, clearing_many] = times(&[greatest(24)], calls);
     let cost = ratio(many.saturating_sub(clearing_many), one.saturating_sub(clearing_one));
     println!("\n256 readings of 24 slots under 32 symbols and 256 rules cost {cost} times one, clearing apart.");
 }
@@ -44,30 +66,32 @@ pub fn print_graphs() {
     for wanted in [1, 16, 256] {
         for [slots, graph] in redrawn() {
             assert_equal_lists(&graph, wanted);
-            let [of_slots, of_graph] = medians_of([(&slots, wanted, Lent::library), (&graph, wanted, Lent::library)]);
-            let numbers = [wanted.to_string(), micros(of_slots), micros(of_graph), ratio(of_graph, of_slots)];
-            print_row(slots.name, &numbers);
+            let name = slots.name;
+            let [of_slots, of_graph] =
+                medians_of([[slots], [graph]].each_ref().map(|input| (&input[..], wanted, Lent::library as Call)));
+            print_row(name, &[wanted.to_string(), micros(of_slots), micros(of_graph), ratio(of_graph, of_slots)]);
         }
     }
 }
 
-fn print_rows_beside_free(name: &str, size: &str, rows: impl Iterator<Item = (Input, usize)>) {
+fn print_rows_beside_free(name: &str, size: &str, rows: impl Iterator<Item = (Vec<Input>, usize)>) {
     print_head(name, &[size, "N", "ours", "clearing", "rest", "free", "rest/free", "ours/free"]);
-    for (input, wanted) in rows {
-        assert_equal_lists(&input, wanted);
-        let [ours, clearing, free] = times(&input, [Lent::library, Lent::clear, Lent::free].map(|call| (wanted, call)));
+    for (inputs, wanted) in rows {
+        inputs.iter().for_each(|input| assert_equal_lists(input, wanted));
+        let [ours, clearing, free] =
+            times(&inputs, [Lent::library, Lent::clear, Lent::free].map(|call| (wanted, call)));
         let rest = ours.saturating_sub(clearing);
         let times = [ours, clearing, rest, free].map(micros);
-        print_numbers(&input, wanted, &[&times[..], &[ratio(rest, free), ratio(ours, free)]].concat());
+        print_numbers(&inputs[0], wanted, &[&times[..], &[ratio(rest, free), ratio(ours, free)]].concat());
     }
 }
 
 /// The library beside the second implementation, apart since that can take a hundred times as long.
 pub fn print_beside_second() {
     print_head("shape", &["n", "N", "ours", "second", "ratio"]);
-    for (input, wanted) in rows() {
-        let [ours, second] = times(&input, [(wanted, Lent::library), (wanted, Lent::second)]);
-        print_numbers(&input, wanted, &[micros(ours), micros(second), ratio(ours, second)]);
+    for (inputs, wanted) in rows() {
+        let [ours, second] = times(&inputs, [(wanted, Lent::library), (wanted, Lent::second)]);
+        print_numbers(&inputs[0], wanted, &[micros(ours), micros(second), ratio(ours, second)]);
     }
 }
 
@@ -128,20 +152,23 @@ impl Lent {
     }
 }
 
-/// The median time of each call on one input.
-fn times<const COUNT: usize>(input: &Input, calls: [(usize, Call); COUNT]) -> [Duration; COUNT] {
-    medians_of(calls.map(|(wanted, call)| (input, wanted, call)))
+/// The median time of each call, in the mean over some inputs.
+fn times<const COUNT: usize>(inputs: &[Input], calls: [(usize, Call); COUNT]) -> [Duration; COUNT] {
+    medians_of(calls.map(|(wanted, call)| (inputs, wanted, call)))
 }
 
-/// The median time of each call, of as many rounds as the time for one row allows.
-fn medians_of<const COUNT: usize>(calls: [(&Input, usize, Call); COUNT]) -> [Duration; COUNT] {
-    let mut calls = calls.map(|(input, wanted, call)| {
-        let mut lent = Lent::new(input, wanted);
-        move || call(&mut lent)
+/// The same with inputs for each call, of as many rounds as the time for one row allows.
+fn medians_of<const COUNT: usize>(calls: [(&[Input], usize, Call); COUNT]) -> [Duration; COUNT] {
+    let counts = calls.map(|(inputs, ..)| inputs.len() as u32);
+    let mut calls = calls.map(|(inputs, wanted, call)| {
+        let mut lent: Vec<Lent> = inputs.iter().map(|input| Lent::new(input, wanted)).collect();
+        move || lent.iter_mut().for_each(call)
     });
     let begin = Instant::now();
     calls.iter_mut().for_each(|call| call());
     let rounds = (BUDGET.as_secs_f64() / begin.elapsed().as_secs_f64()) as usize;
     let plan = Plan { rounds: rounds.clamp(5, 500), calls: 1 };
-    medians(plan, calls.each_mut().map(|call| call as &mut dyn FnMut()))
+    let mut medians = medians(plan, calls.each_mut().map(|call| call as &mut dyn FnMut()));
+    medians.iter_mut().zip(counts).for_each(|(median, count)| *median /= count);
+    medians
 }

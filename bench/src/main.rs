@@ -3,7 +3,8 @@
 
 use spireyerba_bench::{batch, conversions, listing, next_phrase, specimen};
 
-const TABLES: [(&str, fn()); 7] = [
+const TABLES: [(&str, fn()); 8] = [
+    ("office", listing::print_office),
     ("free", listing::print_beside_free),
     ("graphs", listing::print_graphs),
     ("conversions", conversions::print_table),
