@@ -263,13 +263,13 @@ next-of-span-returns : (t : ℕ) → next-of-span-lts.Need-returns (next-of-span
 unfolding nextOfSpan
 next-of-span-returns t c =
     λ f. elim f [
-      | zero ↦ λ h. absurd (omega (arith, $start .pre .1 .0 .order))
-      | suc g ↦ λ h. rw (ne-eqb ($start .args .rank) 0 (λ e. omega (arith, $start .pre .1 .1, e))) (rw (
-        ← $cell-number .ensures .0,
-        ← $back-at .ensures .0,
-        ← $back-pointer .ensures .0,
-        ← $advance-pairing .ensures g h,
-      ) ($next-rank .ensures))
+      | zero ↦ λ h. absurd (omega (arith, c .before .before .before .before .before .before .before .before .before .before .before .before .before .before .before .before .pre .1 .0 .order))
+      | suc g ↦ λ h. rw (ne-eqb (c .before .before .before .before .before .before .before .before .before .before .before .before .before .before .before .before .args .rank) 0 (λ e. omega (arith, c .before .before .before .before .before .before .before .before .before .before .before .before .before .before .before .before .pre .1 .1, e))) (rw (
+        ← c .before .before .before .before .before .before .before .before .before .before .cell-number .ensures .0,
+        ← c .before .before .before .before .before .before .before .before .before .back-at .ensures .0,
+        ← c .before .before .before .before .before .before .before .before .back-pointer .ensures .0,
+        ← c .before .before .before .before .before .before .advance-pairing .ensures g h,
+      ) (c .before .before .next-rank .ensures))
     ]
 
 pub +advance-pairing+extend+next-of-span-spec : {M : Type 1} → statement M
