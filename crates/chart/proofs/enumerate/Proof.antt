@@ -1,8 +1,17 @@
 -- Each call has the meaning of its part of the promise, from an index and a table of zeros.
 use Rattle.chart.specs.Chart.{enumerate, rootsFound}
+use Prim.Native.Nat.{ℕ, zero, suc}
+use mathlib.Core.Path.{_≡_, refl}
+use lib.ListN.{length, getD, replicate}
 use borrow.Author.Needs.{needs}
 use Rattle.chart.proofs.enumerate.Statement.{statement}
 use Rattle.chart.proofs.enumerate.Tie as tie
+
+-- zeros are zero, and so is what is read behind them
+zeros-at : (n x : ℕ) → _≡_ {A = ℕ} (getD (replicate n 0) x 0) 0
+zeros-at zero x = refl
+zeros-at (suc n) zero = refl
+zeros-at (suc n) (suc x) = zeros-at n x
 
 slice-aggregate-make-index : tie.Need-slice-aggregate-make-index
 slice-aggregate-make-index c = search needs
@@ -17,7 +26,7 @@ slice-aggregate-search : tie.Need-slice-aggregate-search
 slice-aggregate-search c = search needs
 
 search-requires : tie.Need-search-requires
-search-requires c κs = search needs
+search-requires c κs = (c .before .before .before .before .before .before .before .before .before .before .before .before .pre .0, search needs, λ x. rw (c .before .before .before .before .zero .ensures) (zeros-at (length (c .before .before .before .before .before .before .before .before .before .before .before .before .args .t .now)) x))
 
 root-requires : tie.Need-root-requires
 root-requires c κs = search needs

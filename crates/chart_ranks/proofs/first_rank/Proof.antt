@@ -35,9 +35,11 @@ same-length-4 c = search needs
 
 returns-2 : tie.Need-returns-2
 returns-2 c = (
-    rw (← c .before .before .before .before .before .before .before .cell-number .ensures .0, ← c .before .before .before .before .before .before .before .before .before .before .before .first-seeds .ensures) (c .before .before .before .before .before .before .put-key .ensures),
-    (covers-found (c .before .before .before .before .before .before .before .cell-number .result) _ (c .before .before .before .before .before .before .before .before .before .before .before .before .before .before .before .before .before .before .pre .0) (c .before .before .before .before .before .before .before .before .before .before .before .before .before .before .before .before .before .before .pre .1) (c .before .before .before .before .before .before .before .before .before .before .before .before .before .before .before .before .before .before .pre .2) (c .before .before .before .before .before .before .before .cell-number .ensures .0) (c .before .before .before .before .before .before .put-key .ensures) (c .before .before .mark .ensures),
-     λ w. words-marked w (c .before .before .mark .ensures)),
+  rw (← c .before .before .before .before .before .before .before .cell-number .ensures .0, ← c .before .before .before .before .before .before .before .before .before .before .before .first-seeds .ensures) (c .before .before .before .before .before .before .put-key .ensures),
+  (
+    covers-found (c .before .before .before .before .before .before .before .cell-number .result) _ (c .before .before .before .before .before .before .before .before .before .before .before .before .before .before .before .before .before .before .pre .0) (c .before .before .before .before .before .before .before .before .before .before .before .before .before .before .before .before .before .before .pre .1) (c .before .before .before .before .before .before .before .before .before .before .before .before .before .before .before .before .before .before .pre .2) (c .before .before .before .before .before .before .before .cell-number .ensures .0) (c .before .before .before .before .before .before .put-key .ensures) (c .before .before .mark .ensures),
+    λ w. words-marked w (c .before .before .mark .ensures),
+  ),
 )
 
 pub first-rank-spec : {M : Type 1} → statement M

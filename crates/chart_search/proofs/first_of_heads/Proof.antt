@@ -39,9 +39,9 @@ of-head-requires c κs = search needs
 
 first-leaf-requires : tie.Need-first-leaf-requires Inv-loop μ-loop
 first-leaf-requires c κs = rw (c .of-head .ensures) (
-    search needs,
-    search needs,
-    λ e. heads-complete _ _ _ _ _ _ (symbolOf (c .before .before .loop .a)) (c .before .before .before .before .before .before .before .before .before .before .args .span .from) (c .before .before .before .before .before .before .before .before .before .before .args .span .to) (c .before .before .before .before .before .before .before .before .before .before .pre .2) (c .before .before .before .heads-over .ensures) (search needs) e,
+  search needs,
+  search needs,
+  λ e. heads-complete _ _ _ _ _ _ (symbolOf (c .before .before .loop .a)) (c .before .before .before .before .before .before .before .before .before .before .args .span .from) (c .before .before .before .before .before .before .before .before .before .before .args .span .to) (c .before .before .before .before .before .before .before .before .before .before .pre .2) (c .before .before .before .heads-over .ensures) (search needs) e,
 )
 
 first-rank-requires : tie.Need-first-rank-requires Inv-loop μ-loop
@@ -55,12 +55,12 @@ loop-less c = search needs
 
 loop-again : tie.Need-loop-again Inv-loop μ-loop
 loop-again c = (
-    search needs,
-    search needs,
-    search needs,
-    c .before .before .before .before .first-rank .ensures .1 .0,
-    c .before .before .before .before .first-rank .ensures .1 .1 (c .before .before .before .before .before .before .before .before .before .before .loop .inv .4),
-    rw (iter-more, ← c .before .before .before .before .before .before .before .before .before .before .loop .inv .5, first-of-span _ _ _ _ _ (cell (symbolOf (c .before .before .before .before .before .before .before .before .before .before .loop .a)) (c .before .before .before .before .before .before .before .before .before .before .before .before .before .before .before .before .before .before .args .span .from) (c .before .before .before .before .before .before .before .before .before .before .before .before .before .before .before .before .before .before .args .span .to)) (c .before .before .before .before .before .before .before .before .before .before .before .before .before .before .before .before .before .before .pre .0 .order), ← c .before .before .before .before .before .before .before .before .of-head .ensures, ← c .before .before .before .before .before .before .before .first-leaf .ensures .0) (c .before .before .before .before .first-rank .ensures .0),
+  search needs,
+  search needs,
+  search needs,
+  c .before .before .before .before .first-rank .ensures .1 .0,
+  c .before .before .before .before .first-rank .ensures .1 .1 (c .before .before .before .before .before .before .before .before .before .before .loop .inv .4),
+  rw (iter-more, ← c .before .before .before .before .before .before .before .before .before .before .loop .inv .5, first-of-span _ _ _ _ _ (cell (symbolOf (c .before .before .before .before .before .before .before .before .before .before .loop .a)) (c .before .before .before .before .before .before .before .before .before .before .before .before .before .before .before .before .before .before .args .span .from) (c .before .before .before .before .before .before .before .before .before .before .before .before .before .before .before .before .before .before .args .span .to)) (c .before .before .before .before .before .before .before .before .before .before .before .before .before .before .before .before .before .before .pre .0 .order), ← c .before .before .before .before .before .before .before .before .of-head .ensures, ← c .before .before .before .before .before .before .before .first-leaf .ensures .0) (c .before .before .before .before .first-rank .ensures .0),
 )
 
 same-length : tie.Need-same-length Inv-loop μ-loop

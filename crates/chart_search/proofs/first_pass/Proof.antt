@@ -36,12 +36,12 @@ loop-less c = search needs
 
 loop-again : tie.Need-loop-again Inv-loop μ-loop
 loop-again c = (
-    search needs,
-    search needs,
-    search needs,
-    search needs,
-    search needs,
-    rw (iter-more, ← c .before .before .before .before .before .before .before .before .loop .inv .5) (c .before .before .before .before .first-of-length .ensures .0),
+  search needs,
+  search needs,
+  search needs,
+  search needs,
+  search needs,
+  rw (iter-more, ← c .before .before .before .before .before .before .before .before .loop .inv .5) (c .before .before .before .before .first-of-length .ensures .0),
 )
 
 same-length : tie.Need-same-length Inv-loop μ-loop

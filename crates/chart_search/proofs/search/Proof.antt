@@ -29,9 +29,9 @@ slice-aggregate-first-pass c = search needs
 
 first-pass-requires : tie.Need-first-pass-requires Inv-loop μ-loop
 first-pass-requires c κs = (
-    c .before .before .before .before .before .before .before .before .before .pre .0,
-    covers-zeros _ _ (c .before .before .before .before .before .before .before .before .before .args .d) (omega (arith, c .before .before .before .mark-words .kept .0)) (c .before .before .before .before .before .before .before .before .before .pre .2),
-    c .before .before .before .mark-words .ensures,
+  c .before .before .before .before .before .before .before .before .before .pre .0,
+  covers-zeros _ _ (c .before .before .before .before .before .before .before .before .before .args .d) (omega (arith, c .before .before .before .mark-words .kept .0)) (c .before .before .before .before .before .before .before .before .before .pre .2),
+  c .before .before .before .mark-words .ensures,
 )
 
 sub-m : tie.Need-sub-m Inv-loop μ-loop
