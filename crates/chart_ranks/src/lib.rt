@@ -22,7 +22,7 @@ ghost use mathlib.Core.Path.{_≡_};
 ghost use Prim.Native.Nat.{_+_, _-_, _*_, _<_, _≤_};
 ghost use Rattle.chart_keys.specs.Keys.{Digits, keyNumber, noKey};
 ghost use Rattle.chart_table.specs.Table.{InTable, Sized, mostRanks, cellBound, cellNumber, putKey};
-ghost use Rattle.chart_masks.specs.Masks.{Covers, Words};
+ghost use Rattle.chart_masks.specs.Masks.{Covers, Ruled};
 ghost use Rattle.chart_candidates.specs.Candidates.{seeds};
 ghost use Rattle.chart_ranks.specs.Ranks.{foundAt, nextRank};
 
@@ -60,7 +60,7 @@ pub fn first_rank(
     requires { ⌜ (InTable d c) × (c .head .0 < d .symbols) × (Covers (now masks) (now t) d) × (keyNumber leaf ≤ noKey) ⌝ }
     ensures { λ _. ⌜ now (t .exit) ≡ putKey (now (t .entry)) d (cellNumber d c) 0 (seeds (now (t .entry)) d (now (rules .entry)) (now (index .entry)) c 0 (keyNumber leaf)) ⌝ }
     ensures { λ _. ⌜ Covers (now (masks .exit)) (now (t .exit)) d ⌝ }
-    ensures { λ _. ⌜ (Words (now (rules .entry)) (now (index .entry)) (d .symbols) (now (masks .entry)) → Words (now (rules .entry)) (now (index .entry)) (d .symbols) (now (masks .exit))) ⌝ }
+    ensures { λ _. ⌜ (Ruled (now (rules .entry)) (now (index .entry)) d (now (masks .entry)) → Ruled (now (rules .entry)) (now (index .entry)) d (now (masks .exit))) ⌝ }
 {
     let key = first_seeds(&t[..], &masks[..], d, rules, index, c, leaf);
     if PRICES <= key.price {

@@ -1,2 +1,3 @@
--- The first rank of a cell.
+-- The first rank of a cell, and zeros.
 pub mod Fuel
+pub mod Zeros

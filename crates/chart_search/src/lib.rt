@@ -5,7 +5,9 @@ use chart_keys::BackPointer;
 use chart_keys::back_pointer;
 use chart_masks::MASKS;
 use chart_masks::heads_over;
-use chart_masks::mark_words;
+use chart_masks::lacks;
+use chart_masks::live_heads;
+use chart_masks::mark_rules;
 use chart_ranks::first_rank;
 use chart_ranks::next_rank;
 use chart_table::Cell;
@@ -24,7 +26,7 @@ ghost use Prim.Native.Nat.{ℕ, suc, _+_, _-_, _*_, _<_, _≤_};
 ghost use lib.ListN.{getD};
 ghost use Rattle.chart_keys.specs.Keys.{Digits};
 ghost use Rattle.chart_table.specs.Table.{lastPlace, Sized, InTable};
-ghost use Rattle.chart_masks.specs.Masks.{Covers, Words};
+ghost use Rattle.chart_masks.specs.Masks.{Covers, Ruled};
 ghost use Rattle.chart_search.specs.Search.{extend, advancePairing, nextOfSpan, firstOfHeads, firstOfLength, firstPass, nextOfRoot, search};
 
 // Finds a further rank of a cell, where the ranks below are found, with what it needs of the parts.
@@ -100,7 +102,7 @@ fn extend(
 }
 
 // Finds the first rank of every head over a cell's span. The masks cover the table before and afterwards, here and below, and say
-// which heads have leaves.
+// which heads have leaves and which may have parts. What is found over the span brings masks that have more heads.
 fn first_of_heads(
     t: &mut [u32],
     masks: &mut [u32],
@@ -110,17 +112,22 @@ fn first_of_heads(
     d: Layout,
     span: Cell,
 )
-    requires { ⌜ (InTable d span) × (Covers (now masks) (now t) d) × (Words (now rules) (now index) (d .symbols) (now masks)) ⌝ }
+    requires { ⌜ (InTable d span) × (Covers (now masks) (now t) d) × (Ruled (now rules) (now index) d (now masks)) ⌝ }
     ensures { λ _. ⌜ now (t .exit) ≡ firstOfHeads (now (rules .entry)) (now (edges .entry)) (now (index .entry)) d (now (t .entry)) (span .from) (span .to) ⌝ }
     ensures { λ _. ⌜ Covers (now (masks .exit)) (now (t .exit)) d ⌝ }
-    ensures { λ _. ⌜ Words (now (rules .entry)) (now (index .entry)) (d .symbols) (now (masks .exit)) ⌝ }
+    ensures { λ _. ⌜ Ruled (now (rules .entry)) (now (index .entry)) d (now (masks .exit)) ⌝ }
 {
-    let heads = heads_over(&masks[..], edges, index, span);
+    let leafy = heads_over(&masks[..], edges, index, span);
+    let mut live = live_heads(&masks[..], d, span, leafy);
     let n = d.symbols;
     for a in 0..n {
+        if lacks(live, a) {
+            continue;
+        }
         let c = of_head(span, Sym(a as u32));
-        let leaf = first_leaf(rules, edges, index, heads, c);
+        let leaf = first_leaf(rules, edges, index, leafy, c);
         first_rank(t, masks, rules, index, d, c, leaf);
+        live = live_heads(&masks[..], d, span, leafy);
     }
 }
 
@@ -134,10 +141,10 @@ fn first_of_length(
     d: Layout,
     len: usize,
 )
-    requires { ⌜ (Sized d) × (0 < len) × (len ≤ d .places) × (Covers (now masks) (now t) d) × (Words (now rules) (now index) (d .symbols) (now masks)) ⌝ }
+    requires { ⌜ (Sized d) × (0 < len) × (len ≤ d .places) × (Covers (now masks) (now t) d) × (Ruled (now rules) (now index) d (now masks)) ⌝ }
     ensures { λ _. ⌜ now (t .exit) ≡ firstOfLength (now (rules .entry)) (now (edges .entry)) (now (index .entry)) d (now (t .entry)) len ⌝ }
     ensures { λ _. ⌜ Covers (now (masks .exit)) (now (t .exit)) d ⌝ }
-    ensures { λ _. ⌜ Words (now (rules .entry)) (now (index .entry)) (d .symbols) (now (masks .exit)) ⌝ }
+    ensures { λ _. ⌜ Ruled (now (rules .entry)) (now (index .entry)) d (now (masks .exit)) ⌝ }
 {
     let m = d.places + 1 - len;
     for i in 0..m {
@@ -159,7 +166,7 @@ fn first_pass(
     index: &[u32],
     d: Layout,
 )
-    requires { ⌜ (Sized d) × (Covers (now masks) (now t) d) × (Words (now rules) (now index) (d .symbols) (now masks)) ⌝ }
+    requires { ⌜ (Sized d) × (Covers (now masks) (now t) d) × (Ruled (now rules) (now index) d (now masks)) ⌝ }
     ensures { λ _. ⌜ now (t .exit) ≡ firstPass (now (rules .entry)) (now (edges .entry)) (now (index .entry)) d (now (t .entry)) ⌝ }
 {
     let n = d.places;
@@ -186,7 +193,7 @@ pub fn search(t: &mut [u32], rules: &[u32], edges: &[u32], index: &[u32], d: Lay
     ensures { λ _. ⌜ now (t .exit) ≡ search (now (rules .entry)) (now (edges .entry)) (now (index .entry)) d (now (t .entry)) ⌝ }
 {
     let mut masks = [0u32; MASKS];
-    mark_words(&mut masks, rules, index, d.symbols);
+    mark_rules(&mut masks, rules, index, d);
     first_pass(t, &mut masks, rules, edges, index, d);
     let m = d.ranks - 1;
     for x in 0..m {

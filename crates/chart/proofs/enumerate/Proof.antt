@@ -1,17 +1,10 @@
 -- Each call has the meaning of its part of the promise, from an index and a table of zeros.
 use Rattle.chart.specs.Chart.{enumerate, rootsFound}
-use Prim.Native.Nat.{ℕ, zero, suc}
-use mathlib.Core.Path.{_≡_, refl}
-use lib.ListN.{length, getD, replicate}
+use lib.ListN.{length}
+use Rattle.chart_search.proofs.Zeros.{zeros-at}
 use borrow.Author.Needs.{needs}
 use Rattle.chart.proofs.enumerate.Statement.{statement}
 use Rattle.chart.proofs.enumerate.Tie as tie
-
--- zeros are zero, and so is what is read behind them
-zeros-at : (n x : ℕ) → _≡_ {A = ℕ} (getD (replicate n 0) x 0) 0
-zeros-at zero x = refl
-zeros-at (suc n) zero = refl
-zeros-at (suc n) (suc x) = zeros-at n x
 
 slice-aggregate-make-index : tie.Need-slice-aggregate-make-index
 slice-aggregate-make-index c = search needs

@@ -1,7 +1,7 @@
 -- What is found is stored and marked; where nothing is found, there is nothing to store.
 use mathlib.Core.Path.{sym}
 use Rattle.chart_table.proofs.Keys.{put-none}
-use Rattle.chart_masks.proofs.Covering.{covers-found, words-marked}
+use Rattle.chart_masks.proofs.Covering.{covers-found, ruled-marked}
 use borrow.Author.Needs.{needs}
 use Rattle.chart_ranks.proofs.first_rank.Statement.{statement}
 use Rattle.chart_ranks.proofs.first_rank.Tie as tie
@@ -38,7 +38,7 @@ returns-2 c = (
   rw (← c .before .before .before .before .before .before .before .cell-number .ensures .0, ← c .before .before .before .before .before .before .before .before .before .before .before .first-seeds .ensures) (c .before .before .before .before .before .before .put-key .ensures),
   (
     covers-found (c .before .before .before .before .before .before .before .cell-number .result) _ (c .before .before .before .before .before .before .before .before .before .before .before .before .before .before .before .before .before .before .pre .0) (c .before .before .before .before .before .before .before .before .before .before .before .before .before .before .before .before .before .before .pre .1) (c .before .before .before .before .before .before .before .before .before .before .before .before .before .before .before .before .before .before .pre .2) (c .before .before .before .before .before .before .before .cell-number .ensures .0) (c .before .before .before .before .before .before .put-key .ensures) (c .before .before .mark .ensures),
-    λ w. words-marked w (c .before .before .mark .ensures),
+    λ w. ruled-marked (c .before .before .before .before .before .before .before .before .before .before .before .before .before .before .before .before .before .before .pre .0 .sized .symbols) (c .before .before .before .before .before .before .before .before .before .before .before .before .before .before .before .before .before .before .pre .1) (search needs) (search needs) w (c .before .before .mark .ensures),
   ),
 )
 

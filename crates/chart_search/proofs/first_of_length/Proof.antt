@@ -5,14 +5,14 @@ use lib.ListN.{length}
 use borrow.Author.Needs.{needs}
 use Rattle.packing.specs.Loop.{iter}
 use Rattle.packing.proofs.Loop.{iter-more, iter-end}
-use Rattle.chart_masks.specs.Masks.{Covers, Words}
+use Rattle.chart_masks.specs.Masks.{Covers, Ruled}
 use Rattle.chart_search.specs.Search.{firstOfHeads, firstOfLength}
 use Rattle.chart_search.proofs.first_of_length.Statement.{statement}
 use Rattle.chart_search.proofs.first_of_length.Tie as tie
 
 abbrev Inv-loop : tie.InvT-loop
 Inv-loop t₀ masks₀ rules edges index d len m i₀ t masks i =
-    (i ≤ m) × (length t ≡ length t₀) × (length masks ≡ length masks₀) × Covers masks t d × Words rules index (d .symbols) masks
+    (i ≤ m) × (length t ≡ length t₀) × (length masks ≡ length masks₀) × Covers masks t d × Ruled rules index d masks
     × (t ≡ iter (λ x i. firstOfHeads rules edges index d x i (i + len)) t₀ i)
 
 abbrev μ-loop : tie.MeasureT-loop

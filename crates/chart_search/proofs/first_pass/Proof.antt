@@ -5,14 +5,14 @@ use lib.ListN.{length}
 use borrow.Author.Needs.{needs}
 use Rattle.packing.specs.Loop.{iter}
 use Rattle.packing.proofs.Loop.{iter-more, iter-end}
-use Rattle.chart_masks.specs.Masks.{Covers, Words}
+use Rattle.chart_masks.specs.Masks.{Covers, Ruled}
 use Rattle.chart_search.specs.Search.{firstOfLength, firstPass}
 use Rattle.chart_search.proofs.first_pass.Statement.{statement}
 use Rattle.chart_search.proofs.first_pass.Tie as tie
 
 abbrev Inv-loop : tie.InvT-loop
 Inv-loop t₀ masks₀ rules edges index d n x₀ t masks x =
-    (x ≤ n) × (length t ≡ length t₀) × (length masks ≡ length masks₀) × Covers masks t d × Words rules index (d .symbols) masks
+    (x ≤ n) × (length t ≡ length t₀) × (length masks ≡ length masks₀) × Covers masks t d × Ruled rules index d masks
     × (t ≡ iter (λ u y. firstOfLength rules edges index d u (y + 1)) t₀ x)
 
 abbrev μ-loop : tie.MeasureT-loop

@@ -1,28 +1,31 @@
--- The first pass, with masks that have words and no places, which cover a table of zeros, and then the loop is the iteration over the
+-- The first pass, with masks that have rules and no places, which cover a table of zeros, and then the loop is the iteration over the
 -- further ranks of the root. (The model's name is a tactic's: it stays qualified.)
 use Prim.Native.Nat.{_≤_, _-_}
 use mathlib.Core.Path.{_≡_, _∙_}
 use native.Mathlib.Omega.{arith}
 use lib.ListN.{length}
-use borrow.Author.Needs.{needs}
 use Rattle.packing.specs.Loop.{iter}
 use Rattle.packing.proofs.Loop.{iter-more, iter-end}
+use Rattle.chart_masks.specs.Masks.{maskNumbers}
 use Rattle.chart_masks.proofs.Covering.{covers-zeros}
 use Rattle.chart_search.specs.Search as model
+use Rattle.chart_search.proofs.Zeros.{zeros-at}
+use borrow.Author.Needs.{needs}
 use Rattle.chart_search.proofs.search.Statement.{statement}
 use Rattle.chart_search.proofs.search.Tie as tie
 
 abbrev Inv-loop : tie.InvT-loop
-Inv-loop t₀ rules edges index d m x₀ t x = (x ≤ m) × (length t ≡ length t₀) × (t ≡ iter (model.nextOfRoot rules edges index d) t₀ x)
+Inv-loop t₀ rules edges index d m x₀ t x =
+    (x ≤ m) × (length t ≡ length t₀) × (t ≡ iter (model.nextOfRoot rules edges index d) t₀ x)
 
 abbrev μ-loop : tie.MeasureT-loop
 μ-loop t₀ rules edges index d m x₀ t x = m - x
 
-slice-aggregate-mark-words : tie.Need-slice-aggregate-mark-words Inv-loop μ-loop
-slice-aggregate-mark-words c = search needs
+slice-aggregate-mark-rules : tie.Need-slice-aggregate-mark-rules Inv-loop μ-loop
+slice-aggregate-mark-rules c = search needs
 
-mark-words-requires : tie.Need-mark-words-requires Inv-loop μ-loop
-mark-words-requires c κs = search needs
+mark-rules-requires : tie.Need-mark-rules-requires Inv-loop μ-loop
+mark-rules-requires c κs = (c .before .before .before .before .before .pre .0 .symbols, search needs, zeros-at maskNumbers)
 
 slice-aggregate-first-pass : tie.Need-slice-aggregate-first-pass Inv-loop μ-loop
 slice-aggregate-first-pass c = search needs
@@ -30,8 +33,8 @@ slice-aggregate-first-pass c = search needs
 first-pass-requires : tie.Need-first-pass-requires Inv-loop μ-loop
 first-pass-requires c κs = (
   c .before .before .before .before .before .before .before .before .before .pre .0,
-  covers-zeros _ _ (c .before .before .before .before .before .before .before .before .before .args .d) (omega (arith, c .before .before .before .mark-words .kept .0)) (c .before .before .before .before .before .before .before .before .before .pre .2),
-  c .before .before .before .mark-words .ensures,
+  covers-zeros _ _ (c .before .before .before .before .before .before .before .before .before .args .d) (omega (arith, c .before .before .before .mark-rules .kept .0)) (c .before .before .before .before .before .before .before .before .before .pre .2),
+  c .before .before .before .mark-rules .ensures,
 )
 
 sub-m : tie.Need-sub-m Inv-loop μ-loop
@@ -66,8 +69,8 @@ search-spec =
     (tie.spec
     Inv-loop
     μ-loop
-    slice-aggregate-mark-words
-    mark-words-requires
+    slice-aggregate-mark-rules
+    mark-rules-requires
     slice-aggregate-first-pass
     first-pass-requires
     sub-m
