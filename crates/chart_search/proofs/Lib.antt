@@ -1,3 +1,2 @@
--- The first rank of a cell, and zeros.
+-- The first rank of a cell.
 pub mod Fuel
-pub mod Zeros

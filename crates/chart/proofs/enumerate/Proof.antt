@@ -1,7 +1,7 @@
 -- Each call has the meaning of its part of the promise, from an index and a table of zeros.
 use Rattle.chart.specs.Chart.{enumerate, rootsFound}
 use lib.ListN.{length}
-use Rattle.chart_search.proofs.Zeros.{zeros-at}
+use Rattle.chart_index.proofs.Zeros.{zeros-at}
 use borrow.Author.Needs.{needs}
 use Rattle.chart.proofs.enumerate.Statement.{statement}
 use Rattle.chart.proofs.enumerate.Tie as tie

@@ -9,7 +9,7 @@ use Rattle.packing.proofs.Loop.{iter-more, iter-end}
 use Rattle.chart_masks.specs.Masks.{maskNumbers}
 use Rattle.chart_masks.proofs.Covering.{covers-zeros}
 use Rattle.chart_search.specs.Search as model
-use Rattle.chart_search.proofs.Zeros.{zeros-at}
+use Rattle.chart_index.proofs.Zeros.{zeros-at}
 use borrow.Author.Needs.{needs}
 use Rattle.chart_search.proofs.search.Statement.{statement}
 use Rattle.chart_search.proofs.search.Tie as tie
