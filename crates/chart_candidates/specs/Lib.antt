@@ -1,2 +1,3 @@
 -- Leaves and seeds.
 pub mod Candidates
+pub mod Passed

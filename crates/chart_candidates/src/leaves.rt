@@ -12,21 +12,26 @@ use chart_keys::Key;
 use chart_keys::back_number;
 use chart_keys::leaf_price;
 use chart_keys::lesser;
+use chart_keys::no_key;
+use chart_masks::lacks;
 use chart_table::Cell;
 use packing::Rule;
 use packing::format::EDGE_COST_AT;
 use packing::format::EDGE_TO_AT;
 use packing::format::EDGE_WORD_AT;
 use packing::format::NUMBERS_PER_EDGE;
+use packing::format::NUMBERS_PER_RULE;
+use packing::format::RULE_FIRST_AT;
 ghost use mathlib.Core.Path.{_≡_};
 ghost use Prim.Native.Nat.{_+_, _-_, _*_, _<_, _≤_};
 ghost use Rattle.packing.specs.Flat.{ruleAt};
-ghost use Rattle.chart_keys.specs.Keys.{keyNumber};
+ghost use Rattle.chart_keys.specs.Keys.{keyNumber, noKey};
 ghost use Rattle.chart_table.specs.Table.{lastPlace};
+ghost use Rattle.chart_masks.specs.Masks.{digit, NoLeaf};
 ghost use Rattle.chart_candidates.specs.Candidates.{wordLeaf, edgeLeaves, leaves};
 
 // The best so far and the leaf of an edge by a rule, if that is a rule of the edge's word.
-fn word_leaf(rules: &[u32], edges: &[u32], e: usize, r: usize, floor: Key, best: Key) -> Key
+fn rule_leaf(rules: &[u32], edges: &[u32], e: usize, r: usize, floor: Key, best: Key) -> Key
     requires { ⌜ (e < 4294967296) × (r < 4294967296) ⌝ }
     ensures { λ x. ⌜ keyNumber x ≡ wordLeaf (now (edges .entry)) e (keyNumber floor) (keyNumber best) r (ruleAt (now (rules .entry)) r) ⌝ }
 {
@@ -49,6 +54,18 @@ fn word_leaf(rules: &[u32], edges: &[u32], e: usize, r: usize, floor: Key, best:
             }
         }
     }
+}
+
+// The same. Most rules have another word, so that is compared before a rule is taken apart.
+fn word_leaf(rules: &[u32], edges: &[u32], e: usize, r: usize, floor: Key, best: Key) -> Key
+    requires { ⌜ (e < 4294967296) × (r < 4294967296) ⌝ }
+    ensures { λ x. ⌜ keyNumber x ≡ wordLeaf (now (edges .entry)) e (keyNumber floor) (keyNumber best) r (ruleAt (now (rules .entry)) r) ⌝ }
+{
+    let word = narrow_at(rules, NUMBERS_PER_RULE * r + RULE_FIRST_AT);
+    if word != narrow_at(edges, NUMBERS_PER_EDGE * e + EDGE_WORD_AT) {
+        return best;
+    }
+    rule_leaf(rules, edges, e, r, floor, best)
 }
 
 // The best so far and the leaves of an edge, if it reaches the cell's last place.
@@ -90,4 +107,15 @@ pub fn leaves(rules: &[u32], edges: &[u32], index: &[u32], c: Cell, floor: Key, 
         so_far = edge_leaves(rules, edges, index, c, number_at(index, y), floor, so_far);
     }
     so_far
+}
+
+// The least leaf of a cell, if a mask of the heads that may have one has its head.
+pub fn first_leaf(rules: &[u32], edges: &[u32], index: &[u32], heads: u32, c: Cell) -> Key
+    requires { ⌜ (c .from ≤ lastPlace) × (c .head .0 ≤ lastPlace) × (digit heads (c .head .0) ≡ 0 → NoLeaf (now rules) (now edges) (now index) c) ⌝ }
+    ensures { λ x. ⌜ (keyNumber x ≡ leaves (now (rules .entry)) (now (edges .entry)) (now (index .entry)) c 0 noKey) × (keyNumber x ≤ noKey) ⌝ }
+{
+    if lacks(heads, wide(c.head.0)) {
+        return no_key();
+    }
+    leaves(rules, edges, index, c, Key { price: 0, back: 0 }, no_key())
 }

@@ -25,6 +25,12 @@ pub struct PairRule {
     pub weight: u32,
 }
 
+// What is looked for: the least key above a floor and below the best so far.
+pub struct Range {
+    pub floor: Key,
+    pub best: Key,
+}
+
 // The key of the tree that a rule of weight w joins from two cells, with the ranks of a back pointer.
 pub fn pair_key(t: &[u32], d: Layout, left: Cell, right: Cell, w: u32, b: BackPointer) -> Key
     requires { ⌜ (Sized d) × (left .from ≤ lastPlace) × (0 < left .to) × (left .to ≤ lastPlace) ⌝ }

@@ -1,6 +1,8 @@
 // The seeds of a cell: for each pair rule of its head and each split, the first of the left part with the first of the right.
 use crate::PairRule;
+use crate::Range;
 use crate::pair_key;
+use arrays::narrow_at;
 use arrays::number_at;
 use arrays::rule_at;
 use arrays::wide;
@@ -17,6 +19,7 @@ use chart_keys::seed_numbers::floor_number;
 use chart_keys::seed_numbers::key_of_number;
 use chart_keys::seed_numbers::lesser_height;
 use chart_keys::seed_numbers::seed_number;
+use chart_masks::meet;
 use chart_table::Cell;
 use chart_table::ENTRY_NUMBERS;
 use chart_table::Layout;
@@ -26,17 +29,23 @@ use chart_table::left_part;
 use chart_table::price_within;
 use chart_table::right_part;
 use packing::Rule;
+use packing::Sym;
 use packing::format::MAX_RULES;
 use packing::format::MAX_WEIGHT;
+use packing::format::NUMBERS_PER_RULE;
+use packing::format::RULE_FIRST_AT;
+use packing::format::RULE_SECOND_AT;
 ghost use mathlib.Core.Path.{_≡_};
-ghost use mathlib.Core.Bool.{true};
+ghost use mathlib.Core.Bool.{true, false};
 ghost use Prim.Native.Nat.{_+_, _-_, _*_, _<_, _≤_};
 ghost use lib.ListN.{length};
 ghost use Rattle.packing.specs.Flat.{ruleAt};
-ghost use Rattle.chart_keys.specs.Keys.{back, keyNumber};
+ghost use Rattle.chart_keys.specs.Keys.{back, keyNumber, noKey};
 ghost use Rattle.chart_keys.specs.Seeds.{Divides};
 ghost use Rattle.chart_table.specs.Table.{InTable, leftPart, rightPart, cellNumber, entryOf};
+ghost use Rattle.chart_masks.specs.Masks.{Covered};
 ghost use Rattle.chart_candidates.specs.Candidates.{Small, splitSeeds, ruleSeeds, seeds};
+ghost use Rattle.chart_candidates.specs.Passed.{RuleApart, NoSeed};
 
 // The back pointer of the first of the left part with the first of the right.
 fn seed(r: usize, split: usize) -> BackPointer
@@ -141,25 +150,103 @@ fn rule_seeds(t: &[u32], d: Layout, rules: &[u32], c: Cell, r: usize, floor: Key
     }
 }
 
+// Whether the parts of rule r can be found in a cell. Its symbols are looked at before it is taken apart.
+fn parts_meet(masks: &[u32], d: Layout, rules: &[u32], c: Cell, r: usize) -> bool
+    requires { ⌜ (InTable d c) × (r < 4294967296) ⌝ }
+    ensures { λ x. ⌜ (x ≡ false → RuleApart (now (masks .entry)) d (now (rules .entry)) c r) ⌝ }
+{
+    let first = Sym(narrow_at(rules, NUMBERS_PER_RULE * r + RULE_FIRST_AT));
+    let second = Sym(narrow_at(rules, NUMBERS_PER_RULE * r + RULE_SECOND_AT));
+    meet(masks, d, first, second, c)
+}
+
+// The best so far and the seeds of rule r, which is passed over where its parts cannot be found.
+fn masked_seeds(
+    t: &[u32],
+    masks: &[u32],
+    d: Layout,
+    rules: &[u32],
+    c: Cell,
+    r: usize,
+    range: Range,
+) -> Key
+    requires { ⌜ (InTable d c) × (r < 4294967296) × (Covered (now masks) (now t) d) × (keyNumber (range .best) ≤ noKey) ⌝ }
+    ensures { λ x. ⌜ keyNumber x ≡ ruleSeeds (now (t .entry)) d c (keyNumber (range .floor)) (keyNumber (range .best)) r (ruleAt (now (rules .entry)) r) ⌝ }
+{
+    if parts_meet(masks, d, rules, c, r) {
+        return rule_seeds(t, d, rules, c, r, range.floor, range.best);
+    }
+    range.best
+}
+
 // The best so far and the seeds of a cell.
 pub fn seeds(
     t: &[u32],
+    masks: &[u32],
     d: Layout,
     rules: &[u32],
     index: &[u32],
     c: Cell,
-    floor: Key,
-    best: Key,
+    range: Range,
 ) -> Key
+    requires { ⌜ (InTable d c) × (Covered (now masks) (now t) d) × (keyNumber (range .best) ≤ noKey) ⌝ }
+    ensures { λ x. ⌜ keyNumber x ≡ seeds (now (t .entry)) d (now (rules .entry)) (now (index .entry)) c (keyNumber (range .floor)) (keyNumber (range .best)) ⌝ }
+{
+    let floor = range.floor;
+    let head = wide(c.head.0);
+    let start = class_start(index, PAIR_BASE, head);
+    let end = class_end(index, PAIR_BASE, head);
+    let mut so_far = range.best;
+    for y in start..end {
+        let r = number_at(index, y);
+        so_far = masked_seeds(
+            t,
+            masks,
+            d,
+            rules,
+            c,
+            r,
+            Range {
+                floor,
+                best: so_far,
+            },
+        );
+    }
+    so_far
+}
+
+// Whether a pair rule of a cell's head has parts that can be found in it.
+fn has_seeds(masks: &[u32], d: Layout, rules: &[u32], index: &[u32], c: Cell) -> bool
     requires { ⌜ InTable d c ⌝ }
-    ensures { λ x. ⌜ keyNumber x ≡ seeds (now (t .entry)) d (now (rules .entry)) (now (index .entry)) c (keyNumber floor) (keyNumber best) ⌝ }
+    ensures { λ x. ⌜ (x ≡ false → NoSeed (now (masks .entry)) d (now (rules .entry)) (now (index .entry)) c) ⌝ }
 {
     let head = wide(c.head.0);
     let start = class_start(index, PAIR_BASE, head);
     let end = class_end(index, PAIR_BASE, head);
-    let mut so_far = best;
     for y in start..end {
-        so_far = rule_seeds(t, d, rules, c, number_at(index, y), floor, so_far);
+        if parts_meet(masks, d, rules, c, number_at(index, y)) {
+            return true;
+        }
     }
-    so_far
+    false
+}
+
+// The lesser of a leaf and the seeds of a cell. Most cells of an office grammar have none, and it costs less to see that first.
+pub fn first_seeds(
+    t: &[u32],
+    masks: &[u32],
+    d: Layout,
+    rules: &[u32],
+    index: &[u32],
+    c: Cell,
+    leaf: Key,
+) -> Key
+    requires { ⌜ (InTable d c) × (Covered (now masks) (now t) d) × (keyNumber leaf ≤ noKey) ⌝ }
+    ensures { λ x. ⌜ keyNumber x ≡ seeds (now (t .entry)) d (now (rules .entry)) (now (index .entry)) c 0 (keyNumber leaf) ⌝ }
+{
+    if has_seeds(masks, d, rules, index, c) {
+        let floor = Key { price: 0, back: 0 };
+        return seeds(t, masks, d, rules, index, c, Range { floor, best: leaf });
+    }
+    leaf
 }

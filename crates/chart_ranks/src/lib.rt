@@ -1,11 +1,14 @@
 // One rank of a cell written into the work table, from what the table has of it and of its parts.
 mod selection;
 
+use chart_candidates::seeds::first_seeds;
 use chart_keys::BackPointer;
 use chart_keys::Key;
+use chart_keys::PRICES;
 use chart_keys::back_pointer;
 use chart_keys::before;
 use chart_keys::no_key;
+use chart_masks::mark;
 use chart_queue::extract_min;
 use chart_table::Cell;
 use chart_table::Layout;
@@ -13,14 +16,15 @@ use chart_table::back_at;
 use chart_table::cell_number;
 use chart_table::price_at;
 use chart_table::put_key;
-use selection::least_initial;
 use selection::replacement;
 use selection::successors;
 ghost use mathlib.Core.Path.{_≡_};
 ghost use Prim.Native.Nat.{_+_, _-_, _*_, _<_, _≤_};
-ghost use Rattle.chart_keys.specs.Keys.{Digits};
-ghost use Rattle.chart_table.specs.Table.{InTable, Sized, mostRanks, cellBound};
-ghost use Rattle.chart_ranks.specs.Ranks.{foundAt, firstRank, nextRank};
+ghost use Rattle.chart_keys.specs.Keys.{Digits, keyNumber, noKey};
+ghost use Rattle.chart_table.specs.Table.{InTable, Sized, mostRanks, cellBound, cellNumber, putKey};
+ghost use Rattle.chart_masks.specs.Masks.{Covers, Ruled};
+ghost use Rattle.chart_candidates.specs.Candidates.{seeds};
+ghost use Rattle.chart_ranks.specs.Ranks.{foundAt, nextRank};
 
 // A rank that is found: its key and its back pointer.
 pub struct Found {
@@ -42,14 +46,28 @@ fn found_at(t: &[u32], d: Layout, c: usize, rank: usize) -> Found
     }
 }
 
-// Writes the first rank of a cell: the least candidate that follows none.
-pub fn first_rank(t: &mut [u32], rules: &[u32], edges: &[u32], index: &[u32], d: Layout, c: Cell)
-    requires { ⌜ InTable d c ⌝ }
-    ensures { λ _. ⌜ now (t .exit) ≡ firstRank (now (rules .entry)) (now (edges .entry)) (now (index .entry)) d c (now (t .entry)) ⌝ }
+// Writes the first rank of a cell, the least of its leaves and seeds, from its least leaf, and marks it if it is found. The masks
+// cover the table before and afterwards.
+pub fn first_rank(
+    t: &mut [u32],
+    masks: &mut [u32],
+    rules: &[u32],
+    index: &[u32],
+    d: Layout,
+    c: Cell,
+    leaf: Key,
+)
+    requires { ⌜ (InTable d c) × (c .head .0 < d .symbols) × (Covers (now masks) (now t) d) × (keyNumber leaf ≤ noKey) ⌝ }
+    ensures { λ _. ⌜ now (t .exit) ≡ putKey (now (t .entry)) d (cellNumber d c) 0 (seeds (now (t .entry)) d (now (rules .entry)) (now (index .entry)) c 0 (keyNumber leaf)) ⌝ }
+    ensures { λ _. ⌜ Covers (now (masks .exit)) (now (t .exit)) d ⌝ }
+    ensures { λ _. ⌜ (Ruled (now (rules .entry)) (now (index .entry)) d (now (masks .entry)) → Ruled (now (rules .entry)) (now (index .entry)) d (now (masks .exit))) ⌝ }
 {
-    let floor = Key { price: 0, back: 0 };
-    let key = least_initial(&t[..], d, rules, edges, index, c, floor);
+    let key = first_seeds(&t[..], &masks[..], d, rules, index, c, leaf);
+    if PRICES <= key.price {
+        return;
+    }
     put_key(t, d, cell_number(d, c), 0, key);
+    mark(masks, c);
 }
 
 // Writes a further rank of a cell, where the ranks below are found: the least of the queue, the successors of the rank before

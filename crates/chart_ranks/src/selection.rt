@@ -1,6 +1,7 @@
 // What is met with a rank found: its successors, and what replaces it in the queue.
 use crate::Found;
 use arrays::rule_at;
+use chart_candidates::Range;
 use chart_candidates::leaves::leaves;
 use chart_candidates::pair_key;
 use chart_candidates::seeds::seeds;
@@ -77,7 +78,7 @@ fn sibling(t: &[u32], d: Layout, rules: &[u32], c: Cell, last: Found) -> Key
 }
 
 // The least above the floor of the candidates of a cell that follow none: its leaves and its seeds.
-pub fn least_initial(
+fn least_initial(
     t: &[u32],
     d: Layout,
     rules: &[u32],
@@ -89,8 +90,17 @@ pub fn least_initial(
     requires { ⌜ InTable d c ⌝ }
     ensures { λ x. ⌜ keyNumber x ≡ leastInitial (now (t .entry)) d (now (rules .entry)) (now (edges .entry)) (now (index .entry)) c (keyNumber floor) ⌝ }
 {
+    let no_masks = [0u32; 1];
     let leaf = leaves(rules, edges, index, c, floor, no_key());
-    seeds(t, d, rules, index, c, floor, leaf)
+    seeds(
+        t,
+        &no_masks,
+        d,
+        rules,
+        index,
+        c,
+        Range { floor, best: leaf },
+    )
 }
 
 // What replaces a candidate that was found: the next that follows none, or its sibling.

@@ -3,3 +3,4 @@ pub mod Cells
 pub mod Places
 pub mod Zeros
 pub mod Keys
+pub mod Clear

@@ -1,6 +1,7 @@
 -- The work table as a list of numbers: where the cells and their entries stand, and what an entry holds.
 -- Every read past the end is 0 and every store past it nothing, so these hold of any table.
 -- Nobody need believe this page: the theorems of chart_theory join it to the derivations. Assumes nothing.
+use mathlib.Core.Path.{_≡_}
 use mathlib.Core.List.{List}
 use Prim.Native.Nat.{ℕ, _+_, _-_, _*_, _/_, _%_, _≤_, _<_}
 use lib.Dec.{ltb, eqb}
@@ -114,6 +115,13 @@ clearCell t d c = iter (λ u x. clearEntry u d c x) t (ranksToClear t d c)
 
 unfoldable pub clear : List ℕ → Layout → List ℕ
 clear t d = iter (λ u c. clearCell u d c) t (d .cells)
+
+-- an entry of which nothing is left to clear
+pub record Clear (t : List ℕ) (at : ℕ) : Type 0 where
+  pub low : getD t at 0 ≡ 0
+  pub high : getD t (at + 1) 0 ≡ 0
+  pub back : getD t (at + 2) 0 ≡ 0
+  pub beside : getD t (at + 3) 0 ≡ 0
 
 -- what the layout's numbers are bounded by
 pub record Sized (d : Layout) : Type 0 where

@@ -2,10 +2,12 @@
 use crate::Layout;
 use crate::entry_of;
 use crate::last_rank;
+use arrays::number_at;
 use arrays::store;
+ghost use mathlib.Core.Bool.{true};
 ghost use mathlib.Core.Path.{_≡_};
 ghost use Prim.Native.Nat.{_<_, _≤_};
-ghost use Rattle.chart_table.specs.Table.{mostRanks, cellBound, ranksToClear, clearEntry, clearCell, clear, Sized};
+ghost use Rattle.chart_table.specs.Table.{mostRanks, cellBound, entryOf, ranksToClear, clearEntry, clearCell, clear, Clear, Sized};
 
 // How many ranks of a cell there are up to the last found, and one where none is.
 fn ranks_to_clear(t: &[u32], d: Layout, c: usize) -> usize
@@ -28,11 +30,23 @@ fn clear_entry(t: &mut [u32], d: Layout, c: usize, x: usize)
     store(t, at + 3, 0);
 }
 
+// Whether the first entry of a cell has zeros only. Of most cells of an office grammar nothing is found.
+fn is_clear(t: &[u32], d: Layout, c: usize) -> bool
+    requires { ⌜ (Sized d) × (c < cellBound) ⌝ }
+    ensures { λ r. ⌜ (r ≡ true → Clear (now (t .entry)) (entryOf d c 0)) ⌝ }
+{
+    let at = entry_of(d, c, 0);
+    number_at(t, at) + number_at(t, at + 1) + number_at(t, at + 2) + number_at(t, at + 3) == 0
+}
+
 // Makes the entries of a cell's ranks up to the last found 0.
 fn clear_cell(t: &mut [u32], d: Layout, c: usize)
     requires { ⌜ (Sized d) × (c < cellBound) ⌝ }
     ensures { λ _. ⌜ now (t .exit) ≡ clearCell (now (t .entry)) d c ⌝ }
 {
+    if is_clear(&t[..], d, c) {
+        return;
+    }
     let m = ranks_to_clear(&t[..], d, c);
     for x in 0..m {
         clear_entry(t, d, c, x);

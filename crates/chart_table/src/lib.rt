@@ -13,7 +13,7 @@ ghost use mathlib.Core.Path.{_≡_};
 ghost use Prim.Native.Nat.{_+_, _<_, _≤_};
 ghost use lib.ListN.{length, replicate};
 ghost use Rattle.chart_keys.specs.Keys.{prices, keyNumber};
-ghost use Rattle.chart_table.specs.Table.{lastPlace, mostRanks, cellBound, besides, counts, leftPart, rightPart, root, cellNumber, entryOf, priceOf, priceIn, priceAt, backAt, besideAt, putBeside, putFound, lastRank, putLastRank, putKey, countFound, Sized};
+ghost use Rattle.chart_table.specs.Table.{lastPlace, mostRanks, cellBound, besides, counts, cell, leftPart, rightPart, root, cellNumber, entryOf, priceOf, priceIn, priceAt, backAt, besideAt, putBeside, putFound, lastRank, putLastRank, putKey, countFound, Sized};
 
 // The most ranks that are kept of a cell.
 pub const MOST_RANKS: usize = DIGITS;
@@ -60,6 +60,17 @@ pub fn right_part(c: Cell, head: Sym, split: usize) -> Cell
     Cell {
         head,
         from: split,
+        to: c.to,
+    }
+}
+
+// The cell of another head over the same span.
+pub fn of_head(c: Cell, head: Sym) -> Cell
+    ensures { λ r. ⌜ r ≡ cell head (c .from) (c .to) ⌝ }
+{
+    Cell {
+        head,
+        from: c.from,
         to: c.to,
     }
 }

@@ -1,5 +1,7 @@
 -- Each call has the meaning of its part of the promise, from an index and a table of zeros.
 use Rattle.chart.specs.Chart.{enumerate, rootsFound}
+use lib.ListN.{length}
+use Rattle.chart_index.proofs.Zeros.{zeros-at}
 use borrow.Author.Needs.{needs}
 use Rattle.chart.proofs.enumerate.Statement.{statement}
 use Rattle.chart.proofs.enumerate.Tie as tie
@@ -17,7 +19,7 @@ slice-aggregate-search : tie.Need-slice-aggregate-search
 slice-aggregate-search c = search needs
 
 search-requires : tie.Need-search-requires
-search-requires c κs = search needs
+search-requires c κs = (c .before .before .before .before .before .before .before .before .before .before .before .before .pre .0, search needs, λ x. rw (c .before .before .before .before .zero .ensures) (zeros-at (length (c .before .before .before .before .before .before .before .before .before .before .before .before .args .t .now)) x))
 
 root-requires : tie.Need-root-requires
 root-requires c κs = search needs

@@ -20,7 +20,6 @@ use Rattle.chart_search.proofs.next_of_span.Kinds as next-of-span-kinds
 use Rattle.chart_search.proofs.+advance_pairing+extend+next_of_span.Lts-next_of_span as next-of-span-lts
 use Rattle.arrays.proofs.rule_at.Reads as rule-at-reads
 use Rattle.chart_keys.proofs.back_pointer.Reads as back-pointer-reads
-use Rattle.chart_ranks.proofs.first_rank.Reads as first-rank-reads
 use Rattle.chart_ranks.proofs.next_rank.Reads as next-rank-reads
 use Rattle.chart_table.proofs.back_at.Reads as back-at-reads
 use Rattle.chart_table.proofs.cell_number.Reads as cell-number-reads
@@ -80,7 +79,7 @@ abbrev extend-claims : ℕ → extend-lts.Claims
 extend-claims t = (cell-number-reads.Asked, cell-number-reads.Learnt, price-at-reads.Asked, price-at-reads.Learnt, next-of-span-below t, next-of-span.Post)
 
 abbrev next-of-span-claims : ℕ → next-of-span-lts.Claims
-next-of-span-claims t = (first-rank-reads.Asked, first-rank-reads.Learnt, cell-number-reads.Asked, cell-number-reads.Learnt, back-at-reads.Asked, back-at-reads.Learnt, back-pointer-reads.Asked, back-pointer-reads.Learnt, advance-pairing-below t, advance-pairing.Post, next-rank-reads.Asked, next-rank-reads.Learnt)
+next-of-span-claims t = (cell-number-reads.Asked, cell-number-reads.Learnt, back-at-reads.Asked, back-at-reads.Learnt, back-pointer-reads.Asked, back-pointer-reads.Learnt, advance-pairing-below t, advance-pairing.Post, next-rank-reads.Asked, next-rank-reads.Learnt)
 
 advance-pairing-sub-last : (t : ℕ) → advance-pairing-lts.Need-sub-last (advance-pairing-claims t) (advance-pairing-at t) advance-pairing.Post
 advance-pairing-sub-last t c = search needs
@@ -236,23 +235,6 @@ extend-returns-3 : (t : ℕ) → extend-lts.Need-returns-3 (extend-claims t) (ex
 unfolding extend
 extend-returns-3 t c = λ f h. simp (le-ltb _ _ (c .if1 .left))
 
-next-of-span-first-rank-requires : (t : ℕ) → next-of-span-lts.Need-first-rank-requires (next-of-span-claims t) (next-of-span-at t) next-of-span.Post
-next-of-span-first-rank-requires t c κs = search needs
-
-next-of-span-same-length : (t : ℕ) → next-of-span-lts.Need-same-length (next-of-span-claims t) (next-of-span-at t) next-of-span.Post
-next-of-span-same-length t c = c .before .before .first-rank .kept .0
-
-next-of-span-returns : (t : ℕ) → next-of-span-lts.Need-returns (next-of-span-claims t) (next-of-span-at t) next-of-span.Post
-unfolding nextOfSpan
-next-of-span-returns t c =
-    let c₂ = c .before .before in
-    let c₄ = c₂ .before .before in
-    let c₉ = c₄ .before .before .before .before .before in
-    λ f. elim f [
-      | zero ↦ λ h. absurd (omega (arith, c₉ .pre .1 .0 .order))
-      | suc g ↦ λ h. rw (eq-eqb (c₉ .args .rank) 0 (c₄ .if1 .taken)) (c₂ .first-rank .ensures)
-    ]
-
 next-of-span-cell-number-requires : (t : ℕ) → next-of-span-lts.Need-cell-number-requires (next-of-span-claims t) (next-of-span-at t) next-of-span.Post
 next-of-span-cell-number-requires t c κs = search needs
 
@@ -271,30 +253,23 @@ next-of-span-advance-pairing-requires t c κs = search needs
 next-of-span-next-rank-requires : (t : ℕ) → next-of-span-lts.Need-next-rank-requires (next-of-span-claims t) (next-of-span-at t) next-of-span.Post
 next-of-span-next-rank-requires t c κs = search needs
 
-next-of-span-same-length-2 : (t : ℕ) → next-of-span-lts.Need-same-length-2 (next-of-span-claims t) (next-of-span-at t) next-of-span.Post
-next-of-span-same-length-2 t c =
+next-of-span-same-length : (t : ℕ) → next-of-span-lts.Need-same-length (next-of-span-claims t) (next-of-span-at t) next-of-span.Post
+next-of-span-same-length t c =
     let c₂ = c .before .before in
     let c₆ = c₂ .before .before .before .before in
     c₂ .next-rank .kept .0 ∙ c₆ .advance-pairing .kept .0
 
-next-of-span-returns-2 : (t : ℕ) → next-of-span-lts.Need-returns-2 (next-of-span-claims t) (next-of-span-at t) next-of-span.Post
+next-of-span-returns : (t : ℕ) → next-of-span-lts.Need-returns (next-of-span-claims t) (next-of-span-at t) next-of-span.Post
 unfolding nextOfSpan
-next-of-span-returns-2 t c =
-    let c₂ = c .before .before in
-    let c₆ = c₂ .before .before .before .before in
-    let c₈ = c₆ .before .before in
-    let c₉ = c₈ .before in
-    let c₁₀ = c₉ .before in
-    let c₁₂ = c₁₀ .before .before in
-    let c₁₇ = c₁₂ .before .before .before .before .before in
+next-of-span-returns t c =
     λ f. elim f [
-      | zero ↦ λ h. absurd (omega (arith, c₁₇ .pre .1 .0 .order))
-      | suc g ↦ λ h. rw (ne-eqb (c₁₇ .args .rank) 0 (c₁₂ .if1 .left)) (rw (
-        ← c₁₀ .cell-number .ensures .0,
-        ← c₉ .back-at .ensures .0,
-        ← c₈ .back-pointer .ensures .0,
-        ← c₆ .advance-pairing .ensures g h,
-      ) (c₂ .next-rank .ensures))
+      | zero ↦ λ h. absurd (omega (arith, c .before .before .before .before .before .before .before .before .before .before .before .before .before .before .before .before .pre .1 .0 .order))
+      | suc g ↦ λ h. rw (ne-eqb (c .before .before .before .before .before .before .before .before .before .before .before .before .before .before .before .before .args .rank) 0 (λ e. omega (arith, c .before .before .before .before .before .before .before .before .before .before .before .before .before .before .before .before .pre .1 .1, e))) (rw (
+        ← c .before .before .before .before .before .before .before .before .before .before .cell-number .ensures .0,
+        ← c .before .before .before .before .before .before .before .before .before .back-at .ensures .0,
+        ← c .before .before .before .before .before .before .before .before .back-pointer .ensures .0,
+        ← c .before .before .before .before .before .before .advance-pairing .ensures g h,
+      ) (c .before .before .next-rank .ensures))
     ]
 
 pub +advance-pairing+extend+next-of-span-spec : {M : Type 1} → statement M
@@ -333,14 +308,11 @@ pub +advance-pairing+extend+next-of-span-spec : {M : Type 1} → statement M
     λ t. next-of-span-lts.spec (next-of-span-claims t)
     (next-of-span-at t)
     next-of-span.Post
-    (next-of-span-first-rank-requires t)
-    (next-of-span-same-length t)
-    (next-of-span-returns t)
     (next-of-span-cell-number-requires t)
     (next-of-span-sub-back-at t)
     (next-of-span-back-at-requires t)
     (next-of-span-back-pointer-requires t)
     (next-of-span-advance-pairing-requires t)
     (next-of-span-next-rank-requires t)
-    (next-of-span-same-length-2 t)
-    (next-of-span-returns-2 t)
+    (next-of-span-same-length t)
+    (next-of-span-returns t)

@@ -1,18 +1,10 @@
--- By the rule's variant and the test of its word.
-use borrow.Author.Tests.{eq-eqb, ne-eqb}
-use Rattle.chart_candidates.specs.Candidates.{wordLeaf}
+-- A rule with another word changes nothing.
+use mathlib.Core.Path.{sym, _∙_}
+use Rattle.chart_keys.specs.Keys.{keyNumber}
+use Rattle.chart_candidates.proofs.Passed.{other-word}
 use borrow.Author.Needs.{needs}
 use Rattle.chart_candidates.proofs.leaves.word_leaf.Statement.{statement}
 use Rattle.chart_candidates.proofs.leaves.word_leaf.Tie as tie
-
-rule-at-requires : tie.Need-rule-at-requires
-rule-at-requires c κs = search needs
-
-enum-told : tie.Need-enum-told
-enum-told c = search needs
-
-enum-known-rule : tie.Need-enum-known-rule
-enum-known-rule c = search needs
 
 mul-narrow-at : tie.Need-mul-narrow-at
 mul-narrow-at c = search needs
@@ -23,52 +15,34 @@ add-narrow-at c = search needs
 narrow-at-requires : tie.Need-narrow-at-requires
 narrow-at-requires c κs = search needs
 
-mul-number-at : tie.Need-mul-number-at
-mul-number-at c = search needs
+mul-narrow-at-2 : tie.Need-mul-narrow-at-2
+mul-narrow-at-2 c = search needs
 
-add-number-at : tie.Need-add-number-at
-add-number-at c = search needs
+add-narrow-at-2 : tie.Need-add-narrow-at-2
+add-narrow-at-2 c = search needs
 
-number-at-requires : tie.Need-number-at-requires
-number-at-requires c κs = search needs
-
-back-number-requires : tie.Need-back-number-requires
-back-number-requires c κs = search needs
-
-leaf-price-requires : tie.Need-leaf-price-requires
-leaf-price-requires c κs = search needs
-
-lesser-requires : tie.Need-lesser-requires
-lesser-requires c κs = search needs
+narrow-at-requires-2 : tie.Need-narrow-at-requires-2
+narrow-at-requires-2 c κs = search needs
 
 returns : tie.Need-returns
-unfolding wordLeaf
-returns c = simp (← c .before .before .rule-at .ensures, c .enum-told .given .1)
+returns c = sym (other-word (c .before .before .before .before .before .args .rules .now) (c .before .before .before .before .before .args .edges .now) (c .before .before .before .before .before .args .e) (keyNumber (c .before .before .before .before .before .args .floor)) (keyNumber (c .before .before .before .before .before .args .best)) (c .before .before .before .before .before .args .r) (λ q. c .if1 .taken (c .before .before .narrow-at .ensures ∙ q ∙ sym (c .before .narrow-at2 .ensures))))
+
+rule-leaf-requires : tie.Need-rule-leaf-requires
+rule-leaf-requires c κs = search needs
 
 returns-2 : tie.Need-returns-2
-unfolding wordLeaf
-returns-2 c = simp (← c .before .before .before .before .before .before .before .before .before .before .rule-at .ensures, c .before .before .before .before .before .before .before .before .rule .given .1, ← c .before .before .before .before .before .before .narrow-at .ensures, eq-eqb _ _ (c .before .before .before .before .if1 .taken)) (rw (c .lesser .ensures, c .before .before .back-number .ensures .0, c .before .leaf-price .ensures, c .before .before .before .number-at .ensures .0))
-
-returns-3 : tie.Need-returns-3
-unfolding wordLeaf
-returns-3 c = simp (← c .before .before .before .before .before .before .rule-at .ensures, c .before .before .before .before .rule .given .1, ← c .before .before .narrow-at .ensures, ne-eqb _ _ (c .if1 .left))
+returns-2 c = search needs
 
 pub word-leaf-spec : {M : Type 1} → statement M
 word-leaf-spec =
     tie.close
     (tie.spec
-    rule-at-requires
-    enum-told
-    enum-known-rule
     mul-narrow-at
     add-narrow-at
     narrow-at-requires
-    mul-number-at
-    add-number-at
-    number-at-requires
-    back-number-requires
-    leaf-price-requires
-    lesser-requires
+    mul-narrow-at-2
+    add-narrow-at-2
+    narrow-at-requires-2
     returns
-    returns-2
-    returns-3)
+    rule-leaf-requires
+    returns-2)

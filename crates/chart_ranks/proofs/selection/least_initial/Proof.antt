@@ -1,4 +1,7 @@
--- Each call has the meaning of its part of the definition.
+-- Each call has the meaning of its part of the definition, and without masks nothing is passed over.
+use native.Mathlib.Omega.{arith}
+use Rattle.chart_keys.specs.Keys.{noKey}
+use Rattle.chart_candidates.proofs.Passed.{leaves-below}
 use Rattle.chart_ranks.specs.Ranks.{leastInitial}
 use borrow.Author.Needs.{needs}
 use Rattle.chart_ranks.proofs.selection.least_initial.Statement.{statement}
@@ -10,18 +13,17 @@ no-key-requires c κs = search needs
 leaves-requires : tie.Need-leaves-requires
 leaves-requires c κs = search needs
 
+slice-aggregate-seeds : tie.Need-slice-aggregate-seeds
+slice-aggregate-seeds c = search needs
+
 seeds-requires : tie.Need-seeds-requires
-seeds-requires c κs = search needs
+seeds-requires c κs = (c .before .before .before .before .before .before .before .pre, λ h. absurd (omega (arith, h)), rw (c .before .leaves .ensures, c .before .before .no-key .ensures) (leaves-below _ _ _ _ _ noKey))
 
 returns : tie.Need-returns
 unfolding leastInitial
-returns c = rw (c .seeds .ensures, c .before .leaves .ensures, c .before .before .no-key .ensures)
+returns c = rw (c .seeds .ensures, c .before .before .leaves .ensures, c .before .before .before .no-key .ensures)
 
 pub least-initial-spec : {M : Type 1} → statement M
 least-initial-spec =
     tie.close
-    (tie.spec
-    no-key-requires
-    leaves-requires
-    seeds-requires
-    returns)
+    (tie.spec no-key-requires leaves-requires slice-aggregate-seeds seeds-requires returns)

@@ -1,0 +1,41 @@
+-- A head that is not in the mask has no leaf.
+use mathlib.Core.Path.{sym, _∙_}
+use native.Mathlib.Nat.{le-refl}
+use Rattle.chart_keys.specs.Keys.{noKey}
+use Rattle.chart_candidates.proofs.Passed.{leaves-below, no-leaves}
+use borrow.Author.Needs.{needs}
+use Rattle.chart_candidates.proofs.leaves.first_leaf.Statement.{statement}
+use Rattle.chart_candidates.proofs.leaves.first_leaf.Tie as tie
+
+wide-requires : tie.Need-wide-requires
+wide-requires c κs = search needs
+
+lacks-requires : tie.Need-lacks-requires
+lacks-requires c κs = search needs
+
+no-key-requires : tie.Need-no-key-requires
+no-key-requires c κs = search needs
+
+returns : tie.Need-returns
+returns c = (c .no-key .ensures ∙ sym (no-leaves _ _ _ _ 0 noKey (c .before .before .before .before .before .before .before .pre .2 (rw (c .before .before .before .wide .ensures .0) at (c .before .before .lacks .ensures (c .before .if1 .taken))))), rw (c .no-key .ensures) (le-refl noKey))
+
+no-key-requires-2 : tie.Need-no-key-requires-2
+no-key-requires-2 c κs = search needs
+
+leaves-requires : tie.Need-leaves-requires
+leaves-requires c κs = search needs
+
+returns-2 : tie.Need-returns-2
+returns-2 c = let e = rw (c .before .no-key2 .ensures) at (c .leaves .ensures) in (e, rw e (leaves-below _ _ _ _ 0 noKey))
+
+pub first-leaf-spec : {M : Type 1} → statement M
+first-leaf-spec =
+    tie.close
+    (tie.spec
+    wide-requires
+    lacks-requires
+    no-key-requires
+    returns
+    no-key-requires-2
+    leaves-requires
+    returns-2)

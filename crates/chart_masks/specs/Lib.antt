@@ -1,0 +1,2 @@
+-- Masks of places and of heads.
+pub mod Masks

@@ -1,0 +1,2 @@
+-- The first rank of a cell.
+pub mod Fuel
