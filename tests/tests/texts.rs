@@ -37,7 +37,7 @@ fn named(rng: &mut Rng) -> NamedGrammar {
     let grammar = grammar(rng, size);
     let symbols = names(rng, grammar.symbols, &SYMBOL_LETTERS);
     let words = names(rng, grammar.words, &WORD_LETTERS);
-    NamedGrammar { grammar, symbols, words }
+    NamedGrammar::new(grammar, symbols, words)
 }
 
 #[test]

@@ -196,7 +196,7 @@ impl<'a> Worker<'a> {
         json.push(b'[');
         for number in 0..found.len() {
             found.read(number, &mut self.reading);
-            names.begin_reading(json, number as u32 + 1, &self.reading.reading);
+            names.begin_reading(json, Some(number as u32 + 1), &self.reading.reading);
             if is_graph {
                 json::push_numbers(json, "edges", self.reading.path.iter().copied());
             }

@@ -2,9 +2,11 @@
 
 mod answers;
 mod batch;
+mod chances;
 mod common;
 mod graphs;
 mod lattices;
+mod offices;
 mod readme;
 mod report;
 mod skips;

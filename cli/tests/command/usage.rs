@@ -6,8 +6,8 @@ use std::io::Write;
 use std::path::Path;
 use std::process::{Command, Stdio};
 
-const COMMANDS: [&str; 11] =
-    ["list", "pick", "why", "report", "batch", "lint", "specimen", "phrases", "check", "pack", "unpack"];
+const COMMANDS: [&str; 12] =
+    ["list", "pick", "why", "report", "batch", "lint", "specimen", "phrases", "check", "chance", "pack", "unpack"];
 
 #[test]
 fn help_at_every_level() {
@@ -106,6 +106,13 @@ fn wrong_usage_of_others() {
         ),
         ("list grammar.txt utterance.txt --skip much", "spireyerba list", "--skip: `much` is no number"),
         ("list grammar.txt utterance.txt --skip", "spireyerba list", "--skip needs COST"),
+        ("chance grammar.txt utterance.txt", "spireyerba chance", "SHARES is missing"),
+        ("chance grammar.txt utterance.txt shares.txt 0", "spireyerba chance", "READING: ranks count from 1"),
+        (
+            "chance grammar.txt utterance.txt shares.txt 2 -n 3",
+            "spireyerba chance",
+            "--number and READING: only one of them",
+        ),
         ("batch grammar.txt utterances.txt -j x", "spireyerba batch", "--jobs: `x` is no number"),
     ]);
 }
