@@ -116,6 +116,7 @@ mod graph;
 mod lattice;
 mod names;
 mod network;
+mod plain;
 mod reading;
 mod scan;
 mod score;
