@@ -18,7 +18,7 @@
 //! | [`Office`], [`MarkedGrammar`] | rules as offices write them, and what they become; [`Office::to_grammar`], [`MarkedGrammar::to_office`] |
 //! | [`Graph`], [`GraphReading`] | word graphs, which have blocks and no sheets; [`Grammar::list_graph`], [`Grammar::check_graph`] |
 //! | [`Grammar::specimen`], [`Phrases`] | what can be said in a grammar |
-//! | [`Lister`] | many listings under one grammar, in memory that is kept |
+//! | [`Lister`] | many listings under one grammar, in memory that is kept, the library's or a desk panel's |
 //! | [`Grammar::chance`], [`Grammar::chance_graph`] | the product of the shares of a reading's rules |
 //! | [`Tree`] | a reading as a tree |
 //! | [`limits`] | how large things may be, and how much is to be lent |

@@ -6,8 +6,10 @@ use std::io::Write;
 use std::path::Path;
 use std::process::{Command, Stdio};
 
-const COMMANDS: [&str; 12] =
-    ["list", "pick", "why", "report", "batch", "lint", "specimen", "phrases", "check", "chance", "pack", "unpack"];
+const COMMANDS: [&str; 13] = [
+    "list", "panel", "pick", "why", "report", "batch", "lint", "specimen", "phrases", "check", "chance", "pack",
+    "unpack",
+];
 
 #[test]
 fn help_at_every_level() {

@@ -1,5 +1,5 @@
 -- The numbers that each place can refuse with: document 01's table "Where each check stands", row by row, and document 02, N1, of word
--- graphs, N5, of office sheets, and N14, of chances. Assumes nothing.
+-- graphs, N5, of office sheets, N8, of the panel, and N14, of chances. Assumes nothing.
 use mathlib.Core.Logic.{_⊎_}
 use mathlib.Core.Path.{_≡_}
 use Prim.Native.Nat.{ℕ, _≤_}
@@ -31,6 +31,10 @@ HeardBlockRow n = (UtteranceBlockRow ∪ EdgeRow) n
 
 abbrev pub ListingRow : ℕ → Type 0
 ListingRow n = Between 21 23 n
+
+-- the panel's listing: what it turns away beyond its limits, 57 before 21 and 58 behind it, and the listing's own
+abbrev pub PanelRow : ℕ → Type 0
+PanelRow n = (ListingRow ∪ Between 57 58) n
 
 abbrev pub SpecimenRow : ℕ → Type 0
 SpecimenRow n = Between 25 26 n

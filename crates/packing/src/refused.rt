@@ -72,6 +72,11 @@ pub const ITEM_ALONE: u32 = 55; // a body of one symbol
 
 pub const OFFICE_SIZE: u32 = 56; // the result passes 32 symbols or 256 rules
 
+// Of the panel's listing.
+pub const PANEL_SLOTS: u32 = 57; // more slots, or places, than the panel takes
+
+pub const PANEL_WANTED: u32 = 58; // N above what the panel lists
+
 // Of the shares of a grammar's rules.
 pub const SHARES_COUNT: u32 = 60; // their number is not R
 
