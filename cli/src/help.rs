@@ -24,19 +24,19 @@ A grammar: rules with a head, an arrow, and one quoted word or two to six symbol
 
   Entry   -> Name Details | Name Leaf [30]   # alternatives; a rule's weight in brackets, or 0
   Number  -> Tens Units [5]
-           | \"twenty\" [10]                  # more alternatives of the head before
+           | \"twenty\" [10]                   # more alternatives of the head before
   Details -> Leaf \"fire\" Minutes
 
 The first head is the start. Rules, symbols and words are numbered as they are met; lines `symbols Entry Name ..` and
 `words \"door\" \"twenty\" ..` before them give other numbers. At most 32 symbols, 200 words, 256 rules, weight 65535. A
 word in a body of several items, and each item between the first and the last, takes a symbol and a rule more, those of
-helpers, which no answer shows; `lint` counts them. Where all bodies are one word or two symbols there are none. A line `office` says
-that such a grammar is to be packed with marks all the same, and [helper] or [3 helper] marks a rule of it.
+helpers, which no answer shows; `lint` counts them. Where all bodies are one word or two symbols there are none. A line
+`office` says that such a grammar is to be packed with marks all the same, and [helper] or [3 helper] marks a rule of it.
 
 An utterance: a slot a line, or with semicolons between slots, of up to 24.
 
   door 4 | four 61                           # up to seven words, each with its cost
-  \"new york\" 12 | newark 65535             # 65535: not heard
+  \"new york\" 12 | newark 65535               # 65535: not heard
 
 A confusion network as SRILM writes it, whose posteriors become costs by --scale X, -X times their logarithm:
 
