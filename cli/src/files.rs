@@ -10,7 +10,7 @@ use crate::options::{Arguments, DROP_DELETES, DROP_UNKNOWN, EMPTY, FILE, SCALE};
 use crate::output::Output;
 use spireyerba::services::check;
 use spireyerba::text::{is_graph, parse_graph_reading, parse_reading, NamedGrammar, Places, UtteranceReader};
-use spireyerba::{Error, Grammar, GraphReading, Reading, Refusal};
+use spireyerba::{Error, GraphReading, Reading, Refusal};
 use std::io::Read;
 
 /// The operand that means standard input, and its name in messages.
@@ -67,11 +67,23 @@ impl File {
             (Ok(value), _) => Ok(value),
             (Err(_), Ok(text)) => Ok(parse(text).map_err(|error| error.in_file(&self.name))?),
             (Err(refusal), Err(at)) => {
-                let line = self.bytes[..at].iter().filter(|byte| **byte == b'\n').count() + 1;
-                let no_text = format!("and no text, for byte 0x{:02x} in line {line}", self.bytes[at]);
-                Err(Failure::Refused(format!("{}: {refusal}; {no_text}", self.name)))
+                Err(Failure::Refused(format!("{}: {refusal}; and {}", self.name, self.no_text(at))))
             }
         }
+    }
+
+    /// What is made of the file's text.
+    fn text<T>(&self, parse: impl FnOnce(&str) -> Result<T, Error>) -> Result<T, Failure> {
+        match text_of(&self.bytes) {
+            Ok(text) => Ok(parse(text).map_err(|error| error.in_file(&self.name))?),
+            Err(at) => Err(Failure::Refused(format!("{}: {}", self.name, self.no_text(at)))),
+        }
+    }
+
+    /// That the file is no text, for a byte of it.
+    fn no_text(&self, at: usize) -> String {
+        let line = self.bytes[..at].iter().filter(|byte| **byte == b'\n').count() + 1;
+        format!("no text, for byte 0x{:02x} in line {line}", self.bytes[at])
     }
 }
 
@@ -95,11 +107,11 @@ pub struct GrammarFile {
 /// Reads a grammar.
 pub fn grammar(operand: &str) -> Result<GrammarFile, Failure> {
     let file = File::read(operand)?;
-    let numbered = |grammar| (NamedGrammar::numbered(grammar), None);
-    let (named, places) = file.block_or_text(Grammar::from_block(&file.bytes).map(numbered), |text| {
+    let without_places = |named| (named, None);
+    let (named, places) = file.block_or_text(NamedGrammar::from_block(&file.bytes).map(without_places), |text| {
         NamedGrammar::parse_with_places(text).map(|(named, places)| (named, Some(places)))
     })?;
-    let block = named.grammar.to_block().map_err(|refusal| Error::from(refusal).in_file(&file.name))?;
+    let block = named.to_block().map_err(|refusal| Error::from(refusal).in_file(&file.name))?;
     Ok(GrammarFile { name: file.name, named, block, places })
 }
 
@@ -146,24 +158,34 @@ pub fn reading(grammar: &GrammarFile, heard: &Heard, operand: &str) -> Result<Re
     let file = File::read(operand)?;
     let in_file = |refusal: Refusal| Error::from(refusal).in_file(&file.name);
     let heard_block = heard.to_block(&grammar.block).map_err(Error::from)?;
-    let blocks = (&grammar.block, &heard_block);
+    let (named, blocks) = (&grammar.named, (&grammar.block, &heard_block));
     let (found, block) = match heard {
         Heard::Slots(_) => {
             let accepted = Reading::from_block(blocks.0, blocks.1, &file.bytes);
-            let reading = file.block_or_text(accepted, parse_reading)?;
-            let block = reading.to_block(grammar.named.grammar.rules.len());
+            let parse = |text: &str| parse_reading(text).map(|written| named.whole_reading(&written));
+            let reading = file.block_or_text(accepted, parse)?;
+            let block = reading.to_block(named.grammar.rules.len());
             (GraphReading { reading, path: Vec::new() }, block)
         }
         Heard::Graph(_) => {
             let accepted = GraphReading::from_block(blocks.0, blocks.1, &file.bytes);
-            let found = file.block_or_text(accepted, parse_graph_reading)?;
-            let block = found.to_block(&grammar.named.grammar);
+            let parse = |text: &str| {
+                let GraphReading { reading, path } = parse_graph_reading(text)?;
+                Ok(GraphReading { reading: named.whole_reading(&reading), path })
+            };
+            let found = file.block_or_text(accepted, parse)?;
+            let block = found.to_block(&named.grammar);
             (found, block)
         }
     };
     let block = block.map_err(in_file)?;
     check(blocks.0, blocks.1, &block).map_err(in_file)?;
     Ok(ReadingFile { found, block })
+}
+
+/// Reads the shares of a grammar's rules.
+pub fn shares(grammar: &GrammarFile, operand: &str) -> Result<Vec<u32>, Failure> {
+    File::read(operand)?.text(|text| grammar.named.parse_shares(text))
 }
 
 /// Writes an answer to the file that the command line names, or to standard output.

@@ -47,6 +47,14 @@ impl Heard {
         }
     }
 
+    /// The chance of a reading.
+    pub fn chance(&self, grammar: &Grammar, found: &GraphReading, shares: &[u32]) -> Result<f64, Refusal> {
+        match self {
+            Self::Slots(utterance) => grammar.chance(utterance, &found.reading, shares),
+            Self::Graph(graph) => grammar.chance_graph(graph, found, shares),
+        }
+    }
+
     /// The words of a reading, each where it was heard.
     pub fn taken(&self, named: &NamedGrammar, reading: &Reading, path: &[u32]) -> Vec<Taken> {
         match self {

@@ -20,19 +20,23 @@ example: spireyerba list grammar.txt utterance.txt";
 
 /// The help about texts.
 pub const TEXTS: &str = "\
-A grammar: rules with a head, an arrow, and one quoted word or two symbols.
+A grammar: rules with a head, an arrow, and one quoted word or two to six symbols and quoted words.
 
-  Entry  -> Name Details | Name Leaf [30]    # alternatives; a rule's weight in brackets, or 0
-  Number -> Tens Units [5]
-          | \"twenty\" [10]                   # more alternatives of the head before
+  Entry   -> Name Details | Name Leaf [30]   # alternatives; a rule's weight in brackets, or 0
+  Number  -> Tens Units [5]
+           | \"twenty\" [10]                   # more alternatives of the head before
+  Details -> Leaf \"fire\" Minutes
 
 The first head is the start. Rules, symbols and words are numbered as they are met; lines `symbols Entry Name ..` and
-`words \"door\" \"twenty\" ..` before them give other numbers. At most 32 symbols, 200 words, 256 rules, weight 65535.
+`words \"door\" \"twenty\" ..` before them give other numbers. At most 32 symbols, 200 words, 256 rules, weight 65535. A
+word in a body of several items, and each item between the first and the last, takes a symbol and a rule more, those of
+helpers, which no answer shows; `lint` counts them. Where all bodies are one word or two symbols there are none. A line
+`office` says that such a grammar is to be packed with marks all the same, and [helper] or [3 helper] marks a rule of it.
 
 An utterance: a slot a line, or with semicolons between slots, of up to 24.
 
   door 4 | four 61                           # up to seven words, each with its cost
-  \"new york\" 12 | newark 65535             # 65535: not heard
+  \"new york\" 12 | newark 65535               # 65535: not heard
 
 A confusion network as SRILM writes it, whose posteriors become costs by --scale X, -X times their logarithm:
 
@@ -60,6 +64,12 @@ A reading: its weight, and the rule number of each node, a node before its left 
 
   72 0 2 12 3 13 15 8 17 11 20 21            # of slots
   80 0 2 12 5 8 17 11 20 21 | 0 3 7 9 12     # of a word graph: a bar, and the numbers of its path's edges
+
+Under longer bodies it has the rules of the text; the nodes of helpers may be left out.
+
+Shares: a whole number from 1 to 1024 for each rule of the grammar's text, in their order.
+
+  922 102                                    # of 1024 entries 922 are by the first rule
 
 example: spireyerba unpack grammar.bin";
 

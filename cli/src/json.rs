@@ -1,7 +1,7 @@
 //! JSON, as much of it as is printed here.
 
 use spireyerba::text::NamedGrammar;
-use spireyerba::{Body, Parts, Reading, Tree};
+use spireyerba::{Body, Part, Reading, Tree};
 use std::io::Write;
 
 /// Adds a string in quotes.
@@ -102,7 +102,8 @@ impl Piece {
     }
 }
 
-/// The word, if it has one, and the number of each rule of a grammar as they stand in lists, written once for many readings.
+/// The word, if it has one, and the number of each rule of a grammar as they stand in lists, written once for many readings. A
+/// marked rule's number stands in none.
 pub struct Names {
     words: Vec<Option<Piece>>,
     rules: Vec<Piece>,
@@ -120,15 +121,20 @@ impl Names {
                 Some(Piece::new(&json))
             }
         };
+        let number = |rule| if named.is_marked(rule) { String::new() } else { format!("{rule},") };
         let words = rules.iter().map(|rule| word(rule.body)).collect();
-        Self { words, rules: (0..rules.len()).map(|rule| Piece::new(format!("{rule},").as_bytes())).collect() }
+        Self { words, rules: (0..rules.len()).map(|rule| Piece::new(number(rule as u32).as_bytes())).collect() }
     }
 
-    /// Adds a reading but for its end: rank, weight, words and rules.
-    pub fn begin_reading(&self, json: &mut Vec<u8>, rank: u32, reading: &Reading) {
-        json.extend_from_slice(b"{\"rank\":");
-        push_number(json, rank);
-        json.extend_from_slice(b",\"weight\":");
+    /// Adds a reading but for its end: rank, if it has one, weight, words and rules.
+    pub fn begin_reading(&self, json: &mut Vec<u8>, rank: Option<u32>, reading: &Reading) {
+        json.push(b'{');
+        if let Some(rank) = rank {
+            json.extend_from_slice(b"\"rank\":");
+            push_number(json, rank);
+            json.push(b',');
+        }
+        json.extend_from_slice(b"\"weight\":");
         push_number(json, reading.weight);
         json.extend_from_slice(b",\"words\":[");
         let words = reading.walk.iter().filter_map(|rule| self.words[*rule as usize].as_ref());
@@ -144,16 +150,11 @@ impl Names {
 pub fn push_tree(json: &mut Vec<u8>, grammar: &NamedGrammar, tree: &Tree) {
     json.push(b'[');
     push_string(json, grammar.symbol(grammar.grammar.rules[tree.rule as usize].head));
-    match &tree.parts {
-        Parts::Word { word, .. } => {
-            json.push(b',');
-            push_string(json, grammar.word(*word));
-        }
-        Parts::Pair(parts) => {
-            for part in parts.iter() {
-                json.push(b',');
-                push_tree(json, grammar, part);
-            }
+    for part in &tree.parts {
+        json.push(b',');
+        match part {
+            Part::Word { word, .. } => push_string(json, grammar.word(*word)),
+            Part::Tree(tree) => push_tree(json, grammar, tree),
         }
     }
     json.push(b']');

@@ -11,13 +11,22 @@ impl<'a> Fields<'a> {
         Self { block, at: 0 }
     }
 
-    /// The next field, of so many bits, at most 32.
+    /// The next field, of so many bits, 1 to 32.
     pub(crate) fn take(&mut self, width: usize) -> u32 {
-        let (first, end) = (self.at / 8, self.at + width);
-        let bytes = self.block[first..end.div_ceil(8)].iter();
-        let value = bytes.fold(0_u64, |value, byte| value << 8 | u64::from(*byte));
-        self.at = end;
-        (value >> (end.next_multiple_of(8) - end) & ((1 << width) - 1)) as u32
+        let (first, before) = (self.at / 8, self.at % 8);
+        self.at += width;
+        let window = match self.block.get(first..first + size_of::<u64>()) {
+            Some(bytes) => u64::from_be_bytes(bytes.try_into().expect("eight bytes")),
+            None => self.last_window(first),
+        };
+        (window << before >> (u64::BITS as usize - width)) as u32
+    }
+
+    /// The bytes from one on, fewer than eight, with zeros behind them.
+    fn last_window(&self, first: usize) -> u64 {
+        let mut window = [0; size_of::<u64>()];
+        window.iter_mut().zip(&self.block[first..]).for_each(|(to, byte)| *to = *byte);
+        u64::from_be_bytes(window)
     }
 }
 
@@ -25,23 +34,33 @@ impl<'a> Fields<'a> {
 #[derive(Default)]
 pub(crate) struct Packer {
     block: Vec<u8>,
-    at: usize,
+    /// The bits that fill no byte yet, fewer than eight, in the lowest places.
+    rest: u64,
+    count: usize,
 }
 
 impl Packer {
-    /// Packs a number that so many bits have room for.
+    /// Packs in the memory of another block.
+    pub(crate) fn again(mut block: Vec<u8>) -> Self {
+        block.clear();
+        Self { block, rest: 0, count: 0 }
+    }
+
+    /// Packs a number that so many bits have room for, at most 32.
     pub(crate) fn put(&mut self, width: usize, value: u32) {
-        for bit in (0..width).rev() {
-            if self.at.is_multiple_of(8) {
-                self.block.push(0);
-            }
-            self.block[self.at / 8] |= ((value >> bit & 1) as u8) << (7 - self.at % 8);
-            self.at += 1;
+        self.rest = self.rest << width | u64::from(value);
+        self.count += width;
+        while self.count >= 8 {
+            self.count -= 8;
+            self.block.push((self.rest >> self.count) as u8);
         }
     }
 
     /// The block, its last byte filled with zero bits.
-    pub(crate) fn finish(self) -> Vec<u8> {
+    pub(crate) fn finish(mut self) -> Vec<u8> {
+        if self.count > 0 {
+            self.put(8 - self.count, 0);
+        }
         self.block
     }
 }

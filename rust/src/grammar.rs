@@ -1,7 +1,7 @@
 //! Grammars as values.
 
 use crate::limits::GRAMMAR_BLOCK_MAX;
-use crate::services::{check, grammar_to_block};
+use crate::services::{chance, check, grammar_to_block};
 use crate::{Graph, GraphReading, Lister, MarkedGrammar, Reading, Refusal, Utterance};
 
 /// What a rule puts in the place of its head.
@@ -128,5 +128,35 @@ impl Grammar {
     pub fn check_graph(&self, graph: &Graph, reading: &GraphReading) -> Result<(), Refusal> {
         let grammar = self.to_block()?;
         check(&grammar, &graph.to_block(&grammar)?, &reading.to_block(self)?)
+    }
+
+    /// The chance of a reading of an utterance: the product of the shares of its rules, each of 1,024, as
+    /// [`chance`] has it. Refuses as [`Self::check`] does, then with [`Refusal::SharesCount`] where there is not one share for
+    /// each rule, then with [`Refusal::ShareRange`].
+    ///
+    /// ```
+    /// use spireyerba::{text::NamedGrammar, Refusal};
+    ///
+    /// let named = NamedGrammar::parse("A -> A A [1] | \"x\"")?;
+    /// let utterance = named.parse_utterance("x 2; x 3")?;
+    /// let reading = named.grammar.list(&utterance, 1)?.remove(0);
+    /// assert_eq!(named.grammar.chance(&utterance, &reading, &[512, 1024]), Ok(0.5));
+    /// assert_eq!(named.grammar.chance(&utterance, &reading, &[512]), Err(Refusal::SharesCount));
+    /// # Ok::<(), spireyerba::Error>(())
+    /// ```
+    pub fn chance(&self, utterance: &Utterance, reading: &Reading, shares: &[u32]) -> Result<f64, Refusal> {
+        let (grammar, mut product) = (self.to_block()?, 0.0);
+        let utterance = utterance.to_block(&grammar)?;
+        chance(&grammar, &utterance, &reading.to_block(self.rules.len())?, shares, &mut product)?;
+        Ok(product)
+    }
+
+    /// The chance of a reading of a word graph, as [`Self::chance`] has it. Refuses as [`Self::check_graph`] does, then as
+    /// that.
+    pub fn chance_graph(&self, graph: &Graph, reading: &GraphReading, shares: &[u32]) -> Result<f64, Refusal> {
+        let (grammar, mut product) = (self.to_block()?, 0.0);
+        let graph = graph.to_block(&grammar)?;
+        chance(&grammar, &graph, &reading.to_block(self)?, shares, &mut product)?;
+        Ok(product)
     }
 }

@@ -8,7 +8,7 @@ use crate::{Grammar, Refusal, Utterance};
 use std::ops::RangeInclusive;
 
 /// The kind of a graph's block.
-const KIND: u32 = 5;
+pub(crate) const KIND: u32 = 5;
 
 /// A word that was heard between two places of a graph. The graph offers it there if its cost is below [`NOT_HEARD`].
 #[derive(Clone, Copy, Debug, PartialEq, Eq, Hash)]

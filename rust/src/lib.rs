@@ -15,10 +15,11 @@
 //! | [`services`] | the library's functions over lent slices, with no allocation |
 //! | [`Refusal`] | why one of them refused, by number and in words |
 //! | [`Grammar`], [`Utterance`], [`Reading`] | values that turn into blocks and sheets and back; [`Grammar::list`], [`Grammar::check`] |
-//! | [`Office`], [`MarkedGrammar`] | rules as offices write them, and what they become; [`Office::to_grammar`] |
+//! | [`Office`], [`MarkedGrammar`] | rules as offices write them, and what they become; [`Office::to_grammar`], [`MarkedGrammar::to_office`] |
 //! | [`Graph`], [`GraphReading`] | word graphs, which have blocks and no sheets; [`Grammar::list_graph`], [`Grammar::check_graph`] |
 //! | [`Grammar::specimen`], [`Phrases`] | what can be said in a grammar |
 //! | [`Lister`] | many listings under one grammar, in memory that is kept, the library's or a desk panel's |
+//! | [`Grammar::chance`], [`Grammar::chance_graph`] | the product of the shares of a reading's rules |
 //! | [`Tree`] | a reading as a tree |
 //! | [`limits`] | how large things may be, and how much is to be lent |
 //! | [`text`] | grammars, utterances, word graphs, confusion networks and lattices with names |
@@ -72,5 +73,5 @@ pub use office::{Item, Office, OfficeRule};
 pub use phrases::Phrases;
 pub use reading::{GraphReading, Reading};
 pub use refusal::Refusal;
-pub use tree::{Parts, Tree};
+pub use tree::{Part, Tree};
 pub use utterance::{Candidate, Utterance};

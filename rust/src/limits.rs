@@ -93,6 +93,9 @@ pub(crate) const READING_SLOTS_WIDTH: usize = 6;
 pub(crate) const READING_WEIGHT_WIDTH: usize = 24;
 pub(crate) const EDGE_NUMBER_WIDTH: usize = 7;
 const READING_HEAD_WIDTH: usize = KIND_WIDTH + READING_SLOTS_WIDTH + READING_WEIGHT_WIDTH;
+/// The bits of an utterance's number of slots, and of a slot's number of candidates.
+pub(crate) const SLOTS_WIDTH: usize = 6;
+pub(crate) const CANDIDATES_WIDTH: usize = 3;
 /// The bits of a graph's number of places and of edges; of an edge's place and of its cost.
 pub(crate) const PLACES_WIDTH: usize = 5;
 pub(crate) const EDGES_WIDTH: usize = 7;

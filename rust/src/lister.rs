@@ -1,6 +1,9 @@
 //! Many listings under one grammar.
 
+use crate::fields::Fields;
+use crate::graph::KIND as GRAPH_KIND;
 use crate::limits::{graph_reading_length, reading_length, work_length, MAX_READINGS, UTTERANCE_BLOCK_MAX};
+use crate::limits::{KIND_WIDTH, MAX_SLOTS, PLACES_WIDTH, SLOTS_WIDTH};
 use crate::services::{listing, panel_listing, utterance_to_block};
 use crate::{Grammar, Graph, GraphReading, Reading, Refusal, Utterance};
 
@@ -74,8 +77,21 @@ impl Lister {
         Ok(self.find_in_graph(graph, wanted)?.readings().collect())
     }
 
-    /// The `wanted` least readings of an utterance, given as its sheet, left packed. Once the tables are as large as the
-    /// utterances need, no memory is allocated.
+    /// The `wanted` least readings of an utterance, given as its sheet, left packed.
+    pub fn find(&mut self, sheet: &[u32], wanted: u32) -> Result<Found<'_>, Refusal> {
+        let mut block = [0; UTTERANCE_BLOCK_MAX];
+        let bytes = utterance_to_block(&self.block, sheet, &mut block)?;
+        self.find_in_block(&block[..bytes], wanted)
+    }
+
+    /// The `wanted` least readings of a word graph, left packed.
+    pub fn find_in_graph(&mut self, graph: &Graph, wanted: u32) -> Result<Found<'_>, Refusal> {
+        let block = graph.pack(self.grammar.words)?;
+        self.find_in_block(&block, wanted)
+    }
+
+    /// The `wanted` least readings of an utterance or of a word graph, given as its block, left packed. Refuses it as [`listing`]
+    /// does, then with [`Refusal::ListingWanted`]. Once the tables are as large as the utterances need, no memory is allocated.
     ///
     /// ```
     /// use spireyerba::text::{NamedGrammar, UtteranceReader};
@@ -83,10 +99,11 @@ impl Lister {
     ///
     /// let doors = NamedGrammar::parse("Entry -> Door Number\nDoor -> \"door\"\nNumber -> \"four\" | \"five\" [2]")?;
     /// let reader = UtteranceReader::new(&doors);
-    /// let (mut lister, mut sheet, mut kept) = (Lister::new(&doors.grammar)?, Vec::new(), GraphReading::default());
+    /// let (mut lister, mut kept) = (Lister::new(&doors.grammar)?, GraphReading::default());
+    /// let (mut sheet, mut block) = (Vec::new(), Vec::new());
     /// for (heard, weights) in [("door 3; four 9 | five 5", &[10, 12][..]), ("door 7; four 1", &[8])] {
-    ///     reader.read_sheet(heard, &mut sheet)?;
-    ///     let found = lister.find(&sheet, 8)?;
+    ///     reader.read_block(heard, &mut sheet, &mut block)?;
+    ///     let found = lister.find_in_block(&block, 8)?;
     ///     assert_eq!(found.len(), weights.len());
     ///     for (number, weight) in weights.iter().enumerate() {
     ///         found.read(number, &mut kept);
@@ -95,27 +112,36 @@ impl Lister {
     /// }
     /// # Ok::<(), spireyerba::Error>(())
     /// ```
-    pub fn find(&mut self, sheet: &[u32], wanted: u32) -> Result<Found<'_>, Refusal> {
-        let mut block = [0; UTTERANCE_BLOCK_MAX];
-        let bytes = utterance_to_block(&self.block, sheet, &mut block)?;
-        let slots = sheet[0] as usize;
-        self.find_in_block(&block[..bytes], slots, reading_length(slots, self.grammar.rules.len()), wanted)
-    }
-
-    /// The `wanted` least readings of a word graph, left packed.
-    pub fn find_in_graph(&mut self, graph: &Graph, wanted: u32) -> Result<Found<'_>, Refusal> {
-        let block = graph.pack(self.grammar.words)?;
-        let longest = graph.places as usize - 1;
-        self.find_in_block(&block, longest, graph_reading_length(longest, self.grammar.rules.len()), wanted)
-    }
-
-    /// The readings of a block of at most so many words, in so many bytes each.
-    fn find_in_block(&mut self, block: &[u8], words: usize, length: usize, wanted: u32) -> Result<Found<'_>, Refusal> {
+    pub fn find_in_block(&mut self, block: &[u8], wanted: u32) -> Result<Found<'_>, Refusal> {
+        let rules = self.grammar.rules.len();
+        let (words, length) = match longest(block) {
+            Longest::Slots(words) => (words, reading_length(words, rules)),
+            Longest::Path(words) => (words, graph_reading_length(words, rules)),
+        };
         let most = wanted.min(MAX_READINGS) as usize;
         let work = lent(&mut self.work, work_length(self.grammar.symbols as usize, words, most));
-        let out = lent(&mut self.out, most * length);
-        let found = (self.service)(&self.block, block, wanted, work, out)?;
-        Ok(Found { grammar: &self.grammar, blocks: &self.out[..found * length], length })
+        // room to look a few bytes past the last reading
+        lent(&mut self.out, most * length + size_of::<u64>());
+        let count = (self.service)(&self.block, block, wanted, work, &mut self.out[..most * length])?;
+        Ok(Found { grammar: &self.grammar, blocks: &self.out, length, count })
+    }
+}
+
+/// The words of the longest reading that there can be.
+enum Longest {
+    Slots(usize),
+    Path(usize),
+}
+
+/// That of a block. Of what the library refuses it is any that there can be: whatever is lent will do then.
+fn longest(block: &[u8]) -> Longest {
+    let mut front = [0; 2];
+    front.iter_mut().zip(block).for_each(|(to, byte)| *to = *byte);
+    let mut fields = Fields::new(&front);
+    let within = |words: u32| words.clamp(1, MAX_SLOTS) as usize;
+    match fields.take(KIND_WIDTH) {
+        GRAPH_KIND => Longest::Path(within(fields.take(PLACES_WIDTH).saturating_sub(1))),
+        _ => Longest::Slots(within(fields.take(SLOTS_WIDTH))),
     }
 }
 
@@ -131,30 +157,37 @@ fn lent<T: Clone + Default>(table: &mut Vec<T>, length: usize) -> &mut [T] {
 #[derive(Clone, Copy, Debug)]
 pub struct Found<'a> {
     grammar: &'a Grammar,
+    /// Their blocks, and what stands behind them.
     blocks: &'a [u8],
     /// The bytes of each.
     length: usize,
+    count: usize,
 }
 
 impl<'a> Found<'a> {
     /// How many there are.
     pub fn len(&self) -> usize {
-        self.blocks.len() / self.length
+        self.count
     }
 
     /// Whether there are none.
     pub fn is_empty(&self) -> bool {
-        self.blocks.is_empty()
+        self.count == 0
     }
 
     /// Puts the reading with a number, from 0 on, in the place of another, in the memory that it has. Of slots its path is
     /// empty.
     pub fn read(&self, number: usize, into: &mut GraphReading) {
-        into.unpack(&self.blocks[number * self.length..][..self.length], self.grammar);
+        assert!(number < self.count, "there are {} readings", self.count);
+        into.unpack(&self.blocks[number * self.length..], self.grammar);
     }
 
     /// The readings. Those of slots have empty paths.
     pub fn readings(self) -> impl Iterator<Item = GraphReading> + 'a {
-        self.blocks.chunks_exact(self.length).map(|block| GraphReading::of_accepted(block, self.grammar))
+        (0..self.count).map(move |number| {
+            let mut found = GraphReading::default();
+            self.read(number, &mut found);
+            found
+        })
     }
 }

@@ -2,7 +2,7 @@
 
 use crate::limits::GRAMMAR_BLOCK_MAX;
 use crate::services::office_to_block;
-use crate::{MarkedGrammar, Refusal};
+use crate::{Body, MarkedGrammar, Refusal, Rule};
 
 /// An item of a body.
 #[derive(Clone, Copy, Debug, PartialEq, Eq, Hash)]
@@ -22,6 +22,28 @@ pub struct OfficeRule {
     pub weight: u32,
     /// What it derives.
     pub items: Vec<Item>,
+}
+
+impl OfficeRule {
+    /// The body, if it is one of normal form: one word or two symbols.
+    pub fn normal_body(&self) -> Option<Body> {
+        match self.items[..] {
+            [Item::Word(word)] => Some(Body::Word(word)),
+            [Item::Symbol(first), Item::Symbol(second)] => Some(Body::Pair(first, second)),
+            _ => None,
+        }
+    }
+}
+
+impl From<Rule> for OfficeRule {
+    /// A rule in normal form, which an office may write too.
+    fn from(Rule { head, weight, body }: Rule) -> Self {
+        let items = match body {
+            Body::Word(word) => vec![Item::Word(word)],
+            Body::Pair(first, second) => vec![Item::Symbol(first), Item::Symbol(second)],
+        };
+        Self { head, weight, items }
+    }
 }
 
 /// A grammar as an office writes it, as plain numbers. Nothing is checked until it is packed.

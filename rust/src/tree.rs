@@ -5,15 +5,15 @@ use crate::{Body, Grammar};
 /// A derivation as a tree.
 ///
 /// ```
-/// use spireyerba::{Body, Grammar, Parts, Rule, Tree};
+/// use spireyerba::{Body, Grammar, Part, Rule, Tree};
 ///
 /// let rules = vec![
 ///     Rule { head: 0, weight: 1, body: Body::Pair(0, 0) },
 ///     Rule { head: 0, weight: 0, body: Body::Word(0) },
 /// ];
 /// let grammar = Grammar { symbols: 1, words: 1, rules };
-/// let leaf = |number| Tree { rule: 1, parts: Parts::Word { word: 0, number } };
-/// let pair = Tree { rule: 0, parts: Parts::Pair([leaf(0), leaf(1)].into()) };
+/// let leaf = |number| Tree { rule: 1, parts: vec![Part::Word { word: 0, number }] };
+/// let pair = Tree { rule: 0, parts: vec![Part::Tree(leaf(0)), Part::Tree(leaf(1))] };
 /// assert_eq!(Tree::from_walk(&grammar, &[0, 1, 1]), Some(pair));
 /// assert_eq!(Tree::from_walk(&grammar, &[0, 1]), None);
 /// ```
@@ -21,22 +21,22 @@ use crate::{Body, Grammar};
 pub struct Tree {
     /// The number of the rule that made it.
     pub rule: u32,
-    /// What the rule's body became.
-    pub parts: Parts,
+    /// What the rule's body became: a word, or two parts; as an office wrote it, up to six.
+    pub parts: Vec<Part>,
 }
 
 /// What stands below a node.
 #[derive(Clone, Debug, PartialEq, Eq, Hash)]
-pub enum Parts {
-    /// Nothing: the node is a leaf.
+pub enum Part {
+    /// A word.
     Word {
-        /// The word.
+        /// Which.
         word: u32,
-        /// How many leaves stand to the left of this one: the number of its slot.
+        /// How many words stand to the left of this one: the number of its slot.
         number: usize,
     },
-    /// The left part and the right part.
-    Pair(Box<[Tree; 2]>),
+    /// Another node.
+    Tree(Tree),
 }
 
 impl Tree {
@@ -48,26 +48,58 @@ impl Tree {
         rules.next().is_none().then_some(tree)
     }
 
-    fn part(grammar: &Grammar, walk: &mut impl Iterator<Item = u32>, leaves: &mut usize) -> Option<Self> {
+    fn part(grammar: &Grammar, walk: &mut impl Iterator<Item = u32>, words: &mut usize) -> Option<Self> {
         let rule = walk.next()?;
         let parts = match grammar.rules.get(rule as usize)?.body {
             Body::Word(word) => {
-                *leaves += 1;
-                Parts::Word { word, number: *leaves - 1 }
+                *words += 1;
+                vec![Part::Word { word, number: *words - 1 }]
             }
             Body::Pair(..) => {
-                let left = Self::part(grammar, walk, leaves)?;
-                Parts::Pair([left, Self::part(grammar, walk, leaves)?].into())
+                let left = Self::part(grammar, walk, words)?;
+                vec![Part::Tree(left), Part::Tree(Self::part(grammar, walk, words)?)]
             }
         };
         Some(Self { rule, parts })
     }
 
-    /// The levels of the tree: 1 for a leaf.
+    /// The tree without the nodes of marked rules below its root, as an office wrote its rules: what stands below such a node
+    /// takes its place.
+    ///
+    /// ```
+    /// use spireyerba::{Item::{Symbol, Word}, Office, OfficeRule, Part, Tree};
+    ///
+    /// let rules = vec![
+    ///     OfficeRule { head: 0, weight: 0, items: vec![Word(0), Word(1), Symbol(0)] },
+    ///     OfficeRule { head: 0, weight: 0, items: vec![Word(1)] },
+    /// ];
+    /// let marked = Office { symbols: 1, words: 2, rules }.to_grammar()?;
+    /// let tree = Tree::from_walk(&marked.grammar, &[0, 2, 4, 3, 1]).map(|tree| tree.without(&marked.marks));
+    /// let word = |word, number| Part::Word { word, number };
+    /// let last = Part::Tree(Tree { rule: 1, parts: vec![word(1, 2)] });
+    /// assert_eq!(tree, Some(Tree { rule: 0, parts: vec![word(0, 0), word(1, 1), last] }));
+    /// # Ok::<(), spireyerba::Refusal>(())
+    /// ```
+    pub fn without(self, marks: &[bool]) -> Self {
+        let parts = self.parts.into_iter().flat_map(|part| match part {
+            Part::Word { .. } => vec![part],
+            Part::Tree(tree) => {
+                let tree = tree.without(marks);
+                match marks[tree.rule as usize] {
+                    true => tree.parts,
+                    false => vec![Part::Tree(tree)],
+                }
+            }
+        });
+        Self { rule: self.rule, parts: parts.collect() }
+    }
+
+    /// The levels of the tree: 1 if it has only words below it.
     pub fn height(&self) -> usize {
-        match &self.parts {
-            Parts::Word { .. } => 1,
-            Parts::Pair(parts) => 1 + parts.iter().map(Self::height).max().unwrap_or(0),
-        }
+        let below = self.parts.iter().map(|part| match part {
+            Part::Word { .. } => 0,
+            Part::Tree(tree) => tree.height(),
+        });
+        1 + below.max().unwrap_or(0)
     }
 }

@@ -1,8 +1,13 @@
 //! Utterances as values.
 
+use crate::fields::Packer;
+use crate::limits::{width, CANDIDATES_WIDTH, COST_WIDTH, KIND_WIDTH, SLOTS_WIDTH};
 use crate::limits::{NOT_HEARD, UTTERANCE_BLOCK_MAX, UTTERANCE_SHEET_MAX};
 use crate::services::{utterance_to_block, utterance_to_sheet};
 use crate::Refusal;
+
+/// The kind of an utterance's block.
+const KIND: u32 = 2;
 
 /// A word of a slot. The slot offers it if its cost is below [`NOT_HEARD`].
 ///
@@ -79,4 +84,24 @@ impl Utterance {
         let slot = |_| (0..next()).map(|_| Candidate { word: next(), cost: next() }).collect();
         Self { slots: (0..slots).map(slot).collect() }
     }
+}
+
+/// Packs a sheet that has all its numbers, each of which its field has room for, under a grammar of so many words, in the place
+/// of another block and in the memory that it has.
+pub(crate) fn pack_accepted(sheet: &[u32], words: u32, block: &mut Vec<u8>) {
+    let mut packer = Packer::again(std::mem::take(block));
+    packer.put(KIND_WIDTH, KIND);
+    let word_width = width(words - 1);
+    let (slots, mut rest) = sheet.split_first().expect("a number of slots");
+    packer.put(SLOTS_WIDTH, *slots);
+    while let [count, after @ ..] = rest {
+        packer.put(CANDIDATES_WIDTH, *count);
+        let (candidates, after) = after.split_at(2 * *count as usize);
+        for candidate in candidates.chunks_exact(2) {
+            packer.put(word_width, candidate[0]);
+            packer.put(COST_WIDTH, candidate[1]);
+        }
+        rest = after;
+    }
+    *block = packer.finish();
 }

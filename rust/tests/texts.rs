@@ -4,7 +4,9 @@ use spireyerba::limits::{
     MAX_CANDIDATES, MAX_EDGES, MAX_PLACES, MAX_RULES, MAX_SLOTS, MAX_SYMBOLS, MAX_WORDS, NOT_HEARD,
 };
 use spireyerba::text::{is_graph, parse_reading, parse_sheet, NamedGrammar, UtteranceReader};
-use spireyerba::{Body, Candidate, Edge, Error, Grammar, Graph, Reading, Refusal, Rule, Utterance};
+use spireyerba::{
+    Body, Candidate, Edge, Error, Grammar, Graph, Item, Office, OfficeRule, Reading, Refusal, Rule, Utterance,
+};
 
 const GRAMMAR: &str = "A -> B B [3] | \"x\"\n\n# two more rules\nB -> \"y\" [4] # the last";
 
@@ -16,11 +18,8 @@ fn grammar() -> NamedGrammar {
 fn a_grammar_with_names() {
     let rule = |head, weight, body| Rule { head, weight, body };
     let rules = vec![rule(0, 3, Body::Pair(1, 1)), rule(0, 0, Body::Word(0)), rule(1, 4, Body::Word(1))];
-    let expected = NamedGrammar {
-        grammar: Grammar { symbols: 2, words: 2, rules },
-        symbols: vec!["A".into(), "B".into()],
-        words: vec!["x".into(), "y".into()],
-    };
+    let names = |names: [&str; 2]| names.map(str::to_owned).to_vec();
+    let expected = NamedGrammar::new(Grammar { symbols: 2, words: 2, rules }, names(["A", "B"]), names(["x", "y"]));
     assert_eq!(grammar(), expected);
     let spaced = "\u{feff}A->B B[3]\r\n  | \"x\" [0]\r\nB -> \"y\" [4]";
     assert_eq!(NamedGrammar::parse(spaced).as_ref(), Ok(&expected));
@@ -36,6 +35,66 @@ fn lists_give_other_numbers() {
     assert_eq!(NamedGrammar::parse(&named.to_text()), Ok(named));
     let symbols = NamedGrammar::parse("symbols -> words words\nwords -> \"w\"").unwrap();
     assert_eq!(symbols.symbols, ["symbols", "words"]);
+}
+
+/// Bodies of up to six items become what the library makes of them, and their text is what was written.
+#[test]
+fn a_grammar_of_an_office() {
+    let named = NamedGrammar::parse("A -> \"x\" B \"y\" [3] | B B\nB -> \"y\"\n").unwrap();
+    let (word, symbol) = (Item::Word, Item::Symbol);
+    let rule = |head, weight, items: &[Item]| OfficeRule { head, weight, items: items.to_vec() };
+    let rules =
+        vec![rule(0, 3, &[word(0), symbol(1), word(1)]), rule(0, 0, &[symbol(1), symbol(1)]), rule(1, 0, &[word(1)])];
+    let office = Office { symbols: 2, words: 2, rules };
+    assert_eq!(named.office(), Some(&office));
+    let marked = office.to_grammar().unwrap();
+    assert_eq!((&named.grammar, named.marks()), (&marked.grammar, Some(&marked.marks[..])));
+    assert_eq!(named.symbols, ["A", "B", "\"x\"", "\"y\"", "B \"y\""]);
+    assert_eq!(named.to_text(), "A -> \"x\" B \"y\" [3]\nA -> B B\nB -> \"y\"\n");
+    assert_eq!(NamedGrammar::parse(&named.to_text()), Ok(named));
+}
+
+/// A line says that rules in normal form are an office's, and words in brackets mark rules one by one.
+#[test]
+fn a_grammar_with_marks() {
+    let plain = "A -> A A [3]\nA -> \"x\"\n";
+    let [one, four] = [plain.to_owned(), format!("office\n{plain}")].map(|text| NamedGrammar::parse(&text).unwrap());
+    assert_eq!((one.marks(), four.marks()), (None, Some(&[false, false][..])));
+    assert_eq!((one.to_text(), four.to_text()), (plain.to_owned(), format!("office\n{plain}")));
+    assert_eq!([one, four].map(|named| named.to_block().unwrap()[0] >> 4), [1, 4]);
+    let text = "A -> B A [helper]\nA -> \"x\" [2]\nB -> \"x\" [7 helper]\n";
+    let named = NamedGrammar::parse(text).unwrap();
+    assert_eq!((named.marks(), named.office()), (Some(&[true, false, true][..]), None));
+    assert_eq!((named.symbols.join(" "), named.to_text()), ("A B".into(), text.into()));
+    // those that an office's rules become are an office's
+    let helpers = "A -> X A\nA -> \"y\"\nX -> \"x\" [helper]\n";
+    assert_eq!(NamedGrammar::parse(helpers).unwrap().to_text(), "words \"y\" \"x\"\nA -> \"x\" A\nA -> \"y\"\n");
+    for (text, message) in [
+        ("A -> \"x\" [helper]\nA -> \"x\" A", "2:6: where a rule is marked as a helper's, all bodies are one quoted word or two symbols: not so beside line 1"),
+        ("A -> \"x\" A\n\nA -> \"x\" [1 helper]", "3:6: where a rule is marked as a helper's, all bodies are one quoted word or two symbols: not so beside line 1"),
+        ("A -> \"x\" A [helper]", "1:6: where a rule is marked as a helper's, all bodies are one quoted word or two symbols: not so beside line 1"),
+    ] {
+        expect(NamedGrammar::parse(text), text, message);
+    }
+}
+
+/// The first rule that is too much is named, and without it the library accepts what is left.
+#[test]
+fn an_office_whose_grammar_is_too_large() {
+    let body = |number: u32| (0..6).map(|at| if number >> at & 1 == 1 { " \"x\"" } else { " A" }).collect::<String>();
+    let text = |rules: u32| (0..rules).map(|number| format!("A ->{}\n", body(number))).collect::<String>();
+    let seven = NamedGrammar::parse(&(text(7) + "A -> \"x\"")).unwrap();
+    assert_eq!((seven.grammar.symbols, seven.own_symbols(), seven.own_rules()), (30, 1, 8));
+    let message =
+        "8:6: refused 56: with this rule and the helpers of all so far the grammar passes 32 symbols or 256 rules";
+    for rules in [8, 9, 20] {
+        expect(NamedGrammar::parse(&(text(rules) + "A -> \"x\"")), "many rules", message);
+    }
+    // 16 symbols and 16 helpers, one for each word; 241 rules and those of the helpers
+    let words: String = (0..16).map(|word| format!("A -> A \"w{word}\"\n")).collect();
+    let pairs: String = (0..225).map(|rule| format!("S{} -> S{} A\n", rule % 15, rule / 15)).collect();
+    let message = message.replace("8:6:", "241:8:");
+    expect(NamedGrammar::parse(&(words + &pairs)), "many rules", &message);
 }
 
 #[test]
@@ -118,11 +177,10 @@ fn mistakes_in_grammars() {
         ("\"x\" -> A A", "1:1: `\"x\"` where a rule's head should stand"),
         ("A", "1:2: the line ends where `->` should stand"),
         ("A B -> C", "1:3: `B` where `->` should stand"),
-        ("A ->", "1:5: a body is one quoted word or two symbols"),
-        ("A -> B", "1:6: a body is one quoted word or two symbols"),
-        ("A -> B C D", "1:6: a body is one quoted word or two symbols"),
-        ("A -> \"x\" B", "1:6: a body is one quoted word or two symbols"),
-        ("A -> \"x\" | | \"y\"", "1:12: a body is one quoted word or two symbols"),
+        ("A ->", "1:5: refused 54: a body is one quoted word, or two to 6 symbols and words"),
+        ("A -> B", "1:6: refused 55: a body is one quoted word, or two to 6 symbols and words"),
+        ("A -> B B B B \"x\" B B", "1:20: refused 54: one too many: a body has at most 6 items"),
+        ("A -> \"x\" | | \"y\"", "1:12: refused 54: a body is one quoted word, or two to 6 symbols and words"),
         ("A -> \"x", "1:6: a quoted word has no quote at its end"),
         ("A -> \"x\\n\"", "1:6: `\\n` in a quoted word: only \\\" and \\\\ have a meaning"),
         ("A -> \"x\" [", "1:11: the line ends where a weight should stand"),
@@ -135,6 +193,10 @@ fn mistakes_in_grammars() {
         ("A -> \"x\" [99999999999]", "1:11: refused 42: 99999999999 is too large: a weight is at most 65535"),
         ("A -> \"x\" [3] \"y\"", "1:14: `\"y\"` where `|` or the end of the line should stand"),
         ("A -> \"x\" [3]\nA -> B C\n  | \"x\"", "3:5: refused 6: the same rule stands in line 1"),
+        ("A -> \"x\" B [3]\nA -> B \"x\" | \"x\" B", "2:14: refused 6: the same rule stands in line 1"),
+        ("A -> \"x\" [helper 3]", "1:18: `3` where `]` should stand"),
+        ("A -> \"x\" [3 helpers]", "1:13: `helpers` where `]` should stand"),
+        ("office x", "1:8: `x` where `->` should stand"),
         ("symbols A \"B\"", "1:11: `\"B\"` where a symbol should stand"),
         ("symbols A A", "1:11: `A` is listed already"),
         ("words a", "1:7: `a` where a quoted word should stand"),

@@ -46,6 +46,8 @@ fn expect_panel(grammar: &[u8], heard: &[u8]) {
 /// The chances are these, in both implementations.
 fn expect_chances(folder: &str, grammar: &Grammar, heard: &Heard) {
     let shares: Vec<u32> = text("doors", "shares.txt").split_whitespace().map(|share| share.parse().unwrap()).collect();
+    let named = NamedGrammar::numbered(grammar.clone());
+    assert_eq!(named.parse_shares(&text("doors", "shares.txt")).as_ref(), Ok(&shares));
     let (grammar_block, block, chances) = (grammar::pack(grammar), heard.pack(grammar), text(folder, "chances.txt"));
     for service in [services::chance, chance] {
         let mut printed = String::new();
@@ -113,7 +115,10 @@ fn the_door_schedule_of_an_office() {
     let (marked, block) = (office::convert(&office).unwrap(), bytes(FOLDER, "grammar.bin"));
     assert_eq!(grammar::pack_marked(&marked), block);
     assert_eq!(office.to_block().as_ref(), Ok(&block));
+    let named = NamedGrammar::parse(&text(FOLDER, "grammar.txt")).unwrap();
+    assert_eq!((named.office(), named.to_block()), (Some(&office), Ok(block.clone())));
     let utterance = Utterance::from_block(&block, &heard).unwrap();
+    assert_eq!(named.parse_utterance(&text(FOLDER, "utterance.txt")).as_ref(), Ok(&utterance));
     let shown = |reading: &Reading| Reading { weight: reading.weight, walk: marked.shown(&reading.walk) };
     let print = |list: Vec<Reading>| print_list(&list.iter().map(shown).collect::<Vec<_>>());
     let readings = text(FOLDER, "readings.txt");

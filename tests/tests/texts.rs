@@ -37,7 +37,7 @@ fn named(rng: &mut Rng) -> NamedGrammar {
     let grammar = grammar(rng, size);
     let symbols = names(rng, grammar.symbols, &SYMBOL_LETTERS);
     let words = names(rng, grammar.words, &WORD_LETTERS);
-    NamedGrammar { grammar, symbols, words }
+    NamedGrammar::new(grammar, symbols, words)
 }
 
 #[test]
@@ -74,6 +74,46 @@ fn utterances() {
         let in_a_line = text.trim_end().replace('\n', " ; ");
         assert_eq!(named.parse_utterance(&in_a_line), Ok(utterance), "{in_a_line}");
     });
+}
+
+/// Lines as programs write them are read in one pass, and mean what they mean to the reader of any text; so do lines with
+/// letters changed, and what is wrong is said at the same place.
+#[test]
+fn utterances_in_plain_lines() {
+    let (mut accepted, mut refused) = (0, 0);
+    over_seeds(9_000..10_500, |rng| {
+        let mut named = named(rng);
+        named.words = names(rng, named.grammar.words, &['a', 'b', 'Z', '0', '7', '_']);
+        let block = named.to_block().expect("an accepted grammar");
+        let size = rng.pick(&SIZES);
+        let utterance = utterance(rng, size, named.grammar.words);
+        let mut line: Vec<char> = named.utterance_text(&utterance).trim_end().replace('\n', " ; ").chars().collect();
+        for _ in 0..rng.within(0..=2) {
+            let (at, letter) = (rng.below(line.len()), rng.pick(&[' ', '|', ';', '#', '"', '9', 'a', '-', '\t', 'ü']));
+            match rng.within(0..=2) {
+                0 => line[at] = letter,
+                1 => line.insert(at, letter),
+                _ => drop(line.remove(at)),
+            }
+        }
+        let line: String = line.into_iter().collect();
+        let reader = UtteranceReader::new(&named);
+        // this one goes by tokens
+        let read = reader.read(&line);
+        let (mut sheet, mut packed) = (vec![7; 9], vec![7; 9]);
+        match reader.read_block(&line, &mut sheet, &mut packed) {
+            Ok(()) => {
+                let read = read.unwrap_or_else(|error| panic!("{error}\n{line}"));
+                assert_eq!((&sheet, Ok(&packed)), (&read.to_sheet(), read.to_block(&block).as_ref()), "{line}");
+                accepted += 1;
+            }
+            Err(error) => {
+                assert_eq!(read, Err(error), "{line}");
+                refused += 1;
+            }
+        }
+    });
+    assert!(accepted > 500 && refused > 500, "{accepted} accepted, {refused} refused");
 }
 
 #[test]

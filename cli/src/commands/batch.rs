@@ -8,8 +8,9 @@ use crate::options::{Arguments, DROP_UNKNOWN, JOBS, WANTED};
 use crate::output::Output;
 use spireyerba::text::{is_graph, UtteranceReader};
 use spireyerba::{Error, GraphReading, Lister};
+use std::borrow::Cow;
 use std::collections::BTreeMap;
-use std::io::{stderr, BufRead, BufReader, IsTerminal, Read};
+use std::io::{stderr, ErrorKind, IsTerminal, Read};
 use std::sync::mpsc::{sync_channel, Receiver, SyncSender};
 use std::sync::Mutex;
 use std::time::{Duration, Instant};
@@ -29,8 +30,8 @@ answers are lines of JSON in the same order, with the number of the line; what i
     run,
 };
 
-/// Lines that a thread takes at a time.
-const LINES_AT_A_TIME: usize = 64;
+/// A thread takes at most so many bytes at a time, or one line that is longer.
+const BYTES_AT_A_TIME: usize = 1 << 15;
 /// Answers of a thread that may wait to be written.
 const WAITING: usize = 4;
 /// The progress line is drawn anew at most so often.
@@ -63,7 +64,9 @@ fn run(arguments: &Arguments, output: &mut Output) -> Result<(), Failure> {
 
 /// Where the lines come from.
 struct Source {
-    lines: BufReader<Box<dyn Read + Send>>,
+    file: Box<dyn Read + Send>,
+    /// The front of a line whose end was not read yet.
+    rest: Vec<u8>,
     /// The pieces and the lines that were taken.
     pieces: usize,
     taken: usize,
@@ -79,20 +82,39 @@ struct Piece {
 
 impl Source {
     fn new(file: Box<dyn Read + Send>) -> Self {
-        Self { lines: BufReader::new(file), pieces: 0, taken: 0 }
+        Self { file, rest: Vec::new(), pieces: 0, taken: 0 }
     }
 
-    /// The next lines; nothing if there are none.
+    /// The next lines, as many as can be read at once, and at least one; nothing if there are none.
     fn next(&mut self) -> std::io::Result<Option<Piece>> {
-        let mut piece = Piece { number: self.pieces, before: self.taken, text: Vec::new() };
-        for _ in 0..LINES_AT_A_TIME {
-            if self.lines.read_until(b'\n', &mut piece.text)? == 0 {
-                break;
+        let mut text = std::mem::take(&mut self.rest);
+        loop {
+            let known = text.len();
+            text.resize(known + BYTES_AT_A_TIME, 0);
+            let read = read_some(&mut self.file, &mut text[known..])?;
+            text.truncate(known + read);
+            let end = text[known..].iter().rposition(|byte| *byte == b'\n').map(|at| known + at + 1);
+            match end {
+                Some(end) => self.rest = text.split_off(end),
+                None if read > 0 => continue,
+                None => {}
             }
-            self.taken += 1;
+            break;
         }
+        let piece = Piece { number: self.pieces, before: self.taken, text };
         self.pieces += 1;
+        self.taken += piece.text.iter().filter(|byte| **byte == b'\n').count();
         Ok((!piece.text.is_empty()).then_some(piece))
+    }
+}
+
+/// Reads what there is, and tries again if it was interrupted.
+fn read_some(file: &mut impl Read, into: &mut [u8]) -> std::io::Result<usize> {
+    loop {
+        match file.read(into) {
+            Err(error) if error.kind() == ErrorKind::Interrupted => {}
+            read => return read,
+        }
     }
 }
 
@@ -153,25 +175,30 @@ impl Batch<'_> {
 struct Worker<'a> {
     batch: &'a Batch<'a>,
     lister: Lister,
+    /// What is heard in the line at hand.
     sheet: Vec<u32>,
+    block: Vec<u8>,
     reading: GraphReading,
 }
 
 impl<'a> Worker<'a> {
     fn new(batch: &'a Batch) -> Self {
-        Self { batch, lister: batch.lister.clone(), sheet: Vec::new(), reading: GraphReading::default() }
+        let lister = batch.lister.clone();
+        Self { batch, lister, sheet: Vec::new(), block: Vec::new(), reading: GraphReading::default() }
     }
 
     fn answers(&mut self, piece: &Piece) -> Answers {
         let mut answers = Answers { json: self.batch.memory(), messages: Vec::new(), utterances: 0 };
-        for (number, line) in piece.text.split(|byte| *byte == b'\n').enumerate() {
-            let line = String::from_utf8_lossy(line);
+        // that a text is all right is found faster than where it is not
+        let text =
+            std::str::from_utf8(&piece.text).map_or_else(|_| String::from_utf8_lossy(&piece.text), Cow::Borrowed);
+        for (number, line) in text.split('\n').enumerate() {
             let first = line.trim_start().chars().next();
             if first.is_none_or(|first| first == '#') {
                 continue;
             }
             answers.utterances += 1;
-            if let Err(error) = self.answer(&line, piece.before + number, &mut answers.json) {
+            if let Err(error) = self.answer(line, piece.before + number, &mut answers.json) {
                 refuse(&mut answers, &error, piece.before + number + 1);
             }
         }
@@ -187,16 +214,15 @@ impl<'a> Worker<'a> {
             let graph = reader.read_graph(line).map_err(in_file)?;
             self.lister.find_in_graph(&graph, *wanted)
         } else {
-            reader.read_sheet(line, &mut self.sheet).map_err(in_file)?;
-            self.lister.find(&self.sheet, *wanted)
+            reader.read_block(line, &mut self.sheet, &mut self.block).map_err(in_file)?;
+            self.lister.find_in_block(&self.block, *wanted)
         };
         let found = found.map_err(|refusal| in_file(refusal.into()))?;
         begin_line(json, before + 1);
-        json::push_key(json, "readings");
-        json.push(b'[');
+        json.extend_from_slice(b",\"readings\":[");
         for number in 0..found.len() {
             found.read(number, &mut self.reading);
-            names.begin_reading(json, number as u32 + 1, &self.reading.reading);
+            names.begin_reading(json, Some(number as u32 + 1), &self.reading.reading);
             if is_graph {
                 json::push_numbers(json, "edges", self.reading.path.iter().copied());
             }

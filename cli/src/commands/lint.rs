@@ -26,12 +26,13 @@ fn run(arguments: &Arguments, output: &mut Output) -> Result<(), Failure> {
     let file = files::grammar(arguments.operands[0])?;
     let grammar = &file.named.grammar;
     let shortest = shortest_strings(grammar).map_err(Error::from)?;
-    for (symbol, _) in shortest.iter().enumerate().filter(|(_, length)| length.is_none()) {
+    let own = &shortest[..file.named.own_symbols() as usize];
+    for (symbol, _) in own.iter().enumerate().filter(|(_, length)| length.is_none()) {
         let what = format!("symbol {} derives nothing", file.named.symbols[symbol]);
         output.line(&found(&file, |places| places.symbols[symbol], &what))?;
     }
     let used = used_rules(grammar, &shortest);
-    for rule in (0..grammar.rules.len()).filter(|rule| !used[*rule]) {
+    for rule in (0..file.named.own_rules() as usize).filter(|rule| !used[*rule]) {
         let what = format!("no derivation can use rule {rule}, {}", file.named.rule_text(rule as u32));
         output.line(&found(&file, |places| places.rules[rule], &what))?;
     }
@@ -50,11 +51,18 @@ fn found(file: &GrammarFile, place: impl FnOnce(&Places) -> Position, what: &str
     }
 }
 
+/// How much of everything the grammar has, what the helpers of an office's rules take, and what is left.
 fn room(file: &GrammarFile) -> String {
-    let Grammar { symbols, words, rules } = &file.named.grammar;
-    let counts =
-        [("symbols", *symbols, MAX_SYMBOLS), ("words", *words, MAX_WORDS), ("rules", rules.len() as u32, MAX_RULES)];
-    let parts = counts.map(|(what, count, limit)| format!("{count} of {limit} {what} ({} left)", limit - count));
+    let (named, Grammar { symbols, words, rules }) = (&file.named, &file.named.grammar);
+    let counts = [
+        ("symbols", named.own_symbols(), *symbols, MAX_SYMBOLS),
+        ("words", *words, *words, MAX_WORDS),
+        ("rules", named.own_rules(), rules.len() as u32, MAX_RULES),
+    ];
+    let parts = counts.map(|(what, own, all, limit)| {
+        let helpers = if own == all { String::new() } else { format!(" and {} for helpers", all - own) };
+        format!("{own} of {limit} {what}{helpers} ({} left)", limit - all)
+    });
     format!("{}: {}", file.name, parts.join(", "))
 }
 

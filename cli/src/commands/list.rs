@@ -11,7 +11,7 @@ use crate::options::{Arguments, DROP_DELETES, DROP_UNKNOWN, EMPTY, JSON, RULES, 
 use crate::output::{Output, Style};
 use crate::skip;
 use spireyerba::text::print_list;
-use spireyerba::{Error, Reading, Tree};
+use spireyerba::{Error, GraphReading, Reading, Tree};
 
 pub const COMMAND: Command = Command {
     name: "list",
@@ -45,12 +45,33 @@ impl Listed {
     /// Lists so many readings of the utterance that the first two operands name.
     pub fn new(arguments: &Arguments, wanted: u32) -> Result<Self, Failure> {
         let grammar = files::grammar(arguments.operands[0])?;
-        let mut heard = files::heard(arguments, &grammar, arguments.operands[1])?;
-        let known = anchor::apply(arguments, &grammar.named, &mut heard)?;
-        let slots = skip::apply(arguments, &known, &mut heard)?;
+        let (heard, slots) = heard(arguments, &grammar)?;
         let list = heard.list(&grammar.named.grammar, wanted).map_err(Error::from)?;
         let (readings, paths) = list.into_iter().map(|found| (found.reading, found.path)).unzip();
         Ok(Self { grammar, heard, readings, paths, slots })
+    }
+
+    /// Lists readings up to the one with a rank, which there has to be.
+    pub fn up_to(arguments: &Arguments, rank: u32) -> Result<Self, Failure> {
+        let listed = Self::new(arguments, rank)?;
+        match listed.readings.len() {
+            found if found < rank as usize => {
+                Err(Failure::Refused(format!("there is no reading {rank}: the utterance has {found} in all")))
+            }
+            _ => Ok(listed),
+        }
+    }
+
+    /// The reading with a rank, and its path.
+    pub fn found(&self, rank: usize) -> GraphReading {
+        GraphReading { reading: self.readings[rank - 1].clone(), path: self.paths[rank - 1].clone() }
+    }
+
+    /// Says on standard error that there is no reading, if it is so.
+    pub fn say_if_none(&self) {
+        if self.readings.is_empty() {
+            eprintln!("no reading: the grammar derives nothing of what was heard");
+        }
     }
 
     /// The words of the reading with a rank, each where it was heard; none if there is no such reading.
@@ -62,8 +83,16 @@ impl Listed {
     }
 
     pub fn tree(&self, reading: &Reading) -> Tree {
-        Tree::from_walk(&self.grammar.named.grammar, &reading.walk).expect("the library lists walks of derivations")
+        self.grammar.named.tree(reading).expect("the library lists walks of derivations")
     }
+}
+
+/// What was heard, as the command line asks for it, and the slot of each edge, if slots may be passed over.
+pub fn heard(arguments: &Arguments, grammar: &GrammarFile) -> Result<(Heard, Option<Vec<u32>>), Failure> {
+    let mut heard = files::heard(arguments, grammar, arguments.operands[1])?;
+    let known = anchor::apply(arguments, &grammar.named, &mut heard)?;
+    let slots = skip::apply(arguments, &known, &mut heard)?;
+    Ok((heard, slots))
 }
 
 fn run(arguments: &Arguments, output: &mut Output) -> Result<(), Failure> {
@@ -73,7 +102,10 @@ fn run(arguments: &Arguments, output: &mut Output) -> Result<(), Failure> {
     }
     let listed = Listed::new(arguments, arguments.wanted()?)?;
     match forms {
-        [_, true, _] => output.text(&print_list(&listed.readings)),
+        [_, true, _] => {
+            let shown = listed.readings.iter().map(|reading| listed.grammar.named.shown(reading));
+            output.text(&print_list(&shown.collect::<Vec<_>>()))
+        }
         [_, _, true] => output.bytes(&json_of(&listed)),
         [with_trees, ..] => print(&listed, with_trees, output),
     }
@@ -85,7 +117,7 @@ fn json_of(listed: &Listed) -> Vec<u8> {
     let named = &listed.grammar.named;
     let (names, mut line) = (json::Names::new(named), b"{\"readings\":[".to_vec());
     for (rank, (reading, path)) in (1..).zip(listed.readings.iter().zip(&listed.paths)) {
-        names.begin_reading(&mut line, rank, reading);
+        names.begin_reading(&mut line, Some(rank), reading);
         match (&listed.slots, &listed.heard) {
             (Some(slots), _) => {
                 let slots = path.iter().map(|edge| slots[*edge as usize]);
@@ -104,9 +136,7 @@ fn json_of(listed: &Listed) -> Vec<u8> {
 }
 
 pub fn print(listed: &Listed, with_trees: bool, output: &mut Output) -> Result<(), Failure> {
-    if listed.readings.is_empty() {
-        eprintln!("no reading: the grammar derives nothing of what was heard");
-    }
+    listed.say_if_none();
     for rank in 1..=listed.readings.len() {
         let mut text = line(listed, rank, output) + "\n";
         if with_trees {
@@ -122,16 +152,21 @@ pub fn print(listed: &Listed, with_trees: bool, output: &mut Output) -> Result<(
 
 /// The reading with a rank in one line; words that the first reading does not have in their place are marked.
 pub fn line(listed: &Listed, rank: usize, output: &Output) -> String {
+    format!("{}  {}", line_begin(listed, rank, output), marked_words(listed, rank, output))
+}
+
+/// Rank and weight, as the line of the reading begins.
+pub fn line_begin(listed: &Listed, rank: usize, output: &Output) -> String {
     let readings = &listed.readings;
     let width = |number: u32| number.to_string().len();
     let rank_width = width(readings.len() as u32);
     let weight_width = readings.iter().map(|reading| width(reading.weight)).max().unwrap_or(0);
-    let reading = &readings[rank - 1];
-    let weight = output.paint(Style::Strong, &format!("{:>weight_width$}", reading.weight));
-    format!("{rank:>rank_width$}  {weight}  {}", marked_words(listed, rank, output))
+    let weight = format!("{:>weight_width$}", readings[rank - 1].weight);
+    format!("{rank:>rank_width$}  {}", output.paint(Style::Strong, &weight))
 }
 
-fn marked_words(listed: &Listed, rank: usize, output: &Output) -> String {
+/// The words of the reading with a rank; those that the first reading does not have in their place are marked.
+pub fn marked_words(listed: &Listed, rank: usize, output: &Output) -> String {
     let usual = listed.taken(1);
     let words = listed.taken(rank).into_iter().map(|taken| {
         let word = listed.grammar.named.word(taken.candidate.word);

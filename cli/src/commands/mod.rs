@@ -1,6 +1,7 @@
 //! The subcommands.
 
 mod batch;
+mod chance;
 mod check;
 mod lint;
 pub mod list;
@@ -50,6 +51,7 @@ pub const COMMANDS: &[Command] = &[
     specimen::COMMAND,
     phrases::COMMAND,
     check::COMMAND,
+    chance::COMMAND,
     pack::COMMAND,
     unpack::COMMAND,
 ];

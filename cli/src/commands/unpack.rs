@@ -7,6 +7,7 @@ use crate::heard::Heard;
 use crate::options::{Arguments, DROP_DELETES, DROP_UNKNOWN, EMPTY, FILE, LATTICE, NETWORK, SCALE};
 use crate::output::Output;
 use spireyerba::text::{graph_reading_text, reading_text};
+use spireyerba::GraphReading;
 
 pub const COMMAND: Command = Command {
     name: "unpack",
@@ -28,10 +29,11 @@ fn run(arguments: &Arguments, output: &mut Output) -> Result<(), Failure> {
         [heard] => heard_text(arguments, &grammar, &files::heard(arguments, &grammar, heard)?)?,
         [heard, reading, ..] => {
             let heard = files::heard(arguments, &grammar, heard)?;
-            let found = files::reading(&grammar, &heard, reading)?.found;
+            let GraphReading { reading, path } = files::reading(&grammar, &heard, reading)?.found;
+            let reading = grammar.named.written_reading(&reading);
             match heard {
-                Heard::Slots(_) => reading_text(&found.reading),
-                Heard::Graph(_) => graph_reading_text(&found),
+                Heard::Slots(_) => reading_text(&reading),
+                Heard::Graph(_) => graph_reading_text(&GraphReading { reading, path }),
             }
         }
     };

@@ -33,11 +33,8 @@ fn run(arguments: &Arguments, output: &mut Output) -> Result<(), Failure> {
     if rank < 2 {
         return Err(arguments.wrong("K is 2 or more: the first reading is laid beside it"));
     }
-    let listed = Listed::new(arguments, rank)?;
-    let [first, .., other] = &listed.readings[..] else { return Err(too_few(&listed, rank)) };
-    if listed.readings.len() < rank as usize {
-        return Err(too_few(&listed, rank));
-    }
+    let listed = Listed::up_to(arguments, rank)?;
+    let [first, other] = [0, rank as usize - 1].map(|at| &listed.readings[at]);
     let difference = i64::from(other.weight) - i64::from(first.weight);
     let how = if difference == 0 { "as much as the first".into() } else { format!("{difference} more than the first") };
     output.line(&format!("reading {rank} weighs {}, {how}", other.weight))?;
@@ -55,11 +52,6 @@ fn run(arguments: &Arguments, output: &mut Output) -> Result<(), Failure> {
     let mut rows = words(&listed, rank as usize);
     rows.extend(rules(&listed, first, other));
     print(&rows, rank, difference, output)
-}
-
-fn too_few(listed: &Listed, rank: u32) -> Failure {
-    let found = listed.readings.len();
-    Failure::Refused(format!("there is no reading {rank}: the utterance has {found} in all"))
 }
 
 /// The slots, or the places, between which both do not have the same word.
@@ -82,19 +74,20 @@ fn words(listed: &Listed, rank: usize) -> Vec<Row> {
     spans.into_iter().filter_map(row).collect()
 }
 
-/// The rules that one of both uses more often.
+/// The rules that one of both uses more often. Those of helpers weigh nothing and are left out.
 fn rules(listed: &Listed, first: &Reading, other: &Reading) -> Vec<Row> {
     let named = &listed.grammar.named;
     let uses = |reading: &Reading, rule| reading.walk.iter().filter(|used| **used == rule).count() as i64;
     let row = |rule: u32| {
         let more = uses(other, rule) - uses(first, rule);
+        let difference = more * i64::from(named.grammar.rules[rule as usize].weight);
         let text = match more.abs() {
+            _ if difference == 0 && named.is_marked(rule) => return None,
             0 => return None,
             1 => named.rule_text(rule),
             times => format!("{times} times {}", named.rule_text(rule)),
         };
         let (first, other) = if more < 0 { (text, String::new()) } else { (String::new(), text) };
-        let difference = more * i64::from(named.grammar.rules[rule as usize].weight);
         Some(Row { place: format!("rule {rule}"), first, other, difference })
     };
     (0..named.grammar.rules.len() as u32).filter_map(row).collect()

@@ -51,11 +51,11 @@ fn escaped(text: &str) -> String {
 }
 
 fn header(listed: &Listed, source: &Source) -> String {
-    let grammar = &listed.grammar.named.grammar;
+    let named = &listed.grammar.named;
     let counts = [
-        counted(grammar.symbols as usize, "symbol"),
-        counted(grammar.words as usize, "word"),
-        counted(grammar.rules.len(), "rule"),
+        counted(named.own_symbols() as usize, "symbol"),
+        counted(named.words.len(), "word"),
+        counted(named.own_rules() as usize, "rule"),
     ];
     let found = listed.readings.len();
     let number = match found {

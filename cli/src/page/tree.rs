@@ -4,7 +4,7 @@ use super::escaped;
 use crate::commands::list::Listed;
 use crate::heard::Taken;
 use spireyerba::text::NamedGrammar;
-use spireyerba::{Parts, Tree};
+use spireyerba::{Part, Tree};
 use std::fmt::Write;
 
 /// Lengths in units of the drawing, of which a character is about `CHARACTER` wide.
@@ -26,7 +26,7 @@ const FOOT: f64 = 26.0;
 struct Layout<'a> {
     listed: &'a Listed,
     named: &'a NamedGrammar,
-    /// The middle of each leaf's column.
+    /// The middle of each word's column.
     columns: Vec<f64>,
     /// The words' baseline.
     baseline: f64,
@@ -40,7 +40,7 @@ struct Layout<'a> {
 pub fn svg(listed: &Listed, rank: usize) -> String {
     let (named, tree) = (&listed.grammar.named, &listed.tree(&listed.readings[rank - 1]));
     let mut widths = Vec::new();
-    leaf_widths(named, tree, &mut widths);
+    word_widths(named, tree, &mut widths);
     let mut columns = Vec::new();
     let mut edge = MARGIN;
     for width in widths {
@@ -60,31 +60,44 @@ pub fn svg(listed: &Listed, rank: usize) -> String {
     )
 }
 
-/// The width of each leaf's column: that of its symbol or its word, whichever is wider.
-fn leaf_widths(named: &NamedGrammar, tree: &Tree, widths: &mut Vec<f64>) {
-    match &tree.parts {
-        Parts::Word { word, .. } => {
-            let symbol = named.symbol(named.grammar.rules[tree.rule as usize].head);
-            let characters = symbol.chars().count().max(named.word(*word).chars().count());
-            widths.push(characters as f64 * CHARACTER + PADDING);
+/// The width of each word's column. Those below a symbol that is wider than they are together are widened.
+fn word_widths(named: &NamedGrammar, tree: &Tree, widths: &mut Vec<f64>) {
+    let width = |text: &str| text.chars().count() as f64 * CHARACTER + PADDING;
+    let first = widths.len();
+    for part in &tree.parts {
+        match part {
+            Part::Word { word, .. } => widths.push(width(named.word(*word))),
+            Part::Tree(tree) => word_widths(named, tree, widths),
         }
-        Parts::Pair(parts) => parts.iter().for_each(|part| leaf_widths(named, part, widths)),
     }
+    let below = &mut widths[first..];
+    let missing = width(named.symbol(named.grammar.rules[tree.rule as usize].head)) - below.iter().sum::<f64>();
+    let share = missing.max(0.0) / below.len() as f64;
+    below.iter_mut().for_each(|width| *width += share);
 }
 
 impl Layout<'_> {
     /// Draws a node at a height and what is below it; answers where its middle is.
     fn node(&mut self, tree: &Tree, y: f64) -> f64 {
-        let baseline = y + ABOVE;
-        let x = match &tree.parts {
-            Parts::Word { word, number } => self.leaf(*word, *number, baseline),
-            Parts::Pair(parts) => {
-                let ends = [self.node(&parts[0], y + LEVEL), self.node(&parts[1], y + LEVEL)];
-                let x = (ends[0] + ends[1]) / 2.0;
-                ends.into_iter().for_each(|end| self.line("", [x, baseline + BELOW], [end, y + LEVEL]));
-                x
+        let (baseline, below) = (y + ABOVE, y + LEVEL);
+        let middles = tree.parts.iter().map(|part| match part {
+            Part::Word { word, number } => self.word(*word, *number),
+            Part::Tree(tree) => self.node(tree, below),
+        });
+        let middles: Vec<f64> = middles.collect();
+        let x = (middles[0] + middles[middles.len() - 1]) / 2.0;
+        for (part, &middle) in tree.parts.iter().zip(&middles) {
+            match part {
+                Part::Tree(_) => self.line("", [x, baseline + BELOW], [middle, below]),
+                Part::Word { .. } if middles.len() == 1 => self.leaf_line(x, baseline + BELOW),
+                Part::Word { .. } => {
+                    // no lower than the word
+                    let bend = below.min(self.baseline - ABOVE);
+                    self.line("", [x, baseline + BELOW], [middle, bend]);
+                    self.leaf_line(middle, bend);
+                }
             }
-        };
+        }
         let rule = &self.named.grammar.rules[tree.rule as usize];
         let weight = match rule.weight {
             0 => String::new(),
@@ -98,10 +111,17 @@ impl Layout<'_> {
         x
     }
 
-    /// Draws a leaf's word below; answers where its middle is.
-    fn leaf(&mut self, word: u32, number: usize, baseline: f64) -> f64 {
+    /// Draws the line from a height down to a word.
+    fn leaf_line(&mut self, x: f64, from: f64) {
+        let to = self.baseline - ABOVE;
+        if from < to {
+            self.line("leaf", [x, from], [x, to]);
+        }
+    }
+
+    /// Draws a word below; answers where its middle is.
+    fn word(&mut self, word: u32, number: usize) -> f64 {
         let (x, y) = (self.columns[number], self.baseline);
-        self.line("leaf", [x, baseline + BELOW], [x, y - ABOVE]);
         let taken = self.taken[number];
         if !self.usual.contains(&taken) {
             let width = self.named.word(word).chars().count() as f64 * CHARACTER + MARK_PADDING;

@@ -72,3 +72,31 @@ fn batch_of_graphs() {
     );
     assert_eq!(lines[3], r#"{"line":4,"readings":[]}"#);
 }
+
+/// Lines may be longer than what is read at a time, end in any way, and have bytes that are no characters.
+#[test]
+fn batch_of_any_lines() {
+    let comment = format!("# {}\r\n", "x".repeat(100_000));
+    let utterance =
+        |number: usize| format!("door {number} ; four 1 ;  oak 2{}\n", ["", "\r", " ", "\t# said"][number % 4]);
+    let mut text = Vec::new();
+    for number in 0..2_000 {
+        text.extend(utterance(number).as_bytes());
+        if number % 500 == 7 {
+            text.extend(comment.as_bytes());
+            text.extend(b"door 1; gr\xfcn 2; oak 1\n\n");
+        }
+    }
+    text.extend(b"door 5; \"five\" 1; oak 2");
+    let run = run_with(&doors(), "batch grammar.txt - -n 1", &text);
+    assert_eq!((run.status, run.err.lines().count()), (1, 5), "{}", run.err);
+    assert_eq!(run.err.lines().next(), Some("<stdin>:10:9: refused 14: the grammar has no word `gr\u{fffd}n`"));
+    assert_eq!(run.err.lines().last(), Some("4 of 2005 utterances refused"));
+    let weights =
+        |answer: &str| answer.split_once("\"weight\":").and_then(|(_, rest)| rest.split(',').next()?.parse().ok());
+    let found: Vec<usize> = run.out.lines().filter_map(weights).collect();
+    assert!(found.into_iter().eq((0..2_000).chain([5]).map(|cost| cost + 1 + 2 + 30 + 5)));
+    let numbers: Vec<&str> = run.out.lines().map(|line| &line[8..line.find([',', '}']).expect("a number")]).collect();
+    assert!(numbers.windows(2).all(|pair| pair[0].parse::<u32>().unwrap() < pair[1].parse().unwrap()), "{numbers:?}");
+    assert_eq!(numbers.last(), Some(&"2013"));
+}

@@ -2,9 +2,12 @@
 
 mod answers;
 mod batch;
+mod chances;
 mod common;
 mod graphs;
 mod lattices;
+mod offices;
+mod random_skips;
 mod readme;
 mod report;
 mod skips;

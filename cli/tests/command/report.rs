@@ -1,8 +1,9 @@
 //! The page of `report`: its parts, and what a browser makes of it.
 
-use crate::common::{answer, answered, folder, output, run_in};
+use crate::common::{answer, answered, doors, folder, output, run_in};
 use std::io::Write;
-use std::process::Command;
+use std::path::Path;
+use std::process::{Command, Output};
 
 /// Browsers of which any may be there.
 const BROWSERS: [&str; 3] = ["chromium", "chromium-browser", "google-chrome"];
@@ -34,25 +35,83 @@ fn names_are_text() {
     assert!(!page.contains("<b>") && !page.contains("<&"));
 }
 
-/// Where there is no browser, this says so and passes.
-#[test]
-fn a_browser_draws_the_page() {
-    let browser = |name: &&&str| Command::new(name).arg("--version").output().is_ok_and(|run| run.status.success());
-    let Some(browser) = BROWSERS.iter().find(browser) else {
+/// The browser that is there; if there is none, this says so.
+fn browser() -> Option<&'static str> {
+    let is_there = |name: &&&str| Command::new(name).arg("--version").output().is_ok_and(|run| run.status.success());
+    let found = BROWSERS.iter().find(is_there).copied();
+    if found.is_none() {
         // not by a macro, whose output cargo keeps of tests that pass
         writeln!(std::io::stderr(), "skipped: no browser of {BROWSERS:?} is installed").expect("standard error");
-        return;
-    };
-    let folder = folder("report_browser", &[]);
-    let page = folder.join("page.html");
-    answer(&format!("report grammar.txt utterance.txt -o {}", page.display()));
+    }
+    found
+}
+
+/// Opens a page of a folder in a browser that nobody sees.
+fn open(browser: &str, folder: &Path, page: &str, options: &[&str]) -> Output {
     let mut command = Command::new(browser);
     command.args(["--headless", "--no-sandbox", "--disable-gpu", "--disable-dev-shm-usage", "--hide-scrollbars"]);
     command.arg(format!("--user-data-dir={}", folder.join("profile").display()));
-    command.args(["--window-size=1100,2300", "--screenshot=page.png"]).arg(format!("file://{}", page.display()));
-    let run = output(command.current_dir(&folder), b"");
+    command.args(["--window-size=1100,2300"]).args(options).arg(format!("file://{}", folder.join(page).display()));
+    output(command.current_dir(folder), b"")
+}
+
+/// Where there is no browser, this says so and passes.
+#[test]
+fn a_browser_draws_the_page() {
+    let Some(browser) = browser() else { return };
+    let folder = folder("report_browser", &[]);
+    answer(&format!("report grammar.txt utterance.txt -o {}", folder.join("page.html").display()));
+    let run = open(browser, &folder, "page.html", &["--screenshot=page.png"]);
     let picture = std::fs::read(folder.join("page.png")).unwrap_or_else(|fault| panic!("{fault}: {run:?}"));
     assert_eq!(picture[..8], *b"\x89PNG\r\n\x1a\n");
     // an empty page of this size is a tenth as long
     assert!(picture.len() > 100_000, "{} bytes", picture.len());
+}
+
+/// Counts what a browser draws wrongly: texts of a tree that overlap or pass its edge, and a page that is wider than the window.
+const PROBE: &str = r#"<script>
+addEventListener("load", () => {
+    let texts = 0, wrong = [];
+    for (const tree of document.querySelectorAll("svg")) {
+        const edge = tree.getBoundingClientRect();
+        const boxes = [...tree.querySelectorAll("text")].map(text => [text.textContent, text.getBoundingClientRect()]);
+        texts += boxes.length;
+        for (const [at, [text, box]] of boxes.entries()) {
+            if (box.left < edge.left || box.right > edge.right || box.top < edge.top || box.bottom > edge.bottom)
+                wrong.push("outside: " + text);
+            for (const [other, far] of boxes.slice(at + 1))
+                if (box.left < far.right - 1 && far.left < box.right - 1 && box.top < far.bottom - 4 && far.top < box.bottom - 4)
+                    wrong.push(text + " over " + other);
+        }
+    }
+    if (document.documentElement.scrollWidth > innerWidth) wrong.push("wider than the window");
+    document.title = `${texts} texts, wrong: ${wrong.join(", ") || "none"}`;
+});
+</script>"#;
+
+/// Pages of slots, of graphs and of office rules, with words of one letter under long symbols. Where there is no browser, this
+/// says so and passes.
+#[test]
+fn a_browser_finds_room_for_every_text() {
+    let Some(browser) = browser() else { return };
+    let grammar = b"Instructions -> \"a\" \"b\" | Instructions Instructions \"b\" [65535] | \"a\" Instructions";
+    let slot = "a 1 | b 2\n".repeat(24);
+    let folder = folder("report_probe", &[("g", grammar), ("u", slot.as_bytes())]);
+    let examples = doors().join("..").display().to_string();
+    for (command, texts) in [
+        (format!("{examples}/doors/grammar.txt {examples}/doors/utterance.txt"), 183),
+        (format!("{examples}/doors_graph/grammar.txt {examples}/doors_graph/graph.txt"), 0),
+        (format!("{examples}/doors_office/grammar.txt {examples}/doors_office/utterance.txt -n 256"), 0),
+        ("g u -n 3".to_owned(), 0),
+    ] {
+        let page = answered(run_in(&folder, &format!("report {command}")), &command);
+        std::fs::write(folder.join("probe.html"), page.replace("</body>", &format!("{PROBE}</body>"))).expect("a file");
+        let run = open(browser, &folder, "probe.html", &["--dump-dom"]);
+        let dom = String::from_utf8_lossy(&run.stdout);
+        let title = dom.split_once("<title>").and_then(|(_, rest)| rest.split_once("</title>"));
+        let (title, _) = title.unwrap_or_else(|| panic!("{run:?}"));
+        let (found, wrong) = title.split_once(" texts, wrong: ").unwrap_or_else(|| panic!("{title}"));
+        assert_eq!(wrong, "none", "{command}");
+        assert!(found.parse::<u32>().is_ok_and(|found| found >= texts.max(100)), "{command}: {title}");
+    }
 }

@@ -6,8 +6,10 @@ use std::io::Write;
 use std::path::Path;
 use std::process::{Command, Stdio};
 
-const COMMANDS: [&str; 12] =
-    ["list", "panel", "pick", "why", "report", "batch", "lint", "specimen", "phrases", "check", "pack", "unpack"];
+const COMMANDS: [&str; 13] = [
+    "list", "panel", "pick", "why", "report", "batch", "lint", "specimen", "phrases", "check", "chance", "pack",
+    "unpack",
+];
 
 #[test]
 fn help_at_every_level() {
@@ -106,6 +108,13 @@ fn wrong_usage_of_others() {
         ),
         ("list grammar.txt utterance.txt --skip much", "spireyerba list", "--skip: `much` is no number"),
         ("list grammar.txt utterance.txt --skip", "spireyerba list", "--skip needs COST"),
+        ("chance grammar.txt utterance.txt", "spireyerba chance", "SHARES is missing"),
+        ("chance grammar.txt utterance.txt shares.txt 0", "spireyerba chance", "READING: ranks count from 1"),
+        (
+            "chance grammar.txt utterance.txt shares.txt 2 -n 3",
+            "spireyerba chance",
+            "--number and READING: only one of them",
+        ),
         ("batch grammar.txt utterances.txt -j x", "spireyerba batch", "--jobs: `x` is no number"),
     ]);
 }
@@ -204,18 +213,34 @@ fn no_colours_in_a_pipe() {
     }
 }
 
-/// A terminal is made by the program `script`; where there is none, this says so and passes.
+/// What the command prints on a terminal, which the program `script` makes; where there is none, this says so.
+fn on_a_terminal(words: &str) -> Option<String> {
+    let mut script = Command::new("script");
+    script.args(["-qec", &format!("{PROGRAM} {words}"), "/dev/null"]).current_dir(doors()).env_remove("NO_COLOR");
+    let run = script.stdin(Stdio::null()).output();
+    if run.is_err() {
+        writeln!(std::io::stderr(), "skipped: no program `script` is installed").expect("standard error");
+    }
+    run.ok().map(|run| String::from_utf8(run.stdout).expect("a text"))
+}
+
+/// Long work says how far it is, on a terminal only, and not among its answers.
+#[test]
+fn progress_on_a_terminal() {
+    let lines = "door 1 | four 2; forty 1; glass 1 | oak 2; fire 1; thirty 2\n".repeat(30_000);
+    let folder = folder("progress", &[("many.txt", lines.as_bytes())]);
+    let many = folder.join("many.txt").display().to_string();
+    let words = format!("batch grammar.txt {many} -n 1 -j 1");
+    assert_eq!(answer(&words).lines().count(), 30_000);
+    let Some(shown) = on_a_terminal(&format!("{words} > {}", folder.join("answers").display())) else { return };
+    assert!(shown.contains(" utterances, ") && shown.contains(" a second\x1b[K"), "{shown:?}");
+    assert!(shown.ends_with("\r\x1b[K"), "{shown:?}");
+    assert!(!on_a_terminal(&words).expect("a terminal").contains(" a second"));
+}
+
 #[test]
 fn colours_on_a_terminal() {
-    let on_a_terminal = |words: &str| {
-        let mut script = Command::new("script");
-        script.args(["-qec", &format!("{PROGRAM} {words}"), "/dev/null"]).current_dir(doors()).env_remove("NO_COLOR");
-        script.stdin(Stdio::null()).output().ok().map(|run| String::from_utf8(run.stdout).expect("a text"))
-    };
-    let Some(list) = on_a_terminal("list grammar.txt utterance.txt -n 2") else {
-        writeln!(std::io::stderr(), "skipped: no program `script` is installed").expect("standard error");
-        return;
-    };
+    let Some(list) = on_a_terminal("list grammar.txt utterance.txt -n 2") else { return };
     assert!(list.contains("2  \x1b[1m80\x1b[0m  door twenty four oak fire \x1b[1;33msixty\x1b[0m"), "{list:?}");
     let refused = on_a_terminal("pack grammar.txt").expect("a terminal");
     assert!(

@@ -1,6 +1,6 @@
 //! What can be wrong at a place of a text.
 
-use crate::limits::{MAX_WEIGHT, NOT_HEARD};
+use crate::limits::{MAX_ITEMS, MAX_RULES, MAX_SHARE, MAX_SYMBOLS, MAX_WEIGHT, NOT_HEARD};
 use crate::Refusal;
 use std::fmt::{Display, Formatter};
 
@@ -19,8 +19,18 @@ pub enum Fault {
     Unclosed,
     /// A backslash in a quoted word stands before something other than a quote or a backslash.
     Escape(String),
-    /// A rule's body is neither one word nor two symbols.
-    Body,
+    /// A rule's body has no item, or it is one symbol.
+    Body {
+        /// Which of both, as the library refuses it.
+        refusal: Refusal,
+    },
+    /// A rule that is marked as a helper's and one with a body that is not of normal form, in one grammar.
+    Marked {
+        /// The line of the one that was met first.
+        line: usize,
+    },
+    /// A rule with which the grammar that an office's rules become passes its limits.
+    OfficeSize,
     /// A name that the list of symbols or of words has already.
     Named(String),
     /// Not a whole number.
@@ -54,6 +64,15 @@ pub enum Fault {
     RepeatedRule {
         /// That line.
         line: usize,
+    },
+    /// Not a share: a whole number from 1 to 1,024.
+    Share(String),
+    /// Not one share for each rule.
+    Shares {
+        /// How many there are.
+        found: usize,
+        /// How many rules the grammar's text has.
+        rules: usize,
     },
     /// A word that the grammar does not have.
     UnknownWord(String),
@@ -151,9 +170,12 @@ impl Fault {
     /// The refusal by which the library would refuse the same, if it can be asked.
     pub fn refusal(&self) -> Option<Refusal> {
         match self {
-            Self::TooMany { refusal, .. } | Self::None { refusal, .. } => Some(*refusal),
+            Self::TooMany { refusal, .. } | Self::None { refusal, .. } | Self::Body { refusal } => Some(*refusal),
+            Self::OfficeSize => Some(Refusal::OfficeSize),
             Self::TooLarge { .. } | Self::CostTooLarge(_) => Some(Refusal::SheetValue),
             Self::RepeatedRule { .. } => Some(Refusal::GrammarRepeat),
+            Self::Share(_) => Some(Refusal::ShareRange),
+            Self::Shares { .. } => Some(Refusal::SharesCount),
             Self::UnknownWord(_) => Some(Refusal::UtteranceWord),
             Self::RepeatedWord(_) => Some(Refusal::UtteranceOrder),
             Self::EdgePlaces { .. } | Self::EarlyEnd { .. } => Some(Refusal::EdgePlaces),
@@ -169,7 +191,17 @@ impl Fault {
             Self::Expected { wanted, found: None } => write!(formatter, "the line ends where {wanted} should stand"),
             Self::Unclosed => write!(formatter, "a quoted word has no quote at its end"),
             Self::Escape(found) => write!(formatter, "`{found}` in a quoted word: only \\\" and \\\\ have a meaning"),
-            Self::Body => write!(formatter, "a body is one quoted word or two symbols"),
+            Self::Body { .. } => {
+                write!(formatter, "a body is one quoted word, or two to {MAX_ITEMS} symbols and words")
+            }
+            Self::Marked { line } => {
+                let bodies = "where a rule is marked as a helper's, all bodies are one quoted word or two symbols";
+                write!(formatter, "{bodies}: not so beside line {line}")
+            }
+            Self::OfficeSize => {
+                let limits = format!("{MAX_SYMBOLS} symbols or {MAX_RULES} rules");
+                write!(formatter, "with this rule and the helpers of all so far the grammar passes {limits}")
+            }
             Self::Named(name) => write!(formatter, "`{name}` is listed already"),
             Self::Number(item) => write!(formatter, "`{item}` is not a whole number"),
             Self::TooLarge { what, number } => {
@@ -180,6 +212,10 @@ impl Fault {
             }
             Self::None { what, .. } => write!(formatter, "there is no {what}"),
             Self::RepeatedRule { line } => write!(formatter, "the same rule stands in line {line}"),
+            Self::Share(item) => write!(formatter, "`{item}` is not a share from 1 to {MAX_SHARE}"),
+            Self::Shares { found, rules } => {
+                write!(formatter, "not one share for each rule: {found} of them for {rules} rules")
+            }
             Self::UnknownWord(word) => write!(formatter, "the grammar has no word `{word}`"),
             Self::RepeatedWord(word) => write!(formatter, "the slot has `{word}` already"),
             _ => self.graph_words(formatter),

@@ -1,10 +1,10 @@
 //! The text of a grammar.
 
-use super::names::{SYMBOLS, WORDS};
+use super::names::{HELPER, OFFICE, SYMBOLS, WORDS};
 use super::scan::{weight, Token, Tokens, GRAMMAR};
 use super::{without_mark, Fault, NamedGrammar};
-use crate::limits::{MAX_RULES, MAX_SYMBOLS, MAX_WORDS};
-use crate::{Body, Error, Grammar, Position, Refusal, Rule};
+use crate::limits::{MAX_ITEMS, MAX_RULES, MAX_SYMBOLS, MAX_WORDS};
+use crate::{Error, Grammar, Item, MarkedGrammar, Office, OfficeRule, Position, Refusal, Rule};
 use std::collections::HashMap;
 
 /// Where in a grammar's text things stand.
@@ -70,22 +70,29 @@ fn too_many(what: &'static str, limit: u32) -> Fault {
     Fault::TooMany { what, within: "a grammar", limit, refusal: Refusal::GrammarRange }
 }
 
-/// An item of a body, and where it stands.
-struct Item<'a> {
-    token: Token<'a>,
-    position: Position,
+/// What stands in brackets behind a body.
+#[derive(Clone, Copy, Default)]
+struct Price {
+    weight: u32,
+    is_helper: bool,
 }
 
 #[derive(Default)]
 struct Parser {
     symbols: Names,
     words: Names,
-    rules: Vec<Rule>,
+    rules: Vec<OfficeRule>,
+    marks: Vec<bool>,
     places: Vec<Position>,
     /// The head of the rule before, to which a line that begins with a bar adds.
     head: Option<u32>,
     /// The line of each rule, by head and body.
-    lines: HashMap<(u32, Body), usize>,
+    lines: HashMap<(u32, Vec<Item>), usize>,
+    /// Whether a line says that the rules are an office's.
+    is_office: bool,
+    /// The lines of the first rule that is marked and of the first body that is not of normal form.
+    marked: Option<usize>,
+    longer: Option<usize>,
 }
 
 impl Parser {
@@ -109,6 +116,10 @@ impl Parser {
                 let head = self.symbol(name, position)?;
                 self.head = Some(head);
                 self.alternatives(head, tokens)
+            }
+            (OFFICE, None) => {
+                self.is_office = true;
+                Ok(())
             }
             (SYMBOLS, first) => self.list(first, tokens, A_SYMBOL),
             (WORDS, first) => self.list(first, tokens, A_WORD),
@@ -159,53 +170,88 @@ impl Parser {
 
     /// One body with its weight; answers whether another follows.
     fn alternative(&mut self, head: u32, tokens: &mut Tokens) -> Result<bool, Error> {
-        let mut items = Vec::new();
-        let mut end = tokens.next()?;
-        while let Some(token @ (Token::Bare(_) | Token::Quoted(_))) = end {
-            items.push(Item { token, position: tokens.position() });
-            end = tokens.next()?;
-        }
-        let place = items.first().map_or(tokens.position(), |item| item.position);
-        let mut weight = 0;
+        let (items, mut end, place) = self.items(tokens)?;
+        let mut price = Price::default();
         if end == Some(Token::Mark('[')) {
-            weight = self.weight(tokens)?;
+            price = self.price(tokens)?;
             end = tokens.next()?;
         }
         match end {
-            None | Some(Token::Mark('|')) => self.rule(head, &items, weight, place)?,
+            None | Some(Token::Mark('|')) => self.rule(head, items, price, place)?,
             other => return tokens.expected("`|` or the end of the line", other),
         }
         Ok(end.is_some())
     }
 
-    /// A weight, and the bracket behind it.
-    fn weight(&mut self, tokens: &mut Tokens) -> Result<u32, Error> {
-        let number = match tokens.next()? {
-            Some(Token::Bare(item)) => weight(item, "weight").map_err(|fault| tokens.fault(fault))?,
+    /// The items of a body, the token behind them, and where the body stands.
+    fn items<'a>(&mut self, tokens: &mut Tokens<'a>) -> Result<(Vec<Item>, Option<Token<'a>>, Position), Error> {
+        let (mut items, mut place) = (Vec::new(), None);
+        loop {
+            let token = tokens.next()?;
+            let position = tokens.position();
+            let is_full = items.len() == MAX_ITEMS as usize;
+            items.push(match &token {
+                Some(Token::Bare(_) | Token::Quoted(_)) if is_full => {
+                    let (limit, refusal) = (MAX_ITEMS, Refusal::ItemCount);
+                    return Err(tokens.fault(Fault::TooMany { what: "items", within: "a body", limit, refusal }));
+                }
+                Some(Token::Bare(name)) => Item::Symbol(self.symbol(name, position)?),
+                Some(Token::Quoted(word)) => Item::Word(self.word(word, position)?),
+                _ => return Ok((items, token, place.unwrap_or(position))),
+            });
+            place.get_or_insert(position);
+        }
+    }
+
+    /// A weight, a word that says that the rule is marked, or both, and the bracket behind them.
+    fn price(&mut self, tokens: &mut Tokens) -> Result<Price, Error> {
+        let mut price = Price::default();
+        let mut next = tokens.next()?;
+        match next {
+            Some(Token::Bare(HELPER)) => {}
+            Some(Token::Bare(item)) => {
+                price.weight = weight(item, "weight").map_err(|fault| tokens.fault(fault))?;
+                next = tokens.next()?;
+            }
             other => return tokens.expected("a weight", other),
-        };
-        match tokens.next()? {
-            Some(Token::Mark(']')) => Ok(number),
+        }
+        if next == Some(Token::Bare(HELPER)) {
+            price.is_helper = true;
+            next = tokens.next()?;
+        }
+        match next {
+            Some(Token::Mark(']')) => Ok(price),
             other => tokens.expected("`]`", other),
         }
     }
 
-    fn rule(&mut self, head: u32, items: &[Item], weight: u32, place: Position) -> Result<(), Error> {
-        let body = match items {
-            [Item { token: Token::Quoted(word), position }] => Body::Word(self.word(word, *position)?),
-            [Item { token: Token::Bare(first), position: left }, Item { token: Token::Bare(second), position: right }] => {
-                Body::Pair(self.symbol(first, *left)?, self.symbol(second, *right)?)
-            }
-            _ => return Err(Error::at(place, Fault::Body)),
-        };
-        if let Some(&line) = self.lines.get(&(head, body)) {
-            return Err(Error::at(place, Fault::RepeatedRule { line }));
+    fn rule(&mut self, head: u32, items: Vec<Item>, price: Price, place: Position) -> Result<(), Error> {
+        let fault = |fault| Err(Error::at(place, fault));
+        let Price { weight, is_helper } = price;
+        let rule = OfficeRule { head, weight, items };
+        match rule.items[..] {
+            [] => return fault(Fault::Body { refusal: Refusal::ItemCount }),
+            [Item::Symbol(_)] => return fault(Fault::Body { refusal: Refusal::ItemAlone }),
+            _ => {}
+        }
+        if let Some(line) = self.lines.insert((head, rule.items.clone()), place.line) {
+            return fault(Fault::RepeatedRule { line });
         }
         if self.rules.len() == MAX_RULES as usize {
-            return Err(Error::at(place, too_many("rules", MAX_RULES)));
+            return fault(too_many("rules", MAX_RULES));
         }
-        self.lines.insert((head, body), place.line);
-        self.rules.push(Rule { head, weight, body });
+        let first = self.marked.or(self.longer);
+        if is_helper {
+            self.marked.get_or_insert(place.line);
+        }
+        if rule.normal_body().is_none() {
+            self.longer.get_or_insert(place.line);
+        }
+        if self.marked.is_some() && self.longer.is_some() {
+            return fault(Fault::Marked { line: first.unwrap_or(place.line) });
+        }
+        self.rules.push(rule);
+        self.marks.push(is_helper);
         self.places.push(place);
         Ok(())
     }
@@ -221,8 +267,35 @@ impl Parser {
             return Err(none("word"));
         }
         let (symbols, words) = (self.symbols.names, self.words.names);
-        let grammar = Grammar { symbols: symbols.len() as u32, words: words.len() as u32, rules: self.rules };
-        let places = Places { rules: self.places, symbols: self.symbols.places, words: self.words.places };
-        Ok((NamedGrammar { grammar, symbols, words }, places))
+        let office = Office { symbols: symbols.len() as u32, words: words.len() as u32, rules: self.rules };
+        let named = match normal_form(&office) {
+            Some(grammar) if self.marked.is_some() => {
+                NamedGrammar::marked(MarkedGrammar { grammar, marks: self.marks }, symbols, words)
+            }
+            Some(grammar) if !self.is_office => NamedGrammar::new(grammar, symbols, words),
+            _ => NamedGrammar::marked(converted(&office, &self.places)?, symbols, words),
+        };
+        Ok((named, Places { rules: self.places, symbols: self.symbols.places, words: self.words.places }))
     }
+}
+
+/// The grammar, if all its bodies are of normal form.
+fn normal_form(office: &Office) -> Option<Grammar> {
+    let Office { symbols, words, rules } = office;
+    let rule = |rule: &OfficeRule| Some(Rule { head: rule.head, weight: rule.weight, body: rule.normal_body()? });
+    Some(Grammar { symbols: *symbols, words: *words, rules: rules.iter().map(rule).collect::<Option<_>>()? })
+}
+
+/// What an office's rules become. If that is too large, the fault is at the first rule with which it is.
+fn converted(office: &Office, places: &[Position]) -> Result<MarkedGrammar, Error> {
+    office.to_grammar().map_err(|refusal| {
+        let is_too_large = |rules: &[OfficeRule]| {
+            let part = Office { rules: rules.to_vec(), ..*office };
+            part.to_block() == Err(Refusal::OfficeSize)
+        };
+        match (1..=office.rules.len()).find(|&count| is_too_large(&office.rules[..count])) {
+            Some(count) => Error::at(places[count - 1], Fault::OfficeSize),
+            None => refusal.into(),
+        }
+    })
 }

@@ -4,16 +4,21 @@
 //!
 //! ```text
 //! # How an office reads out a line of its door schedule.
-//! Entry  -> Name Details | Name Leaf [30]
-//! Name   -> Door Number
-//! Number -> Tens Units [5]      # twenty four
-//!         | "twenty" [10]
-//! Door   -> "door"
+//! Entry   -> Name Details | Name Leaf [30]
+//! Name    -> "door" Number
+//! Number  -> Tens Units [5]      # twenty four
+//!          | "twenty" [10]
+//! Details -> Leaf "fire" Minutes
 //! ```
 //!
-//! A rule is a head, an arrow, a body of one quoted word or two symbols, and in brackets a weight, which is 0 if it is left
-//! out. A bar stands between alternatives, each of which is a rule, and a line may begin with one. In a quoted word `\"` is a
-//! quote and `\\` a backslash. What follows a `#` is passed over, and so are empty lines.
+//! A rule is a head, an arrow, a body of one quoted word or of two to six symbols and quoted words, and in brackets a weight,
+//! which is 0 if it is left out. A bar stands between alternatives, each of which is a rule, and a line may begin with one. In
+//! a quoted word `\"` is a quote and `\\` a backslash. What follows a `#` is passed over, and so are empty lines.
+//!
+//! If all bodies are one word or two symbols, the grammar is in normal form and its block has no marks. Otherwise the rules are
+//! an [`Office`](crate::Office)'s: the library makes a grammar in normal form of them, and its helpers are in no answer. A line
+//! `office` says so of rules that are in normal form too. Behind the weight of a rule in normal form may stand `helper`, as in
+//! `[helper]` or `[3 helper]`: the rule is marked. With this every block of a grammar has a text.
 //!
 //! Rules, symbols and words are numbered as they are met, so the first head is the start. Where other numbers are wanted, or
 //! a word that no rule has, lists before the first rule give them: `symbols Entry Name ..` and `words "door" "twenty" ..`.
@@ -80,7 +85,13 @@
 //! # Readings
 //!
 //! A weight and the rule number of each node, as the lister prints them behind the rank: `72 0 2 12 3 13 15 8 17 11 20 21`.
-//! That of a word graph has a bar behind them and the numbers of its edges: `80 0 2 12 5 8 17 11 20 21 | 0 3 7 9 12`.
+//! That of a word graph has a bar behind them and the numbers of its edges: `80 0 2 12 5 8 17 11 20 21 | 0 3 7 9 12`. Under an
+//! office's rules the nodes of helpers are left out.
+//!
+//! # Shares
+//!
+//! A whole number from 1 to 1024 for each rule of the grammar's text, in their order: `922 102 1024 614`. What follows a `#` is
+//! passed over.
 //!
 //! # Example
 //!
@@ -105,9 +116,11 @@ mod graph;
 mod lattice;
 mod names;
 mod network;
+mod plain;
 mod reading;
 mod scan;
 mod score;
+mod shares;
 mod utterance;
 
 pub use fault::Fault;

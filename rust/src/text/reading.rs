@@ -1,8 +1,8 @@
 //! The text of readings, and sheets that are written as numbers.
 
 use super::scan::digits;
-use super::{without_mark, Fault};
-use crate::{Error, GraphReading, Position, Reading};
+use super::{without_mark, Fault, NamedGrammar};
+use crate::{Body, Error, GraphReading, Position, Reading, Rule};
 
 /// What follows it in a line is a comment.
 const COMMENT: char = '#';
@@ -66,20 +66,79 @@ pub fn parse_sheet(text: &str) -> Result<Vec<u32>, Error> {
 /// Reads lists of numbers with bars between them; those that are missing are empty.
 fn parse_lists<const COUNT: usize>(text: &str) -> Result<[Vec<u32>; COUNT], Error> {
     let (mut lists, mut list) = ([const { Vec::new() }; COUNT], 0);
-    for (before, line) in without_mark(text).lines().enumerate() {
-        let (said, _) = line.split_once(COMMENT).unwrap_or((line, ""));
-        for item in said.split_whitespace() {
-            if item == BAR && list + 1 < COUNT {
-                list += 1;
-                continue;
-            }
-            let number = digits(item).flatten().ok_or_else(|| {
-                let column = line[..item.as_ptr() as usize - line.as_ptr() as usize].chars().count() + 1;
-                let position = Position { line: before + 1, column };
-                Error::at(position, Fault::Number(item.to_owned()))
-            })?;
-            lists[list].push(number);
+    for item in items(text) {
+        if item.text == BAR && list + 1 < COUNT {
+            list += 1;
+            continue;
         }
+        let number = digits(item.text).flatten();
+        lists[list].push(number.ok_or_else(|| item.fault(Fault::Number(item.text.to_owned())))?);
     }
     Ok(lists)
+}
+
+/// A piece of a text between blanks.
+pub(super) struct Item<'a> {
+    pub(super) text: &'a str,
+    line: &'a str,
+    /// The lines before that one.
+    before: usize,
+}
+
+impl Item<'_> {
+    /// A fault at the item.
+    pub(super) fn fault(&self, fault: Fault) -> Error {
+        let column = self.line[..self.text.as_ptr() as usize - self.line.as_ptr() as usize].chars().count() + 1;
+        Error::at(Position { line: self.before + 1, column }, fault)
+    }
+}
+
+/// The items of a text, without comments.
+pub(super) fn items(text: &str) -> impl Iterator<Item = Item<'_>> {
+    without_mark(text).lines().enumerate().flat_map(|(before, line)| {
+        let (said, _) = line.split_once(COMMENT).unwrap_or((line, ""));
+        said.split_whitespace().map(move |text| Item { text, line, before })
+    })
+}
+
+impl NamedGrammar {
+    /// A reading as its text has it: under an office's rules without the nodes of helpers.
+    pub fn written_reading(&self, reading: &Reading) -> Reading {
+        match self.office() {
+            Some(_) => self.shown(reading),
+            None => reading.clone(),
+        }
+    }
+
+    /// The reading that is written so: under an office's rules each helper has one rule, and where its node is left out it is
+    /// put in. The numbers are as good as any others: only [`check`](crate::services::check) knows.
+    ///
+    /// ```
+    /// use spireyerba::text::{parse_reading, reading_text, NamedGrammar};
+    ///
+    /// let doors = NamedGrammar::parse("Entry -> \"door\" Number [1]\nNumber -> \"four\" | \"five\" [2]")?;
+    /// let found = doors.grammar.list(&doors.parse_utterance("door 3; five 5")?, 1)?.remove(0);
+    /// assert_eq!(found.walk, [0, 3, 2]);
+    /// let text = reading_text(&doors.written_reading(&found));
+    /// assert_eq!(text, "11 0 2\n");
+    /// assert_eq!(doors.whole_reading(&parse_reading(&text)?), found);
+    /// # Ok::<(), spireyerba::Error>(())
+    /// ```
+    pub fn whole_reading(&self, written: &Reading) -> Reading {
+        let Some(office) = self.office() else { return written.clone() };
+        let mut numbers = written.walk.iter().copied().peekable();
+        let (mut walk, mut heads) = (Vec::new(), vec![0]);
+        while let Some(head) = heads.pop() {
+            let helper = u32::checked_sub(head, office.symbols).map(|helper| office.rules.len() as u32 + helper);
+            // a helper's node may be written all the same
+            let written = numbers.next_if(|number| helper.is_none_or(|helper| helper == *number));
+            let Some(rule) = helper.or(written) else { break };
+            walk.push(rule);
+            if let Some(Rule { body: Body::Pair(first, second), .. }) = self.grammar.rules.get(rule as usize) {
+                heads.extend([second, first]);
+            }
+        }
+        walk.extend(numbers);
+        Reading { weight: written.weight, walk }
+    }
 }

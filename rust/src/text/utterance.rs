@@ -1,9 +1,11 @@
 //! The text of an utterance of slots.
 
 use super::network::{is_network, Alignments};
+use super::plain::PlainWords;
 use super::scan::{is_bare, quoted, weight, Token, Tokens, UTTERANCE};
 use super::{without_mark, Fault, NamedGrammar};
 use crate::limits::{MAX_CANDIDATES, MAX_SLOTS};
+use crate::utterance::pack_accepted;
 use crate::{Candidate, Error, Position, Refusal, Utterance};
 use std::collections::HashMap;
 use std::hash::{BuildHasherDefault, Hasher};
@@ -26,6 +28,9 @@ use std::hash::{BuildHasherDefault, Hasher};
 #[derive(Clone, Debug)]
 pub struct UtteranceReader<'a> {
     words: HashMap<&'a str, u32, BuildHasherDefault<ShortHasher>>,
+    plain: PlainWords,
+    /// How many words the grammar has.
+    count: u32,
     /// The cost of a word with a posterior of 1/e in a confusion network, or a likelihood of 1/e in a lattice; twice as much
     /// has one with 1/e².
     pub scale: Option<f64>,
@@ -41,7 +46,8 @@ impl<'a> UtteranceReader<'a> {
     /// A reader that leaves nothing out and knows no scale.
     pub fn new(grammar: &'a NamedGrammar) -> Self {
         let words = grammar.words.iter().zip(0..).map(|(word, number)| (word.as_str(), number)).collect();
-        Self { words, scale: None, drop_unknown: false, drop_deletes: false, empty_words: Vec::new() }
+        let (plain, count) = (PlainWords::new(&grammar.words), grammar.words.len() as u32);
+        Self { words, plain, count, scale: None, drop_unknown: false, drop_deletes: false, empty_words: Vec::new() }
     }
 
     /// Reads the text of an utterance, or a confusion network.
@@ -72,10 +78,33 @@ impl<'a> UtteranceReader<'a> {
     /// Reads the text of an utterance that stands in one line into a sheet, in the place of what that held and in the memory
     /// that it has.
     pub fn read_sheet(&self, line: &str, sheet: &mut Vec<u32>) -> Result<(), Error> {
+        if self.plain.read(line.as_bytes(), &mut Slots::begin(sheet)).is_some() {
+            return Ok(());
+        }
         let mut slots = Slots::begin(sheet);
         let mut tokens = Tokens::new(line, 1, &UTTERANCE);
         self.line(&mut slots, &mut tokens)?;
         slots.finish().map_err(|fault| tokens.fault(fault))
+    }
+
+    /// Reads the text of an utterance that stands in one line into a block, by way of a sheet, both in the place of what they
+    /// held and in the memory that they have.
+    ///
+    /// ```
+    /// use spireyerba::text::{NamedGrammar, UtteranceReader};
+    ///
+    /// let doors = NamedGrammar::parse("Entry -> Door Number\nDoor -> \"door\"\nNumber -> \"four\" | \"five\"")?;
+    /// let (mut sheet, mut block) = (Vec::new(), Vec::new());
+    /// UtteranceReader::new(&doors).read_block("door 3; four 9 | five 5", &mut sheet, &mut block)?;
+    /// assert_eq!(sheet, [2, 1, 0, 3, 2, 1, 9, 2, 5]);
+    /// let utterance = doors.parse_utterance("door 3; four 9 | five 5")?;
+    /// assert_eq!(block, utterance.to_block(&doors.to_block()?)?);
+    /// # Ok::<(), spireyerba::Error>(())
+    /// ```
+    pub fn read_block(&self, line: &str, sheet: &mut Vec<u32>, block: &mut Vec<u8>) -> Result<(), Error> {
+        self.read_sheet(line, sheet)?;
+        pack_accepted(sheet, self.count, block);
+        Ok(())
     }
 
     /// Adds the slots of one line.
@@ -199,12 +228,12 @@ impl<'a> Slots<'a> {
     }
 
     /// How many candidates the last slot has.
-    fn candidates(&self) -> u32 {
+    pub(super) fn candidates(&self) -> u32 {
         self.numbers[self.last]
     }
 
     /// Whether the last slot has a word.
-    fn has(&self, word: u32) -> bool {
+    pub(super) fn has(&self, word: u32) -> bool {
         self.numbers[self.last + 1..].iter().step_by(2).any(|known| *known == word)
     }
 
