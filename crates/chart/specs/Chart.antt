@@ -1,7 +1,9 @@
 -- The chart as its callers see it: laid out, enumerated, traced back, cleared.
 -- Nobody need believe this page: the theorems of chart_theory join it to the derivations. Assumes nothing.
+use mathlib.Core.Bool.{Bool, not}
 use mathlib.Core.List.{List}
 use Prim.Native.Nat.{ℕ, _+_, _-_, _*_, _/_}
+use lib.Dec.{eqb}
 use lib.ListN.{replicate}
 use Rattle.chart_keys.specs.Keys.{weightUnit}
 use Rattle.chart_table.specs.declared.Layout.{Layout}
@@ -9,7 +11,7 @@ use Rattle.chart_table.specs.Table.{root, cellNumber, priceAt, countFound}
 use Rattle.chart_index.specs.Index.{indexNumbers}
 use Rattle.chart_index.specs.Build.{makeIndex}
 use Rattle.chart_search.specs.Search.{search}
-use Rattle.chart_trace.specs.Trace.{traceBack}
+use Rattle.chart_trace.specs.Trace.{traceBack, stands}
 
 -- the layout of a table for N ranks of each cell, over S symbols and n places
 unfoldable pub layOut : ℕ → ℕ → ℕ → Layout
@@ -29,3 +31,10 @@ rootWeight t d rank = (priceAt t d (cellNumber d (root d)) rank - 1) / weightUni
 
 unfoldable pub rootTrace : List ℕ → List ℕ → Layout → ℕ → List ℕ
 rootTrace t rules d rank = traceBack t rules d (d .places) (root d) rank
+
+-- whether that rank is found, and whether its tree stands in the table
+unfoldable pub rootFound : List ℕ → Layout → ℕ → Bool
+rootFound t d rank = not (eqb (priceAt t d (cellNumber d (root d)) rank) 0)
+
+unfoldable pub rootStands : List ℕ → List ℕ → Layout → ℕ → Bool
+rootStands t rules d rank = stands t rules d (d .places) (root d) rank

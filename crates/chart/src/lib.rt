@@ -1,5 +1,7 @@
 // The chart as its callers see it: a work table laid out, the least trees of the root enumerated in it, traced back, and the
 // table cleared.
+pub mod steps;
+
 use chart_index::INDEX_NUMBERS;
 use chart_index::make_index;
 use chart_keys::WEIGHT_UNIT;

@@ -9,7 +9,8 @@ use Rattle.packing.specs.Loop.{iter}
 use Rattle.chart_keys.specs.declared.BackPointer.{BackPointer}
 use Rattle.chart_keys.specs.Keys.{backPointer, keyUnit, keyOf, noKey}
 use Rattle.chart_table.specs.declared.Layout.{Layout}
-use Rattle.chart_table.specs.Table.{backAt, besideAt, putBeside, putKey}
+use Rattle.chart_table.specs.Table.{entryOf, backAt, besideAt, putBeside, putKey}
+use Rattle.chart_table.specs.Journal.{keepEntry}
 
 -- a leaf, or first with first: a candidate that follows none
 abbrev pub isInitial : BackPointer → Bool
@@ -86,3 +87,14 @@ extractMin t d c rank lo hi =
     let key = queuedKey t d c y in
     let pushed = push (putKey t d c rank lo) d c rank m hi in
     pick (ltb 0 m) (pick (ltb key lo) (push (replace (putKey t d c rank key) d c rank m y lo) d c rank m hi) pushed) pushed
+
+-- what the journal k keeps of the table before that: the entries of the first rank and of the rank, and those beside which the least
+-- of m queued ones stands, place y, and the place behind the last
+unfoldable pub keepWritten : (t k : List ℕ) → Layout → ℕ → ℕ → ℕ → ℕ → List ℕ
+keepWritten t k d c rank m y =
+    keepEntry t (keepEntry t (keepEntry t (keepEntry t k (entryOf d c 0)) (entryOf d c rank)) (entryOf d c (y + 1))) (entryOf d c (m + 1))
+
+abbrev pub keepMin : (t k : List ℕ) → Layout → ℕ → ℕ → List ℕ
+keepMin t k d c rank =
+    let m = queueLength t d c in
+    keepWritten t k d c rank m (leastPlace t d c m)

@@ -11,13 +11,15 @@ use chart_table::COUNTS;
 use chart_table::Layout;
 use chart_table::back_at;
 use chart_table::beside_at;
+use chart_table::entry_of;
+use chart_table::journal::keep_entry;
 use chart_table::put_beside;
 use chart_table::put_key;
 ghost use mathlib.Core.Path.{_≡_};
 ghost use Prim.Native.Nat.{_+_, _*_, _/_, _<_, _≤_};
 ghost use Rattle.chart_keys.specs.Keys.{prices, keyNumber};
 ghost use Rattle.chart_table.specs.Table.{mostRanks, cellBound, besides, Sized};
-ghost use Rattle.chart_queue.specs.Queue.{tags, isInitial, codeOf, shifted, tagOf, taggedBack, numberKey, queuedKey, queueLength, keepInitial, putQueued, moveQueued, putQueueLength, leastPlace, replace, push, extractMin};
+ghost use Rattle.chart_queue.specs.Queue.{tags, isInitial, codeOf, shifted, tagOf, taggedBack, numberKey, queuedKey, queueLength, keepInitial, putQueued, moveQueued, putQueueLength, leastPlace, replace, push, extractMin, keepWritten, keepMin};
 
 // Tags are below TAGS: CODES ways from each rank. Rank 255 has no next one, so no candidate has it: its tags are free, and the
 // greatest is that of the candidates that follow none.
@@ -224,13 +226,36 @@ fn push(t: &mut [u32], d: Layout, c: usize, rank: usize, m: usize, key: Key)
     }
 }
 
-// Writes the least of the queue and two more keys, the lesser first, at a rank; the others are in the queue afterwards.
-pub fn extract_min(t: &mut [u32], d: Layout, c: usize, rank: usize, lo: Key, hi: Key)
+// Keeps the entries that are written when a rank is found and m are queued, of which place y has the least: those of the first rank, of
+// that rank, and those beside which place y and place m stand.
+fn keep_written(t: &[u32], kept: &mut [u32], d: Layout, c: usize, rank: usize, m: usize, y: usize)
+    requires { ⌜ (Sized d) × (c < cellBound) × (rank ≤ mostRanks) × (m ≤ mostRanks) × (y ≤ mostRanks) ⌝ }
+    ensures { λ _. ⌜ now (kept .exit) ≡ keepWritten (now (t .entry)) (now (kept .entry)) d c rank m y ⌝ }
+{
+    keep_entry(t, kept, entry_of(d, c, 0));
+    keep_entry(t, kept, entry_of(d, c, rank));
+    keep_entry(t, kept, entry_of(d, c, y + 1));
+    keep_entry(t, kept, entry_of(d, c, m + 1));
+}
+
+// Writes the least of the queue and two more keys, the lesser first, at a rank; the others are in the queue afterwards. What is
+// written over is kept.
+pub fn extract_min(
+    t: &mut [u32],
+    kept: &mut [u32],
+    d: Layout,
+    c: usize,
+    rank: usize,
+    lo: Key,
+    hi: Key,
+)
     requires { ⌜ (Sized d) × (c < cellBound) × (0 < rank) × (rank ≤ mostRanks) ⌝ }
     ensures { λ _. ⌜ now (t .exit) ≡ extractMin (now (t .entry)) d c rank (keyNumber lo) (keyNumber hi) ⌝ }
+    ensures { λ _. ⌜ now (kept .exit) ≡ keepMin (now (t .entry)) (now (kept .entry)) d c rank ⌝ }
 {
     let m = queue_length(&t[..], d, c);
     let y = least_place(&t[..], d, c, m);
+    keep_written(&t[..], kept, d, c, rank, m, y);
     let key = queued_key(&t[..], d, c, y);
     if 0 < m {
         if before(key, lo) {

@@ -12,6 +12,7 @@ use chart_masks::mark;
 use chart_queue::extract_min;
 use chart_table::Cell;
 use chart_table::Layout;
+use chart_table::Part;
 use chart_table::back_at;
 use chart_table::cell_number;
 use chart_table::price_at;
@@ -21,6 +22,7 @@ use selection::successors;
 ghost use mathlib.Core.Path.{_≡_};
 ghost use Prim.Native.Nat.{_+_, _-_, _*_, _<_, _≤_};
 ghost use Rattle.chart_keys.specs.Keys.{Digits, keyNumber, noKey};
+ghost use Rattle.chart_queue.specs.Queue.{keepMin};
 ghost use Rattle.chart_table.specs.Table.{InTable, Sized, mostRanks, cellBound, cellNumber, putKey};
 ghost use Rattle.chart_masks.specs.Masks.{Covers, Ruled};
 ghost use Rattle.chart_candidates.specs.Candidates.{seeds};
@@ -71,26 +73,29 @@ pub fn first_rank(
 }
 
 // Writes a further rank of a cell, where the ranks below are found: the least of the queue, the successors of the rank before
-// it, and what replaces that.
+// it, and what replaces that. What is written over is kept.
 pub fn next_rank(
     t: &mut [u32],
+    kept: &mut [u32],
     rules: &[u32],
     edges: &[u32],
     index: &[u32],
     d: Layout,
-    c: Cell,
-    rank: usize,
+    part: Part,
 )
-    requires { ⌜ (InTable d c) × (0 < rank) × (rank < d .ranks) ⌝ }
-    ensures { λ _. ⌜ now (t .exit) ≡ nextRank (now (rules .entry)) (now (edges .entry)) (now (index .entry)) d c rank (now (t .entry)) ⌝ }
+    requires { ⌜ (InTable d (part .cell)) × (0 < part .rank) × (part .rank < d .ranks) ⌝ }
+    ensures { λ _. ⌜ now (t .exit) ≡ nextRank (now (rules .entry)) (now (edges .entry)) (now (index .entry)) d (part .cell) (part .rank) (now (t .entry)) ⌝ }
+    ensures { λ _. ⌜ now (kept .exit) ≡ keepMin (now (t .entry)) (now (kept .entry)) d (cellNumber d (part .cell)) (part .rank) ⌝ }
 {
+    let c = part.cell;
+    let rank = part.rank;
     let number = cell_number(d, c);
     let last = found_at(&t[..], d, number, rank - 1);
     let successor = successors(&t[..], d, rules, c, last, no_key());
     let other = replacement(&t[..], d, rules, edges, index, c, last);
     if before(other, successor) {
-        extract_min(t, d, number, rank, other, successor);
+        extract_min(t, kept, d, number, rank, other, successor);
         return;
     }
-    extract_min(t, d, number, rank, successor, other);
+    extract_min(t, kept, d, number, rank, successor, other);
 }

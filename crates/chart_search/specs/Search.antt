@@ -15,6 +15,7 @@ use Rattle.chart_keys.specs.Keys.{backPointer}
 use Rattle.chart_table.specs.declared.Cell.{Cell}
 use Rattle.chart_table.specs.declared.Layout.{Layout}
 use Rattle.chart_table.specs.Table.{cell, leftPart, rightPart, root, cellNumber, priceAt, backAt}
+use Rattle.chart_queue.specs.Queue.{keepMin}
 use Rattle.chart_ranks.specs.Ranks.{firstRank, nextRank}
 
 -- what finds a rank of a cell in a table
@@ -37,6 +38,10 @@ unfoldable pub advancePairing : List ℕ → Layout → Finder → List ℕ → 
 advancePairing rules d next t c b =
     pick (ltb (c .from) (b .split)) (pick (ltb (b .split) (c .to)) (extendParts d next t c b (ruleAt rules (b .rule))) t) t
 
+-- the back pointer of the rank before one
+unfoldable pub backBefore : List ℕ → Layout → Cell → ℕ → BackPointer
+backBefore t d c rank = backPointer (backAt t d (cellNumber d c) (rank - 1))
+
 module _ (rules edges index : List ℕ) (d : Layout) where
   -- the table with a rank of a cell, where the ranks below are found; any fuel of at least the span's length serves
   unfoldable pub nextOfSpan : ℕ → List ℕ → Cell → ℕ → List ℕ
@@ -44,7 +49,7 @@ module _ (rules edges index : List ℕ) (d : Layout) where
   nextOfSpan (suc fuel) t c rank =
       pick (eqb rank 0) (firstRank rules edges index d c t)
       (nextRank rules edges index d c rank
-      (advancePairing rules d (nextOfSpan fuel) t c (backPointer (backAt t d (cellNumber d c) (rank - 1)))))
+      (advancePairing rules d (nextOfSpan fuel) t c (backBefore t d c rank)))
 
   -- the first rank of every head over a span, over every span of a length, and over every span, shorter ones first
   unfoldable pub firstOfHeads : List ℕ → ℕ → ℕ → List ℕ
@@ -63,3 +68,35 @@ module _ (rules edges index : List ℕ) (d : Layout) where
 
   unfoldable pub search : List ℕ → List ℕ
   search t = iter nextOfRoot (firstPass t) (d .ranks - 1)
+
+-- What a journal keeps of the entries that these write over, each before it is written: what keeps a rank of a cell, of the table and the
+-- journal before.
+abbrev pub Keeper : Type 0
+Keeper = (t k : List ℕ) → Cell → ℕ → List ℕ
+
+unfoldable pub keepExtend : Layout → Keeper → (t k : List ℕ) → Cell → ℕ → List ℕ
+keepExtend d keep t k c rank =
+    pick (ltb rank (d .ranks)) (pick (eqb (priceAt t d (cellNumber d c) rank) 0) (keep t k c rank) k) k
+
+unfoldable pub keepParts : Layout → Finder → Keeper → (t k : List ℕ) → Cell → BackPointer → Rule → List ℕ
+keepParts d next keep t k c b (Pair h x y w) =
+    let right = extend d next t (rightPart c y (b .split)) (b .right + 1) in
+    let kept = keepExtend d keep t k (rightPart c y (b .split)) (b .right + 1) in
+    pick (eqb (b .right) 0) (keepExtend d keep right kept (leftPart c x (b .split)) (b .left + 1)) kept
+keepParts d next keep t k c b (Word h x w) = k
+
+unfoldable pub keepPairing : List ℕ → Layout → Finder → Keeper → (t k : List ℕ) → Cell → BackPointer → List ℕ
+keepPairing rules d next keep t k c b =
+    pick (ltb (c .from) (b .split)) (pick (ltb (b .split) (c .to)) (keepParts d next keep t k c b (ruleAt rules (b .rule))) k) k
+
+module _ (rules edges index : List ℕ) (d : Layout) where
+  unfoldable pub keepOfSpan : ℕ → (t k : List ℕ) → Cell → ℕ → List ℕ
+  keepOfSpan zero t k c rank = k
+  keepOfSpan (suc fuel) t k c rank =
+      let next = nextOfSpan rules edges index d fuel in
+      let b = backBefore t d c rank in
+      keepMin (advancePairing rules d next t c b) (keepPairing rules d next (keepOfSpan fuel) t k c b) d (cellNumber d c) rank
+
+  unfoldable pub keepOfRoot : (t k : List ℕ) → ℕ → List ℕ
+  keepOfRoot t k x =
+      pick (eqb (priceAt t d (cellNumber d (root d)) x) 0) k (keepExtend d (keepOfSpan (d .places)) t k (root d) (x + 1))

@@ -12,6 +12,7 @@ use chart_ranks::first_rank;
 use chart_ranks::next_rank;
 use chart_table::Cell;
 use chart_table::Layout;
+use chart_table::Part;
 use chart_table::back_at;
 use chart_table::cell_number;
 use chart_table::left_part;
@@ -27,40 +28,43 @@ ghost use lib.ListN.{getD};
 ghost use Rattle.chart_keys.specs.Keys.{Digits};
 ghost use Rattle.chart_table.specs.Table.{lastPlace, Sized, InTable};
 ghost use Rattle.chart_masks.specs.Masks.{Covers, Ruled};
-ghost use Rattle.chart_search.specs.Search.{extend, advancePairing, nextOfSpan, firstOfHeads, firstOfLength, firstPass, nextOfRoot, search};
+ghost use Rattle.chart_search.specs.Search.{extend, advancePairing, nextOfSpan, firstOfHeads, firstOfLength, firstPass, nextOfRoot, search, backBefore, keepExtend, keepPairing, keepOfSpan, keepOfRoot};
 
-// Finds a further rank of a cell, where the ranks below are found, with what it needs of the parts.
+// Finds a further rank of a cell, where the ranks below are found, with what it needs of the parts. What is written over is kept.
 fn next_of_span(
     t: &mut [u32],
+    kept: &mut [u32],
     rules: &[u32],
     edges: &[u32],
     index: &[u32],
     d: Layout,
-    c: Cell,
-    rank: usize,
+    part: Part,
 )
-    requires { ⌜ (InTable d c) × (0 < rank) × (rank < d .ranks) ⌝ }
-    ensures { λ _. ⌜ ((f : ℕ) → c .to - c .from ≤ f → now (t .exit) ≡ nextOfSpan (now (rules .entry)) (now (edges .entry)) (now (index .entry)) d f (now (t .entry)) c rank) ⌝ }
+    requires { ⌜ (InTable d (part .cell)) × (0 < part .rank) × (part .rank < d .ranks) ⌝ }
+    ensures { λ _. ⌜ ((f : ℕ) → part .cell .to - part .cell .from ≤ f → now (t .exit) ≡ nextOfSpan (now (rules .entry)) (now (edges .entry)) (now (index .entry)) d f (now (t .entry)) (part .cell) (part .rank)) ⌝ }
+    ensures { λ _. ⌜ ((f : ℕ) → part .cell .to - part .cell .from ≤ f → now (kept .exit) ≡ keepOfSpan (now (rules .entry)) (now (edges .entry)) (now (index .entry)) d f (now (t .entry)) (now (kept .entry)) (part .cell) (part .rank)) ⌝ }
 {
-    let back = back_pointer(back_at(&t[..], d, cell_number(d, c), rank - 1));
-    advance_pairing(t, rules, edges, index, d, c, back);
-    next_rank(t, rules, edges, index, d, c, rank);
+    advance_pairing(t, kept, rules, edges, index, d, part);
+    next_rank(t, kept, rules, edges, index, d, part);
 }
 
-// Sees that what may succeed a found pairing stands in the table: the next of its right part, and of its left where the
+// Sees that what may succeed the pairing found before a rank stands in the table: the next of its right part, and of its left where the
 // right is first. The split is tested, since a table may hold anything.
 fn advance_pairing(
     t: &mut [u32],
+    kept: &mut [u32],
     rules: &[u32],
     edges: &[u32],
     index: &[u32],
     d: Layout,
-    c: Cell,
-    b: BackPointer,
+    part: Part,
 )
-    requires { ⌜ (InTable d c) × Digits b ⌝ }
-    ensures { λ _. ⌜ ((f : ℕ) → c .to - c .from ≤ suc f → now (t .exit) ≡ advancePairing (now (rules .entry)) d (nextOfSpan (now (rules .entry)) (now (edges .entry)) (now (index .entry)) d f) (now (t .entry)) c b) ⌝ }
+    requires { ⌜ (InTable d (part .cell)) × (0 < part .rank) × (part .rank < d .ranks) ⌝ }
+    ensures { λ _. ⌜ ((f : ℕ) → part .cell .to - part .cell .from ≤ suc f → now (t .exit) ≡ advancePairing (now (rules .entry)) d (nextOfSpan (now (rules .entry)) (now (edges .entry)) (now (index .entry)) d f) (now (t .entry)) (part .cell) (backBefore (now (t .entry)) d (part .cell) (part .rank))) ⌝ }
+    ensures { λ _. ⌜ ((f : ℕ) → part .cell .to - part .cell .from ≤ suc f → now (kept .exit) ≡ keepPairing (now (rules .entry)) d (nextOfSpan (now (rules .entry)) (now (edges .entry)) (now (index .entry)) d f) (keepOfSpan (now (rules .entry)) (now (edges .entry)) (now (index .entry)) d f) (now (t .entry)) (now (kept .entry)) (part .cell) (backBefore (now (t .entry)) d (part .cell) (part .rank))) ⌝ }
 {
+    let c = part.cell;
+    let b = back_before(&t[..], d, part);
     let split = b.split;
     let last = c.to - 1;
     if c.from < split {
@@ -68,11 +72,11 @@ fn advance_pairing(
             let rule = rule_at(rules, b.rule);
             match rule {
                 Rule::Pair(_, first, second, _) => {
-                    let right = right_part(c, second, split);
-                    extend(t, rules, edges, index, d, right, b.right + 1);
+                    let right = part_of(right_part(c, second, split), b.right + 1);
+                    extend(t, kept, rules, edges, index, d, right);
                     if b.right == 0 {
-                        let left = left_part(c, first, split);
-                        extend(t, rules, edges, index, d, left, b.left + 1);
+                        let left = part_of(left_part(c, first, split), b.left + 1);
+                        extend(t, kept, rules, edges, index, d, left);
                     }
                 }
                 Rule::Word(_, _, _) => {}
@@ -81,22 +85,40 @@ fn advance_pairing(
     }
 }
 
+// The back pointer of the rank before one.
+fn back_before(t: &[u32], d: Layout, part: Part) -> BackPointer
+    requires { ⌜ (InTable d (part .cell)) × (0 < part .rank) × (part .rank < d .ranks) ⌝ }
+    ensures { λ b. ⌜ (b ≡ backBefore (now (t .entry)) d (part .cell) (part .rank)) × Digits b ⌝ }
+{
+    back_pointer(back_at(t, d, cell_number(d, part.cell), part.rank - 1))
+}
+
+// A rank of a cell.
+fn part_of(cell: Cell, rank: usize) -> Part
+    ensures { λ r. ⌜ r ≡ record { cell = cell; rank = rank } ⌝ }
+{
+    Part { cell, rank }
+}
+
 // Finds a further rank of a cell, where the ranks below are found, if it is kept and not found.
 fn extend(
     t: &mut [u32],
+    kept: &mut [u32],
     rules: &[u32],
     edges: &[u32],
     index: &[u32],
     d: Layout,
-    c: Cell,
-    rank: usize,
+    part: Part,
 )
-    requires { ⌜ (InTable d c) × (0 < rank) ⌝ }
-    ensures { λ _. ⌜ ((f : ℕ) → c .to - c .from ≤ f → now (t .exit) ≡ extend d (nextOfSpan (now (rules .entry)) (now (edges .entry)) (now (index .entry)) d f) (now (t .entry)) c rank) ⌝ }
+    requires { ⌜ (InTable d (part .cell)) × (0 < part .rank) ⌝ }
+    ensures { λ _. ⌜ ((f : ℕ) → part .cell .to - part .cell .from ≤ f → now (t .exit) ≡ extend d (nextOfSpan (now (rules .entry)) (now (edges .entry)) (now (index .entry)) d f) (now (t .entry)) (part .cell) (part .rank)) ⌝ }
+    ensures { λ _. ⌜ ((f : ℕ) → part .cell .to - part .cell .from ≤ f → now (kept .exit) ≡ keepExtend d (keepOfSpan (now (rules .entry)) (now (edges .entry)) (now (index .entry)) d f) (now (t .entry)) (now (kept .entry)) (part .cell) (part .rank)) ⌝ }
 {
+    let c = part.cell;
+    let rank = part.rank;
     if rank < d.ranks {
         if price_at(&t[..], d, cell_number(d, c), rank) == 0 {
-            next_of_span(t, rules, edges, index, d, c, rank);
+            next_of_span(t, kept, rules, edges, index, d, part);
         }
     }
 }
@@ -175,19 +197,28 @@ fn first_pass(
     }
 }
 
-// Finds the rank of the root behind rank x, if rank x is found.
-fn next_of_root(t: &mut [u32], rules: &[u32], edges: &[u32], index: &[u32], d: Layout, x: usize)
+// Finds the rank of the root behind rank x, if rank x is found. What is written over is kept.
+pub fn next_of_root(
+    t: &mut [u32],
+    kept: &mut [u32],
+    rules: &[u32],
+    edges: &[u32],
+    index: &[u32],
+    d: Layout,
+    x: usize,
+)
     requires { ⌜ (Sized d) × (0 < d .places) × (x + 1 < d .ranks) ⌝ }
     ensures { λ _. ⌜ now (t .exit) ≡ nextOfRoot (now (rules .entry)) (now (edges .entry)) (now (index .entry)) d (now (t .entry)) x ⌝ }
+    ensures { λ _. ⌜ now (kept .exit) ≡ keepOfRoot (now (rules .entry)) (now (edges .entry)) (now (index .entry)) d (now (t .entry)) (now (kept .entry)) x ⌝ }
 {
     let c = root(d);
     if price_at(&t[..], d, cell_number(d, c), x) == 0 {
         return;
     }
-    extend(t, rules, edges, index, d, c, x + 1);
+    extend(t, kept, rules, edges, index, d, part_of(c, x + 1));
 }
 
-// Finds the ranks of the root, as many as are kept, in a table of zeros.
+// Finds the ranks of the root, as many as are kept, in a table of zeros. Nothing is written over.
 pub fn search(t: &mut [u32], rules: &[u32], edges: &[u32], index: &[u32], d: Layout)
     requires { ⌜ (Sized d) × (0 < d .places) × ((x : ℕ) → getD (now t) x 0 ≡ 0) ⌝ }
     ensures { λ _. ⌜ now (t .exit) ≡ search (now (rules .entry)) (now (edges .entry)) (now (index .entry)) d (now (t .entry)) ⌝ }
@@ -195,8 +226,9 @@ pub fn search(t: &mut [u32], rules: &[u32], edges: &[u32], index: &[u32], d: Lay
     let mut masks = [0u32; MASKS];
     mark_rules(&mut masks, rules, index, d);
     first_pass(t, &mut masks, rules, edges, index, d);
+    let mut kept = [0u32; 0];
     let m = d.ranks - 1;
     for x in 0..m {
-        next_of_root(t, rules, edges, index, d, x);
+        next_of_root(t, &mut kept, rules, edges, index, d, x);
     }
 }

@@ -1,2 +1,3 @@
 -- The work table.
 pub mod Table
+pub mod Journal

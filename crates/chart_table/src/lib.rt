@@ -1,5 +1,6 @@
 // The work table's cells and entries. Reads past its end give 0, and stores there do nothing.
 pub mod clearing;
+pub mod journal;
 
 use arrays::narrow_at;
 use arrays::number_at;
@@ -33,6 +34,12 @@ pub struct Cell {
     pub head: Sym,
     pub from: usize,
     pub to: usize,
+}
+
+// A rank of a cell.
+pub struct Part {
+    pub cell: Cell,
+    pub rank: usize,
 }
 
 // The work table's layout: the number of symbols, the last place, the ranks kept of each cell, and the number of cells.

@@ -5,5 +5,6 @@ pub mod Queue
 pub mod Invariant
 pub mod Candidates
 pub mod Search
+pub mod Plane
 pub mod Chart
 pub mod Accepted

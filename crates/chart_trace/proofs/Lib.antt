@@ -2,3 +2,4 @@
 pub mod Trace
 pub mod Pending
 pub mod Shape
+pub mod Standing

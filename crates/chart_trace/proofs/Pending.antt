@@ -19,7 +19,7 @@ use Rattle.chart_keys.specs.Keys.{Digits}
 use Rattle.chart_table.specs.declared.Cell.{Cell}
 use Rattle.chart_table.specs.declared.Layout.{Layout}
 use Rattle.chart_table.specs.Table.{lastPlace, mostRanks, cell, leftPart, rightPart}
-use Rattle.chart_trace.specs.declared.Part.{Part}
+use Rattle.chart_table.specs.declared.Part.{Part}
 use Rattle.chart_trace.proofs.Trace.{ruleWithin, pair-within, backOf, traceOf, trace-pair, trace-leaf}
 
 -- a part

@@ -28,40 +28,50 @@ before-requires : tie.Need-before-requires
 before-requires c κs = search needs
 
 extract-min-requires : tie.Need-extract-min-requires
-extract-min-requires c κs = (c .before .before .before .before .before .before .before .before .before .before .before .before .before .before .before .pre .0 .sized, c .before .before .before .before .before .before .before .before .before .before .cell-number .ensures .1, c .before .before .before .before .before .before .before .before .before .before .before .before .before .before .before .pre .1, kept-fits _ _ (c .before .before .before .before .before .before .before .before .before .before .before .before .before .before .before .pre .2) (c .before .before .before .before .before .before .before .before .before .before .before .before .before .before .before .pre .0 .sized .ranks))
+extract-min-requires c κs = (c .before .before .before .before .before .before .before .before .before .before .before .before .before .before .before .before .before .before .pre .0 .sized, c .before .before .before .before .before .before .before .before .before .before .before .cell-number .ensures .1, c .before .before .before .before .before .before .before .before .before .before .before .before .before .before .before .before .before .before .pre .1, kept-fits _ _ (c .before .before .before .before .before .before .before .before .before .before .before .before .before .before .before .before .before .before .pre .2) (c .before .before .before .before .before .before .before .before .before .before .before .before .before .before .before .before .before .before .pre .0 .sized .ranks))
 
 same-length : tie.Need-same-length
 same-length c = search needs
 
-returns : tie.Need-returns
-unfolding nextRank
-returns c =
-    rw (
-      ← c .before .before .before .before .before .before .before .before .before .before .before .before .before .cell-number .ensures .0,
-      ← c .before .before .before .before .before .before .before .before .before .before .before .found-at .ensures .0,
-      ← c .before .before .before .before .before .before .before .before .before .no-key .ensures,
-      ← c .before .before .before .before .before .before .before .before .successors .ensures,
-      ← c .before .before .before .before .before .before .replacement .ensures,
-      sym (c .before .before .before .before .before .before2 .ensures) ∙ c .before .before .before .before .if1 .taken,
-    ) (c .before .before .extract-min .ensures)
-
-extract-min-requires-2 : tie.Need-extract-min-requires-2
-extract-min-requires-2 c κs = (c .before .before .before .before .before .before .before .before .before .before .before .before .before .before .before .pre .0 .sized, c .before .before .before .before .before .before .before .before .before .before .cell-number .ensures .1, c .before .before .before .before .before .before .before .before .before .before .before .before .before .before .before .pre .1, kept-fits _ _ (c .before .before .before .before .before .before .before .before .before .before .before .before .before .before .before .pre .2) (c .before .before .before .before .before .before .before .before .before .before .before .before .before .before .before .pre .0 .sized .ranks))
-
 same-length-2 : tie.Need-same-length-2
 same-length-2 c = search needs
 
+returns : tie.Need-returns
+unfolding nextRank
+returns c = (
+  rw (
+    ← c .before .before .before .before .before .before .before .before .before .before .before .before .before .before .before .before .cell-number .ensures .0,
+    ← c .before .before .before .before .before .before .before .before .before .before .before .before .before .before .found-at .ensures .0,
+    ← c .before .before .before .before .before .before .before .before .before .before .before .before .no-key .ensures,
+    ← c .before .before .before .before .before .before .before .before .before .before .before .successors .ensures,
+    ← c .before .before .before .before .before .before .before .before .before .replacement .ensures,
+    sym (c .before .before .before .before .before .before .before .before .before2 .ensures) ∙ c .before .before .before .before .before .before .before .if1 .taken,
+  ) (c .before .before .before .before .extract-min .ensures .0),
+  rw (← c .before .before .before .before .before .before .before .before .before .before .before .before .before .before .before .before .cell-number .ensures .0) (c .before .before .before .before .extract-min .ensures .1),
+)
+
+extract-min-requires-2 : tie.Need-extract-min-requires-2
+extract-min-requires-2 c κs = (c .before .before .before .before .before .before .before .before .before .before .before .before .before .before .before .before .before .before .pre .0 .sized, c .before .before .before .before .before .before .before .before .before .before .before .cell-number .ensures .1, c .before .before .before .before .before .before .before .before .before .before .before .before .before .before .before .before .before .before .pre .1, kept-fits _ _ (c .before .before .before .before .before .before .before .before .before .before .before .before .before .before .before .before .before .before .pre .2) (c .before .before .before .before .before .before .before .before .before .before .before .before .before .before .before .before .before .before .pre .0 .sized .ranks))
+
+same-length-3 : tie.Need-same-length-3
+same-length-3 c = search needs
+
+same-length-4 : tie.Need-same-length-4
+same-length-4 c = search needs
+
 returns-2 : tie.Need-returns-2
 unfolding nextRank
-returns-2 c =
-    rw (
-      ← c .before .before .before .before .before .before .before .before .before .before .before .before .before .cell-number .ensures .0,
-      ← c .before .before .before .before .before .before .before .before .before .before .before .found-at .ensures .0,
-      ← c .before .before .before .before .before .before .before .before .before .no-key .ensures,
-      ← c .before .before .before .before .before .before .before .before .successors .ensures,
-      ← c .before .before .before .before .before .before .replacement .ensures,
-      sym (c .before .before .before .before .before .before2 .ensures) ∙ c .before .before .before .before .if1 .left,
-    ) (c .before .before .extract-min2 .ensures)
+returns-2 c = (
+  rw (
+    ← c .before .before .before .before .before .before .before .before .before .before .before .before .before .before .before .before .cell-number .ensures .0,
+    ← c .before .before .before .before .before .before .before .before .before .before .before .before .before .before .found-at .ensures .0,
+    ← c .before .before .before .before .before .before .before .before .before .before .before .before .no-key .ensures,
+    ← c .before .before .before .before .before .before .before .before .before .before .before .successors .ensures,
+    ← c .before .before .before .before .before .before .before .before .before .replacement .ensures,
+    sym (c .before .before .before .before .before .before .before .before .before2 .ensures) ∙ c .before .before .before .before .before .before .before .if1 .left,
+  ) (c .before .before .before .before .extract-min2 .ensures .0),
+  rw (← c .before .before .before .before .before .before .before .before .before .before .before .before .before .before .before .before .cell-number .ensures .0) (c .before .before .before .before .extract-min2 .ensures .1),
+)
 
 pub next-rank-spec : {M : Type 1} → statement M
 next-rank-spec =
@@ -76,7 +86,9 @@ next-rank-spec =
     before-requires
     extract-min-requires
     same-length
+    same-length-2
     returns
     extract-min-requires-2
-    same-length-2
+    same-length-3
+    same-length-4
     returns-2)

@@ -1,7 +1,7 @@
 -- By the test, as in the definition; the number of places is fuel enough for the root.
 use native.Mathlib.Omega.{arith}
 use borrow.Author.Tests.{eq-eqb, ne-eqb}
-use Rattle.chart_search.specs.Search.{nextOfRoot}
+use Rattle.chart_search.specs.Search.{nextOfRoot, keepOfRoot}
 use borrow.Author.Needs.{needs}
 use Rattle.chart_search.proofs.next_of_root.Statement.{statement}
 use Rattle.chart_search.proofs.next_of_root.Tie as tie
@@ -19,30 +19,35 @@ same-length : tie.Need-same-length
 same-length c = search needs
 
 returns : tie.Need-returns
-unfolding nextOfRoot
+unfolding nextOfRoot keepOfRoot
 returns c =
-    let c₂ = c .before .before in
-    let c₄ = c₂ .before .before in
-    simp (← c₄ .root .ensures, ← c₂ .cell-number .ensures .0, ← c .before .price-at .ensures .0, eq-eqb _ _ (c .if1 .taken))
+    let tested = eq-eqb _ _ (c .if1 .taken) in (
+      simp (← c .before .before .before .before .root .ensures, ← c .before .before .cell-number .ensures .0, ← c .before .price-at .ensures .0, tested),
+      simp (← c .before .before .before .before .root .ensures, ← c .before .before .cell-number .ensures .0, ← c .before .price-at .ensures .0, tested),
+    )
 
-add-extend : tie.Need-add-extend
-add-extend c = search needs
+add-part-of : tie.Need-add-part-of
+add-part-of c = search needs
+
+part-of-requires : tie.Need-part-of-requires
+part-of-requires c κs = search needs
 
 extend-requires : tie.Need-extend-requires
-extend-requires c κs = rw (c .before .before .before .before .before .root .ensures) (search needs)
+extend-requires c κs = rw (c .part-of .ensures, c .before .before .before .before .before .before .before .root .ensures) (search needs)
 
 same-length-2 : tie.Need-same-length-2
 same-length-2 c = search needs
 
+same-length-3 : tie.Need-same-length-3
+same-length-3 c = search needs
+
 returns-2 : tie.Need-returns-2
-unfolding nextOfRoot
+unfolding nextOfRoot keepOfRoot
 returns-2 c =
-    let c₂ = c .before .before in
-    let c₄ = c₂ .before .before in
-    let c₅ = c₄ .before in
-    let c₆ = c₅ .before in
-    let c₈ = c₆ .before .before in
-    simp (← c₈ .root .ensures, ← c₆ .cell-number .ensures .0, ← c₅ .price-at .ensures .0, ne-eqb _ _ (c₄ .if1 .left)) (c₂ .extend .ensures _ (rw (c₈ .root .ensures) (omega arith)))
+    let found = rw (c .before .before .before .before .before .part-of .ensures) at (c .before .before .before .before .extend .ensures) in (
+      simp (← c .before .before .before .before .before .before .before .before .before .before .before .before .root .ensures, ← c .before .before .before .before .before .before .before .before .before .before .cell-number .ensures .0, ← c .before .before .before .before .before .before .before .before .before .price-at .ensures .0, ne-eqb _ _ (c .before .before .before .before .before .before .before .before .if1 .left)) (found .0 _ (rw (c .before .before .before .before .before .before .before .before .before .before .before .before .root .ensures) (omega arith))),
+      simp (← c .before .before .before .before .before .before .before .before .before .before .before .before .root .ensures, ← c .before .before .before .before .before .before .before .before .before .before .cell-number .ensures .0, ← c .before .before .before .before .before .before .before .before .before .price-at .ensures .0, ne-eqb _ _ (c .before .before .before .before .before .before .before .before .if1 .left)) (found .1 _ (rw (c .before .before .before .before .before .before .before .before .before .before .before .before .root .ensures) (omega arith))),
+    )
 
 pub next-of-root-spec : {M : Type 1} → statement M
 next-of-root-spec =
@@ -53,7 +58,9 @@ next-of-root-spec =
     price-at-requires
     same-length
     returns
-    add-extend
+    add-part-of
+    part-of-requires
     extend-requires
     same-length-2
+    same-length-3
     returns-2)

@@ -15,11 +15,10 @@ use Rattle.chart_search.proofs.search.Statement.{statement}
 use Rattle.chart_search.proofs.search.Tie as tie
 
 abbrev Inv-loop : tie.InvT-loop
-Inv-loop t₀ rules edges index d m x₀ t x =
-    (x ≤ m) × (length t ≡ length t₀) × (t ≡ iter (model.nextOfRoot rules edges index d) t₀ x)
+Inv-loop t₀ rules edges index d kept₀ m x₀ t kept x = (x ≤ m) × (length t ≡ length t₀) × (t ≡ iter (model.nextOfRoot rules edges index d) t₀ x) × (length kept ≡ 0)
 
 abbrev μ-loop : tie.MeasureT-loop
-μ-loop t₀ rules edges index d m x₀ t x = m - x
+μ-loop t₀ rules edges index d kept₀ m x₀ t kept x = m - x
 
 slice-aggregate-mark-rules : tie.Need-slice-aggregate-mark-rules Inv-loop μ-loop
 slice-aggregate-mark-rules c = search needs
@@ -44,6 +43,9 @@ loop-holds : tie.Need-loop-holds Inv-loop μ-loop
 unfolding iter
 loop-holds c = search needs
 
+slice-aggregate-next-of-root : tie.Need-slice-aggregate-next-of-root Inv-loop μ-loop
+slice-aggregate-next-of-root c = search (needs, c .before .before .before .loop .inv .3)
+
 next-of-root-requires : tie.Need-next-of-root-requires Inv-loop μ-loop
 next-of-root-requires c κs = search needs
 
@@ -54,7 +56,7 @@ loop-less : tie.Need-loop-less Inv-loop μ-loop
 loop-less c = search needs
 
 loop-again : tie.Need-loop-again Inv-loop μ-loop
-loop-again c = (search needs, search needs, rw (iter-more, ← c .before .before .before .before .before .loop .inv .2) (c .before .before .next-of-root .ensures))
+loop-again c = (search needs, search needs, rw (iter-more, ← c .before .before .before .before .before .before .before .loop .inv .2) (c .before .before .before .next-of-root .ensures .0), c .before .before .before .next-of-root .kept .1 .0 ∙ c .before .before .before .before .before .before .before .loop .inv .3)
 
 same-length : tie.Need-same-length Inv-loop μ-loop
 same-length c = c .before .loop .inv .1 ∙ c .before .before .before .before .before .before .first-pass .kept .0
@@ -75,6 +77,7 @@ search-spec =
     first-pass-requires
     sub-m
     loop-holds
+    slice-aggregate-next-of-root
     next-of-root-requires
     add-x
     loop-less

@@ -21,7 +21,7 @@ use Rattle.chart_table.specs.declared.Cell.{Cell}
 use Rattle.chart_table.specs.declared.Layout.{Layout}
 use Rattle.chart_table.specs.Table.{leftPart, rightPart, cellNumber, backAt}
 use Rattle.chart_ranks.specs.Ranks.{firstRank, nextRank}
-use Rattle.chart_search.specs.Search.{Finder, extend, extendParts, advancePairing, nextOfSpan}
+use Rattle.chart_search.specs.Search.{Finder, extend, extendParts, advancePairing, backBefore, nextOfSpan}
 use Rattle.chart_theory.proofs.Table.Keys.{rowBack}
 use Rattle.chart_theory.proofs.Table.Cells.{InChart, span, rankedIn, RowOfIn, RowAtIn, row-unique}
 use Rattle.chart_theory.proofs.Table.Entries.{found-test}
@@ -201,7 +201,7 @@ module _ {g : Grammar} {es : List Edge} {rules edges index : List ℕ} {d : Layo
         })
 
   pub next-finds : (fuel : ℕ) → Finds (nextOfSpan rules edges index d fuel) (suc fuel)
-  unfolding nextOfSpan
+  unfolding nextOfSpan backBefore
   next-finds zero = record { finds = λ wanted short. absurd (omega (arith, wanted .in-chart .order)) }
   next-finds (suc fuel) = record {
     finds = λ {t} {c} {n} wanted short.

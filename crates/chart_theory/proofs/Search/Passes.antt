@@ -14,6 +14,7 @@ use lib.Dec.{ltb, eqb}
 use borrow.Author.Tests.{eqb-true, ltb-false}
 use Rattle.bits.specs.Bits.{pick}
 use Rattle.packing.specs.Meaning.{symbolOf, Grammar, Edge}
+use Rattle.packing.specs.Loop.{iter}
 use Rattle.packing.proofs.Loop.{iter-keeps}
 use Rattle.chart_table.specs.declared.Cell.{Cell}
 use Rattle.chart_table.specs.declared.Layout.{Layout}
@@ -171,21 +172,26 @@ module _ {g : Grammar} {es : List Edge} {rules edges index : List ℕ} {d : Layo
                   (λ less. known-grows g es (done .grown .grows) (root d) y (listed .known y (omega arith))) (eq-or-lt-of-le h);
             }
 
-    pub search-known : (t : List ℕ) → Invariant g es d 1 t → Listed (d .ranks - 1) (search rules edges index d t)
-    unfolding search
-    search-known t invariant =
+    -- after the first pass and x further ranks of the root
+    pub steps-known : (t : List ℕ) → Invariant g es d 1 t → (x : ℕ) → x ≤ d .ranks - 1
+        → Listed x (iter (nextOfRoot rules edges index d) (firstPass rules edges index d t) x)
+    steps-known t invariant x few =
         let after = first-pass-known t invariant in
         let first : (y : ℕ) → y ≤ 0 → Known g es d (firstPass rules edges index d t) (root d) y =
         λ y h. let same : y ≡ 0 = omega arith in rw same (after .first-known in-root (omega arith)) in
-        iter-keeps Listed (nextOfRoot rules edges index d) (firstPass rules edges index d t) (d .ranks - 1)
-        (record { invariant = after; known = first }) next-known
+        iter-keeps Listed (nextOfRoot rules edges index d) (firstPass rules edges index d t) x
+        (record { invariant = after; known = first }) (λ y u l. next-known y u (omega arith))
 
-    -- so a rank that is kept is found exactly if there is one
-    pub found-exactly : (u : List ℕ) → Listed (d .ranks - 1) u → (x : ℕ) → x < d .ranks
-        → Found d u (root d) x ↔ (x < length (rankedIn g es (root d)))
-    found-exactly u listed x kept = (
-      (λ h. let (v, held) = listed .invariant .holds x in-root h in rank-below g es (root d) x (held .place)),
-      listed .known x (omega arith) kept,
+    pub search-known : (t : List ℕ) → Invariant g es d 1 t → Listed (d .ranks - 1) (search rules edges index d t)
+    unfolding search
+    search-known t invariant = steps-known t invariant (d .ranks - 1) (le-refl (d .ranks - 1))
+
+    -- so a rank that is kept, of those known, is found exactly if there is one
+    pub found-exactly : (x : ℕ) (u : List ℕ) → Listed x u → (y : ℕ) → y ≤ x → y < d .ranks
+        → Found d u (root d) y ↔ (y < length (rankedIn g es (root d)))
+    found-exactly x u listed y below kept = (
+      (λ h. let (v, held) = listed .invariant .holds y in-root h in rank-below g es (root d) y (held .place)),
+      listed .known y below kept,
     )
 
 -- where the found ranks are those below a number, their count is that number, or all that are kept

@@ -1,0 +1,4 @@
+pub mod Saved
+pub mod Written
+pub mod Undo
+pub mod Added

@@ -1,0 +1,96 @@
+-- Four stores.
+use Rattle.chart_table.specs.Journal.{restoreEntry}
+use borrow.Author.Needs.{needs}
+use Rattle.chart_table.proofs.journal.restore_entry.Statement.{statement}
+use Rattle.chart_table.proofs.journal.restore_entry.Tie as tie
+
+mul-from : tie.Need-mul-from
+mul-from c = search needs
+
+add-from : tie.Need-add-from
+add-from c = search needs
+
+add-number-at : tie.Need-add-number-at
+add-number-at c = search needs
+
+number-at-requires : tie.Need-number-at-requires
+number-at-requires c κs = search needs
+
+mul-at : tie.Need-mul-at
+mul-at c = search needs
+
+number-at-requires-2 : tie.Need-number-at-requires-2
+number-at-requires-2 c κs = search needs
+
+add-at : tie.Need-add-at
+add-at c = search needs
+
+add-narrow-at : tie.Need-add-narrow-at
+add-narrow-at c = search needs
+
+narrow-at-requires : tie.Need-narrow-at-requires
+narrow-at-requires c κs = search needs
+
+store-behind-requires : tie.Need-store-behind-requires
+store-behind-requires c κs = search needs
+
+add-narrow-at-2 : tie.Need-add-narrow-at-2
+add-narrow-at-2 c = search needs
+
+narrow-at-requires-2 : tie.Need-narrow-at-requires-2
+narrow-at-requires-2 c κs = search needs
+
+store-behind-requires-2 : tie.Need-store-behind-requires-2
+store-behind-requires-2 c κs = search needs
+
+add-narrow-at-3 : tie.Need-add-narrow-at-3
+add-narrow-at-3 c = search needs
+
+narrow-at-requires-3 : tie.Need-narrow-at-requires-3
+narrow-at-requires-3 c κs = search needs
+
+store-behind-requires-3 : tie.Need-store-behind-requires-3
+store-behind-requires-3 c κs = search needs
+
+add-narrow-at-4 : tie.Need-add-narrow-at-4
+add-narrow-at-4 c = search needs
+
+narrow-at-requires-4 : tie.Need-narrow-at-requires-4
+narrow-at-requires-4 c κs = search needs
+
+store-behind-requires-4 : tie.Need-store-behind-requires-4
+store-behind-requires-4 c κs = search needs
+
+same-length : tie.Need-same-length
+same-length c = search needs
+
+returns : tie.Need-returns
+unfolding restoreEntry
+returns c =
+    rw (c .before .before .store-behind4 .ensures, c .before .before .before .before .before .before .before .store-behind3 .ensures, c .before .before .before .before .before .before .before .before .before .before .before .before .store-behind2 .ensures, c .before .before .before .before .before .before .before .before .before .before .before .before .before .before .before .before .before .store-behind .ensures, c .before .before .before .before .before .before .before .before .before .before .before .before .before .before .before .before .before .before .narrow-at .ensures, c .before .before .before .before .before .before .before .before .before .before .before .before .before .narrow-at2 .ensures, c .before .before .before .before .before .before .before .before .narrow-at3 .ensures, c .before .before .before .narrow-at4 .ensures, c .before .before .before .before .before .before .before .before .before .before .before .before .before .before .before .before .before .before .before .before .before .number-at .ensures .0, c .before .before .before .before .before .before .before .before .before .before .before .before .before .before .before .before .before .before .before .before .number-at2 .ensures .0)
+
+pub restore-entry-spec : {M : Type 1} → statement M
+restore-entry-spec =
+    tie.close
+    (tie.spec
+    mul-from
+    add-from
+    add-number-at
+    number-at-requires
+    mul-at
+    number-at-requires-2
+    add-at
+    add-narrow-at
+    narrow-at-requires
+    store-behind-requires
+    add-narrow-at-2
+    narrow-at-requires-2
+    store-behind-requires-2
+    add-narrow-at-3
+    narrow-at-requires-3
+    store-behind-requires-3
+    add-narrow-at-4
+    narrow-at-requires-4
+    store-behind-requires-4
+    same-length
+    returns)

@@ -1,0 +1,40 @@
+-- The journal: entries of the table as they were, and the table with them put back.
+-- Nobody need believe this page: that what a search overwrites is put back is a theorem (chart_theory/proofs/Undo). Assumes nothing.
+use mathlib.Core.List.{List}
+use Prim.Native.Nat.{ℕ, zero, suc, _+_, _*_, _/_, _%_}
+use lib.Dec.{ltb}
+use lib.ListN.{getD, set}
+use Rattle.bits.specs.Bits.{pick}
+
+-- the most entries that are kept
+abbrev pub mostKept : ℕ
+mostKept = 188
+
+-- where the kept entry x stands
+abbrev pub keptAt : ℕ → ℕ
+keptAt x = 1 + 6 * x
+
+-- the entry that starts at a place of the table t is kept in the journal k, if that has room
+unfoldable pub keepEntry : (t k : List ℕ) → ℕ → List ℕ
+keepEntry t k at =
+    let n = getD k 0 0 in
+    let to = keptAt n in
+    pick (ltb n 188)
+    (set (set (set (set (set (set (set k to (at % 4294967296)) (to + 1) (at / 4294967296)) (to + 2) (getD t at 0)) (to + 3) (getD t (at + 1) 0)) (to + 4)
+    (getD t (at + 2) 0)) (to + 5) (getD t (at + 3) 0)) 0 (n + 1))
+    k
+
+-- the kept entry x is put back
+unfoldable pub restoreEntry : (k : List ℕ) → ℕ → List ℕ → List ℕ
+restoreEntry k x t =
+    let from = keptAt x in
+    let at = getD k (from + 1) 0 * 4294967296 + getD k from 0 in
+    set (set (set (set t (at + 0) (getD k (from + 2) 0)) (at + 1) (getD k (from + 3) 0)) (at + 2) (getD k (from + 4) 0)) (at + 3) (getD k (from + 5) 0)
+
+-- the first n are, the last of them first; and all of them
+unfoldable pub restoreAll : (k : List ℕ) → ℕ → List ℕ → List ℕ
+restoreAll k zero t = t
+restoreAll k (suc n) t = restoreAll k n (restoreEntry k n t)
+
+abbrev pub putBack : (k t : List ℕ) → List ℕ
+putBack k t = restoreAll k (getD k 0 0) t
