@@ -18,6 +18,7 @@
 //! | [`Office`], [`MarkedGrammar`] | rules as offices write them, and what they become; [`Office::to_grammar`] |
 //! | [`Graph`], [`GraphReading`] | word graphs, which have blocks and no sheets; [`Grammar::list_graph`], [`Grammar::check_graph`] |
 //! | [`Grammar::specimen`], [`Phrases`] | what can be said in a grammar |
+//! | [`Grammar::cost_ranges`], [`CostRanges`] | the first reading where costs are known within ranges |
 //! | [`Lister`] | many listings under one grammar, in memory that is kept |
 //! | [`Tree`] | a reading as a tree |
 //! | [`limits`] | how large things may be, and how much is to be lent |
@@ -58,6 +59,7 @@ mod lister;
 mod marked;
 mod office;
 mod phrases;
+mod ranges;
 mod reading;
 mod refusal;
 mod tree;
@@ -70,6 +72,7 @@ pub use lister::{Found, Lister};
 pub use marked::MarkedGrammar;
 pub use office::{Item, Office, OfficeRule};
 pub use phrases::Phrases;
+pub use ranges::CostRanges;
 pub use reading::{GraphReading, Reading};
 pub use refusal::Refusal;
 pub use tree::{Parts, Tree};

@@ -7,6 +7,7 @@ pub mod list;
 mod pack;
 mod phrases;
 mod pick;
+mod ranges;
 mod report;
 mod specimen;
 mod unpack;
@@ -47,6 +48,7 @@ pub const COMMANDS: &[Command] = &[
     lint::COMMAND,
     specimen::COMMAND,
     phrases::COMMAND,
+    ranges::COMMAND,
     check::COMMAND,
     pack::COMMAND,
     unpack::COMMAND,

@@ -7,7 +7,7 @@ use std::path::Path;
 use std::process::{Command, Stdio};
 
 const COMMANDS: [&str; 11] =
-    ["list", "pick", "why", "report", "batch", "lint", "specimen", "phrases", "check", "pack", "unpack"];
+    ["list", "pick", "why", "report", "batch", "lint", "specimen", "phrases", "ranges", "check", "pack", "unpack"];
 
 #[test]
 fn help_at_every_level() {

@@ -6,4 +6,5 @@ pub mod First
 pub mod Gains
 pub mod Utterances
 pub mod Raised
+pub mod Valid
 pub mod Theorems

@@ -22,7 +22,7 @@ use Rattle.cost_changes.proofs.Alike.{Alike, NoDearer, alike-turn, alik
 abbrev RiseCost : ℕ → ℕ → Type 0
 RiseCost c d = (c ≤ d) × ((c < notHeard) ↔ (d < notHeard))
 
-abbrev RiseSlot : List Candidate → List Candidate → Type 0
+abbrev pub RiseSlot : List Candidate → List Candidate → Type 0
 RiseSlot [] [] = Unit {0}
 RiseSlot [] (b ∷ m) = ⊥
 RiseSlot (a ∷ l) [] = ⊥

@@ -3,7 +3,7 @@ use mathlib.Core.Path.{_≡_}
 use mathlib.Core.Bool.{Bool, true, _&&_}
 use mathlib.Core.List.{List, [], _∷_}
 use mathlib.Core.Option.{some}
-use Prim.Native.Nat.{ℕ, zero, suc, _+_, _*_}
+use Prim.Native.Nat.{ℕ, zero, suc, _+_, _*_, _≤_, _<_}
 use lib.Dec.{eqb}
 use lib.ListN.{length, getD, set}
 use Rattle.bits.specs.Bits.{pick}
@@ -18,10 +18,10 @@ use Rattle.grammar_reader.specs.Answer.{sizes}
 use Rattle.grammar_reader.specs.declared.Sizes.{Sizes}
 use Rattle.heard_reader.specs.Answer.{heardSize}
 use Rattle.heard_reader.specs.declared.HeardSize.{HeardSize}
-use Rattle.chart_table.specs.declared.Layout.{Layout}
-use Rattle.chart_table.specs.Table.{clear}
+use Rattle.chart_table.specs.Table.{Sized, clear}
 use Rattle.chart.specs.Chart.{enumerate, rootsFound, rootWeight, rootTrace}
 use Rattle.cost_ranges.specs.CostRanges.{ranged, rangedOf, tableAfter}
+use Rattle.cost_ranges.specs.declared.Pass.{Pass}
 use Rattle.cost_ranges.specs.declared.Ranged.{Ranged}
 use Rattle.cost_ranges.specs.declared.Ranged.the-variants.{Nothing, Outweighed, Stands}
 use Rattle.cost_ranges.specs.declared.Weights.{Weights}
@@ -57,23 +57,34 @@ unfoldable pub nodesWeight : List ℕ → List ℕ → List Node → ℕ
 nodesWeight rules high [] = 0
 nodesWeight rules high (x ∷ xs) = nodeWeight rules high x + nodesWeight rules high xs
 
+-- what a pass is over, within the bounds of the chart
+pub record Passable (p : Pass) : Type 0 where
+  pub sized : Sized (p .table)
+  pub some-place : 0 < p .table .places
+  pub some-rank : 0 < p .table .ranks
+  pub rules : p .rules ≤ 256
+  pub edges : p .edges ≤ 256
+
 -- the table of a pass and its first weight
-abbrev pub tableBy : List ℕ → ℕ → List ℕ → ℕ → Layout → ℕ → List ℕ
-tableBy rules R array E d size = enumerate rules R array E d size
+abbrev pub tableBy : List ℕ → List ℕ → Pass → ℕ → List ℕ
+tableBy rules array p size = enumerate rules (p .rules) array (p .edges) (p .table) size
 
-abbrev pub weightBy : List ℕ → ℕ → List ℕ → ℕ → Layout → ℕ → ℕ
-weightBy rules R array E d size = rootWeight (tableBy rules R array E d size) d 0
+abbrev pub weightBy : List ℕ → List ℕ → Pass → ℕ → ℕ
+weightBy rules array p size = rootWeight (tableBy rules array p size) (p .table) 0
 
-abbrev pub decide : ℕ → ℕ → Weights → Ranged
-decide own mixed w = pick (eqb own mixed) (Stands w) (Outweighed w)
+abbrev pub hasLeast : List ℕ → List Node → List ℕ → List ℕ → Pass → ℕ → Bool
+hasLeast rules nodes high costs p size = eqb (nodesWeight rules high nodes) (weightBy rules (raiseNodes high costs nodes) p size)
 
-module _ (rules : List ℕ) (R : ℕ) (low high : List ℕ) (E : ℕ) (d : Layout) (size : ℕ) where
+abbrev pub decide : Bool → Weights → Ranged
+decide b w = pick b (Stands w) (Outweighed w)
+
+module _ (rules low high : List ℕ) (p : Pass) (size : ℕ) where
   abbrev pub found : ℕ
-  found = rootsFound (tableBy rules R low E d size) d
+  found = rootsFound (tableBy rules low p size) (p .table)
 
   -- the nodes of the first tree for low costs, and the mixed costs
   abbrev pub firstNodes : List Node
-  firstNodes = nodesIn rules (rootTrace (tableBy rules R low E d size) rules d 0)
+  firstNodes = nodesIn rules (rootTrace (tableBy rules low p size) rules (p .table) 0)
 
   abbrev pub mixed : List ℕ
   mixed = raiseNodes high low firstNodes
@@ -81,11 +92,11 @@ module _ (rules : List ℕ) (R : ℕ) (low high : List ℕ) (E : ℕ) (d : Layou
   -- what the passes answer, and the table that they leave
   abbrev pub passed : Ranged
   passed =
-      pick (eqb found 0) Nothing (decide (nodesWeight rules high firstNodes) (weightBy rules R mixed E d size)
-      (record { least = weightBy rules R low E d size; greatest = weightBy rules R high E d size }))
+      pick (eqb found 0) Nothing (decide (hasLeast rules firstNodes high low p size)
+      (record { least = weightBy rules low p size; greatest = weightBy rules high p size }))
 
   abbrev pub leftBy : List ℕ
-  leftBy = pick (eqb found 0) (clear (tableBy rules R low E d size) d) (clear (tableBy rules R mixed E d size) d)
+  leftBy = pick (eqb found 0) (clear (tableBy rules low p size) (p .table)) (clear (tableBy rules mixed p size) (p .table))
 
 -- what is promised of the answer and of the work table afterwards, where this verdict is due
 abbrev pub Promised : Verdict Answer → (work : List ℕ) → Ranged → (work′ : List ℕ) → Type 0

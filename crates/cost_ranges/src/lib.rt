@@ -25,9 +25,8 @@ ghost use lib.ListN.{length, take};
 ghost use Rattle.packing.specs.Flat.{ruleAt, nodeBy, nodesIn};
 ghost use Rattle.cost_changes.specs.Ranges.{costRises};
 ghost use Rattle.grammar_reader.specs.Answer.{Bounded};
-ghost use Rattle.chart_table.specs.Table.{Sized};
 ghost use Rattle.cost_ranges.specs.CostRanges.{answered, ranges, rangedOf, tableAfter, Meant};
-ghost use Rattle.cost_ranges.specs.Model.{edgeRises, edgesRise, raiseNode, nodeWeight, raiseNodes, nodesWeight, tableBy, weightBy, decide, passed, leftBy, bothRise, AlikeRanged, EdgesRanged, LowRanged, GrammarRanged};
+ghost use Rattle.cost_ranges.specs.Model.{edgeRises, edgesRise, raiseNode, nodeWeight, raiseNodes, nodesWeight, Passable, tableBy, weightBy, hasLeast, decide, passed, leftBy, bothRise, AlikeRanged, EdgesRanged, LowRanged, GrammarRanged};
 
 // The least and the greatest first weight.
 pub struct Weights {
@@ -42,6 +41,13 @@ pub enum Ranged {
     Outweighed(Weights),
     Stands(Weights),
     Refused(u32),
+}
+
+// What a pass is over: so many rules and edges of arrays, and a table.
+struct Pass {
+    rules: usize,
+    edges: usize,
+    table: Layout,
 }
 
 const DIFFERENT: u32 = 59;
@@ -128,47 +134,53 @@ fn raise_own(rules: &[u32], trace: &[u32], nodes: usize, high: &[u32], costs: &m
 }
 
 // The first weight for the costs of these edges.
-fn first_weight(
-    rules: &[u32],
-    count: usize,
-    edges: &[u32],
-    arcs: usize,
-    d: Layout,
-    work: &mut [u32],
-) -> u32
-    requires { ⌜ (Sized d) × (0 < d .places) × (count ≤ 256) × (arcs ≤ 256) ⌝ }
-    ensures { λ r. ⌜ now (work .exit) ≡ tableBy (now (rules .entry)) count (now (edges .entry)) arcs d (length (now (work .entry))) ⌝ }
-    ensures { λ r. ⌜ r ≡ weightBy (now (rules .entry)) count (now (edges .entry)) arcs d (length (now (work .entry))) ⌝ }
+fn first_weight(rules: &[u32], edges: &[u32], pass: Pass, work: &mut [u32]) -> u32
+    requires { ⌜ Passable pass ⌝ }
+    ensures { λ r. ⌜ now (work .exit) ≡ tableBy (now (rules .entry)) (now (edges .entry)) pass (length (now (work .entry))) ⌝ }
+    ensures { λ r. ⌜ r ≡ weightBy (now (rules .entry)) (now (edges .entry)) pass (length (now (work .entry))) ⌝ }
 {
-    chart::enumerate(work, rules, count, edges, arcs, d);
-    chart::root_weight(work, d, 0)
+    chart::enumerate(work, rules, pass.rules, edges, pass.edges, pass.table);
+    chart::root_weight(work, pass.table, 0)
 }
 
-// Whether the first reading, of weight `own` with its own words high, has least weight where all others are low.
-fn decide(own: usize, mixed: u32, weights: Weights) -> Ranged
-    ensures { λ r. ⌜ r ≡ decide own mixed weights ⌝ }
+// The pass over mixed costs, which `costs` has afterwards: whether a tree, whose nodes are traced, has least weight with its own words high and
+// all others as in `costs`.
+fn has_least(
+    rules: &[u32],
+    trace: &[u32],
+    nodes: usize,
+    high: &[u32],
+    costs: &mut [u32],
+    pass: Pass,
+    work: &mut [u32],
+) -> bool
+    requires { ⌜ (Passable pass) × (nodes ≤ 47) × (2 * nodes ≤ length (now trace)) ⌝ }
+    ensures { λ r. ⌜ r ≡ hasLeast (now (rules .entry)) (nodesIn (now (rules .entry)) (take (2 * nodes) (now (trace .entry)))) (now (high .entry)) (now (costs .entry)) pass (length (now (work .entry))) ⌝ }
+    ensures { λ r. ⌜ now (work .exit) ≡ tableBy (now (rules .entry)) (raiseNodes (now (high .entry)) (now (costs .entry)) (nodesIn (now (rules .entry)) (take (2 * nodes) (now (trace .entry))))) pass (length (now (work .entry))) ⌝ }
 {
-    if own == wide(mixed) {
+    let own = raise_own(rules, trace, nodes, high, costs);
+    let least = first_weight(rules, &costs[..], pass, work);
+    own == wide(least)
+}
+
+// The answer, where the first reading has least weight with its own words high and all others low.
+fn decide(stands: bool, weights: Weights) -> Ranged
+    ensures { λ r. ⌜ r ≡ decide stands weights ⌝ }
+{
+    if stands {
         return Ranged::Stands(weights);
     }
     Ranged::Outweighed(weights)
 }
 
 // The passes over low, high and mixed costs. `low` has the mixed costs afterwards.
-fn passes(
-    rules: &[u32],
-    count: usize,
-    low: &mut [u32],
-    high: &[u32],
-    arcs: usize,
-    d: Layout,
-    work: &mut [u32],
-) -> Ranged
-    requires { ⌜ (Sized d) × (0 < d .places) × (d .places ≤ 24) × (0 < d .ranks) × (count ≤ 256) × (arcs ≤ 256) ⌝ }
-    ensures { λ r. ⌜ r ≡ passed (now (rules .entry)) count (now (low .entry)) (now (high .entry)) arcs d (length (now (work .entry))) ⌝ }
-    ensures { λ r. ⌜ now (work .exit) ≡ leftBy (now (rules .entry)) count (now (low .entry)) (now (high .entry)) arcs d (length (now (work .entry))) ⌝ }
+fn passes(rules: &[u32], low: &mut [u32], high: &[u32], pass: Pass, work: &mut [u32]) -> Ranged
+    requires { ⌜ (Passable pass) × (pass .table .places ≤ 24) ⌝ }
+    ensures { λ r. ⌜ r ≡ passed (now (rules .entry)) (now (low .entry)) (now (high .entry)) pass (length (now (work .entry))) ⌝ }
+    ensures { λ r. ⌜ now (work .exit) ≡ leftBy (now (rules .entry)) (now (low .entry)) (now (high .entry)) pass (length (now (work .entry))) ⌝ }
 {
-    let found = chart::enumerate(work, rules, count, &low[..], arcs, d);
+    let d = pass.table;
+    let found = chart::enumerate(work, rules, pass.rules, &low[..], pass.edges, d);
     if found == 0 {
         chart::clear_table(work, d);
         return Ranged::Nothing;
@@ -176,11 +188,11 @@ fn passes(
     let least = chart::root_weight(&work[..], d, 0);
     let mut trace = [0u32; TRACE_LENGTH];
     let numbers = chart::trace_root(&work[..], rules, d, 0, &mut trace);
-    let greatest = first_weight(rules, count, high, arcs, d, work);
-    let own = raise_own(rules, &trace, numbers / NUMBERS_PER_NODE, high, low);
-    let mixed = first_weight(rules, count, &low[..], arcs, d, work);
+    let greatest = first_weight(rules, high, pass, work);
+    let nodes = numbers / NUMBERS_PER_NODE;
+    let stands = has_least(rules, &trace, nodes, high, low, pass, work);
     chart::clear_table(work, d);
-    decide(own, mixed, Weights { least, greatest })
+    decide(stands, Weights { least, greatest })
 }
 
 // Whether the edges of two utterances are alike but for their costs, and no cost falls.
@@ -208,11 +220,16 @@ fn ranges_alike(
     requires { ⌜ (Bounded sizes) × (1 ≤ heard .last) × (heard .last ≤ 24) × (heard .edges ≤ 168) ⌝ }
     ensures { λ r. ⌜ AlikeRanged (now (rules .entry)) sizes (now (low .entry)) (now (high .entry)) heard (now (work .entry)) r (now (work .exit)) ⌝ }
 {
-    let d = chart::lay_out(sizes.symbols as usize, heard.last, ONE);
-    if work.len() < chart::table_numbers(d) {
+    let table = chart::lay_out(sizes.symbols as usize, heard.last, ONE);
+    if work.len() < chart::table_numbers(table) {
         return Ranged::Refused(refused::LISTING_WORK);
     }
-    passes(rules, sizes.rules as usize, low, high, heard.edges, d, work)
+    let pass = Pass {
+        rules: sizes.rules as usize,
+        edges: heard.edges,
+        table,
+    };
+    passes(rules, low, high, pass, work)
 }
 
 // The answer for two utterances whose edges are in arrays, under an accepted grammar.
