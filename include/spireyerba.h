@@ -214,11 +214,11 @@ int32_t spireyerba_utterance_to_sheet(
     uint32_t *out, size_t out_len);
 
 /*
-** WORD GRAPHS. The listing and the check take a word graph in place of slots. It
-** has P places, numbered from 0, and edges, numbered from 0 in the order of the
-** block; an edge is a word that was heard from one place to a later one. A
-** derivation then spans a path from place 0 to place P - 1, each word an edge of
-** it. A graph without such a path is no refusal: it has no readings.
+** WORD GRAPHS. Both listings, the check and the chance take a word graph in place
+** of slots. It has P places, numbered from 0, and edges, numbered from 0 in the
+** order of the block; an edge is a word that was heard from one place to a later
+** one. A derivation then spans a path from place 0 to place P - 1, each word an
+** edge of it. A graph without such a path is no refusal: it has no readings.
 **
 ** A graph block has the fields kind (4 bits, 5), P (5), the number of edges (7),
 ** then of each edge from (5), to (5), word and cost (16). Its fields are checked
@@ -387,6 +387,40 @@ static inline size_t spireyerba_work_length(uint32_t symbols, uint32_t slots, ui
 ** LISTING_WANTED, LISTING_WORK, LISTING_OUTPUT.
 */
 int32_t spireyerba_listing(
+    const uint8_t *grammar, size_t grammar_len,
+    const uint8_t *utterance, size_t utterance_len,
+    uint32_t wanted,
+    uint32_t *work, size_t work_len,
+    uint8_t *out, size_t out_len);
+
+/* Further refusals of the panel's listing. */
+enum {
+    SPIREYERBA_PANEL_SLOTS = 57,     /* more than 12 slots, or 13 places          */
+    SPIREYERBA_PANEL_WANTED = 58     /* the number wanted is above 16             */
+};
+
+/*
+** The panel's limits, and what suffices for whatever is within them: no call of
+** the panel needs more numbers of work or more bytes of out.
+*/
+#define SPIREYERBA_PANEL_MAX_SLOTS 12
+#define SPIREYERBA_PANEL_MAX_PLACES 13
+#define SPIREYERBA_PANEL_MAX_READINGS 16
+#define SPIREYERBA_PANEL_WORK_MAX 159744
+#define SPIREYERBA_PANEL_OUTPUT_MAX 608
+
+/*
+** PANEL LISTING. The listing within the limits of a panel for plan desks: at most
+** 12 slots, or 13 places of a word graph, and at most 16 readings. Within them
+** it answers what the listing answers and leaves the same in work and out, to
+** the byte; work and out are as long as for the listing.
+**
+** Refuses with any of GRAMMAR_..., any of UTTERANCE_... and EDGE_..., then
+** PANEL_SLOTS, LISTING_WANTED, PANEL_WANTED, LISTING_WORK, LISTING_OUTPUT. So a
+** number wanted of 0 or above 256 is LISTING_WANTED here too, and more than 24
+** slots are UTTERANCE_RANGE.
+*/
+int32_t spireyerba_panel_listing(
     const uint8_t *grammar, size_t grammar_len,
     const uint8_t *utterance, size_t utterance_len,
     uint32_t wanted,

@@ -5,7 +5,7 @@ use crate::inputs::{graphs, greatest, redrawn, shapes, Input};
 use crate::measure::{medians, micros, ratio, Plan};
 use crate::office;
 use crate::table::{print_head, print_row};
-use spireyerba::limits::work_length;
+use spireyerba::limits::{work_length, PANEL_MAX_READINGS};
 use spireyerba::services;
 use spireyerba_tests::grammar;
 use spireyerba_tests::listing::listing;
@@ -86,6 +86,16 @@ fn print_rows_beside_free(name: &str, size: &str, rows: impl Iterator<Item = (Ve
     }
 }
 
+/// The panel's listing beside the library's, which is the same search: at the panel's limits and within them.
+pub fn print_panel() {
+    print_head("panel", &["n", "N", "library", "panel", "ratio"]);
+    let sizes = [(6, 1), (12, 1), (12, PANEL_MAX_READINGS as usize)];
+    for (inputs, wanted) in sizes.map(|(slots, wanted)| ([greatest(slots)], wanted)) {
+        let [library, panel] = times(&inputs, [(wanted, Lent::library), (wanted, Lent::panel)]);
+        print_numbers(&inputs[0], wanted, &[micros(library), micros(panel), ratio(panel, library)]);
+    }
+}
+
 /// The library beside the second implementation, apart since that can take a hundred times as long.
 pub fn print_beside_second() {
     print_head("shape", &["n", "N", "ours", "second", "ratio"]);
@@ -135,6 +145,11 @@ impl Lent {
     fn library(&mut self) {
         let Self { grammar, heard, wanted, work, out } = self;
         let _ = black_box(services::listing(grammar, heard, *wanted as u32, work, out));
+    }
+
+    fn panel(&mut self) {
+        let Self { grammar, heard, wanted, work, out } = self;
+        let _ = black_box(services::panel_listing(grammar, heard, *wanted as u32, work, out));
     }
 
     /// One pass over the work table, which any listing owes whatever the table held.

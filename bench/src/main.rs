@@ -3,10 +3,11 @@
 
 use spireyerba_bench::{batch, conversions, listing, next_phrase, specimen};
 
-const TABLES: [(&str, fn()); 8] = [
+const TABLES: [(&str, fn()); 9] = [
     ("office", listing::print_office),
     ("free", listing::print_beside_free),
     ("graphs", listing::print_graphs),
+    ("panel", listing::print_panel),
     ("conversions", conversions::print_table),
     ("specimen", specimen::print_table),
     ("phrases", next_phrase::print_table),

@@ -19,7 +19,7 @@
 //! | [`Graph`], [`GraphReading`] | word graphs, which have blocks and no sheets; [`Grammar::list_graph`], [`Grammar::check_graph`] |
 //! | [`Grammar::specimen`], [`Phrases`] | what can be said in a grammar |
 //! | [`Grammar::cost_ranges`], [`CostRanges`] | the first reading where costs are known within ranges |
-//! | [`Lister`] | many listings under one grammar, in memory that is kept |
+//! | [`Lister`] | many listings under one grammar, in memory that is kept, the library's or a desk panel's |
 //! | [`Tree`] | a reading as a tree |
 //! | [`limits`] | how large things may be, and how much is to be lent |
 //! | [`text`] | grammars, utterances, word graphs, confusion networks and lattices with names |

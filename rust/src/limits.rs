@@ -27,6 +27,17 @@ pub const MAX_SHARE: u32 = 1_024;
 /// A listing answers 1 to so many readings.
 pub const MAX_READINGS: u32 = 256;
 
+/// [`panel_listing`](crate::services::panel_listing) takes at most so many slots.
+pub const PANEL_MAX_SLOTS: u32 = 12;
+/// [`panel_listing`](crate::services::panel_listing) takes a word graph of at most so many places.
+pub const PANEL_MAX_PLACES: u32 = 13;
+/// [`panel_listing`](crate::services::panel_listing) answers 1 to so many readings.
+pub const PANEL_MAX_READINGS: u32 = 16;
+/// No call of [`panel_listing`](crate::services::panel_listing) needs a longer work table.
+pub const PANEL_WORK_MAX: usize = 159_744;
+/// No call of [`panel_listing`](crate::services::panel_listing) needs a longer output.
+pub const PANEL_OUTPUT_MAX: usize = 608;
+
 /// [`next_phrase`](crate::services::next_phrase) hands out phrases of 1 to so many words.
 pub const MAX_PHRASE: u32 = 6;
 
@@ -105,6 +116,15 @@ mod tests {
     fn lengths_that_document_01_names() {
         assert_eq!((work_length(1, 4, 8), 8 * reading_length(4, 2)), (320, 48));
         assert_eq!(reading_length(MAX_SLOTS as usize, MAX_RULES as usize), READING_BLOCK_MAX);
+    }
+
+    #[test]
+    fn lengths_of_the_panel() {
+        let (slots, readings) = (PANEL_MAX_SLOTS as usize, PANEL_MAX_READINGS as usize);
+        assert_eq!(work_length(MAX_SYMBOLS as usize, slots, readings), PANEL_WORK_MAX);
+        assert_eq!(readings * graph_reading_length(slots, MAX_RULES as usize), PANEL_OUTPUT_MAX);
+        assert!(readings * reading_length(slots, MAX_RULES as usize) <= PANEL_OUTPUT_MAX);
+        assert_eq!((work_length(1, 12, 16), 16 * reading_length(12, 2)), (4_992, 128));
     }
 
     #[test]

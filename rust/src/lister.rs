@@ -1,7 +1,7 @@
 //! Many listings under one grammar.
 
 use crate::limits::{graph_reading_length, reading_length, work_length, MAX_READINGS, UTTERANCE_BLOCK_MAX};
-use crate::services::{listing, utterance_to_block};
+use crate::services::{listing, panel_listing, utterance_to_block};
 use crate::{Grammar, Graph, GraphReading, Reading, Refusal, Utterance};
 
 /// A grammar that was packed once, and the memory that its listings need, which is kept from one to the next.
@@ -24,13 +24,38 @@ pub struct Lister {
     block: Vec<u8>,
     work: Vec<u32>,
     out: Vec<u8>,
+    service: Service,
 }
+
+/// [`listing`] or [`panel_listing`].
+type Service = fn(&[u8], &[u8], u32, &mut [u32], &mut [u8]) -> Result<usize, Refusal>;
 
 impl Lister {
     /// Packs the grammar, or refuses it as [`Grammar::to_block`] does.
     pub fn new(grammar: &Grammar) -> Result<Self, Refusal> {
+        Self::with(grammar, listing)
+    }
+
+    /// The same for listings within the limits of a desk panel, those of [`panel_listing`].
+    ///
+    /// ```
+    /// use spireyerba::text::NamedGrammar;
+    /// use spireyerba::{Lister, Refusal};
+    ///
+    /// let doors = NamedGrammar::parse("Entry -> Door Number\nDoor -> \"door\"\nNumber -> \"four\" | \"five\" [2]")?;
+    /// let heard = doors.parse_utterance("door 3; four 9 | five 5")?;
+    /// let (mut panel, mut library) = (Lister::panel(&doors.grammar)?, Lister::new(&doors.grammar)?);
+    /// assert_eq!(panel.list(&heard, 16), library.list(&heard, 16));
+    /// assert_eq!(panel.list(&heard, 17), Err(Refusal::PanelWanted));
+    /// # Ok::<(), spireyerba::Error>(())
+    /// ```
+    pub fn panel(grammar: &Grammar) -> Result<Self, Refusal> {
+        Self::with(grammar, panel_listing)
+    }
+
+    fn with(grammar: &Grammar, service: Service) -> Result<Self, Refusal> {
         let block = grammar.to_block()?;
-        Ok(Self { grammar: grammar.clone(), block, work: Vec::new(), out: Vec::new() })
+        Ok(Self { grammar: grammar.clone(), block, work: Vec::new(), out: Vec::new(), service })
     }
 
     /// The grammar's block.
@@ -89,7 +114,7 @@ impl Lister {
         let most = wanted.min(MAX_READINGS) as usize;
         let work = lent(&mut self.work, work_length(self.grammar.symbols as usize, words, most));
         let out = lent(&mut self.out, most * length);
-        let found = listing(&self.block, block, wanted, work, out)?;
+        let found = (self.service)(&self.block, block, wanted, work, out)?;
         Ok(Found { grammar: &self.grammar, blocks: &self.out[..found * length], length })
     }
 }

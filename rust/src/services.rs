@@ -7,9 +7,9 @@
 //!
 //! A *block* is packed bits, a *sheet* the same as plain 32-bit numbers; the header says field by field what they hold.
 //! [`Grammar`](crate::Grammar), [`Utterance`](crate::Utterance) and [`Reading`](crate::Reading) are made from them and
-//! turn into them, and [`limits`](crate::limits) says how long they are. [`listing`], [`check`] and [`chance`] take the block of a
-//! word graph ([`Graph`](crate::Graph)) as well as that of an utterance of slots; to every other function a graph is a block of
-//! another kind, [`UtteranceKind`](Refusal::UtteranceKind).
+//! turn into them, and [`limits`](crate::limits) says how long they are. [`listing`], [`panel_listing`], [`check`] and [`chance`]
+//! take the block of a word graph ([`Graph`](crate::Graph)) as well as that of an utterance of slots; to every other function a
+//! graph is a block of another kind, [`UtteranceKind`](Refusal::UtteranceKind).
 
 #![expect(unsafe_code, reason = "the library has a C interface")]
 
@@ -64,6 +64,17 @@ extern "C" {
         out_len: usize,
     ) -> i32;
     fn spireyerba_listing(
+        grammar: *const u8,
+        grammar_len: usize,
+        utterance: *const u8,
+        utterance_len: usize,
+        wanted: u32,
+        work: *mut u32,
+        work_len: usize,
+        out: *mut u8,
+        out_len: usize,
+    ) -> i32;
+    fn spireyerba_panel_listing(
         grammar: *const u8,
         grammar_len: usize,
         utterance: *const u8,
@@ -387,6 +398,53 @@ pub fn listing(
     // SAFETY: the slices are borrowed until the call returns, `work` and `out` for it alone.
     answer(unsafe {
         spireyerba_listing(
+            grammar.as_ptr(),
+            grammar.len(),
+            utterance.as_ptr(),
+            utterance.len(),
+            wanted,
+            work.as_mut_ptr(),
+            work.len(),
+            out.as_mut_ptr(),
+            out.len(),
+        )
+    })
+}
+
+/// Lists as [`listing`] does, within the limits of a panel for plan desks.
+///
+/// Takes what [`listing`] takes, of at most [`PANEL_MAX_SLOTS`](crate::limits::PANEL_MAX_SLOTS) slots, or
+/// [`PANEL_MAX_PLACES`](crate::limits::PANEL_MAX_PLACES) places of a word graph, and at most
+/// [`PANEL_MAX_READINGS`](crate::limits::PANEL_MAX_READINGS) for `wanted`. Within these limits its answer is that of [`listing`],
+/// and it leaves the same numbers in `work` and the same bytes in `out`. A `work` of
+/// [`PANEL_WORK_MAX`](crate::limits::PANEL_WORK_MAX) numbers and an `out` of
+/// [`PANEL_OUTPUT_MAX`](crate::limits::PANEL_OUTPUT_MAX) bytes always suffice.
+///
+/// Refuses with 1 to 7 for the grammar; with 11 to 16, [`EdgePlaces`](Refusal::EdgePlaces) or
+/// [`EdgeRepeat`](Refusal::EdgeRepeat) for what was heard; then with [`PanelSlots`](Refusal::PanelSlots),
+/// [`ListingWanted`](Refusal::ListingWanted), [`PanelWanted`](Refusal::PanelWanted), [`ListingWork`](Refusal::ListingWork),
+/// [`ListingOutput`](Refusal::ListingOutput).
+///
+/// ```
+/// use spireyerba::{services::panel_listing, Refusal};
+///
+/// let grammar = [0x10, 0x40, 0x40, 0x40, 0x00, 0x09, 0x00, 0x00, 0x00];
+/// let utterance = [0x21, 0x08, 0x00, 0x00, 0x80, 0x00, 0x08, 0x00, 0x00, 0x80, 0x00, 0x00];
+/// let (mut work, mut out) = ([0; 640], [0; 96]);
+/// assert_eq!(panel_listing(&grammar, &utterance, 16, &mut work, &mut out), Ok(5));
+/// assert_eq!(panel_listing(&grammar, &utterance, 17, &mut work, &mut out), Err(Refusal::PanelWanted));
+/// assert_eq!(panel_listing(&grammar, &utterance, 257, &mut work, &mut out), Err(Refusal::ListingWanted));
+/// ```
+pub fn panel_listing(
+    grammar: &[u8],
+    utterance: &[u8],
+    wanted: u32,
+    work: &mut [u32],
+    out: &mut [u8],
+) -> Result<usize, Refusal> {
+    // SAFETY: the slices are borrowed until the call returns, `work` and `out` for it alone.
+    answer(unsafe {
+        spireyerba_panel_listing(
             grammar.as_ptr(),
             grammar.len(),
             utterance.as_ptr(),

@@ -60,6 +60,9 @@ fn sizes() {
         ("MAX_SHARE", MAX_SHARE),
         ("MAX_READINGS", MAX_READINGS),
         ("MAX_PHRASE", MAX_PHRASE),
+        ("PANEL_MAX_SLOTS", PANEL_MAX_SLOTS),
+        ("PANEL_MAX_PLACES", PANEL_MAX_PLACES),
+        ("PANEL_MAX_READINGS", PANEL_MAX_READINGS),
     ];
     let lengths = [
         ("GRAMMAR_BLOCK_MAX", GRAMMAR_BLOCK_MAX),
@@ -69,6 +72,8 @@ fn sizes() {
         ("GRAPH_READING_BLOCK_MAX", GRAPH_READING_BLOCK_MAX),
         ("GRAMMAR_SHEET_MAX", GRAMMAR_SHEET_MAX),
         ("UTTERANCE_SHEET_MAX", UTTERANCE_SHEET_MAX),
+        ("PANEL_WORK_MAX", PANEL_WORK_MAX),
+        ("PANEL_OUTPUT_MAX", PANEL_OUTPUT_MAX),
     ];
     let all = limits.map(|(name, number)| (name, number as usize)).into_iter().chain(lengths);
     assert_eq!(all.map(|(name, number)| (name.to_owned(), number)).collect::<BTreeMap<_, _>>(), numbers(false));

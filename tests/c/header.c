@@ -150,6 +150,19 @@ int main(void) {
     answer = spireyerba_listing(marked_block, LENGTH(marked_block), u_block, LENGTH(u_block), 8, work, LENGTH(work), block, 48);
     expect(answer == 5 && memcmp(block, reading, LENGTH(reading)) == 0, "with marks the readings are the same");
 
+    fill_outputs();
+    memset(work, 0xa5, sizeof work);
+    answer = spireyerba_panel_listing(g_block, LENGTH(g_block), u_block, LENGTH(u_block), 8, work, LENGTH(work), block, 48);
+    expect(answer == 5 && memcmp(block, reading, LENGTH(reading)) == 0 && block[5 * LENGTH(reading)] == 0xa5 && work[0] == 0,
+           "the panel finds the same five");
+    answer = spireyerba_panel_listing(g_block, LENGTH(g_block), u_block, LENGTH(u_block), SPIREYERBA_PANEL_MAX_READINGS + 1, work,
+                                      LENGTH(work), block, LENGTH(block));
+    expect(answer == -SPIREYERBA_PANEL_WANTED, "the panel does not list 17 readings");
+    expect(spireyerba_work_length(32, SPIREYERBA_PANEL_MAX_SLOTS, SPIREYERBA_PANEL_MAX_READINGS) == SPIREYERBA_PANEL_WORK_MAX &&
+               SPIREYERBA_PANEL_MAX_READINGS * spireyerba_graph_reading_length(SPIREYERBA_PANEL_MAX_PLACES - 1, 256) ==
+                   SPIREYERBA_PANEL_OUTPUT_MAX,
+           "the panel's greatest sizes are by the same formulas");
+
     answer = spireyerba_utterance_to_block(g_block, LENGTH(g_block), silent_sheet, LENGTH(silent_sheet), silent_block,
                                            LENGTH(silent_block));
     expect(answer == (int32_t)LENGTH(silent_block), "an utterance of which nothing was heard packs as any other");

@@ -1,5 +1,6 @@
 //! The files of examples/ belong together: texts and sheets, blocks, and lists of readings.
 
+use spireyerba::limits::{PANEL_OUTPUT_MAX, PANEL_WORK_MAX};
 use spireyerba::text::{parse_sheet, print_list, NamedGrammar, UtteranceReader};
 use spireyerba::{services, Grammar, Graph, Reading, Utterance};
 use spireyerba_tests::chance::chance;
@@ -30,6 +31,16 @@ fn expect(folder: &str, grammar: &Grammar, utterance: &Utterance) {
     let readings = text(folder, "readings.txt");
     assert_eq!(print_list(&least(grammar, utterance, 8)), readings);
     assert_eq!(grammar.list(utterance, 8).map(|list| print_list(&list)), Ok(readings));
+    expect_panel(&grammar_block, &utterance_block);
+}
+
+/// The panel lists an example as the library does, to the byte.
+fn expect_panel(grammar: &[u8], heard: &[u8]) {
+    let [library, panel] = [services::listing, services::panel_listing].map(|service| {
+        let (mut work, mut out) = (vec![7; PANEL_WORK_MAX], vec![7; PANEL_OUTPUT_MAX]);
+        (service(grammar, heard, 8, &mut work, &mut out), work, out)
+    });
+    assert!(library.0.is_ok_and(|found| found > 0) && library == panel);
 }
 
 /// The chances are these, in both implementations.
@@ -83,6 +94,7 @@ fn the_door_schedule_as_a_graph() {
     assert_eq!(print_list(list.iter().map(|found| &found.reading)), readings);
     assert_eq!(Graph::from_block(&grammar_block, &block).as_ref(), Ok(&graph));
     assert_eq!(named.grammar.list_graph(&graph, 8), Ok(list));
+    expect_panel(&grammar_block, &block);
     let mut reader = UtteranceReader::new(&named);
     reader.scale = Some(100.0);
     assert_eq!(reader.read_graph(&text(FOLDER, "lattice.slf")), Ok(graph.clone()));
@@ -109,4 +121,5 @@ fn the_door_schedule_of_an_office() {
     assert_eq!(marked.grammar.list(&utterance, 8).map(print), Ok(readings.clone()));
     let weights = |list: &str| list.lines().map(|line| line.split(' ').nth(1).map(str::to_owned)).collect::<Vec<_>>();
     assert_eq!(weights(&readings), weights(&text("doors", "readings.txt")));
+    expect_panel(&block, &heard);
 }

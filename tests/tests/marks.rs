@@ -159,6 +159,7 @@ fn answers(grammar: &[u8], symbols: u32, heard: &Heard, block: &[u8]) -> Vec<(Re
         all.push((service(&mut out), out));
     };
     call(&mut |out| services::listing(grammar, block, 9, &mut work, out));
+    call(&mut |out| services::panel_listing(grammar, block, 9, &mut work, out));
     call(&mut |out| services::specimen(grammar, 3, out).map(usize::from));
     call(&mut |out| services::next_phrase(grammar, 3, false, out).map(usize::from));
     let readings = all[0].1.clone();

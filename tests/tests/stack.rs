@@ -3,6 +3,7 @@
 
 use spireyerba::limits::{work_length, GRAMMAR_BLOCK_MAX, GRAMMAR_SHEET_MAX, GRAPH_BLOCK_MAX, GRAPH_READING_BLOCK_MAX};
 use spireyerba::limits::{MAX_READINGS, MAX_RULES, READING_BLOCK_MAX, UTTERANCE_BLOCK_MAX, UTTERANCE_SHEET_MAX};
+use spireyerba::limits::{PANEL_MAX_READINGS, PANEL_OUTPUT_MAX, PANEL_WORK_MAX};
 use spireyerba::{services, Body, Candidate, Edge, Grammar, Graph, Item, MarkedGrammar, Office, OfficeRule, Refusal};
 use spireyerba::{Rule, Utterance};
 use std::thread;
@@ -29,10 +30,10 @@ fn grammar(first: u32, second: u32) -> Grammar {
     Grammar { symbols: 32, words: 200, rules: bodies.into_iter().enumerate().map(rule).collect() }
 }
 
-/// 24 slots that offer seven words each.
-fn utterance() -> Utterance {
+/// So many slots that offer seven words each.
+fn utterance(slots: u32) -> Utterance {
     let slot = |slot| (0..7).map(|word| Candidate { word, cost: slot * word }).collect();
-    Utterance { slots: (0..24).map(slot).collect() }
+    Utterance { slots: (0..slots).map(slot).collect() }
 }
 
 fn expect_answers(grammar: &Grammar, utterance: &Utterance) {
@@ -118,6 +119,17 @@ fn office_sheets_of_the_greatest_sizes() {
 #[test]
 fn every_service_at_its_greatest_sizes() {
     for (first, second) in [(0, 1), (1, 0)] {
-        expect_answers(&grammar(first, second), &utterance());
+        expect_answers(&grammar(first, second), &utterance(24));
+    }
+}
+
+#[test]
+fn the_panel_at_its_greatest_sizes() {
+    for (first, second) in [(0, 1), (1, 0)] {
+        let grammar = grammar(first, second).to_block().expect("an accepted grammar");
+        let block = utterance(12).to_block(&grammar).expect("an accepted utterance");
+        let (mut work, mut out) = (vec![7; PANEL_WORK_MAX], vec![7; PANEL_OUTPUT_MAX]);
+        let list = || services::panel_listing(&grammar, &block, PANEL_MAX_READINGS, &mut work, &mut out);
+        assert_eq!(on_small_stack(list), Ok(PANEL_MAX_READINGS as usize));
     }
 }

@@ -36,9 +36,9 @@ pub struct Listed {
     pub heard: Heard,
     pub readings: Vec<Reading>,
     /// The path of each reading of a word graph.
-    paths: Vec<Vec<u32>>,
+    pub paths: Vec<Vec<u32>>,
     /// The slot of each edge, if the graph was drawn so that slots may be passed over.
-    slots: Option<Vec<u32>>,
+    pub slots: Option<Vec<u32>>,
 }
 
 impl Listed {
@@ -103,7 +103,7 @@ fn json_of(listed: &Listed) -> Vec<u8> {
     line
 }
 
-fn print(listed: &Listed, with_trees: bool, output: &mut Output) -> Result<(), Failure> {
+pub fn print(listed: &Listed, with_trees: bool, output: &mut Output) -> Result<(), Failure> {
     if listed.readings.is_empty() {
         eprintln!("no reading: the grammar derives nothing of what was heard");
     }

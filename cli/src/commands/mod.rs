@@ -5,6 +5,7 @@ mod check;
 mod lint;
 pub mod list;
 mod pack;
+mod panel;
 mod phrases;
 mod pick;
 mod ranges;
@@ -41,6 +42,7 @@ impl std::fmt::Debug for Command {
 /// All of them, in the order of the help.
 pub const COMMANDS: &[Command] = &[
     list::COMMAND,
+    panel::COMMAND,
     pick::COMMAND,
     why::COMMAND,
     report::COMMAND,

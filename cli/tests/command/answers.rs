@@ -195,6 +195,22 @@ fn pack_and_unpack_a_reading() {
 }
 
 #[test]
+fn the_panel_lists_as_list_does() {
+    for heard in ["utterance.txt", "../doors_graph/graph.txt"] {
+        for options in ["", "-n 16", "-n 3 --tree"] {
+            assert_eq!(
+                answer(&format!("panel grammar.txt {heard} {options}")),
+                answer(&format!("list grammar.txt {heard} {options}"))
+            );
+        }
+    }
+    let many = refused(run("panel grammar.txt utterance.txt -n 17"), 1);
+    assert_eq!(many, "refused 58: the panel lists at most 16 readings\n");
+    let long = run_with(&doors(), "panel grammar.txt -", "door 0;".repeat(13).trim_end_matches(';').as_bytes());
+    assert_eq!(refused(long, 1), "refused 57: the panel takes at most 12 slots, or 13 places of a word graph\n");
+}
+
+#[test]
 fn specimen_of_a_length() {
     assert_eq!(answer("specimen grammar.txt 3"), "door twenty oak\n");
     assert_eq!(answer("specimen grammar.txt 4"), "door twenty four oak\n");

@@ -1,7 +1,10 @@
 // The checked examples of document 01 that are not marked P, of G and U with N = 8: 320 numbers of work table are enough, 319
 // are not; 48 bytes of output are enough, 47 are not; other N; another G. Where a case is not about them, both are longer.
+// Then those of the panel (document 02, N8), of G with slots and with word graphs.
 use libc::STDOUT_FILENO;
 use listing::Listed;
+use listing::PANEL;
+use listing::listing_within;
 ghost use Prim.Native.Nat.{_≤_};
 
 fn print(text: &[u8]) {
@@ -39,6 +42,49 @@ fn run(name: &[u8], last: u8, wanted: u32, numbers: usize, bytes: usize)
     print_answer(name, answer);
 }
 
+// A line for the panel's listing of what was heard under G, lent so many numbers and bytes, which are full of noise.
+fn run_panel(name: &[u8], heard: &[u8], wanted: u32, numbers: usize, bytes: usize)
+    requires { ⌜ (numbers ≤ 4993) × (bytes ≤ 289) ⌝ }
+{
+    let g = [16u8, 64, 64, 64, 0, 9, 0, 0, 0];
+    let mut work = [12345u32; 4993];
+    let mut out = [123u8; 289];
+    let answer = listing_within(
+        PANEL,
+        &g,
+        heard,
+        wanted,
+        &mut work[..numbers],
+        &mut out[..bytes],
+    );
+    print_answer(name, answer);
+}
+
+// The same of twelve slots of word 0 at cost 0, and of thirteen.
+fn run_twelve(name: &[u8], wanted: u32, numbers: usize, bytes: usize)
+    requires { ⌜ (numbers ≤ 4993) × (bytes ≤ 289) ⌝ }
+{
+    let twelve =
+        b"\x23\x08\x00\x00\x80\x00\x08\x00\x00\x80\x00\x08\x00\x00\x80\x00\x08\x00\x00\x80\x00\x08\x00\x00\x80\x00\x08\x00\x00\x80\x00\x00";
+    run_panel(name, twelve, wanted, numbers, bytes);
+}
+
+fn run_thirteen(name: &[u8], wanted: u32) {
+    let thirteen =
+        b"\x23\x48\x00\x00\x80\x00\x08\x00\x00\x80\x00\x08\x00\x00\x80\x00\x08\x00\x00\x80\x00\x08\x00\x00\x80\x00\x08\x00\x00\x80\x00\x08\x00\x00";
+    run_panel(name, thirteen, wanted, 4993, 289);
+}
+
+// The same of thirteen places with word 0 at cost 0 over each step, and of fourteen.
+fn run_places() {
+    let thirteen =
+        b"\x56\x8c\x00\x40\x00\x01\x10\x00\x00\x43\x00\x00\x0c\x80\x00\x02\x14\x00\x00\x53\x00\x00\x0c\x70\x00\x01\xd0\x00\x00\x42\x40\x00\x09\x50\x00\x01\x4b\x00\x00\x2d\x80\x00\x00";
+    let fourteen =
+        b"\x57\x0d\x00\x40\x00\x01\x10\x00\x00\x43\x00\x00\x0c\x80\x00\x02\x14\x00\x00\x53\x00\x00\x0c\x70\x00\x01\xd0\x00\x00\x42\x40\x00\x09\x50\x00\x01\x4b\x00\x00\x2d\x80\x00\x06\x34\x00\x00";
+    run_panel(b"13 places, N 16", thirteen, 16, 4992, 288);
+    run_panel(b"14 places, N 16", fourteen, 16, 4993, 289);
+}
+
 fn main() {
     run(b"work 320", 0, 8, 320, 49);
     run(b"work 319", 0, 8, 319, 49);
@@ -47,4 +93,16 @@ fn main() {
     run(b"N 0", 0, 0, 321, 49);
     run(b"N 257", 0, 257, 321, 49);
     run(b"G ending in 01", 1, 8, 321, 49);
+    run_twelve(b"12 slots, N 16, work 4992", 16, 4992, 289);
+    run_twelve(b"12 slots, N 16, work 4991", 16, 4991, 289);
+    run_twelve(b"12 slots, N 16, output 128", 16, 4993, 128);
+    run_twelve(b"12 slots, N 16, output 127", 16, 4993, 127);
+    run_twelve(b"12 slots, N 17", 17, 4993, 289);
+    run_twelve(b"12 slots, N 256", 256, 4993, 289);
+    run_twelve(b"12 slots, N 0", 0, 4993, 289);
+    run_twelve(b"12 slots, N 257", 257, 4993, 289);
+    run_thirteen(b"13 slots, N 16", 16);
+    run_thirteen(b"13 slots, N 0", 0);
+    run_thirteen(b"13 slots, N 300", 300);
+    run_places();
 }

@@ -5,11 +5,11 @@ use mathlib.Core.List.{List}
 use Prim.Native.Nat.{ℕ}
 use lib.Dec.{ltb}
 use lib.ListN.{length}
-use Rattle.packing.specs.Rows.{_∪_, GrammarBlockRow, UtteranceBlockRow}
+use Rattle.packing.specs.Rows.{_∪_, GrammarBlockRow, UtteranceBlockRow, RangesRow}
 use Rattle.packing.proofs.Refusals.{Refuses, granted, denied, wider, then-row, choose-row, grammar-block-row, utterance-block-row}
 use Rattle.cost_changes.specs.Ranges.{rises}
 use Rattle.listing.specs.Listing.{tableSize}
-use Rattle.cost_ranges.specs.CostRanges.{RangesRow, ranged, ranges}
+use Rattle.cost_ranges.specs.CostRanges.{ranged, ranges}
 
 pub ranges-row : (grammar low high : List ℕ) (work : ℕ) → Refuses (GrammarBlockRow ∪ UtteranceBlockRow ∪ RangesRow) (ranges grammar low high work)
 unfolding ranges ranged

@@ -1,7 +1,6 @@
 -- Costs known within ranges: document 02, N11, with the rows grammar block and utterance block of document 01's "Where each check stands".
 -- Stands on packing's definitions, on cost_changes' Ranges and on the listing's size of a table.
 use mathlib.Core.Path.{_≡_}
-use mathlib.Core.Logic.{_⊎_}
 use mathlib.Core.Bool.{true}
 use mathlib.Core.List.{List}
 use Prim.Native.Nat.{ℕ, _≤_}
@@ -17,10 +16,6 @@ use Rattle.cost_changes.specs.Passes.{answer}
 use Rattle.listing.specs.Listing.{tableSize}
 use Rattle.cost_ranges.specs.declared.Ranged.{Ranged}
 use Rattle.cost_ranges.specs.declared.Ranged.the-variants.{Nothing, Outweighed, Stands, Refused}
-
--- "59 the blocks differ elsewhere than in costs, a cost falls from low to high, or 65,535 stands in one only, .. and before 22 for one reading"
-abbrev pub RangesRow : ℕ → Type 0
-RangesRow n = (n ≡ 59) ⊎ (n ≡ 22)
 
 -- 59, and then 22 for one reading, of a grammar and of the utterances with low and high costs, all accepted; then the answer
 unfoldable pub ranged : Grammar → Utterance → Utterance → ℕ → Verdict Answer

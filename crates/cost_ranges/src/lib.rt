@@ -50,8 +50,6 @@ struct Pass {
     table: Layout,
 }
 
-const DIFFERENT: u32 = 59;
-
 // One reading is looked for in each pass.
 const ONE: usize = 1;
 
@@ -248,7 +246,7 @@ fn ranges_edges(
     if both_rise(&low[..], heard, high, other) {
         return ranges_alike(rules, sizes, low, high, heard, work);
     }
-    Ranged::Refused(DIFFERENT)
+    Ranged::Refused(refused::COST_RANGES)
 }
 
 // The answer for an utterance whose edges are in an array and a block of high costs.

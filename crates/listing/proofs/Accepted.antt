@@ -1,4 +1,4 @@
--- With enough work table and output the listing accepts. Of a valid grammar and what was heard, valid too, every reading has the length
+-- Within the limits and with enough work table and output the listing accepts. Of a valid grammar and what was heard, valid too, every reading has the length
 -- L, since each in the list is a derivation's.
 use mathlib.Core.Path.{_≡_, refl, _∙_}
 use mathlib.Core.List.{List, [], _∷_, map}
@@ -6,7 +6,7 @@ use Prim.Native.Nat.{ℕ, suc, _*_, _≤_, min}
 use native.Mathlib.Omega.{arith}
 use lib.Dec.{ltb}
 use lib.ListN.{length, length-map, length-take}
-use borrow.Author.Tests.{le-ltb}
+use borrow.Author.Tests.{le-ltb, ltb-false}
 use Rattle.packing.specs.Meaning.{Grammar, Heard, lastPlace}
 use Rattle.packing.specs.Parse.{Verdict, accepted, refused}
 use Rattle.packing.specs.Grammar.{grammarBlock}
@@ -21,6 +21,7 @@ use Rattle.derivation.proofs.Lists.{map-at}
 use Rattle.derivation.proofs.Ranges.{All}
 use Rattle.derivation.proofs.HeardTheorems.{least-length, least-element, output-bytes}
 use Rattle.listing.specs.Listing.{tableSize, listed, list, listedOf}
+use Rattle.listing.specs.declared.Limits.{Limits}
 use Rattle.listing.specs.declared.Listed.{Listed}
 use Rattle.listing.specs.declared.Listed.the-variants.{Found}
 use Rattle.listing.proofs.Joined.{Sized}
@@ -43,31 +44,53 @@ module _ (g : Grammar) (h : Heard) (N : ℕ) where
         let (t, at, is) = map-at (packed g h) (leastDerivations g h N) k e in
         rw is (output-bytes g h okg okh t (least-element g h N k t .0 at .0))
 
-  pub listing-accepts : (work out : ℕ) → 1 ≤ N → N ≤ 256 → tableSize (g .symbols) (lastPlace h) N ≤ work → N * outputLength g h ≤ out
-      → listed g h N work out ≡ accepted blocks
+  pub listing-accepts : (l : Limits) (work out : ℕ) → lastPlace h ≤ l .slots → N ≤ l .readings → 1 ≤ N → N ≤ 256
+      → tableSize (g .symbols) (lastPlace h) N ≤ work → N * outputLength g h ≤ out → listed l g h N work out ≡ accepted blocks
   unfolding listed
-  listing-accepts work out h₁ h₂ h₃ h₄ = rw (
+  listing-accepts l work out slots readings h₁ h₂ h₃ h₄ = rw (
+    le-ltb (l .slots) (lastPlace h) slots,
     le-ltb N 1 h₁,
     le-ltb 256 N h₂,
+    le-ltb (l .readings) N readings,
     le-ltb work (tableSize (g .symbols) (lastPlace h) N) h₃,
     le-ltb out (N * outputLength g h) h₄,
   )
 
--- what the listing answers that it found is never more than was asked for
-accepted-few : (grammar heard : List ℕ) (N work out : ℕ) {ls : List (List ℕ)} → list grammar heard N work out ≡ accepted ls → length ls ≤ N
-unfolding list listed
-accepted-few grammar heard N work out e =
+-- what was asked for and lent, where the listing accepted
+pub record Asks (g : Grammar) (h : Heard) (N work out : ℕ) : Type 0 where
+  pub positive : 1 ≤ N
+  pub few : N ≤ 256
+  pub table : tableSize (g .symbols) (lastPlace h) N ≤ work
+  pub room : N * outputLength g h ≤ out
+
+pub accepted-asks : (l : Limits) (g : Grammar) (h : Heard) (N work out : ℕ) {ls : List (List ℕ)} → listed l g h N work out ≡ accepted ls
+    → Asks g h N work out × (blocks g h N ≡ ls)
+unfolding listed
+accepted-asks l g h N work out e =
+    let (_, e₀) = accepted-else (ltb (l .slots) (lastPlace h)) 57 _ e in
+    let (n₁, e₁) = accepted-else (ltb N 1) 21 _ e₀ in
+    let (n₂, e₂) = accepted-else (ltb 256 N) 21 _ e₁ in
+    let (_, e₃) = accepted-else (ltb (l .readings) N) 58 _ e₂ in
+    let (n₄, e₄) = accepted-else (ltb work (tableSize (g .symbols) (lastPlace h) N)) 22 _ e₃ in
+    let (n₅, e₅) = accepted-else (ltb out (N * outputLength g h)) 23 _ e₄ in (
+      record { positive = ltb-false _ _ n₁; few = ltb-false _ _ n₂; table = ltb-false _ _ n₄; room = ltb-false _ _ n₅ },
+      accepted-is e₅,
+    )
+
+-- what the listing answers that it found is never more than was asked for, and that at most 256
+pub accepted-few : (l : Limits) (grammar heard : List ℕ) (N work out : ℕ) {ls : List (List ℕ)} → list l grammar heard N work out ≡ accepted ls
+    → (length ls ≤ N) × (N ≤ 256)
+unfolding list
+accepted-few l grammar heard N work out e =
     granted (grammarBlock grammar) _ e λ g p e.
     granted (heardBlock (g .words) heard) _ e λ h q e.
-    let e₁ = accepted-else (ltb N 1) 21 _ e .1 in
-    let e₂ = accepted-else (ltb 256 N) 21 _ e₁ .1 in
-    let e₃ = accepted-else (ltb work (tableSize (g .symbols) (lastPlace h) N)) 22 _ e₂ .1 in
-    let e₄ = accepted-else (ltb out (N * outputLength g h)) 23 _ e₃ .1 in
-    rw (← accepted-is e₄) (simp (length-map, length-take) (omega arith))
+    let (asks, same) = accepted-asks l g h N work out e in
+    (rw (← same) (simp (length-map, length-take) (omega arith)), asks .few)
 
-pub found-few : (grammar heard : List ℕ) (N work out : ℕ) {r : Listed} {m : ℕ} → r ≡ listedOf (list grammar heard N work out) → r ≡ Found m → m ≤ N
-found-few grammar heard N work out {r} {m} p q = go (list grammar heard N work out) refl p
+pub found-few : (l : Limits) (grammar heard : List ℕ) (N work out : ℕ) {r : Listed} {m : ℕ} → r ≡ listedOf (list l grammar heard N work out)
+    → r ≡ Found m → m ≤ N
+found-few l grammar heard N work out {r} {m} p q = go (list l grammar heard N work out) refl p
   where
-    go : (v : Verdict (List (List ℕ))) → list grammar heard N work out ≡ v → r ≡ listedOf v → m ≤ N
-    go (accepted ls) e a = let same : length ls ≡ m = cc in rw (← same) (accepted-few grammar heard N work out e)
+    go : (v : Verdict (List (List ℕ))) → list l grammar heard N work out ≡ v → r ≡ listedOf v → m ≤ N
+    go (accepted ls) e a = let same : length ls ≡ m = cc in rw (← same) (accepted-few l grammar heard N work out e .0)
     go (refused n) e a = let z : _≡_ {A = ℕ} 0 1 = cc in absurd (omega arith)

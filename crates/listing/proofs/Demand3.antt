@@ -19,10 +19,12 @@ use Rattle.derivation.specs.HeardList.{leastDerivations}
 use Rattle.derivation.specs.Order.{Before}
 use Rattle.derivation.specs.Rank.{Rank}
 use Rattle.derivation.proofs.Lists.{at-map, length-at}
+use Rattle.derivation.proofs.HeardReadings.{heard-last}
 use Rattle.derivation.proofs.HeardTheorems.{finitely-many, one-comes-before, never-both, least-element, readings-differ}
-use Rattle.listing.specs.Listing.{joined, list, listedOf, outputAfter, workAfter}
+use Rattle.listing.specs.Listing.{library, Within, joined, list, listedOf, outputAfter, workAfter}
 use Rattle.listing.specs.Demand3.{kthBytes, Ranked, Either, Demand3}
 use Rattle.listing.specs.Model.{Promised}
+use Rattle.listing.specs.declared.Limits.{Limits}
 use Rattle.listing.specs.declared.Listed.{Listed}
 use Rattle.listing.specs.declared.Listed.the-variants.{Found}
 use Rattle.listing.proofs.Joined.{length-joined, joined-at}
@@ -70,18 +72,19 @@ module _ (g : Grammar) (h : Heard) (okg : ValidGrammar g) (okh : ValidHeard (g .
       let n = length-joined L ls (sized-blocks g h N okg okh) in
       drop-at (joined ls) (drop (length (joined ls)) out) (length ls * L) n ∙ rw n
 
-module _ (grammar heard : List ℕ) (N : ℕ) (work out : List ℕ) where
+module _ (l : Limits) (grammar heard : List ℕ) (N : ℕ) (work out : List ℕ) where
   abbrev due : Verdict (List (List ℕ))
-  due = list grammar heard N (length work) (length out)
+  due = list l grammar heard N (length work) (length out)
 
-  -- where the answer and both slices are what is due, demand 3 is met
+  -- where the answer and both slices are what is due, within the limits demand 3 is met
   pub demand-3 : (AnswerIs : ℕ → Type 0) → ((ls : List (List ℕ)) → due ≡ accepted ls → AnswerIs (length ls)) → (work′ out′ : List ℕ)
-      → work′ ≡ workAfter due work → out′ ≡ outputAfter due out → Demand3 grammar heard N work out AnswerIs work′ out′
+      → work′ ≡ workAfter due work → out′ ≡ outputAfter due out → Within l grammar heard N → Demand3 grammar heard N work out AnswerIs work′ out′
   unfolding list
-  demand-3 AnswerIs answers work′ out′ works writes g p h q h₁ h₂ h₃ h₄ =
+  demand-3 AnswerIs answers work′ out′ works writes within g p h q h₁ h₂ h₃ h₄ =
       let okg = grammar-block-out grammar g p .0 in
       let okh = heard-block-out (g .words) heard h q .0 in
-      let met : due ≡ accepted (blocks g h N) = rw (p, q) (listing-accepts g h N (length work) (length out) h₁ h₂ h₃ h₄) in
+      let met : due ≡ accepted (blocks g h N) = rw (p, q)
+      (listing-accepts g h N l (length work) (length out) (within .slots g h p q) (within .readings) h₁ h₂ h₃ h₄) in
       let writes : out′ ≡ outputAfter (accepted (blocks g h N)) out = rw met at writes in
       record {
         different = readings-differ g h okg okh;
@@ -96,9 +99,19 @@ module _ (grammar heard : List ℕ) (N : ℕ) (work out : List ℕ) where
         zeros = rw met at works;
       }
 
-  -- the promises of `listing`: its answer and both slices, and so demand 3
+  -- the promises of `listing_within`: its answer and both slices, and so demand 3
   pub promised : (r : Listed) (work′ out′ : List ℕ) → Promised due work out r work′ out′
       → (r ≡ listedOf due) × ((work′ ≡ workAfter due work) × ((out′ ≡ outputAfter due out)
-      × Demand3 grammar heard N work out (λ m. r ≡ Found m) work′ out′))
+      × (Within l grammar heard N → Demand3 grammar heard N work out (λ m. r ≡ Found m) work′ out′)))
   promised r work′ out′ (answers, (works, writes)) =
       (answers, (works, (writes, demand-3 (λ m. r ≡ Found m) (λ ls e. rw e at answers) work′ out′ works writes)))
+
+-- of the library it holds outright: every accepted block is within its slots
+pub in-library : (grammar heard : List ℕ) (N : ℕ) (work out : List ℕ) (AnswerIs : ℕ → Type 0) (work′ out′ : List ℕ)
+    → (Within library grammar heard N → Demand3 grammar heard N work out AnswerIs work′ out′) → Demand3 grammar heard N work out AnswerIs work′ out′
+in-library grammar heard N work out AnswerIs work′ out′ due g p h q h₁ h₂ h₃ h₄ =
+    let within : Within library grammar heard N = record {
+      slots = λ g h p q. heard-last (g .words) h (heard-block-out (g .words) heard h q .0);
+      readings = h₂;
+    } in
+    due within g p h q h₁ h₂ h₃ h₄

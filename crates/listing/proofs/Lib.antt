@@ -6,3 +6,4 @@ pub mod Written
 pub mod Outcome
 pub mod Demand3
 pub mod Refused
+pub mod Within

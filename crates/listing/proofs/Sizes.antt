@@ -1,16 +1,19 @@
--- The sizes that the listing computes with are small, and what is short decides between a refusal and acceptance.
+-- The sizes that the listing computes with are small, and what is beyond the limits or short decides between a refusal and acceptance.
 use mathlib.Core.Path.{_≡_, refl, _∙_}
 use mathlib.Core.Bool.{Bool, true, false}
-use Prim.Native.Nat.{ℕ, _+_, _*_, _/_, _≤_}
+use Prim.Native.Nat.{ℕ, _+_, _-_, _*_, _/_, _≤_}
 use native.Mathlib.Nat.{mul-le-mul, mul-assoc}
 use native.Mathlib.Omega.{arith}
 use lib.Dec.{ltb}
 use lib.ListN.{length}
 use borrow.Author.Tests.{ltb-false}
 use Rattle.bits.specs.Bits.{pick}
+use Rattle.bits.specs.Width.{widthOf}
 use Rattle.packing.specs.Meaning.{Grammar, Heard, slots, graph, lastPlace}
 use Rattle.packing.specs.Parse.{refused}
-use Rattle.packing.proofs.Widths.{length-small}
+use Rattle.packing.specs.Reading.{readingLength}
+use Rattle.packing.specs.GraphReading.{graphReadingLength}
+use Rattle.packing.proofs.Widths.{byte-width, length-small}
 use Rattle.packing.proofs.GraphReading.{graph-length-small}
 use Rattle.derivation.specs.Heard.{outputLength}
 use Rattle.heard_reader.specs.Answer.{isGraph}
@@ -18,6 +21,8 @@ use Rattle.chart_table.specs.declared.Layout.{Layout}
 use Rattle.chart.specs.Chart.{layOut}
 use Rattle.listing.specs.Listing.{tableSize, listed}
 use Rattle.listing.specs.Model.{firstRefusal, shortage, sizeOf}
+use Rattle.listing.specs.declared.Asked.{Asked}
+use Rattle.listing.specs.declared.Limits.{Limits}
 
 -- four numbers for each rank of each cell
 pub table-is : (S n N : ℕ) {d : Layout} {r : ℕ} → d ≡ layOut S n N → r ≡ 4 * d .cells * d .ranks → r ≡ tableSize S n N
@@ -40,35 +45,82 @@ size-is g (graph h) = refl
 pub output-small : {N size : ℕ} → N ≤ 256 → size ≤ 73 → N * size ≤ 18688
 output-small h k = mul-le-mul {n₂ = 256} {m₂ = 73} h k
 
--- where nothing is short
-pub record Met (S n L N work out : ℕ) : Type 0 where
-  pub positive : 1 ≤ N
-  pub few : N ≤ 256
-  pub table : tableSize S n N ≤ work
-  pub room : N * L ≤ out
+-- Within limits nothing needs more than the limits themselves do: of the table, with 32 symbols, and of a reading, with 256 rules, in a graph, whose
+-- readings are the longer ones.
+abbrev pub mostNumbers : Limits → ℕ
+mostNumbers l = tableSize 32 (l .slots) (l .readings)
 
-pub all-met : (S n L N work out : ℕ) → shortage S n L N work out ≡ 0 → Met S n L N work out
-unfolding shortage
-all-met S n L N work out = go (ltb N 1) (ltb 256 N) (ltb work (tableSize S n N)) (ltb out (N * L)) refl refl refl refl
+abbrev pub mostBytes : Limits → ℕ
+mostBytes l = l .readings * ((34 + (2 * l .slots - 1) * 8 + 7 * l .slots + 7) / 8)
+
+pub table-within : (l : Limits) {S n N : ℕ} → S ≤ 32 → n ≤ l .slots → N ≤ l .readings → tableSize S n N ≤ mostNumbers l
+unfolding tableSize
+table-within l {S} {n} h p q =
+    let spans : n * (n + 1) ≤ l .slots * (l .slots + 1) = mul-le-mul p (omega arith) in
+    let halved : n * (n + 1) / 2 ≤ l .slots * (l .slots + 1) / 2 = omega (arith, spans) in
+    let cells : 4 * S * (n * (n + 1) / 2) ≤ 4 * 32 * (l .slots * (l .slots + 1) / 2) = mul-le-mul (omega arith) halved in
+    mul-le-mul cells q
+
+size-within : (s : ℕ) (b : Bool) {n R : ℕ} → n ≤ s → R ≤ 256 → sizeOf b n R ≤ (34 + (2 * s - 1) * 8 + 7 * s + 7) / 8
+unfolding readingLength graphReadingLength
+size-within s b {n} {R} h r = go b
   where
-    go : (a b c d : Bool) → ltb N 1 ≡ a → ltb 256 N ≡ b → ltb work (tableSize S n N) ≡ c → ltb out (N * L) ≡ d
-        → firstRefusal a b c d ≡ 0 → Met S n L N work out
-    go true b c d p q r s e = absurd (omega arith)
-    go false true c d p q r s e = absurd (omega arith)
-    go false false true d p q r s e = absurd (omega arith)
-    go false false false true p q r s e = absurd (omega arith)
-    go false false false false p q r s e = record { positive = ltb-false N 1 p; few = ltb-false 256 N q; table = ltb-false _ _ r; room = ltb-false _ _ s }
+    walk : (2 * n - 1) * widthOf (R - 1) ≤ (2 * s - 1) * 8
+    walk = mul-le-mul (omega arith) (byte-width R r)
+
+    go : (b : Bool) → sizeOf b n R ≤ (34 + (2 * s - 1) * 8 + 7 * s + 7) / 8
+    go true = omega (arith, walk)
+    go false = omega (arith, walk)
+
+pub output-within : (l : Limits) (b : Bool) {n R N : ℕ} → n ≤ l .slots → R ≤ 256 → N ≤ l .readings → N * sizeOf b n R ≤ mostBytes l
+output-within l b h r q = mul-le-mul q (size-within (l .slots) b h r)
+
+-- where nothing is short
+pub record Met (asked : Asked) (S n L work out : ℕ) : Type 0 where
+  pub slots : n ≤ asked .limits .slots
+  pub positive : 1 ≤ asked .wanted
+  pub few : asked .wanted ≤ 256
+  pub readings : asked .wanted ≤ asked .limits .readings
+  pub table : tableSize S n (asked .wanted) ≤ work
+  pub room : asked .wanted * L ≤ out
+
+pub all-met : (asked : Asked) (S n L work out : ℕ) → shortage asked S n L work out ≡ 0 → Met asked S n L work out
+unfolding shortage
+all-met asked S n L work out =
+    go (ltb (asked .limits .slots) n) (ltb (asked .wanted) 1) (ltb 256 (asked .wanted)) (ltb (asked .limits .readings) (asked .wanted)) (ltb work (tableSize S n (asked .wanted))) (ltb out (asked .wanted * L))
+    refl refl refl refl refl refl
+  where
+    go : (a b c d e f : Bool) → ltb (asked .limits .slots) n ≡ a → ltb (asked .wanted) 1 ≡ b → ltb 256 (asked .wanted) ≡ c → ltb (asked .limits .readings) (asked .wanted) ≡ d
+        → ltb work (tableSize S n (asked .wanted)) ≡ e → ltb out (asked .wanted * L) ≡ f → firstRefusal a b c d e f ≡ 0 → Met asked S n L work out
+    go true b c d e f p q r s t u none = absurd (omega arith)
+    go false true c d e f p q r s t u none = absurd (omega arith)
+    go false false true d e f p q r s t u none = absurd (omega arith)
+    go false false false true e f p q r s t u none = absurd (omega arith)
+    go false false false false true f p q r s t u none = absurd (omega arith)
+    go false false false false false true p q r s t u none = absurd (omega arith)
+    go false false false false false false p q r s t u none = record {
+      slots = ltb-false _ _ p;
+      positive = ltb-false _ _ q;
+      few = ltb-false _ _ r;
+      readings = ltb-false _ _ s;
+      table = ltb-false _ _ t;
+      room = ltb-false _ _ u;
+    }
 
 -- where something is
-picks : {A : Type 0} (f : ℕ → A) (a b c d : Bool) (rest : A) → (firstRefusal a b c d ≡ 0 → ⊥)
-    → pick a (f 21) (pick b (f 21) (pick c (f 22) (pick d (f 23) rest))) ≡ f (firstRefusal a b c d)
-picks f true b c d rest h = refl
-picks f false true c d rest h = refl
-picks f false false true d rest h = refl
-picks f false false false true rest h = refl
-picks f false false false false rest h = absurd (h refl)
+picks : {A : Type 0} (k : ℕ → A) (a b c d e f : Bool) (rest : A) → (firstRefusal a b c d e f ≡ 0 → ⊥)
+    → pick a (k 57) (pick b (k 21) (pick c (k 21) (pick d (k 58) (pick e (k 22) (pick f (k 23) rest))))) ≡ k (firstRefusal a b c d e f)
+picks k true b c d e f rest h = refl
+picks k false true c d e f rest h = refl
+picks k false false true d e f rest h = refl
+picks k false false false true e f rest h = refl
+picks k false false false false true f rest h = refl
+picks k false false false false false true rest h = refl
+picks k false false false false false false rest h = absurd (h refl)
 
-pub short : (g : Grammar) (h : Heard) (N work out : ℕ) → (shortage (g .symbols) (lastPlace h) (outputLength g h) N work out ≡ 0 → ⊥)
-    → listed g h N work out ≡ refused (shortage (g .symbols) (lastPlace h) (outputLength g h) N work out)
+pub short : (asked : Asked) (g : Grammar) (h : Heard) (work out : ℕ) → (shortage asked (g .symbols) (lastPlace h) (outputLength g h) work out ≡ 0 → ⊥)
+    → listed (asked .limits) g h (asked .wanted) work out ≡ refused (shortage asked (g .symbols) (lastPlace h) (outputLength g h) work out)
 unfolding shortage listed
-short g h N work out = picks refused (ltb N 1) (ltb 256 N) (ltb work (tableSize (g .symbols) (lastPlace h) N)) (ltb out (N * outputLength g h)) _
+short asked g h work out =
+    picks refused (ltb (asked .limits .slots) (lastPlace h)) (ltb (asked .wanted) 1) (ltb 256 (asked .wanted)) (ltb (asked .limits .readings) (asked .wanted))
+    (ltb work (tableSize (g .symbols) (lastPlace h) (asked .wanted))) (ltb out (asked .wanted * outputLength g h)) _

@@ -25,16 +25,21 @@ use Rattle.chart_table.specs.declared.Layout.{Layout}
 use Rattle.chart_table.specs.Table.{clear}
 use Rattle.chart.specs.Chart.{enumerate, rootsFound, rootWeight, rootTrace}
 use Rattle.listing.specs.Listing.{tableSize, listed, listedOf, outputAfter, workAfter}
+use Rattle.listing.specs.declared.Asked.{Asked}
 use Rattle.listing.specs.declared.Listed.{Listed}
 use Rattle.listing.specs.declared.Form.{Form}
 
--- the refusal of the first test that holds: none asked for, too many, the table short, the output short; 0 where none holds
-abbrev pub firstRefusal : (none many table output : Bool) → ℕ
-firstRefusal none many table output = pick none 21 (pick many 21 (pick table 22 (pick output 23 0)))
+-- the refusal of the first test that holds: too long for the limits, none asked for, too many, too many for the limits, the table short,
+-- the output short; 0 where none holds
+abbrev pub firstRefusal : (long none many beyond table output : Bool) → ℕ
+firstRefusal long none many beyond table output =
+    pick long 57 (pick none 21 (pick many 21 (pick beyond 58 (pick table 22 (pick output 23 0)))))
 
 -- the refusal of what is asked for and lent, for S symbols, the last place n and readings of L bytes
-unfoldable pub shortage : (S n L N work out : ℕ) → ℕ
-shortage S n L N work out = firstRefusal (ltb N 1) (ltb 256 N) (ltb work (tableSize S n N)) (ltb out (N * L))
+unfoldable pub shortage : Asked → (S n L work out : ℕ) → ℕ
+shortage a S n L work out =
+    firstRefusal (ltb (a .limits .slots) n) (ltb (a .wanted) 1) (ltb 256 (a .wanted)) (ltb (a .limits .readings) (a .wanted))
+    (ltb work (tableSize S n (a .wanted))) (ltb out (a .wanted * L))
 
 -- the bytes that a reading takes in the output, for the last place n under R rules, and the form of such readings
 abbrev pub sizeOf : Bool → ℕ → ℕ → ℕ
@@ -84,12 +89,12 @@ abbrev pub Promised : Verdict (List (List ℕ)) → (work out : List ℕ) → Li
 Promised v work out r work′ out′ = (r ≡ listedOf v) × ((work′ ≡ workAfter v work) × (out′ ≡ outputAfter v out))
 
 -- what is promised where the edges of what was heard are in an array, and where the rules of a grammar are
-abbrev pub HeardListed : (rules : List ℕ) → Sizes → (edges : List ℕ) → HeardSize → (N : ℕ) (work out : List ℕ) → Listed → (work′ out′ : List ℕ) → Type 0
-HeardListed rules z edges y N work out r work′ out′ =
+abbrev pub HeardListed : (rules : List ℕ) → Sizes → (edges : List ℕ) → HeardSize → Asked → (work out : List ℕ) → Listed → (work′ out′ : List ℕ) → Type 0
+HeardListed rules z edges y a work out r work′ out′ =
     (g : Grammar) (h : Heard) → ValidGrammar g → ValidHeard (g .words) h → z ≡ sizes g → y ≡ heardSize h → Begins (ruleNumbers g) rules
-    → Begins (edgeNumbers (heardEdges h)) edges → Promised (listed g h N (length work) (length out)) work out r work′ out′
+    → Begins (edgeNumbers (heardEdges h)) edges → Promised (listed (a .limits) g h (a .wanted) (length work) (length out)) work out r work′ out′
 
-abbrev pub GrammarListed : (rules : List ℕ) → Sizes → (heard : List ℕ) (N : ℕ) (work out : List ℕ) → Listed → (work′ out′ : List ℕ) → Type 0
-GrammarListed rules z heard N work out r work′ out′ =
+abbrev pub GrammarListed : (rules : List ℕ) → Sizes → (heard : List ℕ) → Asked → (work out : List ℕ) → Listed → (work′ out′ : List ℕ) → Type 0
+GrammarListed rules z heard a work out r work′ out′ =
     (g : Grammar) → ValidGrammar g → z ≡ sizes g → Begins (ruleNumbers g) rules
-    → Promised (heardBlock (g .words) heard then λ h. listed g h N (length work) (length out)) work out r work′ out′
+    → Promised (heardBlock (g .words) heard then λ h. listed (a .limits) g h (a .wanted) (length work) (length out)) work out r work′ out′

@@ -1,4 +1,4 @@
-// The listing of the N least readings.
+// The listing of the N least readings, within the limits of the library or of the panel.
 use chart_table::Layout;
 use chart_table::MOST_RANKS;
 use grammar_reader::GrammarRead;
@@ -9,6 +9,7 @@ use heard_reader::HeardRead;
 use heard_reader::HeardSize;
 use heard_reader::read_heard;
 use packing::format::EDGES_LENGTH;
+use packing::format::MAX_SLOTS;
 use packing::format::NUMBERS_PER_NODE;
 use packing::format::RULES_LENGTH;
 use packing::format::TRACE_LENGTH;
@@ -21,7 +22,7 @@ ghost use Prim.Native.Nat.{_+_, _*_, _≤_, _<_};
 ghost use lib.ListN.{length, drop};
 ghost use Rattle.grammar_reader.specs.Answer.{Bounded};
 ghost use Rattle.chart_table.specs.Table.{Sized};
-ghost use Rattle.listing.specs.Listing.{list, listedOf, outputAfter, workAfter};
+ghost use Rattle.listing.specs.Listing.{library, Within, list, listedOf, outputAfter, workAfter};
 ghost use Rattle.listing.specs.Demand3.{Demand3};
 ghost use Rattle.listing.specs.Model.{shortage, formOf, FormFor, blockAt, blocksAt, Filled, HeardListed, GrammarListed};
 
@@ -31,8 +32,31 @@ pub enum Listed {
     Refused(u32),
 }
 
+// The most slots that a service takes, of a graph one less than its places, and the most readings that it lists.
+pub struct Limits {
+    pub slots: usize,
+    pub readings: u32,
+}
+
 // The most readings that can be asked for: as many as ranks are kept.
 const MAX_WANTED: u32 = MOST_RANKS as u32;
+
+// The library's limits, and the panel's.
+const LIBRARY: Limits = Limits {
+    slots: MAX_SLOTS,
+    readings: MAX_WANTED,
+};
+
+pub const PANEL: Limits = Limits {
+    slots: 12,
+    readings: 16,
+};
+
+// What is asked for: so many readings, within these limits.
+struct Asked {
+    limits: Limits,
+    wanted: u32,
+}
 
 // How readings are written: of a graph or of slots, by this many rules, each into this many bytes of the output.
 struct Form {
@@ -54,16 +78,23 @@ fn form_of(graph: bool, n: usize, rules: usize) -> Form
     Form { graph, rules, size }
 }
 
-// The refusal of what is asked for or lent, 0 where nothing is short.
-fn shortage(symbols: usize, n: usize, size: usize, wanted: u32, work: usize, out: usize) -> u32
+// The refusal of what was heard, up to the last place n, and of what is asked for or lent; 0 where all is within the limits and nothing short.
+fn shortage(asked: Asked, symbols: usize, n: usize, size: usize, work: usize, out: usize) -> u32
     requires { ⌜ (symbols ≤ 32) × (n ≤ 24) × (size ≤ 73) ⌝ }
-    ensures { λ r. ⌜ r ≡ shortage symbols n size wanted work out ⌝ }
+    ensures { λ r. ⌜ r ≡ shortage asked symbols n size work out ⌝ }
 {
+    let wanted = asked.wanted;
+    if asked.limits.slots < n {
+        return refused::PANEL_SLOTS;
+    }
     if wanted < 1 {
         return refused::LISTING_WANTED;
     }
     if MAX_WANTED < wanted {
         return refused::LISTING_WANTED;
+    }
+    if asked.limits.readings < wanted {
+        return refused::PANEL_WANTED;
     }
     let ranks = wanted as usize;
     if work < chart::table_numbers(chart::lay_out(symbols, n, ranks)) {
@@ -128,21 +159,21 @@ fn list_heard(
     sizes: Sizes,
     edges: &[u32],
     heard: HeardSize,
-    wanted: u32,
+    asked: Asked,
     work: &mut [u32],
     out: &mut [u8],
 ) -> Listed
     requires { ⌜ (Bounded sizes) × (1 ≤ heard .last) × (heard .last ≤ 24) × (heard .edges ≤ 168) ⌝ }
-    ensures { λ r. ⌜ HeardListed (now (rules .entry)) sizes (now (edges .entry)) heard wanted (now (work .entry)) (now (out .entry)) r (now (work .exit)) (now (out .exit)) ⌝ }
+    ensures { λ r. ⌜ HeardListed (now (rules .entry)) sizes (now (edges .entry)) heard asked (now (work .entry)) (now (out .entry)) r (now (work .exit)) (now (out .exit)) ⌝ }
 {
     let symbols = sizes.symbols as usize;
     let last = heard.last;
     let form = form_of(heard.graph, last, sizes.rules as usize);
-    let refusal = shortage(symbols, last, form.size, wanted, work.len(), out.len());
+    let refusal = shortage(asked, symbols, last, form.size, work.len(), out.len());
     if refusal != 0 {
         return Listed::Refused(refusal);
     }
-    let d = chart::lay_out(symbols, last, wanted as usize);
+    let d = chart::lay_out(symbols, last, asked.wanted as usize);
     Listed::Found(fill(rules, form, edges, heard.edges, d, work, out))
 }
 
@@ -151,22 +182,45 @@ fn list_grammar(
     rules: &[u32],
     sizes: Sizes,
     heard: &[u8],
-    wanted: u32,
+    asked: Asked,
     work: &mut [u32],
     out: &mut [u8],
 ) -> Listed
     requires { ⌜ Bounded sizes ⌝ }
-    ensures { λ r. ⌜ GrammarListed (now (rules .entry)) sizes (now (heard .entry)) wanted (now (work .entry)) (now (out .entry)) r (now (work .exit)) (now (out .exit)) ⌝ }
+    ensures { λ r. ⌜ GrammarListed (now (rules .entry)) sizes (now (heard .entry)) asked (now (work .entry)) (now (out .entry)) r (now (work .exit)) (now (out .exit)) ⌝ }
 {
     let mut edges = [0u32; EDGES_LENGTH];
     match read_heard(heard, sizes.words, &mut edges) {
         HeardRead::Refused(n) => Listed::Refused(n),
-        HeardRead::Heard(size) => { list_heard(rules, sizes, &edges, size, wanted, work, out) }
+        HeardRead::Heard(size) => { list_heard(rules, sizes, &edges, size, asked, work, out) }
     }
 }
 
 // The N least readings of what was heard, slots or a graph, under the grammar, one after another into `out`, with a work table that
-// is all zeros afterwards.
+// is all zeros afterwards, within the limits of a service.
+pub fn listing_within(
+    limits: Limits,
+    grammar: &[u8],
+    heard: &[u8],
+    wanted: u32,
+    work: &mut [u32],
+    out: &mut [u8],
+) -> Listed
+    ensures { λ r. ⌜ r ≡ listedOf (list limits (now (grammar .entry)) (now (heard .entry)) wanted (length (now (work .entry))) (length (now (out .entry)))) ⌝ }
+    ensures { λ r. ⌜ now (work .exit) ≡ workAfter (list limits (now (grammar .entry)) (now (heard .entry)) wanted (length (now (work .entry))) (length (now (out .entry)))) (now (work .entry)) ⌝ }
+    ensures { λ r. ⌜ now (out .exit) ≡ outputAfter (list limits (now (grammar .entry)) (now (heard .entry)) wanted (length (now (work .entry))) (length (now (out .entry)))) (now (out .entry)) ⌝ }
+    ensures { λ r. ⌜ (Within limits (now (grammar .entry)) (now (heard .entry)) wanted → Demand3 (now (grammar .entry)) (now (heard .entry)) wanted (now (work .entry)) (now (out .entry)) (λ m. r ≡ Listed.Found m) (now (work .exit)) (now (out .exit))) ⌝ }
+{
+    let mut rules = [0u32; RULES_LENGTH];
+    match grammar_reader::read_block(grammar, &mut rules) {
+        GrammarRead::Refused(n) => Listed::Refused(n),
+        GrammarRead::Grammar(sizes) => {
+            list_grammar(&rules, sizes, heard, Asked { limits, wanted }, work, out)
+        }
+    }
+}
+
+// The library's listing: every accepted block is within its limits.
 pub fn listing(
     grammar: &[u8],
     heard: &[u8],
@@ -174,14 +228,10 @@ pub fn listing(
     work: &mut [u32],
     out: &mut [u8],
 ) -> Listed
-    ensures { λ r. ⌜ r ≡ listedOf (list (now (grammar .entry)) (now (heard .entry)) wanted (length (now (work .entry))) (length (now (out .entry)))) ⌝ }
-    ensures { λ r. ⌜ now (work .exit) ≡ workAfter (list (now (grammar .entry)) (now (heard .entry)) wanted (length (now (work .entry))) (length (now (out .entry)))) (now (work .entry)) ⌝ }
-    ensures { λ r. ⌜ now (out .exit) ≡ outputAfter (list (now (grammar .entry)) (now (heard .entry)) wanted (length (now (work .entry))) (length (now (out .entry)))) (now (out .entry)) ⌝ }
+    ensures { λ r. ⌜ r ≡ listedOf (list library (now (grammar .entry)) (now (heard .entry)) wanted (length (now (work .entry))) (length (now (out .entry)))) ⌝ }
+    ensures { λ r. ⌜ now (work .exit) ≡ workAfter (list library (now (grammar .entry)) (now (heard .entry)) wanted (length (now (work .entry))) (length (now (out .entry)))) (now (work .entry)) ⌝ }
+    ensures { λ r. ⌜ now (out .exit) ≡ outputAfter (list library (now (grammar .entry)) (now (heard .entry)) wanted (length (now (work .entry))) (length (now (out .entry)))) (now (out .entry)) ⌝ }
     ensures { λ r. ⌜ Demand3 (now (grammar .entry)) (now (heard .entry)) wanted (now (work .entry)) (now (out .entry)) (λ m. r ≡ Listed.Found m) (now (work .exit)) (now (out .exit)) ⌝ }
 {
-    let mut rules = [0u32; RULES_LENGTH];
-    match grammar_reader::read_block(grammar, &mut rules) {
-        GrammarRead::Refused(n) => Listed::Refused(n),
-        GrammarRead::Grammar(sizes) => { list_grammar(&rules, sizes, heard, wanted, work, out) }
-    }
+    listing_within(LIBRARY, grammar, heard, wanted, work, out)
 }

@@ -23,11 +23,15 @@ use Rattle.cost_changes.specs.Costs.{edgesOf}
 use Rattle.cost_changes.specs.Ranges.{slotRises, rises}
 use Rattle.cost_changes.specs.Passes.{raised, answerOf, answer}
 use Rattle.cost_ranges.specs.CostRanges.{ranged, ranges}
-use Rattle.proved_cases.specs.Table.{AllHold, N6-cases, N11-cases, P-cases}
+use Rattle.proved_cases.specs.Table.{AllHold, N6-cases, N8-cases, N11-cases, P-cases}
 
 pub ties-hold : AllHold N6-cases
 unfolding slotEdges edgesFrom num bitsOf pack ended widthOf widthFrom bitsOfAll inRange fieldAt ruleFrom markedRuleFrom anyLike unlikeFrom grammarFrom blockBy markedBlock grammarBlock markedRulesEntries markedEntries blockOfMarked candidatesFrom slotFrom slotsFrom utteranceFrom utteranceBlock heardBlock candidatesEntries slotsEntries utteranceEntries blockOfUtterance walkFrom readingFrom walkEntries readingEntries blockOfReading weight costSum walk reading trees ranked tableSize readingLength listed list joined fieldsFrom firstWith derivationOf check firstPhrase specimen
 ties-hold = (refl, (refl, tt))
+
+pub panel-holds : AllHold N8-cases
+unfolding slotEdges edgesFrom num bitsOf pack ended widthOf widthFrom bitsOfAll inRange fieldAt ruleFrom markedRuleFrom anyLike unlikeFrom grammarFrom blockBy markedBlock grammarBlock markedRulesEntries markedEntries blockOfMarked candidatesFrom slotFrom slotsFrom utteranceFrom utteranceBlock heardBlock candidatesEntries slotsEntries utteranceEntries blockOfUtterance walkFrom readingFrom walkEntries readingEntries blockOfReading weight costSum walk reading trees ranked tableSize readingLength listed list joined
+panel-holds = (refl, (refl, (refl, (refl, (refl, (refl, (refl, (refl, (refl, (refl, tt))))))))))
 
 pub ranges-hold : AllHold N11-cases
 unfolding slotEdges edgesFrom num bitsOf pack ended widthOf widthFrom bitsOfAll inRange fieldAt ruleFrom markedRuleFrom anyLike unlikeFrom grammarFrom blockBy markedBlock grammarBlock markedRulesEntries markedEntries blockOfMarked candidatesFrom slotFrom slotsFrom utteranceFrom utteranceBlock heardBlock candidatesEntries slotsEntries utteranceEntries blockOfUtterance walkFrom readingFrom walkEntries readingEntries blockOfReading weight costSum walk reading trees ranked tableSize fieldsFrom firstWith derivationOf check firstPhrase specimen slotRises rises edgesOf raised answerOf answer ranged ranges

@@ -11,7 +11,10 @@ use Rattle.packing.specs.Parse.{Verdict, accepted}
 use Rattle.packing.specs.Grammar.{blockOfGrammar}
 use Rattle.packing.specs.Utterance.{blockOfUtterance}
 use Rattle.packing.specs.Reading.{blockOfReading}
-use Rattle.listing.specs.Listing.{list, listedOf, outputAfter}
+use Rattle.listing.specs.Listing.{library, list, listedOf, outputAfter}
+use Rattle.listing.specs.Listing as Listing
+use Rattle.listing.specs.declared.Listed.{Listed}
+use Rattle.listing.specs.declared.Listed.the-variants as L
 use Rattle.listing.specs.declared.Listed.the-variants.{Found}
 use Rattle.checker.specs.Check.{check, checkedOf}
 use Rattle.checker.specs.declared.Checked.{Checked}
@@ -29,8 +32,8 @@ use Rattle.specimen.specs.declared.Answered.the-variants.{Written, Nothing}
 
 -- a row: the block of a grammar and of an utterance; the readings that the listing finds, with the lister's work table and
 -- output; its answer m, and the bytes that it writes in front of the output; a reading block that passes the check, and one that it
--- refuses; what the specimen and the next phrase answer, and the output before and after; what is answered for costs between low and high, with
--- a work table of so many numbers
+-- refuses; what the specimen and the next phrase answer, and the output before and after; what the panel answers, lent so many numbers of work
+-- table and bytes of output; what is answered for costs between low and high, with a work table of so many numbers
 pub data Case : Type 0 where
   grammar : (g : Grammar) (block : List ℕ) → Case
   utterance : (g : Grammar) (u : Utterance) (block : List ℕ) → Case
@@ -40,10 +43,11 @@ pub data Case : Type 0 where
   refuses : (g : Grammar) (u : Utterance) (block : List ℕ) (number : ℕ) → Case
   specimen : (g : Grammar) (n : ℕ) (out : List ℕ) (answer : Answered) (after : List ℕ) → Case
   next : (g : Grammar) (n call : ℕ) (out : List ℕ) (answer : Answered) (after : List ℕ) → Case
+  panel : (g : Grammar) (u : Utterance) (wanted work out : ℕ) (answer : Listed) → Case
   ranges : (g : Grammar) (low high : Utterance) (work : ℕ) (answer : Ranged) → Case
 
 abbrev pub listedFor : Grammar → Utterance → ℕ → Verdict (List (List ℕ))
-listedFor g u wanted = list (blockOfGrammar g) (blockOfUtterance (g .words) u) wanted 8192 1024
+listedFor g u wanted = list library (blockOfGrammar g) (blockOfUtterance (g .words) u) wanted 8192 1024
 
 abbrev pub checkedFor : Grammar → Utterance → List ℕ → Checked
 checkedFor g u block = checkedOf (check (blockOfGrammar g) (blockOfUtterance (g .words) u) block)
@@ -60,7 +64,7 @@ Holds (specimen g n out answer after) =
     (answeredOf (Specimen.specimen (blockOfGrammar g) n (length out)) ≡ answer) × (outputOf (Specimen.specimen (blockOfGrammar g) n (length out)) out ≡ after)
 Holds (next g n call out answer after) =
     (answeredOf (NextPhrase.next (blockOfGrammar g) n call out) ≡ answer) × (outputOf (NextPhrase.next (blockOfGrammar g) n call out) out ≡ after)
-
+Holds (panel g u wanted work out answer) = listedOf (list Listing.panel (blockOfGrammar g) (blockOfUtterance (g .words) u) wanted work out) ≡ answer
 Holds (ranges g low high work answer) =
     rangedOf (CostRanges.ranges (blockOfGrammar g) (blockOfUtterance (g .words) low) (blockOfUtterance (g .words) high) work) ≡ answer
 
@@ -146,6 +150,21 @@ N6-cases =
     lists heard-better ((offer 0 2 ∷ offer 1 1 ∷ []) ∷ []) 8 (readingWith 1 2 (1 ∷ []) ∷ readingWith 1 2 (0 ∷ []) ∷ [])
     ∷ lists heard-better heard-twice 8
     (readingWith 2 4 (2 ∷ 1 ∷ 1 ∷ []) ∷ readingWith 2 4 (2 ∷ 1 ∷ 0 ∷ []) ∷ readingWith 2 4 (2 ∷ 0 ∷ 1 ∷ []) ∷ readingWith 2 4 (2 ∷ 0 ∷ 0 ∷ []) ∷ [])
+    ∷ []
+
+-- N8's, of the panel: within its limits, and each of its refusals; that 12 slots have 16 readings, among 58,786, the program `cases` says
+abbrev pub N8-cases : List Case
+N8-cases =
+    panel G (U 4) 16 640 96 (Found 5)
+    ∷ panel G (U 12) 16 4991 128 (L.Refused 22)
+    ∷ panel G (U 12) 16 4992 127 (L.Refused 23)
+    ∷ panel G (U 12) 17 8192 1024 (L.Refused 58)
+    ∷ panel G (U 12) 256 8192 1024 (L.Refused 58)
+    ∷ panel G (U 12) 0 8192 1024 (L.Refused 21)
+    ∷ panel G (U 12) 257 8192 1024 (L.Refused 21)
+    ∷ panel G (U 13) 16 8192 1024 (L.Refused 57)
+    ∷ panel G (U 13) 0 8192 1024 (L.Refused 57)
+    ∷ panel G (U 13) 300 8192 1024 (L.Refused 57)
     ∷ []
 
 -- N11's: words 0 and 1 in slot 0, words 2 and 3 in slot 1, at these costs

@@ -23,7 +23,7 @@ use Rattle.listing.specs.declared.Listed as L
 use Rattle.specimen.specs.Specimen as Specimen
 use Rattle.specimen.specs.declared.Answered as A
 use Rattle.spireyerba.specs.Code.{codeOf, chanceAfter, stringLength}
-use Rattle.spireyerba.specs.Model.{writtenCode, SmallWritten}
+use Rattle.spireyerba.specs.Model.{writtenCode, SmallWritten, listedCode, SmallListed}
 use Rattle.spireyerba.proofs.Signed.{back, fits-pos, fits-neg}
 
 -- a verdict whose number is small
@@ -124,24 +124,16 @@ kept-float (accepted y) before e told = let z : _≡_ {A = ℕ} 0 1 = cc in absu
 kept-float (refused m) before e told = refl
 
 -- the listing
-abbrev listedCode : L.Listed → ℤ
-listedCode (L.the-variants.Found m) = pos m
-listedCode (L.the-variants.Refused n) = negℤ (pos n)
-
-abbrev SmallListed : L.Listed → Type 0
-SmallListed (L.the-variants.Found m) = m < 2147483648
-SmallListed (L.the-variants.Refused n) = n < 2147483648
-
-module _ {v : Verdict (List (List ℕ))} (small : Small length v) {r s : L.Listed} (e : r ≡ Listing.listedOf v) (told : r ≡ s) where
-  pub listed-small : SmallListed s
-  listed-small = subst SmallListed (sym e ∙ told) (go small)
+module _ {v : Verdict (List (List ℕ))} (small : Small length v) {r : L.Listed} (e : r ≡ Listing.listedOf v) where
+  pub listed-small : SmallListed r
+  listed-small = rw e (go small)
     where
       go : {v : Verdict (List (List ℕ))} → Small length v → SmallListed (Listing.listedOf v)
       go (small-size h) = h
       go (small-refusal h) = h
 
-  pub listed-number : {z : ℤ} → z ≡ listedCode s → toZ w32 (ofZ w32 z) ≡ codeOf length v
-  listed-number p = told-number length Listing.listedOf listedCode v (same v) small e told p
+  pub listed-number : {z : ℤ} → z ≡ listedCode r → toZ w32 (ofZ w32 z) ≡ codeOf length v
+  listed-number p = told-number length Listing.listedOf listedCode v (same v) small e refl p
     where
       same : (v : Verdict (List (List ℕ))) → listedCode (Listing.listedOf v) ≡ codeOf length v
       same (accepted ls) = refl

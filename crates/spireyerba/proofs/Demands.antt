@@ -1,6 +1,6 @@
 -- The demands (specs/Demands), from what the services promise. A refusal's number is not 0, so a code tells an answer from a refusal.
 use mathlib.Core.Path.{_≡_, refl, sym, ap, _∙_}
-use mathlib.Core.Logic.{_↔_, Iff·trans}
+use mathlib.Core.Logic.{_↔_, Iff·trans, ⊎-elim}
 use mathlib.Core.List.{List, _++_}
 use Prim.Native.Nat.{ℕ, zero, suc, _≤_}
 use native.Mathlib.Omega.{arith}
@@ -8,14 +8,15 @@ use borrow.Author.Tests.{le-ltb}
 use lib.Ieee.{Float}
 use lib.IntN.{ℤ, pos, negℤ}
 use lib.Dec.{ltb}
-use lib.ListN.{length, take, drop}
+use lib.ListN.{length, take, drop, replicate}
 use lib.Seq.{take-at}
 use Rattle.packing.specs.Parse.{Verdict, accepted, refused}
 use Rattle.packing.specs.Conversion.{grammarToBlock, grammarToSheet, utteranceToBlock, utteranceToSheet, fitting, written, TurnsBack}
 use Rattle.packing.specs.Grammar.{markedBlock, grammarBlock, blockOfMarked}
+use Rattle.packing.specs.Rows.{Between, _∪_, GrammarBlockRow, HeardBlockRow, ListingRow, PanelRow}
 use Rattle.packing.proofs.Parse.{refused≢accepted, accepted-is, accepted-else}
 use Rattle.packing.proofs.Parse as P
-use Rattle.packing.proofs.Refusals.{Refuses, granted, denied, Low, grammar-to-block-row, grammar-to-sheet-row, utterance-to-block-row, utterance-to-sheet-row}
+use Rattle.packing.proofs.Refusals.{Refuses, granted, denied, refusal-number, Low, grammar-to-block-row, grammar-to-sheet-row, utterance-to-block-row, utterance-to-sheet-row}
 use Rattle.sheet_writer.specs.Answer.{writtenOf}
 use Rattle.packing.specs.declared.Written as W
 use Rattle.office.specs.Office.{Office}
@@ -34,12 +35,15 @@ use Rattle.checker.proofs.Refused.{check-row, refused-34, refused-35, refused-3
 use Rattle.chance.specs.Chance.{chance, chanceOf, Shown}
 use Rattle.chance.specs.declared.Outcome as Chance
 use Rattle.chance.proofs.Shown.{chance-row}
-use Rattle.listing.specs.Listing.{list, outputAfter, workAfter}
-use Rattle.listing.proofs.Demand3.{demand-3}
-use Rattle.listing.proofs.Refused.{list-row}
+use Rattle.listing.specs.Listing.{library, panel, Within, tableSize, list, joined, outputAfter, workAfter}
+use Rattle.listing.specs.declared.Limits.{Limits}
+use Rattle.listing.specs.Demand3.{Demand3}
+use Rattle.listing.proofs.Demand3.{demand-3, in-library}
+use Rattle.listing.proofs.Refused.{library-row, panel-row, enough-row}
+use Rattle.listing.proofs.Within.{list-alike}
 use Rattle.spireyerba.specs.Code.{codeOf, chanceAfter}
 use Rattle.spireyerba.specs.Demands as D
-use Rattle.spireyerba.specs.Demands.{Demand1, answers, refuses, Converts, Result, RoundTrip, Demand2}
+use Rattle.spireyerba.specs.Demands.{Demand1, answers, refuses, Converts, Result, RoundTrip, Demand2, EqualWithinPanel, PanelRoom}
 use Rattle.spireyerba.proofs.Small.{low-grammar-to-block, low-grammar-to-sheet, low-office-to-block, low-utterance-to-block, low-utterance-to-sheet, low-check, low-chance}
 
 -- the code of an answer is not a refusal's, and the other way round
@@ -132,17 +136,85 @@ utterance-to-sheet grammar block out =
     converts (utteranceToSheet grammar) block out (utterance-to-sheet-row grammar block out) (low-utterance-to-sheet grammar block out)
 
 -- the listing
-module _ (grammar utterance : List ℕ) (N : ℕ) (work out : List ℕ) where
+module _ (l : Limits) (grammar utterance : List ℕ) (N : ℕ) (work out : List ℕ) where
   abbrev due : Verdict (List (List ℕ))
-  due = list grammar utterance N (length work) (length out)
+  due = list l grammar utterance N (length work) (length out)
 
-  pub lists : {code : ℤ} {work′ out′ : List ℕ} → code ≡ codeOf length due → work′ ≡ workAfter due work → out′ ≡ outputAfter due out
+  lists-row : (Row : ℕ → Type 0) {code : ℤ} {work′ out′ : List ℕ} → Refuses (GrammarBlockRow ∪ HeardBlockRow ∪ Row) due → code ≡ codeOf length due
+      → work′ ≡ workAfter due work → out′ ≡ outputAfter due out → D.Lists l Row grammar utterance N work out code work′ out′
+  lists-row Row rows e works writes =
+      first length rows e (λ ls p. (refl, rw p at writes, rw p at works)) (λ n p. (rw p at works, rw p at writes))
+
+  lists-least : {code : ℤ} {work′ out′ : List ℕ} → code ≡ codeOf length due → work′ ≡ workAfter due work → out′ ≡ outputAfter due out
+      → Within l grammar utterance N → Demand3 grammar utterance N work out (λ m. code ≡ pos m) work′ out′
+  lists-least {code} {work′} {out′} e works writes =
+      demand-3 l grammar utterance N work out (λ m. code ≡ pos m) (λ ls p. e ∙ ap (codeOf length) p) work′ out′ works writes
+
+module _ (grammar utterance : List ℕ) (N : ℕ) (work out : List ℕ) where
+  pub lists : {code : ℤ} {work′ out′ : List ℕ} → code ≡ codeOf length (due library grammar utterance N work out)
+      → work′ ≡ workAfter (due library grammar utterance N work out) work → out′ ≡ outputAfter (due library grammar utterance N work out) out
       → D.Listing grammar utterance N work out code work′ out′
   lists {code} {work′} {out′} e works writes = record {
-    demand-1 = first length (list-row grammar utterance N (length work) (length out)) e (λ ls p. (refl, rw p at writes, rw p at works))
-        (λ n p. (rw p at works, rw p at writes));
-    demand-3 = demand-3 grammar utterance N work out (λ m. code ≡ pos m) (λ ls p. e ∙ ap (codeOf length) p) work′ out′ works writes;
+    demand-1 = lists-row library grammar utterance N work out ListingRow (library-row grammar utterance N (length work) (length out)) e works writes;
+    demand-3 = in-library grammar utterance N work out (λ m. code ≡ pos m) work′ out′
+        (lists-least library grammar utterance N work out e works writes);
   }
+
+  pub panel-lists : {code : ℤ} {work′ out′ : List ℕ} → code ≡ codeOf length (due panel grammar utterance N work out)
+      → work′ ≡ workAfter (due panel grammar utterance N work out) work → out′ ≡ outputAfter (due panel grammar utterance N work out) out
+      → D.PanelListing grammar utterance N work out code work′ out′
+  panel-lists e works writes = record {
+    demand-1 = lists-row panel grammar utterance N work out PanelRow (panel-row grammar utterance N (length work) (length out)) e works writes;
+    demand-3 = lists-least panel grammar utterance N work out e works writes;
+  }
+
+-- what is due decides what a call answers and leaves behind
+abbrev Outcome : Verdict (List (List ℕ)) → (work out : List ℕ) (Row : ℕ → Type 0) (work′ out′ : List ℕ) → ℤ → Type 0
+Outcome v work out Row work′ out′ =
+    Demand1 v (λ ls m. (m ≡ length ls) × (out′ ≡ joined ls ++ drop (length (joined ls)) out) × (work′ ≡ replicate (length work) 0)) Row
+    ((work′ ≡ work) × (out′ ≡ out))
+
+refused-is : {A : Type 0} {m n : ℕ} → _≡_ {A = Verdict A} (refused m) (refused n) → m ≡ n
+refused-is e = cc
+
+one-outcome : {v v′ : Verdict (List (List ℕ))} {work out : List ℕ} {Row Row′ : ℕ → Type 0} {code code′ : ℤ} {after written after′ written′ : List ℕ}
+    → v′ ≡ v → Outcome v work out Row after written code → Outcome v′ work out Row′ after′ written′ code′
+    → (code′ ≡ code) × (after′ ≡ after) × (written′ ≡ written)
+one-outcome {out = out} e (answers {a} p (m, w, z)) (answers {a = b} q (m′, w′, z′)) =
+    let same : b ≡ a = accepted-is (sym q ∙ e ∙ p) in
+    (ap pos (m′ ∙ ap length same ∙ sym m), z′ ∙ sym z, w′ ∙ ap (λ (ls : List (List ℕ)). joined ls ++ drop (length (joined ls)) out) same ∙ sym w)
+one-outcome e (answers p t) (refuses q r u) = absurd (refused≢accepted (sym q ∙ e ∙ p))
+one-outcome e (refuses p r u) (answers q t) = absurd (refused≢accepted (sym p ∙ sym e ∙ q))
+one-outcome e (refuses {n} p r (z, w)) (refuses {n = k} q r′ (z′, w′)) =
+    let same : k ≡ n = refused-is (sym q ∙ e ∙ p) in
+    (ap (λ (x : ℕ). negℤ (pos x)) same, z′ ∙ sym z, w′ ∙ sym w)
+
+-- N8, of a call of each listing.
+pub equal-within-panel : EqualWithinPanel
+equal-within-panel grammar heard N within work out code code′ after written after′ written′ there here =
+    let within-library : Within library grammar heard N = record {
+      slots = λ g h p q. omega (arith, within .slots g h p q);
+      readings = omega (arith, within .readings);
+    } in
+    let alike = list-alike panel library grammar heard N (length work) (length out) within within-library in
+    one-outcome alike (there .demand-1) (here .demand-1)
+
+-- A panel that lends what its limits need is not refused for it.
+no-room : {v : Verdict (List (List ℕ))} {Answer : List (List ℕ) → ℕ → Type 0} {Row Row′ : ℕ → Type 0} {Unchanged : Type 0} {code : ℤ}
+    → Demand1 v Answer Row Unchanged code → Refuses Row′ v → (n : ℕ) → 1 ≤ n → (Row′ n → ⊥) → code ≡ negℤ (pos n) → ⊥
+no-room (answers {n = k} p t) rows n l never e = low-code n k l (sym e)
+no-room (refuses {n = k} p r u) rows n l never e = never (refusal-number rows (p ∙ ap refused (same-refusal k n e)))
+
+pub panel-room : PanelRoom
+unfolding tableSize
+panel-room grammar heard N work out code work′ out′ call numbers bytes =
+    let rows = enough-row grammar heard N (length work) (length out) panel numbers bytes in
+    (no-room (call .demand-1) rows 22 (omega arith) (short 22 (omega arith) (omega arith)), no-room (call .demand-1) rows 23 (omega arith) (short 23 (omega arith) (omega arith)))
+  where
+    short : (n : ℕ) → 22 ≤ n → n ≤ 23 → (GrammarBlockRow ∪ HeardBlockRow ∪ (Between 21 21 ∪ Between 57 58)) n → ⊥
+    short n l m =
+        ⊎-elim (⊎-elim (λ r. omega (arith, r)) (⊎-elim (λ r. omega (arith, r)) (λ r. omega (arith, r))))
+        (⊎-elim (λ r. omega (arith, r)) (λ r. omega (arith, r)))
 
 -- the check
 passed : (v : Verdict Tree) → checkedOf v ≡ C.the-variants.Passes → codeOf (λ d. 0) v ≡ pos 0

@@ -4,8 +4,6 @@ use mathlib.Core.Path.{_≡_, refl, sym, ap, _∙_}
 use mathlib.Core.List.{List}
 use Prim.Native.Nat.{ℕ, _+_, _-_, _*_, _≤_, _<_}
 use native.Mathlib.Omega.{arith}
-use borrow.Author.Tests.{ltb-false}
-use lib.Dec.{ltb}
 use lib.IntN.{ℤ, pos}
 use lib.ListN.{length, length-take}
 use Rattle.packing.specs.Meaning.{symbolOf, Grammar, Heard, slots, graph, lastPlace, heardEdges}
@@ -16,7 +14,6 @@ use Rattle.packing.specs.Reading.{readingLength}
 use Rattle.packing.specs.GraphReading.{graphReadingLength}
 use Rattle.packing.specs.Rows.{_∪_, GrammarBlockRow, HeardBlockRow, ListingRow}
 use Rattle.packing.specs.Valid.{ValidGrammar, ValidHeard}
-use Rattle.packing.proofs.Parse.{accepted-else}
 use Rattle.packing.proofs.Whole.{grammar-block-out}
 use Rattle.packing.proofs.Heard.{heard-block-out}
 use Rattle.derivation.specs.Derivation.{At, Tree, Derivation}
@@ -29,7 +26,8 @@ use Rattle.derivation.proofs.HeardTheorems.{least-length, least-element}
 use Rattle.rearranged.specs.Rearranged.{Rearranged, renumber, SameRenumbered}
 use Rattle.rearranged.proofs.Theorems.{same-derivations, rearranged-lists}
 use Rattle.rearranged.proofs.Held.{weight-held}
-use Rattle.listing.specs.Listing.{tableSize, listed, list}
+use Rattle.listing.specs.Listing.{library, tableSize, listed, list}
+use Rattle.listing.proofs.Accepted.{Asks, accepted-asks}
 use Rattle.listing.specs.Demand3.{kthBytes, Ranked, RankedList}
 use Rattle.spireyerba.specs.Demands as D
 use Rattle.spireyerba.specs.Demands.{Demand1, answers, refuses}
@@ -37,29 +35,22 @@ use Rattle.spireyerba.specs.RearrangedCalls.{weightHeld, Among, SameRead
 use Rattle.spireyerba.proofs.Small.{low-listing}
 use Rattle.spireyerba.proofs.Demands.{low-code}
 
--- a listing that answers was asked for from 1 to 256 readings and lent enough
-abbrev Enough : Grammar → Heard → ℕ → ℕ → ℕ → Type 0
-Enough g h N work out = (1 ≤ N) × (N ≤ 256) × (tableSize (g .symbols) (lastPlace h) N ≤ work) × (N * outputLength g h ≤ out)
-
 module _ (grammar heard : List ℕ) {g : Grammar} {h : Heard} (p : grammarBlock grammar ≡ accepted g) (q : heardBlock (g .words) heard ≡ accepted h)
     (N : ℕ) where
-  accepted-enough : (work out : ℕ) {ls : List (List ℕ)} → list grammar heard N work out ≡ accepted ls → Enough g h N work out
-  unfolding list listed
+  -- a listing that answers was asked for from 1 to 256 readings and lent enough
+  accepted-enough : (work out : ℕ) {ls : List (List ℕ)} → list library grammar heard N work out ≡ accepted ls → Asks g h N work out
+  unfolding list
   accepted-enough work out e =
-      let e₀ : listed g h N work out ≡ accepted _ = rw (p, q) at e in
-      let (n₁, e₁) = accepted-else (ltb N 1) 21 _ e₀ in
-      let (n₂, e₂) = accepted-else (ltb 256 N) 21 _ e₁ in
-      let (n₃, e₃) = accepted-else (ltb work (tableSize (g .symbols) (lastPlace h) N)) 22 _ e₂ in
-      let (n₄, _) = accepted-else (ltb out (N * outputLength g h)) 23 _ e₃ in
-      (ltb-false _ _ n₁, ltb-false _ _ n₂, ltb-false _ _ n₃, ltb-false _ _ n₄)
+      let e₀ : listed library g h N work out ≡ accepted _ = rw (p, q) at e in
+      accepted-asks library g h N work out e₀ .0
 
   answered-enough : {work out after written : List ℕ} {m : ℕ} → D.Listing grammar heard N work out (pos m) after written
-      → Enough g h N (length work) (length out)
+      → Asks g h N (length work) (length out)
   answered-enough {work} {out} {after} {written} {m} call = go (call .demand-1) refl
     where
       go : {Answer : List (List ℕ) → ℕ → Type 0} {Unchanged : Type 0} {z : ℤ}
-          → Demand1 (list grammar heard N (length work) (length out)) Answer (GrammarBlockRow ∪ HeardBlockRow ∪ ListingRow) Unchanged z → z ≡ pos m
-          → Enough g h N (length work) (length out)
+          → Demand1 (list library grammar heard N (length work) (length out)) Answer (GrammarBlockRow ∪ HeardBlockRow ∪ ListingRow) Unchanged z → z ≡ pos m
+          → Asks g h N (length work) (length out)
       go (answers due a) e = accepted-enough (length work) (length out) due
       go (refuses {n} due row u) e = absurd (low-code n m (low-listing n row .0) e)
 
@@ -68,12 +59,12 @@ same-output : {f : ℕ → ℕ} {g g′ : Grammar} → Rearranged f g g′ → (
 same-output re (slots u) = ap (readingLength (length u)) (re .number)
 same-output re (graph x) = ap (graphReadingLength (x .places - 1)) (re .number)
 
-as-much : {f : ℕ → ℕ} {g g′ : Grammar} → Rearranged f g g′ → (h : Heard) (N : ℕ) {work out work′ out′ : ℕ} → Enough g h N work out → work ≤ work′
-    → out ≤ out′ → Enough g′ h N work′ out′
-as-much {g = g} {g′} re h N {work} {out} (few, many, table, room) l l′ =
-    let table′ : tableSize (g′ .symbols) (lastPlace h) N ≤ work = rw (re .symbols) at table in
-    let room′ : N * outputLength g′ h ≤ out = rw (same-output re h) at room in
-    (few, many, omega arith, omega arith)
+as-much : {f : ℕ → ℕ} {g g′ : Grammar} → Rearranged f g g′ → (h : Heard) (N : ℕ) {work out work′ out′ : ℕ} → Asks g h N work out → work ≤ work′
+    → out ≤ out′ → Asks g′ h N work′ out′
+as-much {g = g} {g′} re h N {work} {out} asks l l′ =
+    let table′ : tableSize (g′ .symbols) (lastPlace h) N ≤ work = rw (re .symbols) at (asks .table) in
+    let room′ : N * outputLength g′ h ≤ out = rw (same-output re h) at (asks .room) in
+    record { positive = asks .positive; few = asks .few; table = omega arith; room = omega arith }
 
 -- the derivation with rank k stands at place k - 1 of the list
 at-rank : (g : Grammar) (h : Heard) (N k : ℕ) {t : Tree} → 1 ≤ k → k ≤ N → Ranked g h k t → At (leastDerivations g h N) (k - 1) t
@@ -136,8 +127,8 @@ rearranged-calls f g g′ h re grammar grammar′ heard p p′ q N m work out af
     let q′ : heardBlock (g′ .words) heard ≡ accepted h = rw (re .words) at q in
     let enough = answered-enough grammar heard p q N first in
     let enough′ = as-much re h N enough l l′ in
-    let a = first .demand-3 g p h q (enough .0) (enough .1) (enough .2) (enough .3) in
-    let b = second .demand-3 g′ p′ h q′ (enough′ .0) (enough′ .1) (enough′ .2) (enough′ .3) in
+    let a = first .demand-3 g p h q (enough .positive) (enough .few) (enough .table) (enough .room) in
+    let b = second .demand-3 g′ p′ h q′ (enough′ .positive) (enough′ .few) (enough′ .table) (enough′ .room) in
     let answer : pos m ≡ pos (a .m) = a .accepts in
     let is : a .m ≡ m = cc in
     let ok = grammar-block-out grammar g p .0 in

@@ -1,12 +1,11 @@
 -- Every answer fits a C number: results are at most 1,539 long, and refusals from 1 to 63. Assumes nothing.
 use mathlib.Core.Bool.{Bool, true, false}
 use mathlib.Core.Logic.{⊎-elim}
-use mathlib.Core.Path.{_≡_, refl, ap}
+use mathlib.Core.Path.{_≡_, refl}
 use mathlib.Core.List.{List}
 use mathlib.Core.Option.{Option}
 use Prim.Native.Nat.{ℕ, _≤_}
 use native.Mathlib.Omega.{arith}
-use borrow.Author.Tests.{ltb-false}
 use lib.Dec.{ltb}
 use lib.ListN.{length}
 use Rattle.bits.specs.Bits.{pick}
@@ -14,12 +13,10 @@ use Rattle.packing.specs.Meaning.{Grammar, Marked, Utterance}
 use Rattle.packing.specs.Parse.{Verdict, accepted, refused, _then_}
 use Rattle.packing.specs.Grammar.{grammarBlock, markedBlock, markedSheet, blockOfMarked, sheetOfMarked}
 use Rattle.packing.specs.Utterance.{utteranceBlock, utteranceSheet, utteranceEntries, sheetOfUtterance}
-use Rattle.packing.specs.Heard.{heardBlock}
 use Rattle.packing.specs.Conversion.{grammarToBlock, grammarToSheet, utteranceToBlock, utteranceToSheet, fitting}
-use Rattle.packing.specs.Rows.{Between, _∪_, GrammarBlockRow, UtteranceBlockRow, HeardBlockRow, ListingRow}
+use Rattle.packing.specs.Rows.{Between, _∪_, GrammarBlockRow, HeardBlockRow, ListingRow, PanelRow}
 use Rattle.packing.specs.Valid.{ValidMarked, ValidUtterance}
 use Rattle.packing.proofs.Bounds.{length-slots}
-use Rattle.packing.proofs.Parse as P
 use Rattle.packing.proofs.Widths.{grammar-length, utterance-length, valid-words}
 use Rattle.packing.proofs.Whole.{grammar-block-out, marked-block-out, marked-sheet-out, sheet-length, utterance-block-out, utterance-sheet-out}
 use Rattle.packing.proofs.Refusals.{Refuses, granted, denied, Low, wider, low-both, grammar-to-block-row, grammar-to-sheet-row, utterance-to-block-row, utterance-to-sheet-row}
@@ -33,9 +30,10 @@ use Rattle.checker.specs.Check.{check}
 use Rattle.checker.proofs.Refused.{check-row}
 use Rattle.chance.specs.Chance.{chance}
 use Rattle.chance.proofs.Shown.{chance-row}
-use Rattle.listing.specs.Listing.{list, listed, listedOf}
-use Rattle.listing.proofs.Accepted.{found-few}
-use Rattle.listing.proofs.Refused.{list-row}
+use Rattle.listing.specs.Listing.{library, panel, list}
+use Rattle.listing.specs.declared.Limits.{Limits}
+use Rattle.listing.proofs.Accepted.{accepted-few}
+use Rattle.listing.proofs.Refused.{library-row, panel-row}
 use Rattle.phrases.proofs.Least.{Property, LeastOrNone, nothing, first}
 use Rattle.specimen.specs.Specimen.{asked}
 use Rattle.specimen.proofs.Asked.{asked-out, asked-row}
@@ -107,8 +105,8 @@ low-utterance-to-sheet s t out = wider (low-three (λ n r. omega (arith, r)) (λ
 pub low-listing : (n : ℕ) → (GrammarBlockRow ∪ HeardBlockRow ∪ ListingRow) n → Low n
 low-listing = low-three low-heard (λ n r. omega (arith, r))
 
-pub low-list : (grammar heard : List ℕ) (N work out : ℕ) → Refuses Low (list grammar heard N work out)
-low-list grammar heard N work out = wider low-listing (list-row grammar heard N work out)
+low-panel : (n : ℕ) → (GrammarBlockRow ∪ HeardBlockRow ∪ PanelRow) n → Low n
+low-panel = low-three low-heard (low-both (λ n r. omega (arith, r)) (λ n r. omega (arith, r)))
 
 pub low-check : (grammar heard reading : List ℕ) → Refuses Low (check grammar heard reading)
 low-check grammar heard reading = wider (low-three low-heard (λ n r. omega (arith, r))) (check-row grammar heard reading)
@@ -185,17 +183,17 @@ pub chance-small : (grammar heard reading shares : List ℕ) → Small (λ x. 0)
 chance-small grammar heard reading shares = answers-low (low-chance grammar heard reading shares)
 
 -- the listing: at most 256 readings
-most-wanted : (grammar heard : List ℕ) (N work out : ℕ) (ls : List (List ℕ)) → list grammar heard N work out ≡ accepted ls → N ≤ 256
-unfolding list listed
-most-wanted grammar heard N work out ls e =
-    P.granted (grammarBlock grammar) _ e λ g p e.
-    P.granted (heardBlock (g .words) heard) _ e λ h q e.
-    ltb-false 256 N (P.accepted-else (ltb 256 N) 21 _ (P.accepted-else (ltb N 1) 21 _ e .1) .0)
-
-pub list-small : (grammar heard : List ℕ) (N work out : ℕ) → Small length (list grammar heard N work out)
-list-small grammar heard N work out = go refl (low-list grammar heard N work out)
+list-small : (l : Limits) (grammar heard : List ℕ) (N work out : ℕ) → Refuses Low (list l grammar heard N work out)
+    → Small length (list l grammar heard N work out)
+list-small l grammar heard N work out low = go refl low
   where
-    go : {v : Verdict (List (List ℕ))} → list grammar heard N work out ≡ v → Refuses Low v → Small length v
-    go e (granted {a}) =
-        small-size {a = a} (omega (arith, most-wanted grammar heard N work out a e, found-few grammar heard N work out refl (ap listedOf e)))
+    go : {v : Verdict (List (List ℕ))} → list l grammar heard N work out ≡ v → Refuses Low v → Small length v
+    go e (granted {a}) = small-size {a = a} (omega (arith, accepted-few l grammar heard N work out e))
     go e (denied {n} l) = small-refusal {n = n} (omega arith)
+
+module _ (grammar heard : List ℕ) (N work out : ℕ) where
+  pub library-small : Small length (list library grammar heard N work out)
+  library-small = list-small library grammar heard N work out (wider low-listing (library-row grammar heard N work out))
+
+  pub panel-small : Small length (list panel grammar heard N work out)
+  panel-small = list-small panel grammar heard N work out (wider low-panel (panel-row grammar heard N work out))

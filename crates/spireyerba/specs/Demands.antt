@@ -1,6 +1,6 @@
 -- The three demands, of the exported functions: of the number that a call answers, its code, and of the slices that it was lent.
 -- `grammar`, `sheet`, `out` .. are the numbers of a slice before the call, `work′` and `out′` those afterwards. Each exported function's
--- contract, in src/lib.rt, promises of every call the record of this page with the function's name; proofs/Demands has the theorem
+-- contract, in src/lib.rt, promises of every call the record of this page with the function's name; proofs/Demands has the theorems
 -- about two calls, proofs/Calls that about many. RearrangedCalls is about two calls of the listing. Every other name is defined on the page
 -- that its `use` line names.
 use mathlib.Core.Path.{_≡_}
@@ -14,7 +14,7 @@ use Rattle.packing.specs.Meaning.{Grammar, Heard}
 use Rattle.packing.specs.Parse.{Verdict, accepted, refused}
 use Rattle.packing.specs.Grammar.{markedBlock, grammarBlock}
 use Rattle.packing.specs.Conversion.{grammarToBlock, grammarToSheet, utteranceToBlock, utteranceToSheet, fitting, TurnsBack}
-use Rattle.packing.specs.Rows.{_∪_, GrammarBlockRow, UtteranceBlockRow, HeardBlockRow, ListingRow, SpecimenRow, ReadingBlockRow, SharesRow, GrammarSheetRow, UtteranceSheetRow, OfficeSheetRow, OfficeSizeRow, OutputRow}
+use Rattle.packing.specs.Rows.{_∪_, GrammarBlockRow, UtteranceBlockRow, HeardBlockRow, ListingRow, PanelRow, SpecimenRow, ReadingBlockRow, SharesRow, RangesRow, GrammarSheetRow, UtteranceSheetRow, OfficeSheetRow, OfficeSizeRow, OutputRow}
 use Rattle.office.specs.Office.{Office}
 use Rattle.office.specs.Sheet.{officeSheet}
 use Rattle.office.specs.Conversion.{convert, convertMarked}
@@ -24,9 +24,10 @@ use Rattle.derivation.specs.Derivation.{At}
 use Rattle.derivation.specs.Rank.{_∈_}
 use Rattle.checker.specs.Check.{check, OfDerivation, NoWalk, OtherWeight, Surplus}
 use Rattle.chance.specs.Chance.{chance, Shown}
-use Rattle.listing.specs.Listing.{list, joined}
+use Rattle.listing.specs.Listing.{library, panel, Within, list, joined}
+use Rattle.listing.specs.declared.Limits.{Limits}
 use Rattle.listing.specs.Demand3.{Demand3}
-use Rattle.cost_ranges.specs.CostRanges.{RangesRow, ranges, Meant}
+use Rattle.cost_ranges.specs.CostRanges.{ranges, Meant}
 use Rattle.phrases.specs.Phrases.{Phrase, Precedes, Least}
 use Rattle.specimen.specs.Specimen.{asked}
 use Rattle.spireyerba.specs.Code.{rangesNumber, leastOf, greatestOf}
@@ -74,11 +75,35 @@ UtteranceToSheet grammar block out code out′ =
 
 -- The listing, of slots or of a graph, "answers m, the number found, and writes the m readings one after another", and "the work table is
 -- all zeros". Demand 3: they are the least, in their order, and none is left out.
+abbrev pub Lists : Limits → (Row : ℕ → Type 0) (grammar heard : List ℕ) (N : ℕ) (work out : List ℕ) (code : ℤ) (work′ out′ : List ℕ) → Type 0
+Lists l Row grammar heard N work out code work′ out′ =
+    Demand1 (list l grammar heard N (length work) (length out))
+    (λ ls m. (m ≡ length ls) × (out′ ≡ joined ls ++ drop (length (joined ls)) out) × (work′ ≡ replicate (length work) 0))
+    (GrammarBlockRow ∪ HeardBlockRow ∪ Row) ((work′ ≡ work) × (out′ ≡ out)) code
+
 pub record Listing (grammar heard : List ℕ) (N : ℕ) (work out : List ℕ) (code : ℤ) (work′ out′ : List ℕ) : Type 0 where
-  pub demand-1 : Demand1 (list grammar heard N (length work) (length out))
-      (λ ls m. (m ≡ length ls) × (out′ ≡ joined ls ++ drop (length (joined ls)) out) × (work′ ≡ replicate (length work) 0))
-      (GrammarBlockRow ∪ HeardBlockRow ∪ ListingRow) ((work′ ≡ work) × (out′ ≡ out)) code
+  pub demand-1 : Lists library ListingRow grammar heard N work out code work′ out′
   pub demand-3 : Demand3 grammar heard N work out (λ m. code ≡ pos m) work′ out′
+
+-- "A panel for plan desks runs the same listing with at most 12 slots and 16 readings" (document 02, N8).
+pub record PanelListing (grammar heard : List ℕ) (N : ℕ) (work out : List ℕ) (code : ℤ) (work′ out′ : List ℕ) : Type 0 where
+  pub demand-1 : Lists panel PanelRow grammar heard N work out code work′ out′
+  pub demand-3 : Within panel grammar heard N → Demand3 grammar heard N work out (λ m. code ≡ pos m) work′ out′
+
+-- "within the panel's limits both give equal bytes": a call of each, with the same blocks, number wanted and slices, answers the same and leaves
+-- the same behind, refusals included. `after` and `written` are work table and output after the library's call, `after′` and `written′` those
+-- after the panel's.
+abbrev pub EqualWithinPanel : Type 0
+EqualWithinPanel =
+    (grammar heard : List ℕ) (N : ℕ) → Within panel grammar heard N
+    → (work out : List ℕ) (code code′ : ℤ) (after written after′ written′ : List ℕ) → Listing grammar heard N work out code after written
+    → PanelListing grammar heard N work out code′ after′ written′ → (code′ ≡ code) × (after′ ≡ after) × (written′ ≡ written)
+
+-- Whatever is within the panel's limits, 159,744 numbers of work table and 608 bytes of output suffice: it is never refused with 22 or 23.
+abbrev pub PanelRoom : Type 0
+PanelRoom =
+    (grammar heard : List ℕ) (N : ℕ) (work out : List ℕ) (code : ℤ) (work′ out′ : List ℕ) → PanelListing grammar heard N work out code work′ out′
+    → 159744 ≤ length work → 608 ≤ length out → ¬ (code ≡ negℤ (pos 22)) × ¬ (code ≡ negℤ (pos 23))
 
 -- The check is lent nothing to write to, and "answers passes", with the code 0, "or a refusal". Demand 2: "a reading passes exactly if it
 -- is the packing of a derivation with its true weight"; and 34, 35 and 36 are answered exactly if the table says so.

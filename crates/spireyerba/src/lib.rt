@@ -4,6 +4,8 @@ use chance::Outcome;
 use checker::Checked;
 use cost_ranges::Ranged;
 use listing::Listed;
+use listing::PANEL;
+use listing::listing_within;
 use packing::Written;
 use specimen::Answered;
 ghost use mathlib.Core.Path.{_≡_};
@@ -14,13 +16,13 @@ ghost use Rattle.packing.specs.Conversion.{grammarToBlock, grammarToSheet, utte
 ghost use Rattle.office_block.specs.Block.{officeToBlock};
 ghost use Rattle.checker.specs.Check.{check};
 ghost use Rattle.chance.specs.Chance as definition;
-ghost use Rattle.listing.specs.Listing.{list, outputAfter, workAfter};
+ghost use Rattle.listing.specs.Listing.{library, panel, list, outputAfter, workAfter};
 ghost use Rattle.cost_ranges.specs.CostRanges.{ranges, tableAfter};
 ghost use Rattle.specimen.specs.Specimen.{specimen, outputOf};
 ghost use Rattle.next_phrase.specs.NextPhrase.{next};
 ghost use Rattle.spireyerba.specs.Code.{checkCode, chanceCode, chanceAfter, listCode, lengthCode, stringCode, rangesCode, leastAfter, greatestAfter};
 ghost use Rattle.spireyerba.specs.Demands as demands;
-ghost use Rattle.spireyerba.specs.Model.{writtenCode, SmallWritten};
+ghost use Rattle.spireyerba.specs.Model.{writtenCode, SmallWritten, listedCode, SmallListed};
 
 // A count as a C number.
 fn count(n: usize) -> i32
@@ -46,6 +48,17 @@ fn written_code(w: Written) -> i32
     match w {
         Written::Length(n) => count(n),
         Written::Refused(n) => refusal(n),
+    }
+}
+
+// A listing's answer as a C number.
+fn listed_code(l: Listed) -> i32
+    requires { ⌜ SmallListed l ⌝ }
+    ensures { λ r. ⌜ r ≡ listedCode l ⌝ }
+{
+    match l {
+        Listed::Found(m) => count(m),
+        Listed::Refused(n) => refusal(n),
     }
 }
 
@@ -116,16 +129,29 @@ pub extern "C" fn spireyerba_listing(
     work: &mut [u32],
     out: &mut [u8],
 ) -> i32
-    ensures { λ r. ⌜ r ≡ listCode (list (now (grammar .entry)) (now (utterance .entry)) wanted (length (now (work .entry))) (length (now (out .entry)))) ⌝ }
-    ensures { λ r. ⌜ now (work .exit) ≡ workAfter (list (now (grammar .entry)) (now (utterance .entry)) wanted (length (now (work .entry))) (length (now (out .entry)))) (now (work .entry)) ⌝ }
-    ensures { λ r. ⌜ now (out .exit) ≡ outputAfter (list (now (grammar .entry)) (now (utterance .entry)) wanted (length (now (work .entry))) (length (now (out .entry)))) (now (out .entry)) ⌝ }
+    ensures { λ r. ⌜ r ≡ listCode (list library (now (grammar .entry)) (now (utterance .entry)) wanted (length (now (work .entry))) (length (now (out .entry)))) ⌝ }
+    ensures { λ r. ⌜ now (work .exit) ≡ workAfter (list library (now (grammar .entry)) (now (utterance .entry)) wanted (length (now (work .entry))) (length (now (out .entry)))) (now (work .entry)) ⌝ }
+    ensures { λ r. ⌜ now (out .exit) ≡ outputAfter (list library (now (grammar .entry)) (now (utterance .entry)) wanted (length (now (work .entry))) (length (now (out .entry)))) (now (out .entry)) ⌝ }
     ensures { λ r. ⌜ demands.Listing (now (grammar .entry)) (now (utterance .entry)) wanted (now (work .entry)) (now (out .entry)) r (now (work .exit)) (now (out .exit)) ⌝ }
 {
-    let answer = listing::listing(grammar, utterance, wanted, work, out);
-    match answer {
-        Listed::Found(m) => count(m),
-        Listed::Refused(n) => refusal(n),
-    }
+    listed_code(listing::listing(grammar, utterance, wanted, work, out))
+}
+
+// The same within the limits of the panel for plan desks.
+#[no_mangle]
+pub extern "C" fn spireyerba_panel_listing(
+    grammar: &[u8],
+    utterance: &[u8],
+    wanted: u32,
+    work: &mut [u32],
+    out: &mut [u8],
+) -> i32
+    ensures { λ r. ⌜ r ≡ listCode (list panel (now (grammar .entry)) (now (utterance .entry)) wanted (length (now (work .entry))) (length (now (out .entry)))) ⌝ }
+    ensures { λ r. ⌜ now (work .exit) ≡ workAfter (list panel (now (grammar .entry)) (now (utterance .entry)) wanted (length (now (work .entry))) (length (now (out .entry)))) (now (work .entry)) ⌝ }
+    ensures { λ r. ⌜ now (out .exit) ≡ outputAfter (list panel (now (grammar .entry)) (now (utterance .entry)) wanted (length (now (work .entry))) (length (now (out .entry)))) (now (out .entry)) ⌝ }
+    ensures { λ r. ⌜ demands.PanelListing (now (grammar .entry)) (now (utterance .entry)) wanted (now (work .entry)) (now (out .entry)) r (now (work .exit)) (now (out .exit)) ⌝ }
+{
+    listed_code(listing_within(PANEL, grammar, utterance, wanted, work, out))
 }
 
 // Whether a reading passes the check: 0 if it does.

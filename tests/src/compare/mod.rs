@@ -62,13 +62,18 @@ impl Tally {
         }
     }
 
+    /// The refusals that were met.
+    pub fn refusals(&self) -> impl Iterator<Item = Refusal> + '_ {
+        self.refusals.keys().copied()
+    }
+
     pub fn accepted(&self) -> usize {
         self.calls - self.refusals.values().sum::<usize>()
     }
 
     /// Exactly these refusals were met, over at least so many different inputs.
     pub fn demand(&self, inputs: usize, refusals: &[Refusal]) {
-        let met: Vec<Refusal> = self.refusals.keys().copied().collect();
+        let met: Vec<Refusal> = self.refusals().collect();
         assert_eq!(met, refusals, "refusals met, refusals demanded");
         println!("{} different inputs, {} calls", self.inputs.len(), self.calls);
         assert!(self.inputs.len() >= inputs, "{} different inputs, {inputs} demanded", self.inputs.len());

@@ -2,6 +2,7 @@
 use Prim.Native.Nat.{_*_, _≤_}
 use native.Mathlib.Nat.{mul-le-mul}
 use native.Mathlib.Omega.{arith}
+use Rattle.listing.specs.Listing.{library}
 use Rattle.listing.proofs.Accepted.{found-few}
 use Rattle.lister.specs.Lines.{sizeOf}
 use Rattle.lister.proofs.Shapes.{size-small}
@@ -96,7 +97,7 @@ slice-aggregate-print-lines-3 c = search needs
 print-lines-requires : tie.Need-print-lines-requires
 print-lines-requires c κs =
     let bounded = c .before .before .before .before .before .before .before .before .before .before .before .before .before .before .before .before .before .before .before .shape-of .ensures .bounded in
-    let few : c .before .before .before .before .before .before .before .before .m .given .0 .0 ≤ 8 = found-few _ _ 8 _ _ (c .before .before .before .before .before .before .before .before .before .before .before .before .listing .ensures .0) (c .before .before .before .before .before .before .before .before .m .given .1) in
+    let few : c .before .before .before .before .before .before .before .before .m .given .0 .0 ≤ 8 = found-few library _ _ 8 _ _ (c .before .before .before .before .before .before .before .before .before .before .before .before .listing .ensures .0) (c .before .before .before .before .before .before .before .before .m .given .1) in
     let all : c .before .before .before .before .before .before .before .before .m .given .0 .0 * sizeOf (c .before .before .before .before .before .before .before .before .before .before .before .before .before .before .before .before .before .before .before .shape-of .result) ≤ 8 * 73 = mul-le-mul {n₂ = 8} {m₂ = 73} few (size-small (c .before .before .before .before .before .before .before .before .before .before .before .before .before .before .before .before .before .before .before .shape-of .result) bounded) in
     (bounded, omega (arith, c .before .before .before .before .before .before .before .before .before .before .before .before .listing .kept))
 

@@ -35,7 +35,7 @@ returns c =
     let at-start = at-read-heard .before .before .before .before .before .before in
     let a = at-start .args in
     let W = a .sizes .words in
-    grammar-refused (a .rules .now) (a .sizes) (a .heard .now) (a .wanted) (a .work .now) (a .out .now)
+    grammar-refused (a .rules .now) (a .sizes) (a .heard .now) (a .asked) (a .work .now) (a .out .now)
     (refused-told (heardBlock W (a .heard .now)) (at-read-heard .read-heard .ensures .answer) (c .before .n .given .1))
 
 same-length : tie.Need-same-length
@@ -53,7 +53,7 @@ returns-2 c =
     let a = at-start .args in
     let W = a .sizes .words in
     let (h, v, z) = accepted-told (heardBlock W (a .heard .now)) (at-read-heard .read-heard .ensures .answer) (at-size .size .given .1) in
-    grammar-listed (a .rules .now) (a .sizes) (a .heard .now) (a .wanted) (a .work .now) (a .out .now)
+    grammar-listed (a .rules .now) (a .sizes) (a .heard .now) (a .asked) (a .work .now) (a .out .now)
     (at-read-heard .read-heard .last .1 .1 .0) h v z (rw v at (at-read-heard .read-heard .ensures .edges))
     (at-list-heard .list-heard .ensures)
 

@@ -13,7 +13,7 @@ use Rattle.listing.proofs.list_heard.Tie as tie
 nothing-short : (c : tie.Else1)
     → let f = c .before .before .form-of .result in
     let a = c .before .before .before .before .before .before .before .before .before .args in
-    shortage (a .sizes .symbols) (a .heard .last) (f .size) (a .wanted) (length (a .work .now)) (length (a .out .now)) ≡ 0
+    shortage (a .asked) (a .sizes .symbols) (a .heard .last) (f .size) (length (a .work .now)) (length (a .out .now)) ≡ 0
 nothing-short c = sym (c .before .shortage .ensures) ∙ c .if1 .left
 
 cast-symbols : tie.Need-cast-symbols
@@ -33,24 +33,27 @@ returns c =
     let at-form-of = c .before .before in
     let at-start = at-form-of .before .before .before .before .before .before .before in
     let a = at-start .args in
-    heard-refused (a .rules .now) (a .sizes) (a .edges .now) (a .heard) (a .wanted) (a .work .now) (a .out .now) (at-form-of .form-of .ensures .0)
+    heard-refused (a .rules .now) (a .sizes) (a .edges .now) (a .heard) (a .asked) (a .work .now) (a .out .now) (at-form-of .form-of .ensures .0)
     (c .before .shortage .ensures) (c .if1 .taken)
+
+cast-lay-out : tie.Need-cast-lay-out
+cast-lay-out c = search needs
 
 lay-out-requires : tie.Need-lay-out-requires
 lay-out-requires c κs =
-    let at-start = c .before .before .before .before .before .before .before .before .before in
-    let met = all-met _ _ _ _ _ _ (nothing-short c) in
+    let at-start = c .before .before .before .before .before .before .before .before .before .before in
+    let met = all-met _ _ _ _ _ _ (nothing-short (c .before)) in
     (at-start .pre .0 .symbols, omega (arith, at-start .pre .2), met .positive, met .few)
 
 fill-requires : tie.Need-fill-requires
 fill-requires c κs =
     let at-lay-out = c .before .before in
-    let at-if1 = at-lay-out .before in
+    let at-if1 = at-lay-out .before .before in
     let at-form-of = at-if1 .before .before in
     let at-start = at-form-of .before .before .before .before .before .before .before in
     let a = at-start .args in
     let met = all-met _ _ _ _ _ _ (nothing-short at-if1) in
-    let (places, ranks) = layout-is (a .sizes .symbols) (a .heard .last) (a .wanted) (at-lay-out .lay-out .ensures .0) in
+    let (places, ranks) = layout-is (a .sizes .symbols) (a .heard .last) (a .asked .wanted) (at-lay-out .lay-out .ensures .0) in
     let form : FormFor (a .heard .last) (at-form-of .form-of .result) = rw (at-form-of .form-of .ensures .0) (record {
       some-place = at-start .pre .1;
       places = at-start .pre .2;
@@ -74,11 +77,11 @@ returns-2 : tie.Need-returns-2
 returns-2 c =
     let at-fill = c .before .before .before .before in
     let at-lay-out = at-fill .before .before .before in
-    let at-if1 = at-lay-out .before in
+    let at-if1 = at-lay-out .before .before in
     let at-form-of = at-if1 .before .before in
     let at-start = at-form-of .before .before .before .before .before .before .before in
     let a = at-start .args in
-    heard-found (a .rules .now) (a .sizes) (a .edges .now) (a .heard) (a .wanted) (a .work .now) (a .out .now) (at-form-of .form-of .ensures .0)
+    heard-found (a .rules .now) (a .sizes) (a .edges .now) (a .heard) (a .asked) (a .work .now) (a .out .now) (at-form-of .form-of .ensures .0)
     (at-start .pre .1) (nothing-short at-if1) (at-lay-out .lay-out .ensures .0) (at-fill .fill .ensures)
 
 pub list-heard-spec : {M : Type 1} → statement M
@@ -90,6 +93,7 @@ list-heard-spec =
     form-of-requires
     shortage-requires
     returns
+    cast-lay-out
     lay-out-requires
     fill-requires
     same-length

@@ -1,0 +1,36 @@
+//! `panel`: the least readings, as a desk panel lists them.
+
+use super::list::{print, Listed};
+use super::Command;
+use crate::failure::Failure;
+use crate::files;
+use crate::heard::Heard;
+use crate::options::{Arguments, DROP_DELETES, DROP_UNKNOWN, EMPTY, SCALE, TREE, WANTED};
+use crate::output::Output;
+use spireyerba::{Error, GraphReading, Lister};
+
+pub const COMMAND: Command = Command {
+    name: "panel",
+    operands: &["GRAMMAR", "UTTERANCE"],
+    needed: 2,
+    options: &[WANTED, TREE, SCALE, DROP_UNKNOWN, DROP_DELETES, EMPTY],
+    summary: "list as a desk panel does: at most 12 slots and 16 readings",
+    details: "\
+Within the panel's limits this is what `list` prints; beyond them the panel refuses. Of a word graph it takes 13 places.",
+    example: "spireyerba panel grammar.txt utterance.txt -n 16",
+    run,
+};
+
+fn run(arguments: &Arguments, output: &mut Output) -> Result<(), Failure> {
+    let grammar = files::grammar(arguments.operands[0])?;
+    let heard = files::heard(arguments, &grammar, arguments.operands[1])?;
+    let wanted = arguments.wanted()?;
+    let mut lister = Lister::panel(&grammar.named.grammar).map_err(Error::from)?;
+    let found = match &heard {
+        Heard::Slots(utterance) => lister.find(&utterance.to_sheet(), wanted),
+        Heard::Graph(graph) => lister.find_in_graph(graph, wanted),
+    };
+    let list = found.map_err(Error::from)?.readings();
+    let (readings, paths) = list.map(|GraphReading { reading, path }| (reading, path)).unzip();
+    print(&Listed { grammar, heard, readings, paths, slots: None }, arguments.has(&TREE), output)
+}
