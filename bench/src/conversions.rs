@@ -1,15 +1,17 @@
-//! Sheets to blocks and back, and the check and the chance of a reading, which read all three blocks: the library beside the
-//! second implementation.
+//! Sheets to blocks and back, the check and the chance of a reading, which read all three blocks, and costs known within ranges: the
+//! library beside the second implementation.
 
 use crate::inputs::{graphs, greatest, Input};
 use crate::measure::{medians, micros, ratio, Plan};
 use crate::table::{print_head, print_row};
-use spireyerba::limits::MAX_SHARE;
+use spireyerba::limits::{work_length, MAX_SHARE};
 use spireyerba::{services, Item, Office, OfficeRule, Refusal};
 use spireyerba_tests::chance::chance;
 use spireyerba_tests::check::check;
+use spireyerba_tests::cost_ranges::cost_ranges;
 use spireyerba_tests::heard::Heard;
 use spireyerba_tests::{conversions, grammar, utterance};
+use std::cell::RefCell;
 use std::hint::black_box;
 
 const PLAN: Plan = Plan { rounds: 301, calls: 20 };
@@ -56,6 +58,13 @@ pub fn print_table() {
     print_check("check of a reading of a graph", &graphs()[0]);
     print_chance("chance of a reading", &input);
     print_chance("chance of a reading of a graph", &graphs()[0]);
+    print_ranges(
+        "ranges of costs that are known",
+        &grammar_block,
+        &block,
+        grammar.symbols as usize,
+        utterance.slots.len(),
+    );
 }
 
 /// 16 symbols and 240 rules, of which one in eight has a word in a body of two or three items.
@@ -98,6 +107,20 @@ fn print_chance(name: &str, Input { grammar, heard, .. }: &Input) {
         |out| chance(&grammar_block, &block, reading, &shares, &mut out[0]).map(|()| 1),
     );
 }
+
+/// Ranges of one cost each, so that the second implementation has one choice to try.
+fn print_ranges(name: &str, grammar: &[u8], block: &[u8], symbols: usize, slots: usize) {
+    let work = RefCell::new(vec![0; work_length(symbols, slots, 1)]);
+    let call = |service: CostRanges, out: &mut [u32]| {
+        let [least, greatest] = out else { unreachable!("two weights") };
+        service(grammar, block, block, &mut work.borrow_mut(), least, greatest).map(|_| 2)
+    };
+    let mut weights = [0; 2];
+    call(cost_ranges, &mut weights).expect("ranges of costs");
+    print_call(name, &weights, |out| call(services::cost_ranges, out), |out| call(cost_ranges, out));
+}
+
+type CostRanges = fn(&[u8], &[u8], &[u8], &mut [u32], &mut u32, &mut u32) -> Result<services::FirstReading, Refusal>;
 
 /// One service, which answers the length of its result and writes that.
 fn print_call<T: Copy + Default + PartialEq>(

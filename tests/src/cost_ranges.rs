@@ -87,9 +87,10 @@ impl Ranges {
             };
             pairs.iter().map(|slot| slot.iter().map(|(low, high)| costs(low.cost, high.cost)).collect()).collect()
         };
-        let number: u64 = pairs.iter().flatten().fold(1, |number, (low, high)| {
-            u64::saturating_mul(number, u64::from(high.cost - low.cost) + 1)
-        });
+        let number: u64 = pairs
+            .iter()
+            .flatten()
+            .fold(1, |number, (low, high)| u64::saturating_mul(number, u64::from(high.cost - low.cost) + 1));
         Some(Self { utterance: low.clone(), costs: spread(number > MOST_CHOICES) })
     }
 

@@ -124,7 +124,9 @@ fn unlike(rng: &mut Rng, grammar: &Grammar, low: &Utterance, high: &Utterance) -
         0 if other.slots.len() > 1 => drop(other.slots.pop()),
         1 if other.slots.len() < 24 => other.slots.push(other.slots[slot].clone()),
         2 if other.slots[slot].len() > 1 => drop(other.slots[slot].remove(place)),
-        3 if other.slots[slot].last().is_some_and(|last| last.word + 1 < grammar.words) && other.slots[slot].len() < 7 => {
+        3 if other.slots[slot].last().is_some_and(|last| last.word + 1 < grammar.words)
+            && other.slots[slot].len() < 7 =>
+        {
             let word = grammar.words - 1;
             other.slots[slot].push(Candidate { word, cost: 0 });
         }
@@ -179,7 +181,7 @@ fn wide_ranges_damaged_blocks_and_unlike_ones() {
         let shape = shape(rng);
         let (grammar, mut low) = case(rng, shape);
         let by = rng.pick(&[1, 5, 100, 65_534]);
-        let words = rng.below(8);
+        let words = rng.below(5);
         let high = risen(rng, &mut low, by, words);
         let block = grammar::pack(&grammar);
         let (low_block, high_block) = (utterance::pack(&grammar, &low), utterance::pack(&grammar, &high));

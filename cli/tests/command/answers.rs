@@ -225,6 +225,8 @@ fn specimen_of_a_length() {
 
 #[test]
 fn ranges_of_costs() {
+    let stands = "first weight: 72 to 84\nstands: door twenty four oak fire thirty\n";
+    assert_eq!(answer("ranges grammar.txt utterance.txt high.txt"), stands);
     let texts = folder(
         "ranges",
         &[
@@ -242,7 +244,8 @@ fn ranges_of_costs() {
     let none = answer("silent silent");
     assert_eq!((none.status, none.out.as_str()), (0, ""));
     assert_eq!(none.err, "none: the grammar does not derive the utterance\n");
-    let refusal = "refused 59: the utterances differ elsewhere than in costs, a cost falls, or 65,535 stands in one only\n";
+    let refusal =
+        "refused 59: the utterances differ elsewhere than in costs, a cost falls, or 65,535 stands in one only\n";
     assert_eq!(refused(answer("high low"), 1), refusal);
     assert_eq!(refused(answer("low other"), 1), refusal);
 }

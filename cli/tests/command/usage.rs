@@ -6,8 +6,10 @@ use std::io::Write;
 use std::path::Path;
 use std::process::{Command, Stdio};
 
-const COMMANDS: [&str; 13] =
-    ["list", "panel", "pick", "why", "report", "batch", "lint", "specimen", "phrases", "ranges", "check", "pack", "unpack"];
+const COMMANDS: [&str; 13] = [
+    "list", "panel", "pick", "why", "report", "batch", "lint", "specimen", "phrases", "ranges", "check", "pack",
+    "unpack",
+];
 
 #[test]
 fn help_at_every_level() {

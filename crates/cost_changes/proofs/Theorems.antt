@@ -62,7 +62,7 @@ module _ (g : Grammar) (low high : Utterance) (risen : rises low high ≡ true) 
         to : ¬ Outweighed g low high t → HasLeast g m t
         to h s d =
             let n : ¬ (weight g (edges m) s < weight g (edges m) t) =
-            λ l. h (record { costs = m; choice = o .choice; lighter = s; derivation = d; lighter-is = l }) in
+            λ l. h (record { costs = m; choice = o .choice; lighter = s; derivation = d; lighter-is = omega (arith, l) }) in
             omega arith
 
         from : HasLeast g m t → ¬ Outweighed g low high t

@@ -34,7 +34,7 @@ unfolding slotEdges edgesFrom num bitsOf pack ended widthOf widthFrom bitsOfAll 
 panel-holds = (refl, (refl, (refl, (refl, (refl, (refl, (refl, (refl, (refl, (refl, tt))))))))))
 
 pub ranges-hold : AllHold N11-cases
-unfolding slotEdges edgesFrom num bitsOf pack ended widthOf widthFrom bitsOfAll inRange fieldAt ruleFrom markedRuleFrom anyLike unlikeFrom grammarFrom blockBy markedBlock grammarBlock markedRulesEntries markedEntries blockOfMarked candidatesFrom slotFrom slotsFrom utteranceFrom utteranceBlock heardBlock candidatesEntries slotsEntries utteranceEntries blockOfUtterance walkFrom readingFrom walkEntries readingEntries blockOfReading weight costSum walk reading trees ranked tableSize fieldsFrom firstWith derivationOf check firstPhrase specimen slotRises rises edgesOf raised answerOf answer ranged ranges
+unfolding slotEdges edgesFrom num bitsOf pack ended widthOf widthFrom bitsOfAll inRange fieldAt ruleFrom markedRuleFrom anyLike unlikeFrom grammarFrom blockBy markedBlock grammarBlock markedRulesEntries markedEntries blockOfMarked candidatesFrom slotFrom slotsFrom utteranceFrom utteranceBlock candidatesEntries slotsEntries utteranceEntries blockOfUtterance weight costSum trees ranked tableSize slotRises rises edgesOf raised answerOf answer ranged ranges
 ranges-hold = (refl, (refl, (refl, (refl, (refl, (refl, (refl, tt)))))))
 
 pub cases-hold : AllHold P-cases

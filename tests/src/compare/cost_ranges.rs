@@ -7,7 +7,12 @@ use spireyerba::services::{self, FirstReading};
 
 /// Compares the answer, both numbers and every slice after the call, guards included; answers what both said, nothing if they
 /// refused. The numbers and the work table hold noise before the call.
-pub fn compare(rng: &mut Rng, tally: &mut Tally, blocks: [&[u8]; 3], work_len: usize) -> Option<(FirstReading, [u32; 2])> {
+pub fn compare(
+    rng: &mut Rng,
+    tally: &mut Tally,
+    blocks: [&[u8]; 3],
+    work_len: usize,
+) -> Option<(FirstReading, [u32; 2])> {
     let lent = blocks.map(|block| Lent::holding(rng, block));
     let mut work = Lent::noise(rng, work_len);
     let mut weights: Vec<u32> = rng.noise(5);
