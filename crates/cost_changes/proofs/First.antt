@@ -1,7 +1,7 @@
 -- The first reading has least weight; where there is a derivation there is a first reading, and it stands at the front of the ranked list.
 use mathlib.Core.Path.{_≡_, refl, sym, _∙_}
 use mathlib.Core.Logic.{_↔_}
-use mathlib.Core.Option.{Option, none, some}
+use mathlib.Core.Option.{none}
 use Prim.Native.Nat.{ℕ, zero, suc, _≤_, compare·zero-suc}
 use native.Mathlib.Omega.{arith}
 use lib.ListN.{length}

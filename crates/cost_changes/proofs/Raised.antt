@@ -1,6 +1,6 @@
 -- Edges of which some have the costs of other edges: what is raised costs as there, all else as before. So of the edges that a tree uses,
 -- raised from low to high, there is a choice with the tree's own words high and all others low.
-use mathlib.Core.Path.{_≡_, refl, sym, _∙_}
+use mathlib.Core.Path.{_≡_, refl, _∙_}
 use mathlib.Core.Logic.{⊎-elim}
 use mathlib.Core.List.{List, [], _∷_, List·Memᴰ·head, List·Memᴰ·tail, List·Memᴰ·cases-cons, List·Memᴰ·not-nil}
 use mathlib.Core.Bool.{true}

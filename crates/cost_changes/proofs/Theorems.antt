@@ -3,20 +3,19 @@ use mathlib.Core.Path.{_≡_, refl, sym, _∙_, subst}
 use mathlib.Core.Logic.{_↔_}
 use mathlib.Core.Bool.{Bool, true, false}
 use mathlib.Core.Option.{Option, none, some}
-use mathlib.Core.List.{List}
 use Prim.Native.Nat.{ℕ, _≤_, _<_}
 use native.Mathlib.Omega.{arith}
 use lib.Dec.{eqb}
 use lib.ListN.{length}
 use borrow.Author.Tests.{eqb-true, eqb-false}
 use Rattle.bits.specs.Bits.{pick}
-use Rattle.packing.specs.Meaning.{symbolOf, Grammar, Utterance, Edge, edges, slots}
+use Rattle.packing.specs.Meaning.{symbolOf, Grammar, Utterance, edges, slots}
 use Rattle.derivation.specs.Derivation.{Tree, Derives, Derivation, weight}
 use Rattle.derivation.proofs.Slots.{edges-short}
 use Rattle.derivation.proofs.Paths.{Forward}
-use Rattle.cost_changes.specs.Costs.{edgesOf, First, FirstWeight}
-use Rattle.cost_changes.specs.Ranges.{rises, Choice, LeastFirst, GreatestFirst, Outweighed, Answer, nothing, outweighed, stands, Answers, OwnHigh, HasLeast}
-use Rattle.cost_changes.specs.Passes.{firstOf, weightOf, raised, answerOf, answer}
+use Rattle.cost_changes.specs.Costs.{First, FirstWeight}
+use Rattle.cost_changes.specs.Ranges.{rises, LeastFirst, GreatestFirst, Outweighed, Answer, nothing, outweighed, stands, Answers, OwnHigh, HasLeast}
+use Rattle.cost_changes.specs.Passes.{firstOf, weightOf, answerOf, answer}
 use Rattle.cost_changes.proofs.Alike.{alike-turn, alike-derives}
 use Rattle.cost_changes.proofs.Weights.{weight-mono, weight-same}
 use Rattle.cost_changes.proofs.First.{place-first, first-place, first-unique, first-least, derives-first, has-least, none-derives}

@@ -1,5 +1,5 @@
 -- Every choice is an utterance that a block can have: its words are those of the high block, and no cost is above that block's.
-use mathlib.Core.Path.{_≡_, refl, sym, ap}
+use mathlib.Core.Path.{_≡_, refl, ap}
 use mathlib.Core.Bool.{true}
 use mathlib.Core.List.{List, [], _∷_}
 use Prim.Native.Nat.{ℕ, suc}

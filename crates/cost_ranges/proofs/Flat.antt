@@ -1,15 +1,15 @@
 -- Costs raised in an array of edges are those of the edges raised, and what the nodes of a derivation weigh is what it weighs.
-use mathlib.Core.Path.{_≡_, refl, sym, ap, _∙_}
+use mathlib.Core.Path.{_≡_, refl, ap, _∙_}
 use mathlib.Core.List.{List, [], _∷_, _++_}
 use Prim.Native.Nat.{ℕ, zero, suc, _+_, _*_, _<_}
 use native.Mathlib.Omega.{arith}
-use lib.ListN.{length, take, getD, set, length-set}
+use lib.ListN.{length, getD, set, length-set}
 use lib.Seq.{take-set-lt}
 use Rattle.packing.specs.declared.Sym.{Sym}
 use Rattle.packing.specs.Meaning.{Grammar, Edge, edge, Node}
 use Rattle.packing.specs.Flat.{Begins, ruleNumbers, edgeNumbers}
 use Rattle.packing.proofs.Flat.{begins-at, rule-at, length-edges, edge-at}
-use Rattle.derivation.specs.Derivation.{Tree, Derives, by-word, by-pair, ruleWeight, edgeCost, weight}
+use Rattle.derivation.specs.Derivation.{Tree, Derives, by-word, by-pair, edgeCost, weight}
 use Rattle.derivation.specs.Heard.{trace}
 use Rattle.derivation.proofs.Lists.{at-length}
 use Rattle.cost_changes.specs.Costs.{edgesOf}

@@ -1,21 +1,19 @@
 -- What each way out of the service says of the definition: a refusal changes nothing, and what the passes answer is what is due.
 use mathlib.Core.Path.{_≡_, refl, sym, ap, _∙_}
-use mathlib.Core.Bool.{Bool, true, false}
+use mathlib.Core.Bool.{true, false}
 use mathlib.Core.List.{List}
 use Prim.Native.Nat.{ℕ, _≤_, _<_}
 use native.Mathlib.Omega.{arith}
-use lib.Dec.{ltb}
 use lib.ListN.{length, replicate, length-replicate}
 use borrow.Author.Tests.{lt-ltb, le-ltb}
 use Rattle.packing.specs.Meaning.{Grammar, Utterance, Heard, slots, heardEdges, edges}
 use Rattle.packing.specs.Parse.{Verdict, accepted, refused, _then_}
 use Rattle.packing.specs.Flat.{Begins, ruleNumbers, edgeNumbers}
-use Rattle.packing.specs.Valid.{ValidGrammar, ValidUtterance}
 use Rattle.packing.specs.Grammar.{grammarBlock}
 use Rattle.packing.specs.Utterance.{utteranceBlock}
 use Rattle.packing.specs.Heard.{asSlots}
 use Rattle.packing.proofs.Whole.{grammar-block-out, utterance-block-out}
-use Rattle.cost_changes.specs.Ranges.{rises, Answer}
+use Rattle.cost_changes.specs.Ranges.{rises}
 use Rattle.cost_changes.specs.Passes.{answer}
 use Rattle.cost_changes.proofs.Theorems.{answer-sound}
 use Rattle.grammar_reader.specs.Answer.{sizes}
@@ -132,7 +130,13 @@ module _ (grammar low high work : List ℕ) where
       → (r ≡ rangedOf (ranges grammar low high (length work)))
       × ((work′ ≡ tableAfter (ranges grammar low high (length work)) work) × Meant grammar low high work (λ a. r ≡ answered a) work′)
   unfolding ranges ranged
-  meant due = (due .0, (due .1, λ g eg u eu v ev risen room.
-      let is : ranges grammar low high (length work) ≡ accepted (answer g u v) = rw (eg, eu, ev, risen, le-ltb _ _ room) in
-      let due′ = rw is at due in
-      (answer g u v, due′ .0, answer-sound g u v risen, due′ .1)))
+  meant due = (
+    due .0,
+    (
+      due .1,
+      λ g eg u eu v ev risen room.
+          let is : ranges grammar low high (length work) ≡ accepted (answer g u v) = rw (eg, eu, ev, risen, le-ltb _ _ room) in
+          let due′ = rw is at due in
+          (answer g u v, due′ .0, answer-sound g u v risen, due′ .1),
+    ),
+  )

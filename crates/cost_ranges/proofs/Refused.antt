@@ -1,5 +1,5 @@
 -- The refusals are of the rows grammar block and utterance block, then 59 and 22.
-use mathlib.Core.Path.{_≡_, refl}
+use mathlib.Core.Path.{refl}
 use mathlib.Core.Logic.{inl, inr}
 use mathlib.Core.List.{List}
 use Prim.Native.Nat.{ℕ}

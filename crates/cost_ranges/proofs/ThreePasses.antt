@@ -1,21 +1,21 @@
 -- What the passes answer is the definition's answer: each pass finds the first derivation for its costs (chart_theory), and the mixed costs are
 -- those of an utterance, a choice between both.
-use mathlib.Core.Path.{_≡_, refl, sym, ap, _∙_, subst}
+use mathlib.Core.Path.{_≡_, refl, sym, ap, _∙_}
 use mathlib.Core.Bool.{Bool, true, false}
-use mathlib.Core.Option.{Option, none, some}
+use mathlib.Core.Option.{none, some}
 use mathlib.Core.List.{List, [], _∷_}
-use Prim.Native.Nat.{ℕ, zero, suc, _≤_}
+use Prim.Native.Nat.{ℕ, _≤_}
 use native.Mathlib.Nat.{le-refl}
 use native.Mathlib.Omega.{arith}
 use native.Mathlib.Decide.{ℕ-discrete}
 use lib.Dec.{eqb}
-use lib.ListN.{length, take, replicate, length-replicate}
+use lib.ListN.{length, take, replicate}
 use borrow.Author.Tests.{eq-eqb, ne-eqb}
 use Rattle.bits.specs.Bits.{pick}
-use Rattle.packing.specs.Meaning.{Grammar, Utterance, Edge, edges, slots}
+use Rattle.packing.specs.Meaning.{Grammar, Utterance, edges, slots}
 use Rattle.packing.specs.Flat.{Begins, ruleNumbers, edgeNumbers}
 use Rattle.packing.specs.Valid.{ValidGrammar, ValidUtterance}
-use Rattle.derivation.specs.Derivation.{At, Tree, weight}
+use Rattle.derivation.specs.Derivation.{Tree, weight}
 use Rattle.derivation.specs.HeardList.{derivations}
 use Rattle.derivation.proofs.Lists.{at-take}
 use Rattle.cost_changes.specs.Costs.{edgesOf, First}
@@ -27,7 +27,7 @@ use Rattle.cost_changes.proofs.Utterances.{risen-length}
 use Rattle.cost_changes.proofs.Valid.{risen-valid, risen-edges}
 use Rattle.cost_changes.proofs.Theorems.{risen-derives}
 use Rattle.chart_table.specs.Table.{clear}
-use Rattle.chart.specs.Chart.{layOut, rootsFound}
+use Rattle.chart.specs.Chart.{rootsFound}
 use Rattle.chart_theory.proofs.Accepted.{HoldsRank, Holds, layout, chart-holds}
 use Rattle.listing.specs.Listing.{tableSize}
 use Rattle.cost_ranges.specs.CostRanges.{answered}

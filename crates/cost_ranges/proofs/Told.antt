@@ -15,7 +15,7 @@ use Rattle.packing.proofs.Flat.{stored-begins}
 use Rattle.packing.proofs.Store.{length-store}
 use Rattle.chart_table.specs.declared.Layout.{Layout}
 use Rattle.chart_table.specs.Table.{root, clear}
-use Rattle.chart_trace.proofs.Shape.{Shape, shape}
+use Rattle.chart_trace.proofs.Shape.{shape}
 use Rattle.chart.specs.Chart.{rootsFound, rootWeight, rootTrace}
 use Rattle.cost_ranges.specs.Model.{raiseNodes, nodesWeight, tableBy, weightBy, hasLeast, decide, found, passed, leftBy}
 use Rattle.cost_ranges.specs.declared.Pass.{Pass}

@@ -124,21 +124,32 @@ module _ (grammar low high work : List ℕ) where
           × D.CostRanges grammar low high work least greatest code work′ (leastBy s least) (greatestBy s greatest))))
       ranges-told ec ew meant =
           let l = least-told in
-          let h = greatest-told in
-          (ec, (ew, (l, (h, record {
-            demand-1 = first rangesNumber (ranges-row grammar low high (length work)) ec
-                (λ a p. (refl, l ∙ ap (λ (v : Verdict Answer). leastAfter v least) p, h ∙ ap (λ (v : Verdict Answer). greatestAfter v greatest) p, ew ∙ ap (λ (v : Verdict Answer). tableAfter v work) p))
-                (λ n p. (ew ∙ ap (λ (v : Verdict Answer). tableAfter v work) p, l ∙ ap (λ (v : Verdict Answer). leastAfter v least) p, h ∙ ap (λ (v : Verdict Answer). greatestAfter v greatest) p));
-            meant = λ g eg u eu v ev risen room.
-                let (a, is, answers, zeros) = meant g eg u eu v ev risen room in
-                let same : s ≡ answered a = sym told ∙ is in (
-                  a,
-                  (
-                    ec ∙ sym ranged-code ∙ ap rangedCode same ∙ answer-code a,
-                    ap (λ (x : Ranged). leastBy x least) same ∙ answer-least a least,
-                    ap (λ (x : Ranged). greatestBy x greatest) same ∙ answer-greatest a greatest,
-                  ),
-                  answers,
-                  zeros,
-                );
-          }))))
+          let h = greatest-told in (
+            ec,
+            (
+              ew,
+              (
+                l,
+                (
+                  h,
+                  record {
+                    demand-1 = first rangesNumber (ranges-row grammar low high (length work)) ec
+                        (λ a p. (refl, l ∙ ap (λ (v : Verdict Answer). leastAfter v least) p, h ∙ ap (λ (v : Verdict Answer). greatestAfter v greatest) p, ew ∙ ap (λ (v : Verdict Answer). tableAfter v work) p))
+                        (λ n p. (ew ∙ ap (λ (v : Verdict Answer). tableAfter v work) p, l ∙ ap (λ (v : Verdict Answer). leastAfter v least) p, h ∙ ap (λ (v : Verdict Answer). greatestAfter v greatest) p));
+                    meant = λ g eg u eu v ev risen room.
+                        let (a, is, answers, zeros) = meant g eg u eu v ev risen room in
+                        let same : s ≡ answered a = sym told ∙ is in (
+                          a,
+                          (
+                            ec ∙ sym ranged-code ∙ ap rangedCode same ∙ answer-code a,
+                            ap (λ (x : Ranged). leastBy x least) same ∙ answer-least a least,
+                            ap (λ (x : Ranged). greatestBy x greatest) same ∙ answer-greatest a greatest,
+                          ),
+                          answers,
+                          zeros,
+                        );
+                  },
+                ),
+              ),
+            ),
+          )

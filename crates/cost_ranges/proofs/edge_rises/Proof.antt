@@ -1,5 +1,5 @@
 -- Each test of the code is one of the definition's, of the numbers from 4 e on.
-use mathlib.Core.Path.{sym, _∙_}
+use mathlib.Core.Path.{_∙_}
 use Rattle.cost_ranges.proofs.Rise.{edge-same, other-word, other-place}
 use borrow.Author.Needs.{needs}
 use Rattle.cost_ranges.proofs.edge_rises.Statement.{statement}
@@ -36,18 +36,18 @@ cost-rises-requires : tie.Need-cost-rises-requires
 cost-rises-requires c κs = search needs
 
 returns : tie.Need-returns
-returns c = 
+returns c =
     let a = c .before .before .before .before .before .before .before .before .before .before .before .args in
     c .cost-rises .ensures ∙ edge-same (a .low .now) (a .high .now) (a .e) (c .before .before .before .before .before .before .before .before .narrow-at .ensures) (c .before .before .before .before .before .before .before .narrow-at2 .ensures) (c .before .before .before .before .before .narrow-at3 .ensures) (c .before .before .before .before .narrow-at4 .ensures)
     (c .before .before .narrow-at5 .ensures) (c .before .narrow-at6 .ensures) (c .before .before .before .before .before .before .if1 .taken) (c .before .before .before .if2 .taken)
 
 returns-2 : tie.Need-returns-2
-returns-2 c = 
+returns-2 c =
     let a = c .before .before .before .before .before .before .before .before .args in
     other-word (a .low .now) (a .high .now) (a .e) (c .before .before .narrow-at3 .ensures) (c .before .narrow-at4 .ensures) (c .if2 .left)
 
 returns-3 : tie.Need-returns-3
-returns-3 c = 
+returns-3 c =
     let a = c .before .before .before .before .before .args in
     other-place (a .low .now) (a .high .now) (a .e) (c .before .before .narrow-at .ensures) (c .before .narrow-at2 .ensures) (c .if1 .left)
 

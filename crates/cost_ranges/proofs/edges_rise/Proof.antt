@@ -1,5 +1,5 @@
 -- After e turns the first e edges rise, so whether all do is told by the rest.
-use mathlib.Core.Path.{_≡_, refl, sym, _∙_}
+use mathlib.Core.Path.{_≡_, sym, _∙_}
 use Prim.Native.Nat.{_-_, _≤_}
 use native.Mathlib.Nat.{sub-zero}
 use native.Mathlib.Omega.{arith}
@@ -27,17 +27,17 @@ loop-less : tie.Need-loop-less Inv-loop μ-loop
 loop-less c = omega arith
 
 loop-again : tie.Need-loop-again Inv-loop μ-loop
-loop-again c = 
+loop-again c =
     let a = c .before .before .before .before .before .before .args in
     (omega arith, rises-here (a .low .now) (a .high .now) (c .before .before .before .loop .e) (a .count) (c .before .before .loop-test .taken) (sym (c .before .edge-rises .ensures) ∙ c .if1 .taken) ∙ c .before .before .before .loop .inv .1)
 
 returns : tie.Need-returns Inv-loop μ-loop
-returns c = 
+returns c =
     let a = c .before .before .before .before .before .before .args in
     sym (falls-here (a .low .now) (a .high .now) (c .before .before .before .loop .e) (a .count) (c .before .before .loop-test .taken) (sym (c .before .edge-rises .ensures) ∙ c .if1 .left)) ∙ c .before .before .before .loop .inv .1
 
 returns-2 : tie.Need-returns-2 Inv-loop μ-loop
-returns-2 c = 
+returns-2 c =
     let a = c .before .before .before .before .args in
     sym (none-left (a .low .now) (a .high .now) (c .before .loop .e) (a .count) (c .loop-test .left)) ∙ c .before .loop .inv .1
 

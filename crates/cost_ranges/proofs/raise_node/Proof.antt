@@ -1,5 +1,4 @@
 -- The rule's kind decides whether the node is a leaf.
-use mathlib.Core.Path.{ap, _∙_}
 use native.Mathlib.Omega.{arith}
 use Rattle.cost_ranges.proofs.Raise.{pair-node, word-node}
 use borrow.Author.Needs.{needs}
@@ -46,7 +45,7 @@ add-result : tie.Need-add-result
 add-result c = search needs
 
 returns : tie.Need-returns
-returns c = 
+returns c =
     let a = c .before .before .before .before .before .before .before .before .before .args in
     let (kept, weighs) = pair-node (a .rules .now) (a .high .now) (a .costs .now) (a .rule) (a .edge) (c .before .before .before .before .rule-at .ensures) (c .before .before .before .before .before .wide .ensures .0) (c .before .before .kind .given .1) (c .wide2 .ensures .0) in
     (kept, (weighs, omega (arith, c .wide2 .ensures .1)))
@@ -55,7 +54,7 @@ same-length : tie.Need-same-length
 same-length c = search needs
 
 returns-2 : tie.Need-returns-2
-returns-2 c = 
+returns-2 c =
     let a = c .before .before .before .before .before .before .before .before .before .before .before .before .before .before .before .before .args in
     let (raised, weighs) = word-node (a .rules .now) (a .high .now) (a .costs .now) (a .rule) (a .edge) (c .before .before .before .before .before .before .before .before .before .before .before .rule-at .ensures) (c .before .before .before .before .before .before .before .before .before .before .before .before .wide .ensures .0) (c .before .before .before .before .before .before .before .before .before .kind2 .given .1) (c .before .before .before .before .before .before .before .wide3 .ensures .0)
     (c .before .before .before .before .before .before .narrow-at .ensures) (c .before .before .before .before .store .ensures) (c .before .wide4 .ensures .0) (c .wide5 .ensures .0) in

@@ -10,7 +10,7 @@ use Rattle.cost_ranges.proofs.raise_own.Statement.{statement}
 use Rattle.cost_ranges.proofs.raise_own.Tie as tie
 
 abbrev Inv-loop : tie.InvT-loop
-Inv-loop rules trace nodes high costs₀ own₀ i₀ costs own i = 
+Inv-loop rules trace nodes high costs₀ own₀ i₀ costs own i =
     (i ≤ nodes) × (own ≤ 8589934592 * i) × (length costs ≡ length costs₀)
     × Remains rules trace nodes i high (nodesIn rules (take (2 * nodes) trace)) costs₀ costs own
 
@@ -51,7 +51,7 @@ loop-less : tie.Need-loop-less Inv-loop μ-loop
 loop-less c = omega arith
 
 loop-again : tie.Need-loop-again Inv-loop μ-loop
-loop-again c = 
+loop-again c =
     let a = c .before .before .before .before .before .before .before .before .before .before .before .before .args in
     let e = c .before .before .raise-node .ensures in (
       omega arith,
@@ -65,7 +65,7 @@ same-length : tie.Need-same-length Inv-loop μ-loop
 same-length c = c .before .loop .inv .2
 
 returns : tie.Need-returns Inv-loop μ-loop
-returns c = 
+returns c =
     let a = c .before .before .before .before .before .before .args in
     none-remain (a .rules .now) (a .trace .now) (a .nodes) (c .before .loop .i) (a .high .now) (nodesIn (a .rules .now) (take (2 * a .nodes) (a .trace .now))) (c .loop-test .left) (c .before .loop .inv .3)
 

@@ -1,5 +1,4 @@
 -- The length of the work table decides between the refusal and the passes.
-use mathlib.Core.Path.{_≡_}
 use Prim.Native.Nat.{_≤_, _<_}
 use native.Mathlib.Omega.{arith}
 use borrow.Author.Needs.{needs}
