@@ -19,7 +19,7 @@ LOW and HIGH are two utterances of slots, alike but for their costs, of which no
 says to what HIGH says. The first line has the least and the greatest weight that a first reading can have. The second has
 the first reading for LOW, which stands if under no choice of costs another is strictly lighter. If the grammar does not
 derive the utterance, nothing is printed, and a message says so.",
-    example: "spireyerba ranges grammar.txt low.txt high.txt",
+    example: "spireyerba ranges grammar.txt utterance.txt high.txt",
     run,
 };
 
