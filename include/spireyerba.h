@@ -23,17 +23,17 @@
 ** the time of one call, and no pointer is kept. The library allocates nothing,
 ** and 64 KiB of stack suffice (measured, not proved: tests/tests/stack.rs). A
 ** pointer must be valid for its length, aligned for its type and not null (for
-** an empty slice, any address that is not null will do); out, work and chance may
-** not overlap each other or another slice.
+** an empty slice, any address that is not null will do); out, work, chance, least
+** and greatest may not overlap each other or another slice.
 **
-** WHAT IS WRITTEN. Only out, work and chance are ever changed, and a refusal
-** changes nothing at all. An answer leaves its result at the front of out, as long as
+** WHAT IS WRITTEN. Only out, work, chance, least and greatest are ever changed,
+** and a refusal changes nothing at all. An answer leaves its result at the front of out, as long as
 ** the function says, everything behind it as it was, and all of work zero. This
 ** holds whatever out and work held before.
 **
 ** THREADS. The library has no state: no variable, no file, no lock. Any
-** functions may run at once on any threads, as long as no out, work or chance is
-** lent to two calls at a time.
+** functions may run at once on any threads, as long as nothing that is written to
+** is lent to two calls at a time.
 */
 #ifndef SPIREYERBA_H
 #define SPIREYERBA_H
@@ -426,6 +426,37 @@ int32_t spireyerba_panel_listing(
     uint32_t wanted,
     uint32_t *work, size_t work_len,
     uint8_t *out, size_t out_len);
+
+/* Refusal of ranges of costs. */
+enum {
+    SPIREYERBA_COST_RANGES = 59      /* other than costs differs, a cost falls, or NOT_HEARD is in one only */
+};
+
+/*
+** COST RANGES. A recogniser may know the cost of each word of each slot only
+** within a range. low and high are blocks of two utterances of slots, alike but
+** for their costs, none of which falls from low to high; NOT_HEARD stands in both
+** or in neither. A choice gives each word a cost from its low to its high one.
+**
+** Answers 0 if there is no derivation; then there is none under any choice. Else
+** *least and *greatest are the least and the greatest weight that a first reading
+** has over all choices, both of them reached, and the answer is about the first
+** reading for the low costs, by the order of the listing: 1 if under some choice
+** some derivation is strictly lighter, 2 if under none. A tie does not outweigh.
+**
+** work is as for a listing of one reading, spireyerba_work_length(S, n, 1)
+** numbers; after an answer, also 0, all of it is zero. With the answer 0, and with
+** a refusal, *least and *greatest are as they were.
+**
+** Refuses with any of GRAMMAR_...; any of UTTERANCE_... for low, then for high (a
+** graph is UTTERANCE_KIND); then COST_RANGES, then LISTING_WORK.
+*/
+int32_t spireyerba_cost_ranges(
+    const uint8_t *grammar, size_t grammar_len,
+    const uint8_t *low, size_t low_len,
+    const uint8_t *high, size_t high_len,
+    uint32_t *work, size_t work_len,
+    uint32_t *least, uint32_t *greatest);
 
 #ifdef __cplusplus
 }

@@ -1,18 +1,23 @@
-//! Sheets to blocks and back, and the check and the chance of a reading, which read all three blocks: the library beside the
-//! second implementation.
+//! Sheets to blocks and back, the check and the chance of a reading, which read all three blocks, and costs known within ranges: the
+//! library beside the second implementation.
 
 use crate::inputs::{graphs, greatest, Input};
 use crate::measure::{medians, micros, ratio, Plan};
 use crate::table::{print_head, print_row};
-use spireyerba::limits::MAX_SHARE;
+use spireyerba::limits::{work_length, MAX_SHARE};
 use spireyerba::{services, Item, Office, OfficeRule, Refusal};
 use spireyerba_tests::chance::chance;
 use spireyerba_tests::check::check;
+use spireyerba_tests::cost_ranges::cost_ranges;
 use spireyerba_tests::heard::Heard;
 use spireyerba_tests::{conversions, grammar, utterance};
+use std::cell::RefCell;
 use std::hint::black_box;
 
 const PLAN: Plan = Plan { rounds: 301, calls: 20 };
+
+/// Of what takes milliseconds.
+const FEW: Plan = Plan { rounds: 21, calls: 1 };
 
 pub fn print_table() {
     let input = greatest(24);
@@ -56,6 +61,13 @@ pub fn print_table() {
     print_check("check of a reading of a graph", &graphs()[0]);
     print_chance("chance of a reading", &input);
     print_chance("chance of a reading of a graph", &graphs()[0]);
+    print_ranges(
+        "ranges of costs that are known",
+        &grammar_block,
+        &block,
+        grammar.symbols as usize,
+        utterance.slots.len(),
+    );
 }
 
 /// 16 symbols and 240 rules, of which one in eight has a word in a body of two or three items.
@@ -99,8 +111,32 @@ fn print_chance(name: &str, Input { grammar, heard, .. }: &Input) {
     );
 }
 
+/// Ranges of one cost each, so that the second implementation has one choice to try.
+fn print_ranges(name: &str, grammar: &[u8], block: &[u8], symbols: usize, slots: usize) {
+    let work = RefCell::new(vec![0; work_length(symbols, slots, 1)]);
+    let call = |service: CostRanges, out: &mut [u32]| {
+        let [least, greatest] = out else { unreachable!("two weights") };
+        service(grammar, block, block, &mut work.borrow_mut(), least, greatest).map(|_| 2)
+    };
+    let mut weights = [0; 2];
+    call(cost_ranges, &mut weights).expect("ranges of costs");
+    print_planned(FEW, name, &weights, |out| call(services::cost_ranges, out), |out| call(cost_ranges, out));
+}
+
+type CostRanges = fn(&[u8], &[u8], &[u8], &mut [u32], &mut u32, &mut u32) -> Result<services::FirstReading, Refusal>;
+
 /// One service, which answers the length of its result and writes that.
 fn print_call<T: Copy + Default + PartialEq>(
+    name: &str,
+    result: &[T],
+    library: impl Fn(&mut [T]) -> Result<usize, Refusal>,
+    second: impl Fn(&mut [T]) -> Result<usize, Refusal>,
+) {
+    print_planned(PLAN, name, result, library, second);
+}
+
+fn print_planned<T: Copy + Default + PartialEq>(
+    plan: Plan,
     name: &str,
     result: &[T],
     library: impl Fn(&mut [T]) -> Result<usize, Refusal>,
@@ -110,7 +146,7 @@ fn print_call<T: Copy + Default + PartialEq>(
     let mut from_second = from_library.clone();
     let mut call_library = || assert!(library(black_box(&mut from_library)) == Ok(result.len()), "{name}");
     let mut call_second = || assert!(second(black_box(&mut from_second)) == Ok(result.len()), "{name}");
-    let [ours, other] = medians(PLAN, [&mut call_library, &mut call_second]);
+    let [ours, other] = medians(plan, [&mut call_library, &mut call_second]);
     assert!(from_library == result && from_second == result, "{name}: wrong result");
     print_row(name, &[micros(ours), micros(other), ratio(ours, other)]);
 }

@@ -18,6 +18,7 @@
 //! | [`Office`], [`MarkedGrammar`] | rules as offices write them, and what they become; [`Office::to_grammar`], [`MarkedGrammar::to_office`] |
 //! | [`Graph`], [`GraphReading`] | word graphs, which have blocks and no sheets; [`Grammar::list_graph`], [`Grammar::check_graph`] |
 //! | [`Grammar::specimen`], [`Phrases`] | what can be said in a grammar |
+//! | [`Grammar::cost_ranges`], [`CostRanges`] | the first reading where costs are known within ranges |
 //! | [`Lister`] | many listings under one grammar, in memory that is kept, the library's or a desk panel's |
 //! | [`Grammar::chance`], [`Grammar::chance_graph`] | the product of the shares of a reading's rules |
 //! | [`Tree`] | a reading as a tree |
@@ -59,6 +60,7 @@ mod lister;
 mod marked;
 mod office;
 mod phrases;
+mod ranges;
 mod reading;
 mod refusal;
 mod tree;
@@ -71,6 +73,7 @@ pub use lister::{Found, Lister};
 pub use marked::MarkedGrammar;
 pub use office::{Item, Office, OfficeRule};
 pub use phrases::Phrases;
+pub use ranges::CostRanges;
 pub use reading::{GraphReading, Reading};
 pub use refusal::Refusal;
 pub use tree::{Part, Tree};

@@ -85,6 +85,18 @@ extern "C" {
         out: *mut u8,
         out_len: usize,
     ) -> i32;
+    fn spireyerba_cost_ranges(
+        grammar: *const u8,
+        grammar_len: usize,
+        low: *const u8,
+        low_len: usize,
+        high: *const u8,
+        high_len: usize,
+        work: *mut u32,
+        work_len: usize,
+        least: *mut u32,
+        greatest: *mut u32,
+    ) -> i32;
 }
 
 /// What an exported function returns: 0 or more is its answer, less is minus a refusal's number.
@@ -443,5 +455,68 @@ pub fn panel_listing(
             out.as_mut_ptr(),
             out.len(),
         )
+    })
+}
+
+/// What [`cost_ranges`] says of the first reading for the low costs.
+#[derive(Clone, Copy, Debug, PartialEq, Eq, Hash)]
+pub enum FirstReading {
+    /// There is none, under no choice of costs.
+    Nothing,
+    /// Under some choice of costs another reading is strictly lighter.
+    Outweighed,
+    /// Under every choice of costs it has least weight.
+    Stands,
+}
+
+/// Says how the first weight can vary where costs are known within ranges, and whether the first reading can be outweighed.
+///
+/// Takes a grammar's block and two blocks of utterances of slots, alike but for their costs, of which none falls from `low` to
+/// `high`; [`NOT_HEARD`](crate::limits::NOT_HEARD) stands in both or in neither. A choice gives each word of each slot a cost
+/// from its low to its high one. Writes the least and the greatest first weight over all choices, both of them reached, to
+/// `least` and `greatest`, unless there is no derivation: then both are as they were. The table `work`, which may hold anything,
+/// has at least [`work_length`](crate::limits::work_length) numbers for one reading, and is all zeros afterwards.
+///
+/// Refuses with 1 to 7 for the grammar; with 11 to 16 for `low`, then for `high`; then with
+/// [`CostRanges`](Refusal::CostRanges), then with [`ListingWork`](Refusal::ListingWork).
+///
+/// ```
+/// use spireyerba::services::{cost_ranges, FirstReading};
+///
+/// let grammar = [0x10, 0xc1, 0x00, 0xa0, 0x00, 0x01, 0xa8, 0x00, 0x29, 0x40, 0x00, 0xdc, 0x00, 0x03, 0x60, 0x00, 0x3c];
+/// // two slots of two words each: all costs 0, and at most 9 3 and 2 9
+/// let low = [0x20, 0x90, 0x00, 0x00, 0x80, 0x00, 0x28, 0x00, 0x03, 0x00, 0x00];
+/// let high = [0x20, 0x90, 0x00, 0x12, 0x80, 0x01, 0xa8, 0x00, 0x0b, 0x00, 0x09];
+/// let (mut work, mut least, mut greatest) = ([0; 36], 0, 0);
+/// let first = cost_ranges(&grammar, &low, &high, &mut work, &mut least, &mut greatest);
+/// assert_eq!((first, least, greatest), (Ok(FirstReading::Outweighed), 4, 9));
+/// ```
+pub fn cost_ranges(
+    grammar: &[u8],
+    low: &[u8],
+    high: &[u8],
+    work: &mut [u32],
+    least: &mut u32,
+    greatest: &mut u32,
+) -> Result<FirstReading, Refusal> {
+    // SAFETY: the slices are borrowed until the call returns, `work`, `least` and `greatest` for it alone.
+    let code = unsafe {
+        spireyerba_cost_ranges(
+            grammar.as_ptr(),
+            grammar.len(),
+            low.as_ptr(),
+            low.len(),
+            high.as_ptr(),
+            high.len(),
+            work.as_mut_ptr(),
+            work.len(),
+            least,
+            greatest,
+        )
+    };
+    Ok(match answer(code)? {
+        0 => FirstReading::Nothing,
+        1 => FirstReading::Outweighed,
+        _ => FirstReading::Stands,
     })
 }

@@ -38,6 +38,11 @@ static const uint8_t office_block[] = {0x40, 0x40, 0x40, 0x30, 0x00, 0x00};
 static const uint32_t lone_symbol[] = {1, 1, 1, 0, 0, 1, 0, 0};
 /* Document 02's shares of G's two rules, with the chance of the reading: 2 to the power -3. */
 static const uint32_t shares[] = {512, SPIREYERBA_MAX_SHARE};
+/* Document 01's fifth P grammar and two slots of two words each: costs from 0 up to 9 3 and 2 9. */
+static const uint8_t fifth_block[] = {0x10, 0xc1, 0x00, 0xa0, 0x00, 0x01, 0xa8, 0x00, 0x29,
+                                      0x40, 0x00, 0xdc, 0x00, 0x03, 0x60, 0x00, 0x3c};
+static const uint8_t low_block[] = {0x20, 0x90, 0x00, 0x00, 0x80, 0x00, 0x28, 0x00, 0x03, 0x00, 0x00};
+static const uint8_t high_block[] = {0x20, 0x90, 0x00, 0x12, 0x80, 0x01, 0xa8, 0x00, 0x0b, 0x00, 0x09};
 static uint32_t work[320];
 static int failures;
 
@@ -65,6 +70,7 @@ static void fill_outputs(void) {
 int main(void) {
     int32_t answer;
     double chance;
+    uint32_t least_weight, greatest_weight;
 
     fill_outputs();
     answer = spireyerba_grammar_to_block(g_sheet, LENGTH(g_sheet), block, LENGTH(block));
@@ -182,6 +188,17 @@ int main(void) {
     expect(answer == -SPIREYERBA_READING_KIND, "a reading of slots is none of a graph");
     answer = spireyerba_utterance_to_sheet(g_block, LENGTH(g_block), graph_block, LENGTH(graph_block), sheet, LENGTH(sheet));
     expect(answer == -SPIREYERBA_UTTERANCE_KIND, "a graph has no sheet");
+
+    memset(work, 0xa5, sizeof work);
+    least_weight = greatest_weight = 0xa5a5a5a5;
+    answer = spireyerba_cost_ranges(fifth_block, LENGTH(fifth_block), high_block, LENGTH(high_block), low_block, LENGTH(low_block),
+                                    work, LENGTH(work), &least_weight, &greatest_weight);
+    expect(answer == -SPIREYERBA_COST_RANGES && least_weight == 0xa5a5a5a5 && greatest_weight == 0xa5a5a5a5 && work[0] == 0xa5a5a5a5,
+           "a cost that falls is refused, and nothing is written");
+    answer = spireyerba_cost_ranges(fifth_block, LENGTH(fifth_block), low_block, LENGTH(low_block), high_block, LENGTH(high_block),
+                                    work, spireyerba_work_length(3, 2, 1), &least_weight, &greatest_weight);
+    expect(answer == 1 && least_weight == 4 && greatest_weight == 9, "the first weight is from 4 to 9, and the first reading is outweighed");
+    expect(work[0] == 0 && work[35] == 0 && work[36] == 0xa5a5a5a5, "the work table is zero, and nothing behind it is touched");
 
     return failures != 0;
 }

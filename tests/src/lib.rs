@@ -9,7 +9,7 @@
 //! | `graph`, `graph_reading` | the blocks of word graphs and of their readings |
 //! | `heard` | slots or a graph, and the words that they offer |
 //! | `office` | rules as offices write them: the sheet, what it becomes, their derivations |
-//! | `conversions`, `check`, `chance`, `listing`, `specimen` | the services over lent slices; the next phrase stands with the specimen, the panel's listing with the listing |
+//! | `conversions`, `check`, `chance`, `cost_ranges`, `listing`, `specimen` | the services over lent slices; the next phrase stands with the specimen, the panel's listing with the listing |
 //! | `derivation` | trees, their order, and all derivations sorted by it |
 //! | `nbest` | the N best trees of each cell, where all derivations are too many |
 //! | `compare` | one call of both on the same slices, held to each other |
@@ -20,6 +20,7 @@ pub mod chance;
 pub mod check;
 pub mod compare;
 pub mod conversions;
+pub mod cost_ranges;
 pub mod derivation;
 pub mod grammar;
 pub mod graph;

@@ -59,6 +59,15 @@ fn expect_answers(grammar: &Grammar, utterance: &Utterance) {
     assert_eq!(on_small_stack(|| services::next_phrase(&grammar_block, 6, false, &mut bytes)), Ok(true));
     assert_eq!(bytes[..6], [0, 0, 0, 0, 0, 1]);
     expect_list(&grammar_block, &block, READING_BLOCK_MAX);
+    expect_ranges(&grammar_block, &block);
+}
+
+/// Costs that are known exactly: the first reading stands, at its own weight.
+fn expect_ranges(grammar: &[u8], block: &[u8]) {
+    let mut work = vec![7; work_length(32, 24, 1)];
+    let (mut least, mut greatest) = (0, 0);
+    let answer = on_small_stack(|| services::cost_ranges(grammar, block, block, &mut work, &mut least, &mut greatest));
+    assert_eq!((answer, least == greatest), (Ok(services::FirstReading::Stands), true));
 }
 
 /// As many readings as can be wanted, of so many bytes each, which all pass the check; the chance of each is 1 / 1,024 to the

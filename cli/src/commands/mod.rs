@@ -9,6 +9,7 @@ mod pack;
 mod panel;
 mod phrases;
 mod pick;
+mod ranges;
 mod report;
 mod specimen;
 mod unpack;
@@ -50,6 +51,7 @@ pub const COMMANDS: &[Command] = &[
     lint::COMMAND,
     specimen::COMMAND,
     phrases::COMMAND,
+    ranges::COMMAND,
     check::COMMAND,
     chance::COMMAND,
     pack::COMMAND,

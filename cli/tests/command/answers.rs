@@ -224,6 +224,33 @@ fn specimen_of_a_length() {
 }
 
 #[test]
+fn ranges_of_costs() {
+    let stands = "first weight: 72 to 84\nstands: door twenty four oak fire thirty\n";
+    assert_eq!(answer("ranges grammar.txt utterance.txt high.txt"), stands);
+    let texts = folder(
+        "ranges",
+        &[
+            ("grammar", b"Entry -> Door Number\nDoor -> \"door\"\nNumber -> \"four\" | \"five\" [2]\n"),
+            ("low", b"door 3\nfour 1 | five 1\n"),
+            ("high", b"door 3\nfour 3 | five 5\n"),
+            ("higher", b"door 3\nfour 9 | five 5\n"),
+            ("other", b"door 3\nfour 9\n"),
+            ("silent", b"door 65535\nfour 1 | five 1\n"),
+        ],
+    );
+    let answer = |words: &str| run_with(&texts, &format!("ranges grammar {words}"), b"");
+    assert_eq!(answer("low high").out, "first weight: 4 to 6\nstands: door four\n");
+    assert_eq!(answer("low higher").out, "first weight: 4 to 10\ncan be outweighed: door four\n");
+    let none = answer("silent silent");
+    assert_eq!((none.status, none.out.as_str()), (0, ""));
+    assert_eq!(none.err, "none: the grammar does not derive the utterance\n");
+    let refusal =
+        "refused 59: the utterances differ elsewhere than in costs, a cost falls, or 65,535 stands in one only\n";
+    assert_eq!(refused(answer("high low"), 1), refusal);
+    assert_eq!(refused(answer("low other"), 1), refusal);
+}
+
+#[test]
 fn phrases_of_a_length() {
     let phrases = answer("phrases grammar.txt 3");
     assert!(

@@ -6,9 +6,9 @@ use std::io::Write;
 use std::path::Path;
 use std::process::{Command, Stdio};
 
-const COMMANDS: [&str; 13] = [
-    "list", "panel", "pick", "why", "report", "batch", "lint", "specimen", "phrases", "check", "chance", "pack",
-    "unpack",
+const COMMANDS: [&str; 14] = [
+    "list", "panel", "pick", "why", "report", "batch", "lint", "specimen", "phrases", "ranges", "check", "chance",
+    "pack", "unpack",
 ];
 
 #[test]

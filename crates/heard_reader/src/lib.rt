@@ -49,7 +49,7 @@ fn read_graph(block: &[u8], words: u32, edges: &mut [u32]) -> HeardRead
 }
 
 // A block read as slots.
-fn read_slots(block: &[u8], words: u32, edges: &mut [u32]) -> HeardRead
+pub fn read_slots(block: &[u8], words: u32, edges: &mut [u32]) -> HeardRead
     requires { do ⌜ (0 < words) × (words ≤ (← ⟦MAX_WORDS⟧)) × ((← ⟦EDGES_LENGTH⟧) ≤ length (now edges)) ⌝ }
     ensures { λ r. ⌜ Promised (asSlots words (now (block .entry))) (now (edges .exit)) r ⌝ }
 {

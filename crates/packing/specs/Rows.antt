@@ -1,5 +1,5 @@
 -- The numbers that each place can refuse with: document 01's table "Where each check stands", row by row, and document 02, N1, of word
--- graphs, N5, of office sheets, N8, of the panel, and N14, of chances. Assumes nothing.
+-- graphs, N5, of office sheets, N8, of the panel, N11, of costs known within ranges, and N14, of chances. Assumes nothing.
 use mathlib.Core.Logic.{_⊎_}
 use mathlib.Core.Path.{_≡_}
 use Prim.Native.Nat.{ℕ, _≤_}
@@ -66,3 +66,7 @@ OutputRow n = n ≡ 43
 -- "60 the number of shares is not R ..; 61 a share outside 1 to 1,024"
 abbrev pub SharesRow : ℕ → Type 0
 SharesRow n = Between 60 61 n
+
+-- "59 the blocks differ elsewhere than in costs, a cost falls from low to high, or 65,535 stands in one only, .. and before 22 for one reading"
+abbrev pub RangesRow : ℕ → Type 0
+RangesRow n = (n ≡ 59) ⊎ (n ≡ 22)

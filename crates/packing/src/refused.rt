@@ -77,6 +77,9 @@ pub const PANEL_SLOTS: u32 = 57; // more slots, or places, than the panel takes
 
 pub const PANEL_WANTED: u32 = 58; // N above what the panel lists
 
+// Of costs known within ranges.
+pub const COST_RANGES: u32 = 59; // other than costs differs, a cost falls, or 65,535 stands in one only
+
 // Of the shares of a grammar's rules.
 pub const SHARES_COUNT: u32 = 60; // their number is not R
 

@@ -19,7 +19,11 @@ use Rattle.phrases.specs.Phrases.{wordOrder}
 use Rattle.phrases.specs.Enumeration.{firstPhrase, nextPhrase}
 use Rattle.specimen.specs.Specimen.{specimen}
 use Rattle.next_phrase.specs.NextPhrase.{next}
-use Rattle.proved_cases.specs.Table.{AllHold, N6-cases, N8-cases, P-cases}
+use Rattle.cost_changes.specs.Costs.{edgesOf}
+use Rattle.cost_changes.specs.Ranges.{slotRises, rises}
+use Rattle.cost_changes.specs.Passes.{raised, answerOf, answer}
+use Rattle.cost_ranges.specs.CostRanges.{ranged, ranges}
+use Rattle.proved_cases.specs.Table.{AllHold, N6-cases, N8-cases, N11-cases, P-cases}
 
 pub ties-hold : AllHold N6-cases
 unfolding slotEdges edgesFrom num bitsOf pack ended widthOf widthFrom bitsOfAll inRange fieldAt ruleFrom markedRuleFrom anyLike unlikeFrom grammarFrom blockBy markedBlock grammarBlock markedRulesEntries markedEntries blockOfMarked candidatesFrom slotFrom slotsFrom utteranceFrom utteranceBlock heardBlock candidatesEntries slotsEntries utteranceEntries blockOfUtterance walkFrom readingFrom walkEntries readingEntries blockOfReading weight costSum walk reading trees ranked tableSize readingLength listed list joined fieldsFrom firstWith derivationOf check firstPhrase specimen
@@ -28,6 +32,10 @@ ties-hold = (refl, (refl, tt))
 pub panel-holds : AllHold N8-cases
 unfolding slotEdges edgesFrom num bitsOf pack ended widthOf widthFrom bitsOfAll inRange fieldAt ruleFrom markedRuleFrom anyLike unlikeFrom grammarFrom blockBy markedBlock grammarBlock markedRulesEntries markedEntries blockOfMarked candidatesFrom slotFrom slotsFrom utteranceFrom utteranceBlock heardBlock candidatesEntries slotsEntries utteranceEntries blockOfUtterance walkFrom readingFrom walkEntries readingEntries blockOfReading weight costSum walk reading trees ranked tableSize readingLength listed list joined
 panel-holds = (refl, (refl, (refl, (refl, (refl, (refl, (refl, (refl, (refl, (refl, tt))))))))))
+
+pub ranges-hold : AllHold N11-cases
+unfolding slotEdges edgesFrom num bitsOf pack ended widthOf widthFrom bitsOfAll inRange fieldAt ruleFrom markedRuleFrom anyLike unlikeFrom grammarFrom blockBy markedBlock grammarBlock markedRulesEntries markedEntries blockOfMarked candidatesFrom slotFrom slotsFrom utteranceFrom utteranceBlock candidatesEntries slotsEntries utteranceEntries blockOfUtterance weight costSum trees ranked tableSize slotRises rises edgesOf raised answerOf answer ranged ranges
+ranges-hold = (refl, (refl, (refl, (refl, (refl, (refl, (refl, tt)))))))
 
 pub cases-hold : AllHold P-cases
 unfolding slotEdges edgesFrom num bitsOf pack ended widthOf widthFrom bitsOfAll inRange fieldAt ruleFrom markedRuleFrom anyLike unlikeFrom grammarFrom blockBy markedBlock grammarBlock markedRulesEntries markedEntries blockOfMarked candidatesFrom slotFrom slotsFrom utteranceFrom utteranceBlock heardBlock candidatesEntries slotsEntries utteranceEntries blockOfUtterance walkFrom readingFrom walkEntries readingEntries blockOfReading weight costSum walk reading trees ranked tableSize readingLength listed list joined fieldsFrom firstWith derivationOf check firstPhrase specimen wordOrder nextPhrase next

@@ -23,12 +23,17 @@ use Rattle.specimen.specs.Specimen as Specimen
 use Rattle.specimen.specs.Specimen.{answeredOf, outputOf}
 use Rattle.specimen.specs.declared.Answered.{Answered}
 use Rattle.next_phrase.specs.NextPhrase as NextPhrase
+use Rattle.cost_ranges.specs.CostRanges as CostRanges
+use Rattle.cost_ranges.specs.CostRanges.{rangedOf}
+use Rattle.cost_ranges.specs.declared.Ranged.{Ranged}
+use Rattle.cost_ranges.specs.declared.Ranged.the-variants as Ranged
+use Rattle.cost_ranges.specs.declared.Ranged.the-variants.{Outweighed, Stands}
 use Rattle.specimen.specs.declared.Answered.the-variants.{Written, Nothing}
 
 -- a row: the block of a grammar and of an utterance; the readings that the listing finds, with the lister's work table and
 -- output; its answer m, and the bytes that it writes in front of the output; a reading block that passes the check, and one that it
 -- refuses; what the specimen and the next phrase answer, and the output before and after; what the panel answers, lent so many numbers of work
--- table and bytes of output
+-- table and bytes of output; what is answered for costs between low and high, with a work table of so many numbers
 pub data Case : Type 0 where
   grammar : (g : Grammar) (block : List ℕ) → Case
   utterance : (g : Grammar) (u : Utterance) (block : List ℕ) → Case
@@ -39,6 +44,7 @@ pub data Case : Type 0 where
   specimen : (g : Grammar) (n : ℕ) (out : List ℕ) (answer : Answered) (after : List ℕ) → Case
   next : (g : Grammar) (n call : ℕ) (out : List ℕ) (answer : Answered) (after : List ℕ) → Case
   panel : (g : Grammar) (u : Utterance) (wanted work out : ℕ) (answer : Listed) → Case
+  ranges : (g : Grammar) (low high : Utterance) (work : ℕ) (answer : Ranged) → Case
 
 abbrev pub listedFor : Grammar → Utterance → ℕ → Verdict (List (List ℕ))
 listedFor g u wanted = list library (blockOfGrammar g) (blockOfUtterance (g .words) u) wanted 8192 1024
@@ -59,6 +65,8 @@ Holds (specimen g n out answer after) =
 Holds (next g n call out answer after) =
     (answeredOf (NextPhrase.next (blockOfGrammar g) n call out) ≡ answer) × (outputOf (NextPhrase.next (blockOfGrammar g) n call out) out ≡ after)
 Holds (panel g u wanted work out answer) = listedOf (list Listing.panel (blockOfGrammar g) (blockOfUtterance (g .words) u) wanted work out) ≡ answer
+Holds (ranges g low high work answer) =
+    rangedOf (CostRanges.ranges (blockOfGrammar g) (blockOfUtterance (g .words) low) (blockOfUtterance (g .words) high) work) ≡ answer
 
 abbrev pub AllHold : List Case → Type 0
 AllHold [] = Unit {0}
@@ -157,6 +165,21 @@ N8-cases =
     ∷ panel G (U 13) 16 8192 1024 (L.Refused 57)
     ∷ panel G (U 13) 0 8192 1024 (L.Refused 57)
     ∷ panel G (U 13) 300 8192 1024 (L.Refused 57)
+    ∷ []
+
+-- N11's: words 0 and 1 in slot 0, words 2 and 3 in slot 1, at these costs
+abbrev pub costing : ℕ → ℕ → ℕ → ℕ → Utterance
+costing a b c d = (offer 0 a ∷ offer 1 b ∷ []) ∷ (offer 2 c ∷ offer 3 d ∷ []) ∷ []
+
+abbrev pub N11-cases : List Case
+N11-cases =
+    ranges two-parts (costing 0 0 0 0) (costing 0 0 0 0) 36 (Stands (record { least = 4; greatest = 4 }))
+    ∷ ranges two-parts (costing 0 0 0 0) (costing 9 1 1 9) 36 (Stands (record { least = 4; greatest = 6 }))
+    ∷ ranges two-parts (costing 0 0 0 0) (costing 9 2 2 9) 36 (Stands (record { least = 4; greatest = 8 }))
+    ∷ ranges two-parts (costing 0 0 0 0) (costing 9 3 2 9) 36 (Outweighed (record { least = 4; greatest = 9 }))
+    ∷ ranges two-parts (costing 0 65534 0 0) (costing 0 65535 0 0) 36 (Ranged.Refused 59)
+    ∷ ranges two-parts ((offer 0 65535 ∷ []) ∷ (offer 2 0 ∷ []) ∷ []) ((offer 0 65535 ∷ []) ∷ (offer 2 0 ∷ []) ∷ []) 36 Ranged.Nothing
+    ∷ ranges two-parts (costing 0 0 0 0) (costing 0 0 0 0) 35 (Ranged.Refused 22)
     ∷ []
 
 abbrev pub P-cases : List Case

@@ -38,10 +38,10 @@ fits-code (small-refusal h) = fits-neg _ h
 -- the law for the services whose answer tells the verdict
 module _ {A B : Type 0} (size : A → ℕ) (tell : Verdict A → B) (code : B → ℤ) (v : Verdict A) (same : code (tell v) ≡ codeOf size v)
     {r s : B} where
-  told-code : r ≡ tell v → r ≡ s → code s ≡ codeOf size v
+  pub told-code : r ≡ tell v → r ≡ s → code s ≡ codeOf size v
   told-code e told = ap code (sym told ∙ e) ∙ same
 
-  told-number : {z : ℤ} → Small size v → r ≡ tell v → r ≡ s → z ≡ code s → toZ w32 (ofZ w32 z) ≡ codeOf size v
+  pub told-number : {z : ℤ} → Small size v → r ≡ tell v → r ≡ s → z ≡ code s → toZ w32 (ofZ w32 z) ≡ codeOf size v
   told-number small e told p = back (codeOf size v) (fits-code small) (p ∙ told-code e told)
 
 -- the conversions

@@ -70,7 +70,7 @@ module _ {A : Type 0} (size : A → ℕ) {code : ℤ} where
   )
 
   -- demand 1, from the code and what it says of the slices
-  first : {v : Verdict A} {Row : ℕ → Type 0} {Answer : A → ℕ → Type 0} {Unchanged : Type 0} → Refuses Row v → code ≡ codeOf size v
+  pub first : {v : Verdict A} {Row : ℕ → Type 0} {Answer : A → ℕ → Type 0} {Unchanged : Type 0} → Refuses Row v → code ≡ codeOf size v
       → ((a : A) → v ≡ accepted a → Answer a (size a)) → ((n : ℕ) → v ≡ refused n → Unchanged) → Demand1 v Answer Row Unchanged code
   first (granted {a}) e f h = rw e (answers refl (f a refl))
   first (denied {n} r) e f h = rw e (refuses refl r (h n refl))

@@ -8,6 +8,7 @@ use lib.IntN.{ℤ, pos, negℤ}
 use lib.ListN.{length}
 use Rattle.packing.specs.Parse.{Verdict, accepted, refused}
 use Rattle.derivation.specs.Derivation.{Tree}
+use Rattle.cost_changes.specs.Ranges.{Answer, nothing, outweighed, stands}
 
 -- of a verdict, whose answer is told by its size
 abbrev pub codeOf : {A : Type 0} → (A → ℕ) → Verdict A → ℤ
@@ -41,3 +42,30 @@ stringLength (some s) = length s
 
 abbrev pub stringCode : Verdict (Option (List ℕ)) → ℤ
 stringCode v = codeOf stringLength v
+
+-- costs known within ranges: 0 none, 1 outweighed under some choice, 2 under none. "Both numbers" are written on 1 and 2, and unchanged otherwise
+abbrev pub rangesNumber : Answer → ℕ
+rangesNumber nothing = 0
+rangesNumber (outweighed least greatest) = 1
+rangesNumber (stands least greatest) = 2
+
+abbrev pub rangesCode : Verdict Answer → ℤ
+rangesCode v = codeOf rangesNumber v
+
+abbrev pub leastOf : Answer → ℕ → ℕ
+leastOf nothing before = before
+leastOf (outweighed least greatest) before = least
+leastOf (stands least greatest) before = least
+
+abbrev pub greatestOf : Answer → ℕ → ℕ
+greatestOf nothing before = before
+greatestOf (outweighed least greatest) before = greatest
+greatestOf (stands least greatest) before = greatest
+
+abbrev pub leastAfter : Verdict Answer → ℕ → ℕ
+leastAfter (accepted a) before = leastOf a before
+leastAfter (refused n) before = before
+
+abbrev pub greatestAfter : Verdict Answer → ℕ → ℕ
+greatestAfter (accepted a) before = greatestOf a before
+greatestAfter (refused n) before = before

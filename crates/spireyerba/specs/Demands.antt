@@ -14,7 +14,7 @@ use Rattle.packing.specs.Meaning.{Grammar, Heard}
 use Rattle.packing.specs.Parse.{Verdict, accepted, refused}
 use Rattle.packing.specs.Grammar.{markedBlock, grammarBlock}
 use Rattle.packing.specs.Conversion.{grammarToBlock, grammarToSheet, utteranceToBlock, utteranceToSheet, fitting, TurnsBack}
-use Rattle.packing.specs.Rows.{_∪_, GrammarBlockRow, UtteranceBlockRow, HeardBlockRow, ListingRow, PanelRow, SpecimenRow, ReadingBlockRow, SharesRow, GrammarSheetRow, UtteranceSheetRow, OfficeSheetRow, OfficeSizeRow, OutputRow}
+use Rattle.packing.specs.Rows.{_∪_, GrammarBlockRow, UtteranceBlockRow, HeardBlockRow, ListingRow, PanelRow, SpecimenRow, ReadingBlockRow, SharesRow, RangesRow, GrammarSheetRow, UtteranceSheetRow, OfficeSheetRow, OfficeSizeRow, OutputRow}
 use Rattle.office.specs.Office.{Office}
 use Rattle.office.specs.Sheet.{officeSheet}
 use Rattle.office.specs.Conversion.{convert, convertMarked}
@@ -27,8 +27,10 @@ use Rattle.chance.specs.Chance.{chance, Shown}
 use Rattle.listing.specs.Listing.{library, panel, Within, list, joined}
 use Rattle.listing.specs.declared.Limits.{Limits}
 use Rattle.listing.specs.Demand3.{Demand3}
+use Rattle.cost_ranges.specs.CostRanges.{ranges, Meant}
 use Rattle.phrases.specs.Phrases.{Phrase, Precedes, Least}
 use Rattle.specimen.specs.Specimen.{asked}
+use Rattle.spireyerba.specs.Code.{rangesNumber, leastOf, greatestOf}
 
 -- Demand 1: "Whatever arrives, every service returns its stated answer or one refusal by number, and a refusal changes nothing lent."
 -- What is due for what arrived is a definition's, an answer or a refusal. The code of an answer is 0 or more, and `Answer` says what
@@ -120,6 +122,14 @@ pub record Chance (grammar heard reading shares : List ℕ) (float : Float) (cod
   pub demand-1 : Demand1 (chance grammar heard reading shares) (λ x n. (n ≡ 0) × (float′ ≡ x))
       (GrammarBlockRow ∪ HeardBlockRow ∪ ReadingBlockRow ∪ SharesRow) (float′ ≡ float) code
   pub near : code ≡ pos 0 → Shown grammar heard reading shares float′
+
+-- Document 02, N11: with the code 0 there is no derivation, with 1 and 2 the least and the greatest first weight over all choices of costs between
+-- low and high are written. `Meant` has "over all choices", "both of them reached" and "outweighed under no choice".
+pub record CostRanges (grammar low high work : List ℕ) (least greatest : ℕ) (code : ℤ) (work′ : List ℕ) (least′ greatest′ : ℕ) : Type 0 where
+  pub demand-1 : Demand1 (ranges grammar low high (length work))
+      (λ a n. (n ≡ rangesNumber a) × (least′ ≡ leastOf a least) × (greatest′ ≡ greatestOf a greatest) × (work′ ≡ replicate (length work) 0))
+      (GrammarBlockRow ∪ UtteranceBlockRow ∪ RangesRow) ((work′ ≡ work) × (least′ ≡ least) × (greatest′ ≡ greatest)) code
+  pub meant : Meant grammar low high work (λ a. (code ≡ pos (rangesNumber a)) × (least′ ≡ leastOf a least) × (greatest′ ≡ greatestOf a greatest)) work′
 
 -- The least string with a property, whose length n is answered, stands at the front of the output; or there is none, 0 is answered and
 -- nothing was written.

@@ -2,6 +2,7 @@
 // number: 0 or more is the answer, less than 0 is minus the refusal's number.
 use chance::Outcome;
 use checker::Checked;
+use cost_ranges::Ranged;
 use listing::Listed;
 use listing::PANEL;
 use listing::listing_within;
@@ -16,9 +17,10 @@ ghost use Rattle.office_block.specs.Block.{officeToBlock};
 ghost use Rattle.checker.specs.Check.{check};
 ghost use Rattle.chance.specs.Chance as definition;
 ghost use Rattle.listing.specs.Listing.{library, panel, list, outputAfter, workAfter};
+ghost use Rattle.cost_ranges.specs.CostRanges.{ranges, tableAfter};
 ghost use Rattle.specimen.specs.Specimen.{specimen, outputOf};
 ghost use Rattle.next_phrase.specs.NextPhrase.{next};
-ghost use Rattle.spireyerba.specs.Code.{checkCode, chanceCode, chanceAfter, listCode, lengthCode, stringCode};
+ghost use Rattle.spireyerba.specs.Code.{checkCode, chanceCode, chanceAfter, listCode, lengthCode, stringCode, rangesCode, leastAfter, greatestAfter};
 ghost use Rattle.spireyerba.specs.Demands as demands;
 ghost use Rattle.spireyerba.specs.Model.{writtenCode, SmallWritten, listedCode, SmallListed};
 
@@ -221,5 +223,39 @@ pub extern "C" fn spireyerba_next_phrase(
         Answered::Written => count(wanted as usize),
         Answered::Nothing => 0,
         Answered::Refused(n) => refusal(n),
+    }
+}
+
+// How the first weight varies where costs are known within ranges, between those of two blocks: 0 where there is no derivation, else the least and the
+// greatest first weight in `least` and `greatest`, with 1 if the first reading for the low costs is outweighed under some choice, and 2 if under none.
+#[no_mangle]
+pub extern "C" fn spireyerba_cost_ranges(
+    grammar: &[u8],
+    low: &[u8],
+    high: &[u8],
+    work: &mut [u32],
+    least: &mut u32,
+    greatest: &mut u32,
+) -> i32
+    ensures { λ r. ⌜ r ≡ rangesCode (ranges (now (grammar .entry)) (now (low .entry)) (now (high .entry)) (length (now (work .entry)))) ⌝ }
+    ensures { λ r. ⌜ now (work .exit) ≡ tableAfter (ranges (now (grammar .entry)) (now (low .entry)) (now (high .entry)) (length (now (work .entry)))) (now (work .entry)) ⌝ }
+    ensures { λ r. ⌜ now (least .exit) ≡ leastAfter (ranges (now (grammar .entry)) (now (low .entry)) (now (high .entry)) (length (now (work .entry)))) (now (least .entry)) ⌝ }
+    ensures { λ r. ⌜ now (greatest .exit) ≡ greatestAfter (ranges (now (grammar .entry)) (now (low .entry)) (now (high .entry)) (length (now (work .entry)))) (now (greatest .entry)) ⌝ }
+    ensures { λ r. ⌜ demands.CostRanges (now (grammar .entry)) (now (low .entry)) (now (high .entry)) (now (work .entry)) (now (least .entry)) (now (greatest .entry)) r (now (work .exit)) (now (least .exit)) (now (greatest .exit)) ⌝ }
+{
+    let answer = cost_ranges::cost_ranges(grammar, low, high, work);
+    match answer {
+        Ranged::Nothing => 0,
+        Ranged::Outweighed(w) => {
+            *least = w.least;
+            *greatest = w.greatest;
+            1
+        }
+        Ranged::Stands(v) => {
+            *least = v.least;
+            *greatest = v.greatest;
+            2
+        }
+        Ranged::Refused(n) => refusal(n),
     }
 }

@@ -3,6 +3,7 @@
 pub mod chance;
 pub mod check;
 pub mod conversions;
+pub mod cost_ranges;
 pub mod listing;
 pub mod next_phrase;
 pub mod specimen;

@@ -1,0 +1,10 @@
+pub mod Sums
+pub mod Alike
+pub mod Weights
+pub mod Once
+pub mod First
+pub mod Gains
+pub mod Utterances
+pub mod Raised
+pub mod Valid
+pub mod Theorems

@@ -1,0 +1,2 @@
+pub mod CostRanges
+pub mod Model
