@@ -224,14 +224,17 @@ fn on_a_terminal(words: &str) -> Option<String> {
     run.ok().map(|run| String::from_utf8(run.stdout).expect("a text"))
 }
 
+/// So many utterances take half a second or more, several times what passes before progress is shown.
+const MANY: usize = 200_000;
+
 /// Long work says how far it is, on a terminal only, and not among its answers.
 #[test]
 fn progress_on_a_terminal() {
-    let lines = "door 1 | four 2; forty 1; glass 1 | oak 2; fire 1; thirty 2\n".repeat(30_000);
+    let lines = "door 1 | four 2; forty 1; glass 1 | oak 2; fire 1; thirty 2\n".repeat(MANY);
     let folder = folder("progress", &[("many.txt", lines.as_bytes())]);
     let many = folder.join("many.txt").display().to_string();
     let words = format!("batch grammar.txt {many} -n 1 -j 1");
-    assert_eq!(answer(&words).lines().count(), 30_000);
+    assert_eq!(answer(&words).lines().count(), MANY);
     let Some(shown) = on_a_terminal(&format!("{words} > {}", folder.join("answers").display())) else { return };
     assert!(shown.contains(" utterances, ") && shown.contains(" a second\x1b[K"), "{shown:?}");
     assert!(shown.ends_with("\r\x1b[K"), "{shown:?}");
