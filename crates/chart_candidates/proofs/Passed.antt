@@ -14,7 +14,6 @@ use Rattle.bits.specs.Bits.{pick}
 use Rattle.packing.specs.Loop.{iter, over}
 use Rattle.packing.specs.Meaning.{symbolOf, word}
 use Rattle.packing.specs.Flat.{ruleAt}
-use Rattle.packing.specs.declared.Sym.{Sym}
 use Rattle.packing.specs.declared.Rule.{Rule}
 use Rattle.packing.specs.declared.Rule.the-variants.{Pair, Word}
 use Rattle.chart_keys.specs.Keys.{prices, keyUnit, keyOf, noKey, back, backNumber, partPrice, leafPrice, joinPrice, lesser}

@@ -20,7 +20,7 @@ use Rattle.chart_keys.specs.declared.BackPointer.{BackPointer}
 use Rattle.chart_keys.specs.Keys.{backPointer, keyUnit, noKey}
 use Rattle.chart_table.specs.declared.Cell.{Cell}
 use Rattle.chart_table.specs.declared.Layout.{Layout}
-use Rattle.chart_table.specs.Table.{priceOf, priceIn, leftPart, rightPart, root, cellNumber, entryOf, priceAt, besideAt, lastRank, putBeside, putFound, putLastRank, putKey}
+use Rattle.chart_table.specs.Table.{priceIn, leftPart, rightPart, root, cellNumber, entryOf, priceAt, besideAt, lastRank, putBeside, putFound, putLastRank, putKey}
 use Rattle.chart_queue.specs.Queue.{isInitial, queuedKey, queueLength, leastPlace, keepInitial, putQueued, moveQueued, putQueueLength, replace, push, extractMin}
 use Rattle.chart_ranks.specs.Ranks.{nextRank}
 use Rattle.chart_search.specs.Search.{Finder, extend, extendParts, advancePairing, backBefore, nextOfSpan, nextOfRoot}

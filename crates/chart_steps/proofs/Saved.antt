@@ -1,17 +1,14 @@
 -- What a journal holds, as a list of entries as they were, the last kept first. Keeping an entry puts it in front, and putting all back
 -- restores them from the first of the list to the last.
 use mathlib.Core.Path.{_≡_, refl, ap, _∙_}
-use mathlib.Core.Bool.{Bool, true, false}
 use mathlib.Core.Logic.{_⊎_, inl, inr}
 use mathlib.Core.List.{List, [], _∷_}
-use Prim.Native.Nat.{ℕ, zero, suc, _+_, _*_, _/_, _%_, _≤_, _<_}
+use Prim.Native.Nat.{ℕ, suc, _+_, _*_, _/_, _%_, _≤_, _<_}
 use native.Mathlib.Omega.{arith}
-use lib.Dec.{ltb}
 use native.Mathlib.Nat.{le-refl}
 use lib.ListN.{length, getD, set, replicate, length-set, length-replicate, getD-replicate}
 use lib.Seq.{getD-set-same, getD-set-other}
 use borrow.Author.Tests.{lt-ltb}
-use Rattle.bits.specs.Bits.{pick}
 use Rattle.chart_table.specs.Journal.{keptAt, keepEntry, restoreEntry, restoreAll, putBack}
 
 -- an entry as it was: where it starts, and its four numbers

@@ -21,7 +21,7 @@ use Rattle.chart_table.specs.Journal.{putBack}
 use Rattle.chart_queue.specs.Queue.{queueLength, leastPlace, keepWritten, keepMin}
 use Rattle.chart_ranks.specs.Ranks.{nextRank}
 use Rattle.chart_search.specs.Search.{Finder, Keeper, extend, extendParts, advancePairing, backBefore, nextOfSpan, nextOfRoot, keepExtend, keepParts, keepPairing, keepOfSpan, keepOfRoot}
-use Rattle.chart_steps.proofs.Saved.{Saved, saved, undo, Kept, kept-more, kept-none, put-back}
+use Rattle.chart_steps.proofs.Saved.{Saved, undo, Kept, kept-more, kept-none, put-back}
 use Rattle.chart_steps.proofs.Written.{writtenAt, extract-writes, all-undone}
 
 -- from a table t and a journal that holds l to a table u and a journal j, with n more entries kept at most

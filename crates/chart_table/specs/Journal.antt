@@ -19,7 +19,7 @@ unfoldable pub keepEntry : (t k : List ℕ) → ℕ → List ℕ
 keepEntry t k at =
     let n = getD k 0 0 in
     let to = keptAt n in
-    pick (ltb n 188)
+    pick (ltb n mostKept)
     (set (set (set (set (set (set (set k to (at % 4294967296)) (to + 1) (at / 4294967296)) (to + 2) (getD t at 0)) (to + 3) (getD t (at + 1) 0)) (to + 4)
     (getD t (at + 2) 0)) (to + 5) (getD t (at + 3) 0)) 0 (n + 1))
     k

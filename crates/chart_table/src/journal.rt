@@ -7,7 +7,7 @@ use arrays::store;
 ghost use mathlib.Core.Path.{_≡_};
 ghost use Prim.Native.Nat.{_+_, _<_};
 ghost use lib.ListN.{set};
-ghost use Rattle.chart_table.specs.Journal.{mostKept, keepEntry, restoreEntry, putBack};
+ghost use Rattle.chart_table.specs.Journal.{keepEntry, restoreEntry, putBack};
 
 // The most entries that are kept.
 pub const MOST_KEPT: usize = 188;

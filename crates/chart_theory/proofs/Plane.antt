@@ -1,10 +1,9 @@
 -- The first ranks of all cells stand together at the table's front, and the first pass reads and writes nothing else. So it does the same
 -- there in a table that keeps one rank of each cell as in one that keeps many, and what stands behind stays as it is.
-use mathlib.Core.Path.{_≡_, refl, sym, ap, _∙_}
+use mathlib.Core.Path.{_≡_, refl, ap, _∙_}
 use mathlib.Core.Bool.{Bool, true, false}
 use mathlib.Core.List.{List, _++_}
 use Prim.Native.Nat.{ℕ, zero, suc, _+_, _-_, _*_, _/_, _%_, _≤_, _<_}
-use native.Mathlib.Nat.{le-refl}
 use native.Mathlib.Omega.{arith}
 use lib.Dec.{ltb}
 use lib.ListN.{length, getD, set, length-set, List·getD-append}
@@ -12,22 +11,20 @@ use lib.Seq.{set-append-left}
 use borrow.Author.Tests.{lt-ltb, le-ltb}
 use Rattle.bits.specs.Bits.{pick}
 use Rattle.packing.specs.Loop.{iter}
-use Rattle.packing.proofs.Loop.{iter-keeps}
 use Rattle.packing.specs.Flat.{ruleAt}
 use Rattle.packing.specs.Meaning.{symbolOf, Grammar, Edge}
-use Rattle.packing.specs.declared.Sym.{Sym}
 use Rattle.packing.specs.declared.Rule.{Rule}
 use Rattle.packing.specs.declared.Rule.the-variants.{Pair, Word}
-use Rattle.chart_keys.specs.Keys.{keyUnit, noKey, lesser, back}
+use Rattle.chart_keys.specs.Keys.{keyUnit, noKey, back}
 use Rattle.chart_table.specs.declared.Cell.{Cell}
 use Rattle.chart_table.specs.declared.Layout.{Layout}
-use Rattle.chart_table.specs.Table.{cell, leftPart, rightPart, cellNumber, entryOf, priceOf, priceIn, priceAt, lastRank, putFound, putLastRank, putKey}
-use Rattle.chart_index.specs.Index.{pairBase, classStart, classEnd, members}
+use Rattle.chart_table.specs.Table.{cell, leftPart, rightPart, cellNumber, entryOf, priceAt, lastRank, putFound, putLastRank, putKey}
+use Rattle.chart_index.specs.Index.{pairBase, classStart, classEnd}
 use Rattle.chart_candidates.specs.declared.PairRule.{PairRule}
 use Rattle.chart_candidates.specs.Candidates.{pairKey, splitSeeds, ruleSeeds, seeds, leaves}
 use Rattle.chart_ranks.specs.Ranks.{leastInitial, firstRank}
 use Rattle.chart_search.specs.Search.{nextOfSpan, firstOfHeads, firstOfLength, firstPass}
-use Rattle.chart_theory.proofs.Table.Cells.{InChart, Planned}
+use Rattle.chart_theory.proofs.Table.Cells.{InChart}
 use Rattle.chart_theory.proofs.Table.Entries.{cell-below}
 use Rattle.chart_theory.proofs.Invariant.{Setting}
 
