@@ -1,7 +1,7 @@
 -- The loop is the iteration over the splits by seeds as numbers, with the parts' first entries as Splits has them. The loop itself knows
 -- the floor by its number only, so what it keeps is said of every floor that has it.
-use Prim.Native.Nat.{_≤_, _<_, _-_, _+_, _*_}
-use mathlib.Core.Path.{_≡_, refl, sym, _∙_}
+use Prim.Native.Nat.{_≤_, _-_, _+_, _*_}
+use mathlib.Core.Path.{_≡_, refl, _∙_}
 use native.Mathlib.Omega.{arith}
 use Rattle.packing.proofs.Loop.{iter-end}
 use Rattle.chart_keys.specs.declared.Key.{Key}
