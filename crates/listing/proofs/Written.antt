@@ -31,7 +31,7 @@ use Rattle.chart_table.specs.declared.Layout.{Layout}
 use Rattle.chart_table.specs.Table.{root}
 use Rattle.chart_trace.proofs.Shape.{Shape, shape}
 use Rattle.chart.specs.Chart.{rootWeight, rootTrace}
-use Rattle.listing.specs.Model.{FormFor, traceAt, edgesAt, blockAt, blocksAt}
+use Rattle.listing.specs.Model.{FormFor, traceAt, edgesAt, ownSizeAt, blockAt, blocksAt}
 use Rattle.listing.specs.declared.Form.{Form}
 
 -- a trace of m edges stands in front of the array of zeros that it is traced into
@@ -140,6 +140,16 @@ module _ (t rules : List ℕ) (d : Layout) (x : ℕ) (some : 1 ≤ d .places) (s
   slots-written f out form is e₁ e₂ o =
       let size : length (blockOfReading (f .rules) (readingOf (d .places) (rootWeight t d x) (traceAt t rules d x))) ≡ f .size = rw is at (length-at f form) in
       o ∙ rw (is, e₁, e₂, size)
+
+-- its own length, of a graph and of slots
+module _ (t rules : List ℕ) (d : Layout) (x : ℕ) (f : Form) where
+  pub graph-own : f .graph ≡ true → {n r : ℕ} → n ≡ edgesAt t rules d x → r ≡ graphReadingLength n (f .rules) → r ≡ ownSizeAt t rules d f x
+  unfolding ownSizeAt
+  graph-own is e o = o ∙ rw (is, e)
+
+  pub slots-own : f .graph ≡ false → f .size ≡ ownSizeAt t rules d f x
+  unfolding ownSizeAt
+  slots-own is = rw is
 
 -- what comes back of an output of which the end from place a on was lent, where the first a numbers were P
 put-end : (a : ℕ) (P D part : List ℕ) → length P ≡ a → putMid a (length (P ++ D) - a) (P ++ D) part ≡ P ++ part
