@@ -36,7 +36,7 @@ use Rattle.chart_theory.proofs.Search.Passes.{Listed, next-known}
 use Rattle.chart_theory.proofs.Chart.{Lists, search-lists, known-step, first-listed}
 
 -- there is a place behind the first, and at most 7 edges for each slot, or 96
-heard-sizes : (W : ℕ) (h : Heard) → ValidHeard W h → (1 ≤ lastPlace h) × (length (heardEdges h) ≤ 168)
+pub heard-sizes : (W : ℕ) (h : Heard) → ValidHeard W h → (1 ≤ lastPlace h) × (length (heardEdges h) ≤ 168)
 unfolding utteranceEntries
 heard-sizes W (slots u) ((some, few), f) = (some, omega (arith, slots-edges W 0 u f))
 heard-sizes W (graph h) v = (omega (arith, valid-places W h v), omega (arith, valid-edge-count W h v))
