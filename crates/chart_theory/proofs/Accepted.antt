@@ -33,7 +33,7 @@ use Rattle.chart.specs.Chart.{layOut, enumerate, rootsFound, rootWeight, rootTr
 use Rattle.chart_theory.proofs.Table.Cells.{InChart}
 use Rattle.chart_theory.proofs.Invariant.{Setting}
 use Rattle.chart_theory.proofs.Search.Passes.{Listed, next-known}
-use Rattle.chart_theory.proofs.Chart.{Lists, search-lists, known-step, first-listed}
+use Rattle.chart_theory.proofs.Chart.{Lists, search-lists, known-step, first-listed, front-size}
 
 -- there is a place behind the first, and at most 7 edges for each slot, or 96
 pub heard-sizes : (W : ℕ) (h : Heard) → ValidHeard W h → (1 ≤ lastPlace h) × (length (heardEdges h) ≤ 168)
@@ -129,6 +129,11 @@ module _ (g : Grammar) (h : Heard) (N : ℕ) where
         (enumerate rules (length (g .rules)) edge-array (length (heardEdges h)) (layOut (g .symbols) (lastPlace h) 1) (4 * layout .cells) ++ replicate rest 0)
     unfolding enumerate layOut
     first-reached rest room = first-listed setting in-root rest room
+
+    pub front-filled : length (enumerate rules (length (g .rules)) edge-array (length (heardEdges h)) (layOut (g .symbols) (lastPlace h) 1) (4 * layout .cells))
+        ≡ 4 * layout .cells
+    unfolding enumerate layOut
+    front-filled = front-size setting in-root
 
     -- and then rank x is the derivation of that place, or there is none
     pub record Reached (t : List ℕ) (x : ℕ) : Type 0 where

@@ -3,7 +3,7 @@
 -- clearing the entries found leaves zeros. For the search keeps the invariant, and in the end knows every rank that is kept.
 use mathlib.Core.Path.{_≡_, refl, sym, ap, _∙_}
 use mathlib.Core.Bool.{true}
-use mathlib.Core.List.{List, _∷_, _++_}
+use mathlib.Core.List.{List, [], _∷_, _++_}
 use Prim.Native.Nat.{ℕ, zero, suc, _+_, _-_, _*_, _/_, _≤_, _<_, min}
 use native.Mathlib.Nat.{le-refl, zero-add, suc-add}
 use native.Mathlib.Decide.{decLt}
@@ -27,7 +27,7 @@ use Rattle.chart_theory.proofs.Table.Cleared.{clear-zeros}
 use Rattle.chart_theory.proofs.Invariant.{Setting, priceIn, Found, Invariant}
 use Rattle.chart_theory.proofs.Search.Passes.{Zeros, zeros-invariant, Listed, steps-known, search-known, found-exactly, count-found}
 use Rattle.chart_theory.proofs.Search.Trace.{traced, stood}
-use Rattle.chart_theory.proofs.Plane.{single, pass-plane}
+use Rattle.chart_theory.proofs.Plane.{single, pass-plane, pass-size}
 
 -- rank x of the root is the tree z
 pub record RankIs (g : Grammar) (es : List Edge) (rules : List ℕ) (d : Layout) (t : List ℕ) (x : ℕ) (z : Tree) : Type 0 where
@@ -130,3 +130,7 @@ module _ {g : Grammar} {es : List Edge} {rules edges index : List ℕ} {d : Layo
         let zeros = zeros-invariant d (replicate size 0) (replicate-zeros size) g es (rw length-replicate room) in
         let plane = pass-plane s (replicate rest 0) (replicate (4 * d .cells) 0) (rw length-replicate refl) in
         rw (← plane, ← replicate-add (4 * d .cells) rest) (steps-known s in-root (replicate size 0) zeros 0 (omega arith))
+
+    pub front-size : length (search rules edges index (single d) (replicate (4 * d .cells) 0)) ≡ 4 * d .cells
+    unfolding search iter
+    front-size = pass-size s [] (replicate (4 * d .cells) 0) (rw length-replicate refl)

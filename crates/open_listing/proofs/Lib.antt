@@ -3,3 +3,8 @@ pub mod HandOut
 pub mod Searched
 pub mod Own
 pub mod Counted
+pub mod Plans
+pub mod Readings
+pub mod Promises
+pub mod Steps
+pub mod Outcome

@@ -4,6 +4,7 @@ use mathlib.Core.Bool.{true}
 use mathlib.Core.List.{List, [], _∷_, _++_}
 use Prim.Native.Nat.{ℕ, zero, suc, _+_, _-_, _≤_, _<_}
 use native.Mathlib.Nat.{le-refl}
+use native.Mathlib.Numerals.{unary-clauses}
 use native.Mathlib.Decide.{decLt}
 use native.Mathlib.Omega.{arith}
 use lib.ListN.{length, take, drop, getD, replicate, length-replicate, length-take, length-append, take-append-drop, List·getD-append, List·getD-eq-default}
@@ -53,21 +54,27 @@ take-bytes n b small i = go (decLt i n)
     go (yes below) = rw (getD-take n b i 0 below) (small i)
     go (no beyond) = rw (List·getD-eq-default (take n b) 0 {n = i} (rw length-take (omega arith))) (omega arith)
 
-drop-zeros : (k j : ℕ) → drop j (replicate {A = ℕ} k 0) ≡ replicate (k - j) 0
-drop-zeros k zero = refl
-drop-zeros zero (suc j) = refl
-drop-zeros (suc k) (suc j) = drop-zeros k j
+pub take-zeros : (k j : ℕ) → j ≤ k → take j (replicate {A = ℕ} k 0) ≡ replicate j 0
+take-zeros k zero h = refl
+take-zeros zero (suc j) h = absurd (omega arith)
+take-zeros (suc k) (suc j) h = ap (λ (l : List ℕ). 0 ∷ l) (take-zeros k j (omega arith))
+
+pub drop-zeros : (k j : ℕ) → drop j (replicate {A = ℕ} k 0) ≡ replicate (k - j) 0
+drop-zeros k zero = simp unary-clauses refl
+drop-zeros zero (suc j) = let none : 0 ≡ 0 - suc j = omega arith in ap (λ (m : ℕ). replicate {A = ℕ} m 0) none
+drop-zeros (suc k) (suc j) = simp unary-clauses (drop-zeros k j)
 
 cut-back : (L n : ℕ) (b : List ℕ) → length b ≤ n → n ≤ L → padded L (take n (padded L b)) ≡ padded L b
 unfolding padded
 cut-back L n b h k =
-    let z = replicate (L - length b) 0 in
+    let z = replicate {A = ℕ} (L - length b) 0 in
     let at : length b + (n - length b) ≡ n = omega arith in
     let size : length (b ++ z) ≡ L = simp (length-append, length-replicate) (omega arith) in
     let cut : length (take n (b ++ z)) ≡ n = length-take-le n (b ++ z) (omega (arith, size)) in
+    let left : L - length b - (n - length b) ≡ L - n = omega arith in
     let rest : drop n (b ++ z) ≡ replicate (L - n) 0 =
     ap (λ (m : ℕ). drop m (b ++ z)) (sym at) ∙ drop-append-add b z (n - length b) ∙ drop-zeros (L - length b) (n - length b)
-    ∙ ap (λ (m : ℕ). replicate {A = ℕ} m 0) (omega arith) in
+    ∙ ap (λ (m : ℕ). replicate {A = ℕ} m 0) left in
     rw (cut, ← rest) (take-append-drop n (b ++ z))
 
 -- the plan of what was read of both blocks
@@ -105,7 +112,7 @@ module _ (g : Grammar) (rules t : List ℕ) (x : ℕ) where
     -- and the reading of a derivation, cut to its own bytes, is what the check takes
     pub own-taken : (h : Heard) → Planned (plan g h) → ValidHeard (g .words) h → (z : Tree) → HoldsRank g h 256 rules t x z → Derivation g h z → block h ≡ packed g h z
         → take (own h) (block h) ≡ ownBlock g h z
-    unfolding ownSizeAt layOut
+    unfolding ownSizeAt layOut padded
     own-taken (slots u) q ok z rank derived e =
         take-all (own (slots u)) (block (slots u))
         (rw (length-at t rules (layout g (slots u) 256) x (q .form .some-place) (q .form .places) (form g (slots u)) (q .form)) (le-refl _)) ∙ e

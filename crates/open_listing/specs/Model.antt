@@ -53,6 +53,7 @@ planOf b = record {
 
 pub record Planned (p : Plan) : Type 0 where
   pub sized : Sized (p .layout)
+  pub all-ranks : p .layout .ranks ≡ 256
   pub form : FormFor (p .layout .places) (p .form)
   pub size : p .form .size ≤ 73
   pub edges : p .edges ≤ 256

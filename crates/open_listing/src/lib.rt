@@ -107,7 +107,14 @@ fn passes(rules: &[u32], plan: Plan, heard: &[u8], reading: &[u8]) -> bool
     ensures { λ r. ⌜ r ≡ passed (underRules (plan .words) (rulesOf (now (rules .entry)) (plan .form .rules)) (now (heard .entry)) (now (reading .entry))) ⌝ }
 {
     let mut walk = [0u32; WALK_LENGTH];
-    let found = check_heard(rules, plan.form.rules, plan.words, heard, reading, &mut walk);
+    let found = check_heard(
+        rules,
+        plan.form.rules,
+        plan.words,
+        heard,
+        reading,
+        &mut walk,
+    );
     match found {
         Walked::Nodes(_) => true,
         Walked::Refused(_) => false,
@@ -115,14 +122,7 @@ fn passes(rules: &[u32], plan: Plan, heard: &[u8], reading: &[u8]) -> bool
 }
 
 // Whether the tree of a rank of the root stands in the table and its reading passes the check; it is written to `out` then.
-fn hand_out(
-    t: &[u32],
-    rules: &[u32],
-    heard: &[u8],
-    plan: Plan,
-    rank: usize,
-    out: &mut [u8],
-) -> bool
+fn hand_out(t: &[u32], rules: &[u32], heard: &[u8], plan: Plan, rank: usize, out: &mut [u8]) -> bool
     requires { ⌜ (Planned plan) × (rank < plan .layout .ranks) × (plan .form .size ≤ length (now out)) ⌝ }
     ensures { λ r. ⌜ (r ≡ handsOut (now (t .entry)) (now (rules .entry)) (now (heard .entry)) plan rank)
         × (now (out .exit) ≡ outputBy r (now (t .entry)) (now (rules .entry)) plan rank (now (out .entry))) ⌝ }
@@ -139,14 +139,7 @@ fn hand_out(
 }
 
 // What a call answers once a rank of the root was looked for.
-fn settle(
-    t: &[u32],
-    rules: &[u32],
-    heard: &[u8],
-    plan: Plan,
-    rank: usize,
-    out: &mut [u8],
-) -> Answer
+fn settle(t: &[u32], rules: &[u32], heard: &[u8], plan: Plan, rank: usize, out: &mut [u8]) -> Answer
     requires { ⌜ (Planned plan) × (rank < plan .layout .ranks) × (plan .form .size ≤ length (now out)) ⌝ }
     ensures { λ r. ⌜ (r ≡ settled (now (t .entry)) (now (rules .entry)) (now (heard .entry)) plan rank)
         × (now (out .exit) ≡ outputBy (isReading r) (now (t .entry)) (now (rules .entry)) plan rank (now (out .entry))) ⌝ }
@@ -184,7 +177,14 @@ fn first(
             ranks: 1,
             cells: d.cells,
         };
-        chart::enumerate(&mut work[..front], rules, plan.form.rules, edges, plan.edges, single);
+        chart::enumerate(
+            &mut work[..front],
+            rules,
+            plan.form.rules,
+            edges,
+            plan.edges,
+            single,
+        );
         let answer = settle(&work[..], rules, heard, plan, 0, out);
         if is_reading(answer) {
             return answer;
@@ -290,13 +290,7 @@ fn next_grammar(
 }
 
 // One more reading of what was heard, slots or a graph, under the grammar, to the front of `out`, for a place and a work table as they were left.
-pub fn next(
-    grammar: &[u8],
-    heard: &[u8],
-    place: Place,
-    work: &mut [u32],
-    out: &mut [u8],
-) -> Answer
+pub fn next(grammar: &[u8], heard: &[u8], place: Place, work: &mut [u32], out: &mut [u8]) -> Answer
     ensures { λ r. ⌜ Called (now (grammar .entry)) (now (heard .entry)) place (now (work .entry)) (now (out .entry)) r (now (work .exit)) (now (out .exit)) ⌝ }
     ensures { λ r. ⌜ Kept (now (grammar .entry)) (now (heard .entry)) place (now (work .entry)) (now (out .entry)) r (now (work .exit)) (now (out .exit)) ⌝ }
 {

@@ -51,7 +51,7 @@ returns c =
     let form = c .before .before .before .before .before .before .before .before .before .before .before .before .before .before .pre .1 in
     let edges = ap (λ (k : ℕ). (k / 2 + 1) / 2) (c .before .before .before .before .before .before .before .before .before .trace-root .ensures .1) in (
       graph-written (a .t .now) (a .rules .now) (a .d) (a .x) (form .some-place) (form .places) (a .form) (a .out .now) (c .before .before .before .before .before .before .if1 .taken) edges
-      (c .before .before .before .before .before .before .before .root-weight .ensures) (c .before .before .before .before .before .before .before .before .before .trace-root .ensures .0) (c .before .before .before .write-graph-reading .ensures),
+          (c .before .before .before .before .before .before .before .root-weight .ensures) (c .before .before .before .before .before .before .before .before .before .trace-root .ensures .0) (c .before .before .before .write-graph-reading .ensures),
       graph-own (a .t .now) (a .rules .now) (a .d) (a .x) (a .form) (c .before .before .before .before .before .before .if1 .taken) edges (c .graph-reading-length .ensures),
     )
 
@@ -75,7 +75,7 @@ returns-2 c =
     let a = c .before .before .before .before .before .before .before .before .before .before .before .before .before .args in
     let form = c .before .before .before .before .before .before .before .before .before .before .before .before .before .pre .1 in (
       slots-written (a .t .now) (a .rules .now) (a .d) (a .x) (form .some-place) (form .places) (a .form) (a .out .now) form (c .before .before .before .before .before .if1 .left)
-      (c .before .before .before .before .before .before .root-weight .ensures) (c .before .before .before .before .before .before .before .before .trace-root .ensures .0) (c .before .before .write-reading .ensures),
+          (c .before .before .before .before .before .before .root-weight .ensures) (c .before .before .before .before .before .before .before .before .trace-root .ensures .0) (c .before .before .write-reading .ensures),
       slots-own (a .t .now) (a .rules .now) (a .d) (a .x) (a .form) (c .before .before .before .before .before .if1 .left),
     )
 

@@ -1,93 +1,95 @@
+-- The table's front is filled, and made zeros again unless a reading is handed out.
+use mathlib.Core.Path.{refl, sym}
+use native.Mathlib.Omega.{arith}
+use lib.ListN.{length-append}
+use lib.Seq.{length-take-le}
+use Rattle.open_listing.specs.Model.{firstTable}
+use Rattle.open_listing.proofs.Searched.{stays, goes-back, table-first, promised, zeros-again, not-zeros, front-size}
 use borrow.Author.Needs.{needs}
 use Rattle.open_listing.proofs.first.Statement.{statement}
 use Rattle.open_listing.proofs.first.Tie as tie
-use Rattle.open_listing.proofs.first.Reads as reads
-use Rattle.open_listing.proofs.first.Lts as lts
-use Rattle.chart.proofs.enumerate.Reads as enumerate-reads
-use Rattle.chart_table.proofs.zero.Reads as zero-reads
-use Rattle.open_listing.proofs.all_zero.Reads as all-zero-reads
-use Rattle.open_listing.proofs.is_reading.Reads as is-reading-reads
-use Rattle.open_listing.proofs.settle.Reads as settle-reads
 
--- src/lib.rt:179:17
 mul-front : tie.Need-mul-front
 mul-front c = search needs
 
--- src/lib.rt:180:17
 slice-reshare-prefix-all-zero : tie.Need-slice-reshare-prefix-all-zero
 slice-reshare-prefix-all-zero c = search needs
 
--- src/lib.rt:180:17
 slice-aggregate-all-zero : tie.Need-slice-aggregate-all-zero
-slice-aggregate-all-zero c = ?
+slice-aggregate-all-zero c = sym (length-take-le _ _ (c .before .before .before .before .before .before .before .before .pre .2))
 
--- src/lib.rt:180:8
 all-zero-requires : tie.Need-all-zero-requires
 all-zero-requires c κs = search needs
 
--- src/lib.rt:187:26
 slice-relend-prefix-enumerate : tie.Need-slice-relend-prefix-enumerate
 slice-relend-prefix-enumerate c = search needs
 
--- src/lib.rt:187:26
 slice-aggregate-enumerate : tie.Need-slice-aggregate-enumerate
-slice-aggregate-enumerate c = ?
+slice-aggregate-enumerate c = sym (length-take-le _ _ (c .before .before .before .before .before .before .before .before .before .before .before .pre .2))
 
--- src/lib.rt:187:9
 enumerate-requires : tie.Need-enumerate-requires
 enumerate-requires c κs = search needs
 
--- src/lib.rt:188:13
 settle-requires : tie.Need-settle-requires
 settle-requires c κs = search needs
 
--- src/lib.rt:189:12
 is-reading-requires : tie.Need-is-reading-requires
 is-reading-requires c κs = search needs
 
--- src/lib.rt:190:13
 same-length : tie.Need-same-length
 same-length c = search needs
 
--- src/lib.rt:190:13
 same-length-2 : tie.Need-same-length-2
 same-length-2 c = search needs
 
--- src/lib.rt:190:13
 returns : tie.Need-returns
-returns c = ?
+returns c =
+    let a = c .before .before .before .before .before .before .before .before .before .before .before .before .before .before .before .before .before .before .before .before .before .args in
+    let planned = c .before .before .before .before .before .before .before .before .before .before .before .before .before .before .before .before .before .before .before .before .before .pre .0 in
+    let fits = c .before .before .before .before .before .before .before .before .before .before .before .before .before .before .before .before .before .before .before .before .before .pre .2 in
+    let made = c .before .before .before .before .before .before .before .before .before .enumerate .ensures .0 in
+    let table = firstTable (a .rules .now) (a .edges .now) (a .plan) (a .work .now) in
+    let first = table-first (a .rules .now) (a .edges .now) (a .heard .now) (a .plan) (a .work .now) (a .out .now) fits (c .before .before .before .before .before .before .before .before .before .before .before .before .all-zero .ensures) (c .before .before .before .before .before .before .before .before .before .before .before .if1 .taken) made in
+    promised (a .rules .now) (a .edges .now) (a .heard .now) (a .plan) (a .work .now) (a .out .now) fits (c .before .before .before .before .before .before .before .before .before .before .before .before .all-zero .ensures) (c .before .before .before .before .before .before .before .before .before .before .before .if1 .taken) made
+    (stays table (a .rules .now) (a .heard .now) (a .plan) 0 (a .work .now) (a .out .now) first (c .before .before .before .before .settle .ensures .0) (c .before .before .before .before .settle .ensures .1) (c .before .is-reading .ensures) (c .if2 .taken))
 
--- src/lib.rt:192:14
 slice-relend-prefix-zero : tie.Need-slice-relend-prefix-zero
 slice-relend-prefix-zero c = search needs
 
--- src/lib.rt:192:14
 slice-aggregate-zero : tie.Need-slice-aggregate-zero
-slice-aggregate-zero c = ?
+slice-aggregate-zero c =
+    let a = c .before .before .before .before .before .before .before .before .before .before .before .before .before .before .before .before .before .before .before .before .before .before .args in
+    sym (length-take-le _ _ (rw length-append
+    (omega (arith, c .before .before .before .before .before .before .before .before .before .before .enumerate .kept .0, front-size (a .rules .now) (a .edges .now) (a .heard .now) (a .plan) (a .work .now) (a .out .now) (c .before .before .before .before .before .before .before .before .before .before .before .before .before .before .before .before .before .before .before .before .before .before .pre .2)))))
 
--- src/lib.rt:192:9
 zero-requires : tie.Need-zero-requires
 zero-requires c κs = search needs
 
--- src/lib.rt:193:9
 same-length-3 : tie.Need-same-length-3
 same-length-3 c = search needs
 
--- src/lib.rt:193:9
 same-length-4 : tie.Need-same-length-4
 same-length-4 c = search needs
 
--- src/lib.rt:193:9
 returns-2 : tie.Need-returns-2
-returns-2 c = ?
+returns-2 c =
+    let a = c .before .before .before .before .before .before .before .before .before .before .before .before .before .before .before .before .before .before .before .before .before .before .before .before .before .args in
+    let planned = c .before .before .before .before .before .before .before .before .before .before .before .before .before .before .before .before .before .before .before .before .before .before .before .before .before .pre .0 in
+    let fits = c .before .before .before .before .before .before .before .before .before .before .before .before .before .before .before .before .before .before .before .before .before .before .before .before .before .pre .2 in
+    let made = c .before .before .before .before .before .before .before .before .before .before .before .before .before .enumerate .ensures .0 in
+    let table = firstTable (a .rules .now) (a .edges .now) (a .plan) (a .work .now) in
+    let first = table-first (a .rules .now) (a .edges .now) (a .heard .now) (a .plan) (a .work .now) (a .out .now) fits (c .before .before .before .before .before .before .before .before .before .before .before .before .before .before .before .before .all-zero .ensures) (c .before .before .before .before .before .before .before .before .before .before .before .before .before .before .before .if1 .taken) made in
+    promised (a .rules .now) (a .edges .now) (a .heard .now) (a .plan) (a .work .now) (a .out .now) fits (c .before .before .before .before .before .before .before .before .before .before .before .before .before .before .before .before .all-zero .ensures) (c .before .before .before .before .before .before .before .before .before .before .before .before .before .before .before .if1 .taken) made
+    (goes-back table (a .rules .now) (a .heard .now) (a .plan) 0 (a .work .now) (a .out .now) first (c .before .before .before .before .before .before .before .before .settle .ensures .0) (c .before .before .before .before .before .before .before .before .settle .ensures .1) (c .before .before .before .before .before .is-reading .ensures) (c .before .before .before .before .if2 .left)
+    (zeros-again (a .rules .now) (a .edges .now) (a .heard .now) (a .plan) (a .work .now) (a .out .now) fits (c .before .before .before .before .before .before .before .before .before .before .before .before .before .before .before .before .all-zero .ensures) (c .before .before .before .before .before .before .before .before .before .before .before .before .before .before .before .if1 .taken) made (c .before .before .before .before .before .before .before .before .before .before .before .before .before .enumerate .kept .0) (c .before .before .zero .ensures) refl))
 
--- src/lib.rt:164:1
 same-length-5 : tie.Need-same-length-5
 same-length-5 c = search needs
 
--- src/lib.rt:164:1
 returns-3 : tie.Need-returns-3
-returns-3 c = ?
+returns-3 c =
+    let a = c .before .before .before .before .before .before .before .before .before .before .args in
+    not-zeros (a .rules .now) (a .edges .now) (a .heard .now) (a .plan) (a .work .now) (a .out .now) (c .before .before .before .before .before .before .before .before .before .before .pre .2) (c .before .all-zero .ensures) (c .if1 .left)
 
 pub first-spec : {M : Type 1} → statement M
 first-spec =

@@ -1,5 +1,6 @@
 -- The form and the layout are those of the blocks.
 use borrow.Author.Needs.{needs}
+use Rattle.open_listing.proofs.Plans.{plan-is, plan-planned}
 use Rattle.open_listing.proofs.plan_of.Statement.{statement}
 use Rattle.open_listing.proofs.plan_of.Tie as tie
 
@@ -16,7 +17,12 @@ lay-out-requires : tie.Need-lay-out-requires
 lay-out-requires c κs = search needs
 
 returns : tie.Need-returns
-returns c = ?
+returns c =
+    let b = c .before .before .before .before .args .blocks in
+    let pre = c .before .before .before .before .pre in (
+      plan-is b (pre .0) (pre .1) (pre .2) (pre .3) (c .before .before .form-of .ensures .0) (c .lay-out .ensures .0),
+      plan-planned b (pre .0) (pre .1) (pre .2) (pre .3) (c .before .before .form-of .ensures .0) (c .lay-out .ensures .0) (c .lay-out .ensures .1) (c .before .before .form-of .ensures .1),
+    )
 
 pub plan-of-spec : {M : Type 1} → statement M
 plan-of-spec =

@@ -17,8 +17,7 @@ same-length c = search needs
 returns : tie.Need-returns
 returns c =
     let a = c .before .before .before .before .before .before .before .before .before .before .before .args in
-    let planned = c .before .before .before .before .before .before .before .before .before .before .before .pre .0 in
-    (
+    let planned = c .before .before .before .before .before .before .before .before .before .before .before .pre .0 in (
       found-settled (a .t .now) (a .rules .now) (a .heard .now) (a .plan) (a .rank) planned (c .before .before .before .before .before .before .root-found .ensures) (c .before .before .before .before .before .if1 .taken) (c .before .before .before .hand-out .ensures .0) (c .if2 .taken),
       output-by (a .t .now) (a .rules .now) (a .plan) (a .rank) (a .out .now) (c .before .before .before .hand-out .ensures .1) (c .if2 .taken),
     )
@@ -29,8 +28,7 @@ same-length-2 c = search needs
 returns-2 : tie.Need-returns-2
 returns-2 c =
     let a = c .before .before .before .before .before .before .before .before .before .before .before .args in
-    let planned = c .before .before .before .before .before .before .before .before .before .before .before .pre .0 in
-    (
+    let planned = c .before .before .before .before .before .before .before .before .before .before .before .pre .0 in (
       found-settled (a .t .now) (a .rules .now) (a .heard .now) (a .plan) (a .rank) planned (c .before .before .before .before .before .before .root-found .ensures) (c .before .before .before .before .before .if1 .taken) (c .before .before .before .hand-out .ensures .0) (c .if2 .left),
       output-by (a .t .now) (a .rules .now) (a .plan) (a .rank) (a .out .now) (c .before .before .before .hand-out .ensures .1) (c .if2 .left),
     )
