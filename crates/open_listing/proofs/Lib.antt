@@ -8,3 +8,4 @@ pub mod Readings
 pub mod Promises
 pub mod Steps
 pub mod Outcome
+pub mod Refused
