@@ -406,8 +406,8 @@ enum {
 ** calls. To end it there is nothing to do.
 */
 typedef struct {
-    uint32_t handed; /* the readings that were handed out       */
-    uint32_t opened; /* 1 once it was opened; 0 says never, 53  */
+    uint32_t handed; /* the readings that were handed out           */
+    uint32_t opened; /* 1 once it was opened; any other says: never */
 } spireyerba_place;
 
 /*

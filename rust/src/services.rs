@@ -485,7 +485,7 @@ pub fn panel_listing(
 pub struct Place {
     /// The readings that were handed out.
     pub handed: u32,
-    /// 1 if the listing was opened; 0 says that it never was.
+    /// 1 if the listing was opened; any other number says that it never was.
     pub opened: u32,
 }
 

@@ -54,7 +54,7 @@ impl Listed {
         if place.handed >= MAX_READINGS {
             return Ok(Next::Full);
         }
-        if place.opened == 0 {
+        if place.opened != 1 {
             return Err(Refusal::AlteredWalk);
         }
         let Some(next) = self.readings.get(place.handed as usize) else {
