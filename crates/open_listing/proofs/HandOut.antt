@@ -3,10 +3,10 @@ use mathlib.Core.Path.{_≡_, refl, sym, ap, _∙_}
 use mathlib.Core.Bool.{Bool, true, false}
 use mathlib.Core.List.{List, _++_}
 use Prim.Native.Nat.{ℕ, _+_, _-_, _*_, _≤_}
-use native.Mathlib.Nat.{mul-le-mul-right}
+use native.Mathlib.Nat.{zero-add, mul-le-mul-right}
 use native.Mathlib.Omega.{arith}
 use lib.ListN.{length, take, drop}
-use lib.Seq.{take-append-le}
+use lib.Seq.{paste, take-append-le, take-at}
 use Rattle.bits.specs.Bits.{pick}
 use Rattle.bits.specs.Width.{widthOf}
 use Rattle.packing.specs.Parse.{Verdict, accepted, refused}
@@ -75,6 +75,12 @@ module _ (t rules heard : List ℕ) (p : Plan) (x : ℕ) (planned : Planned p) w
   pub not-found-settled : {a : Bool} → a ≡ rootFound t (p .layout) x → a ≡ false → NoMore ≡ settled t rules heard p x
   unfolding settled
   not-found-settled e₁ e₂ = rw (← e₁, e₂)
+
+  -- what is copied from the buffer to the output
+  pub copied : (rest out : List ℕ) {buffer out′ : List ℕ} → buffer ≡ block ++ rest → out′ ≡ paste out 0 buffer (p .form .size)
+      → out′ ≡ block ++ drop (p .form .size) out
+  copied rest out e o =
+      o ∙ rw (e, take-at block rest (p .form .size) (length-at t rules (p .layout) x (planned .form .some-place) (planned .form .places) (p .form) (planned .form)), zero-add (p .form .size))
 
 -- the output, by a test of which the value is known
 pub output-by : (t rules : List ℕ) (p : Plan) (x : ℕ) (out : List ℕ) {a b : Bool} {out′ : List ℕ} → out′ ≡ outputBy a t rules p x out → a ≡ b

@@ -131,7 +131,7 @@ fn hand_out(t: &[u32], rules: &[u32], heard: &[u8], plan: Plan, rank: usize, out
         let mut reading = [0u8; READING_BYTES];
         let own = write_rank(t, rules, plan.form, plan.layout, rank, &mut reading);
         if passes(rules, plan, heard, &reading[..own]) {
-            write_rank(t, rules, plan.form, plan.layout, rank, out);
+            padded_strings::copy(out, 0, &reading, plan.form.size);
             return true;
         }
     }

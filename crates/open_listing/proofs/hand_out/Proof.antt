@@ -2,7 +2,7 @@
 use mathlib.Core.Path.{refl, sym, _∙_}
 use native.Mathlib.Omega.{arith}
 use lib.Seq.{length-take-le}
-use Rattle.open_listing.proofs.HandOut.{own-fits, stands-passes, stands-not}
+use Rattle.open_listing.proofs.HandOut.{own-fits, stands-passes, stands-not, copied}
 use borrow.Author.Needs.{needs}
 use Rattle.open_listing.proofs.hand_out.Statement.{statement}
 use Rattle.open_listing.proofs.hand_out.Tie as tie
@@ -31,27 +31,32 @@ slice-aggregate-passes c =
 passes-requires : tie.Need-passes-requires
 passes-requires c κs = search needs
 
-write-rank-requires-2 : tie.Need-write-rank-requires-2
-write-rank-requires-2 c κs = search needs
+slice-aggregate-copy : tie.Need-slice-aggregate-copy
+slice-aggregate-copy c = search needs
+
+copy-requires : tie.Need-copy-requires
+copy-requires c κs = search needs
 
 same-length : tie.Need-same-length
 same-length c = search needs
 
 returns : tie.Need-returns
 returns c =
-    let a = c .before .before .before .before .before .before .before .before .before .before .before .before .before .before .before .before .args in
-    let planned = c .before .before .before .before .before .before .before .before .before .before .before .before .before .before .before .before .pre .0 in (
-      sym (c .before .before .before .before .if2 .taken)
-          ∙ stands-passes (a .t .now) (a .rules .now) (a .heard .now) (a .plan) (a .rank) planned _ (c .before .before .before .before .before .before .before .before .before .before .before .root-stands .ensures) (c .before .before .before .before .before .before .before .before .before .before .if1 .taken) (c .before .before .before .before .before .before .before .before .write-rank .ensures .1) (c .before .before .before .before .before .before .before .before .write-rank .ensures .0) (c .before .before .before .before .before .passes .ensures),
-      c .before .before .write-rank2 .ensures .0,
+    let a = c .before .before .before .before .before .before .before .before .before .before .before .before .before .before .before .before .before .args in
+    let planned = c .before .before .before .before .before .before .before .before .before .before .before .before .before .before .before .before .before .pre .0 in
+    (
+      sym (c .before .before .before .before .before .if2 .taken)
+      ∙ stands-passes (a .t .now) (a .rules .now) (a .heard .now) (a .plan) (a .rank) planned _ (c .before .before .before .before .before .before .before .before .before .before .before .before .root-stands .ensures) (c .before .before .before .before .before .before .before .before .before .before .before .if1 .taken) (c .before .before .before .before .before .before .before .before .before .write-rank .ensures .1) (c .before .before .before .before .before .before .before .before .before .write-rank .ensures .0) (c .before .before .before .before .before .before .passes .ensures),
+      copied (a .t .now) (a .rules .now) (a .heard .now) (a .plan) (a .rank) planned _ (a .out .now) (c .before .before .before .before .before .before .before .before .before .write-rank .ensures .0) (c .before .before .copy .ensures),
     )
 
 returns-2 : tie.Need-returns-2
 returns-2 c =
     let a = c .before .before .before .before .before .before .before .before .before .before .before .before .args in
-    let planned = c .before .before .before .before .before .before .before .before .before .before .before .before .pre .0 in (
+    let planned = c .before .before .before .before .before .before .before .before .before .before .before .before .pre .0 in
+    (
       sym (c .if2 .left)
-          ∙ stands-passes (a .t .now) (a .rules .now) (a .heard .now) (a .plan) (a .rank) planned _ (c .before .before .before .before .before .before .before .root-stands .ensures) (c .before .before .before .before .before .before .if1 .taken) (c .before .before .before .before .write-rank .ensures .1) (c .before .before .before .before .write-rank .ensures .0) (c .before .passes .ensures),
+      ∙ stands-passes (a .t .now) (a .rules .now) (a .heard .now) (a .plan) (a .rank) planned _ (c .before .before .before .before .before .before .before .root-stands .ensures) (c .before .before .before .before .before .before .if1 .taken) (c .before .before .before .before .write-rank .ensures .1) (c .before .before .before .before .write-rank .ensures .0) (c .before .passes .ensures),
       refl,
     )
 
@@ -71,7 +76,8 @@ hand-out-spec =
     array-share-prefix-reading
     slice-aggregate-passes
     passes-requires
-    write-rank-requires-2
+    slice-aggregate-copy
+    copy-requires
     same-length
     returns
     returns-2
