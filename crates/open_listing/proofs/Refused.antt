@@ -7,13 +7,13 @@ use native.Mathlib.Omega.{arith}
 use lib.Dec.{ltb}
 use lib.ListN.{length}
 use Rattle.packing.specs.Meaning.{lastPlace}
-use Rattle.packing.specs.Rows.{_∪_, GrammarBlockRow, HeardBlockRow}
+use Rattle.packing.specs.Rows.{_∪_, GrammarBlockRow, HeardBlockRow, OpenRow, CallRow}
 use Rattle.packing.proofs.Refusals.{Refuses, granted, denied, refusal-number, wider, then-row, choose-row, grammar-block-row}
 use Rattle.packing.proofs.GraphRefusals.{heard-block-row}
 use Rattle.derivation.specs.Heard.{outputLength}
 use Rattle.listing.specs.Listing.{tableSize}
 use Rattle.open_listing.specs.Open as S
-use Rattle.open_listing.specs.Open.{OpenRow, CallRow, opening, calling}
+use Rattle.open_listing.specs.Open.{opening, calling}
 use Rattle.open_listing.specs.declared.Place.{Place}
 use Rattle.open_listing.specs.declared.Answer as A
 use Rattle.open_listing.specs.declared.Answer.the-variants.{Reading, NoMore, Full, Refused}

@@ -12,7 +12,6 @@ use Rattle.packing.specs.Meaning.{Grammar, Heard, lastPlace}
 use Rattle.packing.specs.Parse.{Verdict, accepted, refused, _then_}
 use Rattle.packing.specs.Grammar.{grammarBlock}
 use Rattle.packing.specs.Heard.{heardBlock}
-use Rattle.packing.specs.Rows.{Between, _∪_}
 use Rattle.packing.specs.Flat.{Begins, ruleNumbers}
 use Rattle.derivation.specs.Derivation.{Tree, Derivation}
 use Rattle.derivation.specs.Heard.{outputLength, packed}
@@ -36,13 +35,6 @@ use Rattle.open_listing.specs.declared.Answer.the-variants.{Reading, NoM
 pub record Blocks : Type 0 where
   pub grammar : Grammar
   pub heard : Heard
-
--- the numbers of the refusals that are an open listing's own: opening's, and a call's
-abbrev pub OpenRow : ℕ → Type 0
-OpenRow n = n ≡ 22
-
-abbrev pub CallRow : ℕ → Type 0
-CallRow n = (Between 22 23 ∪ Between 53 53) n
 
 -- "Opening refuses for the blocks, then with 22", for a work table of this length, "sized for 256"
 unfoldable pub opening : List ℕ → List ℕ → ℕ → Verdict Blocks

@@ -54,9 +54,6 @@ pub enum Answer {
 // The mark of a place that was opened.
 pub const OPENED: u32 = 1;
 
-// The refusal of numbers that were altered: the walk that they spell is not a reading that passes.
-const ALTERED: u32 = 53;
-
 // The bytes of the longest reading.
 const READING_BYTES: usize = 73;
 
@@ -148,7 +145,7 @@ fn settle(t: &[u32], rules: &[u32], heard: &[u8], plan: Plan, rank: usize, out: 
         if hand_out(t, rules, heard, plan, rank, out) {
             return Answer::Reading;
         }
-        return Answer::Refused(ALTERED);
+        return Answer::Refused(refused::OPEN_ALTERED);
     }
     Answer::NoMore
 }
@@ -192,7 +189,7 @@ fn first(
         zero(&mut work[..front]);
         return answer;
     }
-    Answer::Refused(ALTERED)
+    Answer::Refused(refused::OPEN_ALTERED)
 }
 
 // A later call: the rank behind the last that was handed out is looked for. Unless it is handed out, what was written over is put back.
@@ -259,7 +256,7 @@ fn next_heard(
         return Answer::Full;
     }
     if place.opened != OPENED {
-        return Answer::Refused(ALTERED);
+        return Answer::Refused(refused::OPEN_ALTERED);
     }
     if handed == 0 {
         return first(work, rules, edges, heard, plan, out);

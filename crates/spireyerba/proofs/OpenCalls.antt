@@ -9,7 +9,7 @@ use lib.ListN.{length, replicate}
 use mir.Syntax.{w32}
 use mir.Val.{toZ, ofZ}
 use Rattle.packing.specs.Parse.{Verdict, accepted, refused}
-use Rattle.packing.specs.Rows.{_∪_, GrammarBlockRow, HeardBlockRow}
+use Rattle.packing.specs.Rows.{_∪_, GrammarBlockRow, HeardBlockRow, OpenRow, CallRow}
 use Rattle.packing.proofs.Refusals.{Low, low-both, refusal-number}
 use Rattle.open_listing.specs.Open as S
 use Rattle.open_listing.specs.declared.Place.{Place}
@@ -23,13 +23,13 @@ use Rattle.spireyerba.specs.OneByOne.{placeAt, nextCode, Open, Next}
 use Rattle.spireyerba.proofs.Signed.{back, fits-neg}
 
 -- a refusal is small
-low-open : (n : ℕ) → (GrammarBlockRow ∪ HeardBlockRow ∪ S.OpenRow) n → n < 2147483648
+low-open : (n : ℕ) → (GrammarBlockRow ∪ HeardBlockRow ∪ OpenRow) n → n < 2147483648
 low-open n (inl (inl r)) = omega (arith, r)
 low-open n (inl (inr (inl r))) = omega (arith, r)
 low-open n (inl (inr (inr r))) = omega (arith, r)
 low-open n (inr r) = omega (arith, r)
 
-low-call : (n : ℕ) → (GrammarBlockRow ∪ HeardBlockRow ∪ S.CallRow) n → n < 2147483648
+low-call : (n : ℕ) → (GrammarBlockRow ∪ HeardBlockRow ∪ CallRow) n → n < 2147483648
 low-call n (inl (inl r)) = omega (arith, r)
 low-call n (inl (inr (inl r))) = omega (arith, r)
 low-call n (inl (inr (inr r))) = omega (arith, r)

@@ -11,7 +11,7 @@ use lib.IntN.{ℤ, pos, negℤ}
 use lib.ListN.{length, drop, replicate, length-replicate}
 use Rattle.packing.specs.Meaning.{Grammar, Heard}
 use Rattle.packing.specs.Parse.{Verdict, accepted, refused}
-use Rattle.packing.specs.Rows.{_∪_, GrammarBlockRow, HeardBlockRow}
+use Rattle.packing.specs.Rows.{_∪_, GrammarBlockRow, HeardBlockRow, OpenRow}
 use Rattle.derivation.specs.Derivation.{Tree, Derivation}
 use Rattle.derivation.specs.Heard.{outputLength, packed}
 use Rattle.derivation.specs.HeardList as list
@@ -27,7 +27,7 @@ use Rattle.spireyerba.specs.Demands.{answers, refuses}
 use Rattle.spireyerba.specs.OneByOne.{placeAt, nextCode, Open, Next, Calls, OneByOne, EveryReading}
 
 -- no refusal has the code 0
-not-zero : (n : ℕ) → (GrammarBlockRow ∪ HeardBlockRow ∪ S.OpenRow) n → negℤ (pos n) ≡ pos 0 → ⊥
+not-zero : (n : ℕ) → (GrammarBlockRow ∪ HeardBlockRow ∪ OpenRow) n → negℤ (pos n) ≡ pos 0 → ⊥
 not-zero zero (inl (inl r)) e = omega (arith, r)
 not-zero zero (inl (inr (inl r))) e = omega (arith, r)
 not-zero zero (inl (inr (inr r))) e = omega (arith, r)

@@ -8,12 +8,12 @@ use lib.IntN.{ℤ, pos, negℤ}
 use lib.ListN.{length, drop, replicate}
 use Rattle.packing.specs.Meaning.{Grammar, Heard}
 use Rattle.packing.specs.Parse.{accepted}
-use Rattle.packing.specs.Rows.{_∪_, GrammarBlockRow, HeardBlockRow}
+use Rattle.packing.specs.Rows.{_∪_, GrammarBlockRow, HeardBlockRow, OpenRow, CallRow}
 use Rattle.derivation.specs.Derivation.{Tree, Derivation}
 use Rattle.derivation.specs.Heard.{outputLength, packed}
 use Rattle.derivation.specs.Rank.{Number}
 use Rattle.listing.specs.Demand3.{Ranked}
-use Rattle.open_listing.specs.Open.{Blocks, opening, placeAfter, OpenRow, CallRow, Called, Kept}
+use Rattle.open_listing.specs.Open.{Blocks, opening, placeAfter, Called, Kept}
 use Rattle.open_listing.specs.declared.Place.{Place}
 use Rattle.open_listing.specs.declared.Answer as A
 use Rattle.open_listing.specs.declared.Answer.the-variants.{Reading, NoMore, Full, Refused}

@@ -43,20 +43,18 @@ same-length c = search needs
 returns : tie.Need-returns
 returns c =
     let a = c .before .before .before .before .before .before .before .before .before .before .before .before .before .before .before .before .before .args in
-    let planned = c .before .before .before .before .before .before .before .before .before .before .before .before .before .before .before .before .before .pre .0 in
-    (
+    let planned = c .before .before .before .before .before .before .before .before .before .before .before .before .before .before .before .before .before .pre .0 in (
       sym (c .before .before .before .before .before .if2 .taken)
-      ∙ stands-passes (a .t .now) (a .rules .now) (a .heard .now) (a .plan) (a .rank) planned _ (c .before .before .before .before .before .before .before .before .before .before .before .before .root-stands .ensures) (c .before .before .before .before .before .before .before .before .before .before .before .if1 .taken) (c .before .before .before .before .before .before .before .before .before .write-rank .ensures .1) (c .before .before .before .before .before .before .before .before .before .write-rank .ensures .0) (c .before .before .before .before .before .before .passes .ensures),
+          ∙ stands-passes (a .t .now) (a .rules .now) (a .heard .now) (a .plan) (a .rank) planned _ (c .before .before .before .before .before .before .before .before .before .before .before .before .root-stands .ensures) (c .before .before .before .before .before .before .before .before .before .before .before .if1 .taken) (c .before .before .before .before .before .before .before .before .before .write-rank .ensures .1) (c .before .before .before .before .before .before .before .before .before .write-rank .ensures .0) (c .before .before .before .before .before .before .passes .ensures),
       copied (a .t .now) (a .rules .now) (a .heard .now) (a .plan) (a .rank) planned _ (a .out .now) (c .before .before .before .before .before .before .before .before .before .write-rank .ensures .0) (c .before .before .copy .ensures),
     )
 
 returns-2 : tie.Need-returns-2
 returns-2 c =
     let a = c .before .before .before .before .before .before .before .before .before .before .before .before .args in
-    let planned = c .before .before .before .before .before .before .before .before .before .before .before .before .pre .0 in
-    (
+    let planned = c .before .before .before .before .before .before .before .before .before .before .before .before .pre .0 in (
       sym (c .if2 .left)
-      ∙ stands-passes (a .t .now) (a .rules .now) (a .heard .now) (a .plan) (a .rank) planned _ (c .before .before .before .before .before .before .before .root-stands .ensures) (c .before .before .before .before .before .before .if1 .taken) (c .before .before .before .before .write-rank .ensures .1) (c .before .before .before .before .write-rank .ensures .0) (c .before .passes .ensures),
+          ∙ stands-passes (a .t .now) (a .rules .now) (a .heard .now) (a .plan) (a .rank) planned _ (c .before .before .before .before .before .before .before .root-stands .ensures) (c .before .before .before .before .before .before .if1 .taken) (c .before .before .before .before .write-rank .ensures .1) (c .before .before .before .before .write-rank .ensures .0) (c .before .passes .ensures),
       refl,
     )
 
