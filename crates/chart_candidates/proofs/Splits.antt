@@ -4,7 +4,7 @@
 use mathlib.Core.Path.{_≡_, sym, _∙_}
 use mathlib.Core.List.{List}
 use Prim.Native.Nat.{ℕ, zero, suc, _+_, _-_, _*_, _≤_, _<_}
-use native.Mathlib.Nat.{mul-le-mul}
+use native.Mathlib.Nat.{mul-le-mul, mul-suc}
 use native.Mathlib.Omega.{arith}
 use lib.ListN.{length}
 use Rattle.packing.specs.Loop.{over}
@@ -27,8 +27,17 @@ pub record InRange (step first end j x y : ℕ) : Type 0 where
   pub left : x ≤ 17592186044416 + 4096 * j
   pub right : y ≤ 17592186044416 + 4096 * j
 
+-- a stride, by which the left part's entry goes on, and the next one
+pub stride-small : {step j : ℕ} → step ≤ 128 → j ≤ lastPlace → step * j ≤ 3968
+stride-small {step} {j} s h = mul-le-mul {n₁ = step} {m₁ = j} {n₂ = 128} {m₂ = 31} s h
+
+pub stride-next : (step j : ℕ) {stride : ℕ} → stride ≡ step * j → stride + step ≡ step * (j + 1)
+stride-next step j e =
+    let n : j + 1 ≡ suc j = omega arith in
+    rw (n, mul-suc, e)
+
 pub step-small : {step first end j x y : ℕ} → InRange step first end j x y → j < end → step * j ≤ 3968
-step-small {step} {j = j} r h = mul-le-mul {n₁ = step} {m₁ = j} {n₂ = 128} {m₂ = 31} (r .apart) (omega arith)
+step-small r h = stride-small (r .apart) (omega (arith, r .last))
 
 -- what does not fall at a step does not fall over many
 grows : (f : ℕ → ℕ) → ((n : ℕ) → f n ≤ f (n + 1)) → (m more : ℕ) → f m ≤ f (m + more)

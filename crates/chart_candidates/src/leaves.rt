@@ -23,7 +23,8 @@ use packing::format::NUMBERS_PER_EDGE;
 use packing::format::NUMBERS_PER_RULE;
 use packing::format::RULE_FIRST_AT;
 ghost use mathlib.Core.Path.{_≡_};
-ghost use Prim.Native.Nat.{_+_, _-_, _*_, _<_, _≤_};
+ghost use Prim.Native.Nat.{_+_, _*_, _<_, _≤_};
+ghost use lib.ListN.{getD};
 ghost use Rattle.packing.specs.Flat.{ruleAt};
 ghost use Rattle.chart_keys.specs.Keys.{keyNumber, noKey};
 ghost use Rattle.chart_table.specs.Table.{lastPlace};
@@ -56,13 +57,21 @@ fn rule_leaf(rules: &[u32], edges: &[u32], e: usize, r: usize, floor: Key, best:
     }
 }
 
-// The same. Most rules have another word, so that is compared before a rule is taken apart.
-fn word_leaf(rules: &[u32], edges: &[u32], e: usize, r: usize, floor: Key, best: Key) -> Key
-    requires { ⌜ (e < 4294967296) × (r < 4294967296) ⌝ }
+// The same. Most rules have another word than the edge, so that is compared before a rule is taken apart.
+fn word_leaf(
+    rules: &[u32],
+    edges: &[u32],
+    e: usize,
+    heard: u32,
+    r: usize,
+    floor: Key,
+    best: Key,
+) -> Key
+    requires { ⌜ (e < 4294967296) × (r < 4294967296) × (heard ≡ getD (now edges) (4 * e + 2) 0) ⌝ }
     ensures { λ x. ⌜ keyNumber x ≡ wordLeaf (now (edges .entry)) e (keyNumber floor) (keyNumber best) r (ruleAt (now (rules .entry)) r) ⌝ }
 {
     let word = narrow_at(rules, NUMBERS_PER_RULE * r + RULE_FIRST_AT);
-    if word != narrow_at(edges, NUMBERS_PER_EDGE * e + EDGE_WORD_AT) {
+    if word != heard {
         return best;
     }
     rule_leaf(rules, edges, e, r, floor, best)
@@ -87,9 +96,10 @@ fn edge_leaves(
     let head = wide(c.head.0);
     let start = class_start(index, WORD_BASE, head);
     let end = class_end(index, WORD_BASE, head);
+    let heard = narrow_at(edges, NUMBERS_PER_EDGE * e + EDGE_WORD_AT);
     let mut so_far = best;
     for y in start..end {
-        so_far = word_leaf(rules, edges, e, number_at(index, y), floor, so_far);
+        so_far = word_leaf(rules, edges, e, heard, number_at(index, y), floor, so_far);
     }
     so_far
 }

@@ -2,7 +2,6 @@
 use crate::PairRule;
 use crate::Range;
 use crate::pair_key;
-use arrays::narrow_at;
 use arrays::number_at;
 use arrays::rule_at;
 use arrays::wide;
@@ -96,13 +95,15 @@ fn split_seeds_within(t: &[u32], d: Layout, rule: PairRule, c: Cell, floor: Key,
     let first = c.from + 1;
     let mut x = entry_of(d, cell_number(d, left_part(c, rule.first, first)), 0);
     let mut y = entry_of(d, cell_number(d, right_part(c, rule.second, first)), 0);
+    let mut stride = step * first;
     let low = floor_number(floor);
     let mut height = ceiling_number(best) - (low + 1);
     let end = c.to;
     for j in first..end {
         let price = join_price(rule.weight, price_within(t, x), price_within(t, y));
         height = lesser_height(low, height, seed_number(price, rule.number, j));
-        x = x + step * j;
+        x = x + stride;
+        stride = stride + step;
         y = y + step;
     }
     key_of_number(best, height + (low + 1))
@@ -155,8 +156,12 @@ fn parts_meet(masks: &[u32], d: Layout, rules: &[u32], c: Cell, r: usize) -> boo
     requires { ⌜ (InTable d c) × (r < 4294967296) ⌝ }
     ensures { λ x. ⌜ (x ≡ false → RuleApart (now (masks .entry)) d (now (rules .entry)) c r) ⌝ }
 {
-    let first = Sym(narrow_at(rules, NUMBERS_PER_RULE * r + RULE_FIRST_AT));
-    let second = Sym(narrow_at(rules, NUMBERS_PER_RULE * r + RULE_SECOND_AT));
+    let at = NUMBERS_PER_RULE * r;
+    if rules.len() <= at + RULE_SECOND_AT {
+        return true;
+    }
+    let first = Sym(rules[at + RULE_FIRST_AT]);
+    let second = Sym(rules[at + RULE_SECOND_AT]);
     meet(masks, d, first, second, c)
 }
 

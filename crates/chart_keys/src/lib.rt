@@ -3,7 +3,7 @@ pub mod seed_numbers;
 
 use arrays::wide;
 ghost use mathlib.Core.Path.{_≡_};
-ghost use Prim.Native.Nat.{_+_, _-_, _*_, _<_, _≤_};
+ghost use Prim.Native.Nat.{_+_, _*_, _<_, _≤_};
 ghost use lib.Dec.{ltb};
 ghost use Rattle.chart_keys.specs.Keys.{splits, digits, prices, withRanks, backNumber, backPointer, Digits, partPrice, leafPrice, joinPrice, keyNumber, noKey, lesser};
 

@@ -1,14 +1,12 @@
 -- The masks cover the table again where a cell is found and marked: the first rank of a cell, stored, is that of no other. The masks
 -- of words say of an edge's word which heads have no leaf, and those of parts and places which heads have no seed.
-use mathlib.Core.Path.{_≡_, refl, sym, ap, subst, _∙_}
-use mathlib.Core.Logic.{_⊎_, inl, inr, ⊎-elim, _≢_}
+use mathlib.Core.Path.{_≡_, refl, _∙_}
+use mathlib.Core.Logic.{_⊎_, inl, inr, _≢_}
 use mathlib.Core.Bool.{Bool, true, false}
 use mathlib.Core.List.{List}
-use Prim.Native.Nat.{ℕ, suc, _+_, _-_, _*_, _/_, _%_, _≤_, _<_}
-use native.Mathlib.Nat.{eq-or-lt-of-le}
-use native.Mathlib.Decide.{decLe, ℕ-discrete}
+use Prim.Native.Nat.{ℕ, _+_, _*_, _/_, _%_, _≤_, _<_}
+use native.Mathlib.Decide.{ℕ-discrete}
 use native.Mathlib.Omega.{arith}
-use lib.Arith.{digits-div, digits-mod}
 use lib.Bits.{bitAnd, bitOr}
 use lib.Dec.{ltb}
 use lib.ListN.{length, getD, set}
@@ -22,39 +20,10 @@ use Rattle.chart_index.specs.Index.{pairBase, classStart, classEnd}
 use Rattle.chart_table.specs.declared.Cell.{Cell}
 use Rattle.chart_table.specs.declared.Layout.{Layout}
 use Rattle.chart_table.specs.Table.{lastPlace, cell, cellNumber, entryOf, priceIn, priceAt, besideAt, putBeside, putFound, lastRank, putLastRank, putKey, InTable}
-use Rattle.chart_table.proofs.Cells.{spans, spans-suc, first-price}
+use Rattle.chart_table.proofs.Cells.{cell-injective, first-price}
 use Rattle.chart_masks.specs.declared.Column.{Column}
 use Rattle.chart_masks.specs.Masks.{maskNumbers, digit, endsAt, startsAt, firstsAt, secondsAt, leftAt, rightAt, slot, maskOf, wordColumn, firstColumn, secondColumn, Put, Marked, Covers, Apart, Grown, Members, MembersMore, Ruled, Unjoined, Live, EdgeHeads, HeadsBefore, HeadsOver, NoLeaf}
 use Rattle.chart_masks.proofs.Digits.{zero-digit, and-parts, or-lacks}
-
--- cells are apart
-spans-before : (k m : ℕ) → k < m → spans k + k ≤ spans m
-spans-before k (suc m) h =
-    ⊎-elim (λ e. subst (λ (x : ℕ). spans k + k ≤ spans (suc x)) e (omega (arith, spans-suc k)))
-    (λ l. omega (arith, spans-before k m l, spans-suc m)) (eq-or-lt-of-le {n = k} {m = m} (omega arith))
-
-spans-injective : (i k i′ k′ : ℕ) → i < k → i′ < k′ → spans k + i ≡ spans k′ + i′ → (i ≡ i′) × (k ≡ k′)
-spans-injective i k i′ k′ h h′ e = go (decLe k k′) (decLe k′ k)
-  where
-    go : Dec (k ≤ k′) → Dec (k′ ≤ k) → (i ≡ i′) × (k ≡ k′)
-    go (yes a) (yes b) = let q : k ≡ k′ = omega arith in (let e₂ = rw q at e in omega arith, q)
-    go (yes a) (no b) = absurd (omega (arith, spans-before k k′ (omega arith)))
-    go (no a) (yes b) = absurd (omega (arith, spans-before k′ k (omega arith)))
-    go (no a) (no b) = absurd (omega arith)
-
-digits-injective : (q r q′ r′ m : ℕ) → r < m → r′ < m → q * m + r ≡ q′ * m + r′ → (q ≡ q′) × (r ≡ r′)
-digits-injective q r q′ r′ m h h′ e = (
-  sym (digits-div q h) ∙ ap (λ (n : ℕ). n / m) e ∙ digits-div q′ h′,
-  sym (digits-mod q h) ∙ ap (λ (n : ℕ). n % m) e ∙ digits-mod q′ h′,
-)
-
-cell-injective : (d : Layout) (a b : Sym) (i k x y : ℕ) → a .0 < d .symbols → b .0 < d .symbols → i < k → x < y
-    → cellNumber d (cell a i k) ≡ cellNumber d (cell b x y) → (a ≡ b) × (i ≡ x) × (k ≡ y)
-unfolding cellNumber
-cell-injective d a b i k x y s s′ l l′ e =
-    let (q, h) = digits-injective (spans k + i) (a .0) (spans y + x) (b .0) (d .symbols) s s′ e in
-    let (u, v) = spans-injective i k x y l l′ q in
-    (ap symbolOf h, u, v)
 
 -- the first rank of a cell, stored, is that of no other
 beside-other : (t : List ℕ) (d : Layout) (c n c′ : ℕ) → c′ ≢ c → priceIn (putBeside t d c 0 n) (c′ * 4) ≡ priceIn t (c′ * 4)

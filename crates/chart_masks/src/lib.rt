@@ -105,9 +105,10 @@ pub fn mark(masks: &mut [u32], c: Cell)
     put(masks, RIGHT_HEADS + c.to, seconds);
 }
 
-// Whether parts of two heads can both be found at a split of a cell. It is so of what is no symbol, and without masks.
+// Whether parts of two heads can both be found at a split of a cell. It is so of what is no symbol, and without masks. The masks of
+// symbols stand in their array, so that the reads need no test.
 pub fn meet(masks: &[u32], d: Layout, first: Sym, second: Sym, c: Cell) -> bool
-    requires { ⌜ (c .from ≤ lastPlace) × (c .to ≤ lastPlace) ⌝ }
+    requires { ⌜ (d .symbols ≤ 32) × (c .from ≤ lastPlace) × (c .to ≤ lastPlace) ⌝ }
     ensures { λ r. ⌜ (r ≡ false → Apart (now (masks .entry)) d first second c) ⌝ }
 {
     if masks.len() < MASKS {
@@ -115,14 +116,16 @@ pub fn meet(masks: &[u32], d: Layout, first: Sym, second: Sym, c: Cell) -> bool
     }
     let left = wide(first.0);
     let right = wide(second.0);
-    let ends = narrow_at(masks, c.from * HEADS + left);
-    let starts = narrow_at(masks, STARTS + c.to * HEADS + right);
+    if d.symbols <= left {
+        return true;
+    }
+    if d.symbols <= right {
+        return true;
+    }
+    let ends = masks[c.from * HEADS + left];
+    let starts = masks[STARTS + c.to * HEADS + right];
     if disjoint(ends, starts) {
-        if left < d.symbols {
-            if right < d.symbols {
-                return false;
-            }
-        }
+        return false;
     }
     true
 }

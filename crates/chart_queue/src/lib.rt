@@ -18,7 +18,7 @@ use chart_table::put_key;
 ghost use mathlib.Core.Path.{_≡_};
 ghost use Prim.Native.Nat.{_+_, _*_, _/_, _<_, _≤_};
 ghost use Rattle.chart_keys.specs.Keys.{prices, keyNumber};
-ghost use Rattle.chart_table.specs.Table.{mostRanks, cellBound, besides, Sized};
+ghost use Rattle.chart_table.specs.Table.{mostRanks, cellBound, Sized};
 ghost use Rattle.chart_queue.specs.Queue.{tags, isInitial, codeOf, shifted, tagOf, taggedBack, numberKey, queuedKey, queueLength, keepInitial, putQueued, moveQueued, putQueueLength, leastPlace, replace, push, extractMin, keepWritten, keepMin};
 
 // Tags are below TAGS: CODES ways from each rank. Rank 255 has no next one, so no candidate has it: its tags are free, and the
@@ -227,11 +227,14 @@ fn push(t: &mut [u32], d: Layout, c: usize, rank: usize, m: usize, key: Key)
 }
 
 // Keeps the entries that are written when a rank is found and m are queued, of which place y has the least: those of the first rank, of
-// that rank, and those beside which place y and place m stand.
+// that rank, and those beside which place y and place m stand. A journal of no numbers, as a whole listing has, keeps nothing.
 fn keep_written(t: &[u32], kept: &mut [u32], d: Layout, c: usize, rank: usize, m: usize, y: usize)
     requires { ⌜ (Sized d) × (c < cellBound) × (rank ≤ mostRanks) × (m ≤ mostRanks) × (y ≤ mostRanks) ⌝ }
     ensures { λ _. ⌜ now (kept .exit) ≡ keepWritten (now (t .entry)) (now (kept .entry)) d c rank m y ⌝ }
 {
+    if kept.len() == 0 {
+        return;
+    }
     keep_entry(t, kept, entry_of(d, c, 0));
     keep_entry(t, kept, entry_of(d, c, rank));
     keep_entry(t, kept, entry_of(d, c, y + 1));

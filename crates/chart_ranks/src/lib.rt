@@ -20,7 +20,7 @@ use chart_table::put_key;
 use selection::replacement;
 use selection::successors;
 ghost use mathlib.Core.Path.{_≡_};
-ghost use Prim.Native.Nat.{_+_, _-_, _*_, _<_, _≤_};
+ghost use Prim.Native.Nat.{_-_, _<_, _≤_};
 ghost use Rattle.chart_keys.specs.Keys.{Digits, keyNumber, noKey};
 ghost use Rattle.chart_queue.specs.Queue.{keepMin};
 ghost use Rattle.chart_table.specs.Table.{InTable, Sized, mostRanks, cellBound, cellNumber, putKey};

@@ -16,7 +16,7 @@ use chart_table::left_part;
 use chart_table::right_part;
 use packing::Rule;
 ghost use mathlib.Core.Path.{_≡_};
-ghost use Prim.Native.Nat.{_+_, _-_, _*_, _<_, _≤_};
+ghost use Prim.Native.Nat.{_+_, _-_, _<_};
 ghost use Rattle.chart_keys.specs.Keys.{Digits, keyNumber};
 ghost use Rattle.chart_table.specs.Table.{InTable};
 ghost use Rattle.chart_ranks.specs.Ranks.{successors, sibling, leastInitial, replacement};

@@ -23,10 +23,10 @@ use chart_table::root;
 use packing::Rule;
 use packing::Sym;
 ghost use mathlib.Core.Path.{_≡_};
-ghost use Prim.Native.Nat.{ℕ, suc, _+_, _-_, _*_, _<_, _≤_};
+ghost use Prim.Native.Nat.{ℕ, suc, _+_, _-_, _<_, _≤_};
 ghost use lib.ListN.{getD};
 ghost use Rattle.chart_keys.specs.Keys.{Digits};
-ghost use Rattle.chart_table.specs.Table.{lastPlace, Sized, InTable};
+ghost use Rattle.chart_table.specs.Table.{Sized, InTable};
 ghost use Rattle.chart_masks.specs.Masks.{Covers, Ruled};
 ghost use Rattle.chart_search.specs.Search.{extend, advancePairing, nextOfSpan, firstOfHeads, firstOfLength, firstPass, nextOfRoot, search, backBefore, keepExtend, keepPairing, keepOfSpan, keepOfRoot};
 

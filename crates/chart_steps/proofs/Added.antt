@@ -25,6 +25,7 @@ use Rattle.chart_queue.specs.Queue.{isInitial, queuedKey, queueLength, leastPla
 use Rattle.chart_ranks.specs.Ranks.{nextRank}
 use Rattle.chart_search.specs.Search.{Finder, extend, extendParts, advancePairing, backBefore, nextOfSpan, nextOfRoot}
 use Rattle.chart_steps.specs.Found.{foundAmong}
+use Rattle.chart_steps.proofs.Bounds.{most, mostOfParts}
 
 -- every entry's price is the same, and every one but that of entry q
 record Same (t u : List ℕ) : Type 0 where
@@ -215,13 +216,6 @@ module _ (t u : List ℕ) (q : ℕ) (same : SameBut q t u) where
           between : (b : Bool) → foundAmong u n ≤ foundAmong t n + 1 → pick b (foundAmong u n) (foundAmong u n + 1) ≤ pick b (foundAmong t n) (foundAmong t n + 1) + 1
           between true h = h
           between false h = omega arith
-
--- the ranks found over a span, and over its parts
-abbrev most : Cell → ℕ
-most c = 2 * (c .to - c .from) - 1
-
-abbrev mostOfParts : Cell → ℕ
-mostOfParts c = 2 * (c .to - c .from) - 2
 
 module _ (n : ℕ) where
   abbrev Adds : ℕ → (t u : List ℕ) → Type 0

@@ -1,4 +1,5 @@
 pub mod Saved
 pub mod Written
 pub mod Undo
+pub mod Bounds
 pub mod Added

@@ -4,7 +4,7 @@
 use mathlib.Core.Path.{_≡_, refl, ap, _∙_}
 use mathlib.Core.Bool.{Bool, true, false}
 use mathlib.Core.List.{List, []}
-use Prim.Native.Nat.{ℕ, zero, suc, _+_, _-_, _*_, _≤_, _<_}
+use Prim.Native.Nat.{ℕ, zero, suc, _+_, _*_, _≤_, _<_}
 use native.Mathlib.Omega.{arith}
 use lib.Dec.{ltb, eqb}
 use lib.ListN.{length, replicate}
@@ -21,6 +21,7 @@ use Rattle.chart_table.specs.Journal.{putBack}
 use Rattle.chart_queue.specs.Queue.{queueLength, leastPlace, keepWritten, keepMin}
 use Rattle.chart_ranks.specs.Ranks.{nextRank}
 use Rattle.chart_search.specs.Search.{Finder, Keeper, extend, extendParts, advancePairing, backBefore, nextOfSpan, nextOfRoot, keepExtend, keepParts, keepPairing, keepOfSpan, keepOfRoot}
+use Rattle.chart_steps.proofs.Bounds.{most, mostOfParts}
 use Rattle.chart_steps.proofs.Saved.{Saved, undo, Kept, kept-more, kept-none, put-back}
 use Rattle.chart_steps.proofs.Written.{writtenAt, extract-writes, all-undone}
 
@@ -69,31 +70,25 @@ rank-undone rules edges index d c rank t k l kept room =
       back = ap (undo l) (all-undone t (writtenAt t d at rank) _ (extract-writes t d at rank _ _));
     }
 
--- the ranks looked for over a span, and over its parts
-abbrev most : Cell → ℕ
-most c = 4 * (2 * (c .to - c .from) - 1)
-
-abbrev mostOfParts : Cell → ℕ
-mostOfParts c = 4 * (2 * (c .to - c .from) - 2)
-
+-- with each rank that is looked for four entries are kept
 abbrev FinderUndone : Finder → Keeper → Type 0
-FinderUndone next keep = (t k : List ℕ) (c : Cell) (rank : ℕ) → c .from < c .to → 0 < rank → Undoes (most c) t k (next t c rank) (keep t k c rank)
+FinderUndone next keep = (t k : List ℕ) (c : Cell) (rank : ℕ) → c .from < c .to → 0 < rank → Undoes (4 * most c) t k (next t c rank) (keep t k c rank)
 
 module _ (rules : List ℕ) (d : Layout) (next : Finder) (keep : Keeper) (finds : FinderUndone next keep) where
   extend-undone : (t k : List ℕ) (c : Cell) (rank : ℕ) → c .from < c .to → 0 < rank
-      → Undoes (most c) t k (extend d next t c rank) (keepExtend d keep t k c rank)
+      → Undoes (4 * most c) t k (extend d next t c rank) (keepExtend d keep t k c rank)
   unfolding extend keepExtend
   extend-undone t k c rank order positive = go (ltb rank (d .ranks)) (eqb (priceAt t d (cellNumber d c) rank) 0)
     where
-      go : (a b : Bool) → Undoes (most c) t k (pick a (pick b (next t c rank) t) t) (pick a (pick b (keep t k c rank) k) k)
+      go : (a b : Bool) → Undoes (4 * most c) t k (pick a (pick b (next t c rank) t) t) (pick a (pick b (keep t k c rank) k) k)
       go true true = finds t k c rank order positive
-      go true false = undoes-refl (most c) t k
-      go false b = undoes-refl (most c) t k
+      go true false = undoes-refl (4 * most c) t k
+      go false b = undoes-refl (4 * most c) t k
 
   parts-undone : (t k : List ℕ) (c : Cell) (b : BackPointer) (x : Rule) → c .from < b .split → b .split < c .to
-      → Undoes (mostOfParts c) t k (extendParts d next t c b x) (keepParts d next keep t k c b x)
+      → Undoes (4 * mostOfParts c) t k (extendParts d next t c b x) (keepParts d next keep t k c b x)
   unfolding extendParts keepParts
-  parts-undone t k c b (Word h x w) after before = undoes-refl (mostOfParts c) t k
+  parts-undone t k c b (Word h x w) after before = undoes-refl (4 * mostOfParts c) t k
   parts-undone t k c b (Pair h x y w) after before = go (eqb (b .right) 0)
     where
       right : Cell
@@ -108,18 +103,18 @@ module _ (rules : List ℕ) (d : Layout) (next : Finder) (keep : Keeper) (finds 
       j : List ℕ
       j = keepExtend d keep t k right (b .right + 1)
 
-      on-right : Undoes (most right) t k u j
+      on-right : Undoes (4 * most right) t k u j
       on-right = extend-undone t k right (b .right + 1) before (omega arith)
 
-      on-left : Undoes (most left) u j (extend d next u left (b .left + 1)) (keepExtend d keep u j left (b .left + 1))
+      on-left : Undoes (4 * most left) u j (extend d next u left (b .left + 1)) (keepExtend d keep u j left (b .left + 1))
       on-left = extend-undone u j left (b .left + 1) after (omega arith)
 
-      go : (z : Bool) → Undoes (mostOfParts c) t k (pick z (extend d next u left (b .left + 1)) u) (pick z (keepExtend d keep u j left (b .left + 1)) j)
-      go true = undoes-more (most right + most left) (mostOfParts c) t k _ _ (omega arith) (undoes-trans (most right) (most left) t k u j _ _ on-right on-left)
-      go false = undoes-more (most right) (mostOfParts c) t k u j (omega arith) on-right
+      go : (z : Bool) → Undoes (4 * mostOfParts c) t k (pick z (extend d next u left (b .left + 1)) u) (pick z (keepExtend d keep u j left (b .left + 1)) j)
+      go true = undoes-more (4 * most right + 4 * most left) (4 * mostOfParts c) t k _ _ (omega arith) (undoes-trans (4 * most right) (4 * most left) t k u j _ _ on-right on-left)
+      go false = undoes-more (4 * most right) (4 * mostOfParts c) t k u j (omega arith) on-right
 
   pairing-undone : (t k : List ℕ) (c : Cell) (b : BackPointer)
-      → Undoes (mostOfParts c) t k (advancePairing rules d next t c b) (keepPairing rules d next keep t k c b)
+      → Undoes (4 * mostOfParts c) t k (advancePairing rules d next t c b) (keepPairing rules d next keep t k c b)
   unfolding advancePairing keepPairing
   pairing-undone t k c b = outer (ltb (c .from) (b .split)) refl
     where
@@ -127,33 +122,33 @@ module _ (rules : List ℕ) (d : Layout) (next : Finder) (keep : Keeper) (finds 
       x = ruleAt rules (b .rule)
 
       inner : (z : Bool) → c .from < b .split → ltb (b .split) (c .to) ≡ z
-          → Undoes (mostOfParts c) t k (pick z (extendParts d next t c b x) t) (pick z (keepParts d next keep t k c b x) k)
+          → Undoes (4 * mostOfParts c) t k (pick z (extendParts d next t c b x) t) (pick z (keepParts d next keep t k c b x) k)
       inner true after e = parts-undone t k c b x after (ltb-true (b .split) (c .to) e)
-      inner false after e = undoes-refl (mostOfParts c) t k
+      inner false after e = undoes-refl (4 * mostOfParts c) t k
 
       outer : (z : Bool) → ltb (c .from) (b .split) ≡ z
-          → Undoes (mostOfParts c) t k (pick z (pick (ltb (b .split) (c .to)) (extendParts d next t c b x) t) t)
+          → Undoes (4 * mostOfParts c) t k (pick z (pick (ltb (b .split) (c .to)) (extendParts d next t c b x) t) t)
           (pick z (pick (ltb (b .split) (c .to)) (keepParts d next keep t k c b x) k) k)
       outer true e = inner (ltb (b .split) (c .to)) (ltb-true (c .from) (b .split) e) refl
-      outer false e = undoes-refl (mostOfParts c) t k
+      outer false e = undoes-refl (4 * mostOfParts c) t k
 
 module _ (rules edges index : List ℕ) (d : Layout) where
   span-undone : (fuel : ℕ) → FinderUndone (nextOfSpan rules edges index d fuel) (keepOfSpan rules edges index d fuel)
   unfolding nextOfSpan keepOfSpan
-  span-undone zero t k c rank order positive = undoes-refl (most c) t k
+  span-undone zero t k c rank order positive = undoes-refl (4 * most c) t k
   span-undone (suc fuel) t k c rank order positive =
       let parts = pairing-undone rules d _ _ (span-undone fuel) t k c (backBefore t d c rank) in
-      rw (ne-eqb rank 0 (λ e. omega arith)) (undoes-more (mostOfParts c + 4) (most c) t k _ _ (omega arith)
-      (undoes-trans (mostOfParts c) 4 t k _ _ _ _ parts (rank-undone rules edges index d c rank _ _)))
+      rw (ne-eqb rank 0 (λ e. omega arith)) (undoes-more (4 * mostOfParts c + 4) (4 * most c) t k _ _ (omega arith)
+      (undoes-trans (4 * mostOfParts c) 4 t k _ _ _ _ parts (rank-undone rules edges index d c rank _ _)))
 
   root-undone : (t k : List ℕ) (x : ℕ) → 0 < d .places
-      → Undoes (most (root d)) t k (nextOfRoot rules edges index d t x) (keepOfRoot rules edges index d t k x)
+      → Undoes (4 * most (root d)) t k (nextOfRoot rules edges index d t x) (keepOfRoot rules edges index d t k x)
   unfolding nextOfRoot keepOfRoot
   root-undone t k x some = go (eqb (priceAt t d (cellNumber d (root d)) x) 0)
     where
-      go : (b : Bool) → Undoes (most (root d)) t k (pick b t (extend d (nextOfSpan rules edges index d (d .places)) t (root d) (x + 1)))
+      go : (b : Bool) → Undoes (4 * most (root d)) t k (pick b t (extend d (nextOfSpan rules edges index d (d .places)) t (root d) (x + 1)))
           (pick b k (keepExtend d (keepOfSpan rules edges index d (d .places)) t k (root d) (x + 1)))
-      go true = undoes-refl (most (root d)) t k
+      go true = undoes-refl (4 * most (root d)) t k
       go false = extend-undone rules d _ _ (span-undone (d .places)) t k (root d) (x + 1) some (omega arith)
 
   -- what was written over in the search for a further rank of the root, put back from a journal that was empty

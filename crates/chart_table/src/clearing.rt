@@ -2,11 +2,12 @@
 use crate::Layout;
 use crate::entry_of;
 use crate::last_rank;
-use arrays::number_at;
 use arrays::store;
+use arrays::wide;
 ghost use mathlib.Core.Bool.{true};
 ghost use mathlib.Core.Path.{_≡_};
-ghost use Prim.Native.Nat.{_<_, _≤_};
+ghost use Prim.Native.Nat.{_+_, _<_, _≤_};
+ghost use lib.ListN.{length, set};
 ghost use Rattle.chart_table.specs.Table.{mostRanks, cellBound, entryOf, ranksToClear, clearEntry, clearCell, clear, Clear, Sized};
 
 // How many ranks of a cell there are up to the last found, and one where none is.
@@ -18,25 +19,43 @@ fn ranks_to_clear(t: &[u32], d: Layout, c: usize) -> usize
     if last < d.ranks { last + 1 } else { d.ranks }
 }
 
-// Makes the four numbers of an entry 0.
+// Makes the four numbers of an entry that stands in the table 0.
+fn clear_within(t: &mut [u32], at: usize)
+    requires { ⌜ at + 3 < length (now t) ⌝ }
+    ensures { λ _. ⌜ now (t .exit) ≡ set (set (set (set (now (t .entry)) at 0) (at + 1) 0) (at + 2) 0) (at + 3) 0 ⌝ }
+{
+    t[at] = 0;
+    t[at + 1] = 0;
+    t[at + 2] = 0;
+    t[at + 3] = 0;
+}
+
+// Makes the four numbers of an entry 0. One test suffices where all four stand in the table.
 fn clear_entry(t: &mut [u32], d: Layout, c: usize, x: usize)
     requires { ⌜ (Sized d) × (c < cellBound) × (x ≤ mostRanks) ⌝ }
     ensures { λ _. ⌜ now (t .exit) ≡ clearEntry (now (t .entry)) d c x ⌝ }
 {
     let at = entry_of(d, c, x);
+    if at + 3 < t.len() {
+        clear_within(t, at);
+        return;
+    }
     store(t, at, 0);
     store(t, at + 1, 0);
     store(t, at + 2, 0);
     store(t, at + 3, 0);
 }
 
-// Whether the first entry of a cell has zeros only. Of most cells of an office grammar nothing is found.
+// Whether the first entry of a cell stands in the table and has zeros only. Of most cells of an office grammar nothing is found.
 fn is_clear(t: &[u32], d: Layout, c: usize) -> bool
     requires { ⌜ (Sized d) × (c < cellBound) ⌝ }
     ensures { λ r. ⌜ (r ≡ true → Clear (now (t .entry)) (entryOf d c 0)) ⌝ }
 {
     let at = entry_of(d, c, 0);
-    number_at(t, at) + number_at(t, at + 1) + number_at(t, at + 2) + number_at(t, at + 3) == 0
+    if at + 3 < t.len() {
+        return wide(t[at]) + wide(t[at + 1]) + wide(t[at + 2]) + wide(t[at + 3]) == 0;
+    }
+    false
 }
 
 // Makes the entries of a cell's ranks up to the last found 0.

@@ -1,6 +1,6 @@
 -- The shape of a trace, whatever the table holds: two numbers for each of 2 m − 1 nodes, m being no more than the span has places, and of
 -- these nodes at most m are by a word rule. For a node with two parts is by a pair rule.
-use mathlib.Core.Path.{_≡_, refl, sym, _∙_}
+use mathlib.Core.Path.{_≡_, refl, sym}
 use mathlib.Core.Bool.{Bool, true, false}
 use mathlib.Core.List.{List, [], _∷_, _++_, append-assoc}
 use Prim.Native.Nat.{ℕ, zero, suc, _+_, _-_, _*_, _≤_, _<_}
@@ -8,7 +8,7 @@ use native.Mathlib.Omega.{arith}
 use lib.Dec.{ltb}
 use lib.ListN.{length, length-append}
 use Rattle.bits.specs.Bits.{pick}
-use Rattle.packing.specs.Meaning.{Node, byPair}
+use Rattle.packing.specs.Meaning.{Node}
 use Rattle.packing.specs.Flat.{ruleAt, nodeBy, nodesIn}
 use Rattle.packing.specs.GraphReading.{wordNodes}
 use Rattle.packing.specs.declared.Sym.{Sym}

@@ -1,6 +1,4 @@
 -- By prices, and where these are equal by back pointers.
-use Prim.Native.Nat.{_<_}
-use native.Mathlib.Omega.{arith}
 use borrow.Author.Needs.{needs}
 use Rattle.chart_keys.specs.Keys.{keyUnit}
 use Rattle.chart_keys.proofs.Numbers.{same-price, other-price}

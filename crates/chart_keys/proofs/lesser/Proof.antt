@@ -1,5 +1,5 @@
 -- By the tests, in the other order.
-use mathlib.Core.Path.{_≡_, sym, _∙_}
+use mathlib.Core.Path.{sym, _∙_}
 use Rattle.chart_keys.specs.Keys.{lesser}
 use Rattle.chart_keys.proofs.Numbers.{lesser-best}
 use borrow.Author.Needs.{needs}

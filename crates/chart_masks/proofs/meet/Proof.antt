@@ -15,38 +15,44 @@ wide-requires c κs = search needs
 wide-requires-2 : tie.Need-wide-requires-2
 wide-requires-2 c κs = search needs
 
-mul-narrow-at : tie.Need-mul-narrow-at
-mul-narrow-at c = search needs
-
-add-narrow-at : tie.Need-add-narrow-at
-add-narrow-at c = search needs
-
-narrow-at-requires : tie.Need-narrow-at-requires
-narrow-at-requires c κs = search needs
-
-mul-narrow-at-2 : tie.Need-mul-narrow-at-2
-mul-narrow-at-2 c = search needs
-
-add-narrow-at-2 : tie.Need-add-narrow-at-2
-add-narrow-at-2 c = search needs
-
-add-narrow-at-3 : tie.Need-add-narrow-at-3
-add-narrow-at-3 c = search needs
-
-narrow-at-requires-2 : tie.Need-narrow-at-requires-2
-narrow-at-requires-2 c κs = search needs
-
-disjoint-requires : tie.Need-disjoint-requires
-disjoint-requires c κs = search needs
-
 returns-2 : tie.Need-returns-2
-returns-2 c = λ e. record { size = omega arith; left = omega (arith, c .before .before .if3 .taken); right = omega (arith, c .if4 .taken); disjoint = rw (← c .before .before .before .before .before .before .before .before .before .before .before .wide .ensures .0, ← c .before .before .before .before .before .before .before .before .before .before .wide2 .ensures .0, ← c .before .before .before .before .before .before .before .before .narrow-at .ensures, ← c .before .before .before .before .before .before .narrow-at2 .ensures) (c .before .before .before .before .before .disjoint .ensures (c .before .before .before .before .if2 .taken)) }
+returns-2 c = λ e. absurd (false≢true (sym e))
 
 returns-3 : tie.Need-returns-3
 returns-3 c = λ e. absurd (false≢true (sym e))
 
+mul-ends : tie.Need-mul-ends
+mul-ends c = search needs
+
+add-ends : tie.Need-add-ends
+add-ends c = search needs
+
+mul-ends-2 : tie.Need-mul-ends-2
+mul-ends-2 c = search needs
+
+shared-slice-read-ends : tie.Need-shared-slice-read-ends
+shared-slice-read-ends c = search needs
+
+mul-starts : tie.Need-mul-starts
+mul-starts c = search needs
+
+add-starts : tie.Need-add-starts
+add-starts c = search needs
+
+add-starts-2 : tie.Need-add-starts-2
+add-starts-2 c = search needs
+
+mul-starts-2 : tie.Need-mul-starts-2
+mul-starts-2 c = search needs
+
+shared-slice-read-starts : tie.Need-shared-slice-read-starts
+shared-slice-read-starts c = search needs
+
+disjoint-requires : tie.Need-disjoint-requires
+disjoint-requires c κs = search needs
+
 returns-4 : tie.Need-returns-4
-returns-4 c = λ e. absurd (false≢true (sym e))
+returns-4 c = λ e. record { size = omega (arith, c .before .before .before .before .before .before .before .before .before .before .before .before .if1 .left); left = omega (arith, c .before .before .before .before .before .before .before .before .if2 .left, c .before .before .before .before .before .before .before .before .before .before .before .wide .ensures .0); right = omega (arith, c .before .before .before .before .before .before .if3 .left, c .before .before .before .before .before .before .before .before .before .before .wide2 .ensures .0); disjoint = rw (← c .before .before .before .before .before .before .before .before .before .before .before .wide .ensures .0, ← c .before .before .before .before .before .before .before .before .before .before .wide2 .ensures .0) (c .before .disjoint .ensures (c .if4 .taken)) }
 
 returns-5 : tie.Need-returns-5
 returns-5 c = λ e. absurd (false≢true (sym e))
@@ -58,15 +64,17 @@ meet-spec =
     returns
     wide-requires
     wide-requires-2
-    mul-narrow-at
-    add-narrow-at
-    narrow-at-requires
-    mul-narrow-at-2
-    add-narrow-at-2
-    add-narrow-at-3
-    narrow-at-requires-2
-    disjoint-requires
     returns-2
     returns-3
+    mul-ends
+    add-ends
+    mul-ends-2
+    shared-slice-read-ends
+    mul-starts
+    add-starts
+    add-starts-2
+    mul-starts-2
+    shared-slice-read-starts
+    disjoint-requires
     returns-4
     returns-5)

@@ -3,7 +3,6 @@ use native.Mathlib.Omega.{arith}
 use native.Mathlib.Nat.{le-refl}
 use borrow.Author.Tests.{lt-ltb, le-ltb}
 use Rattle.chart_masks.specs.Masks as model
-use borrow.Author.Needs.{needs}
 use Rattle.chart_masks.proofs.slot.Statement.{statement}
 use Rattle.chart_masks.proofs.slot.Tie as tie
 

@@ -1,6 +1,5 @@
 -- By the tests, as in the definition.
 use borrow.Author.Tests.{eq-eqb, ne-eqb}
-use borrow.Author.Needs.{needs}
 use Rattle.chart_queue.proofs.is_initial.Statement.{statement}
 use Rattle.chart_queue.proofs.is_initial.Tie as tie
 

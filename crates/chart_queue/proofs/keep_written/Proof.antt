@@ -1,8 +1,24 @@
--- Four entries, one after another.
+-- Four entries, one after another; of a journal of no numbers none.
+use mathlib.Core.Path.{_≡_, refl}
+use mathlib.Core.List.{List, [], _∷_}
+use Prim.Native.Nat.{ℕ}
+use native.Mathlib.Omega.{arith}
+use lib.ListN.{length}
+use Rattle.chart_table.specs.declared.Layout.{Layout}
+use Rattle.chart_table.specs.Journal.{keepEntry}
 use Rattle.chart_queue.specs.Queue.{keepWritten}
 use borrow.Author.Needs.{needs}
 use Rattle.chart_queue.proofs.keep_written.Statement.{statement}
 use Rattle.chart_queue.proofs.keep_written.Tie as tie
+
+-- of no numbers nothing is kept
+nothing-kept : (t k : List ℕ) (d : Layout) (c rank m y : ℕ) → length k ≡ 0 → k ≡ keepWritten t k d c rank m y
+unfolding keepWritten keepEntry
+nothing-kept t [] d c rank m y e = refl
+nothing-kept t (x ∷ k) d c rank m y e = absurd (omega arith)
+
+returns : tie.Need-returns
+returns c = let a = c .before .before .before .args in nothing-kept (a .t .now) (a .kept .now) (a .d) (a .c) (a .rank) (a .m) (a .y) (c .if1 .taken)
 
 entry-of-requires : tie.Need-entry-of-requires
 entry-of-requires c κs = search needs
@@ -37,14 +53,15 @@ keep-entry-requires-4 c κs = search needs
 same-length : tie.Need-same-length
 same-length c = search needs
 
-returns : tie.Need-returns
+returns-2 : tie.Need-returns-2
 unfolding keepWritten
-returns c = rw (c .before .before .keep-entry4 .ensures, c .before .before .before .before .before .before .before .keep-entry3 .ensures, c .before .before .before .before .before .before .before .before .before .before .before .before .keep-entry2 .ensures, c .before .before .before .before .before .before .before .before .before .before .before .before .before .before .before .before .before .keep-entry .ensures, c .before .before .before .before .before .before .before .before .before .before .before .before .before .before .before .before .before .before .entry-of .ensures .0, c .before .before .before .before .before .before .before .before .before .before .before .before .before .entry-of2 .ensures .0, c .before .before .before .before .before .before .before .before .entry-of3 .ensures .0, c .before .before .before .entry-of4 .ensures .0)
+returns-2 c = rw (c .before .before .keep-entry4 .ensures, c .before .before .before .before .before .before .before .keep-entry3 .ensures, c .before .before .before .before .before .before .before .before .before .before .before .before .keep-entry2 .ensures, c .before .before .before .before .before .before .before .before .before .before .before .before .before .before .before .before .before .keep-entry .ensures, c .before .before .before .before .before .before .before .before .before .before .before .before .before .before .before .before .before .before .entry-of .ensures .0, c .before .before .before .before .before .before .before .before .before .before .before .before .before .entry-of2 .ensures .0, c .before .before .before .before .before .before .before .before .entry-of3 .ensures .0, c .before .before .before .entry-of4 .ensures .0)
 
 pub keep-written-spec : {M : Type 1} → statement M
 keep-written-spec =
     tie.close
     (tie.spec
+    returns
     entry-of-requires
     keep-entry-requires
     entry-of-requires-2
@@ -56,4 +73,4 @@ keep-written-spec =
     entry-of-requires-4
     keep-entry-requires-4
     same-length
-    returns)
+    returns-2)

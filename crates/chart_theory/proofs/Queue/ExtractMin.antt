@@ -18,10 +18,10 @@ use Rattle.bits.specs.Bits.{pick}
 use Rattle.packing.specs.Loop.{iter}
 use Rattle.chart_keys.specs.Keys.{backPointer, keyUnit, noKey}
 use Rattle.chart_table.specs.declared.Layout.{Layout}
-use Rattle.chart_table.specs.Table.{entryOf, backAt, besideAt, putBeside, lastRank, putKey}
+use Rattle.chart_table.specs.Table.{entryOf, backAt, besideAt, putKey}
 use Rattle.chart_queue.specs.Queue.{isInitial, codeOf, tagOf, taggedBack, queuedKey, queueLength, keepInitial, putQueued, moveQueued, putQueueLength, lesserPlace, leastPlace, replace, push, extractMin}
 use Rattle.chart_theory.proofs.Table.Entries.{entry-within}
-use Rattle.chart_theory.proofs.Table.Numbers.{beside-size, beside-back, beside-same, beside-other, put-none, put-size, put-back-other, put-beside}
+use Rattle.chart_theory.proofs.Table.Numbers.{beside-size, beside-back, beside-same, put-none, put-back-other, put-beside}
 use Rattle.chart_theory.proofs.Queue.Numbers.{tagAt, TagBelow, TagInitial, put-queued-own, put-queue-length, place-queued, place-tag, place-length, place-last, first-kept, tally-queued, tally-tag, length-same, length-last, length-queued, length-tag, initial-none, initial-kept, kept-back, kept-length, kept-last, Shift, code-shifted, code-below}
 use Rattle.chart_theory.proofs.Queue.Pool.{Member, inside, low, high, Valid, keyIn, Arranged, NewTag, Has}
 use Rattle.chart_theory.proofs.Queue.Arranged.{pushed-arranged, replaced-arranged, moved-arranged}

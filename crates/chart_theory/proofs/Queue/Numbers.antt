@@ -1,22 +1,22 @@
 -- The queue's keys stay where what they are read from stays: a key is read from what stands beside its own rank, and from the back
 -- pointer of the rank of its tag, or, of a candidate that follows none, from what stands beside the first rank.
-use mathlib.Core.Path.{_≡_, refl, sym, _∙_}
+use mathlib.Core.Path.{_≡_, refl, sym}
 use mathlib.Core.Logic.{_≢_}
 use mathlib.Core.Bool.{Bool, true, false}
 use mathlib.Core.List.{List}
-use Prim.Native.Nat.{ℕ, suc, _+_, _-_, _*_, _/_, _%_, _≤_, _<_}
+use Prim.Native.Nat.{ℕ, suc, _+_, _*_, _/_, _%_, _≤_, _<_}
 use native.Mathlib.Decide.{decLt, ℕ-discrete}
 use native.Mathlib.Omega.{arith}
 use lib.ListN.{length}
 use lib.Dec.{eqb}
 use borrow.Author.Tests.{lt-ltb, le-ltb, eq-eqb, ne-eqb}
 use Rattle.bits.specs.Bits.{pick}
-use Rattle.chart_keys.specs.Keys.{backPointer, keyUnit, keyOf, noKey}
+use Rattle.chart_keys.specs.Keys.{backPointer, noKey}
 use Rattle.chart_table.specs.declared.Layout.{Layout}
 use Rattle.chart_table.specs.Table.{entryOf, backAt, besideAt, putBeside, lastRank, putKey}
-use Rattle.chart_queue.specs.Queue.{isInitial, codeOf, shifted, tagOf, taggedBack, queuedKey, queueLength, keepInitial, putQueued, putQueueLength}
+use Rattle.chart_queue.specs.Queue.{isInitial, codeOf, shifted, taggedBack, queuedKey, queueLength, keepInitial, putQueueLength}
 use Rattle.chart_theory.proofs.Table.Entries.{entry-injective, entry-behind}
-use Rattle.chart_theory.proofs.Table.Numbers.{beside-back, beside-other, beside-same, beside-size, put-back-other, put-beside, put-kept}
+use Rattle.chart_theory.proofs.Table.Numbers.{beside-back, beside-other, beside-same, put-back-other, put-beside, put-kept}
 
 -- the tag at a place, and that its rank, where it has one, is below n
 abbrev pub tagAt : List ℕ → Layout → ℕ → ℕ → ℕ

@@ -4,20 +4,20 @@ use mathlib.Core.Path.{_≡_, refl, sym, ap, _∙_, subst}
 use mathlib.Core.Logic.{_⊎_, inl, inr, ⊎-elim}
 use mathlib.Core.Bool.{Bool, true, false}
 use mathlib.Core.List.{List}
-use Prim.Native.Nat.{ℕ, zero, suc, _+_, _-_, _*_, _/_, _%_, _≤_, _<_}
+use Prim.Native.Nat.{ℕ, zero, suc, _+_, _-_, _/_, _≤_, _<_}
 use native.Mathlib.Omega.{arith}
 use lib.Dec.{eqb·suc-zero}
 use Rattle.packing.specs.Meaning.{Grammar, Edge}
-use Rattle.derivation.proofs.Rows.{Price, Row, row, rowPrice, row-price}
+use Rattle.derivation.proofs.Rows.{Row, row, row-price}
 use Rattle.derivation.specs.Derivation.{Tree}
 use Rattle.derivation.proofs.Frontier.{frontier-row}
 use Rattle.chart_keys.specs.declared.BackPointer.{BackPointer}
-use Rattle.chart_keys.specs.Keys.{back, backNumber, backPointer, keyUnit, noKey}
+use Rattle.chart_keys.specs.Keys.{back, backNumber, backPointer, noKey}
 use Rattle.chart_table.specs.declared.Cell.{Cell}
 use Rattle.chart_table.specs.declared.Layout.{Layout}
 use Rattle.chart_table.specs.Table.{cellNumber, backAt}
 use Rattle.chart_queue.specs.Queue.{isInitial}
-use Rattle.chart_theory.proofs.Table.Keys.{rowBack, rowKey, RowFits, back-below, decoded, key-mod, key-back}
+use Rattle.chart_theory.proofs.Table.Keys.{rowBack, back-below, decoded, key-mod, key-back}
 use Rattle.chart_theory.proofs.Table.Cells.{RowOfIn, RowAtIn, row-unique}
 use Rattle.chart_theory.proofs.Queue.Numbers.{Shift, next-right, next-left, to-left, to-right}
 use Rattle.chart_theory.proofs.Queue.Owners.{OwnerOf, tree-unique}

@@ -8,7 +8,7 @@ use native.Mathlib.Omega.{arith}
 use lib.Dec.{ltb}
 use borrow.Author.Tests.{lt-ltb, le-ltb, ne-eqb}
 use Rattle.bits.specs.Bits.{pick}
-use Rattle.packing.specs.Meaning.{symbolOf, word, Grammar, Edge, Node}
+use Rattle.packing.specs.Meaning.{symbolOf, word, Grammar, Edge}
 use Rattle.packing.specs.Flat.{ruleAt, nodesIn}
 use Rattle.packing.specs.declared.Rule.the-variants.{Word}
 use Rattle.derivation.specs.Derivation.{At, Tree}

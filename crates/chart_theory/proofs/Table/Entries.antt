@@ -1,44 +1,24 @@
 -- No two entries share a number, and each lies within the table: a cell's number is its span's and its head's, written with
 -- the symbols as digits, an entry's the cell's and the rank's, and the spans that end before place k come before those that
 -- end there.
-use mathlib.Core.Path.{_≡_, refl, sym, ap, _∙_, subst}
-use mathlib.Core.Logic.{⊎-elim, _≢_}
+use mathlib.Core.Path.{_≡_, refl, sym}
+use mathlib.Core.Logic.{_≢_}
 use mathlib.Core.Bool.{false}
 use mathlib.Core.List.{List}
 use Prim.Native.Nat.{ℕ, zero, suc, _+_, _-_, _*_, _/_, _%_, _≤_, _<_}
-use native.Mathlib.Nat.{eq-or-lt-of-le, mul-suc, mul-comm, mul-le-mul-right}
+use native.Mathlib.Nat.{mul-suc, mul-comm, mul-le-mul-right}
 use native.Mathlib.Numerals.{add-one}
 use native.Mathlib.Decide.{decLe}
 use native.Mathlib.Omega.{arith}
-use lib.Arith.{digits-div, digits-mod, digits-lt}
+use lib.Arith.{digits-lt}
 use lib.Dec.{eqb, eqb·suc-zero}
 use borrow.Author.Tests.{eqb-false, ne-eqb, lt-ltb, le-ltb}
-use Rattle.packing.specs.Meaning.{symbolOf}
 use Rattle.chart_table.specs.declared.Cell.{Cell}
 use Rattle.chart_table.specs.declared.Layout.{Layout}
-use Rattle.chart_table.proofs.Cells.{spans, spans-suc}
+use Rattle.chart_table.proofs.Cells.{spans, spans-before, digits-injective}
+use Rattle.chart_table.proofs.Cells as table
 use Rattle.chart_table.specs.Table.{cellNumber, entryOf, priceAt}
 use Rattle.chart_theory.proofs.Table.Cells.{InChart, Planned}
-
-spans-before : (k m : ℕ) → k < m → spans k + k ≤ spans m
-spans-before k (suc m) h =
-    ⊎-elim (λ e. subst (λ (x : ℕ). spans k + k ≤ spans (suc x)) e (omega (arith, spans-suc k)))
-    (λ l. omega (arith, spans-before k m l, spans-suc m)) (eq-or-lt-of-le {n = k} {m = m} (omega arith))
-
-spans-injective : (i k i′ k′ : ℕ) → i < k → i′ < k′ → spans k + i ≡ spans k′ + i′ → (i ≡ i′) × (k ≡ k′)
-spans-injective i k i′ k′ h h′ e = go (decLe k k′) (decLe k′ k)
-  where
-    go : Dec (k ≤ k′) → Dec (k′ ≤ k) → (i ≡ i′) × (k ≡ k′)
-    go (yes a) (yes b) = let q : k ≡ k′ = omega arith in (let e₂ = rw q at e in omega arith, q)
-    go (yes a) (no b) = absurd (omega (arith, spans-before k k′ (omega arith)))
-    go (no a) (yes b) = absurd (omega (arith, spans-before k′ k (omega arith)))
-    go (no a) (no b) = absurd (omega arith)
-
-digits-injective : (q r q′ r′ m : ℕ) → r < m → r′ < m → q * m + r ≡ q′ * m + r′ → (q ≡ q′) × (r ≡ r′)
-digits-injective q r q′ r′ m h h′ e = (
-  sym (digits-div q h) ∙ ap (λ (n : ℕ). n / m) e ∙ digits-div q′ h′,
-  sym (digits-mod q h) ∙ ap (λ (n : ℕ). n % m) e ∙ digits-mod q′ h′,
-)
 
 -- cells
 module _ {d : Layout} where
@@ -54,12 +34,9 @@ module _ {d : Layout} where
       omega arith
 
   pub cell-injective : {c c′ : Cell} → InChart d c → InChart d c′ → cellNumber d c ≡ cellNumber d c′ → c ≡ c′
-  unfolding cellNumber
   cell-injective {c} {c′} in-chart in-chart′ e =
-      let (q, h) = digits-injective (spans (c .to) + c .from) (c .head .0) (spans (c′ .to) + c′ .from) (c′ .head .0) (d .symbols)
-      (in-chart .symbol) (in-chart′ .symbol) e in
-      let (l, m) = spans-injective (c .from) (c .to) (c′ .from) (c′ .to) (in-chart .order) (in-chart′ .order) q in
-      let a : c .head ≡ c′ .head = ap symbolOf h in
+      let (a, l, m) = table.cell-injective d (c .head) (c′ .head) (c .from) (c .to) (c′ .from) (c′ .to) (in-chart .symbol) (in-chart′ .symbol)
+      (in-chart .order) (in-chart′ .order) e in
       rw (a, l, m)
 
 -- entries

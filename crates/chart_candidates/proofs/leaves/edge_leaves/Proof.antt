@@ -15,10 +15,10 @@ use Rattle.chart_candidates.proofs.leaves.edge_leaves.Statement.{statem
 use Rattle.chart_candidates.proofs.leaves.edge_leaves.Tie as tie
 
 abbrev Inv-loop : tie.InvT-loop
-Inv-loop rules edges index e floor head start end so-far₀ y₀ so-far y = (start ≤ y) × (y - start ≤ end - start) × (keyNumber so-far ≡ over (λ x y. wordLeaf edges e (keyNumber floor) x (getD index y 0) (ruleAt rules (getD index y 0))) (keyNumber so-far₀) start y)
+Inv-loop rules edges index e floor head start end heard so-far₀ y₀ so-far y = (start ≤ y) × (y - start ≤ end - start) × (keyNumber so-far ≡ over (λ x y. wordLeaf edges e (keyNumber floor) x (getD index y 0) (ruleAt rules (getD index y 0))) (keyNumber so-far₀) start y)
 
 abbrev μ-loop : tie.MeasureT-loop
-μ-loop rules edges index e floor head start end so-far₀ y₀ so-far y = end - y
+μ-loop rules edges index e floor head start end heard so-far₀ y₀ so-far y = end - y
 
 mul-number-at : tie.Need-mul-number-at Inv-loop μ-loop
 mul-number-at c = search needs
@@ -42,6 +42,15 @@ class-start-requires c κs = search needs
 class-end-requires : tie.Need-class-end-requires Inv-loop μ-loop
 class-end-requires c κs = search needs
 
+mul-narrow-at : tie.Need-mul-narrow-at Inv-loop μ-loop
+mul-narrow-at c = search needs
+
+add-narrow-at : tie.Need-add-narrow-at Inv-loop μ-loop
+add-narrow-at c = search needs
+
+narrow-at-requires : tie.Need-narrow-at-requires Inv-loop μ-loop
+narrow-at-requires c κs = search needs
+
 loop-holds : tie.Need-loop-holds Inv-loop μ-loop
 loop-holds c = (search needs, search needs, sym (from-none _ _ _))
 
@@ -62,7 +71,7 @@ loop-again c = let h = c .before .before .before .loop .inv .0 in (search needs,
 
 returns-2 : tie.Need-returns-2 Inv-loop μ-loop
 unfolding edgeLeaves
-returns-2 c = simp (← c .before .before .before .before .before .before .before .number-at .ensures .0, eq-eqb _ _ (c .before .before .before .before .before .if1 .left), ← c .before .before .before .before .wide .ensures .0, ← c .before .before .before .class-start .ensures .0, ← c .before .before .class-end .ensures .0) (c .before .loop .inv .2 ∙ iter-end _ _ _ _ (c .before .loop .inv .1) (omega arith))
+returns-2 c = simp (← c .before .before .before .before .before .before .before .before .number-at .ensures .0, eq-eqb _ _ (c .before .before .before .before .before .before .if1 .left), ← c .before .before .before .before .before .wide .ensures .0, ← c .before .before .before .before .class-start .ensures .0, ← c .before .before .before .class-end .ensures .0) (c .before .loop .inv .2 ∙ iter-end _ _ _ _ (c .before .loop .inv .1) (omega arith))
 
 pub edge-leaves-spec : {M : Type 1} → statement M
 edge-leaves-spec =
@@ -77,6 +86,9 @@ edge-leaves-spec =
     wide-requires
     class-start-requires
     class-end-requires
+    mul-narrow-at
+    add-narrow-at
+    narrow-at-requires
     loop-holds
     number-at-requires-2
     word-leaf-requires

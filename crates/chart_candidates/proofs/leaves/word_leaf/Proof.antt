@@ -15,17 +15,8 @@ add-narrow-at c = search needs
 narrow-at-requires : tie.Need-narrow-at-requires
 narrow-at-requires c κs = search needs
 
-mul-narrow-at-2 : tie.Need-mul-narrow-at-2
-mul-narrow-at-2 c = search needs
-
-add-narrow-at-2 : tie.Need-add-narrow-at-2
-add-narrow-at-2 c = search needs
-
-narrow-at-requires-2 : tie.Need-narrow-at-requires-2
-narrow-at-requires-2 c κs = search needs
-
 returns : tie.Need-returns
-returns c = sym (other-word (c .before .before .before .before .before .args .rules .now) (c .before .before .before .before .before .args .edges .now) (c .before .before .before .before .before .args .e) (keyNumber (c .before .before .before .before .before .args .floor)) (keyNumber (c .before .before .before .before .before .args .best)) (c .before .before .before .before .before .args .r) (λ q. c .if1 .taken (c .before .before .narrow-at .ensures ∙ q ∙ sym (c .before .narrow-at2 .ensures))))
+returns c = sym (other-word (c .before .before .before .before .args .rules .now) (c .before .before .before .before .args .edges .now) (c .before .before .before .before .args .e) (keyNumber (c .before .before .before .before .args .floor)) (keyNumber (c .before .before .before .before .args .best)) (c .before .before .before .before .args .r) (λ q. c .if1 .taken (c .before .narrow-at .ensures ∙ q ∙ sym (c .before .before .before .before .pre .2))))
 
 rule-leaf-requires : tie.Need-rule-leaf-requires
 rule-leaf-requires c κs = search needs
@@ -40,9 +31,6 @@ word-leaf-spec =
     mul-narrow-at
     add-narrow-at
     narrow-at-requires
-    mul-narrow-at-2
-    add-narrow-at-2
-    narrow-at-requires-2
     returns
     rule-leaf-requires
     returns-2)

@@ -1,7 +1,7 @@
 -- The loop is the iteration over the splits by seeds as numbers, with the parts' first entries as Splits has them. The loop itself knows
 -- the floor by its number only, so what it keeps is said of every floor that has it.
-use Prim.Native.Nat.{_≤_, _<_, _-_, _+_}
-use mathlib.Core.Path.{_≡_, refl, sym, _∙_}
+use Prim.Native.Nat.{_≤_, _-_, _+_, _*_}
+use mathlib.Core.Path.{_≡_, refl, _∙_}
 use native.Mathlib.Omega.{arith}
 use Rattle.packing.proofs.Loop.{iter-end}
 use Rattle.chart_keys.specs.declared.Key.{Key}
@@ -10,16 +10,16 @@ use Rattle.chart_keys.specs.Seeds.{InNumbers, floorNumber, ceilingNumber, keyOf
 use Rattle.chart_keys.proofs.Numbers.{join-small}
 use Rattle.chart_keys.proofs.Seeds.{lesser-number, ceiling-key}
 use Rattle.chart_candidates.specs.Candidates.{splitSeeds}
-use Rattle.chart_candidates.proofs.Splits.{InRange, step-small, Kept, Long, at-first, at-next, left-read, right-read}
+use Rattle.chart_candidates.proofs.Splits.{InRange, stride-small, stride-next, step-small, Kept, Long, at-first, at-next, left-read, right-read}
 use borrow.Author.Needs.{needs}
 use Rattle.chart_candidates.proofs.seeds.split_seeds_within.Statement.{statement}
 use Rattle.chart_candidates.proofs.seeds.split_seeds_within.Tie as tie
 
 abbrev Inv-loop : tie.InvT-loop
-Inv-loop t rule best step first x₀ y₀ low height₀ end j₀ x y height j = InRange step first end j x y × (height + (low + 1) ≤ ceilingNumber best) × ((floor : Key) → InNumbers floor → low ≡ floorNumber floor → Kept t rule (keyNumber floor) (keyNumber best) step first end x₀ y₀ j x y (keyOfNumber best (height + (low + 1)))) × ((floor : Key) → Long t rule (keyNumber floor) (keyNumber best) step first end x₀ y₀)
+Inv-loop t rule best step first x₀ y₀ stride₀ low height₀ end j₀ x y stride height j = InRange step first end j x y × (height + (low + 1) ≤ ceilingNumber best) × ((floor : Key) → InNumbers floor → low ≡ floorNumber floor → Kept t rule (keyNumber floor) (keyNumber best) step first end x₀ y₀ j x y (keyOfNumber best (height + (low + 1)))) × ((floor : Key) → Long t rule (keyNumber floor) (keyNumber best) step first end x₀ y₀) × (stride ≡ step * j)
 
 abbrev μ-loop : tie.MeasureT-loop
-μ-loop t rule best step first x₀ y₀ low height₀ end j₀ x y height j = end - j
+μ-loop t rule best step first x₀ y₀ stride₀ low height₀ end j₀ x y stride height j = end - j
 
 mul-step : tie.Need-mul-step Inv-loop μ-loop
 mul-step c = search needs
@@ -44,6 +44,9 @@ cell-number-requires-2 c κs = rw (c .right-part .ensures) (search (needs, c .be
 
 entry-of-requires-2 : tie.Need-entry-of-requires-2 Inv-loop μ-loop
 entry-of-requires-2 c κs = search needs
+
+mul-stride : tie.Need-mul-stride Inv-loop μ-loop
+mul-stride c = omega (arith, stride-small {step = c .before .before .before .before .before .before .before .before .before .args .d .symbols * 4} {j = c .before .before .before .before .before .before .before .before .before .args .c .from + 1} (omega (arith, c .before .before .before .before .before .before .before .before .before .pre .0 .0 .sized .symbols)) (omega (arith, c .before .before .before .before .before .before .before .before .before .pre .0 .0 .order, c .before .before .before .before .before .before .before .before .before .pre .0 .0 .last)))
 
 floor-number-requires : tie.Need-floor-number-requires Inv-loop μ-loop
 floor-number-requires c κs = c .before .before .before .before .before .before .before .before .before .pre .0 .2 .floor-in
@@ -84,6 +87,7 @@ loop-holds c =
         left = c .before .before .before .before .before .before .before .before .before .before .before .pre .1 .0;
         right = c .before .before .before .before .before .before .before .before .before .before .before .pre .1 .1;
       },
+      refl,
     )
 
 price-within-requires : tie.Need-price-within-requires Inv-loop μ-loop
@@ -105,11 +109,11 @@ seed-number-requires c κs = (
 lesser-height-requires : tie.Need-lesser-height-requires Inv-loop μ-loop
 lesser-height-requires c κs = omega (arith, c .before .before .before .before .before .loop .inv .1, c .before .before .before .before .before .before .ceiling-number .ensures .0, c .before .before .before .before .before .before .ceiling-number .ensures .1)
 
-mul-x : tie.Need-mul-x Inv-loop μ-loop
-mul-x c = omega (arith, step-small (c .before .before .before .before .before .before .loop .inv .0) (c .before .before .before .before .before .loop-test .taken))
-
 add-x : tie.Need-add-x Inv-loop μ-loop
-add-x c = omega (arith, step-small (c .before .before .before .before .before .before .loop .inv .0) (c .before .before .before .before .before .loop-test .taken))
+add-x c = omega (arith, c .before .before .before .before .before .before .loop .inv .4, step-small (c .before .before .before .before .before .before .loop .inv .0) (c .before .before .before .before .before .loop-test .taken))
+
+add-stride : tie.Need-add-stride Inv-loop μ-loop
+add-stride c = omega (arith, c .before .before .before .before .before .before .loop .inv .4, c .before .before .before .before .before .before .loop .inv .0 .apart, step-small (c .before .before .before .before .before .before .loop .inv .0) (c .before .before .before .before .before .loop-test .taken))
 
 add-y : tie.Need-add-y Inv-loop μ-loop
 add-y c = search needs
@@ -130,11 +134,12 @@ loop-again c =
         turns = omega arith;
         last = r .last;
         apart = r .apart;
-        left = omega arith;
+        left = omega (arith, c .before .before .before .before .before .before .loop .inv .4, s);
         right = omega arith;
       },
       omega (arith, c .lesser-height .ensures .1, c .before .before .before .before .before .before .loop .inv .1),
       λ floor h e. rw (
+        c .before .before .before .before .before .before .loop .inv .4,
         c .lesser-height .ensures .0,
         c .before .seed-number .ensures,
         lesser-number (c .before .before .join-price .result) (c .before .before .before .before .before .before .before .before .before .before .before .before .before .before .before .before .before .before .args .rule .number) (c .before .before .before .before .before .before .loop .j) (p .1 .number) (omega (arith, r .last, c .before .before .before .before .before .loop-test .taken)) floor _ h (p .2 .best-in) _ _ e (c .before .before .before .before .before .before .loop .inv .1),
@@ -143,6 +148,7 @@ loop-again c =
         c .before .before .before .price-within2 .ensures .0,
       ) (at-next _ _ _ _ _ _ _ _ _ _ _ _ _ (r .after-first) (c .before .before .before .before .before .before .loop .inv .2 floor h e)),
       c .before .before .before .before .before .before .loop .inv .3,
+      stride-next _ _ (c .before .before .before .before .before .before .loop .inv .4),
     )
 
 add-key-of-number : tie.Need-add-key-of-number Inv-loop μ-loop
@@ -177,6 +183,7 @@ split-seeds-within-spec =
     right-part-requires
     cell-number-requires-2
     entry-of-requires-2
+    mul-stride
     floor-number-requires
     ceiling-number-requires
     add-height
@@ -187,8 +194,8 @@ split-seeds-within-spec =
     join-price-requires
     seed-number-requires
     lesser-height-requires
-    mul-x
     add-x
+    add-stride
     add-y
     add-j
     loop-less

@@ -1,4 +1,4 @@
--- Four stores.
+-- Four stores, tested at once or one by one.
 use Rattle.chart_table.specs.Table.{clearEntry}
 use borrow.Author.Needs.{needs}
 use Rattle.chart_table.proofs.clearing.clear_entry.Statement.{statement}
@@ -6,6 +6,19 @@ use Rattle.chart_table.proofs.clearing.clear_entry.Tie as tie
 
 entry-of-requires : tie.Need-entry-of-requires
 entry-of-requires c κs = search needs
+
+add-if1 : tie.Need-add-if1
+add-if1 c = search needs
+
+clear-within-requires : tie.Need-clear-within-requires
+clear-within-requires c κs = search needs
+
+same-length : tie.Need-same-length
+same-length c = search needs
+
+returns : tie.Need-returns
+unfolding clearEntry
+returns c = rw (c .before .before .clear-within .ensures, c .before .before .before .before .before .entry-of .ensures .0)
 
 store-requires : tie.Need-store-requires
 store-requires c κs = search needs
@@ -28,31 +41,22 @@ add-store-3 c = search needs
 store-requires-4 : tie.Need-store-requires-4
 store-requires-4 c κs = search needs
 
-same-length : tie.Need-same-length
-same-length c = search needs
+same-length-2 : tie.Need-same-length-2
+same-length-2 c = search needs
 
-returns : tie.Need-returns
+returns-2 : tie.Need-returns-2
 unfolding clearEntry
-returns c =
-    let c₂ = c .before .before in
-    let c₆ = c₂ .before .before .before .before in
-    let c₁₀ = c₆ .before .before .before .before in
-    let c₁₄ = c₁₀ .before .before .before .before in
-    let c₁₆ = c₁₄ .before .before in
-    rw (
-      c₂ .store4 .ensures,
-      c₆ .store3 .ensures,
-      c₁₀ .store2 .ensures,
-      c₁₄ .store .ensures,
-      c₁₆ .entry-of .ensures
-          .0,
-    )
+returns-2 c = rw (c .before .before .store4 .ensures, c .before .before .before .before .before .before .store3 .ensures, c .before .before .before .before .before .before .before .before .before .before .store2 .ensures, c .before .before .before .before .before .before .before .before .before .before .before .before .before .before .store .ensures, c .before .before .before .before .before .before .before .before .before .before .before .before .before .before .before .before .before .entry-of .ensures .0)
 
 pub clear-entry-spec : {M : Type 1} → statement M
 clear-entry-spec =
     tie.close
     (tie.spec
     entry-of-requires
+    add-if1
+    clear-within-requires
+    same-length
+    returns
     store-requires
     add-store
     store-requires-2
@@ -60,5 +64,5 @@ clear-entry-spec =
     store-requires-3
     add-store-3
     store-requires-4
-    same-length
-    returns)
+    same-length-2
+    returns-2)
