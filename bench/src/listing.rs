@@ -2,7 +2,7 @@
 
 use crate::free;
 use crate::inputs::{graphs, greatest, redrawn, shapes, Input};
-use crate::measure::{medians, micros, ratio, Plan};
+use crate::measure::{median, medians, micros, ratio, thread_time, Plan};
 use crate::office;
 use crate::table::{print_head, print_row};
 use spireyerba::limits::{work_length, PANEL_MAX_READINGS};
@@ -14,6 +14,8 @@ use std::time::{Duration, Instant};
 
 /// About how long the calls of one row are measured.
 const BUDGET: Duration = Duration::from_millis(1_500);
+const LEAST_ROUNDS: usize = 5;
+const MOST_ROUNDS: usize = 500;
 
 /// The readings wanted of what is heard in an office.
 const OFFICE_WANTED: [usize; 3] = [1, 16, 256];
@@ -78,9 +80,7 @@ fn print_rows_beside_free(name: &str, size: &str, rows: impl Iterator<Item = (Ve
     print_head(name, &[size, "N", "ours", "clearing", "rest", "free", "rest/free", "ours/free"]);
     for (inputs, wanted) in rows {
         inputs.iter().for_each(|input| assert_equal_lists(input, wanted));
-        let [ours, clearing, free] =
-            times(&inputs, [Lent::library, Lent::clear, Lent::free].map(|call| (wanted, call)));
-        let rest = ours.saturating_sub(clearing);
+        let [ours, clearing, rest, free] = times_beside_free(&inputs, wanted);
         let times = [ours, clearing, rest, free].map(micros);
         print_numbers(&inputs[0], wanted, &[&times[..], &[ratio(rest, free), ratio(ours, free)]].concat());
     }
@@ -167,6 +167,24 @@ impl Lent {
     }
 }
 
+/// The median times of the library, of clearing, of the rest and of the free version, in the mean over some inputs. Where many readings are wanted
+/// clearing is nearly all of the library's time, so the rest is taken round by round, of the same table in turn.
+fn times_beside_free(inputs: &[Input], wanted: usize) -> [Duration; 4] {
+    let mut lent: Vec<Lent> = inputs.iter().map(|input| Lent::new(input, wanted)).collect();
+    let mut samples = [(); 4].map(|()| Vec::new());
+    let begin = Instant::now();
+    while samples[0].len() < MOST_ROUNDS && (samples[0].len() < LEAST_ROUNDS || begin.elapsed() < BUDGET) {
+        let [ours, clearing, free] = [Lent::library, Lent::clear, Lent::free].map(|call| {
+            let begin = thread_time();
+            lent.iter_mut().for_each(call);
+            thread_time() - begin
+        });
+        let round = [ours, clearing, ours.saturating_sub(clearing), free];
+        samples.iter_mut().zip(round).for_each(|(samples, time)| samples.push(time));
+    }
+    samples.map(|samples| median(samples) / inputs.len() as u32)
+}
+
 /// The median time of each call, in the mean over some inputs.
 fn times<const COUNT: usize>(inputs: &[Input], calls: [(usize, Call); COUNT]) -> [Duration; COUNT] {
     medians_of(calls.map(|(wanted, call)| (inputs, wanted, call)))
@@ -182,7 +200,7 @@ fn medians_of<const COUNT: usize>(calls: [(&[Input], usize, Call); COUNT]) -> [D
     let begin = Instant::now();
     calls.iter_mut().for_each(|call| call());
     let rounds = (BUDGET.as_secs_f64() / begin.elapsed().as_secs_f64()) as usize;
-    let plan = Plan { rounds: rounds.clamp(5, 500), calls: 1 };
+    let plan = Plan { rounds: rounds.clamp(LEAST_ROUNDS, MOST_ROUNDS), calls: 1 };
     let mut medians = medians(plan, calls.each_mut().map(|call| call as &mut dyn FnMut()));
     medians.iter_mut().zip(counts).for_each(|(median, count)| *median /= count);
     medians

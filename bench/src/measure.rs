@@ -21,10 +21,13 @@ pub fn medians<const COUNT: usize>(plan: Plan, mut functions: [&mut dyn FnMut();
             samples.push((thread_time() - begin) / plan.calls);
         }
     }
-    samples.map(|mut samples| {
-        samples.sort_unstable();
-        samples[samples.len() / 2]
-    })
+    samples.map(median)
+}
+
+/// The median of some times.
+pub fn median(mut times: Vec<Duration>) -> Duration {
+    times.sort_unstable();
+    times[times.len() / 2]
 }
 
 /// The time that this thread has had a processor so far: what else runs on the machine does not count.

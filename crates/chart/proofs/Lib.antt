@@ -1,2 +1,3 @@
 -- The sizes of a table.
 pub mod Sizes
+pub mod Front

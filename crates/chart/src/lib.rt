@@ -17,7 +17,7 @@ use chart_table::zero;
 use chart_trace::trace_back;
 ghost use mathlib.Core.Path.{_≡_};
 ghost use Prim.Native.Nat.{_-_, _*_, _/_, _<_, _≤_};
-ghost use lib.ListN.{length};
+ghost use lib.ListN.{length, replicate};
 ghost use Rattle.packing.specs.Store.{storeAll};
 ghost use Rattle.chart_keys.specs.Keys.{prices, weightUnit};
 ghost use Rattle.chart_table.specs.Table.{lastPlace, mostRanks, Sized, clear};
@@ -44,6 +44,18 @@ pub fn table_numbers(d: Layout) -> usize
     ENTRY_NUMBERS * d.cells * d.ranks
 }
 
+// Makes the front of a table of zeros, where the first ranks of all cells stand, zeros once more: the whole table may be larger than the
+// processor's caches, and the search begins there.
+fn touch_front(t: &mut [u32], d: Layout)
+    requires { ⌜ Sized d ⌝ }
+    ensures { λ _. ⌜ (now (t .entry) ≡ replicate (length (now (t .entry))) 0 → now (t .exit) ≡ now (t .entry)) ⌝ }
+{
+    let front = ENTRY_NUMBERS * d.cells;
+    if front <= t.len() {
+        zero(&mut t[..front]);
+    }
+}
+
 // Finds the least trees of the root under the first `count` rules, over the first `arcs` edges, as many as ranks are kept, in a
 // table that may hold anything before. Answers their number.
 pub fn enumerate(
@@ -61,6 +73,7 @@ pub fn enumerate(
     let mut index = [0u32; INDEX_NUMBERS];
     make_index(rules, count, d.symbols, edges, arcs, d.places, &mut index);
     zero(t);
+    touch_front(t, d);
     search(t, rules, edges, &index, d);
     count_found(&t[..], d, cell_number(d, root(d)))
 }

@@ -1,6 +1,8 @@
 -- Each call has the meaning of its part of the promise, from an index and a table of zeros.
 use Rattle.chart.specs.Chart.{enumerate, rootsFound}
+use mathlib.Core.Path.{_∙_}
 use lib.ListN.{length}
+use Rattle.chart.proofs.Front.{zeros-own}
 use Rattle.chart_index.proofs.Zeros.{zeros-at}
 use borrow.Author.Needs.{needs}
 use Rattle.chart.proofs.enumerate.Statement.{statement}
@@ -15,11 +17,17 @@ make-index-requires c κs = search needs
 zero-requires : tie.Need-zero-requires
 zero-requires c κs = search needs
 
+touch-front-requires : tie.Need-touch-front-requires
+touch-front-requires c κs = search needs
+
 slice-aggregate-search : tie.Need-slice-aggregate-search
 slice-aggregate-search c = search needs
 
 search-requires : tie.Need-search-requires
-search-requires c κs = (c .before .before .before .before .before .before .before .before .before .before .before .before .pre .0, search needs, λ x. rw (c .before .before .before .before .zero .ensures) (zeros-at (length (c .before .before .before .before .before .before .before .before .before .before .before .before .args .t .now)) x))
+search-requires c κs =
+    let a = c .before .before .before .before .before .before .before .before .before .before .before .before .before .before .before .before .args in
+    let zeros = c .before .before .before .before .touch-front .ensures (zeros-own (length (a .t .now)) (c .before .before .before .before .before .before .before .before .zero .ensures)) ∙ c .before .before .before .before .before .before .before .before .zero .ensures in
+    (c .before .before .before .before .before .before .before .before .before .before .before .before .before .before .before .before .pre .0, search needs, λ x. rw zeros (zeros-at (length (c .before .before .before .before .before .before .before .before .before .before .before .before .before .before .before .before .args .t .now)) x))
 
 root-requires : tie.Need-root-requires
 root-requires c κs = search needs
@@ -36,12 +44,10 @@ same-length c = search needs
 returns : tie.Need-returns
 unfolding enumerate rootsFound
 returns c =
-    let c₂ = c .before .before in
-    let c₆ = c₂ .before .before .before .before in
-    let c₁₁ = c₆ .before .before .before .before .before in
-    let c₁₄ = c₁₁ .before .before .before in (
-      rw (← c₁₄ .make-index .ensures, ← c₁₁ .zero .ensures) (c₆ .search .ensures),
-      (rw (← c₂ .root .ensures, ← c .before .cell-number .ensures .0) (c .count-found .ensures .0), c .count-found .ensures .1),
+    let a = c .before .before .before .before .before .before .before .before .before .before .before .before .before .before .before .before .before .before .before .before .before .before .before .args in
+    let zeros = c .before .before .before .before .before .before .before .before .before .before .before .touch-front .ensures (zeros-own (length (a .t .now)) (c .before .before .before .before .before .before .before .before .before .before .before .before .before .before .before .zero .ensures)) ∙ c .before .before .before .before .before .before .before .before .before .before .before .before .before .before .before .zero .ensures in (
+      rw (← c .before .before .before .before .before .before .before .before .before .before .before .before .before .before .before .before .before .before .make-index .ensures, ← zeros) (c .before .before .before .before .before .before .search .ensures),
+      (rw (← c .before .before .root .ensures, ← c .before .cell-number .ensures .0) (c .count-found .ensures .0), c .count-found .ensures .1),
     )
 
 pub enumerate-spec : {M : Type 1} → statement M
@@ -51,6 +57,7 @@ enumerate-spec =
     slice-aggregate-make-index
     make-index-requires
     zero-requires
+    touch-front-requires
     slice-aggregate-search
     search-requires
     root-requires
