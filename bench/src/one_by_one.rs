@@ -5,7 +5,7 @@ use crate::measure::{medians, micros, ratio, Plan};
 use crate::office;
 use crate::table::{print_head, print_row};
 use spireyerba::limits::{work_length, MAX_READINGS};
-use spireyerba::services::{listing, next, open, Next, Place};
+use spireyerba::services::{check, listing, next, open, Next, Place};
 use spireyerba::Refusal;
 use spireyerba_tests::grammar;
 use std::cell::RefCell;
@@ -14,10 +14,11 @@ use std::hint::black_box;
 const PLAN: Plan = Plan { rounds: 31, calls: 1 };
 const READINGS: usize = MAX_READINGS as usize;
 
-/// Prints the time of the listing, of one by one, of reading both blocks once, and how long one by one takes beside the listing
-/// if each call but the opening had the blocks read already.
+/// Prints the time of the listing and of one by one; of a call what it takes to read the blocks, and to read them and make the
+/// index of their rules and edges; and how long one by one takes beside the listing, each of these apart. A call reads both
+/// blocks, and its check reads what was heard once more.
 pub fn print_table() {
-    print_head("one by one", &["n", "readings", "listing", "one by one", "blocks", "ratio"]);
+    print_head("one by one", &["n", "readings", "listing", "one by one", "blocks", "and index", "ratio", "and index"]);
     let offices = [6, 12, 24].map(|slots| office::of_slots(slots).swap_remove(0));
     let inputs = [greatest(6), greatest(12), greatest(24)].into_iter().chain(shapes()).chain(graphs());
     for input in inputs.chain(offices).chain(office::doors()) {
@@ -26,19 +27,27 @@ pub fn print_table() {
         let list = lent.out.clone();
         lent.one_by_one(found);
         assert!(lent.out == list, "{}: the lists differ", input.name);
+        lent.work.fill(0);
         let lent = RefCell::new(lent);
-        let [whole, single, blocks] = medians(
+        let calls = |call: fn(&mut Lent)| (0..found).for_each(|_| call(&mut lent.borrow_mut()));
+        // in this order, since the listing leaves the table all zeros, which `find_nothing` needs
+        let [single, whole, indexed, read, check, check_grammar] = medians(
             PLAN,
             [
-                &mut || assert_eq!(lent.borrow_mut().listing(), found),
                 &mut || lent.borrow_mut().one_by_one(found),
-                &mut || (0..found).for_each(|_| lent.borrow().read_blocks()),
+                &mut || assert_eq!(lent.borrow_mut().listing(), found),
+                &mut || calls(Lent::find_nothing),
+                &mut || calls(Lent::read_blocks),
+                &mut || calls(|lent| lent.check_nothing(true)),
+                &mut || calls(|lent| lent.check_nothing(false)),
             ],
         );
-        let apart = single.saturating_sub(blocks);
+        let of_check = check.saturating_sub(check_grammar);
+        let apart = [read, indexed].map(|time| time + of_check);
+        let each = apart.map(|time| micros(time / found.max(1) as u32));
+        let ratios = apart.map(|time| ratio(single.saturating_sub(time), whole));
         let sizes = [input.heard.longest(), found].map(|number| number.to_string());
-        let each = blocks / found.max(1) as u32;
-        print_row(input.name, &[&sizes[..], &[whole, single, each].map(micros), &[ratio(apart, whole)]].concat());
+        print_row(input.name, &[&sizes[..], &[whole, single].map(micros), &each, &ratios].concat());
     }
 }
 
@@ -80,10 +89,26 @@ impl Lent {
         }
     }
 
+    /// What a call does before it searches: in a table of zeros there is no rank behind the first.
+    fn find_nothing(&mut self) {
+        let Self { grammar, heard, work, length, out } = self;
+        let mut place = Place { handed: 1, opened: 1 };
+        assert_eq!(next(grammar, heard, black_box(&mut place), work, &mut out[..*length]), Ok(Next::NoMore));
+    }
+
     /// What a call does first: it is refused for a table that is short, which is looked at next.
-    fn read_blocks(&self) {
+    fn read_blocks(&mut self) {
         let mut place = Place { handed: 0, opened: 1 };
         let answer = next(&self.grammar, &self.heard, black_box(&mut place), &mut [], &mut []);
         assert_eq!(answer, Err(Refusal::ListingWork));
+    }
+
+    /// What a check does first: it is refused for a reading of no bytes, or before what was heard is read.
+    fn check_nothing(&self, with_heard: bool) {
+        let (heard, refusal) = match with_heard {
+            true => (&self.heard[..], Refusal::ReadingEnd),
+            false => (&[][..], Refusal::UtteranceEnd),
+        };
+        assert_eq!(check(black_box(&self.grammar), heard, &[]), Err(refusal));
     }
 }
