@@ -1,17 +1,17 @@
 -- The ranks that a first call adds: behind the table's front nothing is changed, and at the front there is one rank of each cell.
-use mathlib.Core.Path.{_≡_, refl, sym, ap, _∙_}
+use mathlib.Core.Path.{_≡_, sym, ap, _∙_}
 use mathlib.Core.Bool.{Bool, true, false}
 use mathlib.Core.List.{List, _++_}
 use Prim.Native.Nat.{ℕ, zero, suc, _+_, _-_, _*_, _≤_, _<_}
 use native.Mathlib.Omega.{arith}
 use borrow.Author.Tests.{ne-eqb}
-use lib.Dec.{eqb, ltb}
+use lib.Dec.{eqb}
 use lib.ListN.{length, getD, drop}
 use lib.Seq.{getD-append-add, getD-drop}
 use Rattle.bits.specs.Bits.{pick}
 use Rattle.packing.specs.Loop.{iter}
 use Rattle.chart_table.specs.declared.Layout.{Layout}
-use Rattle.chart_table.specs.Table.{entryOf, priceIn, priceAt, countFound}
+use Rattle.chart_table.specs.Table.{entryOf, priceAt, countFound}
 
 -- a count of what is not 0, where only the first can differ
 abbrev counted : (ℕ → ℕ) → ℕ → ℕ

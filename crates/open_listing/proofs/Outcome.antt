@@ -2,7 +2,7 @@
 use mathlib.Core.Path.{_≡_, refl, sym, ap, _∙_}
 use mathlib.Core.Bool.{Bool, true, false, false≢true}
 use mathlib.Core.List.{List}
-use Prim.Native.Nat.{ℕ, zero, suc, _+_, _-_, _*_, _≤_, _<_}
+use Prim.Native.Nat.{ℕ, suc, _+_, _-_, _*_, _≤_, _<_}
 use native.Mathlib.Omega.{arith}
 use lib.ListN.{length, replicate, take}
 use Rattle.packing.specs.Meaning.{Grammar, Heard, lastPlace, heardEdges}
@@ -10,15 +10,12 @@ use Rattle.packing.specs.Parse.{Verdict, accepted, refused}
 use Rattle.packing.specs.Grammar.{grammarBlock}
 use Rattle.packing.specs.Heard.{heardBlock}
 use Rattle.packing.specs.Flat.{Begins, ruleNumbers, edgeNumbers}
-use Rattle.packing.specs.Valid.{ValidGrammar, ValidHeard}
+use Rattle.packing.specs.Valid.{ValidHeard}
 use Rattle.packing.proofs.Parse.{accepted-is}
 use Rattle.packing.proofs.Whole.{grammar-block-out}
 use Rattle.packing.proofs.Heard.{heard-block-out}
 use Rattle.derivation.specs.Derivation.{Derivation}
-use Rattle.derivation.specs.Heard.{outputLength}
 use Rattle.derivation.specs.Rank.{Number}
-use Rattle.chart_table.specs.declared.Layout.{Layout}
-use Rattle.chart.specs.Chart.{layOut}
 use Rattle.chart_theory.proofs.Accepted.{layout, heard-sizes}
 use Rattle.chart_theory.proofs.Search.Passes.{Listed}
 use Rattle.listing.specs.Listing.{tableSize}
@@ -33,10 +30,10 @@ use Rattle.open_listing.specs.declared.Place.{Place}
 use Rattle.open_listing.specs.declared.Plan.{Plan}
 use Rattle.open_listing.specs.declared.Opened.the-variants as O
 use Rattle.open_listing.specs.declared.Answer as A
-use Rattle.open_listing.specs.declared.Answer.the-variants.{Reading, NoMore, Full, Refused}
+use Rattle.open_listing.specs.declared.Answer.the-variants.{Full, Refused}
 use Rattle.open_listing.proofs.Own.{plan}
 use Rattle.open_listing.proofs.Plans.{numbers-are, bytes-are}
-use Rattle.open_listing.proofs.Promises.{blocks, Gains, opening-short, opening-accepts, calling-short, calling-output, calling-accepts, called, after}
+use Rattle.open_listing.proofs.Promises.{blocks, opening-short, opening-accepts, calling-short, calling-output, calling-accepts, called, after}
 use Rattle.open_listing.proofs.Steps as steps
 
 different : {X : Type 0} {v : Verdict S.Blocks} {n : ℕ} {b : S.Blocks} → v ≡ refused n → v ≡ accepted b → X

@@ -1,6 +1,5 @@
 -- A reading and the bytes that are its own: cut to them, and with zeros again behind them, it is the same.
 use mathlib.Core.Path.{_≡_, refl, sym, ap, _∙_}
-use mathlib.Core.Bool.{true}
 use mathlib.Core.List.{List, [], _∷_, _++_}
 use Prim.Native.Nat.{ℕ, zero, suc, _+_, _-_, _≤_, _<_}
 use native.Mathlib.Nat.{le-refl}
@@ -11,10 +10,9 @@ use lib.ListN.{length, take, drop, getD, replicate, length-replicate, length-tak
 use lib.Seq.{take-all, take-at, getD-take, getD-append-add, drop-append-add, length-take-le}
 use Rattle.bits.proofs.Pack.{pack-lt}
 use Rattle.bits.proofs.Fields.{bitsOfAll-lt}
-use Rattle.packing.specs.Meaning.{Grammar, Heard, slots, graph, lastPlace}
-use Rattle.packing.specs.Source.{flds}
-use Rattle.packing.specs.Reading.{readingEntries, blockOfReading}
-use Rattle.packing.specs.GraphReading.{graphReadingEntries, blockOfGraphReading, graphReadingLength, padded}
+use Rattle.packing.specs.Meaning.{Grammar, Heard, slots, graph}
+use Rattle.packing.specs.Reading.{blockOfReading}
+use Rattle.packing.specs.GraphReading.{blockOfGraphReading, graphReadingLength, padded}
 use Rattle.packing.specs.Valid.{Bytes, ValidGrammar, ValidHeard}
 use Rattle.derivation.specs.Derivation.{Tree, Derivation}
 use Rattle.derivation.specs.Heard.{pathLength, ownBlock, outputLength, packed}
@@ -22,7 +20,7 @@ use Rattle.derivation.proofs.Trace.{trace-length}
 use Rattle.derivation.proofs.HeardTheorems.{own-length}
 use Rattle.chart.specs.Chart.{layOut}
 use Rattle.chart_theory.proofs.Accepted.{HoldsRank, layout}
-use Rattle.listing.specs.Model.{blockAt, ownSizeAt, edgesAt}
+use Rattle.listing.specs.Model.{blockAt, ownSizeAt}
 use Rattle.listing.proofs.Blocks.{form}
 use Rattle.listing.proofs.Written.{path, length-at, graphReadingAt, own-room}
 use Rattle.grammar_reader.specs.Answer.{sizes}

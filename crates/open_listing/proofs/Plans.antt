@@ -1,8 +1,7 @@
 -- The plan of what was read of both blocks, and what a table for all ranks and an output for one reading need.
-use mathlib.Core.Path.{_≡_, refl, ap, _∙_}
-use Prim.Native.Nat.{ℕ, _+_, _*_, _≤_, _<_}
+use mathlib.Core.Path.{_≡_, refl, ap}
+use Prim.Native.Nat.{ℕ, _*_, _≤_, _<_}
 use native.Mathlib.Omega.{arith}
-use lib.ListN.{length}
 use Rattle.packing.specs.Meaning.{Grammar, Heard, lastPlace}
 use Rattle.derivation.specs.Heard.{outputLength}
 use Rattle.chart_table.specs.declared.Layout.{Layout}

@@ -1,13 +1,12 @@
 -- What a call is to promise, from what its search leaves: whatever the table held (`Called`), and after k readings (`Kept`).
-use mathlib.Core.Path.{_≡_, refl, sym, ap, _∙_}
-use mathlib.Core.Bool.{Bool, true, false, false≢true}
+use mathlib.Core.Path.{_≡_, refl, sym, _∙_}
+use mathlib.Core.Bool.{Bool, true, false}
 use mathlib.Core.List.{List, _++_}
-use Prim.Native.Nat.{ℕ, zero, suc, _+_, _-_, _*_, _≤_, _<_}
+use Prim.Native.Nat.{ℕ, suc, _+_, _-_, _*_, _≤_, _<_}
 use native.Mathlib.Numerals.{add-one, one-add}
 use native.Mathlib.Omega.{arith}
 use borrow.Author.Tests.{lt-ltb, le-ltb}
-use lib.Dec.{ltb}
-use lib.ListN.{length, take, drop, replicate, length-take}
+use lib.ListN.{length, drop, replicate, length-take}
 use Rattle.bits.specs.Bits.{pick}
 use Rattle.packing.specs.Meaning.{Grammar, Heard, lastPlace, heardEdges}
 use Rattle.packing.specs.Parse.{accepted, refused}
@@ -20,12 +19,12 @@ use Rattle.packing.proofs.Whole.{grammar-block-out}
 use Rattle.packing.proofs.Heard.{heard-block-out}
 use Rattle.derivation.specs.Derivation.{Tree, Derivation}
 use Rattle.derivation.specs.Heard.{outputLength, packed}
-use Rattle.derivation.specs.HeardList.{derivations, leastDerivations}
-use Rattle.derivation.specs.Rank.{Number, Rank}
+use Rattle.derivation.specs.HeardList.{derivations}
+use Rattle.derivation.specs.Rank.{Number}
 use Rattle.derivation.proofs.HeardTheorems.{least-element, least-length}
 use Rattle.chart_table.specs.Table.{countFound}
 use Rattle.chart_steps.specs.Found.{foundRanks}
-use Rattle.chart.specs.Chart.{layOut, rootFound, rootStands}
+use Rattle.chart.specs.Chart.{layOut, rootFound}
 use Rattle.chart_theory.proofs.Accepted.{layout, Reached, rank-reached}
 use Rattle.chart_theory.proofs.Search.Passes.{Listed}
 use Rattle.listing.specs.Listing.{tableSize}
@@ -33,11 +32,11 @@ use Rattle.listing.specs.Demand3.{Ranked}
 use Rattle.listing.proofs.Sizes.{size-is}
 use Rattle.open_listing.specs.Left.{AsLeft}
 use Rattle.open_listing.specs.Open as S
-use Rattle.open_listing.specs.Model.{Planned, isReading, handsOut, settled, outputBy, Searched, Untouched}
+use Rattle.open_listing.specs.Model.{Planned, isReading, handsOut, settled, Searched}
 use Rattle.open_listing.specs.declared.Place.{Place}
 use Rattle.open_listing.specs.declared.Answer as A
-use Rattle.open_listing.specs.declared.Answer.the-variants.{Reading, NoMore, Full, Refused}
-use Rattle.open_listing.proofs.Own.{plan, block}
+use Rattle.open_listing.specs.declared.Answer.the-variants.{Reading, NoMore, Refused}
+use Rattle.open_listing.proofs.Own.{plan}
 use Rattle.open_listing.proofs.Readings.{HandedOut, hands-derivation, rank-handed}
 
 -- what is tested before the search

@@ -16,7 +16,7 @@ use Rattle.open_listing.specs.Open as S
 use Rattle.open_listing.specs.Open.{opening, calling}
 use Rattle.open_listing.specs.declared.Place.{Place}
 use Rattle.open_listing.specs.declared.Answer as A
-use Rattle.open_listing.specs.declared.Answer.the-variants.{Reading, NoMore, Full, Refused}
+use Rattle.open_listing.specs.declared.Answer.the-variants.{Reading, Refused}
 
 pub opening-row : (grammar heard : List ℕ) (work : ℕ) → Refuses (GrammarBlockRow ∪ HeardBlockRow ∪ OpenRow) (opening grammar heard work)
 unfolding opening

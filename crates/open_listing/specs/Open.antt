@@ -4,7 +4,7 @@
 use mathlib.Core.Path.{_≡_}
 use mathlib.Core.Bool.{true}
 use mathlib.Core.List.{List, _++_}
-use Prim.Native.Nat.{ℕ, suc, _+_, _-_, _*_, _/_, _≤_, _<_}
+use Prim.Native.Nat.{ℕ, suc, _+_, _-_, _*_, _≤_, _<_}
 use lib.Dec.{ltb}
 use lib.ListN.{length, drop, replicate}
 use Rattle.bits.specs.Bits.{pick}
@@ -57,11 +57,7 @@ abbrev pub tableOpened : Verdict Blocks → List ℕ → List ℕ
 tableOpened (accepted b) work = replicate (length work) 0
 tableOpened (refused n) work = work
 
--- the place afterwards, and after one more reading was handed out
-abbrev pub placeOpened : Verdict Blocks → Place → Place
-placeOpened (accepted b) p = record { handed = 0; opened = 1 }
-placeOpened (refused n) p = p
-
+-- the place afterwards: one more reading was handed out, or nothing was
 abbrev pub placeAfter : A.Answer → Place → Place
 placeAfter Reading p = record { handed = p .handed + 1; opened = p .opened }
 placeAfter NoMore p = p
@@ -119,7 +115,7 @@ module _ (grammar heard : List ℕ) (p : Place) (work out : List ℕ) (answer : 
 
   -- "For k up to 256 a call that is not refused, made after k−1 readings were handed out, gives the kth of the listing, or no more exactly if
   -- fewer than k exist .. while blocks, place and table come back as they were left." Whatever `AsLeft` says, it is so of what opening leaves
-  -- (`opened-left`), and each call that hands out a reading passes it on
+  -- (a table of zeros and the place of no readings), and each call that hands out a reading passes it on
   abbrev pub Kept : Type 0
   Kept =
       (b : Blocks) → calling grammar heard (length work) (length out) ≡ accepted b → (k : ℕ) → k < 256 → AsLeft (b .grammar) (b .heard) k p work

@@ -5,18 +5,18 @@ use mathlib.Core.Logic.{inl, inr}
 use Prim.Native.Nat.{ℕ, _<_}
 use native.Mathlib.Omega.{arith}
 use lib.IntN.{ℤ, pos, negℤ}
-use lib.ListN.{length, replicate}
+use lib.ListN.{length}
 use mir.Syntax.{w32}
 use mir.Val.{toZ, ofZ}
 use Rattle.packing.specs.Parse.{Verdict, accepted, refused}
 use Rattle.packing.specs.Rows.{_∪_, GrammarBlockRow, HeardBlockRow, OpenRow, CallRow}
-use Rattle.packing.proofs.Refusals.{Low, low-both, refusal-number}
+use Rattle.packing.proofs.Refusals.{low-both, refusal-number}
 use Rattle.open_listing.specs.Open as S
 use Rattle.open_listing.specs.declared.Place.{Place}
 use Rattle.open_listing.specs.declared.Opened.{Opened}
 use Rattle.open_listing.specs.declared.Opened.the-variants as O
 use Rattle.open_listing.specs.declared.Answer as A
-use Rattle.open_listing.specs.declared.Answer.the-variants.{Reading, NoMore, Full, Refused}
+use Rattle.open_listing.specs.declared.Answer.the-variants.{Reading, Refused}
 use Rattle.open_listing.proofs.Refused.{opening-row, refused-row, reading-below}
 use Rattle.spireyerba.specs.Demands.{answers, refuses}
 use Rattle.spireyerba.specs.OneByOne.{placeAt, nextCode, Open, Next}

@@ -1,6 +1,6 @@
 -- Calls of an open listing one after another hand out every reading once, in the order of the listing, and then say "no more" or "full": after k calls
 -- place and table are as they were left after k readings, or after all that there are, or after 256.
-use mathlib.Core.Path.{_≡_, refl, sym, ap, _∙_}
+use mathlib.Core.Path.{_≡_, refl, ap, _∙_}
 use mathlib.Core.Logic.{inl, inr}
 use mathlib.Core.List.{List, _++_}
 use Prim.Native.Nat.{ℕ, zero, suc, _≤_, _<_, min}
@@ -10,12 +10,11 @@ use borrow.Author.Tests.{le-ltb}
 use lib.IntN.{ℤ, pos, negℤ}
 use lib.ListN.{length, drop, replicate, length-replicate}
 use Rattle.packing.specs.Meaning.{Grammar, Heard}
-use Rattle.packing.specs.Parse.{Verdict, accepted, refused}
+use Rattle.packing.specs.Parse.{accepted, refused}
 use Rattle.packing.specs.Rows.{_∪_, GrammarBlockRow, HeardBlockRow, OpenRow}
-use Rattle.derivation.specs.Derivation.{Tree, Derivation}
+use Rattle.derivation.specs.Derivation.{Tree}
 use Rattle.derivation.specs.Heard.{outputLength, packed}
 use Rattle.derivation.specs.HeardList as list
-use Rattle.derivation.specs.Rank.{Number}
 use Rattle.derivation.proofs.HeardTheorems.{finitely-many}
 use Rattle.listing.specs.Demand3.{Ranked}
 use Rattle.open_listing.specs.Left.{AsLeft}

@@ -1,7 +1,7 @@
 -- The back trace of a found rank has the nodes of the tree of that rank, and the tree stands in the table: by recursion on the fuel, for the
 -- parts of a found pairing are found, over shorter spans, and a leaf's back pointer has its edge's number.
-use mathlib.Core.Path.{_≡_, refl, ap, _∙_}
-use mathlib.Core.Bool.{Bool, true, false}
+use mathlib.Core.Path.{_≡_, ap, _∙_}
+use mathlib.Core.Bool.{Bool, true}
 use mathlib.Core.List.{List, [], _∷_, _++_, append-nil, append-assoc}
 use Prim.Native.Nat.{ℕ, zero, suc, _≤_}
 use native.Mathlib.Omega.{arith}
