@@ -12,7 +12,7 @@ use Rattle.bits.proofs.Pack.{pack-lt}
 use Rattle.bits.proofs.Fields.{bitsOfAll-lt}
 use Rattle.packing.specs.Meaning.{Grammar, Heard, slots, graph}
 use Rattle.packing.specs.Reading.{blockOfReading}
-use Rattle.packing.specs.GraphReading.{blockOfGraphReading, graphReadingLength, padded}
+use Rattle.packing.specs.GraphReading.{blockOfGraphReading, padded}
 use Rattle.packing.specs.Valid.{Bytes, ValidGrammar, ValidHeard}
 use Rattle.derivation.specs.Derivation.{Tree, Derivation}
 use Rattle.derivation.specs.Heard.{pathLength, ownBlock, outputLength, packed}

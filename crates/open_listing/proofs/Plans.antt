@@ -1,6 +1,6 @@
 -- The plan of what was read of both blocks, and what a table for all ranks and an output for one reading need.
 use mathlib.Core.Path.{_≡_, refl, ap}
-use Prim.Native.Nat.{ℕ, _*_, _≤_, _<_}
+use Prim.Native.Nat.{ℕ, _*_, _≤_}
 use native.Mathlib.Omega.{arith}
 use Rattle.packing.specs.Meaning.{Grammar, Heard, lastPlace}
 use Rattle.derivation.specs.Heard.{outputLength}

@@ -6,7 +6,7 @@ use Prim.Native.Nat.{ℕ, suc, _+_, _-_, _*_, _≤_, _<_}
 use native.Mathlib.Numerals.{add-one, one-add}
 use native.Mathlib.Omega.{arith}
 use borrow.Author.Tests.{lt-ltb, le-ltb}
-use lib.ListN.{length, drop, replicate, length-take}
+use lib.ListN.{length, drop, length-take}
 use Rattle.bits.specs.Bits.{pick}
 use Rattle.packing.specs.Meaning.{Grammar, Heard, lastPlace, heardEdges}
 use Rattle.packing.specs.Parse.{accepted, refused}

@@ -10,7 +10,7 @@ use mir.Syntax.{w32}
 use mir.Val.{toZ, ofZ}
 use Rattle.packing.specs.Parse.{Verdict, accepted, refused}
 use Rattle.packing.specs.Rows.{_∪_, GrammarBlockRow, HeardBlockRow, OpenRow, CallRow}
-use Rattle.packing.proofs.Refusals.{low-both, refusal-number}
+use Rattle.packing.proofs.Refusals.{refusal-number}
 use Rattle.open_listing.specs.Open as S
 use Rattle.open_listing.specs.declared.Place.{Place}
 use Rattle.open_listing.specs.declared.Opened.{Opened}

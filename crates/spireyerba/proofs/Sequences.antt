@@ -10,7 +10,7 @@ use borrow.Author.Tests.{le-ltb}
 use lib.IntN.{ℤ, pos, negℤ}
 use lib.ListN.{length, drop, replicate, length-replicate}
 use Rattle.packing.specs.Meaning.{Grammar, Heard}
-use Rattle.packing.specs.Parse.{accepted, refused}
+use Rattle.packing.specs.Parse.{accepted}
 use Rattle.packing.specs.Rows.{_∪_, GrammarBlockRow, HeardBlockRow, OpenRow}
 use Rattle.derivation.specs.Derivation.{Tree}
 use Rattle.derivation.specs.Heard.{outputLength, packed}
