@@ -23,13 +23,14 @@
 ** the time of one call, and no pointer is kept. The library allocates nothing,
 ** and 64 KiB of stack suffice (measured, not proved: tests/tests/stack.rs). A
 ** pointer must be valid for its length, aligned for its type and not null (for
-** an empty slice, any address that is not null will do); out, work, chance, least
-** and greatest may not overlap each other or another slice.
+** an empty slice, any address that is not null will do); out, work, place, chance,
+** least and greatest may not overlap each other or another slice.
 **
-** WHAT IS WRITTEN. Only out, work, chance, least and greatest are ever changed,
-** and a refusal changes nothing at all. An answer leaves its result at the front of out, as long as
-** the function says, everything behind it as it was, and all of work zero. This
-** holds whatever out and work held before.
+** WHAT IS WRITTEN. Only out, work, place, chance, least and greatest are ever
+** changed, and a refusal changes nothing at all. An answer leaves its result at the
+** front of out, as long as the function says, everything behind it as it was, and
+** all of work zero. This holds whatever out and work held before. Only
+** spireyerba_next goes on with what work holds and leaves an open listing in it.
 **
 ** THREADS. The library has no state: no variable, no file, no lock. Any
 ** functions may run at once on any threads, as long as nothing that is written to
@@ -214,11 +215,11 @@ int32_t spireyerba_utterance_to_sheet(
     uint32_t *out, size_t out_len);
 
 /*
-** WORD GRAPHS. Both listings, the check and the chance take a word graph in place
-** of slots. It has P places, numbered from 0, and edges, numbered from 0 in the
-** order of the block; an edge is a word that was heard from one place to a later
-** one. A derivation then spans a path from place 0 to place P - 1, each word an
-** edge of it. A graph without such a path is no refusal: it has no readings.
+** WORD GRAPHS. Both listings, open listings, the check and the chance take a word
+** graph in place of slots. It has P places, numbered from 0, and edges, numbered
+** from 0 in the order of the block; an edge is a word that was heard from one place
+** to a later one. A derivation then spans a path from place 0 to place P - 1, each
+** word an edge of it. A graph without such a path is no refusal: it has no readings.
 **
 ** A graph block has the fields kind (4 bits, 5), P (5), the number of edges (7),
 ** then of each edge from (5), to (5), word and cost (16). Its fields are checked
@@ -390,6 +391,78 @@ int32_t spireyerba_listing(
     const uint8_t *grammar, size_t grammar_len,
     const uint8_t *utterance, size_t utterance_len,
     uint32_t wanted,
+    uint32_t *work, size_t work_len,
+    uint8_t *out, size_t out_len);
+
+/* Refusal of an open listing, the last of all. */
+enum {
+    SPIREYERBA_ALTERED_WALK = 53     /* the walk that altered numbers spell is not a reading that passes */
+};
+
+/*
+** READINGS ONE BY ONE. An open listing hands out the readings of the listing one a
+** call, for whoever stops at the one that was meant. It keeps itself in place and
+** work, which are the caller's and come back as they were left; out is free between
+** calls. To end it there is nothing to do.
+*/
+typedef struct {
+    uint32_t handed; /* the readings that were handed out           */
+    uint32_t opened; /* 1 once it was opened; any other says: never */
+} spireyerba_place;
+
+/*
+** OPEN. Opens a listing of an utterance under a grammar, slots or a graph. Answers
+** 0; then *place is {0, 1} and all of work is zero, whatever both held.
+**
+** work has at least spireyerba_work_length(S, n, SPIREYERBA_MAX_READINGS) numbers,
+** for a graph with P - 1 for n.
+**
+** Refuses with any of GRAMMAR_..., any of UTTERANCE_... and EDGE_..., then
+** LISTING_WORK. A refusal leaves *place and work as they were.
+*/
+int32_t spireyerba_open(
+    const uint8_t *grammar, size_t grammar_len,
+    const uint8_t *utterance, size_t utterance_len,
+    spireyerba_place *place,
+    uint32_t *work, size_t work_len);
+
+/* The answers of spireyerba_next. */
+enum {
+    SPIREYERBA_NEXT_NO_MORE = 0,     /* there is no further reading               */
+    SPIREYERBA_NEXT_READING = 1,     /* one more reading was handed out           */
+    SPIREYERBA_NEXT_FULL = 2         /* 256 readings were handed out before       */
+};
+
+/*
+** NEXT. Hands out one more reading of an open listing. With the blocks that it was
+** opened with, and place and work as the call before left them, a call after k
+** readings answers
+**
+**   NEXT_READING   the first L bytes of out are the reading that is number k + 1 in
+**                  the listing, byte for byte, and what is behind them is as it
+**                  was; handed is k + 1
+**   NEXT_NO_MORE   exactly if k is below 256 and there are no more than k readings
+**   NEXT_FULL      exactly if k is 256
+**
+** The last two, like any refusal, change nothing: not place, not work, not out.
+** L is that of the listing; out has at least L bytes, and work is as for opening.
+**
+** A tree is found once it stands in work. The call that hands out the first reading
+** finds at most one for each symbol and span, and each later call at most 2n - 1
+** more in all, for a graph with P - 1 for n: no call does the work of the whole
+** listing.
+**
+** Where place or work was altered, or the blocks are others, a call ends, and what
+** it hands out passes the check (that of a graph cut to its own length).
+**
+** Refuses with any of GRAMMAR_..., any of UTTERANCE_... and EDGE_..., then
+** LISTING_WORK, LISTING_OUTPUT, and last of all ALTERED_WALK: a place that was never
+** opened, or altered numbers that spell no reading. NEXT_FULL comes before it.
+*/
+int32_t spireyerba_next(
+    const uint8_t *grammar, size_t grammar_len,
+    const uint8_t *utterance, size_t utterance_len,
+    spireyerba_place *place,
     uint32_t *work, size_t work_len,
     uint8_t *out, size_t out_len);
 

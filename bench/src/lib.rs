@@ -8,5 +8,6 @@ pub mod listing;
 pub mod measure;
 pub mod next_phrase;
 pub mod office;
+pub mod one_by_one;
 pub mod specimen;
 pub mod table;

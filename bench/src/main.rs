@@ -1,13 +1,14 @@
 //! Prints Markdown tables of times in microseconds, medians of alternating calls in one process, and of their ratios: those
 //! that the command line names, or all.
 
-use spireyerba_bench::{batch, conversions, listing, next_phrase, specimen};
+use spireyerba_bench::{batch, conversions, listing, next_phrase, one_by_one, specimen};
 
-const TABLES: [(&str, fn()); 9] = [
+const TABLES: [(&str, fn()); 10] = [
     ("office", listing::print_office),
     ("free", listing::print_beside_free),
     ("graphs", listing::print_graphs),
     ("panel", listing::print_panel),
+    ("one_by_one", one_by_one::print_table),
     ("conversions", conversions::print_table),
     ("specimen", specimen::print_table),
     ("phrases", next_phrase::print_table),

@@ -1,7 +1,7 @@
 //! What was heard: slots, or a word graph.
 
 use spireyerba::text::NamedGrammar;
-use spireyerba::{Candidate, Edge, Grammar, Graph, GraphReading, Reading, Refusal, Utterance};
+use spireyerba::{Candidate, Edge, Grammar, Graph, GraphReading, OpenListing, Reading, Refusal, Utterance};
 
 pub enum Heard {
     Slots(Utterance),
@@ -44,6 +44,14 @@ impl Heard {
                 Ok(readings.map(|reading| GraphReading { reading, path: Vec::new() }).collect())
             }
             Self::Graph(graph) => grammar.list_graph(graph, wanted),
+        }
+    }
+
+    /// The same one by one, up to 256.
+    pub fn open(&self, grammar: &Grammar) -> Result<OpenListing, Refusal> {
+        match self {
+            Self::Slots(utterance) => grammar.open(utterance),
+            Self::Graph(graph) => grammar.open_graph(graph),
         }
     }
 

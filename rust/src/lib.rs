@@ -19,6 +19,7 @@
 //! | [`Graph`], [`GraphReading`] | word graphs, which have blocks and no sheets; [`Grammar::list_graph`], [`Grammar::check_graph`] |
 //! | [`Grammar::specimen`], [`Phrases`] | what can be said in a grammar |
 //! | [`Grammar::cost_ranges`], [`CostRanges`] | the first reading where costs are known within ranges |
+//! | [`OpenListing`] | readings one by one, each found when it is asked for; [`Grammar::open`], [`Grammar::open_graph`] |
 //! | [`Lister`] | many listings under one grammar, in memory that is kept, the library's or a desk panel's |
 //! | [`Grammar::chance`], [`Grammar::chance_graph`] | the product of the shares of a reading's rules |
 //! | [`Tree`] | a reading as a tree |
@@ -59,6 +60,7 @@ mod graph;
 mod lister;
 mod marked;
 mod office;
+mod open_listing;
 mod phrases;
 mod ranges;
 mod reading;
@@ -72,6 +74,7 @@ pub use graph::{Edge, Graph};
 pub use lister::{Found, Lister};
 pub use marked::MarkedGrammar;
 pub use office::{Item, Office, OfficeRule};
+pub use open_listing::OpenListing;
 pub use phrases::Phrases;
 pub use ranges::CostRanges;
 pub use reading::{GraphReading, Reading};

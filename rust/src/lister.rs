@@ -113,11 +113,7 @@ impl Lister {
     /// # Ok::<(), spireyerba::Error>(())
     /// ```
     pub fn find_in_block(&mut self, block: &[u8], wanted: u32) -> Result<Found<'_>, Refusal> {
-        let rules = self.grammar.rules.len();
-        let (words, length) = match longest(block) {
-            Longest::Slots(words) => (words, reading_length(words, rules)),
-            Longest::Path(words) => (words, graph_reading_length(words, rules)),
-        };
+        let (words, length) = longest(block, self.grammar.rules.len());
         let most = wanted.min(MAX_READINGS) as usize;
         let work = lent(&mut self.work, work_length(self.grammar.symbols as usize, words, most));
         // room to look a few bytes past the last reading
@@ -127,21 +123,22 @@ impl Lister {
     }
 }
 
-/// The words of the longest reading that there can be.
-enum Longest {
-    Slots(usize),
-    Path(usize),
-}
-
-/// That of a block. Of what the library refuses it is any that there can be: whatever is lent will do then.
-fn longest(block: &[u8]) -> Longest {
+/// The words and the bytes of the longest reading that there can be of a block under so many rules. Of what the library refuses
+/// it is any: whatever is lent will do then.
+pub(crate) fn longest(block: &[u8], rules: usize) -> (usize, usize) {
     let mut front = [0; 2];
     front.iter_mut().zip(block).for_each(|(to, byte)| *to = *byte);
     let mut fields = Fields::new(&front);
     let within = |words: u32| words.clamp(1, MAX_SLOTS) as usize;
     match fields.take(KIND_WIDTH) {
-        GRAPH_KIND => Longest::Path(within(fields.take(PLACES_WIDTH).saturating_sub(1))),
-        _ => Longest::Slots(within(fields.take(SLOTS_WIDTH))),
+        GRAPH_KIND => {
+            let edges = within(fields.take(PLACES_WIDTH).saturating_sub(1));
+            (edges, graph_reading_length(edges, rules))
+        }
+        _ => {
+            let slots = within(fields.take(SLOTS_WIDTH));
+            (slots, reading_length(slots, rules))
+        }
     }
 }
 

@@ -69,6 +69,7 @@ refusals! {
     43 OutputShort "the output is shorter than the result",
     51 EdgePlaces "an edge does not end above where it starts, or not below the number of places",
     52 EdgeRepeat "an edge has the places and the word of an earlier one",
+    53 AlteredWalk "the walk that altered numbers spell is not a reading that passes",
     54 ItemCount "a body of an office sheet does not have 1 to 6 items",
     55 ItemAlone "a body of an office sheet is one symbol",
     56 OfficeSize "the grammar that an office sheet becomes passes 32 symbols or 256 rules",

@@ -2,14 +2,15 @@
 //!
 //! Each function takes any bytes and any numbers, and either answers or refuses. An answer leaves its result at the front
 //! of `out`, everything behind it as it was, and all of `work` zero, whatever both held before; a refusal changes nothing.
+//! Only [`next`] goes on with what `work` holds and leaves an open listing in it.
 //! All of this is proved, for every input. The library allocates nothing and keeps nothing: calls may run at once on any
 //! threads. 64 KiB of stack suffice (measured, not proved).
 //!
 //! A *block* is packed bits, a *sheet* the same as plain 32-bit numbers; the header says field by field what they hold.
 //! [`Grammar`](crate::Grammar), [`Utterance`](crate::Utterance) and [`Reading`](crate::Reading) are made from them and
-//! turn into them, and [`limits`](crate::limits) says how long they are. [`listing`], [`panel_listing`], [`check`] and [`chance`]
-//! take the block of a word graph ([`Graph`](crate::Graph)) as well as that of an utterance of slots; to every other function a
-//! graph is a block of another kind, [`UtteranceKind`](Refusal::UtteranceKind).
+//! turn into them, and [`limits`](crate::limits) says how long they are. [`listing`], [`panel_listing`], [`open`], [`next`],
+//! [`check`] and [`chance`] take the block of a word graph ([`Graph`](crate::Graph)) as well as that of an utterance of slots;
+//! to every other function a graph is a block of another kind, [`UtteranceKind`](Refusal::UtteranceKind).
 
 #![expect(unsafe_code, reason = "the library has a C interface")]
 
@@ -80,6 +81,26 @@ extern "C" {
         utterance: *const u8,
         utterance_len: usize,
         wanted: u32,
+        work: *mut u32,
+        work_len: usize,
+        out: *mut u8,
+        out_len: usize,
+    ) -> i32;
+    fn spireyerba_open(
+        grammar: *const u8,
+        grammar_len: usize,
+        utterance: *const u8,
+        utterance_len: usize,
+        place: *mut Place,
+        work: *mut u32,
+        work_len: usize,
+    ) -> i32;
+    fn spireyerba_next(
+        grammar: *const u8,
+        grammar_len: usize,
+        utterance: *const u8,
+        utterance_len: usize,
+        place: *mut Place,
         work: *mut u32,
         work_len: usize,
         out: *mut u8,
@@ -455,6 +476,123 @@ pub fn panel_listing(
             out.as_mut_ptr(),
             out.len(),
         )
+    })
+}
+
+/// Where an open listing is between two calls. [`open`] and [`next`] write it; it is lent as it was left.
+#[derive(Clone, Copy, Debug, Default, PartialEq, Eq, Hash)]
+#[repr(C)]
+pub struct Place {
+    /// The readings that were handed out.
+    pub handed: u32,
+    /// 1 if the listing was opened; any other number says that it never was.
+    pub opened: u32,
+}
+
+/// What [`next`] answers.
+#[derive(Clone, Copy, Debug, PartialEq, Eq, Hash)]
+pub enum Next {
+    /// There is no further reading; nothing has changed.
+    NoMore = 0,
+    /// One more reading was handed out.
+    Reading = 1,
+    /// As many as can be listed, [`MAX_READINGS`](crate::limits::MAX_READINGS), were handed out before; nothing has changed.
+    Full = 2,
+}
+
+/// Opens a listing of an utterance or of a word graph under a grammar, whose readings [`next`] hands out one by one.
+///
+/// Takes both blocks, a `place`, and the table `work`, which keeps the listing from call to call: of at least
+/// [`work_length`](crate::limits::work_length) numbers for [`MAX_READINGS`](crate::limits::MAX_READINGS) readings, for a graph of
+/// P places as for P − 1 slots. Place and table may hold anything. Afterwards none was handed out, and all of `work` is zero.
+///
+/// Refuses with 1 to 7 for the grammar; with 11 to 16, [`EdgePlaces`](Refusal::EdgePlaces) or
+/// [`EdgeRepeat`](Refusal::EdgeRepeat) for what was heard; then with [`ListingWork`](Refusal::ListingWork).
+///
+/// ```
+/// use spireyerba::services::{next, open, Next, Place};
+///
+/// let grammar = [0x10, 0x40, 0x40, 0x40, 0x00, 0x09, 0x00, 0x00, 0x00];
+/// let utterance = [0x21, 0x08, 0x00, 0x00, 0x80, 0x00, 0x08, 0x00, 0x00, 0x80, 0x00, 0x00];
+/// let (mut place, mut work, mut out) = (Place::default(), [7; 10_240], [0; 6]);
+/// open(&grammar, &utterance, &mut place, &mut work)?;
+/// // five readings of six bytes each
+/// for handed in 1..=5 {
+///     assert_eq!(next(&grammar, &utterance, &mut place, &mut work, &mut out), Ok(Next::Reading));
+///     assert_eq!(place, Place { handed, opened: 1 });
+/// }
+/// assert_eq!(out, [0x31, 0x00, 0x00, 0x00, 0xc7, 0x80]);
+/// assert_eq!(next(&grammar, &utterance, &mut place, &mut work, &mut out), Ok(Next::NoMore));
+/// # Ok::<(), spireyerba::Refusal>(())
+/// ```
+pub fn open(grammar: &[u8], utterance: &[u8], place: &mut Place, work: &mut [u32]) -> Result<(), Refusal> {
+    // SAFETY: the slices are borrowed until the call returns, `place` and `work` for it alone.
+    let opened = answer(unsafe {
+        spireyerba_open(
+            grammar.as_ptr(),
+            grammar.len(),
+            utterance.as_ptr(),
+            utterance.len(),
+            place,
+            work.as_mut_ptr(),
+            work.len(),
+        )
+    })?;
+    debug_assert_eq!(opened, 0, "the answer of a listing that is open");
+    Ok(())
+}
+
+/// Hands out one more reading of an open listing.
+///
+/// Takes the blocks, the place and the table as the call before left them, and `out`, of at least as many bytes as one reading
+/// has in a [`listing`]. After k readings it writes the one that is next in the listing to the front of `out`, zeros behind
+/// that of a shorter path, and `handed` is k + 1; or it answers that there is no more, or, after
+/// [`MAX_READINGS`](crate::limits::MAX_READINGS), that the listing is full. These two answers, like a refusal, change nothing.
+/// The first call looks for the least tree of each symbol over each span, and each later one for few more: at most 2n − 1 trees
+/// come to the table, n being the slots, or P − 1.
+///
+/// With a place or a table that was altered, or with other blocks, a call ends all the same, and what it hands out passes
+/// [`check`].
+///
+/// Refuses with 1 to 7 for the grammar; with 11 to 16, [`EdgePlaces`](Refusal::EdgePlaces) or
+/// [`EdgeRepeat`](Refusal::EdgeRepeat) for what was heard; then with [`ListingWork`](Refusal::ListingWork) as [`open`] does,
+/// with [`ListingOutput`](Refusal::ListingOutput) for one reading; and last of all with
+/// [`AlteredWalk`](Refusal::AlteredWalk), where altered numbers spell none, or the place was never opened.
+///
+/// ```
+/// use spireyerba::{services::{next, Place}, Refusal};
+///
+/// let grammar = [0x10, 0x40, 0x40, 0x40, 0x00, 0x09, 0x00, 0x00, 0x00];
+/// let utterance = [0x21, 0x08, 0x00, 0x00, 0x80, 0x00, 0x08, 0x00, 0x00, 0x80, 0x00, 0x00];
+/// let (mut place, mut work, mut out) = (Place::default(), [0; 10_240], [0; 6]);
+/// let never_opened = next(&grammar, &utterance, &mut place, &mut work, &mut out);
+/// assert_eq!(never_opened, Err(Refusal::AlteredWalk));
+/// ```
+pub fn next(
+    grammar: &[u8],
+    utterance: &[u8],
+    place: &mut Place,
+    work: &mut [u32],
+    out: &mut [u8],
+) -> Result<Next, Refusal> {
+    // SAFETY: the slices are borrowed until the call returns, `place`, `work` and `out` for it alone.
+    let code = unsafe {
+        spireyerba_next(
+            grammar.as_ptr(),
+            grammar.len(),
+            utterance.as_ptr(),
+            utterance.len(),
+            place,
+            work.as_mut_ptr(),
+            work.len(),
+            out.as_mut_ptr(),
+            out.len(),
+        )
+    };
+    Ok(match answer(code)? {
+        0 => Next::NoMore,
+        1 => Next::Reading,
+        _ => Next::Full,
     })
 }
 

@@ -1,13 +1,19 @@
 //! The refusals and sizes of this crate are those of include/spireyerba.h.
 
 use spireyerba::limits::*;
+use spireyerba::services::Next;
 use spireyerba::Refusal;
 use std::collections::BTreeMap;
+use std::fmt::Debug;
 
 const HEADER: &str = include_str!("../../include/spireyerba.h");
 const PREFIX: &str = "SPIREYERBA_";
 
-/// The names that the header gives a number: `PREFIX_NAME = NUMBER` to refusals, `#define PREFIX_NAME NUMBER` to sizes.
+/// The beginning of the names of answers, which are numbered as refusals are.
+const ANSWER: &str = "NEXT_";
+
+/// The names that the header gives a number: `PREFIX_NAME = NUMBER` to refusals and answers, `#define PREFIX_NAME NUMBER` to
+/// sizes.
 fn numbers(of_refusals: bool) -> BTreeMap<String, usize> {
     let of_line = |line: &str| {
         let (name, rest) = match line.trim().strip_prefix("#define ") {
@@ -22,9 +28,9 @@ fn numbers(of_refusals: bool) -> BTreeMap<String, usize> {
 }
 
 /// `GrammarEnd` as `GRAMMAR_END`.
-fn name_in_c(refusal: Refusal) -> String {
+fn name_in_c(value: impl Debug) -> String {
     let mut name = String::new();
-    for letter in format!("{refusal:?}").chars() {
+    for letter in format!("{value:?}").chars() {
         if letter.is_uppercase() && !name.is_empty() {
             name.push('_');
         }
@@ -36,7 +42,11 @@ fn name_in_c(refusal: Refusal) -> String {
 #[test]
 fn refusals() {
     let refusals = Refusal::ALL.iter().map(|&refusal| (name_in_c(refusal), refusal.number() as usize));
-    assert_eq!(refusals.collect::<BTreeMap<_, _>>(), numbers(true));
+    let (answers, numbered) = numbers(true).into_iter().partition(|(name, _)| name.starts_with(ANSWER));
+    assert_eq!(refusals.collect::<BTreeMap<_, _>>(), numbered);
+    let of_next = [Next::NoMore, Next::Reading, Next::Full];
+    let of_next = of_next.map(|next| (ANSWER.to_owned() + &name_in_c(next), next as usize));
+    assert_eq!(BTreeMap::from(of_next), answers);
     assert!(Refusal::ALL.is_sorted());
     for &refusal in Refusal::ALL {
         assert_eq!(Refusal::from_number(refusal.number()), Some(refusal));

@@ -44,6 +44,10 @@ static const uint8_t fifth_block[] = {0x10, 0xc1, 0x00, 0xa0, 0x00, 0x01, 0xa8, 
 static const uint8_t low_block[] = {0x20, 0x90, 0x00, 0x00, 0x80, 0x00, 0x28, 0x00, 0x03, 0x00, 0x00};
 static const uint8_t high_block[] = {0x20, 0x90, 0x00, 0x12, 0x80, 0x01, 0xa8, 0x00, 0x0b, 0x00, 0x09};
 static uint32_t work[320];
+/* U's readings under G, of which the last is known too, and the table of an open listing of them. */
+enum { U_READINGS = 5 };
+static const uint8_t last_reading[] = {0x31, 0x00, 0x00, 0x00, 0xc7, 0x80};
+static uint32_t open_work[10240];
 static int failures;
 
 static void expect(int holds, const char *what) {
@@ -65,6 +69,39 @@ static void expect_sheet(int32_t answer, const uint32_t *result, size_t length, 
 static void fill_outputs(void) {
     memset(block, 0xa5, sizeof block);
     memset(sheet, 0xa5, sizeof sheet);
+}
+
+/* A listing of U under G from opening to its end. */
+static void expect_one_by_one(void) {
+    spireyerba_place place = {7, 0};
+    int32_t answer;
+    uint32_t handed;
+
+    expect(spireyerba_work_length(1, 4, SPIREYERBA_MAX_READINGS) == LENGTH(open_work), "an open listing has room for 256");
+    memset(open_work, 0xa5, sizeof open_work);
+    answer = spireyerba_open(g_block, LENGTH(g_block), u_block, LENGTH(u_block), &place, open_work, LENGTH(open_work) - 1);
+    expect(answer == -SPIREYERBA_LISTING_WORK && place.handed == 7 && open_work[0] == 0xa5a5a5a5, "a short table is refused");
+    fill_outputs();
+    answer = spireyerba_next(g_block, LENGTH(g_block), u_block, LENGTH(u_block), &place, open_work, LENGTH(open_work), block,
+                             LENGTH(reading));
+    expect(answer == -SPIREYERBA_ALTERED_WALK && place.handed == 7 && block[0] == 0xa5, "what was never opened hands out nothing");
+    answer = spireyerba_open(g_block, LENGTH(g_block), u_block, LENGTH(u_block), &place, open_work, LENGTH(open_work));
+    expect(answer == 0 && place.handed == 0 && place.opened == 1 && open_work[0] == 0, "a listing is opened");
+    for (handed = 1; handed <= U_READINGS; handed++) {
+        fill_outputs();
+        answer = spireyerba_next(g_block, LENGTH(g_block), u_block, LENGTH(u_block), &place, open_work, LENGTH(open_work), block,
+                                 LENGTH(reading));
+        expect(answer == SPIREYERBA_NEXT_READING && place.handed == handed && block[LENGTH(reading)] == 0xa5, "one more reading");
+        expect(handed > 1 || memcmp(block, reading, LENGTH(reading)) == 0, "the known one comes first");
+    }
+    expect(memcmp(block, last_reading, LENGTH(last_reading)) == 0, "the last one is the last of the listing");
+    answer = spireyerba_next(g_block, LENGTH(g_block), u_block, LENGTH(u_block), &place, open_work, LENGTH(open_work), block,
+                             LENGTH(reading));
+    expect(answer == SPIREYERBA_NEXT_NO_MORE && place.handed == U_READINGS, "then there are no more");
+    place.handed = SPIREYERBA_MAX_READINGS;
+    answer = spireyerba_next(g_block, LENGTH(g_block), u_block, LENGTH(u_block), &place, open_work, LENGTH(open_work), block,
+                             LENGTH(reading));
+    expect(answer == SPIREYERBA_NEXT_FULL, "after 256 the listing is full");
 }
 
 int main(void) {
@@ -162,6 +199,8 @@ int main(void) {
                SPIREYERBA_PANEL_MAX_READINGS * spireyerba_graph_reading_length(SPIREYERBA_PANEL_MAX_PLACES - 1, 256) ==
                    SPIREYERBA_PANEL_OUTPUT_MAX,
            "the panel's greatest sizes are by the same formulas");
+
+    expect_one_by_one();
 
     answer = spireyerba_utterance_to_block(g_block, LENGTH(g_block), silent_sheet, LENGTH(silent_sheet), silent_block,
                                            LENGTH(silent_block));

@@ -10,6 +10,7 @@
 //! | `heard` | slots or a graph, and the words that they offer |
 //! | `office` | rules as offices write them: the sheet, what it becomes, their derivations |
 //! | `conversions`, `check`, `chance`, `cost_ranges`, `listing`, `specimen` | the services over lent slices; the next phrase stands with the specimen, the panel's listing with the listing |
+//! | `open_listing` | readings one by one, from the full list; which ranks a work table shows to be found |
 //! | `derivation` | trees, their order, and all derivations sorted by it |
 //! | `nbest` | the N best trees of each cell, where all derivations are too many |
 //! | `compare` | one call of both on the same slices, held to each other |
@@ -29,6 +30,7 @@ pub mod heard;
 pub mod listing;
 pub mod nbest;
 pub mod office;
+pub mod open_listing;
 pub mod reading;
 pub mod refusal;
 pub mod seeded;

@@ -4,7 +4,8 @@
 use spireyerba::limits::{work_length, GRAMMAR_BLOCK_MAX, GRAMMAR_SHEET_MAX, GRAPH_BLOCK_MAX, GRAPH_READING_BLOCK_MAX};
 use spireyerba::limits::{MAX_READINGS, MAX_RULES, READING_BLOCK_MAX, UTTERANCE_BLOCK_MAX, UTTERANCE_SHEET_MAX};
 use spireyerba::limits::{PANEL_MAX_READINGS, PANEL_OUTPUT_MAX, PANEL_WORK_MAX};
-use spireyerba::{services, Body, Candidate, Edge, Grammar, Graph, Item, MarkedGrammar, Office, OfficeRule, Refusal};
+use spireyerba::services::{self, Next, Place};
+use spireyerba::{Body, Candidate, Edge, Grammar, Graph, Item, MarkedGrammar, Office, OfficeRule, Refusal};
 use spireyerba::{Rule, Utterance};
 use std::thread;
 
@@ -59,6 +60,7 @@ fn expect_answers(grammar: &Grammar, utterance: &Utterance) {
     assert_eq!(on_small_stack(|| services::next_phrase(&grammar_block, 6, false, &mut bytes)), Ok(true));
     assert_eq!(bytes[..6], [0, 0, 0, 0, 0, 1]);
     expect_list(&grammar_block, &block, READING_BLOCK_MAX);
+    expect_one_by_one(&grammar_block, &block, READING_BLOCK_MAX);
     expect_ranges(&grammar_block, &block);
 }
 
@@ -84,6 +86,24 @@ fn expect_list(grammar: &[u8], heard: &[u8], length: usize) {
     }
 }
 
+/// As many readings handed out one by one, the same as the listing's.
+fn expect_one_by_one(grammar: &[u8], heard: &[u8], length: usize) {
+    let (mut work, mut list) = (vec![7; work_length(32, 24, READINGS)], vec![0; READINGS * length]);
+    assert_eq!(services::listing(grammar, heard, MAX_READINGS, &mut work, &mut list), Ok(READINGS));
+    let (mut place, mut out) = (Place::default(), vec![0; length]);
+    assert_eq!(on_small_stack(|| services::open(grammar, heard, &mut place, &mut work)), Ok(()));
+    for listed in list.chunks_exact(length) {
+        let answer = on_small_stack(|| services::next(grammar, heard, &mut place, &mut work, &mut out));
+        assert_eq!((answer, &out[..]), (Ok(Next::Reading), listed));
+    }
+    assert_eq!(on_small_stack(|| services::next(grammar, heard, &mut place, &mut work, &mut out)), Ok(Next::Full));
+    // a table that was altered: the search may go any way
+    place.handed = 7;
+    work.iter_mut().step_by(3).for_each(|number| *number ^= 0x155);
+    let answer = on_small_stack(|| services::next(grammar, heard, &mut place, &mut work, &mut out));
+    assert!(matches!(answer, Ok(Next::Reading | Next::NoMore) | Err(Refusal::AlteredWalk)), "{answer:?}");
+}
+
 /// 25 places with four words over each step, so that every path has 24 edges.
 fn graph() -> Graph {
     let edge = |number| Edge { from: number / 4, to: number / 4 + 1, word: number % 4, cost: number };
@@ -97,6 +117,7 @@ fn listing_and_check_of_the_greatest_graph() {
         let block = graph().to_block(&grammar).expect("an accepted graph");
         assert_eq!(block.len(), GRAPH_BLOCK_MAX);
         expect_list(&grammar, &block, GRAPH_READING_BLOCK_MAX);
+        expect_one_by_one(&grammar, &block, GRAPH_READING_BLOCK_MAX);
     }
 }
 

@@ -12,6 +12,7 @@ use crate::output::{Output, Style};
 use crate::skip;
 use spireyerba::text::print_list;
 use spireyerba::{Error, GraphReading, Reading, Tree};
+use std::ops::RangeInclusive;
 
 pub const COMMAND: Command = Command {
     name: "list",
@@ -44,11 +45,23 @@ pub struct Listed {
 impl Listed {
     /// Lists so many readings of the utterance that the first two operands name.
     pub fn new(arguments: &Arguments, wanted: u32) -> Result<Self, Failure> {
+        let mut listed = Self::none_yet(arguments)?;
+        let list = listed.heard.list(&listed.grammar.named.grammar, wanted).map_err(Error::from)?;
+        list.into_iter().for_each(|found| listed.push(found));
+        Ok(listed)
+    }
+
+    /// What a list is of, and no reading yet.
+    pub fn none_yet(arguments: &Arguments) -> Result<Self, Failure> {
         let grammar = files::grammar(arguments.operands[0])?;
         let (heard, slots) = heard(arguments, &grammar)?;
-        let list = heard.list(&grammar.named.grammar, wanted).map_err(Error::from)?;
-        let (readings, paths) = list.into_iter().map(|found| (found.reading, found.path)).unzip();
-        Ok(Self { grammar, heard, readings, paths, slots })
+        Ok(Self { grammar, heard, readings: Vec::new(), paths: Vec::new(), slots })
+    }
+
+    /// Adds the reading that is next in the list.
+    pub fn push(&mut self, found: GraphReading) {
+        self.readings.push(found.reading);
+        self.paths.push(found.path);
     }
 
     /// Lists readings up to the one with a rank, which there has to be.
@@ -106,18 +119,19 @@ fn run(arguments: &Arguments, output: &mut Output) -> Result<(), Failure> {
             let shown = listed.readings.iter().map(|reading| listed.grammar.named.shown(reading));
             output.text(&print_list(&shown.collect::<Vec<_>>()))
         }
-        [_, _, true] => output.bytes(&json_of(&listed)),
+        [_, _, true] => output.bytes(&json_of(&listed, 1..=listed.readings.len())),
         [with_trees, ..] => print(&listed, with_trees, output),
     }
 }
 
-/// The readings as a line of JSON. Those of a word graph have edges, and those of slots that may be passed over the slots of
-/// their words.
-fn json_of(listed: &Listed) -> Vec<u8> {
+/// The readings with ranks from one to another as a line of JSON. Those of a word graph have edges, and those of slots that may
+/// be passed over the slots of their words.
+pub fn json_of(listed: &Listed, ranks: RangeInclusive<usize>) -> Vec<u8> {
     let named = &listed.grammar.named;
     let (names, mut line) = (json::Names::new(named), b"{\"readings\":[".to_vec());
-    for (rank, (reading, path)) in (1..).zip(listed.readings.iter().zip(&listed.paths)) {
-        names.begin_reading(&mut line, Some(rank), reading);
+    for rank in ranks {
+        let (reading, path) = (&listed.readings[rank - 1], &listed.paths[rank - 1]);
+        names.begin_reading(&mut line, Some(rank as u32), reading);
         match (&listed.slots, &listed.heard) {
             (Some(slots), _) => {
                 let slots = path.iter().map(|edge| slots[*edge as usize]);
@@ -140,14 +154,18 @@ pub fn print(listed: &Listed, with_trees: bool, output: &mut Output) -> Result<(
     for rank in 1..=listed.readings.len() {
         let mut text = line(listed, rank, output) + "\n";
         if with_trees {
-            let Listed { grammar, readings, .. } = listed;
-            let drawing = Drawing { grammar: &grammar.named, taken: &listed.taken(rank), output };
-            text += &drawing.draw(&listed.tree(&readings[rank - 1]), TREE_MARGIN);
-            text += if rank < readings.len() { "\n" } else { "" };
+            text += &drawn(listed, rank, output);
+            text += if rank < listed.readings.len() { "\n" } else { "" };
         }
         output.text(&text)?;
     }
     Ok(())
+}
+
+/// The tree of the reading with a rank.
+pub fn drawn(listed: &Listed, rank: usize, output: &Output) -> String {
+    let drawing = Drawing { grammar: &listed.grammar.named, taken: &listed.taken(rank), output };
+    drawing.draw(&listed.tree(&listed.readings[rank - 1]), TREE_MARGIN)
 }
 
 /// The reading with a rank in one line; words that the first reading does not have in their place are marked.

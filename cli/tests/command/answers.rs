@@ -133,18 +133,6 @@ fn why_of_equal_weights() {
 }
 
 #[test]
-fn pick_one() {
-    let pick = |answers: &[u8]| run_with(&doors(), "pick grammar.txt utterance.txt", answers);
-    let taken = pick(b"\nwhat\ny\n");
-    assert_eq!((taken.status, taken.out.as_str()), (0, " 2   80  door twenty four oak fire sixty\n"));
-    assert!(taken.err.contains(" 1   72  door twenty four oak fire thirty  [Enter, y, q] "), "{}", taken.err);
-    assert!(taken.err.contains("Enter for the next"), "{}", taken.err);
-    assert!(refused(pick(b"\nq\n"), 1).ends_with("none taken\n"));
-    assert!(refused(pick(b""), 1).ends_with("none taken\n"));
-    assert!(refused(pick(&[b'\n'; 16]), 1).ends_with("none taken, and there are no more readings\n"));
-}
-
-#[test]
 fn check_a_reading() {
     let check = |reading: &str| run_with(&doors(), "check grammar.txt utterance.txt -", reading.as_bytes());
     let passes = answered(check("72 0 2 12 3 13 15 8 17 11 20 21"), "check");

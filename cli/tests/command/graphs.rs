@@ -77,12 +77,6 @@ rule 18                            Leaf -> \"glass\" [5]         +5
 }
 
 #[test]
-fn pick_one() {
-    let taken = run_with(&doors_graph(), "pick grammar.txt graph.txt", b"\ny\n");
-    assert_eq!((taken.status, taken.out.trim_start()), (0, "2   80  door forty oak fire thirty\n"));
-}
-
-#[test]
 fn check_a_reading() {
     let check = |reading: &str| run_with(&doors_graph(), "check grammar.txt graph.txt -", reading.as_bytes());
     let passes = answered(check("80 0 2 12 5 8 17 11 20 21 | 0 3 7 9 12"), "check");

@@ -7,6 +7,7 @@ mod common;
 mod graphs;
 mod lattices;
 mod offices;
+mod picks;
 mod random_skips;
 mod readme;
 mod report;

@@ -135,7 +135,7 @@ fn the_page_and_what_can_be_said() {
         assert_eq!(answer(words), answered(run_in(&doors(), words), words));
     }
     let taken = run_with(&doors_office(), "pick grammar.txt utterance.txt", b"y\n");
-    assert_eq!(taken.out, " 1   72  door twenty four oak fire thirty\n");
+    assert_eq!(taken.out, "1  72  door twenty four oak fire thirty\n");
 }
 
 #[test]

@@ -2,11 +2,13 @@
 -- derivation's least derivations. For the index that it makes is one, and the ranges of accepted meanings meet all that the theory
 -- assumes.
 use mathlib.Core.Path.{_≡_, refl, sym, _∙_}
-use mathlib.Core.List.{List}
-use Prim.Native.Nat.{ℕ, _+_, _*_, _/_, _≤_, _<_}
+use mathlib.Core.Bool.{true, false}
+use mathlib.Core.List.{List, _++_}
+use Prim.Native.Nat.{ℕ, suc, _+_, _*_, _/_, _≤_, _<_}
 use native.Mathlib.Nat.{le-refl}
 use native.Mathlib.Omega.{arith}
 use lib.ListN.{length, replicate, length-take, length-replicate}
+use borrow.Author.Tests.{eq-eqb, ne-eqb}
 use Rattle.packing.specs.Meaning.{Grammar, Heard, slots, graph, lastPlace, heardEdges}
 use Rattle.packing.specs.Utterance.{utteranceEntries}
 use Rattle.packing.specs.Valid.{ValidGrammar, ValidHeard}
@@ -22,17 +24,19 @@ use Rattle.derivation.proofs.Ranges.{all-at, Within, valid-rules, valid-sizes, 
 use Rattle.derivation.proofs.Paths.{forward-weight, forward-costs}
 use Rattle.derivation.proofs.HeardReadings.{heard-forward, heard-cheap, heard-last}
 use Rattle.chart_table.specs.declared.Layout.{Layout}
-use Rattle.chart_table.specs.Table.{root, clear}
+use Rattle.chart_table.specs.Table.{root, cellNumber, priceAt, clear}
 use Rattle.chart_index.specs.Index.{indexNumbers}
 use Rattle.chart_index.specs.Build.{makeIndex}
 use Rattle.chart_index.proofs.Index.{indexed}
-use Rattle.chart.specs.Chart.{layOut, enumerate, rootsFound, rootWeight, rootTrace}
+use Rattle.chart_search.specs.Search.{nextOfRoot}
+use Rattle.chart.specs.Chart.{layOut, enumerate, rootsFound, rootWeight, rootTrace, rootFound, rootStands}
 use Rattle.chart_theory.proofs.Table.Cells.{InChart}
 use Rattle.chart_theory.proofs.Invariant.{Setting}
-use Rattle.chart_theory.proofs.Chart.{Lists, search-lists}
+use Rattle.chart_theory.proofs.Search.Passes.{Listed, next-known}
+use Rattle.chart_theory.proofs.Chart.{Lists, search-lists, known-step, first-listed, front-size}
 
 -- there is a place behind the first, and at most 7 edges for each slot, or 96
-heard-sizes : (W : ℕ) (h : Heard) → ValidHeard W h → (1 ≤ lastPlace h) × (length (heardEdges h) ≤ 168)
+pub heard-sizes : (W : ℕ) (h : Heard) → ValidHeard W h → (1 ≤ lastPlace h) × (length (heardEdges h) ≤ 168)
 unfolding utteranceEntries
 heard-sizes W (slots u) ((some, few), f) = (some, omega (arith, slots-edges W 0 u f))
 heard-sizes W (graph h) v = (omega (arith, valid-places W h v), omega (arith, valid-edge-count W h v))
@@ -112,3 +116,41 @@ module _ (g : Grammar) (h : Heard) (N : ℕ) where
         (rootsFound (enumerate rules (length (g .rules)) edge-array (length (heardEdges h)) layout size) layout)
     unfolding enumerate layOut
     chart-holds size room = holds rules _ (search-lists setting in-root size (omega arith))
+
+    -- one by one: where the ranks of the root are known up to x, the next is known after a further step
+    pub next-reached : (x : ℕ) (t : List ℕ) → x + 1 < N → Listed g (heardEdges h) layout x t
+        → Listed g (heardEdges h) layout (suc x) (nextOfRoot rules edge-array index layout t x)
+    unfolding layOut
+    next-reached x t more listed = next-known setting in-root x t (omega arith) listed
+
+    -- the first is, where the chart has filled the front of enough zeros, in a layout of one rank
+    pub first-reached : (rest : ℕ) → 4 * (layout .cells * N) ≤ 4 * layout .cells + rest
+        → Listed g (heardEdges h) layout 0
+        (enumerate rules (length (g .rules)) edge-array (length (heardEdges h)) (layOut (g .symbols) (lastPlace h) 1) (4 * layout .cells) ++ replicate rest 0)
+    unfolding enumerate layOut
+    first-reached rest room = first-listed setting in-root rest room
+
+    pub front-filled : length (enumerate rules (length (g .rules)) edge-array (length (heardEdges h)) (layOut (g .symbols) (lastPlace h) 1) (4 * layout .cells))
+        ≡ 4 * layout .cells
+    unfolding enumerate layOut
+    front-filled = front-size setting in-root
+
+    -- and then rank x is the derivation of that place, or there is none
+    pub record Reached (t : List ℕ) (x : ℕ) : Type 0 where
+      pub some : x < length (derivations g h)
+          → (rootFound t layout x ≡ true) × (rootStands t rules layout x ≡ true) × ((z : Tree) × HoldsRank rules t x z)
+      pub none : length (derivations g h) ≤ x → rootFound t layout x ≡ false
+
+    pub rank-reached : (t : List ℕ) (x : ℕ) → Listed g (heardEdges h) layout x t → x < N → Reached t x
+    unfolding layOut rootFound
+    rank-reached t x listed kept =
+        let step = known-step setting in-root t x listed kept in
+        record {
+          some = λ below.
+              let (found, standing, (z, rank)) = step .some below in (
+                rw (ne-eqb (priceAt t layout (cellNumber layout (root layout)) x) 0 (λ e. omega (arith, e, found))),
+                standing,
+                (z, record { place = at-take N (derivations g h) x z .1 (rank .place, kept); weighs = rank .weighs; nodes = rank .nodes }),
+              );
+          none = λ beyond. rw (eq-eqb (priceAt t layout (cellNumber layout (root layout)) x) 0 (step .none beyond));
+        }

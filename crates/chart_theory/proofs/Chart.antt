@@ -2,7 +2,8 @@
 -- rank, as many as are kept or as there are; a found rank has the weight of its derivation, its back trace has the nodes of the derivation, and
 -- clearing the entries found leaves zeros. For the search keeps the invariant, and in the end knows every rank that is kept.
 use mathlib.Core.Path.{_≡_, refl, sym, ap, _∙_}
-use mathlib.Core.List.{List, _∷_, _++_}
+use mathlib.Core.Bool.{true}
+use mathlib.Core.List.{List, [], _∷_, _++_}
 use Prim.Native.Nat.{ℕ, zero, suc, _+_, _-_, _*_, _/_, _≤_, _<_, min}
 use native.Mathlib.Nat.{le-refl, zero-add, suc-add}
 use native.Mathlib.Decide.{decLt}
@@ -17,16 +18,16 @@ use Rattle.chart_keys.specs.Keys.{weightUnit}
 use Rattle.chart_table.specs.declared.Layout.{Layout}
 use Rattle.chart_table.specs.Table.{root, cellNumber, clear}
 use Rattle.packing.specs.Loop.{iter}
-use Rattle.chart_search.specs.Search.{firstPass, nextOfRoot, search}
-use Rattle.chart.specs.Chart.{rootsFound, rootWeight, rootTrace}
+use Rattle.chart_search.specs.Search.{search}
+use Rattle.chart.specs.Chart.{rootsFound, rootWeight, rootTrace, rootStands}
 use Rattle.chart_theory.proofs.Table.Keys.{priceNumber}
 use Rattle.chart_theory.proofs.Table.Cells.{InChart, rankedIn}
 use Rattle.chart_theory.proofs.Table.Entries.{cell-below, found-kept}
 use Rattle.chart_theory.proofs.Table.Cleared.{clear-zeros}
 use Rattle.chart_theory.proofs.Invariant.{Setting, priceIn, Found, Invariant}
 use Rattle.chart_theory.proofs.Search.Passes.{Zeros, zeros-invariant, Listed, steps-known, search-known, found-exactly, count-found}
-use Rattle.chart_theory.proofs.Search.Trace.{traced}
-use Rattle.chart_theory.proofs.Plane.{single, pass-plane}
+use Rattle.chart_theory.proofs.Search.Trace.{traced, stood}
+use Rattle.chart_theory.proofs.Plane.{single, pass-plane, pass-size}
 
 -- rank x of the root is the tree z
 pub record RankIs (g : Grammar) (es : List Edge) (rules : List ℕ) (d : Layout) (t : List ℕ) (x : ℕ) (z : Tree) : Type 0 where
@@ -68,7 +69,7 @@ module _ {g : Grammar} {es : List Edge} {rules edges index : List ℕ} {d : Layo
 
   module _ (in-root : InChart d (root d)) where
     -- a rank of the root that is found
-    pub rank-found : {k : ℕ} (t : List ℕ) → Listed s k t → (x : ℕ) → Found d t (root d) x → (z : Tree) × RankIs g es rules d t x z
+    pub rank-found : {k : ℕ} (t : List ℕ) → Listed g es d k t → (x : ℕ) → Found d t (root d) x → (z : Tree) × RankIs g es rules d t x z
     unfolding rootWeight rootTrace
     rank-found t listed x found =
         let (v, held) = listed .invariant .holds x in-root found in
@@ -81,7 +82,7 @@ module _ {g : Grammar} {es : List Edge} {rules edges index : List ℕ} {d : Layo
           },
         )
 
-    module _ (t : List ℕ) (listed : Listed s (d .ranks - 1) t) where
+    module _ (t : List ℕ) (listed : Listed g es d (d .ranks - 1) t) where
       number : rootsFound t d ≡ min (d .ranks) (length (rankedIn g es (root d)))
       unfolding rootsFound
       number = count-found t d (cellNumber d (root d)) _ (λ x kept. found-exactly s in-root (d .ranks - 1) t listed x (omega arith) kept)
@@ -97,34 +98,39 @@ module _ {g : Grammar} {es : List Edge} {rules edges index : List ℕ} {d : Layo
         let listed = search-known s in-root (replicate size 0) zeros in
         record { number = number _ listed; each = each _ listed; clears = invariant-clears (listed .invariant) }
 
-    -- the first pass from enough zeros, and then k further ranks of the root looked for, one by one
-    abbrev pub stepped : ℕ → ℕ → List ℕ
-    stepped size k = iter (nextOfRoot rules edges index d) (firstPass rules edges index d (replicate size 0)) k
+    -- the ranks of the root one by one. Rank x, known, is the tree of that place, and it stands, or there is none
+    pub record Step (t : List ℕ) (x : ℕ) : Type 0 where
+      pub some : x < length (rankedIn g es (root d)) → Found d t (root d) x × (rootStands t rules d x ≡ true) × ((z : Tree) × RankIs g es rules d t x z)
+      pub none : length (rankedIn g es (root d)) ≤ x → priceIn d t (root d) x ≡ 0
 
-    -- its rank k is the tree of that place, or there is none
-    pub record Step (t : List ℕ) (k : ℕ) : Type 0 where
-      pub some : k < length (rankedIn g es (root d)) → Found d t (root d) k × ((z : Tree) × RankIs g es rules d t k z)
-      pub none : length (rankedIn g es (root d)) ≤ k → priceIn d t (root d) k ≡ 0
-
-    pub steps-list : (size : ℕ) → 4 * (d .cells * d .ranks) ≤ size → (k : ℕ) → k < d .ranks → Step (stepped size k) k
-    steps-list size room k kept =
-        let zeros = zeros-invariant d (replicate size 0) (replicate-zeros size) g es (rw length-replicate room) in
-        let listed = steps-known s in-root (replicate size 0) zeros k (omega arith) in
-        let exactly = found-exactly s in-root k (stepped size k) listed k (le-refl k) kept in
+    pub known-step : (t : List ℕ) (x : ℕ) → Listed g es d x t → x < d .ranks → Step t x
+    unfolding rootStands
+    known-step t x listed kept =
+        let exactly = found-exactly s in-root x t listed x (le-refl x) kept in
         record {
-          some = λ h. let found = exactly .1 h in (found, rank-found (stepped size k) listed k found);
-          none = λ h. go (decLt 0 (priceIn d (stepped size k) (root d) k)) (exactly .0) h;
+          some = λ h. let found = exactly .1 h in (
+            found,
+            stood s (listed .invariant) (d .places) (root d) x in-root (omega arith) found,
+            rank-found t listed x found,
+          );
+          none = λ h. go (decLt 0 (priceIn d t (root d) x)) (exactly .0) h;
         }
       where
-        go : Dec (0 < priceIn d (stepped size k) (root d) k) → (Found d (stepped size k) (root d) k → k < length (rankedIn g es (root d)))
-            → length (rankedIn g es (root d)) ≤ k → priceIn d (stepped size k) (root d) k ≡ 0
+        go : Dec (0 < priceIn d t (root d) x) → (Found d t (root d) x → x < length (rankedIn g es (root d)))
+            → length (rankedIn g es (root d)) ≤ x → priceIn d t (root d) x ≡ 0
         go (yes found) known h = absurd (omega (arith, known found))
         go (no absent) known h = omega arith
 
-    -- the first of them, from a table that keeps one rank of each cell, with what else was lent behind it
-    pub first-step : (rest : ℕ)
-        → search rules edges index (single d) (replicate (4 * d .cells) 0) ++ replicate rest 0 ≡ stepped (4 * d .cells + rest) 0
+    -- the first is known after a first pass in a table that keeps one rank of each cell, with what else was lent behind it
+    pub first-listed : (rest : ℕ) → 4 * (d .cells * d .ranks) ≤ 4 * d .cells + rest
+        → Listed g es d 0 (search rules edges index (single d) (replicate (4 * d .cells) 0) ++ replicate rest 0)
     unfolding search iter
-    first-step rest =
-        rw (replicate-add (4 * d .cells) rest)
-        (sym (pass-plane s (replicate rest 0) (replicate (4 * d .cells) 0) (rw length-replicate refl)))
+    first-listed rest room =
+        let size = 4 * d .cells + rest in
+        let zeros = zeros-invariant d (replicate size 0) (replicate-zeros size) g es (rw length-replicate room) in
+        let plane = pass-plane s (replicate rest 0) (replicate (4 * d .cells) 0) (rw length-replicate refl) in
+        rw (← plane, ← replicate-add (4 * d .cells) rest) (steps-known s in-root (replicate size 0) zeros 0 (omega arith))
+
+    pub front-size : length (search rules edges index (single d) (replicate (4 * d .cells) 0)) ≡ 4 * d .cells
+    unfolding search iter
+    front-size = pass-size s [] (replicate (4 * d .cells) 0) (rw length-replicate refl)

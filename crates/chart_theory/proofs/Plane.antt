@@ -147,9 +147,15 @@ module _ {g : Grammar} {es : List Edge} {rules edges index : List ℕ} {d : Layo
       iter-both Fronted _ _ t u (d .places + 1 - len) front (λ x y i l before. heads-plane x y i (i + len) (omega arith) (omega arith) before)
 
   -- the first pass over a table and over its front
-  pub pass-plane : (u : List ℕ) → length u ≡ 4 * d .cells
-      → firstPass rules edges index d (u ++ r) ≡ firstPass rules edges index (single d) u ++ r
-  unfolding firstPass
-  pass-plane u size =
-      iter-both Fronted _ _ (u ++ r) u (d .places) (record { is = refl; size = size })
-      (λ x y n l before. length-plane x y (n + 1) (omega arith) (omega arith) before) .is
+  module _ (u : List ℕ) (size : length u ≡ 4 * d .cells) where
+    pass-fronted : Fronted (firstPass rules edges index d (u ++ r)) (firstPass rules edges index (single d) u)
+    unfolding firstPass
+    pass-fronted =
+        iter-both Fronted _ _ (u ++ r) u (d .places) (record { is = refl; size = size })
+        (λ x y n l before. length-plane x y (n + 1) (omega arith) (omega arith) before)
+
+    pub pass-plane : firstPass rules edges index d (u ++ r) ≡ firstPass rules edges index (single d) u ++ r
+    pass-plane = pass-fronted .is
+
+    pub pass-size : length (firstPass rules edges index (single d) u) ≡ 4 * d .cells
+    pass-size = pass-fronted .size

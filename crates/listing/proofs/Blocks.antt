@@ -61,7 +61,7 @@ abbrev pub form : Grammar → Heard → Form
 form g h = formOf (isGraph h) (lastPlace h) (length (g .rules))
 
 module _ (g : Grammar) (N : ℕ) (rules t : List ℕ) where
-  block-is : (h : Heard) → 1 ≤ lastPlace h → lastPlace h ≤ 24 → (x : ℕ) (z : Tree) → HoldsRank g h N rules t x z → Derivation g h z
+  pub block-is : (h : Heard) → 1 ≤ lastPlace h → lastPlace h ≤ 24 → (x : ℕ) (z : Tree) → HoldsRank g h N rules t x z → Derivation g h z
       → blockAt t rules (layout g h N) (form g h) x ≡ packed g h z
   unfolding blockAt layOut reading graphReading
   block-is (slots u) some few x z rank derived =

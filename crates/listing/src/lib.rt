@@ -24,7 +24,7 @@ ghost use Rattle.grammar_reader.specs.Answer.{Bounded};
 ghost use Rattle.chart_table.specs.Table.{Sized};
 ghost use Rattle.listing.specs.Listing.{library, Within, list, listedOf, outputAfter, workAfter};
 ghost use Rattle.listing.specs.Demand3.{Demand3};
-ghost use Rattle.listing.specs.Model.{shortage, formOf, FormFor, blockAt, blocksAt, Filled, HeardListed, GrammarListed};
+ghost use Rattle.listing.specs.Model.{shortage, formOf, FormFor, blockAt, ownSizeAt, blocksAt, Filled, HeardListed, GrammarListed};
 
 // What the listing answers: the number found.
 pub enum Listed {
@@ -59,14 +59,14 @@ struct Asked {
 }
 
 // How readings are written: of a graph or of slots, by this many rules, each into this many bytes of the output.
-struct Form {
-    graph: bool,
-    rules: usize,
-    size: usize,
+pub struct Form {
+    pub graph: bool,
+    pub rules: usize,
+    pub size: usize,
 }
 
 // The form of readings up to the last place n.
-fn form_of(graph: bool, n: usize, rules: usize) -> Form
+pub fn form_of(graph: bool, n: usize, rules: usize) -> Form
     requires { ⌜ (1 ≤ n) × (n ≤ 24) × (1 ≤ rules) × (rules ≤ 256) ⌝ }
     ensures { λ f. ⌜ (f ≡ formOf graph n rules) × (f .size ≤ 73) ⌝ }
 {
@@ -106,10 +106,19 @@ fn shortage(asked: Asked, symbols: usize, n: usize, size: usize, work: usize, ou
     0
 }
 
-// The reading of a rank of the root, in front of what stands in `out` beyond it. A path of n edges has 2 n - 1 nodes.
-fn write_rank(t: &[u32], rules: &[u32], form: Form, d: Layout, x: usize, out: &mut [u8])
+// The reading of a rank of the root, in front of what stands in `out` beyond it: its own length, behind which a graph's has zeros. A path
+// of n edges has 2 n - 1 nodes.
+pub fn write_rank(
+    t: &[u32],
+    rules: &[u32],
+    form: Form,
+    d: Layout,
+    x: usize,
+    out: &mut [u8],
+) -> usize
     requires { ⌜ (Sized d) × (FormFor (d .places) form) × (x < d .ranks) × (form .size ≤ length (now out)) ⌝ }
-    ensures { λ _. ⌜ now (out .exit) ≡ blockAt (now (t .entry)) (now (rules .entry)) d form x ++ drop (form .size) (now (out .entry)) ⌝ }
+    ensures { λ r. ⌜ (now (out .exit) ≡ blockAt (now (t .entry)) (now (rules .entry)) d form x ++ drop (form .size) (now (out .entry)))
+        × (r ≡ ownSizeAt (now (t .entry)) (now (rules .entry)) d form x) ⌝ }
 {
     let mut trace = [0u32; TRACE_LENGTH];
     let numbers = chart::trace_root(t, rules, d, x, &mut trace);
@@ -117,9 +126,10 @@ fn write_rank(t: &[u32], rules: &[u32], form: Form, d: Layout, x: usize, out: &m
     if form.graph {
         let n = (numbers / NUMBERS_PER_NODE + 1) / 2;
         write_graph_reading(out, form.size, n, weight, rules, form.rules, &trace);
-        return;
+        return graph_reading_length(n, form.rules);
     }
     write_reading(out, d.places, form.rules, weight, &trace);
+    form.size
 }
 
 // The readings of the first m ranks, one after another.

@@ -36,6 +36,13 @@ ListingRow n = Between 21 23 n
 abbrev pub PanelRow : ℕ → Type 0
 PanelRow n = (ListingRow ∪ Between 57 58) n
 
+-- an open listing: "Opening refuses for the blocks, then with 22"; a call has "22 for that table and 23 for one reading; 53 .. last of all"
+abbrev pub OpenRow : ℕ → Type 0
+OpenRow n = n ≡ 22
+
+abbrev pub CallRow : ℕ → Type 0
+CallRow n = (Between 22 23 ∪ Between 53 53) n
+
 abbrev pub SpecimenRow : ℕ → Type 0
 SpecimenRow n = Between 25 26 n
 

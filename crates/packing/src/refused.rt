@@ -65,6 +65,9 @@ pub const EDGE_PLACES: u32 = 51; // from not below to, or to not below P
 
 pub const EDGE_REPEAT: u32 = 52; // from, to and word equal an earlier edge's
 
+// Of an open listing.
+pub const OPEN_ALTERED: u32 = 53; // the walk that altered numbers spell is not a reading that passes
+
 // Of an office sheet.
 pub const ITEM_COUNT: u32 = 54; // items of a body outside 1 to 6
 

@@ -6,6 +6,10 @@ use cost_ranges::Ranged;
 use listing::Listed;
 use listing::PANEL;
 use listing::listing_within;
+use open_listing::Answer;
+use open_listing::OPENED;
+use open_listing::Opened;
+use open_listing::Place;
 use packing::Written;
 use specimen::Answered;
 ghost use mathlib.Core.Path.{_≡_};
@@ -22,7 +26,14 @@ ghost use Rattle.specimen.specs.Specimen.{specimen, outputOf};
 ghost use Rattle.next_phrase.specs.NextPhrase.{next};
 ghost use Rattle.spireyerba.specs.Code.{checkCode, chanceCode, chanceAfter, listCode, lengthCode, stringCode, rangesCode, leastAfter, greatestAfter};
 ghost use Rattle.spireyerba.specs.Demands as demands;
+ghost use Rattle.spireyerba.specs.OneByOne as onebyone;
+ghost use Rattle.spireyerba.specs.OneByOne.{placeAt};
 ghost use Rattle.spireyerba.specs.Model.{writtenCode, SmallWritten, listedCode, SmallListed};
+
+// What a call of an open listing answers: a reading was handed out; all that can be listed were.
+const ONE_READING: i32 = 1;
+
+const ALL_HANDED: i32 = 2;
 
 // A count as a C number.
 fn count(n: usize) -> i32
@@ -60,6 +71,13 @@ fn listed_code(l: Listed) -> i32
         Listed::Found(m) => count(m),
         Listed::Refused(n) => refusal(n),
     }
+}
+
+// What a call of an open listing answers, as a C number, and its place afterwards.
+struct Moved {
+    code: i32,
+    handed: u32,
+    opened: u32,
 }
 
 // The block of a grammar sheet, at the front of the output.
@@ -258,4 +276,97 @@ pub extern "C" fn spireyerba_cost_ranges(
         }
         Ranged::Refused(n) => refusal(n),
     }
+}
+
+// Opens a listing whose place was this.
+fn open_call(grammar: &[u8], utterance: &[u8], work: &mut [u32], handed: u32, opened: u32) -> Moved
+    ensures { λ r. ⌜ onebyone.Open (now (grammar .entry)) (now (utterance .entry)) (placeAt handed opened) (now (work .entry)) (r .code) (placeAt (r .handed) (r .opened)) (now (work .exit)) ⌝ }
+{
+    let answer = open_listing::open(grammar, utterance, work);
+    match answer {
+        Opened::Opened => Moved {
+            code: 0,
+            handed: 0,
+            opened: OPENED,
+        },
+        Opened::Refused(n) => Moved {
+            code: refusal(n),
+            handed,
+            opened,
+        },
+    }
+}
+
+// One more reading of an open listing whose place is this.
+fn next_call(
+    grammar: &[u8],
+    utterance: &[u8],
+    work: &mut [u32],
+    out: &mut [u8],
+    handed: u32,
+    opened: u32,
+) -> Moved
+    ensures { λ r. ⌜ onebyone.Next (now (grammar .entry)) (now (utterance .entry)) (placeAt handed opened) (now (work .entry)) (now (out .entry)) (r .code) (placeAt (r .handed) (r .opened)) (now (work .exit)) (now (out .exit)) ⌝ }
+{
+    let answer = open_listing::next(grammar, utterance, Place { handed, opened }, work, out);
+    match answer {
+        Answer::Reading => Moved {
+            code: ONE_READING,
+            handed: handed + 1,
+            opened,
+        },
+        Answer::NoMore => Moved {
+            code: 0,
+            handed,
+            opened,
+        },
+        Answer::Full => Moved {
+            code: ALL_HANDED,
+            handed,
+            opened,
+        },
+        Answer::Refused(n) => Moved {
+            code: refusal(n),
+            handed,
+            opened,
+        },
+    }
+}
+
+// Opens a listing: 0, with the place of no readings handed out and the work table all zeros.
+#[no_mangle]
+pub extern "C" fn spireyerba_open(
+    grammar: &[u8],
+    utterance: &[u8],
+    place: &mut Place,
+    work: &mut [u32],
+) -> i32
+    ensures { λ r. ⌜ onebyone.Open (now (grammar .entry)) (now (utterance .entry)) (now (place .entry)) (now (work .entry)) r (now (place .exit)) (now (work .exit)) ⌝ }
+{
+    let handed = place.handed;
+    let opened = place.opened;
+    let moved = open_call(grammar, utterance, work, handed, opened);
+    place.handed = moved.handed;
+    place.opened = moved.opened;
+    moved.code
+}
+
+// One more reading of an open listing at the front of the output: 1, or 0 where there are no more and 2 where all that can be listed were handed
+// out.
+#[no_mangle]
+pub extern "C" fn spireyerba_next(
+    grammar: &[u8],
+    utterance: &[u8],
+    place: &mut Place,
+    work: &mut [u32],
+    out: &mut [u8],
+) -> i32
+    ensures { λ r. ⌜ onebyone.Next (now (grammar .entry)) (now (utterance .entry)) (now (place .entry)) (now (work .entry)) (now (out .entry)) r (now (place .exit)) (now (work .exit)) (now (out .exit)) ⌝ }
+{
+    let handed = place.handed;
+    let opened = place.opened;
+    let moved = next_call(grammar, utterance, work, out, handed, opened);
+    place.handed = moved.handed;
+    place.opened = moved.opened;
+    moved.code
 }

@@ -6,6 +6,7 @@ pub mod conversions;
 pub mod cost_ranges;
 pub mod listing;
 pub mod next_phrase;
+pub mod open_listing;
 pub mod specimen;
 
 use crate::seeded::rng::{Noise, Rng};
@@ -34,6 +35,15 @@ impl<T: Noise> Lent<T> {
 
     pub fn slice(&self) -> &[T] {
         &self.cells[GUARD..self.cells.len() - GUARD]
+    }
+
+    /// Whether what stands around it is what stands around another of the same length.
+    pub fn has_guards_of(&self, other: &Self) -> bool
+    where
+        T: PartialEq,
+    {
+        let end = GUARD + self.slice().len();
+        self.cells[..GUARD] == other.cells[..GUARD] && self.cells[end..] == other.cells[end..]
     }
 
     pub fn slice_mut(&mut self) -> &mut [T] {

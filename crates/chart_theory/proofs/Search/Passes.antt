@@ -59,6 +59,11 @@ module _ (d : Layout) (t : List ℕ) (zeros : Zeros t) where
     queued = λ x in-chart h. absurd (none-found _ x h);
   }
 
+-- the ranks of the root are known up to x
+pub record Listed (g : Grammar) (es : List Edge) (d : Layout) (x : ℕ) (u : List ℕ) : Type 0 where
+  pub invariant : Invariant g es d (suc (d .places)) u
+  pub known : (y : ℕ) → y ≤ x → Known g es d u (root d) y
+
 module _ {g : Grammar} {es : List Edge} {rules edges index : List ℕ} {d : Layout} (s : Setting g es rules edges index d) where
   -- the first rank of each head below x is known over a span
   record Heads (m : ℕ) (t : List ℕ) (i k x : ℕ) (u : List ℕ) : Type 0 where
@@ -139,13 +144,8 @@ module _ {g : Grammar} {es : List Edge} {rules edges index : List ℕ} {d : Layo
       iter-keeps (λ x u. Invariant g es d (suc x) u) _ t (d .places) invariant (λ x u l before.
       rw (add-one x) (length-known u (suc x) before (omega arith) l))
 
-  -- the ranks of the root are known up to x
-  pub record Listed (x : ℕ) (u : List ℕ) : Type 0 where
-    pub invariant : Invariant g es d (suc (d .places)) u
-    pub known : (y : ℕ) → y ≤ x → Known g es d u (root d) y
-
   module _ (in-root : InChart d (root d)) where
-    next-known : (x : ℕ) (u : List ℕ) → x < d .ranks - 1 → Listed x u → Listed (suc x) (nextOfRoot rules edges index d u x)
+    pub next-known : (x : ℕ) (u : List ℕ) → x < d .ranks - 1 → Listed g es d x u → Listed g es d (suc x) (nextOfRoot rules edges index d u x)
     unfolding nextOfRoot
     next-known x u l listed = rw (add-one x) (go (eqb weight 0) refl)
       where
@@ -157,7 +157,7 @@ module _ {g : Grammar} {es : List Edge} {rules edges index : List ℕ} {d : Layo
         at-end absent more = omega (arith, listed .known x (le-refl x) (omega arith) (omega arith))
 
         go : (b : Bool) → eqb weight 0 ≡ b
-            → Listed (suc x) (pick b u (extend d (nextOfSpan rules edges index d (d .places)) u (root d) (suc x)))
+            → Listed g es d (suc x) (pick b u (extend d (nextOfSpan rules edges index d (d .places)) u (root d) (suc x)))
         go true e = record {
           invariant = listed .invariant;
           known = λ y h. ⊎-elim (λ same. rw same (λ kept more. absurd (at-end (eqb-true weight 0 e) more)))
@@ -174,20 +174,20 @@ module _ {g : Grammar} {es : List Edge} {rules edges index : List ℕ} {d : Layo
 
     -- after the first pass and x further ranks of the root
     pub steps-known : (t : List ℕ) → Invariant g es d 1 t → (x : ℕ) → x ≤ d .ranks - 1
-        → Listed x (iter (nextOfRoot rules edges index d) (firstPass rules edges index d t) x)
+        → Listed g es d x (iter (nextOfRoot rules edges index d) (firstPass rules edges index d t) x)
     steps-known t invariant x few =
         let after = first-pass-known t invariant in
         let first : (y : ℕ) → y ≤ 0 → Known g es d (firstPass rules edges index d t) (root d) y =
         λ y h. let same : y ≡ 0 = omega arith in rw same (after .first-known in-root (omega arith)) in
-        iter-keeps Listed (nextOfRoot rules edges index d) (firstPass rules edges index d t) x
+        iter-keeps (Listed g es d) (nextOfRoot rules edges index d) (firstPass rules edges index d t) x
         (record { invariant = after; known = first }) (λ y u l. next-known y u (omega arith))
 
-    pub search-known : (t : List ℕ) → Invariant g es d 1 t → Listed (d .ranks - 1) (search rules edges index d t)
+    pub search-known : (t : List ℕ) → Invariant g es d 1 t → Listed g es d (d .ranks - 1) (search rules edges index d t)
     unfolding search
     search-known t invariant = steps-known t invariant (d .ranks - 1) (le-refl (d .ranks - 1))
 
     -- so a rank that is kept, of those known, is found exactly if there is one
-    pub found-exactly : (x : ℕ) (u : List ℕ) → Listed x u → (y : ℕ) → y ≤ x → y < d .ranks
+    pub found-exactly : (x : ℕ) (u : List ℕ) → Listed g es d x u → (y : ℕ) → y ≤ x → y < d .ranks
         → Found d u (root d) y ↔ (y < length (rankedIn g es (root d)))
     found-exactly x u listed y below kept = (
       (λ h. let (v, held) = listed .invariant .holds y in-root h in rank-below g es (root d) y (held .place)),

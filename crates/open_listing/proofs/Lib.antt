@@ -1,0 +1,11 @@
+pub mod Zeros
+pub mod HandOut
+pub mod Searched
+pub mod Own
+pub mod Counted
+pub mod Plans
+pub mod Readings
+pub mod Promises
+pub mod Steps
+pub mod Outcome
+pub mod Refused

@@ -1,0 +1,50 @@
+-- The plan of what was read of both blocks, and what a table for all ranks and an output for one reading need.
+use mathlib.Core.Path.{_≡_, refl, ap}
+use Prim.Native.Nat.{ℕ, _*_, _≤_}
+use native.Mathlib.Omega.{arith}
+use Rattle.packing.specs.Meaning.{Grammar, Heard, lastPlace}
+use Rattle.derivation.specs.Heard.{outputLength}
+use Rattle.chart_table.specs.declared.Layout.{Layout}
+use Rattle.chart_table.specs.Table.{Sized}
+use Rattle.chart.specs.Chart.{layOut}
+use Rattle.grammar_reader.specs.Answer.{sizes, Bounded}
+use Rattle.heard_reader.specs.Answer.{heardSize}
+use Rattle.listing.specs.Listing.{tableSize}
+use Rattle.listing.specs.Model.{formOf}
+use Rattle.listing.specs.declared.Form.{Form}
+use Rattle.listing.proofs.Sizes.{table-is, size-is}
+use Rattle.open_listing.specs.Model.{Planned, planOf}
+use Rattle.open_listing.specs.declared.Plan.{Plan}
+use Rattle.open_listing.specs.declared.Blocks as read
+
+module _ (b : read.Blocks) (bounded : Bounded (b .sizes)) (some : 1 ≤ b .heard .last) (few : b .heard .last ≤ 24) (edges : b .heard .edges ≤ 168)
+    {f : Form} {d : Layout} (formed : f ≡ formOf (b .heard .graph) (b .heard .last) (b .sizes .rules)) (laid : d ≡ layOut (b .sizes .symbols) (b .heard .last) 256) where
+  abbrev made : Plan
+  made = record { form = f; layout = d; edges = b .heard .edges; words = b .sizes .words }
+
+  pub plan-is : made ≡ planOf b
+  plan-is = rw (formed, laid)
+
+  pub plan-planned : Sized d → f .size ≤ 73 → Planned made
+  unfolding layOut
+  plan-planned sized small = record {
+    sized = sized;
+    all-ranks = rw laid;
+    form = rw (formed, laid) (record { some-place = some; places = few; some-rule = bounded .some-rule; rules = bounded .rules; size = refl });
+    size = small;
+    edges = omega arith;
+    some-word = omega (arith, bounded .some-word);
+    words = bounded .words;
+  }
+
+-- of a grammar and what was heard
+module _ (g : Grammar) (h : Heard) {p : Plan} (is : p ≡ planOf (record { sizes = sizes g; heard = heardSize h })) where
+  pub numbers-are : {r : ℕ} → r ≡ 4 * p .layout .cells * p .layout .ranks → r ≡ tableSize (g .symbols) (lastPlace h) 256
+  numbers-are e = table-is (g .symbols) (lastPlace h) 256 {d = p .layout} (ap (λ (q : Plan). q .layout) is) e
+
+  pub bytes-are : p .form .size ≡ outputLength g h
+  bytes-are = rw is (size-is g h)
+
+-- the table has its front
+pub front-fits : (p : Plan) → Planned p → {r n : ℕ} → r ≡ 4 * p .layout .cells * p .layout .ranks → r ≤ n → 4 * p .layout .cells ≤ n
+front-fits p planned e room = omega (arith, rw (planned .all-ranks) at e, room)

@@ -1,0 +1,157 @@
+-- What a call is to promise, from what its search leaves: whatever the table held (`Called`), and after k readings (`Kept`).
+use mathlib.Core.Path.{_≡_, refl, sym, _∙_}
+use mathlib.Core.Bool.{Bool, true, false}
+use mathlib.Core.List.{List, _++_}
+use Prim.Native.Nat.{ℕ, suc, _+_, _-_, _*_, _≤_, _<_}
+use native.Mathlib.Numerals.{add-one, one-add}
+use native.Mathlib.Omega.{arith}
+use borrow.Author.Tests.{lt-ltb, le-ltb}
+use lib.ListN.{length, drop, length-take}
+use Rattle.bits.specs.Bits.{pick}
+use Rattle.packing.specs.Meaning.{Grammar, Heard, lastPlace, heardEdges}
+use Rattle.packing.specs.Parse.{accepted, refused}
+use Rattle.packing.specs.Grammar.{grammarBlock}
+use Rattle.packing.specs.Heard.{heardBlock}
+use Rattle.packing.specs.Flat.{Begins, ruleNumbers, edgeNumbers}
+use Rattle.packing.specs.Valid.{ValidGrammar, ValidHeard}
+use Rattle.packing.proofs.Parse.{accepted-is}
+use Rattle.packing.proofs.Whole.{grammar-block-out}
+use Rattle.packing.proofs.Heard.{heard-block-out}
+use Rattle.derivation.specs.Derivation.{Tree, Derivation}
+use Rattle.derivation.specs.Heard.{outputLength, packed}
+use Rattle.derivation.specs.HeardList.{derivations}
+use Rattle.derivation.specs.Rank.{Number}
+use Rattle.derivation.proofs.HeardTheorems.{least-element, least-length}
+use Rattle.chart_table.specs.Table.{countFound}
+use Rattle.chart_steps.specs.Found.{foundRanks}
+use Rattle.chart.specs.Chart.{layOut, rootFound}
+use Rattle.chart_theory.proofs.Accepted.{layout, Reached, rank-reached}
+use Rattle.chart_theory.proofs.Search.Passes.{Listed}
+use Rattle.listing.specs.Listing.{tableSize}
+use Rattle.listing.specs.Demand3.{Ranked}
+use Rattle.listing.proofs.Sizes.{size-is}
+use Rattle.open_listing.specs.Left.{AsLeft}
+use Rattle.open_listing.specs.Open as S
+use Rattle.open_listing.specs.Model.{Planned, isReading, handsOut, settled, Searched}
+use Rattle.open_listing.specs.declared.Place.{Place}
+use Rattle.open_listing.specs.declared.Answer as A
+use Rattle.open_listing.specs.declared.Answer.the-variants.{Reading, NoMore, Refused}
+use Rattle.open_listing.proofs.Own.{plan}
+use Rattle.open_listing.proofs.Readings.{HandedOut, hands-derivation, rank-handed}
+
+-- what is tested before the search
+module _ (grammar heard : List ℕ) (g : Grammar) (h : Heard) (eg : grammarBlock grammar ≡ accepted g) (eh : heardBlock (g .words) heard ≡ accepted h) where
+  abbrev pub blocks : S.Blocks
+  blocks = record { grammar = g; heard = h }
+
+  pub opening-short : (work : ℕ) → work < tableSize (g .symbols) (lastPlace h) 256 → S.opening grammar heard work ≡ refused 22
+  unfolding S.opening
+  opening-short work short = rw (eg, eh, lt-ltb work (tableSize (g .symbols) (lastPlace h) 256) short)
+
+  pub opening-accepts : (work : ℕ) → tableSize (g .symbols) (lastPlace h) 256 ≤ work → S.opening grammar heard work ≡ accepted blocks
+  unfolding S.opening
+  opening-accepts work room = rw (eg, eh, le-ltb work (tableSize (g .symbols) (lastPlace h) 256) room)
+
+  module _ (work out : ℕ) where
+    pub calling-short : work < tableSize (g .symbols) (lastPlace h) 256 → S.calling grammar heard work out ≡ refused 22
+    unfolding S.calling
+    calling-short short = rw (opening-short work short)
+
+    pub calling-output : tableSize (g .symbols) (lastPlace h) 256 ≤ work → out < outputLength g h → S.calling grammar heard work out ≡ refused 23
+    unfolding S.calling
+    calling-output room short = rw (opening-accepts work room, lt-ltb out (outputLength g h) short)
+
+    pub calling-accepts : tableSize (g .symbols) (lastPlace h) 256 ≤ work → outputLength g h ≤ out → S.calling grammar heard work out ≡ accepted blocks
+    unfolding S.calling
+    calling-accepts room enough = rw (opening-accepts work room, le-ltb out (outputLength g h) enough)
+
+-- where nothing is short
+module _ (grammar heard : List ℕ) (g : Grammar) (h : Heard) (eg : grammarBlock grammar ≡ accepted g) (eh : heardBlock (g .words) heard ≡ accepted h)
+    (rules : List ℕ) (begun : Begins (ruleNumbers g) rules) (planned : Planned (plan g h)) (p : Place) (work out : List ℕ)
+    (calls : S.calling grammar heard (length work) (length out) ≡ accepted (blocks grammar heard g h eg eh)) where
+  -- a refusal of what is accepted, and the blocks are these
+  only : (b : S.Blocks) → S.calling grammar heard (length work) (length out) ≡ accepted b → blocks grammar heard g h eg eh ≡ b
+  only b e = accepted-is (sym calls ∙ e)
+
+  pub record Gains (table : List ℕ) : Type 0 where
+    pub first : p .handed ≡ 0 → (c : ℕ) → c < layout g h 256 .cells → countFound table (layout g h 256) c ≤ countFound work (layout g h 256) c + 1
+    pub later : 1 ≤ p .handed → foundRanks table (layout g h 256) ≤ foundRanks work (layout g h 256) + (2 * lastPlace h - 1)
+
+  -- whatever the table held
+  module _ (below : p .handed < 256) (table : List ℕ) {r : A.Answer} {work′ out′ : List ℕ}
+      (searched : Searched table rules heard (plan g h) (p .handed) work out r work′ out′) where
+    nothing-left : (a : A.Answer) → r ≡ a → isReading a ≡ false → S.Unchanged grammar heard p work out r work′ out′
+    nothing-left a e n = record { table = rw (e, n) at (searched .left); output = rw (e, n) at (searched .output) }
+
+    one-more : r ≡ Reading → Gains table → (z : Tree) → HandedOut grammar heard g h eg eh rules begun planned table (p .handed) z
+        → S.OneMore grammar heard p work out r work′ out′ g h
+    one-more e gains z handed =
+        let left : work′ ≡ table = rw e at (searched .left) in
+        rw left (record {
+          tree = z;
+          derivation = handed .derivation;
+          written = rw e at (searched .output) ∙ rw (handed .block-packed, size-is g h);
+          spelled = record { rules = rules; begins = begun; stands = handed .stands; bytes-are = handed .block-packed };
+          first-adds = gains .first;
+          later-adds = gains .later;
+        })
+
+    answer-is : r ≡ pick (rootFound table (layout g h 256) (p .handed)) (pick (handsOut table rules heard (plan g h) (p .handed)) Reading (Refused 53)) NoMore
+    unfolding settled
+    answer-is = searched .answer
+
+    pub called : Gains table → S.Called grammar heard p work out r work′ out′
+    called gains = go (rootFound table (layout g h 256) (p .handed)) (handsOut table rules heard (plan g h) (p .handed)) refl answer-is
+      where
+        go : (a b : Bool) → handsOut table rules heard (plan g h) (p .handed) ≡ b → r ≡ pick a (pick b Reading (Refused 53)) NoMore
+            → S.Called grammar heard p work out r work′ out′
+        go false b hands e = S.no-more calls below e (nothing-left NoMore e refl)
+        go true false hands e = S.altered calls below e (nothing-left (Refused 53) e refl)
+        go true true hands e =
+            let (z, handed) = hands-derivation grammar heard g h eg eh rules begun planned table (p .handed) hands in
+            S.one-more calls below e (one-more e gains z handed)
+
+    -- where the ranks of the root are known up to the one that was looked for
+    module _ (edges : List ℕ) (begun′ : Begins (edgeNumbers (heardEdges h)) edges) (known : Listed g (heardEdges h) (layout g h 256) (p .handed) table) where
+      okg : ValidGrammar g
+      okg = grammar-block-out grammar g eg .0
+
+      okh : ValidHeard (g .words) h
+      okh = heard-block-out (g .words) heard h eh .0
+
+      reached : Reached g h 256 okg okh (omega arith) (omega arith) rules edges begun begun′ table (p .handed)
+      reached = rank-reached g h 256 okg okh (omega arith) (omega arith) rules edges begun begun′ table (p .handed) known below
+
+      -- there are as many derivations as the list has
+      number-is : (n : ℕ) → Number (Derivation g h) n → n ≡ length (derivations g h)
+      number-is n all =
+          let N = n + length (derivations g h) in
+          omega (arith, least-length g h N n all, length-take N (derivations g h))
+
+      module _ (opened : p .opened ≡ 1) where
+        gives : p .handed < length (derivations g h)
+            → (z : Tree) × Ranked g h (suc (p .handed)) z × (r ≡ Reading) × (out′ ≡ packed g h z ++ drop (outputLength g h) out)
+            × AsLeft g h (suc (p .handed)) (S.placeAfter r p) work′
+        unfolding layOut
+        gives more =
+            let (found, stands, (z, rank)) = reached .some more in
+            let (derived, ranks, few) = least-element g h 256 (p .handed) z .0 (rank .place) in
+            let (hands, is) = rank-handed grammar heard g h eg eh rules begun planned table (p .handed) z rank derived stands in
+            let reads : r ≡ Reading = answer-is ∙ rw (found, hands) in
+            let left : work′ ≡ table = rw reads at (searched .left) in (
+              z,
+              record {
+                derivation = derived;
+                rank = rw (one-add (p .handed)) at ranks;
+                no-other = λ s c also. let there = least-element g h 256 (p .handed) s .1 (c, rw (one-add (p .handed)) also, few) in cc;
+              },
+              reads,
+              rw reads at (searched .output) ∙ rw (is, size-is g h),
+              rw (left, reads) (record { handed = add-one (p .handed); opened = opened; table = known }),
+            )
+
+        pub after : (n : ℕ) → Number (Derivation g h) n → S.After grammar heard p work out r work′ out′ g h (p .handed) n
+        after n all = record {
+          gives = λ more. gives (omega (arith, number-is n all));
+          says-no-more = λ none. answer-is ∙ rw (reached .none (omega (arith, number-is n all)));
+        }

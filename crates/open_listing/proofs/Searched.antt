@@ -1,0 +1,86 @@
+-- What is left where a rank of the root was looked for: the new table, or the old one. Of a later call it is put back from the journal, of a first
+-- call the front is made zeros again, which it was.
+use mathlib.Core.Path.{_≡_, refl, sym, ap, _∙_}
+use mathlib.Core.Bool.{Bool, true, false, false≢true}
+use mathlib.Core.List.{List, _++_}
+use Prim.Native.Nat.{ℕ, _*_, _≤_}
+use native.Mathlib.Omega.{arith}
+use lib.ListN.{length, take, drop, replicate, take-append-drop}
+use lib.Seq.{length-take-le, take-at, drop-at}
+use Rattle.chart_index.specs.Index.{indexNumbers}
+use Rattle.chart_index.specs.Build.{makeIndex}
+use Rattle.chart_table.specs.Journal.{putBack}
+use Rattle.chart_search.specs.Search.{nextOfRoot, keepOfRoot}
+use Rattle.chart.specs.Chart.{enumerate}
+use Rattle.chart_theory.proofs.Plane.{single}
+use Rattle.chart_steps.proofs.Undo.{search-undone}
+use Rattle.open_listing.specs.Model.{Planned, zeros, isReading, settled, outputBy, firstTable, nextTable, Searched, Untouched}
+use Rattle.open_listing.specs.declared.Plan.{Plan}
+use Rattle.open_listing.specs.declared.Answer as A
+use Rattle.open_listing.specs.declared.Answer.the-variants.{Refused}
+use Rattle.open_listing.proofs.Zeros.{zeros-are}
+
+-- the new table stays where a reading is handed out, and something else where not
+module _ (table rules heard : List ℕ) (p : Plan) (x : ℕ) (work out : List ℕ) where
+  pub stays : {r : A.Answer} {b : Bool} {t out′ : List ℕ} → t ≡ table → r ≡ settled t rules heard p x → out′ ≡ outputBy (isReading r) t rules p x out
+      → b ≡ isReading r → b ≡ true → Searched table rules heard p x work out r t out′
+  stays {r} e answer output is reading = record {
+    answer = answer ∙ ap (λ (t : List ℕ). settled t rules heard p x) e;
+    left = e ∙ rw (← is, reading);
+    output = output ∙ ap (λ (t : List ℕ). outputBy (isReading r) t rules p x out) e;
+  }
+
+  pub goes-back : {r : A.Answer} {b : Bool} {t work′ out′ : List ℕ} → t ≡ table → r ≡ settled t rules heard p x
+      → out′ ≡ outputBy (isReading r) t rules p x out → b ≡ isReading r → b ≡ false → work′ ≡ work → Searched table rules heard p x work out r work′ out′
+  goes-back {r} e answer output is reading back = record {
+    answer = answer ∙ ap (λ (t : List ℕ). settled t rules heard p x) e;
+    left = back ∙ rw (← is, reading);
+    output = output ∙ ap (λ (t : List ℕ). outputBy (isReading r) t rules p x out) e;
+  }
+
+-- of a later call
+module _ (rules edges : List ℕ) (p : Plan) (planned : Planned p) (x : ℕ) (work : List ℕ) {index t : List ℕ}
+    (made : index ≡ makeIndex rules (p .form .rules) (p .layout .symbols) edges (p .edges) (p .layout .places) (replicate indexNumbers 0))
+    (stepped : t ≡ nextOfRoot rules edges index (p .layout) work x) where
+  pub table-next : t ≡ nextTable rules edges p x work
+  unfolding nextTable
+  table-next = stepped ∙ ap (λ (i : List ℕ). nextOfRoot rules edges i (p .layout) work x) made
+
+  pub put-back : {kept work′ : List ℕ} → kept ≡ keepOfRoot rules edges index (p .layout) work (replicate 1129 0) x → work′ ≡ putBack kept t → work′ ≡ work
+  put-back keeps e =
+      e ∙ rw (keeps, stepped) (search-undone rules edges index (p .layout) work x (omega (arith, planned .form .some-place)) (planned .form .places))
+
+-- of a first call
+module _ (rules edges heard : List ℕ) (p : Plan) (work out : List ℕ) (fits : 4 * p .layout .cells ≤ length work) where
+  abbrev front : ℕ
+  front = 4 * p .layout .cells
+
+  -- what is promised
+  abbrev pub First : A.Answer → (work′ out′ : List ℕ) → Type 0
+  First r work′ out′ =
+      (zeros (take front work) ≡ true → Searched (firstTable rules edges p work) rules heard p 0 work out r work′ out′)
+      × (zeros (take front work) ≡ false → (r ≡ Refused 53) × Untouched work out work′ out′)
+
+  pub front-size : length (take front work) ≡ front
+  front-size = length-take-le front work fits
+
+  pub not-zeros : {b : Bool} → b ≡ zeros (take front work) → b ≡ false → First (Refused 53) work out
+  not-zeros e f = ((λ z. absurd (false≢true (sym f ∙ e ∙ z))), λ z. (refl, record { table = refl; output = refl }))
+
+  module _ {b : Bool} (test : b ≡ zeros (take front work)) (clear : b ≡ true) {e : List ℕ}
+      (made : e ≡ enumerate rules (p .form .rules) edges (p .edges) (single (p .layout)) (length (take front work))) where
+    pub table-first : e ++ drop front work ≡ firstTable rules edges p work
+    unfolding firstTable
+    table-first = rw (made, front-size)
+
+    pub promised : {r : A.Answer} {work′ out′ : List ℕ} → Searched (firstTable rules edges p work) rules heard p 0 work out r work′ out′ → First r work′ out′
+    promised s = ((λ z. s), λ z. absurd (false≢true (sym z ∙ sym test ∙ clear)))
+
+    -- the front was zeros
+    pub zeros-again : length e ≡ length (take front work) → {z work′ : List ℕ} → z ≡ replicate (length (take front (e ++ drop front work))) 0
+        → work′ ≡ z ++ drop front (e ++ drop front work) → work′ ≡ work
+    zeros-again size is left =
+        let same : length e ≡ front = size ∙ front-size in
+        let taken : length (take front (e ++ drop front work)) ≡ front = rw (take-at e (drop front work) front same) same in
+        let were : take front work ≡ replicate front 0 = rw front-size at (zeros-are (take front work) (sym test ∙ clear)) in
+        left ∙ rw (is, taken, drop-at e (drop front work) front same, ← were) (take-append-drop front work)

@@ -1,0 +1,117 @@
+-- The table's front is filled, and made zeros again unless a reading is handed out.
+use mathlib.Core.Path.{refl, sym}
+use native.Mathlib.Omega.{arith}
+use lib.ListN.{length-append}
+use lib.Seq.{length-take-le}
+use Rattle.open_listing.specs.Model.{firstTable}
+use Rattle.open_listing.proofs.Searched.{stays, goes-back, table-first, promised, zeros-again, not-zeros, front-size}
+use borrow.Author.Needs.{needs}
+use Rattle.open_listing.proofs.first.Statement.{statement}
+use Rattle.open_listing.proofs.first.Tie as tie
+
+mul-front : tie.Need-mul-front
+mul-front c = search needs
+
+slice-reshare-prefix-all-zero : tie.Need-slice-reshare-prefix-all-zero
+slice-reshare-prefix-all-zero c = search needs
+
+slice-aggregate-all-zero : tie.Need-slice-aggregate-all-zero
+slice-aggregate-all-zero c = sym (length-take-le _ _ (c .before .before .before .before .before .before .before .before .pre .2))
+
+all-zero-requires : tie.Need-all-zero-requires
+all-zero-requires c κs = search needs
+
+slice-relend-prefix-enumerate : tie.Need-slice-relend-prefix-enumerate
+slice-relend-prefix-enumerate c = search needs
+
+slice-aggregate-enumerate : tie.Need-slice-aggregate-enumerate
+slice-aggregate-enumerate c = sym (length-take-le _ _ (c .before .before .before .before .before .before .before .before .before .before .before .pre .2))
+
+enumerate-requires : tie.Need-enumerate-requires
+enumerate-requires c κs = search needs
+
+settle-requires : tie.Need-settle-requires
+settle-requires c κs = search needs
+
+is-reading-requires : tie.Need-is-reading-requires
+is-reading-requires c κs = search needs
+
+same-length : tie.Need-same-length
+same-length c = search needs
+
+same-length-2 : tie.Need-same-length-2
+same-length-2 c = search needs
+
+returns : tie.Need-returns
+returns c =
+    let a = c .before .before .before .before .before .before .before .before .before .before .before .before .before .before .before .before .before .before .before .before .before .args in
+    let planned = c .before .before .before .before .before .before .before .before .before .before .before .before .before .before .before .before .before .before .before .before .before .pre .0 in
+    let fits = c .before .before .before .before .before .before .before .before .before .before .before .before .before .before .before .before .before .before .before .before .before .pre .2 in
+    let made = c .before .before .before .before .before .before .before .before .before .enumerate .ensures .0 in
+    let table = firstTable (a .rules .now) (a .edges .now) (a .plan) (a .work .now) in
+    let first = table-first (a .rules .now) (a .edges .now) (a .heard .now) (a .plan) (a .work .now) (a .out .now) fits (c .before .before .before .before .before .before .before .before .before .before .before .before .all-zero .ensures) (c .before .before .before .before .before .before .before .before .before .before .before .if1 .taken) made in
+    promised (a .rules .now) (a .edges .now) (a .heard .now) (a .plan) (a .work .now) (a .out .now) fits (c .before .before .before .before .before .before .before .before .before .before .before .before .all-zero .ensures) (c .before .before .before .before .before .before .before .before .before .before .before .if1 .taken) made
+    (stays table (a .rules .now) (a .heard .now) (a .plan) 0 (a .work .now) (a .out .now) first (c .before .before .before .before .settle .ensures .0) (c .before .before .before .before .settle .ensures .1) (c .before .is-reading .ensures) (c .if2 .taken))
+
+slice-relend-prefix-zero : tie.Need-slice-relend-prefix-zero
+slice-relend-prefix-zero c = search needs
+
+slice-aggregate-zero : tie.Need-slice-aggregate-zero
+slice-aggregate-zero c =
+    let a = c .before .before .before .before .before .before .before .before .before .before .before .before .before .before .before .before .before .before .before .before .before .before .args in
+    sym (length-take-le _ _ (rw length-append
+    (omega (arith, c .before .before .before .before .before .before .before .before .before .before .enumerate .kept .0, front-size (a .rules .now) (a .edges .now) (a .heard .now) (a .plan) (a .work .now) (a .out .now) (c .before .before .before .before .before .before .before .before .before .before .before .before .before .before .before .before .before .before .before .before .before .before .pre .2)))))
+
+zero-requires : tie.Need-zero-requires
+zero-requires c κs = search needs
+
+same-length-3 : tie.Need-same-length-3
+same-length-3 c = search needs
+
+same-length-4 : tie.Need-same-length-4
+same-length-4 c = search needs
+
+returns-2 : tie.Need-returns-2
+returns-2 c =
+    let a = c .before .before .before .before .before .before .before .before .before .before .before .before .before .before .before .before .before .before .before .before .before .before .before .before .before .args in
+    let planned = c .before .before .before .before .before .before .before .before .before .before .before .before .before .before .before .before .before .before .before .before .before .before .before .before .before .pre .0 in
+    let fits = c .before .before .before .before .before .before .before .before .before .before .before .before .before .before .before .before .before .before .before .before .before .before .before .before .before .pre .2 in
+    let made = c .before .before .before .before .before .before .before .before .before .before .before .before .before .enumerate .ensures .0 in
+    let table = firstTable (a .rules .now) (a .edges .now) (a .plan) (a .work .now) in
+    let first = table-first (a .rules .now) (a .edges .now) (a .heard .now) (a .plan) (a .work .now) (a .out .now) fits (c .before .before .before .before .before .before .before .before .before .before .before .before .before .before .before .before .all-zero .ensures) (c .before .before .before .before .before .before .before .before .before .before .before .before .before .before .before .if1 .taken) made in
+    promised (a .rules .now) (a .edges .now) (a .heard .now) (a .plan) (a .work .now) (a .out .now) fits (c .before .before .before .before .before .before .before .before .before .before .before .before .before .before .before .before .all-zero .ensures) (c .before .before .before .before .before .before .before .before .before .before .before .before .before .before .before .if1 .taken) made
+    (goes-back table (a .rules .now) (a .heard .now) (a .plan) 0 (a .work .now) (a .out .now) first (c .before .before .before .before .before .before .before .before .settle .ensures .0) (c .before .before .before .before .before .before .before .before .settle .ensures .1) (c .before .before .before .before .before .is-reading .ensures) (c .before .before .before .before .if2 .left)
+    (zeros-again (a .rules .now) (a .edges .now) (a .heard .now) (a .plan) (a .work .now) (a .out .now) fits (c .before .before .before .before .before .before .before .before .before .before .before .before .before .before .before .before .all-zero .ensures) (c .before .before .before .before .before .before .before .before .before .before .before .before .before .before .before .if1 .taken) made (c .before .before .before .before .before .before .before .before .before .before .before .before .before .enumerate .kept .0) (c .before .before .zero .ensures) refl))
+
+same-length-5 : tie.Need-same-length-5
+same-length-5 c = search needs
+
+returns-3 : tie.Need-returns-3
+returns-3 c =
+    let a = c .before .before .before .before .before .before .before .before .before .before .args in
+    not-zeros (a .rules .now) (a .edges .now) (a .heard .now) (a .plan) (a .work .now) (a .out .now) (c .before .before .before .before .before .before .before .before .before .before .pre .2) (c .before .all-zero .ensures) (c .if1 .left)
+
+pub first-spec : {M : Type 1} → statement M
+first-spec =
+    tie.close
+    (tie.spec
+    mul-front
+    slice-reshare-prefix-all-zero
+    slice-aggregate-all-zero
+    all-zero-requires
+    slice-relend-prefix-enumerate
+    slice-aggregate-enumerate
+    enumerate-requires
+    settle-requires
+    is-reading-requires
+    same-length
+    same-length-2
+    returns
+    slice-relend-prefix-zero
+    slice-aggregate-zero
+    zero-requires
+    same-length-3
+    same-length-4
+    returns-2
+    same-length-5
+    returns-3)

@@ -1,0 +1,330 @@
+// Readings one by one: an open listing keeps its place between calls, and each call hands out one more reading from a work table for as
+// many ranks as can be listed.
+use chart::steps;
+use chart_index::INDEX_NUMBERS;
+use chart_table::Layout;
+use chart_table::MOST_RANKS;
+use chart_table::journal::JOURNAL_NUMBERS;
+use chart_table::zero;
+use checker::Walked;
+use checker::check_heard;
+use grammar_reader::GrammarRead;
+use grammar_reader::Sizes;
+use heard_reader::HeardRead;
+use heard_reader::HeardSize;
+use heard_reader::read_heard;
+use listing::Form;
+use listing::form_of;
+use listing::write_rank;
+use packing::format::EDGES_LENGTH;
+use packing::format::RULES_LENGTH;
+use packing::format::WALK_LENGTH;
+use packing::refused;
+ghost use mathlib.Core.Path.{_≡_};
+ghost use mathlib.Core.Bool.{true, false};
+ghost use Prim.Native.Nat.{_-_, _*_, _≤_, _<_};
+ghost use lib.ListN.{length, take};
+ghost use Rattle.packing.specs.Flat.{rulesOf};
+ghost use Rattle.grammar_reader.specs.Answer.{Bounded};
+ghost use Rattle.checker.specs.Run.{underRules};
+ghost use Rattle.open_listing.specs.Open.{opening, openedOf, tableOpened, Called, Kept};
+ghost use Rattle.open_listing.specs.Model.{zeros, Planned, planOf, passed, handsOut, settled, isReading, outputBy, firstTable, nextTable, Searched, Untouched, HeardCalled, GrammarOpened, GrammarCalled};
+
+// An open listing's place: how many readings were handed out, and whether it was opened.
+#[repr(C)]
+pub struct Place {
+    pub handed: u32,
+    pub opened: u32,
+}
+
+// What opening answers.
+pub enum Opened {
+    Opened,
+    Refused(u32),
+}
+
+// What a call answers: a reading, that there are no more, that all that can be listed were handed out.
+pub enum Answer {
+    Reading,
+    NoMore,
+    Full,
+    Refused(u32),
+}
+
+// The mark of a place that was opened.
+pub const OPENED: u32 = 1;
+
+// The bytes of the longest reading.
+const READING_BYTES: usize = 73;
+
+// What a search goes by: the form of readings, the table's layout, the number of edges and the grammar's words.
+struct Plan {
+    form: Form,
+    layout: Layout,
+    edges: usize,
+    words: u32,
+}
+
+// What was read of both blocks.
+struct Blocks {
+    sizes: Sizes,
+    heard: HeardSize,
+}
+
+// Whether a call hands out a reading.
+fn is_reading(r: Answer) -> bool
+    ensures { λ b. ⌜ b ≡ isReading r ⌝ }
+{
+    match r {
+        Answer::Reading => true,
+        Answer::NoMore => false,
+        Answer::Full => false,
+        Answer::Refused(_) => false,
+    }
+}
+
+// Whether all numbers are 0.
+fn all_zero(t: &[u32]) -> bool
+    ensures { λ r. ⌜ r ≡ zeros (now (t .entry)) ⌝ }
+{
+    let n = t.len();
+    let mut x: usize = 0;
+    while x < n {
+        if t[x] != 0 {
+            return false;
+        }
+        x += 1;
+    }
+    true
+}
+
+// Whether a reading passes the check.
+fn passes(rules: &[u32], plan: Plan, heard: &[u8], reading: &[u8]) -> bool
+    requires { ⌜ Planned plan ⌝ }
+    ensures { λ r. ⌜ r ≡ passed (underRules (plan .words) (rulesOf (now (rules .entry)) (plan .form .rules)) (now (heard .entry)) (now (reading .entry))) ⌝ }
+{
+    let mut walk = [0u32; WALK_LENGTH];
+    let found = check_heard(
+        rules,
+        plan.form.rules,
+        plan.words,
+        heard,
+        reading,
+        &mut walk,
+    );
+    match found {
+        Walked::Nodes(_) => true,
+        Walked::Refused(_) => false,
+    }
+}
+
+// Whether the tree of a rank of the root stands in the table and its reading passes the check; it is written to `out` then.
+fn hand_out(t: &[u32], rules: &[u32], heard: &[u8], plan: Plan, rank: usize, out: &mut [u8]) -> bool
+    requires { ⌜ (Planned plan) × (rank < plan .layout .ranks) × (plan .form .size ≤ length (now out)) ⌝ }
+    ensures { λ r. ⌜ (r ≡ handsOut (now (t .entry)) (now (rules .entry)) (now (heard .entry)) plan rank)
+        × (now (out .exit) ≡ outputBy r (now (t .entry)) (now (rules .entry)) plan rank (now (out .entry))) ⌝ }
+{
+    if steps::root_stands(t, rules, plan.layout, rank) {
+        let mut reading = [0u8; READING_BYTES];
+        let own = write_rank(t, rules, plan.form, plan.layout, rank, &mut reading);
+        if passes(rules, plan, heard, &reading[..own]) {
+            padded_strings::copy(out, 0, &reading, plan.form.size);
+            return true;
+        }
+    }
+    false
+}
+
+// What a call answers once a rank of the root was looked for.
+fn settle(t: &[u32], rules: &[u32], heard: &[u8], plan: Plan, rank: usize, out: &mut [u8]) -> Answer
+    requires { ⌜ (Planned plan) × (rank < plan .layout .ranks) × (plan .form .size ≤ length (now out)) ⌝ }
+    ensures { λ r. ⌜ (r ≡ settled (now (t .entry)) (now (rules .entry)) (now (heard .entry)) plan rank)
+        × (now (out .exit) ≡ outputBy (isReading r) (now (t .entry)) (now (rules .entry)) plan rank (now (out .entry))) ⌝ }
+{
+    if steps::root_found(t, plan.layout, rank) {
+        if hand_out(t, rules, heard, plan, rank, out) {
+            return Answer::Reading;
+        }
+        return Answer::Refused(refused::OPEN_ALTERED);
+    }
+    Answer::NoMore
+}
+
+// The first call: one rank of each cell is looked for, at the table's front, which is to be zeros.
+fn first(
+    work: &mut [u32],
+    rules: &[u32],
+    edges: &[u32],
+    heard: &[u8],
+    plan: Plan,
+    out: &mut [u8],
+) -> Answer
+    requires { ⌜ (Planned plan) × (plan .form .size ≤ length (now out)) × (4 * plan .layout .cells ≤ length (now work)) ⌝ }
+    ensures { λ r. ⌜ (zeros (take (4 * plan .layout .cells) (now (work .entry))) ≡ true
+        → Searched (firstTable (now (rules .entry)) (now (edges .entry)) plan (now (work .entry))) (now (rules .entry)) (now (heard .entry)) plan 0 (now (work .entry)) (now (out .entry)) r (now (work .exit)) (now (out .exit)))
+        × (zeros (take (4 * plan .layout .cells) (now (work .entry))) ≡ false
+        → (r ≡ Answer.Refused 53) × Untouched (now (work .entry)) (now (out .entry)) (now (work .exit)) (now (out .exit))) ⌝ }
+{
+    let d = plan.layout;
+    let front = chart_table::ENTRY_NUMBERS * d.cells;
+    if all_zero(&work[..front]) {
+        let single = Layout {
+            symbols: d.symbols,
+            places: d.places,
+            ranks: 1,
+            cells: d.cells,
+        };
+        chart::enumerate(
+            &mut work[..front],
+            rules,
+            plan.form.rules,
+            edges,
+            plan.edges,
+            single,
+        );
+        let answer = settle(&work[..], rules, heard, plan, 0, out);
+        if is_reading(answer) {
+            return answer;
+        }
+        zero(&mut work[..front]);
+        return answer;
+    }
+    Answer::Refused(refused::OPEN_ALTERED)
+}
+
+// A later call: the rank behind the last that was handed out is looked for. Unless it is handed out, what was written over is put back.
+fn later(
+    work: &mut [u32],
+    rules: &[u32],
+    edges: &[u32],
+    heard: &[u8],
+    plan: Plan,
+    handed: usize,
+    out: &mut [u8],
+) -> Answer
+    requires { ⌜ (Planned plan) × (1 ≤ handed) × (handed < plan .layout .ranks) × (plan .form .size ≤ length (now out)) ⌝ }
+    ensures { λ r. ⌜ Searched (nextTable (now (rules .entry)) (now (edges .entry)) plan (handed - 1) (now (work .entry))) (now (rules .entry)) (now (heard .entry)) plan handed (now (work .entry)) (now (out .entry)) r (now (work .exit)) (now (out .exit)) ⌝ }
+{
+    let d = plan.layout;
+    let mut index = [0u32; INDEX_NUMBERS];
+    let mut kept = [0u32; JOURNAL_NUMBERS];
+    steps::index_of(rules, plan.form.rules, edges, plan.edges, d, &mut index);
+    steps::step(work, &mut kept, rules, edges, &index, d, handed - 1);
+    let answer = settle(&work[..], rules, heard, plan, handed, out);
+    if is_reading(answer) {
+        return answer;
+    }
+    steps::undo(work, &kept);
+    answer
+}
+
+// What a search of these blocks goes by, with a table for all ranks that can be listed.
+fn plan_of(blocks: Blocks) -> Plan
+    requires { ⌜ (Bounded (blocks .sizes)) × (1 ≤ blocks .heard .last) × (blocks .heard .last ≤ 24) × (blocks .heard .edges ≤ 168) ⌝ }
+    ensures { λ p. ⌜ (p ≡ planOf blocks) × Planned p ⌝ }
+{
+    let last = blocks.heard.last;
+    Plan {
+        form: form_of(blocks.heard.graph, last, blocks.sizes.rules as usize),
+        layout: chart::lay_out(blocks.sizes.symbols as usize, last, MOST_RANKS),
+        edges: blocks.heard.edges,
+        words: blocks.sizes.words,
+    }
+}
+
+// One more reading of what was heard, its edges in an array, under an accepted grammar.
+fn next_heard(
+    rules: &[u32],
+    edges: &[u32],
+    heard: &[u8],
+    plan: Plan,
+    place: Place,
+    work: &mut [u32],
+    out: &mut [u8],
+) -> Answer
+    requires { ⌜ Planned plan ⌝ }
+    ensures { λ r. ⌜ HeardCalled (now (rules .entry)) (now (edges .entry)) (now (heard .entry)) plan place (now (work .entry)) (now (out .entry)) r (now (work .exit)) (now (out .exit)) ⌝ }
+{
+    if work.len() < chart::table_numbers(plan.layout) {
+        return Answer::Refused(refused::LISTING_WORK);
+    }
+    if out.len() < plan.form.size {
+        return Answer::Refused(refused::LISTING_OUTPUT);
+    }
+    let handed = place.handed as usize;
+    if MOST_RANKS <= handed {
+        return Answer::Full;
+    }
+    if place.opened != OPENED {
+        return Answer::Refused(refused::OPEN_ALTERED);
+    }
+    if handed == 0 {
+        return first(work, rules, edges, heard, plan, out);
+    }
+    later(work, rules, edges, heard, plan, handed, out)
+}
+
+// One more reading of a block of slots or of a graph under an accepted grammar.
+fn next_grammar(
+    rules: &[u32],
+    sizes: Sizes,
+    heard: &[u8],
+    place: Place,
+    work: &mut [u32],
+    out: &mut [u8],
+) -> Answer
+    requires { ⌜ Bounded sizes ⌝ }
+    ensures { λ r. ⌜ GrammarCalled (now (rules .entry)) sizes (now (heard .entry)) place (now (work .entry)) (now (out .entry)) r (now (work .exit)) (now (out .exit)) ⌝ }
+{
+    let mut edges = [0u32; EDGES_LENGTH];
+    match read_heard(heard, sizes.words, &mut edges) {
+        HeardRead::Refused(n) => Answer::Refused(n),
+        HeardRead::Heard(size) => {
+            let plan = plan_of(Blocks { sizes, heard: size });
+            next_heard(rules, &edges, heard, plan, place, work, out)
+        }
+    }
+}
+
+// One more reading of what was heard, slots or a graph, under the grammar, to the front of `out`, for a place and a work table as they were left.
+pub fn next(grammar: &[u8], heard: &[u8], place: Place, work: &mut [u32], out: &mut [u8]) -> Answer
+    ensures { λ r. ⌜ Called (now (grammar .entry)) (now (heard .entry)) place (now (work .entry)) (now (out .entry)) r (now (work .exit)) (now (out .exit)) ⌝ }
+    ensures { λ r. ⌜ Kept (now (grammar .entry)) (now (heard .entry)) place (now (work .entry)) (now (out .entry)) r (now (work .exit)) (now (out .exit)) ⌝ }
+{
+    let mut rules = [0u32; RULES_LENGTH];
+    match grammar_reader::read_block(grammar, &mut rules) {
+        GrammarRead::Refused(n) => Answer::Refused(n),
+        GrammarRead::Grammar(sizes) => next_grammar(&rules, sizes, heard, place, work, out),
+    }
+}
+
+// Opens a listing of a block of slots or of a graph under an accepted grammar.
+fn open_grammar(sizes: Sizes, heard: &[u8], work: &mut [u32]) -> Opened
+    requires { ⌜ Bounded sizes ⌝ }
+    ensures { λ r. ⌜ GrammarOpened sizes (now (heard .entry)) (now (work .entry)) r (now (work .exit)) ⌝ }
+{
+    let mut edges = [0u32; EDGES_LENGTH];
+    match read_heard(heard, sizes.words, &mut edges) {
+        HeardRead::Refused(n) => Opened::Refused(n),
+        HeardRead::Heard(size) => {
+            let plan = plan_of(Blocks { sizes, heard: size });
+            if work.len() < chart::table_numbers(plan.layout) {
+                return Opened::Refused(refused::LISTING_WORK);
+            }
+            zero(work);
+            Opened::Opened
+        }
+    }
+}
+
+// Opens a listing of what was heard, slots or a graph, under the grammar, in a work table for all ranks that can be listed.
+pub fn open(grammar: &[u8], heard: &[u8], work: &mut [u32]) -> Opened
+    ensures { λ r. ⌜ r ≡ openedOf (opening (now (grammar .entry)) (now (heard .entry)) (length (now (work .entry)))) ⌝ }
+    ensures { λ r. ⌜ now (work .exit) ≡ tableOpened (opening (now (grammar .entry)) (now (heard .entry)) (length (now (work .entry)))) (now (work .entry)) ⌝ }
+{
+    let mut rules = [0u32; RULES_LENGTH];
+    match grammar_reader::read_block(grammar, &mut rules) {
+        GrammarRead::Refused(n) => Opened::Refused(n),
+        GrammarRead::Grammar(sizes) => open_grammar(sizes, heard, work),
+    }
+}

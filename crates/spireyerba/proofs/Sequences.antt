@@ -1,0 +1,196 @@
+-- Calls of an open listing one after another hand out every reading once, in the order of the listing, and then say "no more" or "full": after k calls
+-- place and table are as they were left after k readings, or after all that there are, or after 256.
+use mathlib.Core.Path.{_≡_, refl, ap, _∙_}
+use mathlib.Core.Logic.{inl, inr}
+use mathlib.Core.List.{List, _++_}
+use Prim.Native.Nat.{ℕ, zero, suc, _≤_, _<_, min}
+use native.Mathlib.Decide.{decLt}
+use native.Mathlib.Omega.{arith}
+use borrow.Author.Tests.{le-ltb}
+use lib.IntN.{ℤ, pos, negℤ}
+use lib.ListN.{length, drop, replicate, length-replicate}
+use Rattle.packing.specs.Meaning.{Grammar, Heard}
+use Rattle.packing.specs.Parse.{accepted}
+use Rattle.packing.specs.Rows.{_∪_, GrammarBlockRow, HeardBlockRow, OpenRow}
+use Rattle.derivation.specs.Derivation.{Tree}
+use Rattle.derivation.specs.Heard.{outputLength, packed}
+use Rattle.derivation.specs.HeardList as list
+use Rattle.derivation.proofs.HeardTheorems.{finitely-many}
+use Rattle.listing.specs.Demand3.{Ranked}
+use Rattle.open_listing.specs.Left.{AsLeft}
+use Rattle.open_listing.specs.Open as S
+use Rattle.open_listing.specs.declared.Place.{Place}
+use Rattle.open_listing.specs.declared.Answer as A
+use Rattle.open_listing.specs.declared.Answer.the-variants.{Reading, NoMore, Full, Refused}
+use Rattle.spireyerba.specs.Demands.{answers, refuses}
+use Rattle.spireyerba.specs.OneByOne.{placeAt, nextCode, Open, Next, Calls, OneByOne, EveryReading}
+
+-- no refusal has the code 0
+not-zero : (n : ℕ) → (GrammarBlockRow ∪ HeardBlockRow ∪ OpenRow) n → negℤ (pos n) ≡ pos 0 → ⊥
+not-zero zero (inl (inl r)) e = omega (arith, r)
+not-zero zero (inl (inr (inl r))) e = omega (arith, r)
+not-zero zero (inl (inr (inr r))) e = omega (arith, r)
+not-zero zero (inr r) e = omega (arith, r)
+not-zero (suc n) r e = let z : _≡_ {A = ℕ} 0 1 = cc in omega arith
+
+-- what opening leaves where it answers 0
+record Opens (grammar heard work : List ℕ) (p′ : Place) (work′ : List ℕ) : Type 0 where
+  blocks : S.Blocks
+  accepts : S.opening grammar heard (length work) ≡ accepted blocks
+  place : p′ ≡ placeAt 0 1
+  table : work′ ≡ replicate (length work) 0
+
+opens : {grammar heard : List ℕ} {p : Place} {work : List ℕ} {code : ℤ} {p′ : Place} {work′ : List ℕ} → Open grammar heard p work code p′ work′ → code ≡ pos 0
+    → Opens grammar heard work p′ work′
+opens (answers {a = b} e (z, p, w)) f = record { blocks = b; accepts = e; place = p; table = w }
+opens (refuses {n = n} e row un) f = absurd (not-zero n row f)
+
+calls-accept : (grammar heard : List ℕ) (b : S.Blocks) (work out : ℕ) → S.opening grammar heard work ≡ accepted b
+    → outputLength (b .grammar) (b .heard) ≤ out → S.calling grammar heard work out ≡ accepted b
+unfolding S.calling
+calls-accept grammar heard b work out e room = rw (e, le-ltb out (outputLength (b .grammar) (b .heard)) room)
+
+-- an answer that hands out nothing, and changes nothing
+module _ {grammar heard : List ℕ} {p : Place} {work out : List ℕ} {a : A.Answer} {work′ out′ : List ℕ} {b : S.Blocks}
+    (accepts : S.calling grammar heard (length work) (length out) ≡ accepted b) where
+  idle-changes : S.Called grammar heard p work out a work′ out′ → (a ≡ Reading → ⊥) → S.Unchanged grammar heard p work out a work′ out′
+  idle-changes (S.turned-away e is same) other = same
+  idle-changes (S.full e many is same) other = same
+  idle-changes (S.altered e below is same) other = same
+  idle-changes (S.no-more e below is same) other = same
+  idle-changes (S.one-more e below is more) other = absurd (other is)
+
+  full-said : S.Called grammar heard p work out a work′ out′ → 256 ≤ p .handed → a ≡ Full
+  full-said (S.turned-away e is same) many = let z : _≡_ {A = ℕ} 0 1 = cc in absurd (omega arith)
+  full-said (S.full e enough is same) many = is
+  full-said (S.altered e below is same) many = absurd (omega arith)
+  full-said (S.no-more e below is same) many = absurd (omega arith)
+  full-said (S.one-more e below is same) many = absurd (omega arith)
+
+module _ (grammar heard : List ℕ) (K : ℕ) (place : ℕ → Place) (work : ℕ → List ℕ) (code : ℕ → ℤ) (out written : ℕ → List ℕ)
+    (calls : Calls grammar heard K place work code out written)
+    (opened : Opens grammar heard (calls .work-before) (place 0) (work 0))
+    (room : (k : ℕ) → k < K → outputLength (opened .blocks .grammar) (opened .blocks .heard) ≤ length (out k)) where
+  abbrev g : Grammar
+  g = opened .blocks .grammar
+
+  abbrev h : Heard
+  h = opened .blocks .heard
+
+  -- how many derivations there are, and how many readings are handed out
+  abbrev all : ℕ
+  all = length (list.derivations g h)
+
+  abbrev most : ℕ
+  most = min 256 all
+
+  -- before call k
+  record Before (k : ℕ) : Type 0 where
+    left : AsLeft g h (min k most) (place k) (work k)
+    size : length (work k) ≡ length (calls .work-before)
+
+  -- nothing is changed by call k
+  record Same (k : ℕ) : Type 0 where
+    place-same : place (suc k) ≡ place k
+    table-same : work (suc k) ≡ work k
+    output-same : written k ≡ out k
+
+  module _ (k : ℕ) (l : k < K) (before : Before k) where
+    abbrev next : Next grammar heard (place k) (work k) (out k) (code k) (place (suc k)) (work (suc k)) (written k)
+    next = calls .call k l
+
+    accepts : S.calling grammar heard (length (work k)) (length (out k)) ≡ accepted (opened .blocks)
+    accepts = rw (before .size) (calls-accept grammar heard (opened .blocks) (length (calls .work-before)) (length (out k)) (opened .accepts) (room k l))
+
+    -- a reading
+    record Handed : Type 0 where
+      tree : Tree
+      ranked : Ranked g h (suc k) tree
+      code-is : code k ≡ pos 1
+      written-is : written k ≡ packed g h tree ++ drop (outputLength g h) (out k)
+      after : Before (suc k)
+
+    handed : k < most → Handed
+    handed below =
+        let now : min k most ≡ k = omega arith in
+        let then : min (suc k) most ≡ suc k = omega arith in
+        let left = rw now at (before .left) in
+        let after = next .kept (opened .blocks) accepts k (omega arith) left all (finitely-many g h) in
+        let (t, ranked, reads, output, kept) = after .gives (omega arith) in
+        record {
+          tree = t;
+          ranked = ranked;
+          code-is = next .code-is ∙ ap nextCode reads;
+          written-is = output;
+          after = record { left = rw (then, next .place-is) kept; size = next .size ∙ before .size };
+        }
+
+    -- or none
+    idle : most ≤ k → (next .answer ≡ Reading → ⊥) → Same k × Before (suc k)
+    idle beyond other =
+        let same = idle-changes accepts (next .called) other in
+        let stays : place (suc k) ≡ place k = next .place-is ∙ unmoved (next .answer) other in
+        let now : min (suc k) most ≡ min k most = omega arith in (
+          record { place-same = stays; table-same = same .table; output-same = same .output },
+          record { left = rw (now, stays, same .table) (before .left); size = next .size ∙ before .size },
+        )
+      where
+        unmoved : (a : A.Answer) → (a ≡ Reading → ⊥) → S.placeAfter a (place k) ≡ place k
+        unmoved Reading other = absurd (other refl)
+        unmoved NoMore other = refl
+        unmoved Full other = refl
+        unmoved (Refused n) other = refl
+
+    no-more : all < 256 → all ≤ k → next .answer ≡ NoMore
+    no-more few beyond =
+        let now : min k most ≡ all = omega arith in
+        let left = rw now at (before .left) in
+        next .kept (opened .blocks) accepts all (omega arith) left all (finitely-many g h) .says-no-more (omega arith)
+
+    full : 256 ≤ all → 256 ≤ k → next .answer ≡ Full
+    full many beyond = full-said accepts (next .called) (omega (arith, before .left .handed))
+
+    not-reading : most ≤ k → next .answer ≡ Reading → ⊥
+    not-reading beyond e = go (decLt all 256)
+      where
+        go : Dec (all < 256) → ⊥
+        go (yes few) = let other = no-more few (omega arith) in let z : _≡_ {A = ℕ} 0 1 = cc in omega arith
+        go (no many) = let other = full (omega arith) (omega arith) in let z : _≡_ {A = ℕ} 0 1 = cc in omega arith
+
+    after-call : Before (suc k)
+    after-call = go (decLt k most)
+      where
+        go : Dec (k < most) → Before (suc k)
+        go (yes below) = handed below .after
+        go (no beyond) = idle (omega arith) (not-reading (omega arith)) .1
+
+  before-call : (k : ℕ) → k ≤ K → Before k
+  before-call zero l =
+      let none : min 0 most ≡ 0 = omega arith in
+      record {
+        left = rw (none, opened .place, opened .table) (record { handed = refl; opened = refl; table = rw length-replicate refl });
+        size = rw (opened .table, length-replicate) refl;
+      }
+  before-call (suc k) l = after-call k l (before-call k (omega arith))
+
+  one-by-one : OneByOne g h K place work code out written
+  one-by-one = record {
+    derivations = all;
+    finitely-many = finitely-many g h;
+    gives = λ k l few more.
+        let one = handed k l (before-call k (omega arith)) (omega arith) in
+        (one .tree, one .ranked, one .code-is, one .written-is);
+    no-more = λ k l few beyond.
+        let before = before-call k (omega arith) in
+        let same = idle k l before (omega arith) (not-reading k l before (omega arith)) .0 in
+        (calls .call k l .code-is ∙ ap nextCode (no-more k l before few beyond), same .place-same, same .table-same, same .output-same);
+    full = λ k l many beyond.
+        let before = before-call k (omega arith) in
+        let same = idle k l before (omega arith) (not-reading k l before (omega arith)) .0 in
+        (calls .call k l .code-is ∙ ap nextCode (full k l before many beyond), same .place-same, same .table-same, same .output-same);
+  }
+
+pub every-reading : EveryReading
+every-reading grammar heard K place work code out written calls =
+    let opened = opens (calls .opens) refl in
+    (opened .blocks, (length (calls .work-before), opened .accepts), λ room. one-by-one grammar heard K place work code out written calls opened room)
