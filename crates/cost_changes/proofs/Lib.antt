@@ -8,3 +8,4 @@ pub mod Utterances
 pub mod Raised
 pub mod Valid
 pub mod Theorems
+pub mod MarginExamples
