@@ -1,0 +1,188 @@
+// Which word to listen to again: for each offered word that the first reading does not use in its slot, the least amount by which its cost
+// alone must fall for another reading to be strictly lighter than the first is now.
+pub mod entries;
+pub mod outside;
+
+use arrays::rule_at;
+use arrays::store;
+use arrays::wide;
+use chart_table::Layout;
+use cost_ranges::Pass;
+use entries::NUMBERS_PER_ENTRY;
+use entries::put_entries;
+use grammar_reader::GrammarRead;
+use grammar_reader::Sizes;
+use heard_reader::HeardRead;
+use heard_reader::HeardSize;
+use heard_reader::read_slots;
+use outside::fill;
+use packing::Rule;
+use packing::format::EDGES_LENGTH;
+use packing::format::NUMBERS_PER_NODE;
+use packing::format::RULES_LENGTH;
+use packing::format::TRACE_LENGTH;
+use packing::refused;
+ghost use mathlib.Core.Path.{_≡_};
+ghost use Prim.Native.Nat.{_+_, _*_, _≤_, _<_};
+ghost use lib.ListN.{length, take};
+ghost use Rattle.packing.specs.Flat.{ruleAt, nodeBy, nodesIn};
+ghost use Rattle.grammar_reader.specs.Answer.{Bounded};
+ghost use Rattle.chart_table.specs.Table.{Sized};
+ghost use Rattle.cost_ranges.specs.Model.{Passable, tableBy};
+
+ghost use Rattle.word_margins.specs.Model.{useNode, useNodes, firstUsed};
+
+// An entry of the list.
+pub struct Entry {
+    pub amount: u32,
+    pub slot: u32,
+    pub word: u32,
+    pub weight: u32,
+}
+
+// What the service answers.
+pub enum Margins {
+    Listed(usize),
+    Refused(u32),
+}
+
+// The most cells of a table, and the most edges of an utterance.
+const MOST_CELLS: usize = 9600;
+
+const MOST_EDGES: usize = 168;
+
+// One reading is looked for.
+const ONE: usize = 1;
+
+const USED: u32 = 1;
+
+// Marks the edge of a leaf.
+fn use_node(rules: &[u32], rule: u32, edge: u32, used: &mut [u32])
+    ensures { λ _. ⌜ now (used .exit) ≡ useNode (now (used .entry)) (nodeBy (ruleAt (now (rules .entry)) rule) rule edge) ⌝ }
+{
+    let kind = rule_at(rules, wide(rule));
+    match kind {
+        Rule::Pair(_, _, _, _) => {}
+        Rule::Word(_, _, _) => {
+            store(used, wide(edge), USED);
+        }
+    }
+}
+
+// Marks the edges of a tree, whose nodes are traced.
+fn use_nodes(rules: &[u32], trace: &[u32], nodes: usize, used: &mut [u32])
+    requires { ⌜ (nodes ≤ 47) × (2 * nodes ≤ length (now trace)) ⌝ }
+    ensures { λ _. ⌜ now (used .exit) ≡ useNodes (now (used .entry)) (nodesIn (now (rules .entry)) (take (2 * nodes) (now (trace .entry)))) ⌝ }
+{
+    for i in 0..nodes {
+        let p = NUMBERS_PER_NODE * i;
+        use_node(rules, trace[p], trace[p + 1], used);
+    }
+}
+
+// Marks the edges of the first tree that the table has.
+fn use_first(rules: &[u32], t: &[u32], d: Layout, used: &mut [u32])
+    requires { ⌜ (Sized d) × (0 < d .places) × (d .places ≤ 24) ⌝ }
+    ensures { λ _. ⌜ now (used .exit) ≡ firstUsed (now (rules .entry)) (now (t .entry)) d (now (used .entry)) ⌝ }
+{
+    let mut trace = [0u32; TRACE_LENGTH];
+    let numbers = chart::trace_root(t, rules, d, 0, &mut trace);
+    let nodes = numbers / NUMBERS_PER_NODE;
+    use_nodes(rules, &trace, nodes, used);
+}
+
+// The list, from the table of a pass, its first weight and the edges that its first tree uses.
+fn list_margins(
+    rules: &[u32],
+    edges: &[u32],
+    used: &[u32],
+    pass: Pass,
+    first: u32,
+    t: &[u32],
+    out: &mut [u32],
+) -> usize
+{
+    let mut outside = [0u32; MOST_CELLS];
+    fill(&mut outside, t, rules, pass);
+    put_entries(&outside, rules, edges, used, pass, first, out)
+}
+
+// The list, by a pass for one reading.
+fn pass_margins(
+    rules: &[u32],
+    edges: &[u32],
+    pass: Pass,
+    work: &mut [u32],
+    out: &mut [u32],
+) -> usize
+{
+    let d = pass.table;
+    let found = chart::enumerate(work, rules, pass.rules, edges, pass.edges, d);
+    if found == 0 {
+        chart::clear_table(work, d);
+        return 0;
+    }
+    let first = chart::root_weight(&work[..], d, 0);
+    let mut used = [0u32; MOST_EDGES];
+    use_first(rules, &work[..], d, &mut used);
+    let m = list_margins(rules, edges, &used, pass, first, &work[..], out);
+    chart::clear_table(work, d);
+    m
+}
+
+// The answer for an utterance whose edges are in an array, under an accepted grammar.
+fn margins_edges(
+    rules: &[u32],
+    sizes: Sizes,
+    edges: &[u32],
+    heard: HeardSize,
+    work: &mut [u32],
+    out: &mut [u32],
+) -> Margins
+{
+    let table = chart::lay_out(sizes.symbols as usize, heard.last, ONE);
+    if work.len() < chart::table_numbers(table) {
+        return Margins::Refused(refused::LISTING_WORK);
+    }
+    if out.len() < NUMBERS_PER_ENTRY * heard.edges {
+        return Margins::Refused(refused::OUTPUT_SHORT);
+    }
+    let pass = Pass {
+        rules: sizes.rules as usize,
+        edges: heard.edges,
+        table,
+    };
+    Margins::Listed(pass_margins(rules, edges, pass, work, out))
+}
+
+// The answer for a block under an accepted grammar.
+fn margins_grammar(
+    rules: &[u32],
+    sizes: Sizes,
+    utterance: &[u8],
+    work: &mut [u32],
+    out: &mut [u32],
+) -> Margins
+{
+    let mut edges = [0u32; EDGES_LENGTH];
+    match read_slots(utterance, sizes.words, &mut edges) {
+        HeardRead::Refused(n) => Margins::Refused(n),
+        HeardRead::Heard(heard) => { margins_edges(rules, sizes, &edges, heard, work, out) }
+    }
+}
+
+// The list of words to listen to again, of four numbers each, at the front of the output, and their number. The work table is all zeros
+// afterwards.
+pub fn word_margins(
+    grammar: &[u8],
+    utterance: &[u8],
+    work: &mut [u32],
+    out: &mut [u32],
+) -> Margins
+{
+    let mut rules = [0u32; RULES_LENGTH];
+    match grammar_reader::read_block(grammar, &mut rules) {
+        GrammarRead::Refused(n) => Margins::Refused(n),
+        GrammarRead::Grammar(sizes) => { margins_grammar(&rules, sizes, utterance, work, out) }
+    }
+}
