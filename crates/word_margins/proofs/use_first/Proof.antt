@@ -1,34 +1,27 @@
+-- A trace stands whole in front of its array.
+use mathlib.Core.Path.{_∙_}
+use Rattle.cost_ranges.proofs.Told.{trace-front, trace-fits}
 use borrow.Author.Needs.{needs}
 use Rattle.word_margins.proofs.use_first.Statement.{statement}
 use Rattle.word_margins.proofs.use_first.Tie as tie
-use Rattle.word_margins.proofs.use_first.Reads as reads
-use Rattle.word_margins.proofs.use_first.Lts as lts
-use Rattle.chart.proofs.trace_root.Reads as trace-root-reads
-use Rattle.word_margins.proofs.use_nodes.Reads as use-nodes-reads
 
--- src/lib.rt:89:53
 slice-aggregate-trace-root : tie.Need-slice-aggregate-trace-root
 slice-aggregate-trace-root c = search needs
 
--- src/lib.rt:89:9
 trace-root-requires : tie.Need-trace-root-requires
-trace-root-requires c κs = search needs
+trace-root-requires c κs = (c .before .before .before .before .pre .0, c .before .before .before .before .pre .1, c .before .before .before .before .pre .0 .kept)
 
--- src/lib.rt:91:22
 slice-aggregate-use-nodes : tie.Need-slice-aggregate-use-nodes
 slice-aggregate-use-nodes c = search needs
 
--- src/lib.rt:91:5
 use-nodes-requires : tie.Need-use-nodes-requires
-use-nodes-requires c κs = ?
+use-nodes-requires c κs = trace-fits (c .before .before .before .before .before .before .before .before .args .t .now) (c .before .before .before .before .before .before .before .before .args .rules .now) (c .before .before .before .before .before .before .before .before .args .d) (c .before .before .before .before .before .before .before .before .pre .1) (c .before .before .before .before .before .before .before .before .pre .2) (c .before .before .before .trace-root .ensures .1) (c .before .before .before .trace-root .ensures .0)
 
--- src/lib.rt:84:1
 same-length : tie.Need-same-length
 same-length c = search needs
 
--- src/lib.rt:84:1
 returns : tie.Need-returns
-returns c = ?
+returns c = c .before .before .use-nodes .ensures ∙ rw (trace-front (c .before .before .before .before .before .before .before .before .before .before .before .args .t .now) (c .before .before .before .before .before .before .before .before .before .before .before .args .rules .now) (c .before .before .before .before .before .before .before .before .before .before .before .args .d) (c .before .before .before .before .before .before .before .before .before .before .before .pre .1) (c .before .before .before .before .before .before .before .before .before .before .before .pre .2) (c .before .before .before .before .before .before .trace-root .ensures .1) (c .before .before .before .before .before .before .trace-root .ensures .0))
 
 pub use-first-spec : {M : Type 1} → statement M
 use-first-spec =

@@ -1,42 +1,33 @@
+-- The rule's kind decides whether there are parts.
+use native.Mathlib.Omega.{arith}
+use Rattle.word_margins.proofs.Steps.{pair-lowered, word-lowered}
 use borrow.Author.Needs.{needs}
 use Rattle.word_margins.proofs.outside.lower_parts.Statement.{statement}
 use Rattle.word_margins.proofs.outside.lower_parts.Tie as tie
-use Rattle.word_margins.proofs.outside.lower_parts.Reads as reads
-use Rattle.word_margins.proofs.outside.lower_parts.Lts as lts
-use Rattle.arrays.proofs.rule_at.Reads as rule-at-reads
-use Rattle.word_margins.proofs.outside.lower_left.Reads as lower-left-reads
-use Rattle.word_margins.proofs.outside.lower_right.Reads as lower-right-reads
 
--- src/outside.rt:208:9
 rule-at-requires : tie.Need-rule-at-requires
 rule-at-requires c κs = search needs
 
--- src/outside.rt:210:20
 enum-known-rule : tie.Need-enum-known-rule
 enum-known-rule c = search needs
 
--- src/outside.rt:216:13
 lower-left-requires : tie.Need-lower-left-requires
-lower-left-requires c κs = search needs
+lower-left-requires c κs = (c .before .before .before .before .before .before .before .before .pre .0, record { from = c .before .before .before .before .before .before .before .before .pre .2; some = c .before .before .before .before .before .before .before .before .pre .3; to = omega (arith, c .before .before .before .before .before .before .before .before .pre .0 .places, c .before .before .before .before .before .before .before .before .pre .4) }, c .before .before .before .before .before .before .before .before .pre .4)
 
--- src/outside.rt:222:13
 lower-right-requires : tie.Need-lower-right-requires
-lower-right-requires c κs = search needs
+lower-right-requires c κs = (c .before .before .before .before .before .before .before .before .before .before .before .before .pre .0, record { from = c .before .before .before .before .before .before .before .before .before .before .before .before .pre .2; some = c .before .before .before .before .before .before .before .before .before .before .before .before .pre .3; to = omega (arith, c .before .before .before .before .before .before .before .before .before .before .before .before .pre .0 .places, c .before .before .before .before .before .before .before .before .before .before .before .before .pre .4) })
 
 enum-told : tie.Need-enum-told
 enum-told c = search needs
 
--- src/outside.rt:196:1
 same-length : tie.Need-same-length
 same-length c = search needs
 
--- src/outside.rt:196:1
 returns : tie.Need-returns
-returns c = ?
+returns c = pair-lowered (c .before .before .before .before .before .before .before .before .before .before .before .before .before .before .before .args .outside .now) (c .before .before .before .before .before .before .before .before .before .before .before .before .before .before .before .args .t .now) (c .before .before .before .before .before .before .before .before .before .before .before .before .before .before .before .args .rules .now) (c .before .before .before .before .before .before .before .before .before .before .before .before .before .before .before .args .d) (c .before .before .before .before .before .before .before .before .before .before .before .before .before .before .before .args .from) (c .before .before .before .before .before .before .before .before .before .before .before .before .before .before .before .args .to) (c .before .before .before .before .before .before .before .before .before .before .before .before .before .before .before .args .r) (c .before .before .before .before .before .before .before .before .before .before .before .rule-at .ensures) (c .before .before .before .before .before .before .before .before .before .rule .given .1) (c .before .before .before .before .before .before .lower-left .ensures) (c .before .before .lower-right .ensures)
 
--- src/outside.rt:196:1
 returns-2 : tie.Need-returns-2
-returns-2 c = ?
+returns-2 c = word-lowered (c .before .before .before .before .before .before .args .outside .now) (c .before .before .before .before .before .before .args .t .now) (c .before .before .before .before .before .before .args .rules .now) (c .before .before .before .before .before .before .args .d) (c .before .before .before .before .before .before .args .from) (c .before .before .before .before .before .before .args .to) (c .before .before .before .before .before .before .args .r) (c .before .before .rule-at .ensures) (c .enum-told .given .1)
 
 pub lower-parts-spec : {M : Type 1} → statement M
 lower-parts-spec =

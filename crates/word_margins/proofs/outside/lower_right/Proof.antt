@@ -1,40 +1,29 @@
+-- A cell without a tree is passed over; else the least is lowered.
+use Rattle.word_margins.proofs.Steps.{right-passed, right-lowered}
 use borrow.Author.Needs.{needs}
 use Rattle.word_margins.proofs.outside.lower_right.Statement.{statement}
 use Rattle.word_margins.proofs.outside.lower_right.Tie as tie
-use Rattle.word_margins.proofs.outside.lower_right.Reads as reads
-use Rattle.word_margins.proofs.outside.lower_right.Lts as lts
-use Rattle.chart_table.proofs.cell_number.Reads as cell-number-reads
-use Rattle.word_margins.proofs.outside.inside_at.Reads as inside-at-reads
-use Rattle.word_margins.proofs.outside.lower.Reads as lower-reads
-use Rattle.word_margins.proofs.outside.right_least.Reads as right-least-reads
 
--- src/outside.rt:187:9
 cell-number-requires : tie.Need-cell-number-requires
 cell-number-requires c κs = search needs
 
--- src/outside.rt:188:8
 inside-at-requires : tie.Need-inside-at-requires
 inside-at-requires c κs = search needs
 
--- src/outside.rt:189:9
 returns : tie.Need-returns
-returns c = ?
+returns c = right-passed (c .before .before .before .before .before .args .outside .now) (c .before .before .before .before .before .args .t .now) (c .before .before .before .before .before .args .d) (c .before .before .before .before .before .args .part) (c .before .before .before .before .before .args .head) (c .before .before .before .before .before .args .left) (c .before .before .before .before .before .args .weight) (c .before .before .cell-number .ensures .0) (c .before .inside-at .ensures .0) (c .if1 .taken)
 
--- src/outside.rt:191:9
 right-least-requires : tie.Need-right-least-requires
-right-least-requires c κs = search needs
+right-least-requires c κs = (c .before .before .before .before .before .before .pre .0, c .before .before .before .before .before .before .pre .1)
 
--- src/outside.rt:192:5
 lower-requires : tie.Need-lower-requires
-lower-requires c κs = search needs
+lower-requires c κs = c .before .right-least .ensures .1
 
--- src/outside.rt:175:1
 same-length : tie.Need-same-length
 same-length c = search needs
 
--- src/outside.rt:175:1
 returns-2 : tie.Need-returns-2
-returns-2 c = ?
+returns-2 c = right-lowered (c .before .before .before .before .before .before .before .before .before .before .before .args .outside .now) (c .before .before .before .before .before .before .before .before .before .before .before .args .t .now) (c .before .before .before .before .before .before .before .before .before .before .before .args .d) (c .before .before .before .before .before .before .before .before .before .before .before .args .part) (c .before .before .before .before .before .before .before .before .before .before .before .args .head) (c .before .before .before .before .before .before .before .before .before .before .before .args .left) (c .before .before .before .before .before .before .before .before .before .before .before .args .weight) (c .before .before .before .before .before .before .before .before .cell-number .ensures .0) (c .before .before .before .before .before .before .before .inside-at .ensures .0) (c .before .before .before .before .before .before .if1 .left) (c .before .before .before .before .right-least .ensures .0) (c .before .before .lower .ensures)
 
 pub lower-right-spec : {M : Type 1} → statement M
 lower-right-spec =

@@ -1,42 +1,43 @@
+-- The loop is the iteration over the rules.
+use mathlib.Core.Path.{_≡_, refl, _∙_}
+use native.Mathlib.Omega.{arith}
+use Prim.Native.Nat.{_-_, _≤_}
+use lib.ListN.{length}
+use Rattle.packing.specs.Loop.{iter}
+use Rattle.packing.proofs.Loop.{iter-more, iter-end}
+use Rattle.packing.specs.Flat.{ruleAt}
+use Rattle.word_margins.specs.Model.{lowerParts, overRules}
 use Rattle.word_margins.proofs.outside.over_rules.Statement.{statement}
 use Rattle.word_margins.proofs.outside.over_rules.Tie as tie
-use Rattle.word_margins.proofs.outside.over_rules.Reads as reads
-use Rattle.word_margins.proofs.outside.over_rules.Lts as lts
-use Rattle.word_margins.proofs.outside.lower_parts.Reads as lower-parts-reads
 
 abbrev Inv-loop : tie.InvT-loop
-Inv-loop outside₀ t rules count d from to r₀ outside r = ?
+Inv-loop outside₀ t rules count d from to r₀ outside r = (r ≤ count) × (length outside ≡ length outside₀) × (outside ≡ iter (λ u y. lowerParts u t d from to (ruleAt rules y)) outside₀ r)
 
 abbrev μ-loop : tie.MeasureT-loop
-μ-loop outside₀ t rules count d from to r₀ outside r = ?
+μ-loop outside₀ t rules count d from to r₀ outside r = count - r
 
--- src/outside.rt:241:5
 loop-holds : tie.Need-loop-holds Inv-loop μ-loop
-loop-holds c = ?
+unfolding iter
+loop-holds c = (omega arith, refl, refl)
 
--- src/outside.rt:242:9
 lower-parts-requires : tie.Need-lower-parts-requires Inv-loop μ-loop
-lower-parts-requires c κs = ?
+lower-parts-requires c κs = (c .before .before .before .before .before .before .pre .0, omega (arith, c .before .before .before .before .before .before .pre .1, c .before .loop-test .taken), c .before .before .before .before .before .before .pre .2, c .before .before .before .before .before .before .pre .3, c .before .before .before .before .before .before .pre .4)
 
--- src/outside.rt:241:9
 add-r : tie.Need-add-r Inv-loop μ-loop
-add-r c = ?
+add-r c = omega (arith, c .before .before .before .before .before .before .before .before .before .pre .1, c .before .before .before .before .loop-test .taken)
 
--- src/outside.rt:241:5
 loop-less : tie.Need-loop-less Inv-loop μ-loop
-loop-less c = ?
+loop-less c = omega (arith, c .before .before .before .before .loop-test .taken)
 
--- src/outside.rt:241:5
 loop-again : tie.Need-loop-again Inv-loop μ-loop
-loop-again c = ?
+loop-again c = (omega (arith, c .before .before .before .before .loop-test .taken), c .before .before .lower-parts .kept .0 ∙ c .before .before .before .before .before .loop .inv .1, c .before .before .lower-parts .ensures ∙ rw (iter-more, ← c .before .before .before .before .before .loop .inv .2))
 
--- src/outside.rt:229:1
 same-length : tie.Need-same-length Inv-loop μ-loop
-same-length c = ?
+same-length c = c .before .loop .inv .1
 
--- src/outside.rt:229:1
 returns : tie.Need-returns Inv-loop μ-loop
-returns c = ?
+unfolding overRules
+returns c = c .before .loop .inv .2 ∙ iter-end _ _ _ _ (c .before .loop .inv .0) (c .loop-test .left)
 
 pub over-rules-spec : {M : Type 1} → statement M
 over-rules-spec =
