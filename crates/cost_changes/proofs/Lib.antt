@@ -8,4 +8,10 @@ pub mod Utterances
 pub mod Raised
 pub mod Valid
 pub mod Theorems
+pub mod Least
+pub mod Inside
+pub mod Contexts
 pub mod MarginExamples
+pub mod Outside
+pub mod Agree
+pub mod Through
