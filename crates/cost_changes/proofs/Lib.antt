@@ -15,3 +15,5 @@ pub mod MarginExamples
 pub mod Outside
 pub mod Agree
 pub mod Through
+pub mod Lowered
+pub mod Margins
