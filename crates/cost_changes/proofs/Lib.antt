@@ -17,3 +17,6 @@ pub mod Agree
 pub mod Through
 pub mod Lowered
 pub mod Margins
+pub mod EdgeOrder
+pub mod Placed
+pub mod Listed
