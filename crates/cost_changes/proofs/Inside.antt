@@ -6,7 +6,7 @@ use Prim.Native.Nat.{ℕ}
 use lib.ListN.{getElem?}
 use Rattle.packing.specs.declared.Sym.{Sym}
 use Rattle.packing.specs.Meaning.{Grammar, Edge}
-use Rattle.derivation.specs.Derivation.{Tree, Derives, weight}
+use Rattle.derivation.specs.Derivation.{At, Tree, Derives, weight}
 use Rattle.derivation.specs.List.{ranked}
 use Rattle.derivation.proofs.Cell.{place-derives}
 use Rattle.derivation.proofs.Lists.{none≢some}
@@ -28,3 +28,12 @@ module _ (g : Grammar) (es : List Edge) (A : Sym) (i k : ℕ) where
           → (t : Tree) × Derives g es A i k t × (weight g es t ≡ v)
       go none p v e = absurd (none≢some e)
       go (some t) p v e = let h : weight g es t ≡ v = cc in (t, place-derives g es A i k 0 p, h)
+
+  -- by the first of the ranked list
+  pub inside-first : (t : Tree) → At (ranked g es A i k) 0 t → inside g es A i k ≡ some (weight g es t)
+  unfolding inside weightIf
+  inside-first t e = rw e
+
+  pub inside-none : getElem? (ranked g es A i k) 0 ≡ none → inside g es A i k ≡ none
+  unfolding inside weightIf
+  inside-none e = rw e

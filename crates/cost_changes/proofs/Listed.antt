@@ -21,13 +21,13 @@ use Rattle.derivation.proofs.Ranges.{Ascending, valid-ascending}
 use Rattle.derivation.proofs.Slots.{edges-in}
 use Rattle.cost_changes.specs.Costs.{edgesOf, Uses, First}
 use Rattle.cost_changes.specs.Passes.{firstOf}
-use Rattle.cost_changes.specs.Margins.{Margin, Entry, entry, Ascends, Margins}
+use Rattle.cost_changes.specs.Margins.{Overtaken, Margin, Entry, entry, Ascends, Margins}
 use Rattle.cost_changes.specs.Outside.{Cells, outside, through}
 use Rattle.cost_changes.specs.Listed.{has, place, placeIf, entryFrom, entryOf, listed, listedFor, marginsOf}
 use Rattle.cost_changes.proofs.First.{place-first, none-derives}
 use Rattle.cost_changes.proofs.EdgeOrder.{edges-before}
-use Rattle.cost_changes.proofs.Placed.{place-mem, placeOrder, place-ascends, ascends-unique}
-use Rattle.cost_changes.proofs.Margins.{margin-is, no-margin}
+use Rattle.cost_changes.proofs.Placed.{place-mem, place-length, placeOrder, place-ascends, ascends-unique}
+use Rattle.cost_changes.proofs.Margins.{lightens, margin-is, no-margin}
 
 -- a number is in a list or not
 has-cases : (e : ℕ) (l : List ℕ) → ((e ∈ l) × (has e l ≡ true)) ⊎ (¬ (e ∈ l) × (has e l ≡ false))
@@ -129,6 +129,16 @@ module _ (g : Grammar) (es : List Edge) (used : ℕ → Bool) (w : ℕ) (outer :
       go (no r) none q before = before (omega arith)
       go (no r) (some a) q before = place-mem a (listed g es used w outer m) z .1 (inr (before (omega arith)))
 
+  -- no more entries than edges
+  pub listed-length : (m : ℕ) → length (listed g es used w outer m) ≤ m
+  unfolding listed placeIf
+  listed-length zero = omega arith
+  listed-length (suc m) = go (entryOf g es used w outer m (getElem? es m)) (listed-length m)
+    where
+      go : (o : Option Entry) → length (listed g es used w outer m) ≤ m → length (placeIf o (listed g es used w outer m)) ≤ suc m
+      go none h = omega arith
+      go (some a) h = omega (arith, place-length a (listed g es used w outer m))
+
 -- the entries of edges that ascend by slot and word ascend
 listed-ascends : (g : Grammar) (u : Utterance) → Ascending u → (used : ℕ → Bool) (w : ℕ) (outer : Cells) (m : ℕ)
     → Ascends (listed g (edges u) used w outer m)
@@ -206,9 +216,9 @@ module _ (g : Grammar) (u : Utterance) (ascending : Ascending u) (t : Tree) (fir
   }
 
 -- the list that is made has each entry, in its order, and nothing else
-pub margins-are : (W : ℕ) (g : Grammar) (u : Utterance) → ValidUtterance W u → Margins g u (marginsOf g u)
+pub margins-are : (words : ℕ) (g : Grammar) (u : Utterance) → ValidUtterance words u → Margins g u (marginsOf g u)
 unfolding marginsOf listedFor
-margins-are W g u valid = go (firstOf g (edges u) (length u)) refl
+margins-are words g u valid = go (firstOf g (edges u) (length u)) refl
   where
     go : (o : Option Tree) → firstOf g (edges u) (length u) ≡ o → Margins g u (listedFor g (length u) (edges u) o)
     go none e = record {
@@ -218,7 +228,26 @@ margins-are W g u valid = go (firstOf g (edges u) (length u)) refl
         (λ m. let (t, f, q) = m .overtaken .today-is in absurd (none-derives g u e t (f .derivation))),
       );
     }
-    go (some t) e = listed-are g u (valid-ascending W u valid) t (place-first g u e)
+    go (some t) e = listed-are g u (valid-ascending words u valid) t (place-first g u e)
+
+-- "each entry must hold when the cost is changed and the listing run afresh, and a fall smaller by one must bring none": of all falls within
+-- the cost those from the amount on bring a lighter first reading, and no others
+pub margin-lightens : (words : ℕ) (g : Grammar) (u : Utterance) → ValidUtterance words u → (s d v : ℕ) (x : W.Word) (m : Margin g u s x d v) (f : ℕ)
+    → f ≤ m .cost → Overtaken g u s x f ↔ (d ≤ f)
+margin-lightens words g u valid s d v x m f h =
+    let asc = valid-ascending words u valid in
+    let (t, first, q) = m .overtaken .today-is in
+    let (e, p) = mem-at (edges-in 0 u s (m .there) (m .offers)) in
+    let z : 0 + s ≡ s = omega arith in
+    let at = subst (λ i. At (edges u) e (edge i (suc i) x (m .cost))) z p in
+    go asc t first e at (through g (outside g (edges u) (symbolOf 0) (length u)) (edge s (suc s) x (m .cost))) refl
+  where
+    go : Ascending u → (t : Tree) → First g u t → (e : ℕ) → At (edges u) e (edge s (suc s) x (m .cost)) → (o : Option ℕ)
+        → through g (outside g (edges u) (symbolOf 0) (length u)) (edge s (suc s) x (m .cost)) ≡ o → Overtaken g u s x f ↔ (d ≤ f)
+    go asc t first e p none r = absurd (no-margin g u asc e s (suc s) (m .cost) x p (m .heard) t first r d v m)
+    go asc t first e p (some v′) r =
+        let (n, hd, l, hv) = margin-is g u asc e s (suc s) (m .cost) x p (m .heard) t first v′ r d v .0 m in
+        rw hd (lightens g u asc e s (suc s) (m .cost) x p (m .heard) t first v′ r f h)
 
 -- and no other list has
 pub margins-unique : (g : Grammar) (u : Utterance) (l m : List Entry) → Margins g u l → Margins g u m → l ≡ m

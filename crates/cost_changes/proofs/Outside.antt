@@ -251,8 +251,22 @@ module _ (g : Grammar) (es : List Edge) (S : Sym) (n : ℕ) where
           } in
           least-unique _ _ again (outside-least B i j b d)
 
-  -- and it fits as a weight does
-  pub outside-bound : Short es → All Light (g .rules) → CheapEdges es → (B : Sym) (i j v : ℕ) → i < j
-      → outside g es S n B i j ≡ some v → v + 196605 * (j - i) ≤ 196605 * n
-  outside-bound short light cheap B i j v b e =
-      let (c, a, q) = outside-found B i j v b e in omega (arith, rim-bound g es S n short light cheap a)
+  -- and it fits as a weight does, whatever number of rules was gone over
+  module _ (short : Short es) (light : All Light (g .rules)) (cheap : CheapEdges es) where
+    abbrev Fits : ℕ → ℕ → ℕ → Type 0
+    Fits i j v = v + 196605 * (j - i) ≤ 196605 * n
+
+    stands-bound : {B : Sym} {i j v : ℕ} → Stands B i j v → Fits i j v
+    stands-bound (c, a, q) = omega (arith, rim-bound g es S n short light cheap a)
+
+    pub outside-bound : (B : Sym) (i j v : ℕ) → i < j → outside g es S n B i j ≡ some v → Fits i j v
+    outside-bound B i j v b e = stands-bound (outside-found B i j v b e)
+
+    pub after-bound : (B : Sym) (i j m v : ℕ) → i < j → afterRules (outside g es S n) inner g S n B i j m ≡ some v → Fits i j v
+    after-bound B i j m v b e = stands-bound (after-found (outside g es S n) outside-found B i j m v b e)
+
+    pub left-bound : (B : Sym) (i j r v : ℕ) → i < j → asLeft (outside g es S n) inner n B i j (getElem? (g .rules) r) ≡ some v → Fits i j v
+    left-bound B i j r v b e = stands-bound (left-found (outside g es S n) outside-found B i j r (getElem? (g .rules) r) v b refl e)
+
+    pub right-bound : (B : Sym) (i j r v : ℕ) → i < j → asRight (outside g es S n) inner B i j (getElem? (g .rules) r) ≡ some v → Fits i j v
+    right-bound B i j r v b e = stands-bound (right-found (outside g es S n) outside-found B i j r (getElem? (g .rules) r) v b refl e)

@@ -14,8 +14,10 @@ use Rattle.packing.specs.declared.Rule.the-variants.{Pair, Word}
 use Rattle.packing.specs.Meaning.{notHeard, Grammar, Edge, edge}
 use Rattle.derivation.specs.Derivation.{At, Offered, Tree, leaf, Derives, by-word, weight}
 use Rattle.derivation.proofs.Lists.{none≢some, at-length}
-use Rattle.derivation.proofs.Paths.{Forward}
+use Rattle.derivation.proofs.Paths.{Forward, forward-weight}
+use Rattle.derivation.proofs.Ranges.{All, Light}
 use Rattle.derivation.proofs.Rows.{leaf-weight}
+use Rattle.derivation.proofs.Slots.{CheapEdges}
 use Rattle.derivation.proofs.Trees.{same-word}
 use Rattle.cost_changes.specs.Costs.{edgesOf, Uses}
 use Rattle.cost_changes.specs.Outside.{sum, outside, throughBy, through}
@@ -78,3 +80,9 @@ module _ (g : Grammar) (es : List Edge) (S : Sym) (n : ℕ) (fw : Forward es) (e
         let (v, q, b) = by-finds (l .above) (l .surrounds) (l .derives) in
         (v, q, omega (arith, ap (weight g es) (l .whole-is)));
   }
+
+  -- it fits as a weight does
+  pub through-bound : All Light (g .rules) → CheapEdges es → (v : ℕ) → through g (outside g es S n) (edge i k x c) ≡ some v
+      → v + 65535 ≤ 196605 * n
+  through-bound light cheap v q =
+      let (t, (d, u), p) = through-least .found v q in omega (arith, forward-weight g es fw light cheap d)
