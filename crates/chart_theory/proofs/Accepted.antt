@@ -21,6 +21,7 @@ use Rattle.derivation.proofs.Lists.{at-take}
 use Rattle.derivation.proofs.Ranges.{all-at, Within, valid-rules, valid-sizes, valid-within, valid-light}
 use Rattle.derivation.proofs.Paths.{forward-weight, forward-costs}
 use Rattle.derivation.proofs.HeardReadings.{heard-forward, heard-cheap, heard-last}
+use Rattle.chart_table.specs.declared.Cell.{Cell}
 use Rattle.chart_table.specs.declared.Layout.{Layout}
 use Rattle.chart_table.specs.Table.{root, clear}
 use Rattle.chart_index.specs.Index.{indexNumbers}
@@ -29,7 +30,7 @@ use Rattle.chart_index.proofs.Index.{indexed}
 use Rattle.chart.specs.Chart.{layOut, enumerate, rootsFound, rootWeight, rootTrace}
 use Rattle.chart_theory.proofs.Table.Cells.{InChart}
 use Rattle.chart_theory.proofs.Invariant.{Setting}
-use Rattle.chart_theory.proofs.Chart.{Lists, search-lists}
+use Rattle.chart_theory.proofs.Chart.{Lists, search-lists, FirstIs, search-firsts}
 
 -- there is a place behind the first, and at most 7 edges for each slot, or 96
 heard-sizes : (W : ℕ) (h : Heard) → ValidHeard W h → (1 ≤ lastPlace h) × (length (heardEdges h) ≤ 168)
@@ -112,3 +113,9 @@ module _ (g : Grammar) (h : Heard) (N : ℕ) where
         (rootsFound (enumerate rules (length (g .rules)) edge-array (length (heardEdges h)) layout size) layout)
     unfolding enumerate layOut
     chart-holds size room = holds rules _ (search-lists setting in-root size (omega arith))
+
+    -- and the first tree of every cell
+    pub chart-firsts : (size : ℕ) → 4 * g .symbols * (lastPlace h * (lastPlace h + 1) / 2) * N ≤ size → (c : Cell) → InChart layout c
+        → FirstIs g (heardEdges h) layout (enumerate rules (length (g .rules)) edge-array (length (heardEdges h)) layout size) c
+    unfolding enumerate layOut
+    chart-firsts size room = search-firsts setting in-root size (omega arith)

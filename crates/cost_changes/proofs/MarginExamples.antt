@@ -28,6 +28,11 @@ both : marginsOf G (costs 4 7 3 2) ≡ entry 2 0 1 14 ∷ entry 2 1 3 14 ∷ []
 unfolding slotEdges edgesFrom marginsOf
 both = refl
 
+-- by amount before slot
+sorted : marginsOf G (costs 4 8 3 2) ≡ entry 2 1 3 14 ∷ entry 3 0 1 15 ∷ []
+unfolding slotEdges edgesFrom marginsOf
+sorted = refl
+
 -- the amount of word 3 would be above its cost
 one : marginsOf G (costs 4 3 0 9) ≡ entry 4 0 0 10 ∷ []
 unfolding slotEdges edgesFrom marginsOf

@@ -1,5 +1,5 @@
 -- Inside and outside weights: the least weight of a derivation that uses an edge, found cell by cell, the longer spans first. A cell is a
--- head and two places. Nobody need believe this page: proofs/Inside, Around and Through say what its numbers are. Stands on derivation's List.
+-- head and two places. Nobody need believe this page: proofs/Inside, Outside and Through say what its numbers are. Stands on derivation's List.
 use mathlib.Core.Option.{Option, none, some}
 use mathlib.Core.List.{List}
 use Prim.Native.Nat.{ℕ, zero, suc, _+_, _-_, min}
