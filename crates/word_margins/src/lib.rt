@@ -25,12 +25,15 @@ use packing::refused;
 ghost use mathlib.Core.Path.{_≡_};
 ghost use Prim.Native.Nat.{_+_, _*_, _≤_, _<_};
 ghost use lib.ListN.{length, take};
+ghost use Rattle.packing.specs.Parse.{accepted};
 ghost use Rattle.packing.specs.Flat.{ruleAt, nodeBy, nodesIn};
 ghost use Rattle.grammar_reader.specs.Answer.{Bounded};
-ghost use Rattle.chart_table.specs.Table.{Sized};
+ghost use Rattle.packing.specs.Store.{storeAll};
+ghost use Rattle.chart_table.specs.Table.{Sized, clear};
+ghost use Rattle.cost_changes.specs.Margins.{listNumbers};
 ghost use Rattle.cost_ranges.specs.Model.{Passable, tableBy};
-
-ghost use Rattle.word_margins.specs.Model.{useNode, useNodes, firstUsed};
+ghost use Rattle.word_margins.specs.WordMargins.{margins, marginsAnswer, workAfter, outputAfter, Meant};
+ghost use Rattle.word_margins.specs.Model.{useNode, useNodes, firstUsed, tableList, passList, EdgesMargins, GrammarMargins};
 
 // An entry of the list.
 pub struct Entry {
@@ -101,6 +104,9 @@ fn list_margins(
     t: &[u32],
     out: &mut [u32],
 ) -> usize
+    requires { ⌜ (Passable pass) × (4 * pass .edges ≤ length (now out)) ⌝ }
+    ensures { λ r. ⌜ r ≡ length (tableList (now (rules .entry)) (now (edges .entry)) (now (used .entry)) pass first (now (t .entry))) ⌝ }
+    ensures { λ r. ⌜ now (out .exit) ≡ storeAll (now (out .entry)) 0 (listNumbers (tableList (now (rules .entry)) (now (edges .entry)) (now (used .entry)) pass first (now (t .entry)))) ⌝ }
 {
     let mut outside = [0u32; MOST_CELLS];
     fill(&mut outside, t, rules, pass);
@@ -115,6 +121,10 @@ fn pass_margins(
     work: &mut [u32],
     out: &mut [u32],
 ) -> usize
+    requires { ⌜ (Passable pass) × (pass .table .places ≤ 24) × (4 * pass .edges ≤ length (now out)) ⌝ }
+    ensures { λ r. ⌜ r ≡ length (passList (now (rules .entry)) (now (edges .entry)) pass (length (now (work .entry)))) ⌝ }
+    ensures { λ r. ⌜ now (work .exit) ≡ clear (tableBy (now (rules .entry)) (now (edges .entry)) pass (length (now (work .entry)))) (pass .table) ⌝ }
+    ensures { λ r. ⌜ now (out .exit) ≡ storeAll (now (out .entry)) 0 (listNumbers (passList (now (rules .entry)) (now (edges .entry)) pass (length (now (work .entry))))) ⌝ }
 {
     let d = pass.table;
     let found = chart::enumerate(work, rules, pass.rules, edges, pass.edges, d);
@@ -139,6 +149,8 @@ fn margins_edges(
     work: &mut [u32],
     out: &mut [u32],
 ) -> Margins
+    requires { ⌜ (Bounded sizes) × (1 ≤ heard .last) × (heard .last ≤ 24) × (heard .edges ≤ 168) ⌝ }
+    ensures { λ r. ⌜ EdgesMargins (now (rules .entry)) sizes (now (edges .entry)) heard (now (work .entry)) (now (out .entry)) r (now (work .exit)) (now (out .exit)) ⌝ }
 {
     let table = chart::lay_out(sizes.symbols as usize, heard.last, ONE);
     if work.len() < chart::table_numbers(table) {
@@ -163,6 +175,8 @@ fn margins_grammar(
     work: &mut [u32],
     out: &mut [u32],
 ) -> Margins
+    requires { ⌜ Bounded sizes ⌝ }
+    ensures { λ r. ⌜ GrammarMargins (now (rules .entry)) sizes (now (utterance .entry)) (now (work .entry)) (now (out .entry)) r (now (work .exit)) (now (out .exit)) ⌝ }
 {
     let mut edges = [0u32; EDGES_LENGTH];
     match read_slots(utterance, sizes.words, &mut edges) {
@@ -179,6 +193,10 @@ pub fn word_margins(
     work: &mut [u32],
     out: &mut [u32],
 ) -> Margins
+    ensures { λ r. ⌜ r ≡ marginsAnswer (margins (now (grammar .entry)) (now (utterance .entry)) (length (now (work .entry))) (length (now (out .entry)))) ⌝ }
+    ensures { λ r. ⌜ now (work .exit) ≡ workAfter (margins (now (grammar .entry)) (now (utterance .entry)) (length (now (work .entry))) (length (now (out .entry)))) (now (work .entry)) ⌝ }
+    ensures { λ r. ⌜ now (out .exit) ≡ outputAfter (margins (now (grammar .entry)) (now (utterance .entry)) (length (now (work .entry))) (length (now (out .entry)))) (now (out .entry)) ⌝ }
+    ensures { λ r. ⌜ Meant (now (grammar .entry)) (now (utterance .entry)) (now (work .entry)) (now (out .entry)) (λ l. r ≡ marginsAnswer (accepted l)) (now (work .exit)) (now (out .exit)) ⌝ }
 {
     let mut rules = [0u32; RULES_LENGTH];
     match grammar_reader::read_block(grammar, &mut rules) {

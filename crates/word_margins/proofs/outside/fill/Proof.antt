@@ -1,61 +1,56 @@
+-- The loop is the iteration over lengths, the greatest first.
+use mathlib.Core.Path.{_≡_, refl, _∙_}
+use native.Mathlib.Omega.{arith}
+use Prim.Native.Nat.{_-_, _≤_}
+use lib.ListN.{length, set}
+use Rattle.packing.specs.Loop.{iter}
+use Rattle.packing.proofs.Loop.{iter-more, iter-end}
+use Rattle.chart_table.specs.Table.{root, cellNumber}
+use Rattle.word_margins.specs.Model.{overSpans, fill}
+use borrow.Author.Needs.{needs}
 use Rattle.word_margins.proofs.outside.fill.Statement.{statement}
 use Rattle.word_margins.proofs.outside.fill.Tie as tie
-use Rattle.word_margins.proofs.outside.fill.Reads as reads
-use Rattle.word_margins.proofs.outside.fill.Lts as lts
-use Rattle.arrays.proofs.store.Reads as store-reads
-use Rattle.chart_table.proofs.cell_number.Reads as cell-number-reads
-use Rattle.chart_table.proofs.root.Reads as root-reads
-use Rattle.word_margins.proofs.outside.over_spans.Reads as over-spans-reads
 
 abbrev Inv-loop : tie.InvT-loop
-Inv-loop outside₀ t rules pass places x₀ outside x = ?
+Inv-loop outside₀ t rules pass places x₀ outside x = (x ≤ pass .table .places) × (length outside ≡ length outside₀) × (outside ≡ iter (λ u y. overSpans u t rules pass (pass .table .places - y)) outside₀ x)
 
 abbrev μ-loop : tie.MeasureT-loop
-μ-loop outside₀ t rules pass places x₀ outside x = ?
+μ-loop outside₀ t rules pass places x₀ outside x = pass .table .places - x
 
--- src/outside.rt:264:35
 root-requires : tie.Need-root-requires Inv-loop μ-loop
-root-requires c κs = ?
+root-requires c κs = search needs
 
--- src/outside.rt:264:20
 cell-number-requires : tie.Need-cell-number-requires Inv-loop μ-loop
-cell-number-requires c κs = ?
+cell-number-requires c κs = (c .before .before .before .before .before .before .pre .sized, rw (c .root .ensures) (omega arith), rw (c .root .ensures) (c .before .before .before .before .before .before .pre .some-place), rw (c .root .ensures) (c .before .before .before .before .before .before .pre .sized .places))
 
--- src/outside.rt:264:5
 store-requires : tie.Need-store-requires Inv-loop μ-loop
-store-requires c κs = ?
+store-requires c κs = search needs
 
--- src/outside.rt:266:5
 loop-holds : tie.Need-loop-holds Inv-loop μ-loop
-loop-holds c = ?
+unfolding iter
+loop-holds c = (omega arith, refl, refl)
 
--- src/outside.rt:267:45
 sub-over-spans : tie.Need-sub-over-spans Inv-loop μ-loop
-sub-over-spans c = ?
+sub-over-spans c = omega (arith, c .before .loop-test .taken)
 
--- src/outside.rt:267:9
 over-spans-requires : tie.Need-over-spans-requires Inv-loop μ-loop
-over-spans-requires c κs = ?
+over-spans-requires c κs = (c .before .before .before .before .before .before .before .before .before .before .before .before .before .pre, omega (arith, c .before .loop-test .taken), omega arith)
 
--- src/outside.rt:266:9
 add-x : tie.Need-add-x Inv-loop μ-loop
-add-x c = ?
+add-x c = omega (arith, c .before .before .before .before .before .before .before .before .before .before .before .before .before .before .before .before .pre .sized .places, c .before .before .before .before .loop-test .taken)
 
--- src/outside.rt:266:5
 loop-less : tie.Need-loop-less Inv-loop μ-loop
-loop-less c = ?
+loop-less c = omega (arith, c .before .before .before .before .loop-test .taken)
 
--- src/outside.rt:266:5
 loop-again : tie.Need-loop-again Inv-loop μ-loop
-loop-again c = ?
+loop-again c = (omega (arith, c .before .before .before .before .loop-test .taken), c .before .before .over-spans .kept .0 ∙ c .before .before .before .before .before .loop .inv .1, c .before .before .over-spans .ensures ∙ rw (iter-more, ← c .before .before .before .before .before .loop .inv .2))
 
--- src/outside.rt:259:1
 same-length : tie.Need-same-length Inv-loop μ-loop
-same-length c = ?
+same-length c = c .before .loop .inv .1 ∙ c .before .before .before .before .store .kept .0
 
--- src/outside.rt:259:1
 returns : tie.Need-returns Inv-loop μ-loop
-returns c = ?
+unfolding fill
+returns c = c .before .loop .inv .2 ∙ iter-end _ _ _ _ (c .before .loop .inv .0) (c .loop-test .left) ∙ rw (c .before .before .before .before .store .ensures, c .before .before .before .before .before .cell-number .ensures .0, c .before .before .before .before .before .before .root .ensures)
 
 pub fill-spec : {M : Type 1} → statement M
 fill-spec =
