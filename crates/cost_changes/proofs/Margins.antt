@@ -9,7 +9,7 @@ use native.Mathlib.Nat.{le-refl}
 use native.Mathlib.Omega.{arith}
 use lib.ListN.{length}
 use Rattle.packing.specs.declared.Word as W
-use Rattle.packing.specs.Meaning.{notHeard, symbolOf, Grammar, Utterance, Candidate, candidate, Edge, edge, edges, slots}
+use Rattle.packing.specs.Meaning.{notHeard, symbolOf, Grammar, Utterance, Candidate, candidate, edge, edges, slots}
 use Rattle.derivation.specs.Derivation.{At, Tree, Derives, Derivation, edgeCost, weight}
 use Rattle.derivation.specs.Rank.{_∈_}
 use Rattle.derivation.proofs.Lists.{none≢some, mem-at}

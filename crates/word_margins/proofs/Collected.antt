@@ -15,7 +15,7 @@ use Rattle.packing.specs.declared.Sym.{Sym}
 use Rattle.packing.specs.declared.Word as W
 use Rattle.packing.specs.declared.Rule as R
 use Rattle.packing.specs.declared.Rule.the-variants.{Pair, Word}
-use Rattle.packing.specs.Meaning.{notHeard, symbolOf, word, Grammar, Utterance, Edge, edge, edges}
+use Rattle.packing.specs.Meaning.{notHeard, symbolOf, word, Grammar, Utterance, edge, edges}
 use Rattle.packing.specs.Flat.{ruleAt}
 use Rattle.derivation.specs.Derivation.{At, Tree, weight}
 use Rattle.derivation.proofs.Ranges.{Ascending}

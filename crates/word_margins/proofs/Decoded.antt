@@ -3,7 +3,7 @@ use mathlib.Core.Path.{_≡_, refl, sym, ap, _∙_}
 use mathlib.Core.Bool.{Bool, true, false}
 use mathlib.Core.Option.{Option, none, some}
 use mathlib.Core.List.{List}
-use Prim.Native.Nat.{ℕ, zero, suc, _+_, _-_, _/_, _≤_, _<_, min}
+use Prim.Native.Nat.{ℕ, zero, suc, _+_, _-_, min}
 use native.Mathlib.Omega.{arith}
 use native.Mathlib.Numerals.{add-one}
 use lib.Dec.{eqb, ltb}
@@ -14,15 +14,14 @@ use Rattle.packing.specs.Loop.{iter}
 use Rattle.packing.specs.declared.Sym.{Sym}
 use Rattle.packing.specs.declared.Rule.the-variants.{Pair}
 use Rattle.packing.specs.Meaning.{Grammar, Edge}
-use Rattle.derivation.specs.Derivation.{At, Tree, weight}
+use Rattle.derivation.specs.Derivation.{Tree, weight}
 use Rattle.derivation.specs.List.{ranked}
 use Rattle.derivation.proofs.Lists.{none≢some}
-use Rattle.chart_keys.specs.Keys.{weightUnit}
 use Rattle.chart_table.specs.declared.Layout.{Layout}
 use Rattle.chart_table.specs.Table.{cell, cellNumber, priceAt}
 use Rattle.chart_theory.proofs.Chart.{FirstIs}
 use Rattle.cost_changes.specs.Outside as O
-use Rattle.cost_changes.specs.Outside.{Cells, leastUpto, sum, ifSame, inside, asLeft, asRight}
+use Rattle.cost_changes.specs.Outside.{Cells, leastUpto, sum, inside, asLeft, asRight}
 use Rattle.cost_changes.proofs.Inside.{inside-first, inside-none}
 use Rattle.cost_changes.proofs.Least.{upto-same, same-is}
 use Rattle.word_margins.specs.Model.{lesser, insideAt, joined, leftLeast, rightLeast}

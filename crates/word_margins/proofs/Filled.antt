@@ -5,17 +5,15 @@ use mathlib.Core.Logic.{_⊎_, inl, inr, ⊎-elim}
 use mathlib.Core.Bool.{Bool, true, false}
 use mathlib.Core.Option.{Option, none, some}
 use mathlib.Core.List.{List}
-use Prim.Native.Nat.{ℕ, zero, suc, _+_, _-_, _*_, _%_, _≤_, _<_}
+use Prim.Native.Nat.{ℕ, suc, _+_, _-_, _%_, _≤_, _<_}
 use native.Mathlib.Nat.{le-refl}
 use native.Mathlib.Omega.{arith}
-use native.Mathlib.Numerals.{add-one}
-use native.Mathlib.Decide.{ℕ-discrete, decLt}
+use native.Mathlib.Decide.{ℕ-discrete}
 use lib.Dec.{eqb}
 use lib.ListN.{length, getD, getElem?, set, length-set}
 use lib.Seq.{getD-set-same, getD-set-other}
-use borrow.Author.Tests.{eqb-true, eqb-false, eq-eqb, ne-eqb}
+use borrow.Author.Tests.{eqb-true, eq-eqb, ne-eqb}
 use Rattle.bits.specs.Bits.{pick}
-use Rattle.packing.specs.Loop.{iter}
 use Rattle.packing.proofs.Loop.{iter-keeps}
 use Rattle.packing.specs.declared.Sym.{Sym}
 use Rattle.packing.specs.declared.Rule as R
@@ -36,7 +34,7 @@ use Rattle.cost_changes.specs.Outside as O
 use Rattle.cost_changes.specs.Outside.{Cells, ifThere, inside, around, asLeft, asRight, afterRules, outside}
 use Rattle.cost_changes.proofs.Least.{lesser-found}
 use Rattle.cost_changes.proofs.Agree.{AgreeAbove, rules-same}
-use Rattle.cost_changes.proofs.Outside.{outside-is, after-bound, left-bound, right-bound}
+use Rattle.cost_changes.proofs.Outside.{outside-is, after-bound, left-bound}
 use Rattle.word_margins.specs.Model.{lesser, insideAt, leftLeast, rightLeast, lower, lowerLeft, lowerRight, lowerParts, overRules, overSpans, fill}
 use Rattle.word_margins.proofs.Decoded.{read, read-none, read-some, lesser-read, outerIn, innerIn, left-read, right-read}
 
