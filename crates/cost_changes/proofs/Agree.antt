@@ -1,23 +1,19 @@
 -- Cells that agree where they are read give the same numbers: so a table of cells may stand for a function of them.
-use mathlib.Core.Path.{_≡_, refl, ap, _∙_}
+use mathlib.Core.Path.{_≡_, refl, ap}
 use mathlib.Core.Option.{Option, none, some}
-use mathlib.Core.Bool.{Bool, true, false}
+use mathlib.Core.Bool.{Bool}
 use mathlib.Core.List.{List}
 use Prim.Native.Nat.{ℕ, zero, suc, _+_, _-_, _≤_, _<_}
 use native.Mathlib.Omega.{arith}
-use lib.Dec.{ltb}
 use lib.ListN.{length, getElem?}
-use Rattle.bits.specs.Bits.{pick}
 use Rattle.packing.specs.declared.Sym.{Sym}
-use Rattle.packing.specs.declared.Word as W
 use Rattle.packing.specs.declared.Rule as R
 use Rattle.packing.specs.declared.Rule.the-variants.{Pair, Word}
-use Rattle.packing.specs.Meaning.{notHeard, Grammar, Edge, edge}
+use Rattle.packing.specs.Meaning.{Grammar, Edge, edge}
 use Rattle.derivation.specs.Derivation.{At}
 use Rattle.derivation.proofs.Ranges.{All, all-at, Within}
-use Rattle.cost_changes.specs.Margins.{Entry}
-use Rattle.cost_changes.specs.Outside.{Cells, lesser, leastUpto, sum, ifSame, ifThere, inside, around, asLeft, asRight, afterRules, outsideFrom, outside, throughBy, through}
-use Rattle.cost_changes.specs.Listed.{placeIf, entryFrom, entryOf, listed}
+use Rattle.cost_changes.specs.Outside.{Cells, sum, ifSame, inside, asLeft, asRight, afterRules, outsideFrom, outside, throughBy, through}
+use Rattle.cost_changes.specs.Listed.{entryOf, listed}
 use Rattle.cost_changes.proofs.Least.{upto-same}
 use Rattle.cost_changes.proofs.Outside.{outside-is}
 

@@ -1,10 +1,9 @@
 -- The edges of an utterance ascend by slot, then word.
-use mathlib.Core.Path.{_≡_, refl, ap}
+use mathlib.Core.Path.{_≡_}
 use mathlib.Core.Logic.{_⊎_, ⊎-elim}
 use mathlib.Core.List.{List, [], _∷_, _++_, List·Memᴰ·append-cases, List·Memᴰ·cases-cons, List·Memᴰ·not-nil}
-use Prim.Native.Nat.{ℕ, zero, suc, _+_, _≤_, _<_, compare, Ordering, Ordering·lt}
+use Prim.Native.Nat.{ℕ, zero, suc, _≤_, _<_, compare, Ordering, Ordering·lt}
 use native.Mathlib.Omega.{arith}
-use Rattle.packing.specs.declared.Word as W
 use Rattle.packing.specs.Meaning.{Utterance, Candidate, candidate, Edge, edge, slotEdges, edgesFrom, edges}
 use Rattle.derivation.specs.Derivation.{At}
 use Rattle.derivation.specs.Order.{_▸_}

@@ -12,9 +12,9 @@ use lib.ListN.{length, getElem?}
 use borrow.Author.Tests.{leb-true, ltb-true, eqb-true, eqb-false, le-leb, lt-ltb}
 use Rattle.bits.specs.Bits.{pick}
 use Rattle.packing.specs.declared.Word as W
-use Rattle.packing.specs.Meaning.{notHeard, symbolOf, word, Grammar, Utterance, Edge, edge, edges, slots}
+use Rattle.packing.specs.Meaning.{notHeard, symbolOf, word, Grammar, Utterance, Edge, edge, edges}
 use Rattle.packing.specs.Valid.{ValidUtterance}
-use Rattle.derivation.specs.Derivation.{At, Tree, Derivation, weight}
+use Rattle.derivation.specs.Derivation.{At, Tree, weight}
 use Rattle.derivation.specs.Rank.{_∈_}
 use Rattle.derivation.proofs.Lists.{none≢some, mem-at, at-length}
 use Rattle.derivation.proofs.Ranges.{Ascending, valid-ascending}
@@ -23,7 +23,7 @@ use Rattle.cost_changes.specs.Costs.{edgesOf, Uses, First}
 use Rattle.cost_changes.specs.Passes.{firstOf}
 use Rattle.cost_changes.specs.Margins.{Overtaken, Margin, Entry, entry, Ascends, Margins}
 use Rattle.cost_changes.specs.Outside.{Cells, outside, through}
-use Rattle.cost_changes.specs.Listed.{has, place, placeIf, entryFrom, entryOf, listed, listedFor, marginsOf}
+use Rattle.cost_changes.specs.Listed.{has, placeIf, entryFrom, entryOf, listed, listedFor, marginsOf}
 use Rattle.cost_changes.proofs.First.{place-first, none-derives}
 use Rattle.cost_changes.proofs.EdgeOrder.{edges-before}
 use Rattle.cost_changes.proofs.Placed.{place-mem, place-length, placeOrder, place-ascends, ascends-unique}

@@ -5,17 +5,16 @@ use mathlib.Core.Bool.{Bool, true, false}
 use mathlib.Core.Option.{Option, none, some}
 use mathlib.Core.List.{List, [], _∷_, _++_, map}
 use Prim.Native.Nat.{ℕ, zero, suc, _+_, _-_, _≤_, _<_}
-use native.Mathlib.Nat.{le-refl}
 use native.Mathlib.Omega.{arith}
 use native.Mathlib.Decide.{ℕ-discrete}
 use lib.Dec.{eqb}
 use lib.ListN.{length, getElem?}
-use borrow.Author.Tests.{eqb-true, eqb-false, eq-eqb}
+use borrow.Author.Tests.{eqb-true, eq-eqb}
 use Rattle.bits.specs.Bits.{pick}
 use Rattle.packing.specs.declared.Sym.{Sym}
 use Rattle.packing.specs.declared.Word as W
-use Rattle.packing.specs.Meaning.{notHeard, symbolOf, Grammar, Utterance, Candidate, candidate, Edge, edge, slotEdges, edgesFrom, edges, slots}
-use Rattle.derivation.specs.Derivation.{At, Tree, edgeCost, Derives, Derivation, weight}
+use Rattle.packing.specs.Meaning.{notHeard, Grammar, Utterance, Candidate, candidate, Edge, edge, slotEdges, edgesFrom, edges}
+use Rattle.derivation.specs.Derivation.{At, Tree, edgeCost, Derives, weight}
 use Rattle.derivation.proofs.Lists.{none≢some, at-map}
 use Rattle.derivation.proofs.Paths.{Forward}
 use Rattle.derivation.proofs.Ranges.{Ascending}
@@ -23,8 +22,8 @@ use Rattle.derivation.proofs.Slots.{edges-apart}
 use Rattle.derivation.proofs.Trees.{same-word}
 use Rattle.cost_changes.specs.Costs.{costAt, edgesOf, Uses}
 use Rattle.cost_changes.specs.Margins.{lowerIn, lowerWord}
-use Rattle.cost_changes.proofs.Sums.{total, total-upto, total-from, total-single}
-use Rattle.cost_changes.proofs.Alike.{Alike, alike-self, alike-turn, alike-derives}
+use Rattle.cost_changes.proofs.Sums.{total-upto, total-from, total-single}
+use Rattle.cost_changes.proofs.Alike.{Alike}
 use Rattle.cost_changes.proofs.Weights.{weight-parts, weight-same}
 use Rattle.cost_changes.proofs.Once.{used-once}
 

@@ -9,7 +9,7 @@ use native.Mathlib.Nat.{le-refl}
 use native.Mathlib.Omega.{arith}
 use lib.ListN.{length}
 use Rattle.packing.specs.declared.Word as W
-use Rattle.packing.specs.Meaning.{notHeard, symbolOf, Grammar, Utterance, Candidate, candidate, Edge, edge, edges, slots}
+use Rattle.packing.specs.Meaning.{notHeard, symbolOf, Grammar, Utterance, Candidate, candidate, edge, edges, slots}
 use Rattle.derivation.specs.Derivation.{At, Tree, Derives, Derivation, edgeCost, weight}
 use Rattle.derivation.specs.Rank.{_∈_}
 use Rattle.derivation.proofs.Lists.{none≢some, mem-at}
@@ -140,7 +140,7 @@ module _ (g : Grammar) (u : Utterance) (ascending : Ascending u) (e s k c : ℕ)
       not-less : (t : Tree) → Derivation g (slots u) t → Uses t e → v ≤ weight g (edges u) t
       not-less t q m = let (v′, p, l) = through-is .finds t (q, m) in let same : v ≡ v′ = cc in omega arith
 
-      first-under : w₁ ≤ v
+      pub first-under : w₁ ≤ v
       first-under = let (t, (q, m), p) = through-is .found v is in omega (arith, first-least g u first t q)
 
       -- the first weight is lower exactly from w(e) + 1 − w1 on

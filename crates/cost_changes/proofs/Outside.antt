@@ -13,7 +13,7 @@ use Rattle.packing.specs.declared.Sym.{Sym}
 use Rattle.packing.specs.declared.Rule as R
 use Rattle.packing.specs.declared.Rule.the-variants.{Pair, Word}
 use Rattle.packing.specs.Meaning.{Grammar, Edge}
-use Rattle.derivation.specs.Derivation.{At, Tree, node, Derives, by-pair, weight}
+use Rattle.derivation.specs.Derivation.{At, Tree, Derives, by-pair}
 use Rattle.derivation.proofs.Lists.{none≢some, at-length}
 use Rattle.derivation.proofs.Ranges.{All, Light}
 use Rattle.derivation.proofs.Slots.{Short, CheapEdges}

@@ -1,6 +1,6 @@
 -- The weight through an edge that was heard is the least weight of a derivation that uses it: every such derivation is a leaf over the edge,
 -- plugged into what stands around it.
-use mathlib.Core.Path.{_≡_, refl, sym, ap, _∙_}
+use mathlib.Core.Path.{_≡_, refl, ap}
 use mathlib.Core.Option.{Option, none, some}
 use mathlib.Core.List.{List, List·Memᴰ·head}
 use Prim.Native.Nat.{ℕ, _+_, _*_, _≤_, _<_}
@@ -11,7 +11,7 @@ use Rattle.packing.specs.declared.Sym.{Sym}
 use Rattle.packing.specs.declared.Word as W
 use Rattle.packing.specs.declared.Rule as R
 use Rattle.packing.specs.declared.Rule.the-variants.{Pair, Word}
-use Rattle.packing.specs.Meaning.{notHeard, Grammar, Edge, edge}
+use Rattle.packing.specs.Meaning.{Grammar, Edge, edge}
 use Rattle.derivation.specs.Derivation.{At, Offered, Tree, leaf, Derives, by-word, weight}
 use Rattle.derivation.proofs.Lists.{none≢some, at-length}
 use Rattle.derivation.proofs.Paths.{Forward, forward-weight}
