@@ -1,55 +1,46 @@
+-- The lengths of the work table and of the output decide between the refusals and the list.
+use Prim.Native.Nat.{_≤_, _<_}
+use native.Mathlib.Omega.{arith}
+use lib.ListN.{length}
+use Rattle.listing.specs.Listing.{tableSize}
+use Rattle.listing.proofs.Sizes.{table-is, layout-is}
+use Rattle.word_margins.proofs.Outcome.{edges-short, edges-narrow, edges-listed}
 use borrow.Author.Needs.{needs}
 use Rattle.word_margins.proofs.margins_edges.Statement.{statement}
 use Rattle.word_margins.proofs.margins_edges.Tie as tie
-use Rattle.word_margins.proofs.margins_edges.Reads as reads
-use Rattle.word_margins.proofs.margins_edges.Lts as lts
-use Rattle.chart.proofs.lay_out.Reads as lay-out-reads
-use Rattle.chart.proofs.table_numbers.Reads as table-numbers-reads
-use Rattle.word_margins.proofs.pass_margins.Reads as pass-margins-reads
 
--- src/lib.rt:155:32
 cast-lay-out : tie.Need-cast-lay-out
 cast-lay-out c = search needs
 
--- src/lib.rt:155:9
 lay-out-requires : tie.Need-lay-out-requires
-lay-out-requires c κs = search needs
+lay-out-requires c κs = (c .before .before .before .before .before .pre .0 .symbols, omega (arith, c .before .before .before .before .before .pre .2), omega arith, omega arith)
 
--- src/lib.rt:156:21
 table-numbers-requires : tie.Need-table-numbers-requires
-table-numbers-requires c κs = search needs
+table-numbers-requires c κs = c .lay-out .ensures .1
 
--- src/lib.rt:157:9
 returns : tie.Need-returns
-returns c = ?
+returns c = let a = c .before .before .before .before .before .before .before .before .args in let numbers = table-is (a .sizes .symbols) (a .heard .last) 1 (c .before .before .lay-out .ensures .0) (c .before .table-numbers .ensures .0) in let short : length (a .work .now) < tableSize (a .sizes .symbols) (a .heard .last) 1 = rw numbers at (c .if1 .taken) in edges-short (a .rules .now) (a .sizes) (a .edges .now) (a .heard) (a .work .now) (a .out .now) short
 
--- src/lib.rt:159:20
 mul-if2 : tie.Need-mul-if2
 mul-if2 c = search needs
 
--- src/lib.rt:160:9
 returns-2 : tie.Need-returns-2
-returns-2 c = ?
+returns-2 c = let a = c .before .before .before .before .before .before .before .before .before .before .args in let numbers = table-is (a .sizes .symbols) (a .heard .last) 1 (c .before .before .before .before .lay-out .ensures .0) (c .before .before .before .table-numbers .ensures .0) in let room : tableSize (a .sizes .symbols) (a .heard .last) 1 ≤ length (a .work .now) = rw numbers at (c .before .before .if1 .left) in edges-narrow (a .rules .now) (a .sizes) (a .edges .now) (a .heard) (a .work .now) (a .out .now) room (c .if2 .taken)
 
--- src/lib.rt:163:16
 cast-t9 : tie.Need-cast-t9
 cast-t9 c = search needs
 
--- src/lib.rt:167:21
 pass-margins-requires : tie.Need-pass-margins-requires
-pass-margins-requires c κs = ?
+pass-margins-requires c κs = let (places, ranks) = layout-is (c .before .before .before .before .before .before .before .before .before .before .before .before .before .args .sizes .symbols) (c .before .before .before .before .before .before .before .before .before .before .before .before .before .args .heard .last) 1 (c .before .before .before .before .before .before .before .lay-out .ensures .0) in (record { sized = c .before .before .before .before .before .before .before .lay-out .ensures .1; some-place = omega (arith, places, c .before .before .before .before .before .before .before .before .before .before .before .before .before .pre .1); some-rank = omega (arith, ranks); rules = c .before .before .before .before .before .before .before .before .before .before .before .before .before .pre .0 .rules; edges = omega (arith, c .before .before .before .before .before .before .before .before .before .before .before .before .before .pre .3) }, omega (arith, places, c .before .before .before .before .before .before .before .before .before .before .before .before .before .pre .2), c .before .before .before .if2 .left)
 
--- src/lib.rt:144:1
 same-length : tie.Need-same-length
 same-length c = search needs
 
--- src/lib.rt:144:1
 same-length-2 : tie.Need-same-length-2
 same-length-2 c = search needs
 
--- src/lib.rt:144:1
 returns-3 : tie.Need-returns-3
-returns-3 c = ?
+returns-3 c = let a = c .before .before .before .before .before .before .before .before .before .before .before .before .before .before .before .before .before .before .args in let numbers = table-is (a .sizes .symbols) (a .heard .last) 1 (c .before .before .before .before .before .before .before .before .before .before .before .before .lay-out .ensures .0) (c .before .before .before .before .before .before .before .before .before .before .before .table-numbers .ensures .0) in let room : tableSize (a .sizes .symbols) (a .heard .last) 1 ≤ length (a .work .now) = rw numbers at (c .before .before .before .before .before .before .before .before .before .before .if1 .left) in edges-listed (a .rules .now) (a .sizes) (a .edges .now) (a .heard) (a .work .now) (a .out .now) room (c .before .before .before .before .before .before .before .before .if2 .left) (c .before .before .before .before .before .before .before .before .before .before .before .before .lay-out .ensures .0) (c .before .before .before .before .pass-margins .ensures .0) (c .before .before .before .before .pass-margins .ensures .1 .0) (c .before .before .before .before .pass-margins .ensures .1 .1) (c .before .before .before .before .pass-margins .kept .1 .1 .1 .0)
 
 pub margins-edges-spec : {M : Type 1} → statement M
 margins-edges-spec =

@@ -1,50 +1,40 @@
+-- What the reader says of the block decides between its refusal and the list.
+use Rattle.packing.specs.Heard.{asSlots}
+use Rattle.heard_reader.proofs.Outcome.{accepted-told, refused-told}
+use Rattle.word_margins.proofs.Outcome.{utterance-refused, utterance-read}
 use borrow.Author.Needs.{needs}
 use Rattle.word_margins.proofs.margins_grammar.Statement.{statement}
 use Rattle.word_margins.proofs.margins_grammar.Tie as tie
-use Rattle.word_margins.proofs.margins_grammar.Reads as reads
-use Rattle.word_margins.proofs.margins_grammar.Lts as lts
-use Rattle.heard_reader.proofs.read_slots.Reads as read-slots-reads
-use Rattle.word_margins.proofs.margins_edges.Reads as margins-edges-reads
 
--- src/lib.rt:182:46
 slice-aggregate-read-slots : tie.Need-slice-aggregate-read-slots
 slice-aggregate-read-slots c = search needs
 
--- src/lib.rt:182:11
 read-slots-requires : tie.Need-read-slots-requires
 read-slots-requires c κs = search needs
 
--- src/lib.rt:183:28
 enum-known-n : tie.Need-enum-known-n
 enum-known-n c = search needs
 
--- src/lib.rt:184:26
 enum-known-heard : tie.Need-enum-known-heard
 enum-known-heard c = search needs
 
--- src/lib.rt:184:66
 slice-aggregate-margins-edges : tie.Need-slice-aggregate-margins-edges
 slice-aggregate-margins-edges c = search needs
 
--- src/lib.rt:184:38
 margins-edges-requires : tie.Need-margins-edges-requires
-margins-edges-requires c κs = ?
+margins-edges-requires c κs = let sized = rw (c .before .before .before .before .heard .given .1) at (c .before .before .before .before .before .before .before .read-slots .ensures .sized) in (c .before .before .before .before .before .before .before .before .before .before .before .before .before .pre, sized .0, sized .1, sized .3)
 
--- src/lib.rt:171:1
 returns : tie.Need-returns
-returns c = ?
+returns c = let a = c .before .before .before .before .before .before .before .before .before .before .args in utterance-refused (a .rules .now) (a .sizes) (a .utterance .now) (a .work .now) (a .out .now) (refused-told (asSlots (a .sizes .words) (a .utterance .now)) (c .before .before .before .before .read-slots .ensures .answer) (c .before .n .given .1))
 
--- src/lib.rt:171:1
 same-length : tie.Need-same-length
 same-length c = search needs
 
--- src/lib.rt:171:1
 same-length-2 : tie.Need-same-length-2
 same-length-2 c = search needs
 
--- src/lib.rt:171:1
 returns-2 : tie.Need-returns-2
-returns-2 c = ?
+returns-2 c = let a = c .before .before .before .before .before .before .before .before .before .before .before .before .before .before .before .before .before .before .args in let (h, v, y) = accepted-told (asSlots (a .sizes .words) (a .utterance .now)) (c .before .before .before .before .before .before .before .before .before .before .before .before .read-slots .ensures .answer) (c .before .before .before .before .before .before .before .before .before .heard .given .1) in utterance-read (a .rules .now) (a .sizes) (a .utterance .now) (a .work .now) (a .out .now) (c .before .before .before .before .before .before .before .before .before .before .before .before .read-slots .last .1 .1 .0) h v y (rw v at (c .before .before .before .before .before .before .before .before .before .before .before .before .read-slots .ensures .edges)) (c .before .before .before .before .margins-edges .ensures)
 
 pub margins-grammar-spec : {M : Type 1} → statement M
 margins-grammar-spec =
