@@ -6,3 +6,4 @@ pub mod Filled
 pub mod Collected
 pub mod Passed
 pub mod Outcome
+pub mod Refused

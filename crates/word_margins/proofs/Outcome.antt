@@ -25,15 +25,15 @@ use Rattle.heard_reader.specs.declared.HeardSize.{HeardSize}
 use Rattle.chart_table.specs.declared.Layout.{Layout}
 use Rattle.chart_table.specs.Table.{clear}
 use Rattle.chart.specs.Chart.{layOut}
-use Rattle.listing.specs.Listing.{tableSize}
+use Rattle.listing.specs.Listing.{tableSize, listedOf, workAfter}
+use Rattle.listing.specs.declared.Listed.{Listed}
+use Rattle.listing.specs.declared.Listed.the-variants.{Found, Refused}
 use Rattle.cost_ranges.specs.Model.{tableBy}
 use Rattle.cost_ranges.specs.declared.Pass.{Pass}
 use Rattle.cost_ranges.proofs.ThreePasses.{passOf, pass-clears}
 use Rattle.cost_ranges.proofs.Outcome.{zeros-kept, slots-out, slots-refused, words-of}
-use Rattle.word_margins.specs.WordMargins.{listed, margins, marginsAnswer, workAfter, outputAfter, Meant}
+use Rattle.word_margins.specs.WordMargins.{listed, margins, outputAfter, Meant}
 use Rattle.word_margins.specs.Model.{passList, Promised, EdgesMargins, GrammarMargins}
-use Rattle.word_margins.specs.declared.Margins.{Margins}
-use Rattle.word_margins.specs.declared.Margins.the-variants.{Listed, Refused}
 use Rattle.word_margins.proofs.Passed.{pass-list}
 use Rattle.word_margins.proofs.Insertion.{numbers-length, upto-length, table-length}
 
@@ -57,7 +57,7 @@ module _ (rules : List ℕ) (z : Sizes) (array : List ℕ) (y : HeardSize) (work
         → m ≡ length (passList rules array (record { rules = z .rules; edges = y .edges; table = d }) (length work))
         → work′ ≡ clear (tableBy rules array (record { rules = z .rules; edges = y .edges; table = d }) (length work)) d
         → out′ ≡ storeAll out 0 (listNumbers (passList rules array (record { rules = z .rules; edges = y .edges; table = d }) (length work)))
-        → length work′ ≡ length work → EdgesMargins rules z array y work out (Listed m) work′ out′
+        → length work′ ≡ length work → EdgesMargins rules z array y work out (Found m) work′ out′
     unfolding listed
     edges-listed wide {d} ed em ew eo kept g u okg oku ez ey begun begun′ =
         let room′ : tableSize (g .symbols) (length u) 1 ≤ length work = rw (ez, ey) at room in
@@ -70,7 +70,7 @@ module _ (rules : List ℕ) (z : Sizes) (array : List ℕ) (y : HeardSize) (work
         let zeros = pass-clears g okg rules begun (length work) u oku array begun′ room′ in
         let front = store-at out 0 (listNumbers (marginsOf g u)) (omega arith) in
         rw (le-ltb _ _ room′, le-ltb _ _ wide′) (
-          ap Listed (em ∙ ap length same),
+          ap Found (em ∙ ap length same),
           zeros-kept work (length (tableBy rules array (passOf g u) (length work))) (ew ∙ ap (λ (p : Pass). clear (tableBy rules array p (length work)) (p .table)) is ∙ zeros) kept,
           eo ∙ ap (λ (l : List M.Entry). storeAll out 0 (listNumbers l)) same ∙ front ∙ rw zero-add,
         )
@@ -83,7 +83,7 @@ module _ (rules : List ℕ) (z : Sizes) (utterance work out : List ℕ) where
   pub utterance-refused : {n : ℕ} → asSlots (z .words) utterance ≡ refused n → GrammarMargins rules z utterance work out (Refused n) work out
   utterance-refused e g okg ez begun = rw (words-of z g ez utterance ∙ slots-refused (z .words) utterance e) (refl, refl, refl)
 
-  pub utterance-read : (array : List ℕ) {y : HeardSize} {r : Margins} {work′ out′ : List ℕ} (h : Heard) → asSlots (z .words) utterance ≡ accepted h
+  pub utterance-read : (array : List ℕ) {y : HeardSize} {r : Listed} {work′ out′ : List ℕ} (h : Heard) → asSlots (z .words) utterance ≡ accepted h
       → y ≡ heardSize h → Begins (edgeNumbers (heardEdges h)) array → EdgesMargins rules z array y work out r work′ out′
       → GrammarMargins rules z utterance work out r work′ out′
   utterance-read array h e ey begun′ due g okg ez begun =
@@ -97,18 +97,18 @@ module _ (grammar utterance work out : List ℕ) where
   unfolding margins
   block-refused e = rw e (refl, refl, refl)
 
-  pub block-read : (rules : List ℕ) {z : Sizes} {r : Margins} {work′ out′ : List ℕ} (g : Grammar) → grammarBlock grammar ≡ accepted g → z ≡ sizes g
+  pub block-read : (rules : List ℕ) {z : Sizes} {r : Listed} {work′ out′ : List ℕ} (g : Grammar) → grammarBlock grammar ≡ accepted g → z ≡ sizes g
       → Begins (ruleNumbers g) rules → GrammarMargins rules z utterance work out r work′ out′
       → Promised (margins grammar utterance (length work) (length out)) work out r work′ out′
   unfolding margins
   block-read rules g e ez begun due = rw e (due g (grammar-block-out grammar g e .0) ez begun)
 
   -- what is due is what is meant
-  pub meant : {r : Margins} {work′ out′ : List ℕ} → Promised (margins grammar utterance (length work) (length out)) work out r work′ out′
-      → (r ≡ marginsAnswer (margins grammar utterance (length work) (length out)))
+  pub meant : {r : Listed} {work′ out′ : List ℕ} → Promised (margins grammar utterance (length work) (length out)) work out r work′ out′
+      → (r ≡ listedOf (margins grammar utterance (length work) (length out)))
       × ((work′ ≡ workAfter (margins grammar utterance (length work) (length out)) work)
       × ((out′ ≡ outputAfter (margins grammar utterance (length work) (length out)) out)
-      × Meant grammar utterance work out (λ l. r ≡ marginsAnswer (accepted l)) work′ out′))
+      × Meant grammar utterance work out (λ l. r ≡ listedOf (accepted l)) work′ out′))
   unfolding margins listed
   meant due = (
     due .0,

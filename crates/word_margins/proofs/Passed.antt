@@ -79,15 +79,15 @@ zeros zero z = refl
 zeros (suc n) zero = refl
 zeros (suc n) (suc z) = zeros n z
 
+pub few-edges : (W : ℕ) (u : Utterance) → ValidUtterance W u → length (edges u) ≤ 168
+unfolding utteranceEntries
+few-edges W u oku = omega (arith, slots-edges W 0 u (oku .1), valid-slots W u oku)
+
 module _ (g : Grammar) (okg : ValidGrammar g) (rules : List ℕ) (has-rules : Begins (ruleNumbers g) rules) (size : ℕ) (u : Utterance)
     (oku : ValidUtterance (g .words) u) (array : List ℕ) (has-edges : Begins (edgeNumbers (edges u)) array)
     (room : tableSize (g .symbols) (length u) 1 ≤ size) where
   abbrev table : List ℕ
   table = tableBy rules array (passOf g u) size
-
-  few-edges : length (edges u) ≤ 168
-  unfolding utteranceEntries
-  few-edges = omega (arith, slots-edges (g .words) 0 u (oku .1), valid-slots (g .words) u oku)
 
   few-cells : g .symbols * (length u * (length u + 1) / 2) ≤ 9600
   few-cells =
@@ -132,7 +132,7 @@ module _ (g : Grammar) (okg : ValidGrammar g) (rules : List ℕ) (has-rules : Be
       used-is : (z : Tree) (e : ℕ) → e < length (edges u)
           → has e (edgesOf z) ≡ pick (eqb (getD (useNodes (replicate 168 0) (trace z)) e 0) 0) false true
       used-is z e l =
-          let flag = marked z (replicate 168 0) e (rw length-replicate (omega (arith, few-edges))) in
+          let flag = marked z (replicate 168 0) e (rw length-replicate (omega (arith, few-edges (g .words) u oku))) in
           rw (flag, zeros 168 e) (go (has e (edgesOf z)))
         where
           go : (b : Bool) → b ≡ pick (eqb (pick b 1 0) 0) false true

@@ -1,6 +1,7 @@
 -- Which word to listen to again: document 02, N12, with the rows grammar block and utterance block of document 01's "Where each check stands".
 -- Stands on packing's definitions, on cost_changes' Margins and on the listing's size of a table.
 use mathlib.Core.Path.{_≡_}
+use mathlib.Core.Logic.{_⊎_}
 use mathlib.Core.List.{List, _++_}
 use Prim.Native.Nat.{ℕ, _*_, _≤_}
 use lib.Dec.{ltb}
@@ -14,8 +15,6 @@ use Rattle.cost_changes.specs.Margins as M
 use Rattle.cost_changes.specs.Margins.{listNumbers}
 use Rattle.cost_changes.specs.Listed.{marginsOf}
 use Rattle.listing.specs.Listing.{tableSize}
-use Rattle.word_margins.specs.declared.Margins.{Margins}
-use Rattle.word_margins.specs.declared.Margins.the-variants.{Listed, Refused}
 
 -- "The work table is as for one reading (22); next, an output shorter than four numbers for each candidate in the utterance block gives 43", for
 -- a work table and an output of these lengths; then the list. An utterance has an edge for each candidate, whether it was heard or not
@@ -24,19 +23,16 @@ listed g u work out =
     pick (ltb work (tableSize (g .symbols) (length u) 1)) (refused 22)
     (pick (ltb out (4 * length (edges u))) (refused 43) (accepted (marginsOf g u)))
 
+-- what is refused beyond the rows of both blocks
+abbrev pub MarginsRow : ℕ → Type 0
+MarginsRow n = (n ≡ 22) ⊎ (n ≡ 43)
+
 -- "This is for slots only": of another kind the block is refused with 12
 unfoldable pub margins : List ℕ → List ℕ → ℕ → ℕ → Verdict (List M.Entry)
 margins grammar utterance work out = grammarBlock grammar then λ g. utteranceBlock (g .words) utterance then λ u. listed g u work out
 
--- "The answer is the number of entries; output beyond them is unchanged", and the work table is all zeros; a refusal changes nothing
-abbrev pub marginsAnswer : Verdict (List M.Entry) → Margins
-marginsAnswer (accepted l) = Listed (length l)
-marginsAnswer (refused n) = Refused n
-
-abbrev pub workAfter : Verdict (List M.Entry) → List ℕ → List ℕ
-workAfter (accepted l) work = replicate (length work) 0
-workAfter (refused n) work = work
-
+-- "The answer is the number of entries", as the listing's is of readings (its `listedOf`); "output beyond them is unchanged", and the work table
+-- is all zeros (its `workAfter`); a refusal changes nothing
 abbrev pub outputAfter : Verdict (List M.Entry) → List ℕ → List ℕ
 outputAfter (accepted l) out = listNumbers l ++ drop (length (listNumbers l)) out
 outputAfter (refused n) out = out

@@ -15,6 +15,7 @@ use grammar_reader::Sizes;
 use heard_reader::HeardRead;
 use heard_reader::HeardSize;
 use heard_reader::read_slots;
+use listing::Listed;
 use outside::fill;
 use packing::Rule;
 use packing::format::EDGES_LENGTH;
@@ -31,8 +32,9 @@ ghost use Rattle.grammar_reader.specs.Answer.{Bounded};
 ghost use Rattle.packing.specs.Store.{storeAll};
 ghost use Rattle.chart_table.specs.Table.{Sized, clear};
 ghost use Rattle.cost_changes.specs.Margins.{listNumbers};
+ghost use Rattle.listing.specs.Listing.{listedOf, workAfter};
 ghost use Rattle.cost_ranges.specs.Model.{Passable, tableBy};
-ghost use Rattle.word_margins.specs.WordMargins.{margins, marginsAnswer, workAfter, outputAfter, Meant};
+ghost use Rattle.word_margins.specs.WordMargins.{margins, outputAfter, Meant};
 ghost use Rattle.word_margins.specs.Model.{useNode, useNodes, firstUsed, tableList, passList, EdgesMargins, GrammarMargins};
 
 // An entry of the list.
@@ -41,12 +43,6 @@ pub struct Entry {
     pub slot: u32,
     pub word: u32,
     pub weight: u32,
-}
-
-// What the service answers.
-pub enum Margins {
-    Listed(usize),
-    Refused(u32),
 }
 
 // The most cells of a table, and the most edges of an utterance.
@@ -148,23 +144,23 @@ fn margins_edges(
     heard: HeardSize,
     work: &mut [u32],
     out: &mut [u32],
-) -> Margins
+) -> Listed
     requires { ⌜ (Bounded sizes) × (1 ≤ heard .last) × (heard .last ≤ 24) × (heard .edges ≤ 168) ⌝ }
     ensures { λ r. ⌜ EdgesMargins (now (rules .entry)) sizes (now (edges .entry)) heard (now (work .entry)) (now (out .entry)) r (now (work .exit)) (now (out .exit)) ⌝ }
 {
     let table = chart::lay_out(sizes.symbols as usize, heard.last, ONE);
     if work.len() < chart::table_numbers(table) {
-        return Margins::Refused(refused::LISTING_WORK);
+        return Listed::Refused(refused::LISTING_WORK);
     }
     if out.len() < NUMBERS_PER_ENTRY * heard.edges {
-        return Margins::Refused(refused::OUTPUT_SHORT);
+        return Listed::Refused(refused::OUTPUT_SHORT);
     }
     let pass = Pass {
         rules: sizes.rules as usize,
         edges: heard.edges,
         table,
     };
-    Margins::Listed(pass_margins(rules, edges, pass, work, out))
+    Listed::Found(pass_margins(rules, edges, pass, work, out))
 }
 
 // The answer for a block under an accepted grammar.
@@ -174,33 +170,28 @@ fn margins_grammar(
     utterance: &[u8],
     work: &mut [u32],
     out: &mut [u32],
-) -> Margins
+) -> Listed
     requires { ⌜ Bounded sizes ⌝ }
     ensures { λ r. ⌜ GrammarMargins (now (rules .entry)) sizes (now (utterance .entry)) (now (work .entry)) (now (out .entry)) r (now (work .exit)) (now (out .exit)) ⌝ }
 {
     let mut edges = [0u32; EDGES_LENGTH];
     match read_slots(utterance, sizes.words, &mut edges) {
-        HeardRead::Refused(n) => Margins::Refused(n),
+        HeardRead::Refused(n) => Listed::Refused(n),
         HeardRead::Heard(heard) => { margins_edges(rules, sizes, &edges, heard, work, out) }
     }
 }
 
 // The list of words to listen to again, of four numbers each, at the front of the output, and their number. The work table is all zeros
 // afterwards.
-pub fn word_margins(
-    grammar: &[u8],
-    utterance: &[u8],
-    work: &mut [u32],
-    out: &mut [u32],
-) -> Margins
-    ensures { λ r. ⌜ r ≡ marginsAnswer (margins (now (grammar .entry)) (now (utterance .entry)) (length (now (work .entry))) (length (now (out .entry)))) ⌝ }
+pub fn word_margins(grammar: &[u8], utterance: &[u8], work: &mut [u32], out: &mut [u32]) -> Listed
+    ensures { λ r. ⌜ r ≡ listedOf (margins (now (grammar .entry)) (now (utterance .entry)) (length (now (work .entry))) (length (now (out .entry)))) ⌝ }
     ensures { λ r. ⌜ now (work .exit) ≡ workAfter (margins (now (grammar .entry)) (now (utterance .entry)) (length (now (work .entry))) (length (now (out .entry)))) (now (work .entry)) ⌝ }
     ensures { λ r. ⌜ now (out .exit) ≡ outputAfter (margins (now (grammar .entry)) (now (utterance .entry)) (length (now (work .entry))) (length (now (out .entry)))) (now (out .entry)) ⌝ }
-    ensures { λ r. ⌜ Meant (now (grammar .entry)) (now (utterance .entry)) (now (work .entry)) (now (out .entry)) (λ l. r ≡ marginsAnswer (accepted l)) (now (work .exit)) (now (out .exit)) ⌝ }
+    ensures { λ r. ⌜ Meant (now (grammar .entry)) (now (utterance .entry)) (now (work .entry)) (now (out .entry)) (λ l. r ≡ listedOf (accepted l)) (now (work .exit)) (now (out .exit)) ⌝ }
 {
     let mut rules = [0u32; RULES_LENGTH];
     match grammar_reader::read_block(grammar, &mut rules) {
-        GrammarRead::Refused(n) => Margins::Refused(n),
+        GrammarRead::Refused(n) => Listed::Refused(n),
         GrammarRead::Grammar(sizes) => { margins_grammar(&rules, sizes, utterance, work, out) }
     }
 }

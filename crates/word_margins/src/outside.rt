@@ -56,14 +56,7 @@ fn inside_at(t: &[u32], d: Layout, c: usize) -> usize
 }
 
 // What stands around one part of a node, as a weight plus 1: what stands around the node, its rule and its other part.
-fn join_at(
-    outside: &[u32],
-    t: &[u32],
-    d: Layout,
-    node: Cell,
-    other: Cell,
-    weight: u32,
-) -> usize
+fn join_at(outside: &[u32], t: &[u32], d: Layout, node: Cell, other: Cell, weight: u32) -> usize
     requires { ⌜ (Sized d) × (Spanned node) × (Spanned other) ⌝ }
     ensures { λ r. ⌜ (r ≡ joinAt (now (outside .entry)) (now (t .entry)) d node other weight) × (r < sums) ⌝ }
 {
