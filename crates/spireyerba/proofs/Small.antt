@@ -208,10 +208,10 @@ unfolding Again.margins Again.listed
 margins-small grammar utterance work out =
     small
     (then-short (grammarBlock grammar) _ (λ g e. then-short (utteranceBlock (g .words) utterance) _ (λ u f.
-    go (ltb work (tableSize (g .symbols) (length u) 1)) (ltb out (4 * length (edges u))) (few-margins (g .words) g u (utterance-block-out (g .words) utterance u f .0)))))
+    go (ltb work (tableSize (g .symbols) (length u) 1)) (ltb out (4 * length (edges u))) (marginsOf g u) (few-margins (g .words) g u (utterance-block-out (g .words) utterance u f .0)))))
     (wider (low-three (λ n r. omega (arith, r)) (low-both (λ n r. omega (arith, r)) (λ n r. omega (arith, r)))) (margins-row grammar utterance work out))
   where
-    go : (b c : Bool) {l : List Entry} → length l ≤ 168 → Short (pick b (refused 22) (pick c (refused 43) (accepted l)))
-    go true c h = none
-    go false true h = none
-    go false false h = short (omega arith)
+    go : (b c : Bool) (l : List Entry) → length l ≤ 168 → Short (pick b (refused 22) (pick c (refused 43) (accepted l)))
+    go true c l h = none
+    go false true l h = none
+    go false false l h = short {l = l} (omega arith)

@@ -10,16 +10,16 @@ use Rattle.listing.specs.Listing.{listedOf, workAfter}
 use Rattle.listing.specs.declared.Listed.{Listed}
 use Rattle.word_margins.specs.WordMargins.{margins, outputAfter, Meant}
 use Rattle.word_margins.proofs.Refused.{margins-row}
-use Rattle.spireyerba.specs.Code.{codeOf, marginsCode}
+use Rattle.spireyerba.specs.Code.{marginsCode}
 use Rattle.spireyerba.specs.Model.{listedCode}
 use Rattle.spireyerba.specs.Demands as D
 use Rattle.spireyerba.proofs.Demands.{first}
 
-module _ (grammar utterance work out : List ℕ) {r : Listed} where
+module _ (grammar utterance work out : List ℕ) where
   abbrev due : Verdict (List Entry)
   due = margins grammar utterance (length work) (length out)
 
-  pub margins-told : {code : ℤ} {work′ out′ : List ℕ} → r ≡ listedOf due → code ≡ marginsCode due → work′ ≡ workAfter due work → out′ ≡ outputAfter due out
+  pub margins-told : {r : Listed} {code : ℤ} {work′ out′ : List ℕ} → r ≡ listedOf due → code ≡ marginsCode due → work′ ≡ workAfter due work → out′ ≡ outputAfter due out
       → Meant grammar utterance work out (λ l. r ≡ listedOf (accepted l)) work′ out′ → D.WordMargins grammar utterance work out code work′ out′
   margins-told er ec ew eo meant = record {
     demand-1 = first length (margins-row grammar utterance (length work) (length out)) ec
