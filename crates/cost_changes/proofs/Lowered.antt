@@ -9,7 +9,7 @@ use native.Mathlib.Omega.{arith}
 use native.Mathlib.Decide.{ℕ-discrete}
 use lib.Dec.{eqb}
 use lib.ListN.{length, getElem?}
-use borrow.Author.Tests.{eqb-true, eq-eqb}
+use borrow.Author.Tests.{eqb-true, eq-eqb, ne-eqb}
 use Rattle.bits.specs.Bits.{pick}
 use Rattle.packing.specs.declared.Sym.{Sym}
 use Rattle.packing.specs.declared.Word as W
@@ -68,17 +68,10 @@ unfolding slotEdges lowerIn lowerEdge
 slot-lowered d i x [] = refl
 slot-lowered d i x (candidate y c ∷ slot) = rw (eq-eqb i i refl, slot-lowered d i x slot)
 
-differ : (m n : ℕ) → ¬ (m ≡ n) → eqb m n ≡ false
-differ m n h = go (eqb m n) refl
-  where
-    go : (b : Bool) → eqb m n ≡ b → eqb m n ≡ false
-    go true e = absurd (h (eqb-true m n e))
-    go false e = e
-
 slot-kept : (d i s : ℕ) (x : W.Word) (slot : List Candidate) → ¬ (i ≡ s) → map (lowerEdge d s x) (slotEdges i slot) ≡ slotEdges i slot
 unfolding slotEdges lowerEdge
 slot-kept d i s x [] n = refl
-slot-kept d i s x (candidate y c ∷ slot) n = rw (differ i s n, slot-kept d i s x slot n)
+slot-kept d i s x (candidate y c ∷ slot) n = rw (ne-eqb i s n, slot-kept d i s x slot n)
 
 later-kept : (d i s : ℕ) (x : W.Word) (u : Utterance) → s < i → map (lowerEdge d s x) (edgesFrom i u) ≡ edgesFrom i u
 unfolding edgesFrom

@@ -267,6 +267,3 @@ module _ (g : Grammar) (es : List Edge) (S : Sym) (n : ℕ) where
 
     pub left-bound : (B : Sym) (i j r v : ℕ) → i < j → asLeft (outside g es S n) inner n B i j (getElem? (g .rules) r) ≡ some v → Fits i j v
     left-bound B i j r v b e = stands-bound (left-found (outside g es S n) outside-found B i j r (getElem? (g .rules) r) v b refl e)
-
-    pub right-bound : (B : Sym) (i j r v : ℕ) → i < j → asRight (outside g es S n) inner B i j (getElem? (g .rules) r) ≡ some v → Fits i j v
-    right-bound B i j r v b e = stands-bound (right-found (outside g es S n) outside-found B i j r (getElem? (g .rules) r) v b refl e)

@@ -36,7 +36,8 @@ use Rattle.cost_changes.proofs.Through.{through-bound}
 use Rattle.cost_changes.proofs.Margins.{first-under}
 use Rattle.word_margins.specs.Model.{joined, leafThrough, through, noEntry, asEntry, marginOf, edgeEntry, entriesUpto}
 use Rattle.word_margins.proofs.Decoded.{read, read-some, joined-read, iter-read, outerIn}
-use Rattle.word_margins.proofs.Filled.{Source, passWith}
+use Rattle.word_margins.proofs.Spans.{Source}
+use Rattle.word_margins.proofs.Filled.{passWith}
 
 sum-leaf : (w c : ℕ) (o : Option ℕ) → sum (w + c) o (some 0) ≡ sum w (some c) o
 unfolding sum

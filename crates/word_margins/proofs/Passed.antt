@@ -34,7 +34,8 @@ use Rattle.cost_ranges.specs.Model.{tableBy}
 use Rattle.cost_ranges.proofs.ThreePasses.{passOf, pass-none, pass-some}
 use Rattle.word_margins.specs.Model.{fill, useNode, useNodes, firstUsed, tableList, passList}
 use Rattle.word_margins.proofs.Decoded.{inside-read}
-use Rattle.word_margins.proofs.Filled.{Source, fill-is}
+use Rattle.word_margins.proofs.Spans.{Source}
+use Rattle.word_margins.proofs.Filled.{fill-is}
 use Rattle.word_margins.proofs.Collected.{entries-are}
 
 -- the edges of a tree, marked
