@@ -32,7 +32,7 @@ use Rattle.cost_ranges.proofs.ThreePasses.{passOf, passed-answer, left-
 use Rattle.cost_ranges.proofs.Rise.{both-rise}
 
 -- what is all zeros and has kept its length
-pub zeros-kept : (work : List ℕ) {work′ : List ℕ} (k : ℕ) → work′ ≡ replicate k 0 → length work′ ≡ length work → work′ ≡ replicate (length work) 0
+zeros-kept : (work : List ℕ) {work′ : List ℕ} (k : ℕ) → work′ ≡ replicate k 0 → length work′ ≡ length work → work′ ≡ replicate (length work) 0
 zeros-kept work k e n = e ∙ ap (λ (m : ℕ). replicate m 0) (sym (length-replicate k 0) ∙ ap length (sym e) ∙ n)
 
 -- where the edges are alike but for rising costs

@@ -23,15 +23,14 @@ use Rattle.grammar_reader.specs.declared.Sizes.{Sizes}
 use Rattle.heard_reader.specs.Answer.{heardSize}
 use Rattle.heard_reader.specs.declared.HeardSize.{HeardSize}
 use Rattle.chart_table.specs.declared.Layout.{Layout}
-use Rattle.chart_table.specs.Table.{clear}
 use Rattle.chart.specs.Chart.{layOut}
 use Rattle.listing.specs.Listing.{tableSize, listedOf, workAfter}
 use Rattle.listing.specs.declared.Listed.{Listed}
 use Rattle.listing.specs.declared.Listed.the-variants.{Found, Refused}
 use Rattle.cost_ranges.specs.Model.{tableBy}
 use Rattle.cost_ranges.specs.declared.Pass.{Pass}
-use Rattle.cost_ranges.proofs.ThreePasses.{passOf, pass-clears}
-use Rattle.cost_ranges.proofs.Outcome.{zeros-kept, slots-out, slots-refused, words-of}
+use Rattle.cost_ranges.proofs.ThreePasses.{passOf}
+use Rattle.cost_ranges.proofs.Outcome.{slots-out, slots-refused, words-of}
 use Rattle.word_margins.specs.WordMargins.{listed, margins, outputAfter, Meant}
 use Rattle.word_margins.specs.Model.{passList, Promised, EdgesMargins, GrammarMargins}
 use Rattle.word_margins.proofs.Passed.{pass-list}
@@ -55,23 +54,23 @@ module _ (rules : List ℕ) (z : Sizes) (array : List ℕ) (y : HeardSize) (work
 
     pub edges-listed : 4 * y .edges ≤ length out → {d : Layout} → d ≡ layOut (z .symbols) (y .last) 1 → {m : ℕ} {work′ out′ : List ℕ}
         → m ≡ length (passList rules array (record { rules = z .rules; edges = y .edges; table = d }) (length work))
-        → work′ ≡ clear (tableBy rules array (record { rules = z .rules; edges = y .edges; table = d }) (length work)) d
+        → work′ ≡ replicate (length work) 0 → length (tableBy rules array (record { rules = z .rules; edges = y .edges; table = d }) (length work)) ≡ length work
         → out′ ≡ storeAll out 0 (listNumbers (passList rules array (record { rules = z .rules; edges = y .edges; table = d }) (length work)))
-        → length work′ ≡ length work → EdgesMargins rules z array y work out (Found m) work′ out′
+        → EdgesMargins rules z array y work out (Found m) work′ out′
     unfolding listed
-    edges-listed wide {d} ed em ew eo kept g u okg oku ez ey begun begun′ =
+    edges-listed wide {d} ed em ew kept eo g u okg oku ez ey begun begun′ =
         let room′ : tableSize (g .symbols) (length u) 1 ≤ length work = rw (ez, ey) at room in
         let wide′ : 4 * length (edges u) ≤ length out = rw ey at wide in
         let is : _≡_ {A = Pass} (record { rules = z .rules; edges = y .edges; table = d }) (passOf g u) = rw (ed, ez, ey) in
+        let kept′ : length (tableBy rules array (passOf g u) (length work)) ≡ length work = ap (λ (p : Pass). length (tableBy rules array p (length work))) (sym is) ∙ kept in
         let same : passList rules array (record { rules = z .rules; edges = y .edges; table = d }) (length work) ≡ marginsOf g u =
-        ap (λ (p : Pass). passList rules array p (length work)) is ∙ pass-list g okg rules begun (length work) u oku array begun′ room′ in
-        let few : length (marginsOf g u) ≤ length (edges u) = rw (pass-list g okg rules begun (length work) u oku array begun′ room′) at (pass-length (passOf g u)) in
+        ap (λ (p : Pass). passList rules array p (length work)) is ∙ pass-list g okg rules begun (length work) u oku array begun′ room′ kept′ in
+        let few : length (marginsOf g u) ≤ length (edges u) = rw (pass-list g okg rules begun (length work) u oku array begun′ room′ kept′) at (pass-length (passOf g u)) in
         let n = numbers-length (marginsOf g u) in
-        let zeros = pass-clears g okg rules begun (length work) u oku array begun′ room′ in
         let front = store-at out 0 (listNumbers (marginsOf g u)) (omega arith) in
         rw (le-ltb _ _ room′, le-ltb _ _ wide′) (
           ap Found (em ∙ ap length same),
-          zeros-kept work (length (tableBy rules array (passOf g u) (length work))) (ew ∙ ap (λ (p : Pass). clear (tableBy rules array p (length work)) (p .table)) is ∙ zeros) kept,
+          ew,
           eo ∙ ap (λ (l : List M.Entry). storeAll out 0 (listNumbers l)) same ∙ front ∙ rw zero-add,
         )
       where

@@ -1,10 +1,10 @@
 -- The list from a pass over an utterance is N12's list: the pass leaves the first tree of every cell in the table (chart_theory), from these the
 -- array of outside weights is filled, and the nodes of the first reading mark the edges that it uses.
-use mathlib.Core.Path.{_≡_, refl, sym, _∙_}
+use mathlib.Core.Path.{_≡_, refl, sym, ap, _∙_}
 use mathlib.Core.Bool.{Bool, true, false}
 use mathlib.Core.List.{List, [], _∷_, _++_}
 use Prim.Native.Nat.{ℕ, zero, suc, _+_, _*_, _/_, _≤_, _<_}
-use native.Mathlib.Nat.{le-refl, mul-le-mul}
+use native.Mathlib.Nat.{le-refl, mul-assoc}
 use native.Mathlib.Omega.{arith}
 use native.Mathlib.Decide.{ℕ-discrete}
 use lib.Dec.{eqb}
@@ -26,14 +26,15 @@ use Rattle.cost_changes.specs.Costs.{edgesOf, First}
 use Rattle.cost_changes.specs.Listed.{has, listedFor, marginsOf}
 use Rattle.cost_changes.proofs.First.{first-place}
 use Rattle.cost_changes.proofs.Inside.{inside-first}
-use Rattle.chart_table.specs.Table.{cell}
+use Rattle.chart_table.specs.Table.{cell, cellNumber}
 use Rattle.chart.specs.Chart.{layOut, rootsFound, rootWeight}
 use Rattle.chart_theory.proofs.Accepted.{layout, chart-firsts}
 use Rattle.listing.specs.Listing.{tableSize}
 use Rattle.cost_ranges.specs.Model.{tableBy}
 use Rattle.cost_ranges.proofs.ThreePasses.{passOf, pass-none, pass-some}
-use Rattle.word_margins.specs.Model.{fill, useNode, useNodes, firstUsed, tableList, passList}
-use Rattle.word_margins.proofs.Decoded.{inside-read}
+use Rattle.word_margins.specs.Model.{plain, fill, useNode, useNodes, firstUsed, tableList, passList}
+use Rattle.word_margins.proofs.Decoded.{read, inside-read}
+use Rattle.word_margins.proofs.Views.{inside-plain}
 use Rattle.word_margins.proofs.Spans.{Source}
 use Rattle.word_margins.proofs.Filled.{fill-is}
 use Rattle.word_margins.proofs.Collected.{entries-are}
@@ -86,19 +87,18 @@ few-edges W u oku = omega (arith, slots-edges W 0 u (oku .1), valid-slots W u ok
 
 module _ (g : Grammar) (okg : ValidGrammar g) (rules : List ℕ) (has-rules : Begins (ruleNumbers g) rules) (size : ℕ) (u : Utterance)
     (oku : ValidUtterance (g .words) u) (array : List ℕ) (has-edges : Begins (edgeNumbers (edges u)) array)
-    (room : tableSize (g .symbols) (length u) 1 ≤ size) where
+    (room : tableSize (g .symbols) (length u) 1 ≤ size) (kept : length (tableBy rules array (passOf g u) size) ≡ size) where
   abbrev table : List ℕ
   table = tableBy rules array (passOf g u) size
 
-  few-cells : g .symbols * (length u * (length u + 1) / 2) ≤ 9600
-  few-cells =
-      let n = valid-slots (g .words) u oku in
-      let more : length u + 1 ≤ 25 = omega arith in
-      let square : length u * (length u + 1) ≤ 24 * 25 = mul-le-mul n more in
-      let half : length u * (length u + 1) / 2 ≤ 300 = omega arith in
-      mul-le-mul (valid-sizes g okg .1) half
+  abbrev free : List ℕ
+  free = replicate (length table / 4) 0
 
-  source : (z : Tree) → First g u z → Source g (edges u) rules table (layout g (slots u) 1)
+  few-cells : g .symbols * (length u * (length u + 1) / 2) ≤ length table / 4
+  unfolding tableSize
+  few-cells = omega (arith, room, kept, mul-assoc 4 (g .symbols) (length u * (length u + 1) / 2))
+
+  source : (z : Tree) → First g u z → Source g (edges u) rules (plain table) (layout g (slots u) 1)
   unfolding layOut utteranceEntries tableSize
   source z first = record {
     planned = refl;
@@ -112,7 +112,8 @@ module _ (g : Grammar) (okg : ValidGrammar g) (rules : List ℕ) (has-rules : Be
     cheap = edges-cheap u (valid-cheap (g .words) u oku);
     rule-at = λ r. rule-at g rules r has-rules;
     inner = λ A i k in-chart.
-        inside-read g (edges u) (layout g (slots u) 1) table A i k
+        ap read (inside-plain table (layout g (slots u) 1) (cellNumber (layout g (slots u) 1) (cell A i k)))
+        ∙ inside-read g (edges u) (layout g (slots u) 1) table A i k
         (chart-firsts g (slots u) 1 okg oku (le-refl 1) (omega arith) rules array has-rules has-edges size room (cell A i k) in-chart);
     whole = weight g (edges u) z;
     whole-is = inside-first g (edges u) (symbolOf 0) 0 (length u) z (first-place g u first);
@@ -126,8 +127,8 @@ module _ (g : Grammar) (okg : ValidGrammar g) (rules : List ℕ) (has-rules : Be
       let (z, first, rank) = pass-some g okg rules has-rules size u oku array has-edges room n in
       rw (rank .weighs, rank .nodes, first-place g u first)
       (entries-are u (source z first) refl (valid-ascending (g .words) u oku) z first array (λ e. edge-at (edges u) array e has-edges)
-      (fill (replicate 9600 0) table rules (passOf g u))
-      (λ A i k in-chart. fill-is (source z first) (replicate 9600 0) (rw length-replicate few-cells) (zeros 9600) (length (edges u)) A i k in-chart)
+      (fill free (plain table) rules (passOf g u))
+      (λ A i k in-chart. fill-is (source z first) free (rw length-replicate few-cells) (zeros (length table / 4)) (length (edges u)) A i k in-chart)
       (useNodes (replicate 168 0) (trace z)) (λ e. has e (edgesOf z)) (λ e l. used-is z e l) (length (edges u)) (length (edges u)) (le-refl _))
     where
       used-is : (z : Tree) (e : ℕ) → e < length (edges u)

@@ -7,6 +7,7 @@ use arrays::rule_at;
 use arrays::store;
 use arrays::wide;
 use chart_table::Layout;
+use chart_table::zero;
 use cost_ranges::Pass;
 use entries::NUMBERS_PER_ENTRY;
 use entries::put_entries;
@@ -25,17 +26,17 @@ use packing::format::TRACE_LENGTH;
 use packing::refused;
 ghost use mathlib.Core.Path.{_≡_};
 ghost use Prim.Native.Nat.{_+_, _*_, _≤_, _<_};
-ghost use lib.ListN.{length, take};
+ghost use lib.ListN.{length, take, replicate};
 ghost use Rattle.packing.specs.Parse.{accepted};
 ghost use Rattle.packing.specs.Flat.{ruleAt, nodeBy, nodesIn};
 ghost use Rattle.grammar_reader.specs.Answer.{Bounded};
 ghost use Rattle.packing.specs.Store.{storeAll};
-ghost use Rattle.chart_table.specs.Table.{Sized, clear};
+ghost use Rattle.chart_table.specs.Table.{Sized};
 ghost use Rattle.cost_changes.specs.Margins.{listNumbers};
 ghost use Rattle.listing.specs.Listing.{listedOf, workAfter};
 ghost use Rattle.cost_ranges.specs.Model.{Passable, tableBy};
 ghost use Rattle.word_margins.specs.WordMargins.{margins, outputAfter, Meant};
-ghost use Rattle.word_margins.specs.Model.{useNode, useNodes, firstUsed, tableList, passList, EdgesMargins, GrammarMargins};
+ghost use Rattle.word_margins.specs.Model.{useNode, useNodes, firstUsed, passList, EdgesMargins, GrammarMargins};
 
 // An entry of the list.
 pub struct Entry {
@@ -45,9 +46,7 @@ pub struct Entry {
     pub weight: u32,
 }
 
-// The most cells of a table, and the most edges of an utterance.
-const MOST_CELLS: usize = 9600;
-
+// The most edges of an utterance.
 const MOST_EDGES: usize = 168;
 
 // One reading is looked for.
@@ -90,25 +89,6 @@ fn use_first(rules: &[u32], t: &[u32], d: Layout, used: &mut [u32])
     use_nodes(rules, &trace, nodes, used);
 }
 
-// The list, from the table of a pass, its first weight and the edges that its first tree uses.
-fn list_margins(
-    rules: &[u32],
-    edges: &[u32],
-    used: &[u32],
-    pass: Pass,
-    first: u32,
-    t: &[u32],
-    out: &mut [u32],
-) -> usize
-    requires { ⌜ (Passable pass) × (4 * pass .edges ≤ length (now out)) ⌝ }
-    ensures { λ r. ⌜ r ≡ length (tableList (now (rules .entry)) (now (edges .entry)) (now (used .entry)) pass first (now (t .entry))) ⌝ }
-    ensures { λ r. ⌜ now (out .exit) ≡ storeAll (now (out .entry)) 0 (listNumbers (tableList (now (rules .entry)) (now (edges .entry)) (now (used .entry)) pass first (now (t .entry)))) ⌝ }
-{
-    let mut outside = [0u32; MOST_CELLS];
-    fill(&mut outside, t, rules, pass);
-    put_entries(&outside, rules, edges, used, pass, first, out)
-}
-
 // The list, by a pass for one reading.
 fn pass_margins(
     rules: &[u32],
@@ -119,20 +99,21 @@ fn pass_margins(
 ) -> usize
     requires { ⌜ (Passable pass) × (pass .table .places ≤ 24) × (4 * pass .edges ≤ length (now out)) ⌝ }
     ensures { λ r. ⌜ r ≡ length (passList (now (rules .entry)) (now (edges .entry)) pass (length (now (work .entry)))) ⌝ }
-    ensures { λ r. ⌜ now (work .exit) ≡ clear (tableBy (now (rules .entry)) (now (edges .entry)) pass (length (now (work .entry)))) (pass .table) ⌝ }
+    ensures { λ r. ⌜ (now (work .exit) ≡ replicate (length (now (work .entry))) 0) × (length (tableBy (now (rules .entry)) (now (edges .entry)) pass (length (now (work .entry)))) ≡ length (now (work .entry))) ⌝ }
     ensures { λ r. ⌜ now (out .exit) ≡ storeAll (now (out .entry)) 0 (listNumbers (passList (now (rules .entry)) (now (edges .entry)) pass (length (now (work .entry))))) ⌝ }
 {
     let d = pass.table;
     let found = chart::enumerate(work, rules, pass.rules, edges, pass.edges, d);
     if found == 0 {
-        chart::clear_table(work, d);
+        zero(work);
         return 0;
     }
     let first = chart::root_weight(&work[..], d, 0);
     let mut used = [0u32; MOST_EDGES];
     use_first(rules, &work[..], d, &mut used);
-    let m = list_margins(rules, edges, &used, pass, first, &work[..], out);
-    chart::clear_table(work, d);
+    fill(work, rules, pass);
+    let m = put_entries(&work[..], rules, edges, &used, pass, first, out);
+    zero(work);
     m
 }
 

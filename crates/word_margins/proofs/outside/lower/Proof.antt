@@ -1,14 +1,21 @@
 -- What the calls tell, one after another.
-use Rattle.word_margins.proofs.Steps.{lower-told}
+use native.Mathlib.Omega.{arith}
+use Rattle.word_margins.proofs.Views.{lower-told}
 use borrow.Author.Needs.{needs}
 use Rattle.word_margins.proofs.outside.lower.Statement.{statement}
 use Rattle.word_margins.proofs.outside.lower.Tie as tie
 
-number-at-requires : tie.Need-number-at-requires
-number-at-requires c κs = search needs
+outside-at-requires : tie.Need-outside-at-requires
+outside-at-requires c κs = search needs
 
 lesser-requires : tie.Need-lesser-requires
-lesser-requires c κs = search needs
+lesser-requires c κs = (omega (arith, c .outside-at .ensures .1), c .before .before .before .pre .1)
+
+mul-store : tie.Need-mul-store
+mul-store c = search needs
+
+add-store : tie.Need-add-store
+add-store c = search needs
 
 cast-store : tie.Need-cast-store
 cast-store c = search needs
@@ -20,9 +27,17 @@ same-length : tie.Need-same-length
 same-length c = search needs
 
 returns : tie.Need-returns
-returns c = lower-told (c .before .before .before .before .before .before .before .before .args .outside .now) (c .before .before .before .before .before .before .before .before .args .c) (c .before .before .before .before .before .before .before .before .args .x) (c .before .before .before .before .before .number-at .ensures .0) (c .before .before .before .before .lesser .ensures .0) (c .before .before .store .ensures)
+returns c = lower-told (c .before .before .before .before .before .before .before .before .args .t .now) (c .before .before .before .before .before .before .before .before .args .c) (c .before .before .before .before .before .before .before .before .args .x) (c .before .before .before .before .before .outside-at .ensures .0) (c .before .before .before .before .lesser .ensures .0) (c .before .before .store .ensures)
 
 pub lower-spec : {M : Type 1} → statement M
 lower-spec =
     tie.close
-    (tie.spec number-at-requires lesser-requires cast-store store-requires same-length returns)
+    (tie.spec
+    outside-at-requires
+    lesser-requires
+    mul-store
+    add-store
+    cast-store
+    store-requires
+    same-length
+    returns)

@@ -1,5 +1,7 @@
 -- The rule's kind decides whether there are parts.
+use mathlib.Core.Path.{refl, _∙_}
 use native.Mathlib.Omega.{arith}
+use Rattle.word_margins.specs.Model.{fourths, plain}
 use Rattle.word_margins.proofs.Steps.{pair-lowered, word-lowered}
 use borrow.Author.Needs.{needs}
 use Rattle.word_margins.proofs.outside.lower_parts.Statement.{statement}
@@ -12,10 +14,10 @@ enum-known-rule : tie.Need-enum-known-rule
 enum-known-rule c = search needs
 
 lower-left-requires : tie.Need-lower-left-requires
-lower-left-requires c κs = (c .before .before .before .before .before .before .before .before .pre .0, record { from = c .before .before .before .before .before .before .before .before .pre .2; some = c .before .before .before .before .before .before .before .before .pre .3; to = omega (arith, c .before .before .before .before .before .before .before .before .pre .0 .places, c .before .before .before .before .before .before .before .before .pre .4) }, c .before .before .before .before .before .before .before .before .pre .4)
+lower-left-requires c κs = (c .before .before .before .before .before .before .before .pre .0, record { from = c .before .before .before .before .before .before .before .pre .2; some = c .before .before .before .before .before .before .before .pre .3; to = omega (arith, c .before .before .before .before .before .before .before .pre .0 .places, c .before .before .before .before .before .before .before .pre .4) }, c .before .before .before .before .before .before .before .pre .4)
 
 lower-right-requires : tie.Need-lower-right-requires
-lower-right-requires c κs = (c .before .before .before .before .before .before .before .before .before .before .before .before .pre .0, record { from = c .before .before .before .before .before .before .before .before .before .before .before .before .pre .2; some = c .before .before .before .before .before .before .before .before .before .before .before .before .pre .3; to = omega (arith, c .before .before .before .before .before .before .before .before .before .before .before .before .pre .0 .places, c .before .before .before .before .before .before .before .before .before .before .before .before .pre .4) })
+lower-right-requires c κs = (c .before .before .before .before .before .before .before .before .before .before .before .pre .0, record { from = c .before .before .before .before .before .before .before .before .before .before .before .pre .2; some = c .before .before .before .before .before .before .before .before .before .before .before .pre .3; to = omega (arith, c .before .before .before .before .before .before .before .before .before .before .before .pre .0 .places, c .before .before .before .before .before .before .before .before .before .before .before .pre .4) })
 
 enum-told : tie.Need-enum-told
 enum-told c = search needs
@@ -24,10 +26,10 @@ same-length : tie.Need-same-length
 same-length c = search needs
 
 returns : tie.Need-returns
-returns c = pair-lowered (c .before .before .before .before .before .before .before .before .before .before .before .before .before .before .before .args .outside .now) (c .before .before .before .before .before .before .before .before .before .before .before .before .before .before .before .args .t .now) (c .before .before .before .before .before .before .before .before .before .before .before .before .before .before .before .args .rules .now) (c .before .before .before .before .before .before .before .before .before .before .before .before .before .before .before .args .d) (c .before .before .before .before .before .before .before .before .before .before .before .before .before .before .before .args .from) (c .before .before .before .before .before .before .before .before .before .before .before .before .before .before .before .args .to) (c .before .before .before .before .before .before .before .before .before .before .before .before .before .before .before .args .r) (c .before .before .before .before .before .before .before .before .before .before .before .rule-at .ensures) (c .before .before .before .before .before .before .before .before .before .rule .given .1) (c .before .before .before .before .before .before .lower-left .ensures) (c .before .before .lower-right .ensures)
+returns c = (pair-lowered (fourths (c .before .before .before .before .before .before .before .before .before .before .before .before .before .before .args .t .now)) (plain (c .before .before .before .before .before .before .before .before .before .before .before .before .before .before .args .t .now)) (c .before .before .before .before .before .before .before .before .before .before .before .before .before .before .args .rules .now) (c .before .before .before .before .before .before .before .before .before .before .before .before .before .before .args .d) (c .before .before .before .before .before .before .before .before .before .before .before .before .before .before .args .from) (c .before .before .before .before .before .before .before .before .before .before .before .before .before .before .args .to) (c .before .before .before .before .before .before .before .before .before .before .before .before .before .before .args .r) (c .before .before .before .before .before .before .before .before .before .before .before .rule-at .ensures) (c .before .before .before .before .before .before .before .before .before .rule .given .1) (c .before .before .before .before .before .before .lower-left .ensures .0) (c .before .before .lower-right .ensures .0 ∙ rw (c .before .before .before .before .before .before .lower-left .ensures .1)), c .before .before .lower-right .ensures .1 ∙ c .before .before .before .before .before .before .lower-left .ensures .1)
 
 returns-2 : tie.Need-returns-2
-returns-2 c = word-lowered (c .before .before .before .before .before .before .args .outside .now) (c .before .before .before .before .before .before .args .t .now) (c .before .before .before .before .before .before .args .rules .now) (c .before .before .before .before .before .before .args .d) (c .before .before .before .before .before .before .args .from) (c .before .before .before .before .before .before .args .to) (c .before .before .before .before .before .before .args .r) (c .before .before .rule-at .ensures) (c .enum-told .given .1)
+returns-2 c = (word-lowered (fourths (c .before .before .before .before .before .args .t .now)) (plain (c .before .before .before .before .before .args .t .now)) (c .before .before .before .before .before .args .rules .now) (c .before .before .before .before .before .args .d) (c .before .before .before .before .before .args .from) (c .before .before .before .before .before .args .to) (c .before .before .before .before .before .args .r) (c .before .before .rule-at .ensures) (c .enum-told .given .1), refl)
 
 pub lower-parts-spec : {M : Type 1} → statement M
 lower-parts-spec =

@@ -1,51 +1,54 @@
--- The loop is the iteration over the places where a span of the length may start.
-use mathlib.Core.Path.{_≡_, refl, _∙_}
-use native.Mathlib.Omega.{arith}
-use Prim.Native.Nat.{_+_, _-_, _≤_}
-use lib.ListN.{length}
-use Rattle.packing.specs.Loop.{iter}
-use Rattle.packing.proofs.Loop.{iter-more, iter-end}
-use Rattle.word_margins.specs.Model.{overRules, overSpans}
 use Rattle.word_margins.proofs.outside.over_spans.Statement.{statement}
 use Rattle.word_margins.proofs.outside.over_spans.Tie as tie
+use Rattle.word_margins.proofs.outside.over_spans.Reads as reads
+use Rattle.word_margins.proofs.outside.over_spans.Lts as lts
+use Rattle.word_margins.proofs.outside.over_rules.Reads as over-rules-reads
 
 abbrev Inv-loop : tie.InvT-loop
-Inv-loop outside₀ t rules pass len d spans from₀ outside from = (from ≤ pass .table .places + 1 - len) × (length outside ≡ length outside₀) × (outside ≡ iter (λ u i. overRules u t rules (pass .rules) (pass .table) i (i + len)) outside₀ from)
+Inv-loop t₀ rules pass length d spans from₀ t from = ?
 
 abbrev μ-loop : tie.MeasureT-loop
-μ-loop outside₀ t rules pass len d spans from₀ outside from = pass .table .places + 1 - len - from
+μ-loop t₀ rules pass length d spans from₀ t from = ?
 
+-- src/outside.rt:257:17
 add-spans : tie.Need-add-spans Inv-loop μ-loop
-add-spans c = omega (arith, c .before .before .before .before .before .pre .0 .sized .places)
+add-spans c = ?
 
+-- src/outside.rt:257:17
 sub-spans : tie.Need-sub-spans Inv-loop μ-loop
-sub-spans c = omega (arith, c .before .before .before .before .before .pre .2)
+sub-spans c = ?
 
+-- src/outside.rt:258:5
 loop-holds : tie.Need-loop-holds Inv-loop μ-loop
-unfolding iter
-loop-holds c = (omega arith, refl, refl)
+loop-holds c = ?
 
+-- src/outside.rt:259:51
 add-over-rules : tie.Need-add-over-rules Inv-loop μ-loop
-add-over-rules c = omega (arith, c .before .before .before .before .before .before .before .before .pre .0 .sized .places, c .before .before .before .before .before .before .before .before .pre .2, c .before .loop-test .taken)
+add-over-rules c = ?
 
+-- src/outside.rt:259:9
 over-rules-requires : tie.Need-over-rules-requires Inv-loop μ-loop
-over-rules-requires c κs = (c .before .before .before .before .before .before .before .before .pre .0 .sized, c .before .before .before .before .before .before .before .before .pre .0 .rules, omega (arith, c .before .before .before .before .before .before .before .before .pre .0 .sized .places, c .before .before .before .before .before .before .before .before .pre .1, c .before .loop-test .taken), omega (arith, c .before .before .before .before .before .before .before .before .pre .1), omega (arith, c .before .before .before .before .before .before .before .before .pre .2, c .before .loop-test .taken))
+over-rules-requires c κs = ?
 
+-- src/outside.rt:258:9
 add-from : tie.Need-add-from Inv-loop μ-loop
-add-from c = omega (arith, c .before .before .before .before .before .before .before .before .before .before .before .pre .0 .sized .places, c .before .before .before .before .before .before .before .before .before .before .before .pre .2, c .before .before .before .before .loop-test .taken)
+add-from c = ?
 
+-- src/outside.rt:258:5
 loop-less : tie.Need-loop-less Inv-loop μ-loop
-loop-less c = omega (arith, c .before .before .before .before .loop-test .taken)
+loop-less c = ?
 
+-- src/outside.rt:258:5
 loop-again : tie.Need-loop-again Inv-loop μ-loop
-loop-again c = (omega (arith, c .before .before .before .before .loop-test .taken), c .before .before .over-rules .kept .0 ∙ c .before .before .before .before .before .loop .inv .1, c .before .before .over-rules .ensures ∙ rw (iter-more, ← c .before .before .before .before .before .loop .inv .2))
+loop-again c = ?
 
+-- src/outside.rt:252:1
 same-length : tie.Need-same-length Inv-loop μ-loop
-same-length c = c .before .loop .inv .1
+same-length c = ?
 
+-- src/outside.rt:252:1
 returns : tie.Need-returns Inv-loop μ-loop
-unfolding overSpans
-returns c = c .before .loop .inv .2 ∙ iter-end _ _ _ _ (c .before .loop .inv .0) (c .loop-test .left)
+returns c = ?
 
 pub over-spans-spec : {M : Type 1} → statement M
 over-spans-spec =

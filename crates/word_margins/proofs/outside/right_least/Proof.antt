@@ -5,28 +5,28 @@ use Prim.Native.Nat.{_+_, _-_, _≤_, _<_}
 use Rattle.packing.specs.Loop.{iter}
 use Rattle.packing.proofs.Loop.{iter-more, iter-end}
 use Rattle.chart_table.specs.Table.{cell}
-use Rattle.word_margins.specs.Model.{sums, lesser, joinAt, rightLeast}
+use Rattle.word_margins.specs.Model.{fourths, plain, sums, lesser, joinAt, rightLeast}
 use Rattle.word_margins.proofs.outside.right_least.Statement.{statement}
 use Rattle.word_margins.proofs.outside.right_least.Tie as tie
 
 abbrev Inv-loop : tie.InvT-loop
-Inv-loop outside t d part head left weight least₀ count h₀ least h = (h ≤ part .from) × (least < sums) × (least ≡ iter (λ m y. lesser m (joinAt outside t d (cell head y (part .to)) (cell left y (part .from)) weight)) 0 h)
+Inv-loop t d part head left weight least₀ count h₀ least h = (h ≤ part .from) × (least < sums) × (least ≡ iter (λ m y. lesser m (joinAt (fourths t) (plain t) d (cell head y (part .to)) (cell left y (part .from)) weight)) 0 h)
 
 abbrev μ-loop : tie.MeasureT-loop
-μ-loop outside t d part head left weight least₀ count h₀ least h = part .from - h
+μ-loop t d part head left weight least₀ count h₀ least h = part .from - h
 
 loop-holds : tie.Need-loop-holds Inv-loop μ-loop
 unfolding iter
 loop-holds c = (omega arith, omega arith, refl)
 
 join-at-requires : tie.Need-join-at-requires Inv-loop μ-loop
-join-at-requires c κs = (c .before .before .before .before .pre .0, record { from = omega (arith, c .before .before .before .before .pre .1 .from, c .loop-test .taken); some = c .before .before .before .before .pre .1 .some; to = c .before .before .before .before .pre .1 .to }, record { from = omega (arith, c .before .before .before .before .pre .1 .from, c .loop-test .taken); some = omega (arith, c .loop-test .taken); to = c .before .before .before .before .pre .1 .from })
+join-at-requires c κs = (c .before .before .before .pre .0, record { from = omega (arith, c .before .before .before .pre .1 .from, c .loop-test .taken); some = c .before .before .before .pre .1 .some; to = c .before .before .before .pre .1 .to }, record { from = omega (arith, c .before .before .before .pre .1 .from, c .loop-test .taken); some = omega (arith, c .loop-test .taken); to = c .before .before .before .pre .1 .from })
 
 lesser-requires : tie.Need-lesser-requires Inv-loop μ-loop
 lesser-requires c κs = (c .before .before .loop .inv .1, c .join-at .ensures .1)
 
 add-h : tie.Need-add-h Inv-loop μ-loop
-add-h c = omega (arith, c .before .before .before .before .before .before .pre .1 .from, c .before .before .loop-test .taken)
+add-h c = omega (arith, c .before .before .before .before .before .pre .1 .from, c .before .before .loop-test .taken)
 
 loop-less : tie.Need-loop-less Inv-loop μ-loop
 loop-less c = omega (arith, c .before .before .loop-test .taken)
