@@ -86,14 +86,7 @@ fn join_at(t: &[u32], d: Layout, node: Cell, other: Cell, weight: u32) -> usize
 }
 
 // The least of it for a left part, over the places where its right neighbour may end.
-fn left_least(
-    t: &[u32],
-    d: Layout,
-    part: Cell,
-    head: Sym,
-    right: Sym,
-    weight: u32,
-) -> usize
+fn left_least(t: &[u32], d: Layout, part: Cell, head: Sym, right: Sym, weight: u32) -> usize
     requires { ⌜ (Sized d) × (part .from ≤ 31) × (part .to ≤ d .places) ⌝ }
     ensures { λ r. ⌜ (r ≡ leftLeast (fourths (now (t .entry))) (plain (now (t .entry))) d part head right weight) × (r < sums) ⌝ }
 {
@@ -117,14 +110,7 @@ fn left_least(
 }
 
 // The least of it for a right part, over the places where its left neighbour may start.
-fn right_least(
-    t: &[u32],
-    d: Layout,
-    part: Cell,
-    head: Sym,
-    left: Sym,
-    weight: u32,
-) -> usize
+fn right_least(t: &[u32], d: Layout, part: Cell, head: Sym, left: Sym, weight: u32) -> usize
     requires { ⌜ (Sized d) × (Spanned part) ⌝ }
     ensures { λ r. ⌜ (r ≡ rightLeast (fourths (now (t .entry))) (plain (now (t .entry))) d part head left weight) × (r < sums) ⌝ }
 {
@@ -152,22 +138,11 @@ fn lower(t: &mut [u32], c: usize, x: usize)
     ensures { λ _. ⌜ (fourths (now (t .exit)) ≡ lower (fourths (now (t .entry))) c x) × (plain (now (t .exit)) ≡ plain (now (t .entry))) ⌝ }
 {
     let least = lesser(outside_at(&t[..], c), x);
-    store(
-        t,
-        ENTRY_NUMBERS * c + FREE_AT,
-        (least % NUMBERS) as u32,
-    );
+    store(t, ENTRY_NUMBERS * c + FREE_AT, (least % NUMBERS) as u32);
 }
 
 // Lowers what stands around a left part, by a rule that has it. A cell without a tree is passed over.
-fn lower_left(
-    t: &mut [u32],
-    d: Layout,
-    part: Cell,
-    head: Sym,
-    right: Sym,
-    weight: u32,
-)
+fn lower_left(t: &mut [u32], d: Layout, part: Cell, head: Sym, right: Sym, weight: u32)
     requires { ⌜ (Sized d) × (Spanned part) × (part .to ≤ d .places) ⌝ }
     ensures { λ _. ⌜ (fourths (now (t .exit)) ≡ lowerLeft (fourths (now (t .entry))) (plain (now (t .entry))) d part head right weight) × (plain (now (t .exit)) ≡ plain (now (t .entry))) ⌝ }
 {
@@ -180,14 +155,7 @@ fn lower_left(
 }
 
 // The same of a right part.
-fn lower_right(
-    t: &mut [u32],
-    d: Layout,
-    part: Cell,
-    head: Sym,
-    left: Sym,
-    weight: u32,
-)
+fn lower_right(t: &mut [u32], d: Layout, part: Cell, head: Sym, left: Sym, weight: u32)
     requires { ⌜ (Sized d) × (Spanned part) ⌝ }
     ensures { λ _. ⌜ (fourths (now (t .exit)) ≡ lowerRight (fourths (now (t .entry))) (plain (now (t .entry))) d part head left weight) × (plain (now (t .exit)) ≡ plain (now (t .entry))) ⌝ }
 {
@@ -200,14 +168,7 @@ fn lower_right(
 }
 
 // Lowers what stands around both parts of a pair rule, over one span.
-fn lower_parts(
-    t: &mut [u32],
-    rules: &[u32],
-    r: usize,
-    d: Layout,
-    from: usize,
-    to: usize,
-)
+fn lower_parts(t: &mut [u32], rules: &[u32], r: usize, d: Layout, from: usize, to: usize)
     requires { ⌜ (Sized d) × (r < 4294967296) × (from ≤ 31) × (0 < to) × (to ≤ d .places) ⌝ }
     ensures { λ _. ⌜ (fourths (now (t .exit)) ≡ lowerParts (fourths (now (t .entry))) (plain (now (t .entry))) d from to (ruleAt (now (rules .entry)) r)) × (plain (now (t .exit)) ≡ plain (now (t .entry))) ⌝ }
 {
@@ -232,14 +193,7 @@ fn lower_parts(
 }
 
 // Lowers what stands around all cells of one span, by all rules.
-fn over_rules(
-    t: &mut [u32],
-    rules: &[u32],
-    count: usize,
-    d: Layout,
-    from: usize,
-    to: usize,
-)
+fn over_rules(t: &mut [u32], rules: &[u32], count: usize, d: Layout, from: usize, to: usize)
     requires { ⌜ (Sized d) × (count ≤ 256) × (from ≤ 31) × (0 < to) × (to ≤ d .places) ⌝ }
     ensures { λ _. ⌜ (fourths (now (t .exit)) ≡ overRules (fourths (now (t .entry))) (plain (now (t .entry))) (now (rules .entry)) count d from to) × (plain (now (t .exit)) ≡ plain (now (t .entry))) ⌝ }
 {
