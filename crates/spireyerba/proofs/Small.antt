@@ -14,7 +14,7 @@ use Rattle.packing.specs.Parse.{Verdict, accepted, refused, _then_}
 use Rattle.packing.specs.Grammar.{grammarBlock, markedBlock, markedSheet, blockOfMarked, sheetOfMarked}
 use Rattle.packing.specs.Utterance.{utteranceBlock, utteranceSheet, utteranceEntries, sheetOfUtterance}
 use Rattle.packing.specs.Conversion.{grammarToBlock, grammarToSheet, utteranceToBlock, utteranceToSheet, fitting}
-use Rattle.packing.specs.Rows.{Between, _∪_, GrammarBlockRow, UtteranceBlockRow, HeardBlockRow, ListingRow, PanelRow}
+use Rattle.packing.specs.Rows.{Between, _∪_, GrammarBlockRow, HeardBlockRow, ListingRow, PanelRow}
 use Rattle.packing.specs.Valid.{ValidMarked, ValidUtterance}
 use Rattle.packing.proofs.Bounds.{length-slots}
 use Rattle.packing.proofs.Widths.{grammar-length, utterance-length, valid-words}

@@ -1,7 +1,7 @@
 -- What the exported function for words to listen to again answers and leaves behind is the verdict's; so the demands are met.
 use mathlib.Core.Path.{_≡_, refl, sym, ap, _∙_}
 use mathlib.Core.List.{List}
-use lib.IntN.{ℤ, pos}
+use lib.IntN.{ℤ}
 use lib.ListN.{length}
 use Prim.Native.Nat.{ℕ}
 use Rattle.packing.specs.Parse.{Verdict, accepted, refused}

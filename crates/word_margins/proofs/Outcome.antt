@@ -1,13 +1,13 @@
 -- What each way out of the service says of the definition: a refusal changes nothing, and what the pass lists is the list that is due.
 use mathlib.Core.Path.{_≡_, refl, sym, ap, _∙_}
-use mathlib.Core.List.{List, _++_}
+use mathlib.Core.List.{List}
 use Prim.Native.Nat.{ℕ, _*_, _≤_, _<_}
 use native.Mathlib.Nat.{zero-add}
 use native.Mathlib.Omega.{arith}
-use lib.ListN.{length, take, drop, replicate}
+use lib.ListN.{length, replicate}
 use borrow.Author.Tests.{lt-ltb, le-ltb}
-use Rattle.packing.specs.Meaning.{Grammar, Utterance, Heard, slots, heardEdges, edges}
-use Rattle.packing.specs.Parse.{accepted, refused, _then_}
+use Rattle.packing.specs.Meaning.{Grammar, Heard, heardEdges, edges}
+use Rattle.packing.specs.Parse.{accepted, refused}
 use Rattle.packing.specs.Flat.{Begins, ruleNumbers, edgeNumbers}
 use Rattle.packing.specs.Store.{storeAll}
 use Rattle.packing.specs.Grammar.{grammarBlock}
@@ -34,7 +34,7 @@ use Rattle.cost_ranges.proofs.Outcome.{slots-out, slots-refused, words-of}
 use Rattle.word_margins.specs.WordMargins.{listed, margins, outputAfter, Meant}
 use Rattle.word_margins.specs.Model.{passList, Promised, EdgesMargins, GrammarMargins}
 use Rattle.word_margins.proofs.Passed.{pass-list}
-use Rattle.word_margins.proofs.Insertion.{numbers-length, upto-length, table-length}
+use Rattle.word_margins.proofs.Insertion.{numbers-length, table-length}
 
 -- where the edges are in an array
 module _ (rules : List ℕ) (z : Sizes) (array : List ℕ) (y : HeardSize) (work out : List ℕ) where

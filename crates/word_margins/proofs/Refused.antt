@@ -1,5 +1,5 @@
 -- The refusals are of the rows grammar block and utterance block, then 22 and 43; and a list has an entry for each candidate at most.
-use mathlib.Core.Path.{_≡_, refl}
+use mathlib.Core.Path.{refl}
 use mathlib.Core.Logic.{inl, inr}
 use mathlib.Core.List.{List}
 use mathlib.Core.Option.{Option, none, some}

@@ -1,14 +1,11 @@
 -- A table for one reading and its fourth numbers: what is stored there is stored in the list of them, and what stands beside them stays.
-use mathlib.Core.Path.{_≡_, refl, sym, ap, _∙_}
+use mathlib.Core.Path.{_≡_, refl, ap, _∙_}
 use mathlib.Core.List.{List, [], _∷_}
-use Prim.Native.Nat.{ℕ, zero, suc, _+_, _*_, _/_, _%_, _<_}
+use Prim.Native.Nat.{ℕ, zero, suc, _+_, _*_, _/_, _%_}
 use native.Mathlib.Omega.{arith}
-use lib.Dec.{eqb, ltb}
 use lib.ListN.{length, getD, set, replicate}
-use borrow.Author.Tests.{eq-eqb}
-use Rattle.bits.specs.Bits.{pick}
 use Rattle.chart_table.specs.declared.Layout.{Layout}
-use Rattle.chart_table.specs.Table.{priceOf, entryOf, priceAt}
+use Rattle.chart_table.specs.Table.{entryOf, priceAt}
 use Rattle.word_margins.specs.Model.{fourths, plain, lesser, insideAt, lower}
 
 abbrev four : ℕ → ℕ

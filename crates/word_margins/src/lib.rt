@@ -20,6 +20,8 @@ use listing::Listed;
 use outside::fill;
 use packing::Rule;
 use packing::format::EDGES_LENGTH;
+use packing::format::MAX_CANDIDATES;
+use packing::format::MAX_SLOTS;
 use packing::format::NUMBERS_PER_NODE;
 use packing::format::RULES_LENGTH;
 use packing::format::TRACE_LENGTH;
@@ -47,7 +49,7 @@ pub struct Entry {
 }
 
 // The most edges of an utterance.
-const MOST_EDGES: usize = 168;
+const MOST_EDGES: usize = MAX_SLOTS * MAX_CANDIDATES;
 
 // One reading is looked for.
 const ONE: usize = 1;

@@ -1,5 +1,4 @@
 -- Each test of the code is one of the model's.
-use native.Mathlib.Omega.{arith}
 use Rattle.word_margins.proofs.Steps.{lesser-no-first, lesser-no-second, lesser-second, lesser-first}
 use Rattle.word_margins.proofs.outside.lesser.Statement.{statement}
 use Rattle.word_margins.proofs.outside.lesser.Tie as tie

@@ -1,6 +1,5 @@
 -- It is the fourth number of an entry.
 use mathlib.Core.Path.{sym, _∙_}
-use native.Mathlib.Omega.{arith}
 use Rattle.word_margins.proofs.Views.{fourth-read}
 use borrow.Author.Needs.{needs}
 use Rattle.word_margins.proofs.outside.outside_at.Statement.{statement}
