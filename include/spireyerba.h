@@ -103,7 +103,7 @@ enum {
     SPIREYERBA_EDGE_REPEAT = 52      /* from, to and word equal an earlier edge's */
 };
 
-/* Further refusals of sheets, and that of the output of all conversions. */
+/* Further refusals of sheets, and that of the output of all conversions and of word margins. */
 enum {
     SPIREYERBA_SHEET_COUNT = 41,     /* numbers are missing or left over          */
     SPIREYERBA_SHEET_VALUE = 42,     /* a rule's or an item's kind or a mark is not 0 or 1, a weight or
@@ -530,6 +530,36 @@ int32_t spireyerba_cost_ranges(
     const uint8_t *high, size_t high_len,
     uint32_t *work, size_t work_len,
     uint32_t *least, uint32_t *greatest);
+
+/* The numbers of an entry, and those of the longest output that there can be. */
+#define SPIREYERBA_MARGIN_NUMBERS 4
+#define SPIREYERBA_MARGINS_MAX 672
+
+/*
+** WORD MARGINS. Which word to listen to again: for each offered word of each slot
+** that the first reading does not use there, the least whole amount by which its
+** cost alone must fall for some reading to be strictly lighter than the first is
+** now. Left out are a word whose cost cannot fall so far and one that no reading
+** uses there. An entry is four numbers: that amount, 1 to the word's cost; the slot
+** and the word, numbered from 0; and the weight that the lighter reading has now.
+**
+** Answers the number of entries, m, which is 0 also if there is no reading. The
+** first 4 * m numbers of out are the entries, ascending by amount, then slot, then
+** word.
+**
+** work is as for a listing of one reading, spireyerba_work_length(S, n, 1) numbers;
+** after an answer, also 0, all of it is zero. out has at least
+** SPIREYERBA_MARGIN_NUMBERS numbers for each word of each slot, those of cost
+** NOT_HEARD included, also where fewer entries exist.
+**
+** Refuses with any of GRAMMAR_..., any of UTTERANCE_... (a graph is UTTERANCE_KIND),
+** then LISTING_WORK, then OUTPUT_SHORT.
+*/
+int32_t spireyerba_word_margins(
+    const uint8_t *grammar, size_t grammar_len,
+    const uint8_t *utterance, size_t utterance_len,
+    uint32_t *work, size_t work_len,
+    uint32_t *out, size_t out_len);
 
 #ifdef __cplusplus
 }

@@ -5,6 +5,7 @@ pub mod conversions;
 pub mod free;
 pub mod inputs;
 pub mod listing;
+pub mod margins;
 pub mod measure;
 pub mod next_phrase;
 pub mod office;

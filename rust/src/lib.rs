@@ -19,6 +19,7 @@
 //! | [`Graph`], [`GraphReading`] | word graphs, which have blocks and no sheets; [`Grammar::list_graph`], [`Grammar::check_graph`] |
 //! | [`Grammar::specimen`], [`Phrases`] | what can be said in a grammar |
 //! | [`Grammar::cost_ranges`], [`CostRanges`] | the first reading where costs are known within ranges |
+//! | [`Grammar::word_margins`], [`WordMargin`] | which word to listen to again |
 //! | [`OpenListing`] | readings one by one, each found when it is asked for; [`Grammar::open`], [`Grammar::open_graph`] |
 //! | [`Lister`] | many listings under one grammar, in memory that is kept, the library's or a desk panel's |
 //! | [`Grammar::chance`], [`Grammar::chance_graph`] | the product of the shares of a reading's rules |
@@ -58,6 +59,7 @@ mod fields;
 mod grammar;
 mod graph;
 mod lister;
+mod margins;
 mod marked;
 mod office;
 mod open_listing;
@@ -72,6 +74,7 @@ pub use error::{Error, Position};
 pub use grammar::{Body, Grammar, Rule};
 pub use graph::{Edge, Graph};
 pub use lister::{Found, Lister};
+pub use margins::WordMargin;
 pub use marked::MarkedGrammar;
 pub use office::{Item, Office, OfficeRule};
 pub use open_listing::OpenListing;

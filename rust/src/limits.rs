@@ -41,6 +41,11 @@ pub const PANEL_OUTPUT_MAX: usize = 608;
 /// [`next_phrase`](crate::services::next_phrase) hands out phrases of 1 to so many words.
 pub const MAX_PHRASE: u32 = 6;
 
+/// The numbers of an entry of [`word_margins`](crate::services::word_margins): amount, slot, word and weight.
+pub const MARGIN_NUMBERS: usize = 4;
+/// No call of [`word_margins`](crate::services::word_margins) needs a longer output.
+pub const MARGINS_MAX: usize = margins_length((MAX_SLOTS * MAX_CANDIDATES) as usize);
+
 /// No grammar block that is accepted has more bytes. It is of 256 rules with marks; without marks, 1,028 is the most.
 pub const GRAMMAR_BLOCK_MAX: usize = 1_060;
 /// No utterance block that is accepted has more bytes.
@@ -85,6 +90,11 @@ pub const fn graph_reading_length(edges: usize, rules: usize) -> usize {
 /// The numbers of work table that a listing of so many readings needs. A graph of P places needs what P − 1 slots do.
 pub const fn work_length(symbols: usize, slots: usize, wanted: usize) -> usize {
     NUMBERS_OF_ENTRY * symbols * (slots * (slots + 1) / 2) * wanted
+}
+
+/// The numbers of output that [`word_margins`](crate::services::word_margins) needs for an utterance with so many words in all.
+pub const fn margins_length(candidates: usize) -> usize {
+    MARGIN_NUMBERS * candidates
 }
 
 /// The bits of a block's kind; of a reading's number of slots, or of edges, and of its weight; of an edge's number in it.

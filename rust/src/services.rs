@@ -118,6 +118,16 @@ extern "C" {
         least: *mut u32,
         greatest: *mut u32,
     ) -> i32;
+    fn spireyerba_word_margins(
+        grammar: *const u8,
+        grammar_len: usize,
+        utterance: *const u8,
+        utterance_len: usize,
+        work: *mut u32,
+        work_len: usize,
+        out: *mut u32,
+        out_len: usize,
+    ) -> i32;
 }
 
 /// What an exported function returns: 0 or more is its answer, less is minus a refusal's number.
@@ -656,5 +666,43 @@ pub fn cost_ranges(
         0 => FirstReading::Nothing,
         1 => FirstReading::Outweighed,
         _ => FirstReading::Stands,
+    })
+}
+
+/// Says which words are worth listening to again: by how little the cost of each must fall for another reading to come first.
+///
+/// Takes the blocks of a grammar and of an utterance of slots. An entry is of an offered word that the first reading does not
+/// use in its slot, four numbers: the least amount, 1 to its cost, by which that cost alone must fall for some reading to be
+/// strictly lighter than the first; the slot; the word; and the weight that the lighter reading has now. A word whose cost
+/// cannot fall so far, or that no reading uses there, has none. Writes the entries to the front of `out`, ascending by amount,
+/// slot and word, and answers how many there are: 0 also if there is no reading. `out` has at least
+/// [`margins_length`](crate::limits::margins_length) numbers for the words of all slots, those not heard included. The table
+/// `work`, which may hold anything, has at least [`work_length`](crate::limits::work_length) numbers for one reading, and is all
+/// zeros afterwards.
+///
+/// Refuses with 1 to 7 for the grammar; with 11 to 16 for the utterance; then with [`ListingWork`](Refusal::ListingWork), then
+/// with [`OutputShort`](Refusal::OutputShort).
+///
+/// ```
+/// let grammar = [0x10, 0xc1, 0x00, 0xa0, 0x00, 0x01, 0xa8, 0x00, 0x29, 0x40, 0x00, 0xdc, 0x00, 0x03, 0x60, 0x00, 0x3c];
+/// // words 0 and 1 at costs 4 and 7, then 2 and 3 at costs 3 and 2: the first reading is 0 2, of weight 13
+/// let utterance = [0x20, 0x90, 0x00, 0x08, 0x80, 0x03, 0xa8, 0x00, 0x0f, 0x00, 0x02];
+/// let (mut work, mut out) = ([0; 36], [0; 16]);
+/// assert_eq!(spireyerba::services::word_margins(&grammar, &utterance, &mut work, &mut out), Ok(2));
+/// assert_eq!(out[..8], [2, 0, 1, 14, 2, 1, 3, 14]);
+/// ```
+pub fn word_margins(grammar: &[u8], utterance: &[u8], work: &mut [u32], out: &mut [u32]) -> Result<usize, Refusal> {
+    // SAFETY: the slices are borrowed until the call returns, `work` and `out` for it alone.
+    answer(unsafe {
+        spireyerba_word_margins(
+            grammar.as_ptr(),
+            grammar.len(),
+            utterance.as_ptr(),
+            utterance.len(),
+            work.as_mut_ptr(),
+            work.len(),
+            out.as_mut_ptr(),
+            out.len(),
+        )
     })
 }

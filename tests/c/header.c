@@ -43,6 +43,9 @@ static const uint8_t fifth_block[] = {0x10, 0xc1, 0x00, 0xa0, 0x00, 0x01, 0xa8, 
                                       0x40, 0x00, 0xdc, 0x00, 0x03, 0x60, 0x00, 0x3c};
 static const uint8_t low_block[] = {0x20, 0x90, 0x00, 0x00, 0x80, 0x00, 0x28, 0x00, 0x03, 0x00, 0x00};
 static const uint8_t high_block[] = {0x20, 0x90, 0x00, 0x12, 0x80, 0x01, 0xa8, 0x00, 0x0b, 0x00, 0x09};
+/* Two slots with costs 4 7 and 3 2, and what is to be listened to again: two words, by 2 each, for readings of weight 14. */
+static const uint8_t margins_block[] = {0x20, 0x90, 0x00, 0x08, 0x80, 0x03, 0xa8, 0x00, 0x0f, 0x00, 0x02};
+static const uint32_t margins[] = {2, 0, 1, 14, 2, 1, 3, 14};
 static uint32_t work[320];
 /* U's readings under G, of which the last is known too, and the table of an open listing of them. */
 enum { U_READINGS = 5 };
@@ -238,6 +241,19 @@ int main(void) {
                                     work, spireyerba_work_length(3, 2, 1), &least_weight, &greatest_weight);
     expect(answer == 1 && least_weight == 4 && greatest_weight == 9, "the first weight is from 4 to 9, and the first reading is outweighed");
     expect(work[0] == 0 && work[35] == 0 && work[36] == 0xa5a5a5a5, "the work table is zero, and nothing behind it is touched");
+
+    fill_outputs();
+    memset(work, 0xa5, sizeof work);
+    answer = spireyerba_word_margins(fifth_block, LENGTH(fifth_block), margins_block, LENGTH(margins_block), work, 36, sheet, 15);
+    expect(answer == -SPIREYERBA_OUTPUT_SHORT && sheet[0] == 0xa5a5a5a5 && work[0] == 0xa5a5a5a5,
+           "four numbers for each of four words are needed");
+    answer = spireyerba_word_margins(fifth_block, LENGTH(fifth_block), margins_block, LENGTH(margins_block), work,
+                                     spireyerba_work_length(3, 2, 1), sheet, SPIREYERBA_MARGIN_NUMBERS * 4);
+    expect(answer == 2 && memcmp(sheet, margins, sizeof margins) == 0 && sheet[LENGTH(margins)] == 0xa5a5a5a5,
+           "two words are worth listening to again");
+    expect(work[0] == 0 && work[35] == 0 && work[36] == 0xa5a5a5a5, "their work table is zero, and nothing behind it is touched");
+    expect(SPIREYERBA_MARGINS_MAX == SPIREYERBA_MARGIN_NUMBERS * SPIREYERBA_MAX_SLOTS * SPIREYERBA_MAX_CANDIDATES,
+           "the longest output is for all words of all slots");
 
     return failures != 0;
 }

@@ -9,7 +9,7 @@
 //! | `graph`, `graph_reading` | the blocks of word graphs and of their readings |
 //! | `heard` | slots or a graph, and the words that they offer |
 //! | `office` | rules as offices write them: the sheet, what it becomes, their derivations |
-//! | `conversions`, `check`, `chance`, `cost_ranges`, `listing`, `specimen` | the services over lent slices; the next phrase stands with the specimen, the panel's listing with the listing |
+//! | `conversions`, `check`, `chance`, `cost_ranges`, `word_margins`, `listing`, `specimen` | the services over lent slices; the next phrase stands with the specimen, the panel's listing with the listing |
 //! | `open_listing` | readings one by one, from the full list; which ranks a work table shows to be found |
 //! | `derivation` | trees, their order, and all derivations sorted by it |
 //! | `nbest` | the N best trees of each cell, where all derivations are too many |
@@ -36,3 +36,4 @@ pub mod refusal;
 pub mod seeded;
 pub mod specimen;
 pub mod utterance;
+pub mod word_margins;

@@ -2,10 +2,11 @@
 
 use spireyerba::limits::{PANEL_OUTPUT_MAX, PANEL_WORK_MAX};
 use spireyerba::text::{parse_sheet, print_list, NamedGrammar, UtteranceReader};
-use spireyerba::{services, Grammar, Graph, Reading, Utterance};
+use spireyerba::{services, Grammar, Graph, Reading, Utterance, WordMargin};
 use spireyerba_tests::chance::chance;
 use spireyerba_tests::heard::Heard;
 use spireyerba_tests::nbest::{least, least_of_graph};
+use spireyerba_tests::word_margins::entries;
 use spireyerba_tests::{grammar, graph, office, utterance};
 use std::path::PathBuf;
 
@@ -73,6 +74,9 @@ fn the_door_schedule() {
     let utterance = named.parse_utterance(&text("doors", "utterance.txt")).unwrap();
     expect("doors", &named.grammar, &utterance);
     expect_chances("doors", &named.grammar, &Heard::Slots(utterance.clone()));
+    let margins = [[9, 1, 1, 80], [9, 5, 10, 80], [51, 3, 6, 122]];
+    assert_eq!(named.grammar.word_margins(&utterance), Ok(margins.map(WordMargin::from).into()));
+    assert_eq!(entries(&named.grammar, &utterance), margins);
     let mut reader = UtteranceReader::new(&named);
     for line in text("doors", "utterances.txt").lines().filter(|line| !line.starts_with('#')) {
         assert!(reader.read(line).is_ok_and(|heard| named.grammar.list(&heard, 1).is_ok_and(|list| list.len() == 1)));

@@ -2,8 +2,8 @@
 //! A stack that is too short ends the whole run.
 
 use spireyerba::limits::{work_length, GRAMMAR_BLOCK_MAX, GRAMMAR_SHEET_MAX, GRAPH_BLOCK_MAX, GRAPH_READING_BLOCK_MAX};
+use spireyerba::limits::{MARGINS_MAX, PANEL_MAX_READINGS, PANEL_OUTPUT_MAX, PANEL_WORK_MAX};
 use spireyerba::limits::{MAX_READINGS, MAX_RULES, READING_BLOCK_MAX, UTTERANCE_BLOCK_MAX, UTTERANCE_SHEET_MAX};
-use spireyerba::limits::{PANEL_MAX_READINGS, PANEL_OUTPUT_MAX, PANEL_WORK_MAX};
 use spireyerba::services::{self, Next, Place};
 use spireyerba::{Body, Candidate, Edge, Grammar, Graph, Item, MarkedGrammar, Office, OfficeRule, Refusal};
 use spireyerba::{Rule, Utterance};
@@ -31,9 +31,9 @@ fn grammar(first: u32, second: u32) -> Grammar {
     Grammar { symbols: 32, words: 200, rules: bodies.into_iter().enumerate().map(rule).collect() }
 }
 
-/// So many slots that offer seven words each.
+/// So many slots that offer seven words each, at costs that can fall far.
 fn utterance(slots: u32) -> Utterance {
-    let slot = |slot| (0..7).map(|word| Candidate { word, cost: slot * word }).collect();
+    let slot = |slot| (0..7).map(|word| Candidate { word, cost: 500 + slot * word }).collect();
     Utterance { slots: (0..slots).map(slot).collect() }
 }
 
@@ -62,6 +62,14 @@ fn expect_answers(grammar: &Grammar, utterance: &Utterance) {
     expect_list(&grammar_block, &block, READING_BLOCK_MAX);
     expect_one_by_one(&grammar_block, &block, READING_BLOCK_MAX);
     expect_ranges(&grammar_block, &block);
+    expect_margins(&grammar_block, &block);
+}
+
+/// Six words in each slot that the first reading does not use, each of which would bring another.
+fn expect_margins(grammar: &[u8], block: &[u8]) {
+    let (mut work, mut out) = (vec![7; work_length(32, 24, 1)], vec![7; MARGINS_MAX]);
+    let answer = on_small_stack(|| services::word_margins(grammar, block, &mut work, &mut out));
+    assert_eq!(answer, Ok(6 * 24));
 }
 
 /// Costs that are known exactly: the first reading stands, at its own weight.

@@ -83,7 +83,7 @@ impl Listed {
     /// Says on standard error that there is no reading, if it is so.
     pub fn say_if_none(&self) {
         if self.readings.is_empty() {
-            eprintln!("no reading: the grammar derives nothing of what was heard");
+            say_no_reading();
         }
     }
 
@@ -98,6 +98,11 @@ impl Listed {
     pub fn tree(&self, reading: &Reading) -> Tree {
         self.grammar.named.tree(reading).expect("the library lists walks of derivations")
     }
+}
+
+/// Says on standard error that there is no reading.
+pub fn say_no_reading() {
+    eprintln!("no reading: the grammar derives nothing of what was heard");
 }
 
 /// What was heard, as the command line asks for it, and the slot of each edge, if slots may be passed over.

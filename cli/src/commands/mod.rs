@@ -5,6 +5,7 @@ mod chance;
 mod check;
 mod lint;
 pub mod list;
+mod margins;
 mod pack;
 mod panel;
 mod phrases;
@@ -51,6 +52,7 @@ pub const COMMANDS: &[Command] = &[
     lint::COMMAND,
     specimen::COMMAND,
     phrases::COMMAND,
+    margins::COMMAND,
     ranges::COMMAND,
     check::COMMAND,
     chance::COMMAND,

@@ -239,6 +239,26 @@ fn ranges_of_costs() {
 }
 
 #[test]
+fn words_to_listen_to_again() {
+    let margins = " 9  slot 1  forty   80\n 9  slot 5  sixty   80\n51  slot 3  glass  122\n";
+    assert_eq!(answer("margins grammar.txt utterance.txt"), margins);
+    assert_eq!(answer("margins grammar.bin utterance.bin").lines().next(), Some(" 9  slot 1  w1    80"));
+    assert_eq!(answer("margins grammar.txt utterance.txt --said 1=forty --said 5=sixty"), "51  slot 3  glass  138\n");
+    let json = r#"{"margins":[{"amount":9,"slot":1,"word":"forty","weight":80},{"amount":9,"slot":5,"word":"sixty","weight":80},"#
+        .to_owned()
+        + r#"{"amount":51,"slot":3,"word":"glass","weight":122}]}"#;
+    assert_eq!(answer("margins grammar.txt utterance.txt --json"), json + "\n");
+    let none = |heard: &str| run_with(&doors(), "margins grammar.txt -", heard.as_bytes());
+    let message = "none: no other word brings another reading, however cheap it is\n";
+    assert_eq!(none("door 1; four 2; oak 3 | fire 9"), Run { status: 0, out: String::new(), err: message.into() });
+    let message = "no reading: the grammar derives nothing of what was heard\n";
+    assert_eq!(none("door 1; four 2 | five 7"), Run { status: 0, out: String::new(), err: message.into() });
+    let json = run_with(&doors(), "margins grammar.txt - --json", b"door 1");
+    assert_eq!(answered(json, "margins"), "{\"margins\":[]}\n");
+    assert_eq!(refused(none("door 1; green 2"), 1), "<stdin>:1:9: refused 14: the grammar has no word `green`\n");
+}
+
+#[test]
 fn phrases_of_a_length() {
     let phrases = answer("phrases grammar.txt 3");
     assert!(

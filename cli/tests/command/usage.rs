@@ -6,9 +6,9 @@ use std::io::Write;
 use std::path::Path;
 use std::process::{Command, Stdio};
 
-const COMMANDS: [&str; 14] = [
-    "list", "panel", "pick", "why", "report", "batch", "lint", "specimen", "phrases", "ranges", "check", "chance",
-    "pack", "unpack",
+const COMMANDS: [&str; 15] = [
+    "list", "panel", "pick", "why", "report", "batch", "lint", "specimen", "phrases", "margins", "ranges", "check",
+    "chance", "pack", "unpack",
 ];
 
 #[test]
@@ -96,6 +96,12 @@ fn wrong_usage_of_others() {
         ("pick - utterance.txt", "spireyerba pick", "the answers come from standard input, so no file can"),
         ("pick grammar.txt utterance.txt --tree --json", "spireyerba pick", "--tree and --json: only one of them"),
         ("pick grammar.txt utterance.txt -n 3", "spireyerba pick", "there is no option -n"),
+        (
+            "margins grammar.txt ../doors_graph/graph.txt",
+            "spireyerba margins",
+            "margins are for slots, not for word graphs",
+        ),
+        ("margins grammar.txt utterance.txt --skip 3", "spireyerba margins", "there is no option --skip"),
         ("specimen grammar.txt x", "spireyerba specimen", "LENGTH: `x` is no number"),
         ("phrases grammar.txt x", "spireyerba phrases", "LENGTH: `x` is no number"),
         ("unpack grammar.txt utterance.txt --network", "spireyerba unpack", "--network and --lattice need --scale X"),

@@ -23,6 +23,7 @@ use Rattle.derivation.proofs.Lists.{at-take}
 use Rattle.derivation.proofs.Ranges.{all-at, Within, valid-rules, valid-sizes, valid-within, valid-light}
 use Rattle.derivation.proofs.Paths.{forward-weight, forward-costs}
 use Rattle.derivation.proofs.HeardReadings.{heard-forward, heard-cheap, heard-last}
+use Rattle.chart_table.specs.declared.Cell.{Cell}
 use Rattle.chart_table.specs.declared.Layout.{Layout}
 use Rattle.chart_table.specs.Table.{root, cellNumber, priceAt, clear}
 use Rattle.chart_index.specs.Index.{indexNumbers}
@@ -33,7 +34,7 @@ use Rattle.chart.specs.Chart.{layOut, enumerate, rootsFound, rootWeight, rootTr
 use Rattle.chart_theory.proofs.Table.Cells.{InChart}
 use Rattle.chart_theory.proofs.Invariant.{Setting}
 use Rattle.chart_theory.proofs.Search.Passes.{Listed, next-known}
-use Rattle.chart_theory.proofs.Chart.{Lists, search-lists, known-step, first-listed, front-size}
+use Rattle.chart_theory.proofs.Chart.{Lists, search-lists, FirstIs, search-firsts, known-step, first-listed, front-size}
 
 -- there is a place behind the first, and at most 7 edges for each slot, or 96
 pub heard-sizes : (W : ℕ) (h : Heard) → ValidHeard W h → (1 ≤ lastPlace h) × (length (heardEdges h) ≤ 168)
@@ -116,6 +117,12 @@ module _ (g : Grammar) (h : Heard) (N : ℕ) where
         (rootsFound (enumerate rules (length (g .rules)) edge-array (length (heardEdges h)) layout size) layout)
     unfolding enumerate layOut
     chart-holds size room = holds rules _ (search-lists setting in-root size (omega arith))
+
+    -- and the first tree of every cell
+    pub chart-firsts : (size : ℕ) → 4 * g .symbols * (lastPlace h * (lastPlace h + 1) / 2) * N ≤ size → (c : Cell) → InChart layout c
+        → FirstIs g (heardEdges h) layout (enumerate rules (length (g .rules)) edge-array (length (heardEdges h)) layout size) c
+    unfolding enumerate layOut
+    chart-firsts size room = search-firsts setting in-root size (omega arith)
 
     -- one by one: where the ranks of the root are known up to x, the next is known after a further step
     pub next-reached : (x : ℕ) (t : List ℕ) → x + 1 < N → Listed g (heardEdges h) layout x t

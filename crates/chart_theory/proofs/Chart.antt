@@ -1,20 +1,24 @@
 -- The chart's theorem: from a table of zeros the search finds the ranked derivations of the root, the least first, each at its
 -- rank, as many as are kept or as there are; a found rank has the weight of its derivation, its back trace has the nodes of the derivation, and
--- clearing the entries found leaves zeros. For the search keeps the invariant, and in the end knows every rank that is kept.
+-- clearing the entries found leaves zeros. For the search keeps the invariant, and in the end knows every rank that is kept, and the first of
+-- every cell.
 use mathlib.Core.Path.{_≡_, refl, sym, ap, _∙_}
 use mathlib.Core.Bool.{true}
+use mathlib.Core.Option.{none}
 use mathlib.Core.List.{List, [], _∷_, _++_}
 use Prim.Native.Nat.{ℕ, zero, suc, _+_, _-_, _*_, _/_, _≤_, _<_, min}
 use native.Mathlib.Nat.{le-refl, zero-add, suc-add}
 use native.Mathlib.Decide.{decLt}
 use native.Mathlib.Omega.{arith}
-use lib.ListN.{length, replicate, length-replicate}
+use lib.ListN.{length, getElem?, replicate, length-replicate}
 use Rattle.packing.specs.Meaning.{Grammar, Edge}
 use Rattle.packing.specs.Flat.{nodesIn}
 use Rattle.derivation.specs.Derivation.{At, Tree, weight}
 use Rattle.derivation.specs.Heard.{trace}
+use Rattle.derivation.proofs.Lists.{none≢some, at-length}
 use Rattle.derivation.proofs.Rows.{Price, price, weightIn, costsIn, rowPrice, row-price}
 use Rattle.chart_keys.specs.Keys.{weightUnit}
+use Rattle.chart_table.specs.declared.Cell.{Cell}
 use Rattle.chart_table.specs.declared.Layout.{Layout}
 use Rattle.chart_table.specs.Table.{root, cellNumber, clear}
 use Rattle.packing.specs.Loop.{iter}
@@ -40,6 +44,11 @@ pub record Lists (g : Grammar) (es : List Edge) (rules : List ℕ) (d : Layout) 
   pub number : rootsFound t d ≡ min (d .ranks) (length (rankedIn g es (root d)))
   pub each : (x : ℕ) → x < rootsFound t d → (z : Tree) × RankIs g es rules d t x z
   pub clears : clear t d ≡ replicate (length t) 0
+
+-- rank 0 of a cell is its first tree, by its weight
+pub record FirstIs (g : Grammar) (es : List Edge) (d : Layout) (t : List ℕ) (c : Cell) : Type 0 where
+  pub some : (z : Tree) → At (rankedIn g es c) 0 z → Found d t c 0 × ((priceIn d t c 0 - 1) / weightUnit ≡ weight g es z)
+  pub none : getElem? (rankedIn g es c) 0 ≡ none → priceIn d t c 0 ≡ 0
 
 -- the weight of a price
 weight-of : {n : ℕ} (a : Price) → n ≡ priceNumber a + 1 → costsIn a < weightUnit → (n - 1) / weightUnit ≡ weightIn a
@@ -67,6 +76,23 @@ module _ {g : Grammar} {es : List Edge} {rules edges index : List ℕ} {d : Layo
         in-entry,
       ))
 
+  first-is : {t : List ℕ} → Invariant g es d (suc (d .places)) t → (c : Cell) → InChart d c → FirstIs g es d t c
+  first-is {t} invariant c in-chart = record {
+    some = λ z e.
+        let found = invariant .first-known in-chart (omega (arith, in-chart .within)) (s .kept) (at-length (rankedIn g es c) 0 e) in
+        let (v, held) = invariant .holds 0 in-chart found in
+        let (z′, place, o) = held .place in
+        let same : z′ ≡ z = cc in
+        (found, weight-of (rowPrice v) (held .priced) (held .fits .cheap) ∙ ap weightIn (row-price g es o) ∙ ap (weight g es) same);
+    none = λ e. go e (decLt 0 (priceIn d t c 0));
+  }
+    where
+      go : getElem? (rankedIn g es c) 0 ≡ none → Dec (0 < priceIn d t c 0) → priceIn d t c 0 ≡ 0
+      go e (yes found) =
+          let (v, held) = invariant .holds 0 in-chart found in
+          let (z, place, o) = held .place in absurd (none≢some (sym e ∙ place))
+      go e (no absent) = omega arith
+
   module _ (in-root : InChart d (root d)) where
     -- a rank of the root that is found
     pub rank-found : {k : ℕ} (t : List ℕ) → Listed g es d k t → (x : ℕ) → Found d t (root d) x → (z : Tree) × RankIs g es rules d t x z
@@ -90,6 +116,14 @@ module _ {g : Grammar} {es : List Edge} {rules edges index : List ℕ} {d : Layo
       each : (x : ℕ) → x < rootsFound t d → (z : Tree) × RankIs g es rules d t x z
       each x h = rank-found t listed x
           (found-exactly s in-root (d .ranks - 1) t listed x (omega (arith, number)) (omega (arith, number)) .1 (omega (arith, number)))
+
+    -- the first rank of every cell is found, with the weight of the cell's first tree, or the cell has none
+    pub search-firsts : (size : ℕ) → 4 * (d .cells * d .ranks) ≤ size → (c : Cell) → InChart d c
+        → FirstIs g es d (search rules edges index d (replicate size 0)) c
+    search-firsts size room c in-chart =
+        let zeros = zeros-invariant d (replicate size 0) (replicate-zeros size) g es (rw length-replicate room) in
+        let listed = search-known s in-root (replicate size 0) zeros in
+        first-is (listed .invariant) c in-chart
 
     pub search-lists : (size : ℕ) → 4 * (d .cells * d .ranks) ≤ size
         → Lists g es rules d (search rules edges index d (replicate size 0))

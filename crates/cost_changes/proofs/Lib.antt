@@ -8,3 +8,15 @@ pub mod Utterances
 pub mod Raised
 pub mod Valid
 pub mod Theorems
+pub mod Least
+pub mod Inside
+pub mod Contexts
+pub mod MarginExamples
+pub mod Outside
+pub mod Agree
+pub mod Through
+pub mod Lowered
+pub mod Margins
+pub mod EdgeOrder
+pub mod Placed
+pub mod Listed

@@ -1,11 +1,12 @@
 -- Sums over lists of numbers: each law holds by recursion on the list.
 use mathlib.Core.Path.{_≡_, refl, sym, ap}
 use mathlib.Core.Logic.{_⊎_, inl, inr, ⊎-elim}
-use mathlib.Core.List.{List, [], _∷_, _++_, List·Memᴰ·head, List·Memᴰ·tail, List·Memᴰ·cases-cons, List·Memᴰ·not-nil}
+use mathlib.Core.List.{List, [], _∷_, _++_, List·Memᴰ·head, List·Memᴰ·tail, List·Memᴰ·cases-cons, List·Memᴰ·not-nil, List·Memᴰ·eq-of-singleton}
 use Prim.Native.Nat.{ℕ, _+_, _≤_}
 use native.Mathlib.Omega.{arith}
 use native.Mathlib.Decide.{ℕ-discrete}
 use Rattle.derivation.specs.Rank.{_∈_, Distinct}
+use Rattle.derivation.proofs.Joined.{single}
 
 -- f at each number of a list, summed
 unfoldable pub total : (ℕ → ℕ) → List ℕ → ℕ
@@ -79,6 +80,18 @@ total-within f (x ∷ l) m (n, d) p =
         let q : (y : ℕ) → y ∈ l → (y ∈ (r .rest)) ⊎ (f y ≡ 0) = λ y o.
         ⊎-elim (λ k. ⊎-elim (λ e. absurd (n (rw e at o))) inl (r .kept y k)) inr (p y (List·Memᴰ·tail o)) in
         omega (arith, rec (r .rest) d q, r .sum)
+
+-- of a list with e once, where nothing else counts
+pub total-single : (f : ℕ → ℕ) (l : List ℕ) (e : ℕ) → Distinct l → e ∈ l → ((x : ℕ) → ¬ (x ≡ e) → f x ≡ 0) → total f l ≡ f e
+unfolding total
+total-single f l e d m h =
+    let up = total-within f l (e ∷ []) d (λ x n. counts (ℕ-discrete x e)) in
+    let down = total-within f (e ∷ []) l (single e) (λ x n. inl (rw (List·Memᴰ·eq-of-singleton n) m)) in
+    omega arith
+  where
+    counts : {x : ℕ} → Dec (x ≡ e) → (x ∈ (e ∷ [])) ⊎ (f x ≡ 0)
+    counts (yes p) = inl (List·Memᴰ·head p)
+    counts {x} (no p) = inr (h x p)
 
 -- a number is in a list or not
 pub in-or-not : (e : ℕ) (l : List ℕ) → (e ∈ l) ⊎ (¬ (e ∈ l))

@@ -23,7 +23,7 @@ use Rattle.cost_changes.proofs.Gains.{gains}
 use Rattle.cost_changes.proofs.Utterances.{risen-alike, risen-dearer, risen-length, low-choice, high-choice}
 use Rattle.cost_changes.proofs.Raised.{own-high}
 
-edges-forward : (u : Utterance) → Forward (edges u)
+pub edges-forward : (u : Utterance) → Forward (edges u)
 edges-forward u e i k c x p = omega (arith, edges-short u e i k c x p)
 
 -- where one utterance rises to another, both have the same derivations, and no first weight falls

@@ -72,7 +72,7 @@ module _ (rules : List ℕ) (z : Sizes) (low : List ℕ) (y : HeardSize) (high :
       due g u v okg oku okv ez ey begun begun′ begun″ (sym (both-rise u v low high begun′ begun″) ∙ rw (ey, ey′) at e)
 
 -- what a block read as slots says of it as an utterance
-slots-out : (W : ℕ) (s : List ℕ) {h : Heard} → asSlots W s ≡ accepted h → (u : Utterance) × (utteranceBlock W s ≡ accepted u) × (h ≡ slots u)
+pub slots-out : (W : ℕ) (s : List ℕ) {h : Heard} → asSlots W s ≡ accepted h → (u : Utterance) × (utteranceBlock W s ≡ accepted u) × (h ≡ slots u)
 slots-out W s {h} = go (utteranceBlock W s) refl
   where
     go : (v : Verdict Utterance) → utteranceBlock W s ≡ v → (v then λ u. accepted (slots u)) ≡ accepted h
@@ -80,7 +80,7 @@ slots-out W s {h} = go (utteranceBlock W s) refl
     go (accepted u) e a = let same : h ≡ slots u = cc in (u, e, same)
     go (refused n) e a = let z : _≡_ {A = ℕ} 0 1 = cc in absurd (omega arith)
 
-slots-refused : (W : ℕ) (s : List ℕ) {n : ℕ} → asSlots W s ≡ refused n → utteranceBlock W s ≡ refused n
+pub slots-refused : (W : ℕ) (s : List ℕ) {n : ℕ} → asSlots W s ≡ refused n → utteranceBlock W s ≡ refused n
 slots-refused W s {n} = go (utteranceBlock W s) refl
   where
     go : (v : Verdict Utterance) → utteranceBlock W s ≡ v → (v then λ u. accepted (slots u)) ≡ refused n → utteranceBlock W s ≡ refused n
@@ -88,7 +88,7 @@ slots-refused W s {n} = go (utteranceBlock W s) refl
     go (refused m) e a = let same : m ≡ n = cc in e ∙ ap refused same
 
 -- a block under the sizes that were read
-words-of : (z : Sizes) (g : Grammar) → z ≡ sizes g → (s : List ℕ) → utteranceBlock (g .words) s ≡ utteranceBlock (z .words) s
+pub words-of : (z : Sizes) (g : Grammar) → z ≡ sizes g → (s : List ℕ) → utteranceBlock (g .words) s ≡ utteranceBlock (z .words) s
 words-of z g ez s = sym (ap (λ (x : Sizes). utteranceBlock (x .words) s) ez)
 
 -- where the low one is, and where only the grammar is read

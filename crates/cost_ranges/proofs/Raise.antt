@@ -46,7 +46,7 @@ module _ (rules trace : List ℕ) where
   rest n i = nodesIn rules (take (2 * (n - i)) (drop (2 * i) trace))
 
   module _ (n i : ℕ) where
-    rest-more : i < n → 2 * n ≤ length trace → rest n i ≡ nodeAt i ∷ rest n (i + 1)
+    pub rest-more : i < n → 2 * n ≤ length trace → rest n i ≡ nodeAt i ∷ rest n (i + 1)
     unfolding nodesIn
     rest-more l h =
         let z : 2 * (n - i) ≡ suc (suc (2 * (n - (i + 1)))) = omega arith in
@@ -56,7 +56,7 @@ module _ (rules trace : List ℕ) where
         let b = drop-cons trace (suc (2 * i)) 0 (omega arith) in
         rw (z, a, b, y, x)
 
-    rest-end : n ≤ i → rest n i ≡ []
+    pub rest-end : n ≤ i → rest n i ≡ []
     unfolding nodesIn
     rest-end l = let z : 2 * (n - i) ≡ 0 = omega arith in rw z
 

@@ -44,10 +44,10 @@ pub enum Ranged {
 }
 
 // What a pass is over: so many rules and edges of arrays, and a table.
-struct Pass {
-    rules: usize,
-    edges: usize,
-    table: Layout,
+pub struct Pass {
+    pub rules: usize,
+    pub edges: usize,
+    pub table: Layout,
 }
 
 // One reading is looked for in each pass.

@@ -56,8 +56,8 @@ unfoldable pub joined : List (List ℕ) → List ℕ
 joined [] = []
 joined (l ∷ ls) = l ++ joined ls
 
--- the answer, the output afterwards, and the work table afterwards; a refusal changes nothing
-abbrev pub listedOf : Verdict (List (List ℕ)) → Listed
+-- the answer, of any list, the output afterwards, and the work table afterwards; a refusal changes nothing
+abbrev pub listedOf : {A : Type 0} → Verdict (List A) → Listed
 listedOf (accepted ls) = Found (length ls)
 listedOf (refused n) = Refused n
 
@@ -65,6 +65,6 @@ abbrev pub outputAfter : Verdict (List (List ℕ)) → List ℕ → List ℕ
 outputAfter (accepted ls) out = joined ls ++ drop (length (joined ls)) out
 outputAfter (refused n) out = out
 
-abbrev pub workAfter : Verdict (List (List ℕ)) → List ℕ → List ℕ
+abbrev pub workAfter : {A : Type 0} → Verdict A → List ℕ → List ℕ
 workAfter (accepted ls) work = replicate (length work) 0
 workAfter (refused n) work = work

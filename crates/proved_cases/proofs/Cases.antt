@@ -22,8 +22,10 @@ use Rattle.next_phrase.specs.NextPhrase.{next}
 use Rattle.cost_changes.specs.Costs.{edgesOf}
 use Rattle.cost_changes.specs.Ranges.{slotRises, rises}
 use Rattle.cost_changes.specs.Passes.{raised, answerOf, answer}
+use Rattle.cost_changes.specs.Listed.{marginsOf}
 use Rattle.cost_ranges.specs.CostRanges.{ranged, ranges}
-use Rattle.proved_cases.specs.Table.{AllHold, N6-cases, N8-cases, N11-cases, P-cases}
+use Rattle.word_margins.specs.WordMargins as WordMargins
+use Rattle.proved_cases.specs.Table.{AllHold, N6-cases, N8-cases, N11-cases, N12-cases, P-cases}
 
 pub ties-hold : AllHold N6-cases
 unfolding slotEdges edgesFrom num bitsOf pack ended widthOf widthFrom bitsOfAll inRange fieldAt ruleFrom markedRuleFrom anyLike unlikeFrom grammarFrom blockBy markedBlock grammarBlock markedRulesEntries markedEntries blockOfMarked candidatesFrom slotFrom slotsFrom utteranceFrom utteranceBlock heardBlock candidatesEntries slotsEntries utteranceEntries blockOfUtterance walkFrom readingFrom walkEntries readingEntries blockOfReading weight costSum walk reading trees ranked tableSize readingLength listed list joined fieldsFrom firstWith derivationOf check firstPhrase specimen
@@ -36,6 +38,10 @@ panel-holds = (refl, (refl, (refl, (refl, (refl, (refl, (refl, (refl, (refl, (re
 pub ranges-hold : AllHold N11-cases
 unfolding slotEdges edgesFrom num bitsOf pack ended widthOf widthFrom bitsOfAll inRange fieldAt ruleFrom markedRuleFrom anyLike unlikeFrom grammarFrom blockBy markedBlock grammarBlock markedRulesEntries markedEntries blockOfMarked candidatesFrom slotFrom slotsFrom utteranceFrom utteranceBlock candidatesEntries slotsEntries utteranceEntries blockOfUtterance weight costSum trees ranked tableSize slotRises rises edgesOf raised answerOf answer ranged ranges
 ranges-hold = (refl, (refl, (refl, (refl, (refl, (refl, (refl, tt)))))))
+
+pub margins-hold : AllHold N12-cases
+unfolding slotEdges edgesFrom num bitsOf pack ended widthOf widthFrom bitsOfAll inRange fieldAt ruleFrom markedRuleFrom anyLike unlikeFrom grammarFrom blockBy markedBlock grammarBlock markedRulesEntries markedEntries blockOfMarked candidatesFrom slotFrom slotsFrom utteranceFrom utteranceBlock candidatesEntries slotsEntries utteranceEntries blockOfUtterance tableSize marginsOf WordMargins.listed WordMargins.margins
+margins-hold = (refl, (refl, (refl, (refl, (refl, (refl, (refl, (refl, (refl, (refl, (refl, tt)))))))))))
 
 pub cases-hold : AllHold P-cases
 unfolding slotEdges edgesFrom num bitsOf pack ended widthOf widthFrom bitsOfAll inRange fieldAt ruleFrom markedRuleFrom anyLike unlikeFrom grammarFrom blockBy markedBlock grammarBlock markedRulesEntries markedEntries blockOfMarked candidatesFrom slotFrom slotsFrom utteranceFrom utteranceBlock heardBlock candidatesEntries slotsEntries utteranceEntries blockOfUtterance walkFrom readingFrom walkEntries readingEntries blockOfReading weight costSum walk reading trees ranked tableSize readingLength listed list joined fieldsFrom firstWith derivationOf check firstPhrase specimen wordOrder nextPhrase next

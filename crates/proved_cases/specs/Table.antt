@@ -7,7 +7,7 @@ use lib.ListN.{length, drop, replicate}
 use Rattle.packing.specs.declared.Rule as R
 use Rattle.packing.specs.declared.Rule.the-variants.{Pair, Word}
 use Rattle.packing.specs.Meaning.{symbolOf, word, Grammar, Utterance, Candidate, candidate, Reading}
-use Rattle.packing.specs.Parse.{Verdict, accepted}
+use Rattle.packing.specs.Parse.{Verdict, accepted, refused}
 use Rattle.packing.specs.Grammar.{blockOfGrammar}
 use Rattle.packing.specs.Utterance.{blockOfUtterance}
 use Rattle.packing.specs.Reading.{blockOfReading}
@@ -23,6 +23,8 @@ use Rattle.specimen.specs.Specimen as Specimen
 use Rattle.specimen.specs.Specimen.{answeredOf, outputOf}
 use Rattle.specimen.specs.declared.Answered.{Answered}
 use Rattle.next_phrase.specs.NextPhrase as NextPhrase
+use Rattle.cost_changes.specs.Margins.{Entry, entry}
+use Rattle.word_margins.specs.WordMargins as WordMargins
 use Rattle.cost_ranges.specs.CostRanges as CostRanges
 use Rattle.cost_ranges.specs.CostRanges.{rangedOf}
 use Rattle.cost_ranges.specs.declared.Ranged.{Ranged}
@@ -33,7 +35,8 @@ use Rattle.specimen.specs.declared.Answered.the-variants.{Written, Nothing}
 -- a row: the block of a grammar and of an utterance; the readings that the listing finds, with the lister's work table and
 -- output; its answer m, and the bytes that it writes in front of the output; a reading block that passes the check, and one that it
 -- refuses; what the specimen and the next phrase answer, and the output before and after; what the panel answers, lent so many numbers of work
--- table and bytes of output; what is answered for costs between low and high, with a work table of so many numbers
+-- table and bytes of output; what is answered for costs between low and high, with a work table of so many numbers; the words to listen to
+-- again, with a work table and an output of so many numbers
 pub data Case : Type 0 where
   grammar : (g : Grammar) (block : List ℕ) → Case
   utterance : (g : Grammar) (u : Utterance) (block : List ℕ) → Case
@@ -45,6 +48,7 @@ pub data Case : Type 0 where
   next : (g : Grammar) (n call : ℕ) (out : List ℕ) (answer : Answered) (after : List ℕ) → Case
   panel : (g : Grammar) (u : Utterance) (wanted work out : ℕ) (answer : Listed) → Case
   ranges : (g : Grammar) (low high : Utterance) (work : ℕ) (answer : Ranged) → Case
+  margins : (g : Grammar) (u : Utterance) (work out : ℕ) (answer : Verdict (List Entry)) → Case
 
 abbrev pub listedFor : Grammar → Utterance → ℕ → Verdict (List (List ℕ))
 listedFor g u wanted = list library (blockOfGrammar g) (blockOfUtterance (g .words) u) wanted 8192 1024
@@ -67,6 +71,7 @@ Holds (next g n call out answer after) =
 Holds (panel g u wanted work out answer) = listedOf (list Listing.panel (blockOfGrammar g) (blockOfUtterance (g .words) u) wanted work out) ≡ answer
 Holds (ranges g low high work answer) =
     rangedOf (CostRanges.ranges (blockOfGrammar g) (blockOfUtterance (g .words) low) (blockOfUtterance (g .words) high) work) ≡ answer
+Holds (margins g u work out answer) = WordMargins.margins (blockOfGrammar g) (blockOfUtterance (g .words) u) work out ≡ answer
 
 abbrev pub AllHold : List Case → Type 0
 AllHold [] = Unit {0}
@@ -180,6 +185,24 @@ N11-cases =
     ∷ ranges two-parts (costing 0 65534 0 0) (costing 0 65535 0 0) 36 (Ranged.Refused 59)
     ∷ ranges two-parts ((offer 0 65535 ∷ []) ∷ (offer 2 0 ∷ []) ∷ []) ((offer 0 65535 ∷ []) ∷ (offer 2 0 ∷ []) ∷ []) 36 Ranged.Nothing
     ∷ ranges two-parts (costing 0 0 0 0) (costing 0 0 0 0) 35 (Ranged.Refused 22)
+    ∷ []
+
+-- N12's, with their bytes
+abbrev pub N12-cases : List Case
+N12-cases =
+    grammar two-parts
+    (0x10 ∷ 0xc1 ∷ 0x00 ∷ 0xa0 ∷ 0x00 ∷ 0x01 ∷ 0xa8 ∷ 0x00 ∷ 0x29 ∷ 0x40 ∷ 0x00 ∷ 0xdc ∷ 0x00 ∷ 0x03 ∷ 0x60 ∷ 0x00 ∷ 0x3c ∷ [])
+    ∷ utterance two-parts (costing 4 7 3 2) (0x20 ∷ 0x90 ∷ 0x00 ∷ 0x08 ∷ 0x80 ∷ 0x03 ∷ 0xa8 ∷ 0x00 ∷ 0x0f ∷ 0x00 ∷ 0x02 ∷ [])
+    ∷ margins two-parts (costing 4 7 3 2) 36 16 (accepted (entry 2 0 1 14 ∷ entry 2 1 3 14 ∷ []))
+    ∷ margins two-parts (costing 4 7 3 2) 35 16 (refused 22)
+    ∷ margins two-parts (costing 4 7 3 2) 36 15 (refused 43)
+    ∷ utterance two-parts (costing 4 3 0 9) (0x20 ∷ 0x90 ∷ 0x00 ∷ 0x08 ∷ 0x80 ∷ 0x01 ∷ 0xa8 ∷ 0x00 ∷ 0x03 ∷ 0x00 ∷ 0x09 ∷ [])
+    ∷ margins two-parts (costing 4 3 0 9) 36 16 (accepted (entry 4 0 0 10 ∷ []))
+    ∷ utterance two-parts (costing 4 65535 3 2) (0x20 ∷ 0x90 ∷ 0x00 ∷ 0x08 ∷ 0xff ∷ 0xff ∷ 0xa8 ∷ 0x00 ∷ 0x0f ∷ 0x00 ∷ 0x02 ∷ [])
+    ∷ margins two-parts (costing 4 65535 3 2) 36 16 (accepted (entry 2 1 3 14 ∷ []))
+    ∷ utterance two-parts ((offer 0 5 ∷ offer 2 8 ∷ []) ∷ (offer 2 0 ∷ offer 3 9 ∷ []) ∷ [])
+    (0x20 ∷ 0x90 ∷ 0x00 ∷ 0x0b ∷ 0x00 ∷ 0x04 ∷ 0x28 ∷ 0x00 ∷ 0x03 ∷ 0x00 ∷ 0x09 ∷ [])
+    ∷ margins two-parts ((offer 0 5 ∷ offer 2 8 ∷ []) ∷ (offer 2 0 ∷ offer 3 9 ∷ []) ∷ []) 36 16 (accepted [])
     ∷ []
 
 abbrev pub P-cases : List Case

@@ -123,19 +123,19 @@ pub kept-float : (v : Verdict Float) {r : P.Outcome} {n : ℕ} (before : Float) 
 kept-float (accepted y) before e told = let z : _≡_ {A = ℕ} 0 1 = cc in absurd (omega arith)
 kept-float (refused m) before e told = refl
 
--- the listing
-module _ {v : Verdict (List (List ℕ))} (small : Small length v) {r : L.Listed} (e : r ≡ Listing.listedOf v) where
+-- the listing, of readings and of words to listen to again
+module _ {X : Type 0} {v : Verdict (List X)} (small : Small length v) {r : L.Listed} (e : r ≡ Listing.listedOf v) where
   pub listed-small : SmallListed r
   listed-small = rw e (go small)
     where
-      go : {v : Verdict (List (List ℕ))} → Small length v → SmallListed (Listing.listedOf v)
+      go : {v : Verdict (List X)} → Small length v → SmallListed (Listing.listedOf v)
       go (small-size h) = h
       go (small-refusal h) = h
 
   pub listed-number : {z : ℤ} → z ≡ listedCode r → toZ w32 (ofZ w32 z) ≡ codeOf length v
   listed-number p = told-number length Listing.listedOf listedCode v (same v) small e refl p
     where
-      same : (v : Verdict (List (List ℕ))) → listedCode (Listing.listedOf v) ≡ codeOf length v
+      same : (v : Verdict (List X)) → listedCode (Listing.listedOf v) ≡ codeOf length v
       same (accepted ls) = refl
       same (refused n) = refl
 

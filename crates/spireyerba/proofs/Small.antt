@@ -4,12 +4,12 @@ use mathlib.Core.Logic.{⊎-elim}
 use mathlib.Core.Path.{_≡_, refl}
 use mathlib.Core.List.{List}
 use mathlib.Core.Option.{Option}
-use Prim.Native.Nat.{ℕ, _≤_}
+use Prim.Native.Nat.{ℕ, _*_, _≤_}
 use native.Mathlib.Omega.{arith}
 use lib.Dec.{ltb}
 use lib.ListN.{length}
 use Rattle.bits.specs.Bits.{pick}
-use Rattle.packing.specs.Meaning.{Grammar, Marked, Utterance}
+use Rattle.packing.specs.Meaning.{Grammar, Marked, Utterance, edges}
 use Rattle.packing.specs.Parse.{Verdict, accepted, refused, _then_}
 use Rattle.packing.specs.Grammar.{grammarBlock, markedBlock, markedSheet, blockOfMarked, sheetOfMarked}
 use Rattle.packing.specs.Utterance.{utteranceBlock, utteranceSheet, utteranceEntries, sheetOfUtterance}
@@ -30,10 +30,14 @@ use Rattle.checker.specs.Check.{check}
 use Rattle.checker.proofs.Refused.{check-row}
 use Rattle.chance.specs.Chance.{chance}
 use Rattle.chance.proofs.Shown.{chance-row}
-use Rattle.listing.specs.Listing.{library, panel, list}
+use Rattle.listing.specs.Listing.{library, panel, tableSize, list}
 use Rattle.listing.specs.declared.Limits.{Limits}
 use Rattle.listing.proofs.Accepted.{accepted-few}
 use Rattle.listing.proofs.Refused.{library-row, panel-row}
+use Rattle.cost_changes.specs.Margins.{Entry}
+use Rattle.cost_changes.specs.Listed.{marginsOf}
+use Rattle.word_margins.specs.WordMargins as Again
+use Rattle.word_margins.proofs.Refused.{margins-row, few-margins}
 use Rattle.phrases.proofs.Least.{Property, LeastOrNone, nothing, first}
 use Rattle.specimen.specs.Specimen.{asked}
 use Rattle.specimen.proofs.Asked.{asked-out, asked-row}
@@ -41,8 +45,8 @@ use Rattle.spireyerba.proofs.Searches.{Search}
 use Rattle.spireyerba.proofs.Codes.{Small, small-size, small-refusal, Wanted, as-long, no-string, refusal}
 
 -- a result of at most 1,539
-data Short : Verdict (List ℕ) → Type 0 where
-  short : {l : List ℕ} → length l ≤ 1539 → Short (accepted l)
+data Short {A : Type 0} : Verdict (List A) → Type 0 where
+  short : {l : List A} → length l ≤ 1539 → Short (accepted l)
   none : {n : ℕ} → Short (refused n)
 
 fitting-short : {v : Verdict (List ℕ)} (out : List ℕ) → Short v → Short (fitting v out)
@@ -54,7 +58,7 @@ fitting-short out (short {l} h) = go (ltb (length out) (length l))
     go true = none
     go false = short h
 
-then-short : {A : Type 0} (v : Verdict A) (k : A → Verdict (List ℕ)) → ((a : A) → v ≡ accepted a → Short (k a)) → Short (v then k)
+then-short : {A B : Type 0} (v : Verdict A) (k : A → Verdict (List B)) → ((a : A) → v ≡ accepted a → Short (k a)) → Short (v then k)
 then-short (accepted a) k h = h a refl
 then-short (refused n) k h = none
 
@@ -115,7 +119,7 @@ low-asked : (most : ℕ) (s : List ℕ) (n out : ℕ) → Refuses Low (asked mos
 low-asked most s n out = wider (low-both (λ n r. omega (arith, r)) (λ n r. omega (arith, r))) (asked-row most s n out)
 
 -- what is short, with a low refusal, is a small answer
-small : {v : Verdict (List ℕ)} → Short v → Refuses Low v → Small length v
+small : {A : Type 0} {v : Verdict (List A)} → Short v → Refuses Low v → Small length v
 small (short {l} h) r = small-size {a = l} (omega arith)
 small none (denied {n} h) = small-refusal {n = n} (omega arith)
 
@@ -197,3 +201,17 @@ module _ (grammar heard : List ℕ) (N work out : ℕ) where
 
   pub panel-small : Small length (list panel grammar heard N work out)
   panel-small = list-small panel grammar heard N work out (wider low-panel (panel-row grammar heard N work out))
+
+-- the words to listen to again: at most 168
+pub margins-small : (grammar utterance : List ℕ) (work out : ℕ) → Small length (Again.margins grammar utterance work out)
+unfolding Again.margins Again.listed
+margins-small grammar utterance work out =
+    small
+    (then-short (grammarBlock grammar) _ (λ g e. then-short (utteranceBlock (g .words) utterance) _ (λ u f.
+    go (ltb work (tableSize (g .symbols) (length u) 1)) (ltb out (4 * length (edges u))) (marginsOf g u) (few-margins (g .words) g u (utterance-block-out (g .words) utterance u f .0)))))
+    (wider (low-three (λ n r. omega (arith, r)) (low-both (λ n r. omega (arith, r)) (λ n r. omega (arith, r)))) (margins-row grammar utterance work out))
+  where
+    go : (b c : Bool) (l : List Entry) → length l ≤ 168 → Short (pick b (refused 22) (pick c (refused 43) (accepted l)))
+    go true c l h = none
+    go false true l h = none
+    go false false l h = short {l = l} (omega arith)

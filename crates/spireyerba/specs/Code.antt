@@ -9,6 +9,7 @@ use lib.ListN.{length}
 use Rattle.packing.specs.Parse.{Verdict, accepted, refused}
 use Rattle.derivation.specs.Derivation.{Tree}
 use Rattle.cost_changes.specs.Ranges.{Answer, nothing, outweighed, stands}
+use Rattle.cost_changes.specs.Margins.{Entry}
 
 -- of a verdict, whose answer is told by its size
 abbrev pub codeOf : {A : Type 0} → (A → ℕ) → Verdict A → ℤ
@@ -34,6 +35,10 @@ chanceAfter (refused n) before = before
 -- the listing: the number of readings found
 abbrev pub listCode : Verdict (List (List ℕ)) → ℤ
 listCode v = codeOf length v
+
+-- the words to listen to again: the number of entries
+abbrev pub marginsCode : Verdict (List Entry) → ℤ
+marginsCode v = codeOf length v
 
 -- the specimen and the next phrase: the length of the string that was written, 0 for none
 abbrev pub stringLength : Option (List ℕ) → ℕ

@@ -27,7 +27,10 @@ use Rattle.chance.specs.Chance.{chance, Shown}
 use Rattle.listing.specs.Listing.{library, panel, Within, list, joined}
 use Rattle.listing.specs.declared.Limits.{Limits}
 use Rattle.listing.specs.Demand3.{Demand3}
+use Rattle.cost_changes.specs.Margins.{listNumbers}
 use Rattle.cost_ranges.specs.CostRanges.{ranges, Meant}
+use Rattle.word_margins.specs.WordMargins as margins-page
+use Rattle.word_margins.specs.WordMargins.{margins, MarginsRow}
 use Rattle.phrases.specs.Phrases.{Phrase, Precedes, Least}
 use Rattle.specimen.specs.Specimen.{asked}
 use Rattle.spireyerba.specs.Code.{rangesNumber, leastOf, greatestOf}
@@ -130,6 +133,15 @@ pub record CostRanges (grammar low high work : List ℕ) (least greatest : ℕ) 
       (λ a n. (n ≡ rangesNumber a) × (least′ ≡ leastOf a least) × (greatest′ ≡ greatestOf a greatest) × (work′ ≡ replicate (length work) 0))
       (GrammarBlockRow ∪ UtteranceBlockRow ∪ RangesRow) ((work′ ≡ work) × (least′ ≡ least) × (greatest′ ≡ greatest)) code
   pub meant : Meant grammar low high work (λ a. (code ≡ pos (rangesNumber a)) × (least′ ≡ leastOf a least) × (greatest′ ≡ greatestOf a greatest)) work′
+
+-- Document 02, N12: the code is the number of entries, which stand at the front of the output, four numbers each. Its `Meant` has that
+-- they are the list: "the least whole amount", "by amount, then slot, then word", "each entry must hold when the cost is changed and the listing run
+-- afresh, and a fall smaller by one must bring none".
+pub record WordMargins (grammar utterance work out : List ℕ) (code : ℤ) (work′ out′ : List ℕ) : Type 0 where
+  pub demand-1 : Demand1 (margins grammar utterance (length work) (length out))
+      (λ l n. (n ≡ length l) × (out′ ≡ listNumbers l ++ drop (length (listNumbers l)) out) × (work′ ≡ replicate (length work) 0))
+      (GrammarBlockRow ∪ UtteranceBlockRow ∪ MarginsRow) ((work′ ≡ work) × (out′ ≡ out)) code
+  pub meant : margins-page.Meant grammar utterance work out (λ l. code ≡ pos (length l)) work′ out′
 
 -- The least string with a property, whose length n is answered, stands at the front of the output; or there is none, 0 is answered and
 -- nothing was written.

@@ -22,9 +22,10 @@ ghost use Rattle.checker.specs.Check.{check};
 ghost use Rattle.chance.specs.Chance as definition;
 ghost use Rattle.listing.specs.Listing.{library, panel, list, outputAfter, workAfter};
 ghost use Rattle.cost_ranges.specs.CostRanges.{ranges, tableAfter};
+ghost use Rattle.word_margins.specs.WordMargins as again;
 ghost use Rattle.specimen.specs.Specimen.{specimen, outputOf};
 ghost use Rattle.next_phrase.specs.NextPhrase.{next};
-ghost use Rattle.spireyerba.specs.Code.{checkCode, chanceCode, chanceAfter, listCode, lengthCode, stringCode, rangesCode, leastAfter, greatestAfter};
+ghost use Rattle.spireyerba.specs.Code.{checkCode, chanceCode, chanceAfter, listCode, marginsCode, lengthCode, stringCode, rangesCode, leastAfter, greatestAfter};
 ghost use Rattle.spireyerba.specs.Demands as demands;
 ghost use Rattle.spireyerba.specs.OneByOne as onebyone;
 ghost use Rattle.spireyerba.specs.OneByOne.{placeAt};
@@ -276,6 +277,22 @@ pub extern "C" fn spireyerba_cost_ranges(
         }
         Ranged::Refused(n) => refusal(n),
     }
+}
+
+// The words to listen to again, four numbers each at the front of the output: their number.
+#[no_mangle]
+pub extern "C" fn spireyerba_word_margins(
+    grammar: &[u8],
+    utterance: &[u8],
+    work: &mut [u32],
+    out: &mut [u32],
+) -> i32
+    ensures { λ r. ⌜ r ≡ marginsCode (again.margins (now (grammar .entry)) (now (utterance .entry)) (length (now (work .entry))) (length (now (out .entry)))) ⌝ }
+    ensures { λ r. ⌜ now (work .exit) ≡ workAfter (again.margins (now (grammar .entry)) (now (utterance .entry)) (length (now (work .entry))) (length (now (out .entry)))) (now (work .entry)) ⌝ }
+    ensures { λ r. ⌜ now (out .exit) ≡ again.outputAfter (again.margins (now (grammar .entry)) (now (utterance .entry)) (length (now (work .entry))) (length (now (out .entry)))) (now (out .entry)) ⌝ }
+    ensures { λ r. ⌜ demands.WordMargins (now (grammar .entry)) (now (utterance .entry)) (now (work .entry)) (now (out .entry)) r (now (work .exit)) (now (out .exit)) ⌝ }
+{
+    listed_code(word_margins::word_margins(grammar, utterance, work, out))
 }
 
 // Opens a listing whose place was this.

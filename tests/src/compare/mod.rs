@@ -8,6 +8,7 @@ pub mod listing;
 pub mod next_phrase;
 pub mod open_listing;
 pub mod specimen;
+pub mod word_margins;
 
 use crate::seeded::rng::{Noise, Rng};
 use spireyerba::Refusal;

@@ -1,0 +1,113 @@
+-- What the numbers of arrays mean: 0 is none, and v + 1 is v. So read, the models of the code are cost_changes' definitions.
+use mathlib.Core.Path.{_≡_, refl, sym, ap, _∙_}
+use mathlib.Core.Bool.{Bool, true, false}
+use mathlib.Core.Option.{Option, none, some}
+use mathlib.Core.List.{List}
+use Prim.Native.Nat.{ℕ, zero, suc, _+_, _-_, min}
+use native.Mathlib.Omega.{arith}
+use native.Mathlib.Numerals.{add-one}
+use lib.Dec.{eqb, ltb}
+use lib.ListN.{getD, getElem?}
+use borrow.Author.Tests.{eq-eqb, ne-eqb, ltb-true, ltb-false}
+use Rattle.bits.specs.Bits.{pick}
+use Rattle.packing.specs.Loop.{iter}
+use Rattle.packing.specs.declared.Sym.{Sym}
+use Rattle.packing.specs.declared.Rule.the-variants.{Pair}
+use Rattle.packing.specs.Meaning.{Grammar, Edge}
+use Rattle.derivation.specs.Derivation.{Tree, weight}
+use Rattle.derivation.specs.List.{ranked}
+use Rattle.derivation.proofs.Lists.{none≢some}
+use Rattle.chart_table.specs.declared.Layout.{Layout}
+use Rattle.chart_table.specs.Table.{cell, cellNumber, priceAt}
+use Rattle.chart_theory.proofs.Chart.{FirstIs}
+use Rattle.cost_changes.specs.Outside as O
+use Rattle.cost_changes.specs.Outside.{Cells, leastUpto, sum, inside, asLeft, asRight}
+use Rattle.cost_changes.proofs.Inside.{inside-first, inside-none}
+use Rattle.cost_changes.proofs.Least.{upto-same, same-is}
+use Rattle.word_margins.specs.Model.{lesser, insideAt, joined, leftLeast, rightLeast}
+
+unfoldable pub read : ℕ → Option ℕ
+read zero = none
+read (suc v) = some v
+
+-- back: a number that reads as none is 0, and one that reads as v is v + 1
+pub read-none : (a : ℕ) → read a ≡ none → a ≡ 0
+unfolding read
+read-none zero e = refl
+read-none (suc v) e = absurd (none≢some (sym e))
+
+pub read-some : (a v : ℕ) → read a ≡ some v → a ≡ suc v
+unfolding read
+read-some zero v e = absurd (none≢some e)
+read-some (suc a) v e = let h : a ≡ v = cc in ap suc h
+
+-- a number is read as some where it is not 0
+pub read-suc : (a : ℕ) → ¬ (a ≡ 0) → read a ≡ some (a - 1)
+unfolding read
+read-suc zero n = absurd (n refl)
+read-suc (suc a) n = let h : a ≡ suc a - 1 = omega arith in ap some h
+
+not-zero : (a : ℕ) → eqb (suc a) 0 ≡ false
+not-zero a = ne-eqb (suc a) 0 (λ e. omega arith)
+
+pub lesser-read : (a b : ℕ) → read (lesser a b) ≡ O.lesser (read a) (read b)
+unfolding lesser read O.lesser
+lesser-read zero b = refl
+lesser-read (suc a) zero = rw (not-zero a)
+lesser-read (suc a) (suc b) = rw (not-zero a, not-zero b) (go (ltb (suc b) (suc a)) refl)
+  where
+    go : (t : Bool) → ltb (suc b) (suc a) ≡ t → read (pick t (suc b) (suc a)) ≡ some (min a b)
+    go true e = let h = ltb-true (suc b) (suc a) e in let z : b ≡ min a b = omega arith in ap some z
+    go false e = let h = ltb-false (suc b) (suc a) e in let z : a ≡ min a b = omega arith in ap some z
+
+pub joined-read : (a w b : ℕ) → read (joined a w b) ≡ sum w (read a) (read b)
+unfolding joined read sum
+joined-read zero w b = refl
+joined-read (suc a) w zero = rw (not-zero a)
+joined-read (suc a) w (suc b) =
+    let h : suc a + w + (suc b - 1) ≡ suc (w + a + b) = omega arith in
+    rw (not-zero a, not-zero b, h)
+
+-- a loop that keeps the least so far
+pub iter-read : (f : ℕ → ℕ) (n : ℕ) → read (iter (λ m x. lesser m (f x)) 0 n) ≡ leastUpto (λ x. read (f x)) n
+unfolding iter read leastUpto
+iter-read f zero = refl
+iter-read f (suc n) = lesser-read (iter (λ m x. lesser m (f x)) 0 n) (f n) ∙ rw (iter-read f n)
+
+-- the cells of an array, and of a table
+abbrev pub outerIn : Layout → List ℕ → Cells
+outerIn d o A i k = read (getD o (cellNumber d (cell A i k)) 0)
+
+abbrev pub innerIn : Layout → List ℕ → Cells
+innerIn d t A i k = read (insideAt t d (cellNumber d (cell A i k)))
+
+module _ (o t : List ℕ) (d : Layout) where
+  pub left-read : (H L R : Sym) (w i j : ℕ)
+      → read (leftLeast o t d (cell L i j) H R w) ≡ asLeft (outerIn d o) (innerIn d t) (d .places) L i j (some (Pair H L R w))
+  unfolding leftLeast asLeft
+  left-read H L R w i j =
+      iter-read (λ x. joined (getD o (cellNumber d (cell H i (j + x + 1))) 0) w (insideAt t d (cellNumber d (cell R j (j + x + 1))))) (d .places - j)
+      ∙ upto-same _ (λ x. sum w (outerIn d o H i (suc (j + x))) (innerIn d t R j (suc (j + x)))) (d .places - j) (λ x h.
+      joined-read _ w _ ∙ rw (add-one (j + x)))
+      ∙ sym (same-is (L .0) _)
+
+  pub right-read : (H L R : Sym) (w i j : ℕ)
+      → read (rightLeast o t d (cell R i j) H L w) ≡ asRight (outerIn d o) (innerIn d t) R i j (some (Pair H L R w))
+  unfolding rightLeast asRight
+  right-read H L R w i j =
+      iter-read (λ h. joined (getD o (cellNumber d (cell H h j)) 0) w (insideAt t d (cellNumber d (cell L h i)))) i
+      ∙ upto-same _ (λ h. sum w (outerIn d o H h j) (innerIn d t L h i)) i (λ h l. joined-read _ w _)
+      ∙ sym (same-is (R .0) _)
+
+-- the first ranks of a table are the inside weights
+pub inside-read : (g : Grammar) (es : List Edge) (d : Layout) (t : List ℕ) (A : Sym) (i k : ℕ) → FirstIs g es d t (cell A i k)
+    → innerIn d t A i k ≡ inside g es A i k
+unfolding insideAt read
+inside-read g es d t A i k first = go (getElem? (ranked g es A i k) 0) refl
+  where
+    go : (z : Option Tree) → getElem? (ranked g es A i k) 0 ≡ z
+        → innerIn d t A i k ≡ inside g es A i k
+    go none e = rw (eq-eqb (priceAt t d (cellNumber d (cell A i k)) 0) 0 (first .none e)) (sym (inside-none g es A i k e))
+    go (some z) e =
+        let (found, weighs) = first .some z e in
+        rw (ne-eqb (priceAt t d (cellNumber d (cell A i k)) 0) 0 (λ q. omega arith), weighs, add-one (weight g es z)) (sym (inside-first g es A i k z e))

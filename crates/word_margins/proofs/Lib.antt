@@ -1,0 +1,11 @@
+pub mod Views
+pub mod Steps
+pub mod Carried
+pub mod Insertion
+pub mod Decoded
+pub mod Spans
+pub mod Filled
+pub mod Collected
+pub mod Passed
+pub mod Outcome
+pub mod Refused

@@ -1,0 +1,26 @@
+-- A price of 0 is none; else its weight is above the unit of weights.
+use mathlib.Core.Path.{sym, _∙_}
+use native.Mathlib.Omega.{arith}
+use Rattle.word_margins.proofs.Steps.{inside-none, inside-some}
+use Rattle.word_margins.proofs.Views.{inside-plain}
+use borrow.Author.Needs.{needs}
+use Rattle.word_margins.proofs.outside.inside_at.Statement.{statement}
+use Rattle.word_margins.proofs.outside.inside_at.Tie as tie
+
+price-at-requires : tie.Need-price-at-requires
+price-at-requires c κs = search needs
+
+returns : tie.Need-returns
+returns c = (inside-none (c .before .before .before .args .t .now) (c .before .before .before .args .d) (c .before .before .before .args .c) (c .before .price-at .ensures .0) (c .if1 .taken) ∙ sym (inside-plain (c .before .before .before .args .t .now) (c .before .before .before .args .d) (c .before .before .before .args .c)), omega arith)
+
+sub-result : tie.Need-sub-result
+sub-result c = search needs
+
+add-result : tie.Need-add-result
+add-result c = search needs
+
+returns-2 : tie.Need-returns-2
+returns-2 c = (inside-some (c .before .before .before .args .t .now) (c .before .before .before .args .d) (c .before .before .before .args .c) (c .before .price-at .ensures .0) (c .if1 .left) ∙ sym (inside-plain (c .before .before .before .args .t .now) (c .before .before .before .args .d) (c .before .before .before .args .c)), omega (arith, c .before .price-at .ensures .1))
+
+pub inside-at-spec : {M : Type 1} → statement M
+inside-at-spec = tie.close (tie.spec price-at-requires returns sub-result add-result returns-2)

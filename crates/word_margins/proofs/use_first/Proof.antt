@@ -1,0 +1,35 @@
+-- A trace stands whole in front of its array.
+use mathlib.Core.Path.{_∙_}
+use Rattle.cost_ranges.proofs.Told.{trace-front, trace-fits}
+use borrow.Author.Needs.{needs}
+use Rattle.word_margins.proofs.use_first.Statement.{statement}
+use Rattle.word_margins.proofs.use_first.Tie as tie
+
+slice-aggregate-trace-root : tie.Need-slice-aggregate-trace-root
+slice-aggregate-trace-root c = search needs
+
+trace-root-requires : tie.Need-trace-root-requires
+trace-root-requires c κs = (c .before .before .before .before .pre .0, c .before .before .before .before .pre .1, c .before .before .before .before .pre .0 .kept)
+
+slice-aggregate-use-nodes : tie.Need-slice-aggregate-use-nodes
+slice-aggregate-use-nodes c = search needs
+
+use-nodes-requires : tie.Need-use-nodes-requires
+use-nodes-requires c κs = trace-fits (c .before .before .before .before .before .before .before .before .args .t .now) (c .before .before .before .before .before .before .before .before .args .rules .now) (c .before .before .before .before .before .before .before .before .args .d) (c .before .before .before .before .before .before .before .before .pre .1) (c .before .before .before .before .before .before .before .before .pre .2) (c .before .before .before .trace-root .ensures .1) (c .before .before .before .trace-root .ensures .0)
+
+same-length : tie.Need-same-length
+same-length c = search needs
+
+returns : tie.Need-returns
+returns c = c .before .before .use-nodes .ensures ∙ rw (trace-front (c .before .before .before .before .before .before .before .before .before .before .before .args .t .now) (c .before .before .before .before .before .before .before .before .before .before .before .args .rules .now) (c .before .before .before .before .before .before .before .before .before .before .before .args .d) (c .before .before .before .before .before .before .before .before .before .before .before .pre .1) (c .before .before .before .before .before .before .before .before .before .before .before .pre .2) (c .before .before .before .before .before .before .trace-root .ensures .1) (c .before .before .before .before .before .before .trace-root .ensures .0))
+
+pub use-first-spec : {M : Type 1} → statement M
+use-first-spec =
+    tie.close
+    (tie.spec
+    slice-aggregate-trace-root
+    trace-root-requires
+    slice-aggregate-use-nodes
+    use-nodes-requires
+    same-length
+    returns)

@@ -1,0 +1,47 @@
+-- Which word to listen to again: document 02, N12, with the rows grammar block and utterance block of document 01's "Where each check stands".
+-- Stands on packing's definitions, on cost_changes' Margins and on the listing's size of a table.
+use mathlib.Core.Path.{_≡_}
+use mathlib.Core.Logic.{_⊎_}
+use mathlib.Core.List.{List, _++_}
+use Prim.Native.Nat.{ℕ, _*_, _≤_}
+use lib.Dec.{ltb}
+use lib.ListN.{length, drop, replicate}
+use Rattle.bits.specs.Bits.{pick}
+use Rattle.packing.specs.Meaning.{Grammar, Utterance, edges}
+use Rattle.packing.specs.Parse.{Verdict, accepted, refused, _then_}
+use Rattle.packing.specs.Grammar.{grammarBlock}
+use Rattle.packing.specs.Utterance.{utteranceBlock}
+use Rattle.cost_changes.specs.Margins as M
+use Rattle.cost_changes.specs.Margins.{listNumbers}
+use Rattle.cost_changes.specs.Listed.{marginsOf}
+use Rattle.listing.specs.Listing.{tableSize}
+
+-- "The work table is as for one reading (22); next, an output shorter than four numbers for each candidate in the utterance block gives 43", for
+-- a work table and an output of these lengths; then the list. An utterance has an edge for each candidate, whether it was heard or not
+unfoldable pub listed : Grammar → Utterance → ℕ → ℕ → Verdict (List M.Entry)
+listed g u work out =
+    pick (ltb work (tableSize (g .symbols) (length u) 1)) (refused 22)
+    (pick (ltb out (4 * length (edges u))) (refused 43) (accepted (marginsOf g u)))
+
+-- what is refused beyond the rows of both blocks
+abbrev pub MarginsRow : ℕ → Type 0
+MarginsRow n = (n ≡ 22) ⊎ (n ≡ 43)
+
+-- "This is for slots only": of another kind the block is refused with 12
+unfoldable pub margins : List ℕ → List ℕ → ℕ → ℕ → Verdict (List M.Entry)
+margins grammar utterance work out = grammarBlock grammar then λ g. utteranceBlock (g .words) utterance then λ u. listed g u work out
+
+-- "The answer is the number of entries", as the listing's is of readings (its `listedOf`); "output beyond them is unchanged", and the work table
+-- is all zeros (its `workAfter`); a refusal changes nothing
+abbrev pub outputAfter : Verdict (List M.Entry) → List ℕ → List ℕ
+outputAfter (accepted l) out = listNumbers l ++ drop (length (listNumbers l)) out
+outputAfter (refused n) out = out
+
+-- what is to hold where all is accepted and `AnswerIs l` says that l was answered: l is the list of the request, its numbers stand at the front
+-- of the output, and the work table is all zeros
+abbrev pub Meant : (grammar utterance work out : List ℕ) (AnswerIs : List M.Entry → Type 0) (work′ out′ : List ℕ) → Type 0
+Meant grammar utterance work out AnswerIs work′ out′ =
+    (g : Grammar) → grammarBlock grammar ≡ accepted g → (u : Utterance) → utteranceBlock (g .words) utterance ≡ accepted u
+    → tableSize (g .symbols) (length u) 1 ≤ length work → 4 * length (edges u) ≤ length out
+    → (l : List M.Entry) × AnswerIs l × M.Margins g u l × (out′ ≡ listNumbers l ++ drop (length (listNumbers l)) out)
+    × (work′ ≡ replicate (length work) 0)

@@ -1,0 +1,180 @@
+// Which word to listen to again: for each offered word that the first reading does not use in its slot, the least amount by which its cost
+// alone must fall for another reading to be strictly lighter than the first is now.
+mod entries;
+mod outside;
+
+use arrays::rule_at;
+use arrays::store;
+use arrays::wide;
+use chart_table::Layout;
+use chart_table::zero;
+use cost_ranges::Pass;
+use entries::NUMBERS_PER_ENTRY;
+use entries::put_entries;
+use grammar_reader::GrammarRead;
+use grammar_reader::Sizes;
+use heard_reader::HeardRead;
+use heard_reader::HeardSize;
+use heard_reader::read_slots;
+use listing::Listed;
+use outside::fill;
+use packing::Rule;
+use packing::format::EDGES_LENGTH;
+use packing::format::MAX_CANDIDATES;
+use packing::format::MAX_SLOTS;
+use packing::format::NUMBERS_PER_NODE;
+use packing::format::RULES_LENGTH;
+use packing::format::TRACE_LENGTH;
+use packing::refused;
+ghost use mathlib.Core.Path.{_≡_};
+ghost use Prim.Native.Nat.{_+_, _*_, _≤_, _<_};
+ghost use lib.ListN.{length, take, replicate};
+ghost use Rattle.packing.specs.Parse.{accepted};
+ghost use Rattle.packing.specs.Flat.{ruleAt, nodeBy, nodesIn};
+ghost use Rattle.grammar_reader.specs.Answer.{Bounded};
+ghost use Rattle.packing.specs.Store.{storeAll};
+ghost use Rattle.chart_table.specs.Table.{Sized};
+ghost use Rattle.cost_changes.specs.Margins.{listNumbers};
+ghost use Rattle.listing.specs.Listing.{listedOf, workAfter};
+ghost use Rattle.cost_ranges.specs.Model.{Passable, tableBy};
+ghost use Rattle.word_margins.specs.WordMargins.{margins, outputAfter, Meant};
+ghost use Rattle.word_margins.specs.Model.{useNode, useNodes, firstUsed, passList, EdgesMargins, GrammarMargins};
+
+// An entry of the list.
+pub struct Entry {
+    pub amount: u32,
+    pub slot: u32,
+    pub word: u32,
+    pub weight: u32,
+}
+
+// The most edges of an utterance.
+const MOST_EDGES: usize = MAX_SLOTS * MAX_CANDIDATES;
+
+// One reading is looked for.
+const ONE: usize = 1;
+
+const USED: u32 = 1;
+
+// Marks the edge of a leaf.
+fn use_node(rules: &[u32], rule: u32, edge: u32, used: &mut [u32])
+    ensures { λ _. ⌜ now (used .exit) ≡ useNode (now (used .entry)) (nodeBy (ruleAt (now (rules .entry)) rule) rule edge) ⌝ }
+{
+    let kind = rule_at(rules, wide(rule));
+    match kind {
+        Rule::Pair(_, _, _, _) => {}
+        Rule::Word(_, _, _) => {
+            store(used, wide(edge), USED);
+        }
+    }
+}
+
+// Marks the edges of a tree, whose nodes are traced.
+fn use_nodes(rules: &[u32], trace: &[u32], nodes: usize, used: &mut [u32])
+    requires { ⌜ (nodes ≤ 47) × (2 * nodes ≤ length (now trace)) ⌝ }
+    ensures { λ _. ⌜ now (used .exit) ≡ useNodes (now (used .entry)) (nodesIn (now (rules .entry)) (take (2 * nodes) (now (trace .entry)))) ⌝ }
+{
+    for i in 0..nodes {
+        let p = NUMBERS_PER_NODE * i;
+        use_node(rules, trace[p], trace[p + 1], used);
+    }
+}
+
+// Marks the edges of the first tree that the table has.
+fn use_first(rules: &[u32], t: &[u32], d: Layout, used: &mut [u32])
+    requires { ⌜ (Sized d) × (0 < d .places) × (d .places ≤ 24) ⌝ }
+    ensures { λ _. ⌜ now (used .exit) ≡ firstUsed (now (rules .entry)) (now (t .entry)) d (now (used .entry)) ⌝ }
+{
+    let mut trace = [0u32; TRACE_LENGTH];
+    let numbers = chart::trace_root(t, rules, d, 0, &mut trace);
+    let nodes = numbers / NUMBERS_PER_NODE;
+    use_nodes(rules, &trace, nodes, used);
+}
+
+// The list, by a pass for one reading.
+fn pass_margins(
+    rules: &[u32],
+    edges: &[u32],
+    pass: Pass,
+    work: &mut [u32],
+    out: &mut [u32],
+) -> usize
+    requires { ⌜ (Passable pass) × (pass .table .places ≤ 24) × (4 * pass .edges ≤ length (now out)) ⌝ }
+    ensures { λ r. ⌜ r ≡ length (passList (now (rules .entry)) (now (edges .entry)) pass (length (now (work .entry)))) ⌝ }
+    ensures { λ r. ⌜ (now (work .exit) ≡ replicate (length (now (work .entry))) 0) × (length (tableBy (now (rules .entry)) (now (edges .entry)) pass (length (now (work .entry)))) ≡ length (now (work .entry))) ⌝ }
+    ensures { λ r. ⌜ now (out .exit) ≡ storeAll (now (out .entry)) 0 (listNumbers (passList (now (rules .entry)) (now (edges .entry)) pass (length (now (work .entry))))) ⌝ }
+{
+    let d = pass.table;
+    let found = chart::enumerate(work, rules, pass.rules, edges, pass.edges, d);
+    if found == 0 {
+        zero(work);
+        return 0;
+    }
+    let first = chart::root_weight(&work[..], d, 0);
+    let mut used = [0u32; MOST_EDGES];
+    use_first(rules, &work[..], d, &mut used);
+    fill(work, rules, pass);
+    let m = put_entries(&work[..], rules, edges, &used, pass, first, out);
+    zero(work);
+    m
+}
+
+// The answer for an utterance whose edges are in an array, under an accepted grammar.
+fn margins_edges(
+    rules: &[u32],
+    sizes: Sizes,
+    edges: &[u32],
+    heard: HeardSize,
+    work: &mut [u32],
+    out: &mut [u32],
+) -> Listed
+    requires { ⌜ (Bounded sizes) × (1 ≤ heard .last) × (heard .last ≤ 24) × (heard .edges ≤ 168) ⌝ }
+    ensures { λ r. ⌜ EdgesMargins (now (rules .entry)) sizes (now (edges .entry)) heard (now (work .entry)) (now (out .entry)) r (now (work .exit)) (now (out .exit)) ⌝ }
+{
+    let table = chart::lay_out(sizes.symbols as usize, heard.last, ONE);
+    if work.len() < chart::table_numbers(table) {
+        return Listed::Refused(refused::LISTING_WORK);
+    }
+    if out.len() < NUMBERS_PER_ENTRY * heard.edges {
+        return Listed::Refused(refused::OUTPUT_SHORT);
+    }
+    let pass = Pass {
+        rules: sizes.rules as usize,
+        edges: heard.edges,
+        table,
+    };
+    Listed::Found(pass_margins(rules, edges, pass, work, out))
+}
+
+// The answer for a block under an accepted grammar.
+fn margins_grammar(
+    rules: &[u32],
+    sizes: Sizes,
+    utterance: &[u8],
+    work: &mut [u32],
+    out: &mut [u32],
+) -> Listed
+    requires { ⌜ Bounded sizes ⌝ }
+    ensures { λ r. ⌜ GrammarMargins (now (rules .entry)) sizes (now (utterance .entry)) (now (work .entry)) (now (out .entry)) r (now (work .exit)) (now (out .exit)) ⌝ }
+{
+    let mut edges = [0u32; EDGES_LENGTH];
+    match read_slots(utterance, sizes.words, &mut edges) {
+        HeardRead::Refused(n) => Listed::Refused(n),
+        HeardRead::Heard(heard) => { margins_edges(rules, sizes, &edges, heard, work, out) }
+    }
+}
+
+// The list of words to listen to again, of four numbers each, at the front of the output, and their number. The work table is all zeros
+// afterwards.
+pub fn word_margins(grammar: &[u8], utterance: &[u8], work: &mut [u32], out: &mut [u32]) -> Listed
+    ensures { λ r. ⌜ r ≡ listedOf (margins (now (grammar .entry)) (now (utterance .entry)) (length (now (work .entry))) (length (now (out .entry)))) ⌝ }
+    ensures { λ r. ⌜ now (work .exit) ≡ workAfter (margins (now (grammar .entry)) (now (utterance .entry)) (length (now (work .entry))) (length (now (out .entry)))) (now (work .entry)) ⌝ }
+    ensures { λ r. ⌜ now (out .exit) ≡ outputAfter (margins (now (grammar .entry)) (now (utterance .entry)) (length (now (work .entry))) (length (now (out .entry)))) (now (out .entry)) ⌝ }
+    ensures { λ r. ⌜ Meant (now (grammar .entry)) (now (utterance .entry)) (now (work .entry)) (now (out .entry)) (λ l. r ≡ listedOf (accepted l)) (now (work .exit)) (now (out .exit)) ⌝ }
+{
+    let mut rules = [0u32; RULES_LENGTH];
+    match grammar_reader::read_block(grammar, &mut rules) {
+        GrammarRead::Refused(n) => Listed::Refused(n),
+        GrammarRead::Grammar(sizes) => { margins_grammar(&rules, sizes, utterance, work, out) }
+    }
+}
