@@ -16,6 +16,8 @@
 ** reading's, each field by field unless its function says otherwise; then those
 ** of a number wanted, of shares and of lengths lent, in the order that its
 ** function names.
+** To refuse "for the blocks" is to refuse with any of GRAMMAR_..., then with any
+** of UTTERANCE_..., and of EDGE_... where a graph is taken.
 **
 ** MEMORY. A slice is a pointer and a length, and the length counts elements
 ** (uint8_t or uint32_t), not bytes. A second result goes to one number that a
@@ -254,11 +256,11 @@ enum {
 ** it cut to its own length, spireyerba_graph_reading_length(n, R).
 **
 ** Answers 0 if the block is the reading of a derivation of this utterance under
-** this grammar, with its true weight. Refuses with any of GRAMMAR_..., any of
-** UTTERANCE_... and EDGE_..., any of READING_...; of these _WALK, _WEIGHT and
-** _FILL come after all fields are read, in this order. The fields of a graph's
-** reading are all there if it has bits for n word rules and n - 1 pair rules;
-** another mix of rules is READING_WALK. No slice is changed.
+** this grammar, with its true weight. Refuses for the blocks, then with any of
+** READING_...; of these _WALK, _WEIGHT and _FILL come after all fields are read, in
+** this order. The fields of a graph's reading are all there if it has bits for n
+** word rules and n - 1 pair rules; another mix of rules is READING_WALK. No slice is
+** changed.
 */
 int32_t spireyerba_check(
     const uint8_t *grammar, size_t grammar_len,
@@ -281,10 +283,8 @@ enum {
 ** 2 to the power 10 m differs from P by at most m * P / 2 to the power 52.
 **
 ** Takes the share of each of the R rules, in the order of the rules. Answers 0.
-** Refuses as the check does, with any of GRAMMAR_..., any of UTTERANCE_... and
-** EDGE_..., any of READING_...; then with SHARES_COUNT, SHARE_RANGE. A refusal
-** leaves *chance as it was. The caller's rounding mode is to be the usual one, to
-** nearest.
+** Refuses as the check does, then with SHARES_COUNT, SHARE_RANGE. The caller's
+** rounding mode is to be the usual one, to nearest.
 */
 int32_t spireyerba_chance(
     const uint8_t *grammar, size_t grammar_len,
@@ -384,8 +384,7 @@ static inline size_t spireyerba_work_length(uint32_t symbols, uint32_t slots, ui
 ** of it is zero, also what is beyond that length. out has at least wanted * L
 ** bytes, also where fewer readings exist.
 **
-** Refuses with any of GRAMMAR_..., any of UTTERANCE_... and EDGE_..., then
-** LISTING_WANTED, LISTING_WORK, LISTING_OUTPUT.
+** Refuses for the blocks, then with LISTING_WANTED, LISTING_WORK, LISTING_OUTPUT.
 */
 int32_t spireyerba_listing(
     const uint8_t *grammar, size_t grammar_len,
@@ -417,8 +416,7 @@ typedef struct {
 ** work has at least spireyerba_work_length(S, n, SPIREYERBA_MAX_READINGS) numbers,
 ** for a graph with P - 1 for n.
 **
-** Refuses with any of GRAMMAR_..., any of UTTERANCE_... and EDGE_..., then
-** LISTING_WORK. A refusal leaves *place and work as they were.
+** Refuses for the blocks, then with LISTING_WORK.
 */
 int32_t spireyerba_open(
     const uint8_t *grammar, size_t grammar_len,
@@ -455,9 +453,9 @@ enum {
 ** Where place or work was altered, or the blocks are others, a call ends, and what
 ** it hands out passes the check (that of a graph cut to its own length).
 **
-** Refuses with any of GRAMMAR_..., any of UTTERANCE_... and EDGE_..., then
-** LISTING_WORK, LISTING_OUTPUT, and last of all ALTERED_WALK: a place that was never
-** opened, or altered numbers that spell no reading. NEXT_FULL comes before it.
+** Refuses for the blocks, then with LISTING_WORK, LISTING_OUTPUT, and last of all
+** with ALTERED_WALK: a place that was never opened, or altered numbers that spell no
+** reading. NEXT_FULL comes before it.
 */
 int32_t spireyerba_next(
     const uint8_t *grammar, size_t grammar_len,
@@ -488,10 +486,9 @@ enum {
 ** it answers what the listing answers and leaves the same in work and out, to
 ** the byte; work and out are as long as for the listing.
 **
-** Refuses with any of GRAMMAR_..., any of UTTERANCE_... and EDGE_..., then
-** PANEL_SLOTS, LISTING_WANTED, PANEL_WANTED, LISTING_WORK, LISTING_OUTPUT. So a
-** number wanted of 0 or above 256 is LISTING_WANTED here too, and more than 24
-** slots are UTTERANCE_RANGE.
+** Refuses for the blocks, then with PANEL_SLOTS, LISTING_WANTED, PANEL_WANTED,
+** LISTING_WORK, LISTING_OUTPUT. So a number wanted of 0 or above 256 is
+** LISTING_WANTED here too, and more than 24 slots are UTTERANCE_RANGE.
 */
 int32_t spireyerba_panel_listing(
     const uint8_t *grammar, size_t grammar_len,
@@ -521,8 +518,8 @@ enum {
 ** numbers; after an answer, also 0, all of it is zero. With the answer 0, and with
 ** a refusal, *least and *greatest are as they were.
 **
-** Refuses with any of GRAMMAR_...; any of UTTERANCE_... for low, then for high (a
-** graph is UTTERANCE_KIND); then COST_RANGES, then LISTING_WORK.
+** Refuses for the blocks, low before high (a graph is UTTERANCE_KIND), then with
+** COST_RANGES, LISTING_WORK.
 */
 int32_t spireyerba_cost_ranges(
     const uint8_t *grammar, size_t grammar_len,
@@ -552,8 +549,8 @@ int32_t spireyerba_cost_ranges(
 ** SPIREYERBA_MARGIN_NUMBERS numbers for each word of each slot, those of cost
 ** NOT_HEARD included, also where fewer entries exist.
 **
-** Refuses with any of GRAMMAR_..., any of UTTERANCE_... (a graph is UTTERANCE_KIND),
-** then LISTING_WORK, then OUTPUT_SHORT.
+** Refuses for the blocks (a graph is UTTERANCE_KIND), then with LISTING_WORK,
+** OUTPUT_SHORT.
 */
 int32_t spireyerba_word_margins(
     const uint8_t *grammar, size_t grammar_len,

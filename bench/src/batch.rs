@@ -15,7 +15,7 @@ use std::time::{Duration, Instant};
 
 const UTTERANCES: usize = 10_000;
 const WANTED: u32 = 8;
-const ROUNDS: usize = 5;
+const ROUNDS: usize = 15;
 /// The slots of the larger load.
 const SLOTS: usize = 12;
 const DOORS: &str = include_str!("../../examples/doors/grammar.txt");

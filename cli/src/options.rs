@@ -62,6 +62,12 @@ pub const EMPTY: Opt = Opt {
     value: Some("WORD"),
     help: "lattices: nobody says this word, such as one for silence; it is as !NULL",
 };
+pub const HIGH: Opt = Opt {
+    long: "high",
+    short: None,
+    value: Some("FILE"),
+    help: "costs known within ranges: the same utterance with the greatest costs",
+};
 pub const JOBS: Opt = Opt {
     long: "jobs",
     short: Some('j'),

@@ -30,11 +30,14 @@ impl<'a> Fields<'a> {
     }
 }
 
+/// As many bits are added to a block at once.
+const WORD: usize = 32;
+
 /// Packs fields one after another.
 #[derive(Default)]
 pub(crate) struct Packer {
     block: Vec<u8>,
-    /// The bits that fill no byte yet, fewer than eight, in the lowest places.
+    /// The bits that were not added to the block yet, fewer than 32, in the lowest places.
     rest: u64,
     count: usize,
 }
@@ -50,17 +53,16 @@ impl Packer {
     pub(crate) fn put(&mut self, width: usize, value: u32) {
         self.rest = self.rest << width | u64::from(value);
         self.count += width;
-        while self.count >= 8 {
-            self.count -= 8;
-            self.block.push((self.rest >> self.count) as u8);
+        if self.count >= WORD {
+            self.count -= WORD;
+            self.block.extend_from_slice(&((self.rest >> self.count) as u32).to_be_bytes());
         }
     }
 
     /// The block, its last byte filled with zero bits.
     pub(crate) fn finish(mut self) -> Vec<u8> {
-        if self.count > 0 {
-            self.put(8 - self.count, 0);
-        }
+        let last = ((self.rest << (WORD - self.count)) as u32).to_be_bytes();
+        self.block.extend_from_slice(&last[..self.count.div_ceil(8)]);
         self.block
     }
 }

@@ -11,6 +11,11 @@
 //! turn into them, and [`limits`](crate::limits) says how long they are. [`listing`], [`panel_listing`], [`open`], [`next`],
 //! [`check`] and [`chance`] take the block of a word graph ([`Graph`](crate::Graph)) as well as that of an utterance of slots;
 //! to every other function a graph is a block of another kind, [`UtteranceKind`](Refusal::UtteranceKind).
+//!
+//! To refuse *for the blocks* is to refuse the grammar's with 1 to 7, [`GrammarEnd`](Refusal::GrammarEnd) to
+//! [`GrammarFill`](Refusal::GrammarFill); then that of what was heard with 11 to 16, [`UtteranceEnd`](Refusal::UtteranceEnd) to
+//! [`UtteranceFill`](Refusal::UtteranceFill), and where a graph is taken with [`EdgePlaces`](Refusal::EdgePlaces) and
+//! [`EdgeRepeat`](Refusal::EdgeRepeat).
 
 #![expect(unsafe_code, reason = "the library has a C interface")]
 
@@ -136,6 +141,34 @@ fn answer(code: i32) -> Result<usize, Refusal> {
     usize::try_from(code).map_err(refusal)
 }
 
+/// A listing of the library.
+type Listing = unsafe extern "C" fn(*const u8, usize, *const u8, usize, u32, *mut u32, usize, *mut u8, usize) -> i32;
+
+/// Calls one of them.
+fn list_by(
+    function: Listing,
+    grammar: &[u8],
+    utterance: &[u8],
+    wanted: u32,
+    work: &mut [u32],
+    out: &mut [u8],
+) -> Result<usize, Refusal> {
+    // SAFETY: the slices are borrowed until the call returns, `work` and `out` for it alone.
+    answer(unsafe {
+        function(
+            grammar.as_ptr(),
+            grammar.len(),
+            utterance.as_ptr(),
+            utterance.len(),
+            wanted,
+            work.as_mut_ptr(),
+            work.len(),
+            out.as_mut_ptr(),
+            out.len(),
+        )
+    })
+}
+
 /// Packs a grammar's sheet.
 ///
 /// Takes the sheet: S, W, R, then five numbers for each rule, which are 0, head, weight, first and second symbol for a pair
@@ -256,12 +289,11 @@ pub fn utterance_to_sheet(grammar: &[u8], block: &[u8], out: &mut [u32]) -> Resu
 /// are [offered](crate::Candidate::is_offered). Nothing is written. A reading of a graph, as [`listing`] writes it, is cut to
 /// its own length first, [`graph_reading_length`](crate::limits::graph_reading_length) of its number of edges.
 ///
-/// Refuses with 1 to 7 for the grammar; with 11 to 16, [`EdgePlaces`](Refusal::EdgePlaces) or
-/// [`EdgeRepeat`](Refusal::EdgeRepeat) for what was heard; then with [`ReadingEnd`](Refusal::ReadingEnd),
-/// [`ReadingKind`](Refusal::ReadingKind) (for slots not 3, for a graph not 6) or [`ReadingSlots`](Refusal::ReadingSlots);
-/// then, after all fields are read and in this order, with [`ReadingWalk`](Refusal::ReadingWalk),
-/// [`ReadingWeight`](Refusal::ReadingWeight), [`ReadingFill`](Refusal::ReadingFill). A graph's reading of n edges has all its
-/// fields if it has bits for n word rules and n − 1 pair rules: with another mix of rules it is no walk.
+/// Refuses for the blocks, then with [`ReadingEnd`](Refusal::ReadingEnd), [`ReadingKind`](Refusal::ReadingKind) (for slots not
+/// 3, for a graph not 6) or [`ReadingSlots`](Refusal::ReadingSlots); then, after all fields are read and in this order, with
+/// [`ReadingWalk`](Refusal::ReadingWalk), [`ReadingWeight`](Refusal::ReadingWeight), [`ReadingFill`](Refusal::ReadingFill). A
+/// graph's reading of n edges has all its fields if it has bits for n word rules and n − 1 pair rules: with another mix of rules
+/// it is no walk.
 ///
 /// ```
 /// use spireyerba::{services::check, Refusal};
@@ -407,9 +439,8 @@ pub fn next_phrase(grammar: &[u8], length: u32, first: bool, out: &mut [u8]) -> 
 /// same order, weight and costs included, then the lesser
 /// right part.
 ///
-/// Refuses with 1 to 7 for the grammar; with 11 to 16, [`EdgePlaces`](Refusal::EdgePlaces) or
-/// [`EdgeRepeat`](Refusal::EdgeRepeat) for what was heard; then with [`ListingWanted`](Refusal::ListingWanted),
-/// [`ListingWork`](Refusal::ListingWork), [`ListingOutput`](Refusal::ListingOutput).
+/// Refuses for the blocks, then with [`ListingWanted`](Refusal::ListingWanted), [`ListingWork`](Refusal::ListingWork),
+/// [`ListingOutput`](Refusal::ListingOutput).
 ///
 /// ```
 /// let grammar = [0x10, 0x40, 0x40, 0x40, 0x00, 0x09, 0x00, 0x00, 0x00];
@@ -426,20 +457,7 @@ pub fn listing(
     work: &mut [u32],
     out: &mut [u8],
 ) -> Result<usize, Refusal> {
-    // SAFETY: the slices are borrowed until the call returns, `work` and `out` for it alone.
-    answer(unsafe {
-        spireyerba_listing(
-            grammar.as_ptr(),
-            grammar.len(),
-            utterance.as_ptr(),
-            utterance.len(),
-            wanted,
-            work.as_mut_ptr(),
-            work.len(),
-            out.as_mut_ptr(),
-            out.len(),
-        )
-    })
+    list_by(spireyerba_listing, grammar, utterance, wanted, work, out)
 }
 
 /// Lists as [`listing`] does, within the limits of a panel for plan desks.
@@ -451,10 +469,8 @@ pub fn listing(
 /// [`PANEL_WORK_MAX`](crate::limits::PANEL_WORK_MAX) numbers and an `out` of
 /// [`PANEL_OUTPUT_MAX`](crate::limits::PANEL_OUTPUT_MAX) bytes always suffice.
 ///
-/// Refuses with 1 to 7 for the grammar; with 11 to 16, [`EdgePlaces`](Refusal::EdgePlaces) or
-/// [`EdgeRepeat`](Refusal::EdgeRepeat) for what was heard; then with [`PanelSlots`](Refusal::PanelSlots),
-/// [`ListingWanted`](Refusal::ListingWanted), [`PanelWanted`](Refusal::PanelWanted), [`ListingWork`](Refusal::ListingWork),
-/// [`ListingOutput`](Refusal::ListingOutput).
+/// Refuses for the blocks, then with [`PanelSlots`](Refusal::PanelSlots), [`ListingWanted`](Refusal::ListingWanted),
+/// [`PanelWanted`](Refusal::PanelWanted), [`ListingWork`](Refusal::ListingWork), [`ListingOutput`](Refusal::ListingOutput).
 ///
 /// ```
 /// use spireyerba::{services::panel_listing, Refusal};
@@ -473,20 +489,7 @@ pub fn panel_listing(
     work: &mut [u32],
     out: &mut [u8],
 ) -> Result<usize, Refusal> {
-    // SAFETY: the slices are borrowed until the call returns, `work` and `out` for it alone.
-    answer(unsafe {
-        spireyerba_panel_listing(
-            grammar.as_ptr(),
-            grammar.len(),
-            utterance.as_ptr(),
-            utterance.len(),
-            wanted,
-            work.as_mut_ptr(),
-            work.len(),
-            out.as_mut_ptr(),
-            out.len(),
-        )
-    })
+    list_by(spireyerba_panel_listing, grammar, utterance, wanted, work, out)
 }
 
 /// Where an open listing is between two calls. [`open`] and [`next`] write it; it is lent as it was left.
@@ -516,8 +519,7 @@ pub enum Next {
 /// [`work_length`](crate::limits::work_length) numbers for [`MAX_READINGS`](crate::limits::MAX_READINGS) readings, for a graph of
 /// P places as for P − 1 slots. Place and table may hold anything. Afterwards none was handed out, and all of `work` is zero.
 ///
-/// Refuses with 1 to 7 for the grammar; with 11 to 16, [`EdgePlaces`](Refusal::EdgePlaces) or
-/// [`EdgeRepeat`](Refusal::EdgeRepeat) for what was heard; then with [`ListingWork`](Refusal::ListingWork).
+/// Refuses for the blocks, then with [`ListingWork`](Refusal::ListingWork).
 ///
 /// ```
 /// use spireyerba::services::{next, open, Next, Place};
@@ -564,10 +566,9 @@ pub fn open(grammar: &[u8], utterance: &[u8], place: &mut Place, work: &mut [u32
 /// With a place or a table that was altered, or with other blocks, a call ends all the same, and what it hands out passes
 /// [`check`].
 ///
-/// Refuses with 1 to 7 for the grammar; with 11 to 16, [`EdgePlaces`](Refusal::EdgePlaces) or
-/// [`EdgeRepeat`](Refusal::EdgeRepeat) for what was heard; then with [`ListingWork`](Refusal::ListingWork) as [`open`] does,
-/// with [`ListingOutput`](Refusal::ListingOutput) for one reading; and last of all with
-/// [`AlteredWalk`](Refusal::AlteredWalk), where altered numbers spell none, or the place was never opened.
+/// Refuses for the blocks, then with [`ListingWork`](Refusal::ListingWork) as [`open`] does, with
+/// [`ListingOutput`](Refusal::ListingOutput) for one reading; and last of all with [`AlteredWalk`](Refusal::AlteredWalk), where
+/// altered numbers spell none, or the place was never opened.
 ///
 /// ```
 /// use spireyerba::{services::{next, Place}, Refusal};
@@ -625,8 +626,8 @@ pub enum FirstReading {
 /// `least` and `greatest`, unless there is no derivation: then both are as they were. The table `work`, which may hold anything,
 /// has at least [`work_length`](crate::limits::work_length) numbers for one reading, and is all zeros afterwards.
 ///
-/// Refuses with 1 to 7 for the grammar; with 11 to 16 for `low`, then for `high`; then with
-/// [`CostRanges`](Refusal::CostRanges), then with [`ListingWork`](Refusal::ListingWork).
+/// Refuses for the blocks, `low` before `high`, then with [`CostRanges`](Refusal::CostRanges), then with
+/// [`ListingWork`](Refusal::ListingWork).
 ///
 /// ```
 /// use spireyerba::services::{cost_ranges, FirstReading};
@@ -680,8 +681,7 @@ pub fn cost_ranges(
 /// `work`, which may hold anything, has at least [`work_length`](crate::limits::work_length) numbers for one reading, and is all
 /// zeros afterwards.
 ///
-/// Refuses with 1 to 7 for the grammar; with 11 to 16 for the utterance; then with [`ListingWork`](Refusal::ListingWork), then
-/// with [`OutputShort`](Refusal::OutputShort).
+/// Refuses for the blocks, then with [`ListingWork`](Refusal::ListingWork), then with [`OutputShort`](Refusal::OutputShort).
 ///
 /// ```
 /// let grammar = [0x10, 0xc1, 0x00, 0xa0, 0x00, 0x01, 0xa8, 0x00, 0x29, 0x40, 0x00, 0xdc, 0x00, 0x03, 0x60, 0x00, 0x3c];

@@ -98,8 +98,8 @@ pub(crate) fn pack_accepted(sheet: &[u32], words: u32, block: &mut Vec<u8>) {
         packer.put(CANDIDATES_WIDTH, *count);
         let (candidates, after) = after.split_at(2 * *count as usize);
         for candidate in candidates.chunks_exact(2) {
-            packer.put(word_width, candidate[0]);
-            packer.put(COST_WIDTH, candidate[1]);
+            // word and cost as one field
+            packer.put(word_width + COST_WIDTH, candidate[0] << COST_WIDTH | candidate[1]);
         }
         rest = after;
     }

@@ -11,8 +11,8 @@ use spireyerba_tests::cost_ranges::{cost_ranges, weight};
 use spireyerba_tests::nbest::least;
 use spireyerba_tests::refusal::{GRAMMAR_BLOCK, UTTERANCE_BLOCK};
 use spireyerba_tests::seeded::damage::{some_grammar_blocks, some_utterance_blocks};
-use spireyerba_tests::seeded::parsable::{case, graph_case, Shape};
-use spireyerba_tests::seeded::parsable::{AMBIGUOUS, GREATEST, LONG, MANY_SYMBOLS, SPARSE, TINY};
+use spireyerba_tests::seeded::parsable::{case, cheaper, graph_case, lighter, Shape};
+use spireyerba_tests::seeded::parsable::{AMBIGUOUS, GREATEST, LONG, MANY_SYMBOLS, SPARSE, TINY, WORDY};
 use spireyerba_tests::seeded::rng::Rng;
 use spireyerba_tests::{grammar, graph, utterance};
 
@@ -106,7 +106,9 @@ fn risen(rng: &mut Rng, low: &mut Utterance, by: u32, words: usize) -> Utterance
     let mut high = low.clone();
     for _ in 0..words {
         let slot = rng.below(high.slots.len());
-        let place = rng.below(high.slots[slot].len());
+        // the cheapest is likely a word of the first reading, whose rise can make another lighter
+        let cheapest = (0..low.slots[slot].len()).min_by_key(|&place| low.slots[slot][place].cost);
+        let place = cheapest.filter(|_| rng.once_in(2)).unwrap_or_else(|| rng.below(high.slots[slot].len()));
         if low.slots[slot][place].is_offered() {
             high.slots[slot][place].cost = low.slots[slot][place].cost + rng.within(0..=by);
         }
@@ -157,9 +159,14 @@ fn work_len(rng: &mut Rng, grammar: &Grammar, utterance: &Utterance) -> usize {
 fn every_choice_of_small_ranges() {
     let mut tally = Tally::default();
     let (mut outweighed, mut stand) = (0, 0);
-    over_seeds(0..400, |rng| {
-        let shape = rng.pick(&[&TINY, &TINY, &AMBIGUOUS, &SPARSE]);
-        let (grammar, mut low) = case(rng, shape);
+    over_seeds(0..1_000, |rng| {
+        let shape = rng.pick(&[&TINY, &AMBIGUOUS, &SPARSE, &WORDY, &WORDY]);
+        let (mut grammar, mut low) = case(rng, shape);
+        // mostly weights and costs that are near to each other, so that a small rise matters
+        if !rng.once_in(4) {
+            lighter(&mut grammar, 3);
+            cheaper(&mut low, 6);
+        }
         let (by, words) = rng.pick(&[(1, 8), (2, 5), (3, 4), (8, 3), (30, 2)]);
         let high = risen(rng, &mut low, by, words);
         let blocks = [grammar::pack(&grammar), utterance::pack(&grammar, &low), utterance::pack(&grammar, &high)];
@@ -170,8 +177,8 @@ fn every_choice_of_small_ranges() {
             _ => {}
         }
     });
-    tally.demand(390, &[ListingWork]);
-    assert!(outweighed > 8 && stand > 100, "{outweighed} outweighed, {stand} stand");
+    tally.demand(950, &[ListingWork]);
+    assert!(outweighed > 120 && stand > 300, "{outweighed} outweighed, {stand} stand");
 }
 
 #[test]

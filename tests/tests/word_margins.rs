@@ -9,8 +9,8 @@ use spireyerba_tests::compare::word_margins::compare;
 use spireyerba_tests::compare::{over_seeds, Tally};
 use spireyerba_tests::refusal::{GRAMMAR_BLOCK, UTTERANCE_BLOCK};
 use spireyerba_tests::seeded::damage::{some_grammar_blocks, some_utterance_blocks};
-use spireyerba_tests::seeded::parsable::{case, graph_case, Shape};
-use spireyerba_tests::seeded::parsable::{AMBIGUOUS, GREATEST, LONG, MANY_SYMBOLS, SPARSE, TINY};
+use spireyerba_tests::seeded::parsable::{case, cheaper, graph_case, lighter};
+use spireyerba_tests::seeded::parsable::{AMBIGUOUS, GREATEST, LONG, MANY_SYMBOLS, SPARSE, TINY, WORDY};
 use spireyerba_tests::seeded::rng::Rng;
 use spireyerba_tests::word_margins::{entries, with_fallen_cost, word_margins, words_of, Entry, MOST_TRIED};
 use spireyerba_tests::{grammar, graph, utterance};
@@ -85,21 +85,6 @@ fn document_02s_examples() {
 fn document_02s_examples_in_the_second_implementation() {
     expect_examples(word_margins);
     expect_refusals(word_margins);
-}
-
-/// Many words in a slot that rules have.
-const WORDY: Shape =
-    Shape { symbols: 1..=3, words: 3..=6, pair_rules: 1..=6, word_rules: 8..=14, slots: 1..=6, candidates: 3..=6 };
-
-/// The costs of what was heard brought below a bound.
-fn cheaper(utterance: &mut Utterance, bound: u32) {
-    let candidates = utterance.slots.iter_mut().flatten().filter(|candidate| candidate.is_offered());
-    candidates.for_each(|candidate| candidate.cost %= bound);
-}
-
-/// The weights of the rules brought below a bound, so that costs matter beside them.
-fn lighter(grammar: &mut Grammar, bound: u32) {
-    grammar.rules.iter_mut().for_each(|rule| rule.weight %= bound);
 }
 
 /// The lengths of both slices that are needed, or others.

@@ -11,8 +11,7 @@ use spireyerba::{Error, GraphReading, Lister};
 use std::borrow::Cow;
 use std::collections::BTreeMap;
 use std::io::{stderr, ErrorKind, IsTerminal, Read};
-use std::sync::mpsc::{sync_channel, Receiver, SyncSender};
-use std::sync::Mutex;
+use std::sync::{Condvar, Mutex};
 use std::time::{Duration, Instant};
 
 pub const COMMAND: Command = Command {
@@ -32,8 +31,8 @@ answers are lines of JSON in the same order, with the number of the line; what i
 
 /// A thread takes at most so many bytes at a time, or one line that is longer.
 const BYTES_AT_A_TIME: usize = 1 << 15;
-/// Answers of a thread that may wait to be written.
-const WAITING: usize = 4;
+/// Pieces that a thread may be ahead of what is written.
+const AHEAD: usize = 4;
 /// The progress line is drawn anew at most so often.
 const PROGRESS_EVERY: Duration = Duration::from_millis(100);
 
@@ -47,19 +46,17 @@ fn run(arguments: &Arguments, output: &mut Output) -> Result<(), Failure> {
         reader: files::utterance_reader(arguments, &grammar.named)?,
         lister: Lister::new(&grammar.named.grammar).map_err(Error::from)?,
         names: json::Names::new(&grammar.named),
-        written: Mutex::default(),
     };
     let source = Mutex::new(Source::new(files::open(arguments.operands[1])?));
+    let sink = Sink::new(output, AHEAD * jobs);
     std::thread::scope(|scope| {
-        let (sender, receiver) = sync_channel(WAITING * jobs);
-        for _ in 0..jobs {
-            let sender = sender.clone();
-            let (batch, source) = (&batch, &source);
-            scope.spawn(move || batch.work(source, &sender));
+        // this thread is one of them
+        for _ in 1..jobs {
+            scope.spawn(|| batch.work(&source, &sink));
         }
-        drop(sender);
-        write_in_order(&batch, &receiver, output)
-    })
+        batch.work(&source, &sink);
+    });
+    sink.finish()
 }
 
 /// Where the lines come from.
@@ -74,7 +71,6 @@ struct Source {
 
 /// Some lines of the file.
 struct Piece {
-    number: usize,
     /// How many lines stand before them.
     before: usize,
     text: Vec<u8>,
@@ -101,7 +97,7 @@ impl Source {
             }
             break;
         }
-        let piece = Piece { number: self.pieces, before: self.taken, text };
+        let piece = Piece { before: self.taken, text };
         self.pieces += 1;
         self.taken += piece.text.iter().filter(|byte| **byte == b'\n').count();
         Ok((!piece.text.is_empty()).then_some(piece))
@@ -126,47 +122,30 @@ struct Answers {
     utterances: usize,
 }
 
-type Numbered = (usize, Result<Answers, Failure>);
-
 struct Batch<'a> {
     name: &'a str,
     names: json::Names,
     reader: UtteranceReader<'a>,
     lister: Lister,
     wanted: u32,
-    /// Memory of answers that were written.
-    written: Mutex<Vec<Vec<u8>>>,
 }
 
 impl Batch<'_> {
     /// Answers lines until there are none, or nobody wants the answers.
-    fn work(&self, source: &Mutex<Source>, sender: &SyncSender<Numbered>) {
-        let mut worker = Worker::new(self);
+    fn work(&self, source: &Mutex<Source>, sink: &Sink) {
+        let (mut worker, mut memory) = (Worker::new(self), Vec::new());
         loop {
             let next = source.lock().map(|mut source| (source.pieces, source.next()));
             let Ok((number, next)) = next else { return };
             let answers = match next {
                 Ok(None) => return,
-                Ok(Some(piece)) => (piece.number, Ok(worker.answers(&piece))),
-                Err(error) => (number, Err(Failure::file(self.name, &error))),
+                Ok(Some(piece)) => Ok(worker.answers(&piece, memory)),
+                Err(error) => Err(Failure::file(self.name, &error)),
             };
-            let failed = answers.1.is_err();
-            if sender.send(answers).is_err() || failed {
-                return;
+            match sink.put(number, answers) {
+                Some(again) => memory = again,
+                None => return,
             }
-        }
-    }
-
-    /// Memory for answers.
-    fn memory(&self) -> Vec<u8> {
-        self.written.lock().ok().and_then(|mut written| written.pop()).unwrap_or_default()
-    }
-
-    /// Keeps the memory of answers that were written.
-    fn keep(&self, mut json: Vec<u8>) {
-        json.clear();
-        if let Ok(mut written) = self.written.lock() {
-            written.push(json);
         }
     }
 }
@@ -187,8 +166,9 @@ impl<'a> Worker<'a> {
         Self { batch, lister, sheet: Vec::new(), block: Vec::new(), reading: GraphReading::default() }
     }
 
-    fn answers(&mut self, piece: &Piece) -> Answers {
-        let mut answers = Answers { json: self.batch.memory(), messages: Vec::new(), utterances: 0 };
+    /// The answers of some lines, in memory of others.
+    fn answers(&mut self, piece: &Piece, memory: Vec<u8>) -> Answers {
+        let mut answers = Answers { json: memory, messages: Vec::new(), utterances: 0 };
         // that a text is all right is found faster than where it is not
         let text =
             std::str::from_utf8(&piece.text).map_or_else(|_| String::from_utf8_lossy(&piece.text), Cow::Borrowed);
@@ -250,29 +230,80 @@ fn refuse(answers: &mut Answers, error: &Error, line: usize) {
     answers.messages.push(message);
 }
 
-/// Writes the answers in the order of the lines.
-fn write_in_order(batch: &Batch, receiver: &Receiver<Numbered>, output: &mut Output) -> Result<(), Failure> {
-    let mut progress = Progress::begin(output);
-    let mut early = BTreeMap::new();
-    let mut refused = 0;
-    for (number, answers) in receiver {
-        early.insert(number, answers);
-        while let Some(answers) = early.remove(&progress.pieces) {
-            let answers = answers?;
-            output.bytes(&answers.json)?;
-            if !answers.messages.is_empty() {
-                progress.clear();
-                answers.messages.iter().for_each(|message| eprintln!("{message}"));
-                refused += answers.messages.len();
+/// Where answers go, in the order of the lines. Whose turn it is writes its own, which are still near its core.
+struct Sink<'a> {
+    writer: Mutex<Writer<'a>>,
+    /// The pieces that may wait to be written.
+    most: usize,
+    written: Condvar,
+}
+
+struct Writer<'a> {
+    output: &'a mut Output,
+    progress: Progress,
+    /// Answers before which others are missing.
+    early: BTreeMap<usize, Result<Answers, Failure>>,
+    refused: usize,
+    /// Why nothing more is written.
+    failure: Option<Failure>,
+}
+
+impl<'a> Sink<'a> {
+    fn new(output: &'a mut Output, most: usize) -> Self {
+        let progress = Progress::begin(output);
+        let writer = Writer { output, progress, early: BTreeMap::new(), refused: 0, failure: None };
+        Self { writer: Mutex::new(writer), most, written: Condvar::new() }
+    }
+
+    /// Takes the answers of a piece, and writes all that are next. Gives memory for others, or nothing if none are wanted.
+    fn put(&self, number: usize, answers: Result<Answers, Failure>) -> Option<Vec<u8>> {
+        let is_far_ahead =
+            |writer: &mut Writer| writer.failure.is_none() && number >= writer.progress.pieces + self.most;
+        let mut writer = self.written.wait_while(self.writer.lock().ok()?, is_far_ahead).ok()?;
+        writer.early.insert(number, answers);
+        let memory = writer.write_next();
+        self.written.notify_all();
+        writer.failure.is_none().then_some(memory)
+    }
+
+    fn finish(self) -> Result<(), Failure> {
+        let Ok(writer) = self.writer.into_inner() else { unreachable!("no thread ends while it writes") };
+        writer.progress.clear();
+        match (writer.failure, writer.refused) {
+            (Some(failure), _) => Err(failure),
+            (None, 0) => Ok(()),
+            (None, refused) => {
+                Err(Failure::Refused(format!("{refused} of {} utterances refused", writer.progress.utterances)))
             }
-            progress.advance(answers.utterances);
-            batch.keep(answers.json);
         }
     }
-    progress.clear();
-    match refused {
-        0 => Ok(()),
-        _ => Err(Failure::Refused(format!("{refused} of {} utterances refused", progress.utterances))),
+}
+
+impl Writer<'_> {
+    /// Writes the answers that are next, if they are there; gives the memory of the first.
+    fn write_next(&mut self) -> Vec<u8> {
+        let mut memory = Vec::new();
+        while self.failure.is_none() {
+            let Some(answers) = self.early.remove(&self.progress.pieces) else { break };
+            match answers.and_then(|answers| self.write(answers)) {
+                Ok(json) if memory.capacity() == 0 => memory = json,
+                Ok(_) => {}
+                Err(failure) => self.failure = Some(failure),
+            }
+        }
+        memory.clear();
+        memory
+    }
+
+    fn write(&mut self, answers: Answers) -> Result<Vec<u8>, Failure> {
+        self.output.bytes(&answers.json)?;
+        if !answers.messages.is_empty() {
+            self.progress.clear();
+            answers.messages.iter().for_each(|message| eprintln!("{message}"));
+            self.refused += answers.messages.len();
+        }
+        self.progress.advance(answers.utterances);
+        Ok(answers.json)
     }
 }
 

@@ -1,6 +1,9 @@
 //! The page that `report` writes: HTML with its style and its drawings inside, and no script.
 
+mod changes;
 mod tree;
+
+pub use changes::{CostChanges, Ranges};
 
 use crate::commands::list::Listed;
 use crate::heard::{Heard, Taken};
@@ -17,8 +20,8 @@ pub struct Source<'a> {
     pub wanted: u32,
 }
 
-/// The page about some readings.
-pub fn page(listed: &Listed, source: &Source) -> String {
+/// The page about some readings, and about what other costs would do, if that is known.
+pub fn page(listed: &Listed, source: &Source, changes: Option<&CostChanges>) -> String {
     let title = escaped(source.utterance);
     let mut html = format!(
         "<!DOCTYPE html>\n<html lang=\"en\">\n<head>\n<meta charset=\"utf-8\">\n<meta name=\"viewport\" \
@@ -26,8 +29,9 @@ pub fn page(listed: &Listed, source: &Source) -> String {
          </head>\n<body>\n"
     );
     html += &header(listed, source);
-    html += &heard(listed);
+    html += &heard(listed, changes);
     html += &overview(listed);
+    html += &changes.map_or(String::new(), |changes| changes.sections(listed));
     html += &trees(listed);
     let version = env!("CARGO_PKG_VERSION");
     html + &format!(
@@ -92,14 +96,20 @@ fn counted(count: usize, what: &str) -> String {
 }
 
 /// The slots, each with its words, the cheapest first; or what starts at each place of a word graph.
-fn heard(listed: &Listed) -> String {
+fn heard(listed: &Listed, changes: Option<&CostChanges>) -> String {
     let (best, mut groups) = (listed.taken(1), listed.heard.groups());
     let heard = groups.iter().flatten().map(|taken| taken.candidate).filter(|candidate| candidate.is_offered());
     let greatest = heard.map(|candidate| candidate.cost).max().unwrap_or(0).max(1);
     let mut html = String::from("<section>\n<h2>What was heard</h2>\n<ol class=\"slots\" start=\"0\">\n");
     for group in &mut groups {
         group.sort_by_key(|taken| taken.candidate.cost);
-        let words: String = group.iter().map(|taken| word(listed, taken, best.contains(taken), greatest)).collect();
+        let words: String = group
+            .iter()
+            .map(|taken| {
+                let highest = changes.and_then(|changes| changes.highest(taken));
+                word(listed, taken, best.contains(taken), Costs { greatest, highest })
+            })
+            .collect();
         let title = match listed.heard {
             Heard::Slots(_) => listed.heard.place(group[0].span),
             Heard::Graph(_) => format!("from place {}", group[0].span[0]),
@@ -110,8 +120,14 @@ fn heard(listed: &Listed) -> String {
             first reading. Struck out: not heard.</p>\n</section>\n"
 }
 
+/// The costs beside which that of a word is shown: the greatest of all, and the greatest that the word may have, if it is more.
+struct Costs {
+    greatest: u32,
+    highest: Option<u32>,
+}
+
 /// A word that was heard, with a bar as long as its cost is great.
-fn word(listed: &Listed, Taken { span, candidate }: &Taken, is_best: bool, greatest: u32) -> String {
+fn word(listed: &Listed, Taken { span, candidate }: &Taken, is_best: bool, costs: Costs) -> String {
     let mut word = escaped(listed.grammar.named.word(candidate.word));
     if let Heard::Graph(_) = listed.heard {
         word += &format!(" <small>to&nbsp;{}</small>", span[1]);
@@ -120,9 +136,10 @@ fn word(listed: &Listed, Taken { span, candidate }: &Taken, is_best: bool, great
         return format!("<div class=\"candidate unheard\"><span>{word}</span></div>\n");
     }
     let class = if is_best { "candidate taken" } else { "candidate" };
-    let percent = f64::from(candidate.cost) * 100.0 / f64::from(greatest);
+    let percent = f64::from(candidate.cost) * 100.0 / f64::from(costs.greatest);
+    let highest = costs.highest.map_or(String::new(), |highest| format!("–{highest}"));
     format!(
-        "<div class=\"{class}\"><span>{word}</span><span class=\"number\">{}</span>\
+        "<div class=\"{class}\"><span>{word}</span><span class=\"number\">{}{highest}</span>\
          <span class=\"bar\" style=\"width:{percent:.1}%\"></span></div>\n",
         candidate.cost
     )

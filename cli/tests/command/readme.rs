@@ -33,3 +33,21 @@ fn runs_of_the_command() {
     }
     assert!(runs >= 2, "README has the list in words and as a tree");
 }
+
+/// README's table has every command of the help, and no other.
+#[test]
+fn the_table_of_commands() {
+    let root = Path::new(env!("CARGO_MANIFEST_DIR")).join("..");
+    let readme = std::fs::read_to_string(root.join("README.md")).expect("README.md");
+    let (_, table) = readme.split_once("| command | does |\n").expect("the table");
+    let rows = table.lines().skip(1).take_while(|line| line.starts_with("| `"));
+    let named = rows.flat_map(|row| row.split(" | ").next().unwrap_or_default().split(", "));
+    let mut named: Vec<&str> =
+        named.map(|command| command.trim_matches(['|', ' ', '`']).split(' ').next().unwrap_or_default()).collect();
+    let help = answered(run_in(&root, "--help"), "--help");
+    let rows = help.lines().filter_map(|line| line.strip_prefix("  ")?.split(' ').next());
+    let mut known: Vec<&str> = rows.filter(|name| !name.is_empty()).collect();
+    named.sort_unstable();
+    known.sort_unstable();
+    assert_eq!(named, known);
+}

@@ -1,6 +1,6 @@
 //! The page of `report`: its parts, and what a browser makes of it.
 
-use crate::common::{answer, answered, doors, folder, output, run_in};
+use crate::common::{answer, answered, doors, folder, output, refused, run, run_in, run_with};
 use std::io::Write;
 use std::path::Path;
 use std::process::{Command, Output};
@@ -27,10 +27,66 @@ fn what_was_not_heard_is_struck_out() {
     assert_eq!(page.matches("class=\"candidate unheard\"").count(), 2);
 }
 
+/// The rows of a table of the page, each as the texts of its cells.
+fn rows(page: &str, class: &str) -> Vec<Vec<String>> {
+    let (_, table) = page.split_once(&format!("<table class=\"{class}\">")).expect("a table");
+    let (table, _) = table.split_once("</table>").expect("the end of a table");
+    let text = |cell: &str| cell.rsplit('>').next().unwrap_or_default().to_owned();
+    let cells = |row: &str| row.split("</td>").map(text).filter(|text| !text.trim().is_empty()).collect::<Vec<_>>();
+    table.split("</tr>").map(cells).filter(|cells| cells.len() > 1).collect()
+}
+
+#[test]
+fn words_to_listen_to_again() {
+    let page = answer("report grammar.txt utterance.txt");
+    let expected =
+        [["9", "1", "forty", "20", "80"], ["9", "5", "sixty", "33", "80"], ["51", "3", "glass", "52", "122"]];
+    assert_eq!(rows(&page, "margins"), expected);
+    assert!(!page.contains("Costs within ranges"));
+    let none = run_with(&doors(), "report grammar.txt -", b"door 1; four 2; oak 3");
+    assert!(answered(none, "report").contains("<p>No other word brings another reading, however cheap it is.</p>"));
+    for nothing in ["../doors_graph/graph.txt", "utterance.txt --skip 20"] {
+        let page = run(&format!("report grammar.txt {nothing}"));
+        assert!(page.status == 0 && !page.out.contains("listen to again"), "{nothing}");
+    }
+}
+
+#[test]
+fn costs_within_ranges() {
+    let page = answer("report grammar.txt utterance.txt --high high.txt");
+    let weighs =
+        "weighs <span class=\"weight\">72</span> to <span class=\"weight\">84</span>. <strong>The first reading stands";
+    assert!(page.contains(weighs), "{page}");
+    assert_eq!(page.matches('–').count(), 4);
+    assert!(page.contains("<span>twenty</span><span class=\"number\">12–19</span>"), "{page}");
+    let high =
+        std::fs::read_to_string(doors().join("high.txt")).expect("the example").replace("twenty 19", "twenty 29");
+    let outweighed = run_with(&doors(), "report grammar.txt utterance.txt --high -", high.as_bytes());
+    assert!(answered(outweighed, "report").contains("<strong>The first reading can be outweighed</strong>"));
+    // what is known for certain is so in both
+    assert!(answer("report grammar.txt utterance.txt --high high.txt --said 1=forty").contains("first reading stands"));
+    let none = run_with(&doors(), "report grammar.txt - --high high.txt", b"door 1");
+    let refusal =
+        "refused 59: the utterances differ elsewhere than in costs, a cost falls, or 65,535 stands in one only";
+    assert_eq!(refused(none, 1), format!("high.txt: {refusal}\n"));
+    let falls = run("report grammar.txt high.txt --high utterance.txt");
+    assert_eq!(refused(falls, 1), format!("utterance.txt: {refusal}\n"));
+    let graphs =
+        "spireyerba report: ranges of costs are for slots, not for word graphs\ntry `spireyerba report --help`\n";
+    for heard in ["../doors_graph/graph.txt --high high.txt", "utterance.txt --high ../doors_graph/graph.txt"] {
+        assert_eq!(refused(run(&format!("report grammar.txt {heard}")), 2), graphs);
+    }
+}
+
 #[test]
 fn names_are_text() {
-    let folder = folder("report_names", &[("g", b"<b> -> \"<&\\\">\""), ("u", b"\"<&\\\">\" 3")]);
-    let page = answered(run_in(&folder, "report g u"), "report");
+    let files: [(&str, &[u8]); 3] = [
+        ("g", b"<b> -> \"<&\\\">\" | \"<b>\""),
+        ("u", b"\"<&\\\">\" 3 | \"<b>\" 9"),
+        ("high", b"\"<&\\\">\" 3 | \"<b>\" 9"),
+    ];
+    let folder = folder("report_names", &files);
+    let page = answered(run_in(&folder, "report g u --high high"), "report");
     assert!(page.contains("&lt;&amp;&quot;&gt;") && page.contains("&lt;b&gt;"));
     assert!(!page.contains("<b>") && !page.contains("<&"));
 }
@@ -99,7 +155,7 @@ fn a_browser_finds_room_for_every_text() {
     let folder = folder("report_probe", &[("g", grammar), ("u", slot.as_bytes())]);
     let examples = doors().join("..").display().to_string();
     for (command, texts) in [
-        (format!("{examples}/doors/grammar.txt {examples}/doors/utterance.txt"), 183),
+        (format!("{examples}/doors/grammar.txt {examples}/doors/utterance.txt --high {examples}/doors/high.txt"), 183),
         (format!("{examples}/doors_graph/grammar.txt {examples}/doors_graph/graph.txt"), 0),
         (format!("{examples}/doors_office/grammar.txt {examples}/doors_office/utterance.txt -n 256"), 0),
         ("g u -n 3".to_owned(), 0),

@@ -72,8 +72,7 @@ impl PlainWords {
 
     /// Reads a word and its cost; answers what follows the blanks behind them.
     fn candidate<'a>(&self, text: &'a [u8], slots: &mut Slots) -> Option<&'a [u8]> {
-        let (key, rest) = word_of(text)?;
-        let [b' ', rest @ ..] = rest else { return None };
+        let (key, rest) = before_blank(text)?;
         let (cost, rest) = cost_of(rest)?;
         let word = self.number(key)?;
         if slots.candidates() == MAX_CANDIDATES || slots.has(word) {
@@ -93,6 +92,32 @@ fn after_blanks(mut text: &[u8]) -> &[u8] {
         text = rest;
     }
     text
+}
+
+/// What stands before the first blank of a text, if that could be a plain word, and what stands behind the blank. Whether it is
+/// one is said by the table.
+fn before_blank(text: &[u8]) -> Option<(Key, &[u8])> {
+    let window = match text.first_chunk() {
+        Some(bytes) => Key::from_le_bytes(*bytes),
+        None => {
+            let mut bytes = [0; LONGEST];
+            bytes[..text.len()].copy_from_slice(text);
+            Key::from_le_bytes(bytes)
+        }
+    };
+    let length = first_blank(window);
+    let [b' ', rest @ ..] = text.get(length..)? else { return None };
+    let key = if length == LONGEST { window } else { window & !(Key::MAX << (8 * length)) };
+    (key != FREE).then_some((key, rest))
+}
+
+/// The place of the first blank among the bytes of a number, the lowest first; their count if none is one.
+fn first_blank(window: Key) -> usize {
+    const EACH: Key = Key::MAX / 0xff;
+    // where a blank stands there are zeros now: of the bytes with a borrow from them the lowest is the first zero
+    let without = window ^ (EACH * b' ' as Key);
+    let zeros = without.wrapping_sub(EACH) & !without & (EACH << 7);
+    zeros.trailing_zeros() as usize / 8
 }
 
 /// The plain word at the front of a text, and the rest.

@@ -29,6 +29,9 @@ pub const AMBIGUOUS: Shape =
 /// Few pair rules: often there is no derivation, or the list ends early.
 pub const SPARSE: Shape =
     Shape { symbols: 2..=6, words: 2..=8, pair_rules: 1..=5, word_rules: 1..=8, slots: 1..=8, candidates: 1..=7 };
+/// Slots with many words that rules have: other costs bring other readings.
+pub const WORDY: Shape =
+    Shape { symbols: 1..=3, words: 3..=6, pair_rules: 1..=6, word_rules: 8..=14, slots: 1..=6, candidates: 3..=6 };
 pub const LONG: Shape =
     Shape { symbols: 1..=4, words: 1..=8, pair_rules: 1..=10, word_rules: 2..=12, slots: 10..=24, candidates: 1..=7 };
 pub const MANY_SYMBOLS: Shape = Shape {
@@ -47,6 +50,17 @@ pub const GREATEST: Shape = Shape {
     slots: 24..=24,
     candidates: 7..=7,
 };
+
+/// The costs of what was heard brought below a bound.
+pub fn cheaper(utterance: &mut Utterance, bound: u32) {
+    let candidates = utterance.slots.iter_mut().flatten().filter(|candidate| candidate.is_offered());
+    candidates.for_each(|candidate| candidate.cost %= bound);
+}
+
+/// The weights of the rules brought below a bound, so that costs matter beside them.
+pub fn lighter(grammar: &mut Grammar, bound: u32) {
+    grammar.rules.iter_mut().for_each(|rule| rule.weight %= bound);
+}
 
 /// A grammar, and an utterance whose slots have mostly words that some rule has.
 pub fn case(rng: &mut Rng, shape: &Shape) -> (Grammar, Utterance) {
