@@ -1,4 +1,6 @@
 // The back trace of a tree from the back pointers of found ranks: two numbers for each node.
+pub mod checked;
+
 use arrays::rule_at;
 use arrays::store;
 use arrays::wide;
