@@ -174,7 +174,7 @@ module _ {g : Grammar} {es : List Edge} {rules edges index : List ℕ} {d : Layo
     node-sound fuel below c x w b found (a-pairing {B} {C} {w = v} splits) e =
         let j = b .split in
         let ((n, l), (m, r)) = parts-sound v (spelledWeight t rules edges counts d fuel (leftPart c B j) (b .left))
-            (spelledWeight t rules edges counts d fuel (rightPart c C j) (b .right)) e in
+        (spelledWeight t rules edges counts d fuel (rightPart c C j) (b .right)) e in
         let (y, dl, sl) = below (leftPart c B j) (b .left) n l in
         let (z, dr, sr) = below (rightPart c C j) (b .right) m r in
         (_, by-pair (splits .rule) (splits .after) (splits .before) dl dr, node-spelled found (splits .rule) sl sr)
