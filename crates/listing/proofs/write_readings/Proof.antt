@@ -71,7 +71,7 @@ loop-again c =
     let part = at-write-rank .write-rank .last .1 .1 .1 .1 .1 .0 in (
       omega (arith, at-write-rank .before .before .loop-test .taken),
       same-len-mid (l .x * size) (length (l .out) - l .x * size) (l .out) part (at-write-rank .write-rank .kept .1 .1 .1 .1 .1 .0) ∙ l .inv .1,
-      written-more (a .t .now) (a .rules .now) (a .d) (a .form) (at-start .pre .1) (l .x) (a .out .now) (l .inv .2) (at-write-rank .write-rank .ensures .0),
+      written-more (a .t .now) (a .rules .now) (a .d) (a .form) (at-start .pre .1) (l .x) (a .out .now) (l .inv .2) (at-write-rank .write-rank .ensures),
     )
 
 same-length : tie.Need-same-length Inv-loop μ-loop
