@@ -42,6 +42,12 @@ nodeIn edges E c b (Word h x w) =
 unfoldable pub checkedNode : List ℕ → List ℕ → Counts → Cell → BackPointer → CheckedNode
 checkedNode rules edges k c b = pick (ltb (b .rule) (k .rules)) (nodeIn edges (k .edges) c b (ruleAt rules (b .rule))) Wrong
 
+-- what the node's own rule and edge weigh
+abbrev pub ownWeight : CheckedNode → ℕ
+ownWeight (Leaf w) = w
+ownWeight (Pairing x y w) = w
+ownWeight Wrong = 0
+
 -- a node's weight with those of its parts
 abbrev pub withParts : ℕ → Option ℕ → Option ℕ → Option ℕ
 withParts w none y = none
