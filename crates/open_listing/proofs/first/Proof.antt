@@ -49,9 +49,9 @@ returns c =
     let fits = c .before .before .before .before .before .before .before .before .before .before .before .before .before .before .before .before .before .before .before .before .before .pre .2 in
     let made = c .before .before .before .before .before .before .before .before .before .enumerate .ensures .0 in
     let table = firstTable (a .rules .now) (a .edges .now) (a .plan) (a .work .now) in
-    let first = table-first (a .rules .now) (a .edges .now) (a .heard .now) (a .plan) (a .work .now) (a .out .now) fits (c .before .before .before .before .before .before .before .before .before .before .before .before .all-zero .ensures) (c .before .before .before .before .before .before .before .before .before .before .before .if1 .taken) made in
-    promised (a .rules .now) (a .edges .now) (a .heard .now) (a .plan) (a .work .now) (a .out .now) fits (c .before .before .before .before .before .before .before .before .before .before .before .before .all-zero .ensures) (c .before .before .before .before .before .before .before .before .before .before .before .if1 .taken) made
-    (stays table (a .rules .now) (a .heard .now) (a .plan) 0 (a .work .now) (a .out .now) first (c .before .before .before .before .settle .ensures .0) (c .before .before .before .before .settle .ensures .1) (c .before .is-reading .ensures) (c .if2 .taken))
+    let first = table-first (a .rules .now) (a .edges .now) (a .plan) (a .work .now) (a .out .now) fits (c .before .before .before .before .before .before .before .before .before .before .before .before .all-zero .ensures) (c .before .before .before .before .before .before .before .before .before .before .before .if1 .taken) made in
+    promised (a .rules .now) (a .edges .now) (a .plan) (a .work .now) (a .out .now) fits (c .before .before .before .before .before .before .before .before .before .before .before .before .all-zero .ensures) (c .before .before .before .before .before .before .before .before .before .before .before .if1 .taken) made
+    (stays table (a .rules .now) (a .edges .now) (a .plan) 0 (a .work .now) (a .out .now) first (c .before .before .before .before .settle .ensures .0) (c .before .before .before .before .settle .ensures .1) (c .before .is-reading .ensures) (c .if2 .taken))
 
 slice-relend-prefix-zero : tie.Need-slice-relend-prefix-zero
 slice-relend-prefix-zero c = search needs
@@ -60,7 +60,7 @@ slice-aggregate-zero : tie.Need-slice-aggregate-zero
 slice-aggregate-zero c =
     let a = c .before .before .before .before .before .before .before .before .before .before .before .before .before .before .before .before .before .before .before .before .before .before .args in
     sym (length-take-le _ _ (rw length-append
-    (omega (arith, c .before .before .before .before .before .before .before .before .before .before .enumerate .kept .0, front-size (a .rules .now) (a .edges .now) (a .heard .now) (a .plan) (a .work .now) (a .out .now) (c .before .before .before .before .before .before .before .before .before .before .before .before .before .before .before .before .before .before .before .before .before .before .pre .2)))))
+    (omega (arith, c .before .before .before .before .before .before .before .before .before .before .enumerate .kept .0, front-size (a .rules .now) (a .edges .now) (a .plan) (a .work .now) (a .out .now) (c .before .before .before .before .before .before .before .before .before .before .before .before .before .before .before .before .before .before .before .before .before .before .pre .2)))))
 
 zero-requires : tie.Need-zero-requires
 zero-requires c κs = search needs
@@ -78,10 +78,10 @@ returns-2 c =
     let fits = c .before .before .before .before .before .before .before .before .before .before .before .before .before .before .before .before .before .before .before .before .before .before .before .before .before .pre .2 in
     let made = c .before .before .before .before .before .before .before .before .before .before .before .before .before .enumerate .ensures .0 in
     let table = firstTable (a .rules .now) (a .edges .now) (a .plan) (a .work .now) in
-    let first = table-first (a .rules .now) (a .edges .now) (a .heard .now) (a .plan) (a .work .now) (a .out .now) fits (c .before .before .before .before .before .before .before .before .before .before .before .before .before .before .before .before .all-zero .ensures) (c .before .before .before .before .before .before .before .before .before .before .before .before .before .before .before .if1 .taken) made in
-    promised (a .rules .now) (a .edges .now) (a .heard .now) (a .plan) (a .work .now) (a .out .now) fits (c .before .before .before .before .before .before .before .before .before .before .before .before .before .before .before .before .all-zero .ensures) (c .before .before .before .before .before .before .before .before .before .before .before .before .before .before .before .if1 .taken) made
-    (goes-back table (a .rules .now) (a .heard .now) (a .plan) 0 (a .work .now) (a .out .now) first (c .before .before .before .before .before .before .before .before .settle .ensures .0) (c .before .before .before .before .before .before .before .before .settle .ensures .1) (c .before .before .before .before .before .is-reading .ensures) (c .before .before .before .before .if2 .left)
-    (zeros-again (a .rules .now) (a .edges .now) (a .heard .now) (a .plan) (a .work .now) (a .out .now) fits (c .before .before .before .before .before .before .before .before .before .before .before .before .before .before .before .before .all-zero .ensures) (c .before .before .before .before .before .before .before .before .before .before .before .before .before .before .before .if1 .taken) made (c .before .before .before .before .before .before .before .before .before .before .before .before .before .enumerate .kept .0) (c .before .before .zero .ensures) refl))
+    let first = table-first (a .rules .now) (a .edges .now) (a .plan) (a .work .now) (a .out .now) fits (c .before .before .before .before .before .before .before .before .before .before .before .before .before .before .before .before .all-zero .ensures) (c .before .before .before .before .before .before .before .before .before .before .before .before .before .before .before .if1 .taken) made in
+    promised (a .rules .now) (a .edges .now) (a .plan) (a .work .now) (a .out .now) fits (c .before .before .before .before .before .before .before .before .before .before .before .before .before .before .before .before .all-zero .ensures) (c .before .before .before .before .before .before .before .before .before .before .before .before .before .before .before .if1 .taken) made
+    (goes-back table (a .rules .now) (a .edges .now) (a .plan) 0 (a .work .now) (a .out .now) first (c .before .before .before .before .before .before .before .before .settle .ensures .0) (c .before .before .before .before .before .before .before .before .settle .ensures .1) (c .before .before .before .before .before .is-reading .ensures) (c .before .before .before .before .if2 .left)
+    (zeros-again (a .rules .now) (a .edges .now) (a .plan) (a .work .now) (a .out .now) fits (c .before .before .before .before .before .before .before .before .before .before .before .before .before .before .before .before .all-zero .ensures) (c .before .before .before .before .before .before .before .before .before .before .before .before .before .before .before .if1 .taken) made (c .before .before .before .before .before .before .before .before .before .before .before .before .before .enumerate .kept .0) (c .before .before .zero .ensures) refl))
 
 same-length-5 : tie.Need-same-length-5
 same-length-5 c = search needs
@@ -89,7 +89,7 @@ same-length-5 c = search needs
 returns-3 : tie.Need-returns-3
 returns-3 c =
     let a = c .before .before .before .before .before .before .before .before .before .before .args in
-    not-zeros (a .rules .now) (a .edges .now) (a .heard .now) (a .plan) (a .work .now) (a .out .now) (c .before .before .before .before .before .before .before .before .before .before .pre .2) (c .before .all-zero .ensures) (c .if1 .left)
+    not-zeros (a .rules .now) (a .edges .now) (a .plan) (a .work .now) (a .out .now) (c .before .before .before .before .before .before .before .before .before .before .pre .2) (c .before .all-zero .ensures) (c .if1 .left)
 
 pub first-spec : {M : Type 1} → statement M
 first-spec =

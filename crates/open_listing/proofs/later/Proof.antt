@@ -43,7 +43,7 @@ returns c =
     let x = a .handed - 1 in
     let made = c .before .before .before .before .before .before .before .before .before .before .before .before .before .before .before .index-of .ensures in
     let next = table-next (a .rules .now) (a .edges .now) (a .plan) planned x (a .work .now) made (c .before .before .before .before .before .before .before .before .before .before .step .ensures .0) in
-    stays (nextTable (a .rules .now) (a .edges .now) (a .plan) x (a .work .now)) (a .rules .now) (a .heard .now) (a .plan) (a .handed) (a .work .now) (a .out .now)
+    stays (nextTable (a .rules .now) (a .edges .now) (a .plan) x (a .work .now)) (a .rules .now) (a .edges .now) (a .plan) (a .handed) (a .work .now) (a .out .now)
     next (c .before .before .before .before .settle .ensures .0) (c .before .before .before .before .settle .ensures .1) (c .before .is-reading .ensures) (c .if1 .taken)
 
 slice-aggregate-undo : tie.Need-slice-aggregate-undo
@@ -65,7 +65,7 @@ returns-2 c =
     let x = a .handed - 1 in
     let made = c .before .before .before .before .before .before .before .before .before .before .before .before .before .before .before .before .before .before .before .before .index-of .ensures in
     let next = table-next (a .rules .now) (a .edges .now) (a .plan) planned x (a .work .now) made (c .before .before .before .before .before .before .before .before .before .before .before .before .before .before .before .step .ensures .0) in
-    goes-back (nextTable (a .rules .now) (a .edges .now) (a .plan) x (a .work .now)) (a .rules .now) (a .heard .now) (a .plan) (a .handed) (a .work .now) (a .out .now)
+    goes-back (nextTable (a .rules .now) (a .edges .now) (a .plan) x (a .work .now)) (a .rules .now) (a .edges .now) (a .plan) (a .handed) (a .work .now) (a .out .now)
     next (c .before .before .before .before .before .before .before .before .before .settle .ensures .0) (c .before .before .before .before .before .before .before .before .before .settle .ensures .1) (c .before .before .before .before .before .before .is-reading .ensures) (c .before .before .before .before .before .if1 .left)
     (put-back (a .rules .now) (a .edges .now) (a .plan) planned x (a .work .now) made (c .before .before .before .before .before .before .before .before .before .before .before .before .before .before .before .step .ensures .0) (c .before .before .before .before .before .before .before .before .before .before .before .before .before .before .before .step .ensures .1) (c .before .before .undo .ensures))
 
