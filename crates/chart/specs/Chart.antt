@@ -43,7 +43,7 @@ unfoldable pub rootStands : List ℕ → List ℕ → Layout → ℕ → Bool
 rootStands t rules d rank = stands t rules d (d .places) (root d) rank
 
 -- whether it spells a tree, and one of the weight that its price says
-abbrev weighs : Option ℕ → ℕ → Bool
+abbrev pub weighs : Option ℕ → ℕ → Bool
 weighs none w = false
 weighs (some v) w = eqb v w
 
