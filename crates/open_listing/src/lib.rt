@@ -93,7 +93,14 @@ fn all_zero(t: &[u32]) -> bool
 }
 
 // Whether the table spells a derivation at a rank of the root; its reading is written to `out` then.
-fn hand_out(t: &[u32], rules: &[u32], edges: &[u32], plan: Plan, rank: usize, out: &mut [u8]) -> bool
+fn hand_out(
+    t: &[u32],
+    rules: &[u32],
+    edges: &[u32],
+    plan: Plan,
+    rank: usize,
+    out: &mut [u8],
+) -> bool
     requires { ⌜ (Planned plan) × (rank < plan .layout .ranks) × (plan .form .size ≤ length (now out)) ⌝ }
     ensures { λ r. ⌜ (r ≡ handsOut (now (t .entry)) (now (rules .entry)) (now (edges .entry)) plan rank)
         × (now (out .exit) ≡ outputBy r (now (t .entry)) (now (rules .entry)) plan rank (now (out .entry))) ⌝ }
@@ -114,7 +121,14 @@ fn hand_out(t: &[u32], rules: &[u32], edges: &[u32], plan: Plan, rank: usize, ou
 }
 
 // What a call answers once a rank of the root was looked for.
-fn settle(t: &[u32], rules: &[u32], edges: &[u32], plan: Plan, rank: usize, out: &mut [u8]) -> Answer
+fn settle(
+    t: &[u32],
+    rules: &[u32],
+    edges: &[u32],
+    plan: Plan,
+    rank: usize,
+    out: &mut [u8],
+) -> Answer
     requires { ⌜ (Planned plan) × (rank < plan .layout .ranks) × (plan .form .size ≤ length (now out)) ⌝ }
     ensures { λ r. ⌜ (r ≡ settled (now (t .entry)) (now (rules .entry)) (now (edges .entry)) plan rank)
         × (now (out .exit) ≡ outputBy (isReading r) (now (t .entry)) (now (rules .entry)) plan rank (now (out .entry))) ⌝ }
@@ -129,13 +143,7 @@ fn settle(t: &[u32], rules: &[u32], edges: &[u32], plan: Plan, rank: usize, out:
 }
 
 // The first call: one rank of each cell is looked for, at the table's front, which is to be zeros.
-fn first(
-    work: &mut [u32],
-    rules: &[u32],
-    edges: &[u32],
-    plan: Plan,
-    out: &mut [u8],
-) -> Answer
+fn first(work: &mut [u32], rules: &[u32], edges: &[u32], plan: Plan, out: &mut [u8]) -> Answer
     requires { ⌜ (Planned plan) × (plan .form .size ≤ length (now out)) × (4 * plan .layout .cells ≤ length (now work)) ⌝ }
     ensures { λ r. ⌜ (zeros (take (4 * plan .layout .cells) (now (work .entry))) ≡ true
         → Searched (firstTable (now (rules .entry)) (now (edges .entry)) plan (now (work .entry))) (now (rules .entry)) (now (edges .entry)) plan 0 (now (work .entry)) (now (out .entry)) r (now (work .exit)) (now (out .exit)))
