@@ -12,7 +12,7 @@ use Rattle.chart_table.specs.Table.{root, cellNumber, priceAt, countFound}
 use Rattle.chart_index.specs.Index.{indexNumbers}
 use Rattle.chart_index.specs.Build.{makeIndex}
 use Rattle.chart_search.specs.Search.{search}
-use Rattle.chart_trace.specs.Trace.{traceBack, stands}
+use Rattle.chart_trace.specs.Trace.{traceBack}
 use Rattle.chart_trace.specs.Checked.{spelledWeight}
 use Rattle.chart_trace.specs.declared.checked.Counts.{Counts}
 
@@ -35,12 +35,9 @@ rootWeight t d rank = (priceAt t d (cellNumber d (root d)) rank - 1) / weightUni
 unfoldable pub rootTrace : List ℕ → List ℕ → Layout → ℕ → List ℕ
 rootTrace t rules d rank = traceBack t rules d (d .places) (root d) rank
 
--- whether that rank is found, and whether its tree stands in the table
+-- whether that rank is found
 unfoldable pub rootFound : List ℕ → Layout → ℕ → Bool
 rootFound t d rank = not (eqb (priceAt t d (cellNumber d (root d)) rank) 0)
-
-unfoldable pub rootStands : List ℕ → List ℕ → Layout → ℕ → Bool
-rootStands t rules d rank = stands t rules d (d .places) (root d) rank
 
 -- whether it spells a tree, and one of the weight that its price says
 abbrev pub weighs : Option ℕ → ℕ → Bool

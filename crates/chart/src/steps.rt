@@ -12,7 +12,6 @@ use chart_table::root;
 use chart_trace::checked::Counts;
 use chart_trace::checked::Traced;
 use chart_trace::checked::trace_checked;
-use chart_trace::stands;
 ghost use mathlib.Core.Path.{_≡_};
 ghost use mathlib.Core.Bool.{true};
 ghost use Prim.Native.Nat.{_+_, _≤_, _<_};
@@ -23,7 +22,7 @@ ghost use Rattle.chart_index.specs.Build.{makeIndex};
 ghost use Rattle.chart_table.specs.Journal.{putBack};
 ghost use Rattle.chart_table.specs.Table.{Sized};
 ghost use Rattle.chart_search.specs.Search.{nextOfRoot, keepOfRoot};
-ghost use Rattle.chart.specs.Chart.{rootTrace, rootFound, rootStands, rootSpelled};
+ghost use Rattle.chart.specs.Chart.{rootTrace, rootFound, rootSpelled};
 
 // The index of the first `count` rules and of the first `arcs` edges.
 pub fn index_of(
@@ -70,22 +69,6 @@ pub fn root_found(t: &[u32], d: Layout, rank: usize) -> bool
     ensures { λ r. ⌜ r ≡ rootFound (now (t .entry)) d rank ⌝ }
 {
     price_at(t, d, cell_number(d, root(d)), rank) != 0
-}
-
-// Whether its tree stands in the table: whether the ranks of all its parts are found too.
-pub fn root_stands(t: &[u32], rules: &[u32], d: Layout, rank: usize) -> bool
-    requires { ⌜ (Sized d) × (0 < d .places) × (rank < d .ranks) ⌝ }
-    ensures { λ r. ⌜ r ≡ rootStands (now (t .entry)) (now (rules .entry)) d rank ⌝ }
-{
-    stands(
-        t,
-        rules,
-        d,
-        Part {
-            cell: root(d),
-            rank,
-        },
-    )
 }
 
 // Writes the trace of a rank of the root, each node checked, and answers how many numbers it has: 0 where the table spells no tree there, or

@@ -2,6 +2,5 @@
 pub mod Trace
 pub mod Pending
 pub mod Shape
-pub mod Standing
 pub mod Spelled
 pub mod Weighing

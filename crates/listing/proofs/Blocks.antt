@@ -2,14 +2,14 @@
 -- at place x. Of slots the rule numbers of its nodes are the walk.
 use mathlib.Core.Path.{_≡_, refl, sym, ap, _∙_}
 use mathlib.Core.List.{List, [], _∷_, _++_, map, map-append}
-use Prim.Native.Nat.{ℕ, zero, suc, _+_, _-_, _*_, _≤_, _<_}
+use Prim.Native.Nat.{ℕ, zero, suc, _+_, _-_, _≤_, _<_}
 use native.Mathlib.Omega.{arith}
 use lib.ListN.{length, take, getD, length-map}
 use lib.Seq.{take-suc, take-length}
 use Rattle.packing.specs.Meaning.{Grammar, Heard, slots, graph, lastPlace, heardEdges}
 use Rattle.packing.specs.Flat.{ruleAt, nodeRule, nodesIn}
 use Rattle.packing.specs.Loop.{iter}
-use Rattle.packing.specs.Valid.{ValidGrammar, ValidHeard}
+use Rattle.packing.specs.Valid.{ValidHeard}
 use Rattle.packing.proofs.Flat.{by-rule}
 use Rattle.derivation.specs.Derivation.{At, Tree, leaf, node, Derivation, walk, reading}
 use Rattle.derivation.specs.Heard.{pathLength, trace, graphReading, packed}

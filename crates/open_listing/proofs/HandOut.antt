@@ -1,5 +1,5 @@
 -- Whether a rank of the root is handed out: the checked back trace answers how many numbers it has, and 0 where it finds no derivation.
-use mathlib.Core.Path.{_≡_, refl, _∙_}
+use mathlib.Core.Path.{_≡_, refl}
 use mathlib.Core.Bool.{Bool, true, false}
 use mathlib.Core.List.{List}
 use Prim.Native.Nat.{ℕ, _<_}

@@ -1,7 +1,7 @@
 -- The back trace that checks. Of a rank that spells a tree over its cell it sums the weight of that tree; and in any table, what it gives a
 -- weight spells a tree over its cell. For a node passes exactly if its rule is of the cell's head, with parts inside the span or with an edge
 -- over it that was heard.
-use mathlib.Core.Path.{_≡_, refl, sym, ap, _∙_}
+use mathlib.Core.Path.{_≡_, refl, ap, _∙_}
 use mathlib.Core.Bool.{Bool, true, false, false≢true}
 use mathlib.Core.Option.{Option, none, some}
 use mathlib.Core.List.{List}

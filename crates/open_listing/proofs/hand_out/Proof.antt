@@ -1,6 +1,5 @@
 -- The trace is written into zeros, and where it passes the reading of its rank is written.
 use mathlib.Core.Path.{refl, sym}
-use native.Mathlib.Omega.{arith}
 use Rattle.open_listing.proofs.HandOut.{spelled, not-spelled}
 use borrow.Author.Needs.{needs}
 use Rattle.open_listing.proofs.hand_out.Statement.{statement}
