@@ -32,12 +32,16 @@ edgeFits edges E c e x =
     (pick (eqb (getD edges (4 * e + 1) 0) (c .to))
     (pick (eqb (getD edges (4 * e + 2) 0) (x .0)) (ltb (getD edges (4 * e + 3) 0) notHeard) false) false) false) false
 
+-- a leaf of that edge, by a rule of that word
+abbrev pub leafIn : List ℕ → ℕ → Cell → ℕ → W.Word → ℕ → CheckedNode
+leafIn edges E c e x w = pick (edgeFits edges E c e x) (Leaf (w + getD edges (4 * e + 3) 0)) Wrong
+
 -- a node in a cell by its back pointer and its rule, whose head is to be the cell's
 abbrev pub nodeIn : List ℕ → ℕ → Cell → BackPointer → Rule → CheckedNode
 nodeIn edges E c b (Pair h x y w) =
     pick (eqb (h .0) (c .head .0)) (pick (ltb (c .from) (b .split)) (pick (ltb (b .split) (c .to)) (Pairing x y w) Wrong) Wrong) Wrong
 nodeIn edges E c b (Word h x w) =
-    pick (eqb (h .0) (c .head .0)) (pick (edgeFits edges E c (b .left) x) (Leaf (w + getD edges (4 * b .left + 3) 0)) Wrong) Wrong
+    pick (eqb (h .0) (c .head .0)) (leafIn edges E c (b .left) x w) Wrong
 
 unfoldable pub checkedNode : List ℕ → List ℕ → Counts → Cell → BackPointer → CheckedNode
 checkedNode rules edges k c b = pick (ltb (b .rule) (k .rules)) (nodeIn edges (k .edges) c b (ruleAt rules (b .rule))) Wrong

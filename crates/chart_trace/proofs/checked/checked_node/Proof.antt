@@ -11,8 +11,8 @@ returns : tie.Need-returns
 unfolding checkedNode
 returns c = (simp (le-ltb _ _ (c .if1 .taken)), omega arith)
 
-rule-at-requires : tie.Need-rule-at-requires
-rule-at-requires c κs = search needs
+whole-rule-requires : tie.Need-whole-rule-requires
+whole-rule-requires c κs = search needs
 
 enum-known-rule : tie.Need-enum-known-rule
 enum-known-rule c = search needs
@@ -23,7 +23,7 @@ returns-2 c =
     let c₆ = c₄ .before .before in
     let c₇ = c₆ .before in
     let c₁₂ = c₇ .before .before .before .before .before in
-    (simp (by-rule (c₁₂ .args .rules .now) (c₁₂ .args .edges .now) (c₁₂ .args .counts) (c₁₂ .args .c) (c₁₂ .args .b) (c₇ .if1 .left) (c₆ .rule-at .ensures) (c₄ .rule .given .1), ne-eqb _ _ (c .if2 .taken)), omega arith)
+    (simp (by-rule (c₁₂ .args .rules .now) (c₁₂ .args .edges .now) (c₁₂ .args .counts) (c₁₂ .args .c) (c₁₂ .args .b) (c₇ .if1 .left) (c₆ .whole-rule .ensures) (c₄ .rule .given .1), ne-eqb _ _ (c .if2 .taken)), omega arith)
 
 returns-3 : tie.Need-returns-3
 returns-3 c =
@@ -32,7 +32,7 @@ returns-3 c =
     let c₉ = c₇ .before .before in
     let c₁₀ = c₉ .before in
     let c₁₅ = c₁₀ .before .before .before .before .before in
-    (simp (by-rule (c₁₅ .args .rules .now) (c₁₅ .args .edges .now) (c₁₅ .args .counts) (c₁₅ .args .c) (c₁₅ .args .b) (c₁₀ .if1 .left) (c₉ .rule-at .ensures) (c₇ .rule .given .1), eq-eqb _ _ (c₃ .if2 .left), le-ltb _ _ (c .if3 .taken)), omega arith)
+    (simp (by-rule (c₁₅ .args .rules .now) (c₁₅ .args .edges .now) (c₁₅ .args .counts) (c₁₅ .args .c) (c₁₅ .args .b) (c₁₀ .if1 .left) (c₉ .whole-rule .ensures) (c₇ .rule .given .1), eq-eqb _ _ (c₃ .if2 .left), le-ltb _ _ (c .if3 .taken)), omega arith)
 
 returns-4 : tie.Need-returns-4
 returns-4 c =
@@ -42,7 +42,7 @@ returns-4 c =
     let c₁₂ = c₁₀ .before .before in
     let c₁₃ = c₁₂ .before in
     let c₁₈ = c₁₃ .before .before .before .before .before in
-    (simp (by-rule (c₁₈ .args .rules .now) (c₁₈ .args .edges .now) (c₁₈ .args .counts) (c₁₈ .args .c) (c₁₈ .args .b) (c₁₃ .if1 .left) (c₁₂ .rule-at .ensures) (c₁₀ .rule .given .1), eq-eqb _ _ (c₆ .if2 .left), lt-ltb _ _ (c₃ .if3 .left), le-ltb _ _ (c .if4 .taken)), omega arith)
+    (simp (by-rule (c₁₈ .args .rules .now) (c₁₈ .args .edges .now) (c₁₈ .args .counts) (c₁₈ .args .c) (c₁₈ .args .b) (c₁₃ .if1 .left) (c₁₂ .whole-rule .ensures) (c₁₀ .rule .given .1), eq-eqb _ _ (c₆ .if2 .left), lt-ltb _ _ (c₃ .if3 .left), le-ltb _ _ (c .if4 .taken)), omega arith)
 
 wide-requires : tie.Need-wide-requires
 wide-requires c κs = search needs
@@ -56,62 +56,35 @@ returns-5 c =
     let c₆ = c₄ .before .before in
     let c₇ = c₆ .before in
     let c₁₂ = c₇ .before .before .before .before .before in
-    (simp (by-rule (c₁₂ .args .rules .now) (c₁₂ .args .edges .now) (c₁₂ .args .counts) (c₁₂ .args .c) (c₁₂ .args .b) (c₇ .if1 .left) (c₆ .rule-at .ensures) (c₄ .rule2 .given .1), ne-eqb _ _ (c .if5 .taken)), omega arith)
+    (simp (by-rule (c₁₂ .args .rules .now) (c₁₂ .args .edges .now) (c₁₂ .args .counts) (c₁₂ .args .c) (c₁₂ .args .b) (c₇ .if1 .left) (c₆ .whole-rule .ensures) (c₄ .rule2 .given .1), ne-eqb _ _ (c .if5 .taken)), omega arith)
 
-edge-fits-requires : tie.Need-edge-fits-requires
-edge-fits-requires c κs = search needs
-
-mul-number-at : tie.Need-mul-number-at
-mul-number-at c = search needs
-
-add-number-at : tie.Need-add-number-at
-add-number-at c = search needs
-
-number-at-requires : tie.Need-number-at-requires
-number-at-requires c κs = search needs
-
-wide-requires-2 : tie.Need-wide-requires-2
-wide-requires-2 c κs = search needs
-
-add-t22 : tie.Need-add-t22
-add-t22 c = search needs
+checked-leaf-requires : tie.Need-checked-leaf-requires
+checked-leaf-requires c κs = search needs
 
 returns-6 : tie.Need-returns-6
 returns-6 c =
-    let c₃ = c .before .before .before in
-    let c₄ = c₃ .before in
-    let c₅ = c₄ .before in
-    let c₉ = c₅ .before .before .before .before in
-    let c₁₁ = c₉ .before .before in
-    let c₁₂ = c₁₁ .before in
-    let c₁₇ = c₁₂ .before .before .before .before .before in
-    (simp (by-rule (c₁₇ .args .rules .now) (c₁₇ .args .edges .now) (c₁₇ .args .counts) (c₁₇ .args .c) (c₁₇ .args .b) (c₁₂ .if1 .left) (c₁₁ .rule-at .ensures) (c₉ .rule2 .given .1), eq-eqb _ _ (c₅ .if5 .left), ← c₄ .edge-fits .ensures, c₃ .if6 .taken, ← c .before .number-at .ensures .0, ← c .wide2 .ensures .0), omega (arith, c .before .number-at .ensures .1, c .wide2 .ensures .1))
-
-returns-7 : tie.Need-returns-7
-returns-7 c =
     let c₄ = c .before .before .before .before in
     let c₇ = c₄ .before .before .before in
     let c₁₁ = c₇ .before .before .before .before in
     let c₁₃ = c₁₁ .before .before in
     let c₁₄ = c₁₃ .before in
     let c₁₉ = c₁₄ .before .before .before .before .before in
-    (simp (by-rule (c₁₉ .args .rules .now) (c₁₉ .args .edges .now) (c₁₉ .args .counts) (c₁₉ .args .c) (c₁₉ .args .b) (c₁₄ .if1 .left) (c₁₃ .rule-at .ensures) (c₁₁ .rule .given .1), eq-eqb _ _ (c₇ .if2 .left), lt-ltb _ _ (c₄ .if3 .left), lt-ltb _ _ (c .before .if4 .left), ← c .wide .ensures .0), omega (arith, c .wide .ensures .1))
+    (simp (by-rule (c₁₉ .args .rules .now) (c₁₉ .args .edges .now) (c₁₉ .args .counts) (c₁₉ .args .c) (c₁₉ .args .b) (c₁₄ .if1 .left) (c₁₃ .whole-rule .ensures) (c₁₁ .rule .given .1), eq-eqb _ _ (c₇ .if2 .left), lt-ltb _ _ (c₄ .if3 .left), lt-ltb _ _ (c .before .if4 .left), ← c .wide .ensures .0), omega (arith, c .wide .ensures .1))
 
-returns-8 : tie.Need-returns-8
-returns-8 c =
-    let c₂ = c .before .before in
-    let c₆ = c₂ .before .before .before .before in
-    let c₈ = c₆ .before .before in
-    let c₉ = c₈ .before in
-    let c₁₄ = c₉ .before .before .before .before .before in
-    (simp (by-rule (c₁₄ .args .rules .now) (c₁₄ .args .edges .now) (c₁₄ .args .counts) (c₁₄ .args .c) (c₁₄ .args .b) (c₉ .if1 .left) (c₈ .rule-at .ensures) (c₆ .rule2 .given .1), eq-eqb _ _ (c₂ .if5 .left), ← c .before .edge-fits .ensures, c .if6 .left), omega arith)
+returns-7 : tie.Need-returns-7
+returns-7 c =
+    let c₅ = c .before .before .before .before .before in
+    let c₇ = c₅ .before .before in
+    let c₈ = c₇ .before in
+    let c₁₃ = c₈ .before .before .before .before .before in
+    (rw (by-rule (c₁₃ .args .rules .now) (c₁₃ .args .edges .now) (c₁₃ .args .counts) (c₁₃ .args .c) (c₁₃ .args .b) (c₈ .if1 .left) (c₇ .whole-rule .ensures) (c₅ .rule2 .given .1), eq-eqb _ _ (c .before .if5 .left)) (c .checked-leaf .ensures .0), c .checked-leaf .ensures .1)
 
 pub checked-node-spec : {M : Type 1} → statement M
 checked-node-spec =
     tie.close
     (tie.spec
     returns
-    rule-at-requires
+    whole-rule-requires
     enum-known-rule
     returns-2
     returns-3
@@ -119,12 +92,6 @@ checked-node-spec =
     wide-requires
     enum-known-rule-2
     returns-5
-    edge-fits-requires
-    mul-number-at
-    add-number-at
-    number-at-requires
-    wide-requires-2
-    add-t22
+    checked-leaf-requires
     returns-6
-    returns-7
-    returns-8)
+    returns-7)
