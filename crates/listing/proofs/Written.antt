@@ -76,10 +76,10 @@ module _ (t rules : List ℕ) (d : Layout) (x : ℕ) (some : 1 ≤ d .places) (s
       )
 
   -- its reading as that of a graph, and what it fits into
-  abbrev pub graphReadingAt : GraphReading
+  abbrev graphReadingAt : GraphReading
   graphReadingAt = graphReadingOf rules (edgesAt t rules d x) (rootWeight t d x) (traceAt t rules d x)
 
-  pub graph-room : (R : ℕ) → 34 + widths (flds (traceEntries R (graphReadingAt .trace))) ≤ 8 * graphReadingLength (d .places) R
+  graph-room : (R : ℕ) → 34 + widths (flds (traceEntries R (graphReadingAt .trace))) ≤ 8 * graphReadingLength (d .places) R
   unfolding graphReadingLength
   graph-room R =
       let (m, p) = path in
