@@ -11,7 +11,7 @@ use spireyerba_tests::grammar;
 use std::cell::RefCell;
 use std::hint::black_box;
 
-const PLAN: Plan = Plan { rounds: 31, calls: 1 };
+const PLAN: Plan = Plan { rounds: 61, calls: 1 };
 const READINGS: usize = MAX_READINGS as usize;
 
 /// Prints the time of the listing and of one by one; of a call what it takes to read the blocks, and to read them and make the
