@@ -5,18 +5,17 @@ use crate::measure::{medians, micros, ratio, Plan};
 use crate::office;
 use crate::table::{print_head, print_row};
 use spireyerba::limits::{work_length, MAX_READINGS};
-use spireyerba::services::{check, listing, next, open, Next, Place};
+use spireyerba::services::{listing, next, open, Next, Place};
 use spireyerba::Refusal;
 use spireyerba_tests::grammar;
 use std::cell::RefCell;
 use std::hint::black_box;
 
-const PLAN: Plan = Plan { rounds: 31, calls: 1 };
+const PLAN: Plan = Plan { rounds: 61, calls: 1 };
 const READINGS: usize = MAX_READINGS as usize;
 
 /// Prints the time of the listing and of one by one; of a call what it takes to read the blocks, and to read them and make the
-/// index of their rules and edges; and how long one by one takes beside the listing, each of these apart. A call reads both
-/// blocks, and its check reads what was heard once more.
+/// index of their rules and edges; and how long one by one takes beside the listing, each of these apart.
 pub fn print_table() {
     print_head("one by one", &["n", "readings", "listing", "one by one", "blocks", "and index", "ratio", "and index"]);
     let offices = [6, 12, 24].map(|slots| office::of_slots(slots).swap_remove(0));
@@ -31,19 +30,16 @@ pub fn print_table() {
         let lent = RefCell::new(lent);
         let calls = |call: fn(&mut Lent)| (0..found).for_each(|_| call(&mut lent.borrow_mut()));
         // in this order, since the listing leaves the table all zeros, which `find_nothing` needs
-        let [single, whole, indexed, read, check, check_grammar] = medians(
+        let [single, whole, indexed, read] = medians(
             PLAN,
             [
                 &mut || lent.borrow_mut().one_by_one(found),
                 &mut || assert_eq!(lent.borrow_mut().listing(), found),
                 &mut || calls(Lent::find_nothing),
                 &mut || calls(Lent::read_blocks),
-                &mut || calls(|lent| lent.check_nothing(true)),
-                &mut || calls(|lent| lent.check_nothing(false)),
             ],
         );
-        let of_check = check.saturating_sub(check_grammar);
-        let apart = [read, indexed].map(|time| time + of_check);
+        let apart = [read, indexed];
         let each = apart.map(|time| micros(time / found.max(1) as u32));
         let ratios = apart.map(|time| ratio(single.saturating_sub(time), whole));
         let sizes = [input.heard.longest(), found].map(|number| number.to_string());
@@ -101,14 +97,5 @@ impl Lent {
         let mut place = Place { handed: 0, opened: 1 };
         let answer = next(&self.grammar, &self.heard, black_box(&mut place), &mut [], &mut []);
         assert_eq!(answer, Err(Refusal::ListingWork));
-    }
-
-    /// What a check does first: it is refused for a reading of no bytes, or before what was heard is read.
-    fn check_nothing(&self, with_heard: bool) {
-        let (heard, refusal) = match with_heard {
-            true => (&self.heard[..], Refusal::ReadingEnd),
-            false => (&[][..], Refusal::UtteranceEnd),
-        };
-        assert_eq!(check(black_box(&self.grammar), heard, &[]), Err(refusal));
     }
 }

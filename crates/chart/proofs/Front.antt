@@ -1,4 +1,4 @@
--- Zeros put again where zeros are.
+-- The front of zeros, and zeros put again where zeros are.
 use mathlib.Core.Path.{_≡_, refl, sym, ap, _∙_}
 use mathlib.Core.List.{List, _∷_, _++_}
 use Prim.Native.Nat.{ℕ, zero, suc, _≤_}
@@ -6,7 +6,7 @@ use native.Mathlib.Omega.{arith}
 use lib.ListN.{length, take, drop, replicate, length-replicate, take-append-drop}
 use lib.Seq.{length-take-le}
 
-take-zeros : (k j : ℕ) → j ≤ k → take j (replicate {A = ℕ} k 0) ≡ replicate j 0
+pub take-zeros : (k j : ℕ) → j ≤ k → take j (replicate {A = ℕ} k 0) ≡ replicate j 0
 take-zeros k zero h = refl
 take-zeros zero (suc j) h = absurd (omega arith)
 take-zeros (suc k) (suc j) h = ap (λ (l : List ℕ). 0 ∷ l) (take-zeros k j (omega arith))

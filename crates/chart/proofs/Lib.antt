@@ -1,3 +1,4 @@
--- The sizes of a table.
+-- The sizes of a table, its front, and the checked trace of the root.
 pub mod Sizes
 pub mod Front
+pub mod Checked

@@ -1,6 +1,7 @@
 -- The chart as its callers see it: laid out, enumerated, traced back, cleared.
 -- Nobody need believe this page: the theorems of chart_theory join it to the derivations. Assumes nothing.
-use mathlib.Core.Bool.{Bool, not}
+use mathlib.Core.Bool.{Bool, false, not}
+use mathlib.Core.Option.{Option, none, some}
 use mathlib.Core.List.{List}
 use Prim.Native.Nat.{ℕ, _+_, _-_, _*_, _/_}
 use lib.Dec.{eqb}
@@ -11,7 +12,9 @@ use Rattle.chart_table.specs.Table.{root, cellNumber, priceAt, countFound}
 use Rattle.chart_index.specs.Index.{indexNumbers}
 use Rattle.chart_index.specs.Build.{makeIndex}
 use Rattle.chart_search.specs.Search.{search}
-use Rattle.chart_trace.specs.Trace.{traceBack, stands}
+use Rattle.chart_trace.specs.Trace.{traceBack}
+use Rattle.chart_trace.specs.Checked.{spelledWeight}
+use Rattle.chart_trace.specs.declared.checked.Counts.{Counts}
 
 -- the layout of a table for N ranks of each cell, over S symbols and n places
 unfoldable pub layOut : ℕ → ℕ → ℕ → Layout
@@ -32,9 +35,14 @@ rootWeight t d rank = (priceAt t d (cellNumber d (root d)) rank - 1) / weightUni
 unfoldable pub rootTrace : List ℕ → List ℕ → Layout → ℕ → List ℕ
 rootTrace t rules d rank = traceBack t rules d (d .places) (root d) rank
 
--- whether that rank is found, and whether its tree stands in the table
+-- whether that rank is found
 unfoldable pub rootFound : List ℕ → Layout → ℕ → Bool
 rootFound t d rank = not (eqb (priceAt t d (cellNumber d (root d)) rank) 0)
 
-unfoldable pub rootStands : List ℕ → List ℕ → Layout → ℕ → Bool
-rootStands t rules d rank = stands t rules d (d .places) (root d) rank
+-- whether it spells a tree, and one of the weight that its price says
+abbrev pub weighs : Option ℕ → ℕ → Bool
+weighs none w = false
+weighs (some v) w = eqb v w
+
+unfoldable pub rootSpelled : (t rules edges : List ℕ) → Counts → Layout → ℕ → Bool
+rootSpelled t rules edges k d rank = weighs (spelledWeight t rules edges k d (d .places) (root d) rank) (rootWeight t d rank)

@@ -1,4 +1,6 @@
 // The ranks of the root one by one, in a table that comes back as it was left, and what was written over put back.
+use crate::root_weight;
+use arrays::wide;
 use chart_index::make_index;
 use chart_search::next_of_root;
 use chart_table::Layout;
@@ -7,14 +9,20 @@ use chart_table::cell_number;
 use chart_table::journal::put_back;
 use chart_table::price_at;
 use chart_table::root;
-use chart_trace::stands;
+use chart_trace::checked::Counts;
+use chart_trace::checked::Traced;
+use chart_trace::checked::trace_checked;
 ghost use mathlib.Core.Path.{_≡_};
+ghost use mathlib.Core.Bool.{true};
 ghost use Prim.Native.Nat.{_+_, _≤_, _<_};
+ghost use lib.ListN.{length};
+ghost use Rattle.bits.specs.Bits.{pick};
+ghost use Rattle.packing.specs.Store.{storeAll};
 ghost use Rattle.chart_index.specs.Build.{makeIndex};
 ghost use Rattle.chart_table.specs.Journal.{putBack};
 ghost use Rattle.chart_table.specs.Table.{Sized};
 ghost use Rattle.chart_search.specs.Search.{nextOfRoot, keepOfRoot};
-ghost use Rattle.chart.specs.Chart.{rootFound, rootStands};
+ghost use Rattle.chart.specs.Chart.{rootTrace, rootFound, rootSpelled};
 
 // The index of the first `count` rules and of the first `arcs` edges.
 pub fn index_of(
@@ -63,18 +71,34 @@ pub fn root_found(t: &[u32], d: Layout, rank: usize) -> bool
     price_at(t, d, cell_number(d, root(d)), rank) != 0
 }
 
-// Whether its tree stands in the table: whether the ranks of all its parts are found too.
-pub fn root_stands(t: &[u32], rules: &[u32], d: Layout, rank: usize) -> bool
+// Writes the trace of a rank of the root, each node checked, and answers how many numbers it has: 0 where the table spells no tree there, or
+// one of another weight than its price says.
+pub fn checked_root(
+    t: &[u32],
+    rules: &[u32],
+    edges: &[u32],
+    counts: Counts,
+    d: Layout,
+    rank: usize,
+    trace: &mut [u32],
+) -> usize
     requires { ⌜ (Sized d) × (0 < d .places) × (rank < d .ranks) ⌝ }
-    ensures { λ r. ⌜ r ≡ rootStands (now (t .entry)) (now (rules .entry)) d rank ⌝ }
+    ensures { λ r. ⌜ r ≡ pick (rootSpelled (now (t .entry)) (now (rules .entry)) (now (edges .entry)) counts d rank) (length (rootTrace (now (t .entry)) (now (rules .entry)) d rank)) 0 ⌝ }
+    ensures { λ r. ⌜ (rootSpelled (now (t .entry)) (now (rules .entry)) (now (edges .entry)) counts d rank ≡ true
+        → now (trace .exit) ≡ storeAll (now (trace .entry)) 0 (rootTrace (now (t .entry)) (now (rules .entry)) d rank)) ⌝ }
 {
-    stands(
-        t,
-        rules,
-        d,
-        Part {
-            cell: root(d),
-            rank,
-        },
-    )
+    let part = Part {
+        cell: root(d),
+        rank,
+    };
+    let traced = trace_checked(t, rules, edges, counts, d, part, trace);
+    match traced {
+        Traced::Nothing => 0,
+        Traced::Tree(numbers, weight) => {
+            if weight == wide(root_weight(t, d, rank)) {
+                return numbers;
+            }
+            0
+        }
+    }
 }

@@ -5,6 +5,7 @@ use Prim.Native.Nat.{ℕ, zero, suc, _+_, _*_, _/_, _%_}
 use lib.Dec.{ltb}
 use lib.ListN.{getD, set}
 use Rattle.bits.specs.Bits.{pick}
+use Rattle.chart_table.specs.declared.journal.EntryNumbers.{EntryNumbers}
 
 -- the most entries that are kept
 abbrev pub mostKept : ℕ
@@ -14,15 +15,22 @@ mostKept = 188
 abbrev pub keptAt : ℕ → ℕ
 keptAt x = 1 + 6 * x
 
+-- the numbers of the entry that starts at a place of the table
+abbrev pub entryNumbers : List ℕ → ℕ → EntryNumbers
+entryNumbers t at = record { first = getD t at 0; second = getD t (at + 1) 0; third = getD t (at + 2) 0; fourth = getD t (at + 3) 0 }
+
+-- where it starts and its numbers, written to a place of the journal k
+unfoldable pub writeKept : (k : List ℕ) → (to at : ℕ) → EntryNumbers → List ℕ
+writeKept k to at e =
+    set (set (set (set (set (set k to (at % 4294967296)) (to + 1) (at / 4294967296)) (to + 2) (e .first)) (to + 3) (e .second)) (to + 4) (e .third)) (to + 5)
+    (e .fourth)
+
 -- the entry that starts at a place of the table t is kept in the journal k, if that has room
 unfoldable pub keepEntry : (t k : List ℕ) → ℕ → List ℕ
+unfolding writeKept
 keepEntry t k at =
     let n = getD k 0 0 in
-    let to = keptAt n in
-    pick (ltb n mostKept)
-    (set (set (set (set (set (set (set k to (at % 4294967296)) (to + 1) (at / 4294967296)) (to + 2) (getD t at 0)) (to + 3) (getD t (at + 1) 0)) (to + 4)
-    (getD t (at + 2) 0)) (to + 5) (getD t (at + 3) 0)) 0 (n + 1))
-    k
+    pick (ltb n mostKept) (set (writeKept k (keptAt n) at (entryNumbers t at)) 0 (n + 1)) k
 
 -- the kept entry x is put back
 unfoldable pub restoreEntry : (k : List ℕ) → ℕ → List ℕ → List ℕ

@@ -6,8 +6,8 @@ use arrays::number_at;
 use arrays::store;
 ghost use mathlib.Core.Path.{_≡_};
 ghost use Prim.Native.Nat.{_+_, _<_};
-ghost use lib.ListN.{set};
-ghost use Rattle.chart_table.specs.Journal.{keepEntry, restoreEntry, putBack};
+ghost use lib.ListN.{length, set};
+ghost use Rattle.chart_table.specs.Journal.{entryNumbers, writeKept, keepEntry, restoreEntry, putBack};
 
 // The most entries that are kept.
 pub const MOST_KEPT: usize = 188;
@@ -17,6 +17,65 @@ const KEPT_NUMBERS: usize = 6;
 
 pub const JOURNAL_NUMBERS: usize = 1 + KEPT_NUMBERS * MOST_KEPT;
 
+// The four numbers of an entry.
+struct EntryNumbers {
+    first: u32,
+    second: u32,
+    third: u32,
+    fourth: u32,
+}
+
+// The numbers of the entry that starts at a place of the table. One test suffices where all four stand in it.
+fn numbers_at(t: &[u32], at: usize) -> EntryNumbers
+    requires { ⌜ at < 17592186044416 ⌝ }
+    ensures { λ e. ⌜ e ≡ entryNumbers (now (t .entry)) at ⌝ }
+{
+    if at + 3 < t.len() {
+        return EntryNumbers {
+            first: t[at],
+            second: t[at + 1],
+            third: t[at + 2],
+            fourth: t[at + 3],
+        };
+    }
+    EntryNumbers {
+        first: narrow_at(t, at),
+        second: narrow_at(t, at + 1),
+        third: narrow_at(t, at + 2),
+        fourth: narrow_at(t, at + 3),
+    }
+}
+
+// Writes where an entry starts and its numbers to a place of the journal that has room for them.
+fn write_within(kept: &mut [u32], to: usize, at: usize, entry: EntryNumbers)
+    requires { ⌜ (to + 5 < length (now kept)) × (at < 17592186044416) ⌝ }
+    ensures { λ _. ⌜ now (kept .exit) ≡ writeKept (now (kept .entry)) to at entry ⌝ }
+{
+    kept[to] = (at % NUMBERS) as u32;
+    kept[to + 1] = (at / NUMBERS) as u32;
+    kept[to + 2] = entry.first;
+    kept[to + 3] = entry.second;
+    kept[to + 4] = entry.third;
+    kept[to + 5] = entry.fourth;
+}
+
+// The same to any place of the journal.
+fn write_kept(kept: &mut [u32], to: usize, at: usize, entry: EntryNumbers)
+    requires { ⌜ (to < 65536) × (at < 17592186044416) ⌝ }
+    ensures { λ _. ⌜ now (kept .exit) ≡ writeKept (now (kept .entry)) to at entry ⌝ }
+{
+    if to + KEPT_NUMBERS - 1 < kept.len() {
+        write_within(kept, to, at, entry);
+        return;
+    }
+    store(kept, to, (at % NUMBERS) as u32);
+    store(kept, to + 1, (at / NUMBERS) as u32);
+    store(kept, to + 2, entry.first);
+    store(kept, to + 3, entry.second);
+    store(kept, to + 4, entry.third);
+    store(kept, to + 5, entry.fourth);
+}
+
 // Keeps the entry that starts at a place of the table.
 pub fn keep_entry(t: &[u32], kept: &mut [u32], at: usize)
     requires { ⌜ at < 17592186044416 ⌝ }
@@ -24,13 +83,7 @@ pub fn keep_entry(t: &[u32], kept: &mut [u32], at: usize)
 {
     let n = number_at(&kept[..], 0);
     if n < MOST_KEPT {
-        let to = 1 + KEPT_NUMBERS * n;
-        store(kept, to, (at % NUMBERS) as u32);
-        store(kept, to + 1, (at / NUMBERS) as u32);
-        store(kept, to + 2, narrow_at(t, at));
-        store(kept, to + 3, narrow_at(t, at + 1));
-        store(kept, to + 4, narrow_at(t, at + 2));
-        store(kept, to + 5, narrow_at(t, at + 3));
+        write_kept(kept, 1 + KEPT_NUMBERS * n, at, numbers_at(t, at));
         store(kept, 0, (n + 1) as u32);
     }
 }

@@ -12,12 +12,11 @@ use borrow.Author.Tests.{eq-eqb, ne-eqb}
 use Rattle.packing.specs.Meaning.{Grammar, Heard, slots, graph, lastPlace, heardEdges}
 use Rattle.packing.specs.Utterance.{utteranceEntries}
 use Rattle.packing.specs.Valid.{ValidGrammar, ValidHeard}
-use Rattle.packing.specs.Flat.{Begins, ruleNumbers, edgeNumbers, nodesIn}
+use Rattle.packing.specs.Flat.{Begins, ruleNumbers, edgeNumbers}
 use Rattle.packing.proofs.Flat.{rule-at, edge-at}
 use Rattle.packing.proofs.Graph.{valid-places, valid-edge-count}
 use Rattle.packing.proofs.Redrawn.{slots-edges}
-use Rattle.derivation.specs.Derivation.{At, Tree, weight}
-use Rattle.derivation.specs.Heard.{trace}
+use Rattle.derivation.specs.Derivation.{At, Tree, Derivation}
 use Rattle.derivation.specs.HeardList.{derivations, leastDerivations}
 use Rattle.derivation.proofs.Lists.{at-take}
 use Rattle.derivation.proofs.Ranges.{all-at, Within, valid-rules, valid-sizes, valid-within, valid-light}
@@ -30,11 +29,13 @@ use Rattle.chart_index.specs.Index.{indexNumbers}
 use Rattle.chart_index.specs.Build.{makeIndex}
 use Rattle.chart_index.proofs.Index.{indexed}
 use Rattle.chart_search.specs.Search.{nextOfRoot}
-use Rattle.chart.specs.Chart.{layOut, enumerate, rootsFound, rootWeight, rootTrace, rootFound, rootStands}
+use Rattle.chart_trace.specs.declared.checked.Counts.{Counts}
+use Rattle.chart.specs.Chart.{layOut, enumerate, rootsFound, rootFound, rootSpelled}
+use Rattle.chart_theory.specs.Spelled.{Spelled}
 use Rattle.chart_theory.proofs.Table.Cells.{InChart}
 use Rattle.chart_theory.proofs.Invariant.{Setting}
 use Rattle.chart_theory.proofs.Search.Passes.{Listed, next-known}
-use Rattle.chart_theory.proofs.Chart.{Lists, search-lists, FirstIs, search-firsts, known-step, first-listed, front-size}
+use Rattle.chart_theory.proofs.Chart.{RootHas, Lists, search-lists, FirstIs, search-firsts, root-sound, known-step, first-listed, front-size}
 
 -- there is a place behind the first, and at most 7 edges for each slot, or 96
 pub heard-sizes : (W : ℕ) (h : Heard) → ValidHeard W h → (1 ≤ lastPlace h) × (length (heardEdges h) ≤ 168)
@@ -50,8 +51,7 @@ module _ (g : Grammar) (h : Heard) (N : ℕ) where
   -- rank x, from 0, as a table has it, is the derivation z
   pub record HoldsRank (rules t : List ℕ) (x : ℕ) (z : Tree) : Type 0 where
     pub place : At (leastDerivations g h N) x z
-    pub weighs : rootWeight t layout x ≡ weight g (heardEdges h) z
-    pub nodes : nodesIn rules (rootTrace t rules layout x) ≡ trace z
+    pub has : RootHas g (heardEdges h) rules layout t x z
 
   -- a table holds the list of the N least derivations, of which there are m, and is zeros once it is cleared
   pub record Holds (rules t : List ℕ) (m : ℕ) : Type 0 where
@@ -71,7 +71,7 @@ module _ (g : Grammar) (h : Heard) (N : ℕ) where
       each x l =
           let (z, rank) = lists .each x l in
           let kept : x < N = omega (arith, lists .number) in
-          (z, record { place = at-take N (derivations g h) x z .1 (rank .place, kept); weighs = rank .weighs; nodes = rank .nodes })
+          (z, record { place = at-take N (derivations g h) x z .1 (rank .place, kept); has = rank .has })
 
   module _ (okg : ValidGrammar g) (okh : ValidHeard (g .words) h) (least : 1 ≤ N) (most : N ≤ 256) (rules edge-array : List ℕ)
       (has-rules : Begins (ruleNumbers g) rules) (has-edges : Begins (edgeNumbers (heardEdges h)) edge-array) where
@@ -142,10 +142,19 @@ module _ (g : Grammar) (h : Heard) (N : ℕ) where
     unfolding enumerate layOut
     front-filled = front-size setting in-root
 
+    -- what passes the checked back trace of any table is a derivation
+    abbrev pub counts : Counts
+    counts = record { rules = length (g .rules); edges = length (heardEdges h) }
+
+    pub passed-spelled : (t : List ℕ) (x : ℕ) → rootSpelled t rules edge-array counts layout x ≡ true
+        → (z : Tree) × Derivation g h z × RootHas g (heardEdges h) rules layout t x z × Spelled g layout t z (root layout) x
+    unfolding layOut
+    passed-spelled t x = root-sound setting in-root t x
+
     -- and then rank x is the derivation of that place, or there is none
     pub record Reached (t : List ℕ) (x : ℕ) : Type 0 where
       pub some : x < length (derivations g h)
-          → (rootFound t layout x ≡ true) × (rootStands t rules layout x ≡ true) × ((z : Tree) × HoldsRank rules t x z)
+          → (rootFound t layout x ≡ true) × (rootSpelled t rules edge-array counts layout x ≡ true) × ((z : Tree) × HoldsRank rules t x z)
       pub none : length (derivations g h) ≤ x → rootFound t layout x ≡ false
 
     pub rank-reached : (t : List ℕ) (x : ℕ) → Listed g (heardEdges h) layout x t → x < N → Reached t x
@@ -154,10 +163,10 @@ module _ (g : Grammar) (h : Heard) (N : ℕ) where
         let step = known-step setting in-root t x listed kept in
         record {
           some = λ below.
-              let (found, standing, (z, rank)) = step .some below in (
+              let (found, passes, (z, rank)) = step .some below in (
                 rw (ne-eqb (priceAt t layout (cellNumber layout (root layout)) x) 0 (λ e. omega (arith, e, found))),
-                standing,
-                (z, record { place = at-take N (derivations g h) x z .1 (rank .place, kept); weighs = rank .weighs; nodes = rank .nodes }),
+                passes,
+                (z, record { place = at-take N (derivations g h) x z .1 (rank .place, kept); has = rank .has }),
               );
           none = λ beyond. rw (eq-eqb (priceAt t layout (cellNumber layout (root layout)) x) 0 (step .none beyond));
         }

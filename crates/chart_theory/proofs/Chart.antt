@@ -3,41 +3,48 @@
 -- clearing the entries found leaves zeros. For the search keeps the invariant, and in the end knows every rank that is kept, and the first of
 -- every cell.
 use mathlib.Core.Path.{_≡_, refl, sym, ap, _∙_}
-use mathlib.Core.Bool.{true}
-use mathlib.Core.Option.{none}
+use mathlib.Core.Bool.{true, false≢true}
+use mathlib.Core.Option.{Option, none, some}
 use mathlib.Core.List.{List, [], _∷_, _++_}
 use Prim.Native.Nat.{ℕ, zero, suc, _+_, _-_, _*_, _/_, _≤_, _<_, min}
 use native.Mathlib.Nat.{le-refl, zero-add, suc-add}
 use native.Mathlib.Decide.{decLt}
 use native.Mathlib.Omega.{arith}
 use lib.ListN.{length, getElem?, replicate, length-replicate}
+use borrow.Author.Tests.{eqb-true, eq-eqb}
 use Rattle.packing.specs.Meaning.{Grammar, Edge}
 use Rattle.packing.specs.Flat.{nodesIn}
 use Rattle.derivation.specs.Derivation.{At, Tree, weight}
 use Rattle.derivation.specs.Heard.{trace}
 use Rattle.derivation.proofs.Lists.{none≢some, at-length}
-use Rattle.derivation.proofs.Rows.{Price, price, weightIn, costsIn, rowPrice, row-price}
+use Rattle.derivation.proofs.Rows.{Price, price, weightIn, costsIn, rowPrice, row-price, row-derives}
 use Rattle.chart_keys.specs.Keys.{weightUnit}
 use Rattle.chart_table.specs.declared.Cell.{Cell}
 use Rattle.chart_table.specs.declared.Layout.{Layout}
 use Rattle.chart_table.specs.Table.{root, cellNumber, clear}
 use Rattle.packing.specs.Loop.{iter}
 use Rattle.chart_search.specs.Search.{search}
-use Rattle.chart.specs.Chart.{rootsFound, rootWeight, rootTrace, rootStands}
+use Rattle.chart_trace.specs.Checked.{spelledWeight}
+use Rattle.chart.specs.Chart.{rootsFound, rootWeight, rootTrace, weighs, rootSpelled}
+use Rattle.chart_theory.specs.Spelled.{Spelled}
 use Rattle.chart_theory.proofs.Table.Keys.{priceNumber}
-use Rattle.chart_theory.proofs.Table.Cells.{InChart, rankedIn}
+use Rattle.chart_theory.proofs.Table.Cells.{InChart, rankedIn, DerivesIn}
 use Rattle.chart_theory.proofs.Table.Entries.{cell-below, found-kept}
 use Rattle.chart_theory.proofs.Table.Cleared.{clear-zeros}
 use Rattle.chart_theory.proofs.Invariant.{Setting, priceIn, Found, Invariant}
 use Rattle.chart_theory.proofs.Search.Passes.{Zeros, zeros-invariant, Listed, steps-known, search-known, found-exactly, count-found}
-use Rattle.chart_theory.proofs.Search.Trace.{traced, stood}
+use Rattle.chart_theory.proofs.Search.Trace.{traced, found-spelled}
+use Rattle.chart_theory.proofs.Search.Checked.{counts, weighed, spelled-sound}
 use Rattle.chart_theory.proofs.Plane.{single, pass-plane, pass-size}
 
--- rank x of the root is the tree z
-pub record RankIs (g : Grammar) (es : List Edge) (rules : List ℕ) (d : Layout) (t : List ℕ) (x : ℕ) (z : Tree) : Type 0 where
-  pub place : At (rankedIn g es (root d)) x z
+-- rank x of the root has the weight of the tree z, and its back trace has the nodes; and it is the tree of that place
+pub record RootHas (g : Grammar) (es : List Edge) (rules : List ℕ) (d : Layout) (t : List ℕ) (x : ℕ) (z : Tree) : Type 0 where
   pub weighs : rootWeight t d x ≡ weight g es z
   pub nodes : nodesIn rules (rootTrace t rules d x) ≡ trace z
+
+pub record RankIs (g : Grammar) (es : List Edge) (rules : List ℕ) (d : Layout) (t : List ℕ) (x : ℕ) (z : Tree) : Type 0 where
+  pub place : At (rankedIn g es (root d)) x z
+  pub has : RootHas g es rules d t x z
 
 -- as many ranks of the root are found as are kept, or as there are, and each is the tree of its place; clearing leaves zeros
 pub record Lists (g : Grammar) (es : List Edge) (rules : List ℕ) (d : Layout) (t : List ℕ) : Type 0 where
@@ -94,19 +101,48 @@ module _ {g : Grammar} {es : List Edge} {rules edges index : List ℕ} {d : Layo
       go e (no absent) = omega arith
 
   module _ (in-root : InChart d (root d)) where
-    -- a rank of the root that is found
-    pub rank-found : {k : ℕ} (t : List ℕ) → Listed g es d k t → (x : ℕ) → Found d t (root d) x → (z : Tree) × RankIs g es rules d t x z
+    -- a rank of the root that is found spells the tree of that place
+    pub rank-found : {k : ℕ} (t : List ℕ) → Listed g es d k t → (x : ℕ) → Found d t (root d) x
+        → (z : Tree) × RankIs g es rules d t x z × DerivesIn g es (root d) z × Spelled g d t z (root d) x
     unfolding rootWeight rootTrace
     rank-found t listed x found =
         let (v, held) = listed .invariant .holds x in-root found in
-        let (z, place, o) = held .place in (
+        let (z, place, o) = held .place in
+        let derives = row-derives g es o in
+        let spelled = found-spelled s t (listed .invariant) (d .places) (root d) x z in-root (omega arith) found place in (
           z,
           record {
             place = place;
-            weighs = weight-of (rowPrice v) (held .priced) (held .fits .cheap) ∙ ap weightIn (row-price g es o);
-            nodes = traced s (listed .invariant) (d .places) (root d) x z in-root (omega arith) found place;
+            has = record {
+              weighs = weight-of (rowPrice v) (held .priced) (held .fits .cheap) ∙ ap weightIn (row-price g es o);
+              nodes = traced s t (d .places) (root d) x z spelled derives (in-root .order) (omega arith);
+            };
           },
+          derives,
+          spelled,
         )
+
+    -- in any table, what passes the checked back trace spells a tree
+    pub root-sound : (t : List ℕ) (x : ℕ) → rootSpelled t rules edges (counts s) d x ≡ true
+        → (z : Tree) × DerivesIn g es (root d) z × RootHas g es rules d t x z × Spelled g d t z (root d) x
+    unfolding rootSpelled rootTrace
+    root-sound t x e = go (spelledWeight t rules edges (counts s) d (d .places) (root d) x) refl e
+      where
+        go : (o : Option ℕ) → spelledWeight t rules edges (counts s) d (d .places) (root d) x ≡ o → weighs o (rootWeight t d x) ≡ true
+            → (z : Tree) × DerivesIn g es (root d) z × RootHas g es rules d t x z × Spelled g d t z (root d) x
+        go none h e = absurd (false≢true e)
+        go (some w) h e =
+            let (z, derives, spelled) = spelled-sound s t (d .places) (root d) x w h in
+            let sum = weighed s t (d .places) (root d) x spelled derives (in-root .order) (omega arith) in
+            let same : w ≡ weight g es z = cc in (
+              z,
+              derives,
+              record {
+                weighs = sym (eqb-true _ _ e) ∙ same;
+                nodes = traced s t (d .places) (root d) x z spelled derives (in-root .order) (omega arith);
+              },
+              spelled,
+            )
 
     module _ (t : List ℕ) (listed : Listed g es d (d .ranks - 1) t) where
       number : rootsFound t d ≡ min (d .ranks) (length (rankedIn g es (root d)))
@@ -114,8 +150,10 @@ module _ {g : Grammar} {es : List Edge} {rules edges index : List ℕ} {d : Layo
       number = count-found t d (cellNumber d (root d)) _ (λ x kept. found-exactly s in-root (d .ranks - 1) t listed x (omega arith) kept)
 
       each : (x : ℕ) → x < rootsFound t d → (z : Tree) × RankIs g es rules d t x z
-      each x h = rank-found t listed x
-          (found-exactly s in-root (d .ranks - 1) t listed x (omega (arith, number)) (omega (arith, number)) .1 (omega (arith, number)))
+      each x h =
+          let found = found-exactly s in-root (d .ranks - 1) t listed x (omega (arith, number)) (omega (arith, number)) .1 (omega (arith, number)) in
+          let (z, rank, derives, spelled) = rank-found t listed x found in
+          (z, rank)
 
     -- the first rank of every cell is found, with the weight of the cell's first tree, or the cell has none
     pub search-firsts : (size : ℕ) → 4 * (d .cells * d .ranks) ≤ size → (c : Cell) → InChart d c
@@ -132,21 +170,23 @@ module _ {g : Grammar} {es : List Edge} {rules edges index : List ℕ} {d : Layo
         let listed = search-known s in-root (replicate size 0) zeros in
         record { number = number _ listed; each = each _ listed; clears = invariant-clears (listed .invariant) }
 
-    -- the ranks of the root one by one. Rank x, known, is the tree of that place, and it stands, or there is none
+    -- the ranks of the root one by one. Rank x, known, is the tree of that place, and it passes the checked back trace, or there is none
     pub record Step (t : List ℕ) (x : ℕ) : Type 0 where
-      pub some : x < length (rankedIn g es (root d)) → Found d t (root d) x × (rootStands t rules d x ≡ true) × ((z : Tree) × RankIs g es rules d t x z)
+      pub some : x < length (rankedIn g es (root d)) → Found d t (root d) x × (rootSpelled t rules edges (counts s) d x ≡ true) × ((z : Tree) × RankIs g es rules d t x z)
       pub none : length (rankedIn g es (root d)) ≤ x → priceIn d t (root d) x ≡ 0
 
     pub known-step : (t : List ℕ) (x : ℕ) → Listed g es d x t → x < d .ranks → Step t x
-    unfolding rootStands
+    unfolding rootSpelled
     known-step t x listed kept =
         let exactly = found-exactly s in-root x t listed x (le-refl x) kept in
         record {
-          some = λ h. let found = exactly .1 h in (
-            found,
-            stood s (listed .invariant) (d .places) (root d) x in-root (omega arith) found,
-            rank-found t listed x found,
-          );
+          some = λ h.
+              let found = exactly .1 h in
+              let (z, rank, derives, spelled) = rank-found t listed x found in (
+                found,
+                rw (weighed s t (d .places) (root d) x spelled derives (in-root .order) (omega arith)) (eq-eqb _ _ (sym (rank .has .weighs))),
+                (z, rank),
+              );
           none = λ h. go (decLt 0 (priceIn d t (root d) x)) (exactly .0) h;
         }
       where

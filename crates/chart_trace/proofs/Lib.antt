@@ -1,5 +1,6 @@
--- The trace of a cell, the parts that are pending, and the shape of a trace.
+-- The trace of a cell, the parts that are pending, and the shape of a trace; what a rank of a cell spells, and the weights to come.
 pub mod Trace
 pub mod Pending
 pub mod Shape
-pub mod Standing
+pub mod Spelled
+pub mod Weighing

@@ -23,20 +23,20 @@ use Rattle.chart_table.specs.declared.Part.{Part}
 use Rattle.chart_trace.proofs.Trace.{ruleWithin, pair-within, backOf, traceOf, trace-pair, trace-leaf}
 
 -- a part
-abbrev part : Cell → ℕ → Part
+abbrev pub part : Cell → ℕ → Part
 part c x = record { cell = c; rank = x }
 
 -- a part that begins where another ends, as one number, and back
-abbrev partNumber : Sym → ℕ → ℕ → ℕ
+abbrev pub partNumber : Sym → ℕ → ℕ → ℕ
 partNumber a k x = (a .0 * 32 + k) * 256 + x
 
-abbrev endOf : ℕ → ℕ
+abbrev pub endOf : ℕ → ℕ
 endOf e = e / 256 % 32
 
-abbrev partOf : ℕ → ℕ → Part
+abbrev pub partOf : ℕ → ℕ → Part
 partOf from e = part (cell (symbolOf (e / 8192)) from (endOf e)) (e % 256)
 
-end-number : (h k x : ℕ) → k ≤ 31 → x < 256 → ((h * 32 + k) * 256 + x) / 256 % 32 ≡ k
+pub end-number : (h k x : ℕ) → k ≤ 31 → x < 256 → ((h * 32 + k) * 256 + x) / 256 % 32 ≡ k
 end-number h k x l m = omega arith
 
 head-number : (h k x : ℕ) → k ≤ 31 → x < 256 → ((h * 32 + k) * 256 + x) / 8192 ≡ h
@@ -45,7 +45,7 @@ head-number h k x l m = omega arith
 rank-number : (h k x : ℕ) → x < 256 → ((h * 32 + k) * 256 + x) % 256 ≡ x
 rank-number h k x m = omega arith
 
-part-number : (from : ℕ) (a : Sym) (k x : ℕ) → k ≤ 31 → x < 256 → partOf from (partNumber a k x) ≡ part (cell a from k) x
+pub part-number : (from : ℕ) (a : Sym) (k x : ℕ) → k ≤ 31 → x < 256 → partOf from (partNumber a k x) ≡ part (cell a from k) x
 part-number from a k x l m = rw (end-number (a .0) k x l m, head-number (a .0) k x l m, rank-number (a .0) k x m)
 
 -- the first n numbers are parts that join end to end from one place on, at most to another

@@ -1,2 +1,3 @@
--- The back trace.
+-- The back trace, and the one that checks.
 pub mod Trace
+pub mod Checked

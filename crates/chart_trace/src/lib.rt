@@ -1,4 +1,6 @@
 // The back trace of a tree from the back pointers of found ranks: two numbers for each node.
+pub mod checked;
+
 use arrays::rule_at;
 use arrays::store;
 use arrays::wide;
@@ -12,8 +14,6 @@ use chart_table::Part;
 use chart_table::back_at;
 use chart_table::cell_number;
 use chart_table::left_part;
-use chart_table::price_at;
-use chart_table::right_part;
 use packing::Rule;
 use packing::Sym;
 use packing::Word;
@@ -29,7 +29,7 @@ ghost use Rattle.packing.specs.Store.{storeAll};
 ghost use Rattle.packing.specs.declared.Rule.the-variants as Rule;
 ghost use Rattle.chart_keys.specs.Keys.{backPointer, Digits};
 ghost use Rattle.chart_table.specs.Table.{mostRanks, cell, InTable, cellNumber, backAt};
-ghost use Rattle.chart_trace.specs.Trace.{traceBack, stands};
+ghost use Rattle.chart_trace.specs.Trace.{traceBack};
 
 // Writes the rule number of a part's node and the number of its left part, which of a leaf is its edge's, and answers its back
 // pointer.
@@ -122,37 +122,5 @@ pub fn trace_back(
         }
         n = n - 1;
         part = part_of(cell.to, stack[n]);
-    }
-}
-
-// Whether the tree of a rank of a cell stands in the table: whether that rank is found, and with it those of its parts, down to the
-// leaves.
-pub fn stands(t: &[u32], rules: &[u32], d: Layout, part: Part) -> bool
-    requires { ⌜ (InTable d (part .cell)) × (part .rank ≤ mostRanks) ⌝ }
-    ensures { λ r. ⌜ ((f : ℕ) → part .cell .to - part .cell .from ≤ f → r ≡ stands (now (t .entry)) (now (rules .entry)) d f (part .cell) (part .rank)) ⌝ }
-{
-    let cell = part.cell;
-    let number = cell_number(d, cell);
-    if price_at(t, d, number, part.rank) == 0 {
-        return false;
-    }
-    let back = back_pointer(back_at(t, d, number, part.rank));
-    let rule = rule_within(rules, cell, back);
-    match rule {
-        Rule::Pair(_, first, second, _) => {
-            let left = Part {
-                cell: left_part(cell, first, back.split),
-                rank: back.left,
-            };
-            let right = Part {
-                cell: right_part(cell, second, back.split),
-                rank: back.right,
-            };
-            if stands(t, rules, d, left) {
-                return stands(t, rules, d, right);
-            }
-            false
-        }
-        Rule::Word(_, _, _) => true,
     }
 }

@@ -76,7 +76,7 @@ module _ (g : Grammar) (okg : ValidGrammar g) (rules : List ℕ) (has-rules : Be
         let p = first-place g u f in
         let n : ¬ (rootsFound table (layout g (slots u) 1) ≡ 0) = λ e. none-first (sym (pass-none e) ∙ p) in
         let (z, first, rank) = pass-some n in
-        rank .weighs ∙ first-weighs z first
+        rank .has .weighs ∙ first-weighs z first
       where
         first-weighs : (z : Tree) → First g u z → weight g (edges u) z ≡ weightOf g (edges u) (firstOf g (edges u) (length u))
         first-weighs z first = rw (first-place g u first)
@@ -116,7 +116,7 @@ module _ (g : Grammar) (okg : ValidGrammar g) (rules : List ℕ) (has-rules : Be
           → (m : Utterance) → edges m ≡ raised (edgesOf z) (edges low) (edges high) → Begins (edgeNumbers (edges m)) (given mixed)
       mixed-has z first rank m is =
           let n = risen-edges low high risen in
-          rw (is, rank .nodes) (raise-tree (edges high) high-array has-high g (edges low) n (first .derivation) (edges low) low-array n has-low)
+          rw (is, rank .has .nodes) (raise-tree (edges high) high-array has-high g (edges low) n (first .derivation) (edges low) low-array n has-low)
 
       pub passed-answer : given passed ≡ answered (answer g low high)
       unfolding answer answerOf
@@ -129,10 +129,10 @@ module _ (g : Grammar) (okg : ValidGrammar g) (rules : List ℕ) (has-rules : Be
               let (m, o, is) = own-high low high risen z in
               let lengths = risen-edges low high risen in
               let own : nodesWeight rules high-array (given firstNodes) ≡ weight g (edges high) z =
-              rw (rank .nodes) (tree-weight (edges high) high-array has-high g rules has-rules (edges low) lengths (first .derivation)) in
+              rw (rank .has .nodes) (tree-weight (edges high) high-array has-high g rules has-rules (edges low) lengths (first .derivation)) in
               let greatest = other-weight high okh risen high-array has-high first in
               let lightest = other-weight m (risen-valid (g .words) m high (o .choice .below) okh) (o .choice .above) (given mixed) (mixed-has z first rank m is) first in
-              rw (ne-eqb (given found) 0 n, own, greatest, lightest, rank .weighs, first-place g low first, ← is) (picked (eqb (weight g (edges high) z) (weightOf g (edges m) (firstOf g (edges m) (length low)))) (weight g (edges low) z)
+              rw (ne-eqb (given found) 0 n, own, greatest, lightest, rank .has .weighs, first-place g low first, ← is) (picked (eqb (weight g (edges high) z) (weightOf g (edges m) (firstOf g (edges m) (length low)))) (weight g (edges low) z)
               (weightOf g (edges high) (firstOf g (edges high) (length low))))
 
       pub left-zeros : (k : ℕ) × (given leftBy ≡ replicate k 0)

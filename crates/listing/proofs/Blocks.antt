@@ -2,14 +2,14 @@
 -- at place x. Of slots the rule numbers of its nodes are the walk.
 use mathlib.Core.Path.{_≡_, refl, sym, ap, _∙_}
 use mathlib.Core.List.{List, [], _∷_, _++_, map, map-append}
-use Prim.Native.Nat.{ℕ, zero, suc, _+_, _-_, _*_, _≤_, _<_}
+use Prim.Native.Nat.{ℕ, zero, suc, _+_, _-_, _≤_, _<_}
 use native.Mathlib.Omega.{arith}
 use lib.ListN.{length, take, getD, length-map}
 use lib.Seq.{take-suc, take-length}
-use Rattle.packing.specs.Meaning.{Grammar, Heard, slots, graph, lastPlace}
+use Rattle.packing.specs.Meaning.{Grammar, Heard, slots, graph, lastPlace, heardEdges}
 use Rattle.packing.specs.Flat.{ruleAt, nodeRule, nodesIn}
 use Rattle.packing.specs.Loop.{iter}
-use Rattle.packing.specs.Valid.{ValidGrammar, ValidHeard}
+use Rattle.packing.specs.Valid.{ValidHeard}
 use Rattle.packing.proofs.Flat.{by-rule}
 use Rattle.derivation.specs.Derivation.{At, Tree, leaf, node, Derivation, walk, reading}
 use Rattle.derivation.specs.Heard.{pathLength, trace, graphReading, packed}
@@ -23,7 +23,8 @@ use Rattle.derivation.proofs.HeardReadings.{heard-last}
 use Rattle.heard_reader.specs.Answer.{isGraph}
 use Rattle.reading_writer.specs.Answer.{walkIn}
 use Rattle.chart.specs.Chart.{layOut}
-use Rattle.chart_theory.proofs.Accepted.{Holds, HoldsRank, layout}
+use Rattle.chart_theory.proofs.Chart.{RootHas}
+use Rattle.chart_theory.proofs.Accepted.{Holds, layout}
 use Rattle.listing.specs.Listing.{joined}
 use Rattle.listing.specs.Model.{formOf, blockAt, blocksAt}
 use Rattle.listing.specs.declared.Form.{Form}
@@ -61,24 +62,24 @@ abbrev pub form : Grammar → Heard → Form
 form g h = formOf (isGraph h) (lastPlace h) (length (g .rules))
 
 module _ (g : Grammar) (N : ℕ) (rules t : List ℕ) where
-  pub block-is : (h : Heard) → 1 ≤ lastPlace h → lastPlace h ≤ 24 → (x : ℕ) (z : Tree) → HoldsRank g h N rules t x z → Derivation g h z
+  pub block-is : (h : Heard) → 1 ≤ lastPlace h → lastPlace h ≤ 24 → (x : ℕ) (z : Tree) → RootHas g (heardEdges h) rules (layout g h N) t x z → Derivation g h z
       → blockAt t rules (layout g h N) (form g h) x ≡ packed g h z
   unfolding blockAt layOut reading graphReading
-  block-is (slots u) some few x z rank derived =
+  block-is (slots u) some few x z has derived =
       let (m, p) = path t rules (layout g (slots u) N) x some few in
-      let edges : m ≡ length u = omega (arith, p .nodes, ap length (rank .nodes), trace-length z, walk-path z, nodes g u z derived) in
+      let edges : m ≡ length u = omega (arith, p .nodes, ap length (has .nodes), trace-length z, walk-path z, nodes g u z derived) in
       let stands = rw edges at (p .stands) in
-      rw (rank .weighs, stands, walk-nodes rules, rank .nodes, walk-trace z)
-  block-is (graph h) some few x z rank derived =
+      rw (has .weighs, stands, walk-nodes rules, has .nodes, walk-trace z)
+  block-is (graph h) some few x z has derived =
       let (m, p) = path t rules (layout g (graph h) N) x some few in
-      let edges : m ≡ pathLength z = omega (arith, p .nodes, ap length (rank .nodes), trace-length z) in
-      rw (rank .weighs, p .edges, p .stands, rank .nodes, edges)
+      let edges : m ≡ pathLength z = omega (arith, p .nodes, ap length (has .nodes), trace-length z) in
+      rw (has .weighs, p .edges, p .stands, has .nodes, edges)
 
   module _ (h : Heard) (some : 1 ≤ lastPlace h) (okh : ValidHeard (g .words) h) (m : ℕ) (holds : Holds g h N rules t m) where
     block-at : (x : ℕ) → x < m → At (blocks g h N) x (blockAt t rules (layout g h N) (form g h) x)
     block-at x l =
         let (z, rank) = holds .each x l in
-        rw (block-is h some (heard-last (g .words) h okh) x z rank (least-element g h N x z .0 (rank .place) .0))
+        rw (block-is h some (heard-last (g .words) h okh) x z (rank .has) (least-element g h N x z .0 (rank .place) .0))
         (at-map (packed g h) (leastDerivations g h N) x (rank .place))
 
     pub count-found : length (blocks g h N) ≡ m

@@ -1,14 +1,14 @@
 -- Readings written one after another: each has the length L, so the next one starts where the last one ends, and what stands
 -- beyond it is kept. Of a graph a reading fits into L bytes whatever the table holds, since its trace has no more nodes, and no more of
 -- them by word rules, than a path over all places.
-use mathlib.Core.Path.{_≡_, refl, ap, _∙_}
+use mathlib.Core.Path.{_≡_, refl, _∙_}
 use mathlib.Core.Bool.{Bool, true, false}
 use mathlib.Core.List.{List, [], _++_, append-assoc, append-nil}
-use Prim.Native.Nat.{ℕ, zero, suc, _+_, _-_, _*_, _/_, _≤_}
-use native.Mathlib.Nat.{le-refl, zero-mul, suc-mul, mul-le-mul-right}
+use Prim.Native.Nat.{ℕ, zero, suc, _+_, _-_, _*_, _≤_}
+use native.Mathlib.Nat.{zero-mul, suc-mul, mul-le-mul-right}
 use native.Mathlib.Numerals.{add-one}
 use native.Mathlib.Omega.{arith}
-use lib.ListN.{length, take, drop, replicate, length-append, drop-of-length-le}
+use lib.ListN.{length, take, drop, replicate, length-replicate, length-append, drop-of-length-le}
 use lib.Seq.{length-take-le, take-all, take-at, drop-at, drop-drop}
 use borrow.Rule.Slice.PartMut.{putMid}
 use Rattle.bits.specs.Fields.{widths}
@@ -31,7 +31,7 @@ use Rattle.chart_table.specs.declared.Layout.{Layout}
 use Rattle.chart_table.specs.Table.{root}
 use Rattle.chart_trace.proofs.Shape.{Shape, shape}
 use Rattle.chart.specs.Chart.{rootWeight, rootTrace}
-use Rattle.listing.specs.Model.{FormFor, traceAt, edgesAt, ownSizeAt, blockAt, blocksAt}
+use Rattle.listing.specs.Model.{FormFor, traceAt, edgesAt, blockAt, blocksAt}
 use Rattle.listing.specs.declared.Form.{Form}
 
 -- a trace of m edges stands in front of the array of zeros that it is traced into
@@ -76,33 +76,24 @@ module _ (t rules : List ℕ) (d : Layout) (x : ℕ) (some : 1 ≤ d .places) (s
       )
 
   -- its reading as that of a graph, and what it fits into
-  abbrev pub graphReadingAt : GraphReading
+  abbrev graphReadingAt : GraphReading
   graphReadingAt = graphReadingOf rules (edgesAt t rules d x) (rootWeight t d x) (traceAt t rules d x)
 
-  room-for : (R n : ℕ) → edgesAt t rules d x ≤ n → 34 + widths (flds (traceEntries R (graphReadingAt .trace))) ≤ 8 * graphReadingLength n R
+  graph-room : (R : ℕ) → 34 + widths (flds (traceEntries R (graphReadingAt .trace))) ≤ 8 * graphReadingLength (d .places) R
   unfolding graphReadingLength
-  room-for R n within =
+  graph-room R =
       let (m, p) = path in
       let xs = nodesIn rules (rootTrace t rules d x) in
-      let few : length xs * widthOf (R - 1) ≤ (2 * n - 1) * widthOf (R - 1) = mul-le-mul-right (widthOf (R - 1)) (omega (arith, p .nodes, p .edges, within)) in
-      rw (p .edges, p .stands, trace-bits R xs) (omega (arith, few, p .words, p .edges, within))
-
-  fits-into : (R n : ℕ) → edgesAt t rules d x ≤ n → length (blockOfGraphReading R graphReadingAt) ≤ graphReadingLength n R
-  unfolding blockOfGraphReading graphReadingEntries widths
-  fits-into R n within = rw Fields.length-block (omega (arith, room-for R n within))
-
-  edges-within : edgesAt t rules d x ≤ d .places
-  edges-within = let (m, p) = path in omega (arith, p .edges, p .few)
-
-  pub graph-room : (R : ℕ) → 34 + widths (flds (traceEntries R (graphReadingAt .trace))) ≤ 8 * graphReadingLength (d .places) R
-  graph-room R = room-for R (d .places) edges-within
+      let few : length xs * widthOf (R - 1) ≤ (2 * d .places - 1) * widthOf (R - 1) = mul-le-mul-right (widthOf (R - 1)) (omega (arith, p .nodes, p .few)) in
+      rw (p .edges, p .stands, trace-bits R xs) (omega (arith, few, p .words, p .few))
 
   graph-fits : (R : ℕ) → length (blockOfGraphReading R graphReadingAt) ≤ graphReadingLength (d .places) R
-  graph-fits R = fits-into R (d .places) edges-within
+  unfolding blockOfGraphReading graphReadingEntries widths
+  graph-fits R = rw Fields.length-block (omega (arith, graph-room R))
 
-  -- and its own length
-  pub own-room : (R : ℕ) → length (blockOfGraphReading R graphReadingAt) ≤ graphReadingLength (edgesAt t rules d x) R
-  own-room R = fits-into R (edgesAt t rules d x) (le-refl (edgesAt t rules d x))
+  -- the array that a trace stands in
+  pub trace-size : {trace : List ℕ} → trace ≡ traceAt t rules d x → length trace ≡ 94
+  trace-size e = rw (e, length-store, length-replicate)
 
   -- the bytes of a reading, of either kind
   pub length-at : (f : Form) → FormFor (d .places) f → length (blockAt t rules d f x) ≡ f .size
@@ -153,16 +144,6 @@ module _ (t rules : List ℕ) (d : Layout) (x : ℕ) (some : 1 ≤ d .places) (s
   slots-written f out form is e₁ e₂ o =
       let size : length (blockOfReading (f .rules) (readingOf (d .places) (rootWeight t d x) (traceAt t rules d x))) ≡ f .size = rw is at (length-at f form) in
       o ∙ rw (is, e₁, e₂, size)
-
--- its own length, of a graph and of slots
-module _ (t rules : List ℕ) (d : Layout) (x : ℕ) (f : Form) where
-  pub graph-own : f .graph ≡ true → {n r : ℕ} → n ≡ edgesAt t rules d x → r ≡ graphReadingLength n (f .rules) → r ≡ ownSizeAt t rules d f x
-  unfolding ownSizeAt
-  graph-own is e o = o ∙ rw (is, e)
-
-  pub slots-own : f .graph ≡ false → f .size ≡ ownSizeAt t rules d f x
-  unfolding ownSizeAt
-  slots-own is = rw is
 
 -- what comes back of an output of which the end from place a on was lent, where the first a numbers were P
 put-end : (a : ℕ) (P D part : List ℕ) → length P ≡ a → putMid a (length (P ++ D) - a) (P ++ D) part ≡ P ++ part

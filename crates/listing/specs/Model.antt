@@ -63,10 +63,6 @@ traceAt t rules d x = storeAll (replicate 94 0) 0 (rootTrace t rules d x)
 abbrev pub edgesAt : List ℕ → List ℕ → Layout → ℕ → ℕ
 edgesAt t rules d x = (length (rootTrace t rules d x) / 2 + 1) / 2
 
--- the bytes of its reading that are its own, without the zeros behind a graph's
-unfoldable pub ownSizeAt : List ℕ → List ℕ → Layout → Form → ℕ → ℕ
-ownSizeAt t rules d f x = pick (f .graph) (graphReadingLength (edgesAt t rules d x) (f .rules)) (f .size)
-
 -- its reading, packed, and the readings of the ranks below m, one after another
 unfoldable pub blockAt : List ℕ → List ℕ → Layout → Form → ℕ → List ℕ
 blockAt t rules d f x =

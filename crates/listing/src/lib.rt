@@ -22,9 +22,10 @@ ghost use Prim.Native.Nat.{_+_, _*_, _≤_, _<_};
 ghost use lib.ListN.{length, drop};
 ghost use Rattle.grammar_reader.specs.Answer.{Bounded};
 ghost use Rattle.chart_table.specs.Table.{Sized};
+ghost use Rattle.chart.specs.Chart.{rootTrace};
 ghost use Rattle.listing.specs.Listing.{library, Within, list, listedOf, outputAfter, workAfter};
 ghost use Rattle.listing.specs.Demand3.{Demand3};
-ghost use Rattle.listing.specs.Model.{shortage, formOf, FormFor, blockAt, ownSizeAt, blocksAt, Filled, HeardListed, GrammarListed};
+ghost use Rattle.listing.specs.Model.{shortage, formOf, FormFor, traceAt, blockAt, blocksAt, Filled, HeardListed, GrammarListed};
 
 // What the listing answers: the number found.
 pub enum Listed {
@@ -63,6 +64,12 @@ pub struct Form {
     pub graph: bool,
     pub rules: usize,
     pub size: usize,
+}
+
+// A rank of the root, and how many numbers its trace has.
+pub struct TracedRank {
+    pub rank: usize,
+    pub numbers: usize,
 }
 
 // The form of readings up to the last place n.
@@ -106,30 +113,39 @@ fn shortage(asked: Asked, symbols: usize, n: usize, size: usize, work: usize, ou
     0
 }
 
-// The reading of a rank of the root, in front of what stands in `out` beyond it: its own length, behind which a graph's has zeros. A path
-// of n edges has 2 n - 1 nodes.
-pub fn write_rank(
+// The reading of a rank of the root whose trace stands in an array of zeros, in front of what stands in `out` beyond it; behind a graph's own
+// bytes it has zeros. A path of n edges has 2 n - 1 nodes.
+pub fn write_traced(
     t: &[u32],
     rules: &[u32],
     form: Form,
     d: Layout,
-    x: usize,
+    traced: TracedRank,
+    trace: &[u32],
     out: &mut [u8],
-) -> usize
+)
+    requires { ⌜ (Sized d) × (FormFor (d .places) form) × (traced .rank < d .ranks) × (form .size ≤ length (now out))
+        × (now trace ≡ traceAt (now t) (now rules) d (traced .rank)) × (traced .numbers ≡ length (rootTrace (now t) (now rules) d (traced .rank))) ⌝ }
+    ensures { λ _. ⌜ now (out .exit) ≡ blockAt (now (t .entry)) (now (rules .entry)) d form (traced .rank) ++ drop (form .size) (now (out .entry)) ⌝ }
+{
+    let weight = chart::root_weight(t, d, traced.rank);
+    if form.graph {
+        let n = (traced.numbers / NUMBERS_PER_NODE + 1) / 2;
+        write_graph_reading(out, form.size, n, weight, rules, form.rules, trace);
+        return;
+    }
+    write_reading(out, d.places, form.rules, weight, trace);
+}
+
+// The reading of a rank of the root, traced back.
+fn write_rank(t: &[u32], rules: &[u32], form: Form, d: Layout, x: usize, out: &mut [u8])
     requires { ⌜ (Sized d) × (FormFor (d .places) form) × (x < d .ranks) × (form .size ≤ length (now out)) ⌝ }
-    ensures { λ r. ⌜ (now (out .exit) ≡ blockAt (now (t .entry)) (now (rules .entry)) d form x ++ drop (form .size) (now (out .entry)))
-        × (r ≡ ownSizeAt (now (t .entry)) (now (rules .entry)) d form x) ⌝ }
+    ensures { λ _. ⌜ now (out .exit) ≡ blockAt (now (t .entry)) (now (rules .entry)) d form x ++ drop (form .size) (now (out .entry)) ⌝ }
 {
     let mut trace = [0u32; TRACE_LENGTH];
     let numbers = chart::trace_root(t, rules, d, x, &mut trace);
-    let weight = chart::root_weight(t, d, x);
-    if form.graph {
-        let n = (numbers / NUMBERS_PER_NODE + 1) / 2;
-        write_graph_reading(out, form.size, n, weight, rules, form.rules, &trace);
-        return graph_reading_length(n, form.rules);
-    }
-    write_reading(out, d.places, form.rules, weight, &trace);
-    form.size
+    let traced = TracedRank { rank: x, numbers };
+    write_traced(t, rules, form, d, traced, &trace, out);
 }
 
 // The readings of the first m ranks, one after another.

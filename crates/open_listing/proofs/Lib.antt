@@ -1,10 +1,8 @@
 pub mod Zeros
 pub mod HandOut
 pub mod Searched
-pub mod Own
 pub mod Counted
 pub mod Plans
-pub mod Readings
 pub mod Promises
 pub mod Steps
 pub mod Outcome

@@ -30,8 +30,7 @@ use Rattle.open_listing.specs.declared.Plan.{Plan}
 use Rattle.open_listing.specs.declared.Opened.the-variants as O
 use Rattle.open_listing.specs.declared.Answer as A
 use Rattle.open_listing.specs.declared.Answer.the-variants.{Full, Refused}
-use Rattle.open_listing.proofs.Own.{plan}
-use Rattle.open_listing.proofs.Plans.{numbers-are, bytes-are}
+use Rattle.open_listing.proofs.Plans.{plan, numbers-are, bytes-are}
 use Rattle.open_listing.proofs.Promises.{blocks, opening-short, opening-accepts, calling-short, calling-output, calling-accepts, called, after}
 use Rattle.open_listing.proofs.Steps as steps
 
@@ -44,23 +43,23 @@ refused-promised : (grammar heard : List ℕ) (p : Place) (work out : List ℕ) 
 refused-promised grammar heard p work out e =
     (S.turned-away e refl (record { table = refl; output = refl }), λ b f. different e f)
 
-module _ (rules edges heard : List ℕ) (q : Plan) (planned : Planned q) (p : Place) (work out : List ℕ) where
+module _ (rules edges : List ℕ) (q : Plan) (planned : Planned q) (p : Place) (work out : List ℕ) where
   abbrev numbers : ℕ
   numbers = 4 * q .layout .cells * q .layout .ranks
 
-  pub short-table : {r : ℕ} → r ≡ numbers → length work < r → HeardCalled rules edges heard q p work out (Refused 22) work out
-  short-table e short grammar g h eg eh is begun begun′ =
+  pub short-table : {r : ℕ} → r ≡ numbers → length work < r → HeardCalled rules edges q p work out (Refused 22) work out
+  short-table e short grammar heard g h eg eh is begun begun′ =
       refused-promised grammar heard p work out
       (calling-short grammar heard g h eg eh (length work) (length out) (omega (arith, numbers-are g h is e, short)))
 
-  pub short-output : {r : ℕ} → r ≡ numbers → r ≤ length work → length out < q .form .size → HeardCalled rules edges heard q p work out (Refused 23) work out
-  short-output e room short grammar g h eg eh is begun begun′ =
+  pub short-output : {r : ℕ} → r ≡ numbers → r ≤ length work → length out < q .form .size → HeardCalled rules edges q p work out (Refused 23) work out
+  short-output e room short grammar heard g h eg eh is begun begun′ =
       refused-promised grammar heard p work out
       (calling-output grammar heard g h eg eh (length work) (length out) (omega (arith, numbers-are g h is e, room)) (omega (arith, bytes-are g h is, short)))
 
   module _ {r : ℕ} (e : r ≡ numbers) (room : r ≤ length work) (enough : q .form .size ≤ length out) where
     -- where nothing is short
-    module _ (grammar : List ℕ) (g : Grammar) (h : Heard) (eg : grammarBlock grammar ≡ accepted g) (eh : heardBlock (g .words) heard ≡ accepted h)
+    module _ (grammar heard : List ℕ) (g : Grammar) (h : Heard) (eg : grammarBlock grammar ≡ accepted g) (eh : heardBlock (g .words) heard ≡ accepted h)
         (is : q ≡ plan g h) where
       fits : tableSize (g .symbols) (lastPlace h) 256 ≤ length work
       fits = omega (arith, numbers-are g h is e, room)
@@ -78,8 +77,8 @@ module _ (rules edges heard : List ℕ) (q : Plan) (planned : Planned q) (p : Pl
 
       -- what was searched
       module _ (begun : Begins (ruleNumbers g) rules) (begun′ : Begins (edgeNumbers (heardEdges h)) edges) (below : p .handed < 256)
-          (table : List ℕ) {a : A.Answer} {work′ out′ : List ℕ} (searched : Searched table rules heard q (p .handed) work out a work′ out′) where
-        searched′ : Searched table rules heard (plan g h) (p .handed) work out a work′ out′
+          (table : List ℕ) {a : A.Answer} {work′ out′ : List ℕ} (searched : Searched table rules edges q (p .handed) work out a work′ out′) where
+        searched′ : Searched table rules edges (plan g h) (p .handed) work out a work′ out′
         searched′ = rw is at searched
 
         kept : ((k : ℕ) → AsLeft g h k p work → Listed g (heardEdges h) (layout g h 256) (p .handed) table) → S.Kept grammar heard p work out a work′ out′
@@ -88,82 +87,82 @@ module _ (rules edges heard : List ℕ) (q : Plan) (planned : Planned q) (p : Pl
             let left′ : AsLeft g h k p work = rw (← same) at left in
             let all′ : Number (Derivation g h) n = rw (← same) at all in
             rw (← same, ← left′ .handed)
-            (after grammar heard g h eg eh rules begun planned′ p work out calls below table searched′ edges begun′ (known k left′) (left′ .opened) n all′)
+            (after grammar heard g h eg eh rules edges begun begun′ planned′ p work out calls below table searched′ (known k left′) (left′ .opened) n all′)
 
-    unchanged : (grammar : List ℕ) (a : A.Answer) → S.Unchanged grammar heard p work out a work out
-    unchanged grammar a = record { table = refl; output = refl }
+    unchanged : (grammar heard : List ℕ) (a : A.Answer) → S.Unchanged grammar heard p work out a work out
+    unchanged grammar heard a = record { table = refl; output = refl }
 
-    pub full : 256 ≤ p .handed → HeardCalled rules edges heard q p work out Full work out
-    full many grammar g h eg eh is begun begun′ = (
-      S.full (calls grammar g h eg eh is) many refl (unchanged grammar Full),
-      never-left grammar g h eg eh is (λ b k few left. omega (arith, left .handed)),
+    pub full : 256 ≤ p .handed → HeardCalled rules edges q p work out Full work out
+    full many grammar heard g h eg eh is begun begun′ = (
+      S.full (calls grammar heard g h eg eh is) many refl (unchanged grammar heard Full),
+      never-left grammar heard g h eg eh is (λ b k few left. omega (arith, left .handed)),
     )
 
-    pub not-opened : p .handed < 256 → (p .opened ≡ 1 → ⊥) → HeardCalled rules edges heard q p work out (Refused 53) work out
-    not-opened below other grammar g h eg eh is begun begun′ = (
-      S.altered (calls grammar g h eg eh is) below refl (unchanged grammar (Refused 53)),
-      never-left grammar g h eg eh is (λ b k few left. other (left .opened)),
+    pub not-opened : p .handed < 256 → (p .opened ≡ 1 → ⊥) → HeardCalled rules edges q p work out (Refused 53) work out
+    not-opened below other grammar heard g h eg eh is begun begun′ = (
+      S.altered (calls grammar heard g h eg eh is) below refl (unchanged grammar heard (Refused 53)),
+      never-left grammar heard g h eg eh is (λ b k few left. other (left .opened)),
     )
 
     -- the first call
     module _ (none : p .handed ≡ 0) {a : A.Answer} {work′ out′ : List ℕ} where
-      first-searched : Searched (firstTable rules edges q work) rules heard q 0 work out a work′ out′ → HeardCalled rules edges heard q p work out a work′ out′
-      first-searched s grammar g h eg eh is begun begun′ =
+      first-searched : Searched (firstTable rules edges q work) rules edges q 0 work out a work′ out′ → HeardCalled rules edges q p work out a work′ out′
+      first-searched s grammar heard g h eg eh is begun begun′ =
           let okg = grammar-block-out grammar g eg .0 in
           let okh = heard-block-out (g .words) heard h eh .0 in
           let table = firstTable rules edges (plan g h) work in
-          let s₁ : Searched (firstTable rules edges q work) rules heard q (p .handed) work out a work′ out′ = rw none s in
-          let s₂ : Searched table rules heard q (p .handed) work out a work′ out′ = rw (ap (λ (x : Plan). firstTable rules edges x work) is) at s₁ in
-          let s₃ : Searched table rules heard (plan g h) (p .handed) work out a work′ out′ = rw is at s₂ in
+          let s₁ : Searched (firstTable rules edges q work) rules edges q (p .handed) work out a work′ out′ = rw none s in
+          let s₂ : Searched table rules edges q (p .handed) work out a work′ out′ = rw (ap (λ (x : Plan). firstTable rules edges x work) is) at s₁ in
+          let s₃ : Searched table rules edges (plan g h) (p .handed) work out a work′ out′ = rw is at s₂ in
           let below : p .handed < 256 = omega arith in (
-            called grammar heard g h eg eh rules begun (planned′ grammar g h eg eh is) p work out (calls grammar g h eg eh is) below table s₃ (record {
+            called grammar heard g h eg eh rules edges begun begun′ (planned′ grammar heard g h eg eh is) p work out (calls grammar heard g h eg eh is) below table s₃ (record {
               first = λ z c l. steps.first-adds g h okg okh rules edges begun begun′ work c;
               later = λ some. absurd (omega arith);
             }),
-            kept grammar g h eg eh is begun begun′ below table s₂ (λ k left.
+            kept grammar heard g h eg eh is begun begun′ below table s₂ (λ k left.
                 let zero-left : TableAfter g h 0 work = rw (← left .handed, none) at (left .table) in
-                rw none (steps.first-known g h okg okh rules edges begun begun′ work (fits grammar g h eg eh is) zero-left)),
+                rw none (steps.first-known g h okg okh rules edges begun begun′ work (fits grammar heard g h eg eh is) zero-left)),
           )
 
-      first-altered : zeros (take (4 * q .layout .cells) work) ≡ false → a ≡ Refused 53 → Untouched work out work′ out′ → HeardCalled rules edges heard q p work out a work′ out′
-      first-altered other e same grammar g h eg eh is begun begun′ =
+      first-altered : zeros (take (4 * q .layout .cells) work) ≡ false → a ≡ Refused 53 → Untouched work out work′ out′ → HeardCalled rules edges q p work out a work′ out′
+      first-altered other e same grammar heard g h eg eh is begun begun′ =
           let okg = grammar-block-out grammar g eg .0 in
           let okh = heard-block-out (g .words) heard h eh .0 in (
-            S.altered (calls grammar g h eg eh is) (omega arith) e (record { table = same .table; output = same .output }),
+            S.altered (calls grammar heard g h eg eh is) (omega arith) e (record { table = same .table; output = same .output }),
             λ b f k few left n all.
-                let now : blocks grammar heard g h eg eh ≡ b = accepted-is (sym (calls grammar g h eg eh is) ∙ f) in
+                let now : blocks grammar heard g h eg eh ≡ b = accepted-is (sym (calls grammar heard g h eg eh is) ∙ f) in
                 let left′ : AsLeft g h k p work = rw (← now) at left in
                 let zero-left : TableAfter g h 0 work = rw (← left′ .handed, none) at (left′ .table) in
-                let all-zero = steps.front-zeros g h okg okh rules edges begun begun′ work (fits grammar g h eg eh is) zero-left in
+                let all-zero = steps.front-zeros g h okg okh rules edges begun begun′ work (fits grammar heard g h eg eh is) zero-left in
                 absurd (false≢true (sym other ∙ rw is all-zero)),
           )
 
-      pub first-called : (zeros (take (4 * q .layout .cells) work) ≡ true → Searched (firstTable rules edges q work) rules heard q 0 work out a work′ out′)
+      pub first-called : (zeros (take (4 * q .layout .cells) work) ≡ true → Searched (firstTable rules edges q work) rules edges q 0 work out a work′ out′)
           × (zeros (take (4 * q .layout .cells) work) ≡ false → (a ≡ Refused 53) × Untouched work out work′ out′)
-          → HeardCalled rules edges heard q p work out a work′ out′
+          → HeardCalled rules edges q p work out a work′ out′
       first-called (clear, dirty) = go (zeros (take (4 * q .layout .cells) work)) refl
         where
-          go : (b : Bool) → zeros (take (4 * q .layout .cells) work) ≡ b → HeardCalled rules edges heard q p work out a work′ out′
+          go : (b : Bool) → zeros (take (4 * q .layout .cells) work) ≡ b → HeardCalled rules edges q p work out a work′ out′
           go true z = first-searched (clear z)
           go false z = first-altered z (dirty z .0) (dirty z .1)
 
     -- a later call
     pub later-called : 1 ≤ p .handed → p .handed < 256 → {a : A.Answer} {work′ out′ : List ℕ}
-        → Searched (nextTable rules edges q (p .handed - 1) work) rules heard q (p .handed) work out a work′ out′
-        → HeardCalled rules edges heard q p work out a work′ out′
-    later-called some below {a} {work′} {out′} s grammar g h eg eh is begun begun′ =
+        → Searched (nextTable rules edges q (p .handed - 1) work) rules edges q (p .handed) work out a work′ out′
+        → HeardCalled rules edges q p work out a work′ out′
+    later-called some below {a} {work′} {out′} s grammar heard g h eg eh is begun begun′ =
         let okg = grammar-block-out grammar g eg .0 in
         let okh = heard-block-out (g .words) heard h eh .0 in
         let x = p .handed - 1 in
         let table = nextTable rules edges (plan g h) x work in
-        let s₂ : Searched table rules heard q (p .handed) work out a work′ out′ = rw (ap (λ (y : Plan). nextTable rules edges y x work) is) at s in
-        let s₃ : Searched table rules heard (plan g h) (p .handed) work out a work′ out′ = rw is at s₂ in
+        let s₂ : Searched table rules edges q (p .handed) work out a work′ out′ = rw (ap (λ (y : Plan). nextTable rules edges y x work) is) at s in
+        let s₃ : Searched table rules edges (plan g h) (p .handed) work out a work′ out′ = rw is at s₂ in
         let next : suc x ≡ p .handed = omega arith in (
-          called grammar heard g h eg eh rules begun (planned′ grammar g h eg eh is) p work out (calls grammar g h eg eh is) below table s₃ (record {
+          called grammar heard g h eg eh rules edges begun begun′ (planned′ grammar heard g h eg eh is) p work out (calls grammar heard g h eg eh is) below table s₃ (record {
             first = λ z. absurd (omega arith);
             later = λ l. steps.later-adds g h okg okh rules edges begun begun′ work (heard-sizes (g .words) h okh .0) x;
           }),
-          kept grammar g h eg eh is begun begun′ below table s₂ (λ k left.
+          kept grammar heard g h eg eh is begun begun′ below table s₂ (λ k left.
               let before : TableAfter g h (suc x) work = rw (← left .handed, ← next) at (left .table) in
               let known = steps.later-known g h okg okh rules edges begun begun′ work x (omega arith) before in
               rw next at known),
@@ -177,8 +176,8 @@ module _ (rules : List ℕ) (z : Sizes) (heard : List ℕ) (p : Place) (work out
 
   pub heard-called : (edges : List ℕ) {y : HeardSize} {q : Plan} {a : A.Answer} {work′ out′ : List ℕ} (h : Heard)
       → heardBlock (z .words) heard ≡ accepted h → y ≡ heardSize h → q ≡ planOf (record { sizes = z; heard = y }) → Begins (edgeNumbers (heardEdges h)) edges
-      → HeardCalled rules edges heard q p work out a work′ out′ → GrammarCalled rules z heard p work out a work′ out′
-  heard-called edges h e ey eq begun′ due grammar g eg ez begun = due grammar g h eg (rw ez at e) (rw (ez, ey) at eq) begun begun′
+      → HeardCalled rules edges q p work out a work′ out′ → GrammarCalled rules z heard p work out a work′ out′
+  heard-called edges h e ey eq begun′ due grammar g eg ez begun = due grammar heard g h eg (rw ez at e) (rw (ez, ey) at eq) begun begun′
 
 -- and of a grammar's block
 module _ (grammar heard : List ℕ) (p : Place) (work out : List ℕ) where

@@ -20,7 +20,7 @@ use Rattle.open_listing.specs.declared.Blocks as read
 module _ (b : read.Blocks) (bounded : Bounded (b .sizes)) (some : 1 ≤ b .heard .last) (few : b .heard .last ≤ 24) (edges : b .heard .edges ≤ 168)
     {f : Form} {d : Layout} (formed : f ≡ formOf (b .heard .graph) (b .heard .last) (b .sizes .rules)) (laid : d ≡ layOut (b .sizes .symbols) (b .heard .last) 256) where
   abbrev made : Plan
-  made = record { form = f; layout = d; edges = b .heard .edges; words = b .sizes .words }
+  made = record { form = f; layout = d; edges = b .heard .edges }
 
   pub plan-is : made ≡ planOf b
   plan-is = rw (formed, laid)
@@ -33,12 +33,13 @@ module _ (b : read.Blocks) (bounded : Bounded (b .sizes)) (some : 1 ≤ b .heard
     form = rw (formed, laid) (record { some-place = some; places = few; some-rule = bounded .some-rule; rules = bounded .rules; size = refl });
     size = small;
     edges = omega arith;
-    some-word = omega (arith, bounded .some-word);
-    words = bounded .words;
   }
 
 -- of a grammar and what was heard
-module _ (g : Grammar) (h : Heard) {p : Plan} (is : p ≡ planOf (record { sizes = sizes g; heard = heardSize h })) where
+abbrev pub plan : Grammar → Heard → Plan
+plan g h = planOf (record { sizes = sizes g; heard = heardSize h })
+
+module _ (g : Grammar) (h : Heard) {p : Plan} (is : p ≡ plan g h) where
   pub numbers-are : {r : ℕ} → r ≡ 4 * p .layout .cells * p .layout .ranks → r ≡ tableSize (g .symbols) (lastPlace h) 256
   numbers-are e = table-is (g .symbols) (lastPlace h) 256 {d = p .layout} (ap (λ (q : Plan). q .layout) is) e
 

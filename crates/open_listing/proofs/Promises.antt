@@ -25,19 +25,20 @@ use Rattle.derivation.proofs.HeardTheorems.{least-element, least-length}
 use Rattle.chart_table.specs.Table.{countFound}
 use Rattle.chart_steps.specs.Found.{foundRanks}
 use Rattle.chart.specs.Chart.{layOut, rootFound}
-use Rattle.chart_theory.proofs.Accepted.{layout, Reached, rank-reached}
+use Rattle.chart_theory.proofs.Chart.{RootHas}
+use Rattle.chart_theory.proofs.Accepted.{layout, passed-spelled, Reached, rank-reached}
 use Rattle.chart_theory.proofs.Search.Passes.{Listed}
 use Rattle.listing.specs.Listing.{tableSize}
 use Rattle.listing.specs.Demand3.{Ranked}
 use Rattle.listing.proofs.Sizes.{size-is}
+use Rattle.listing.proofs.Blocks.{block-is}
 use Rattle.open_listing.specs.Left.{AsLeft}
 use Rattle.open_listing.specs.Open as S
 use Rattle.open_listing.specs.Model.{Planned, isReading, handsOut, settled, Searched}
 use Rattle.open_listing.specs.declared.Place.{Place}
 use Rattle.open_listing.specs.declared.Answer as A
 use Rattle.open_listing.specs.declared.Answer.the-variants.{Reading, NoMore, Refused}
-use Rattle.open_listing.proofs.Own.{plan}
-use Rattle.open_listing.proofs.Readings.{HandedOut, hands-derivation, rank-handed}
+use Rattle.open_listing.proofs.Plans.{plan}
 
 -- what is tested before the search
 module _ (grammar heard : List ℕ) (g : Grammar) (h : Heard) (eg : grammarBlock grammar ≡ accepted g) (eh : heardBlock (g .words) heard ≡ accepted h) where
@@ -67,11 +68,18 @@ module _ (grammar heard : List ℕ) (g : Grammar) (h : Heard) (eg : grammarBlock
 
 -- where nothing is short
 module _ (grammar heard : List ℕ) (g : Grammar) (h : Heard) (eg : grammarBlock grammar ≡ accepted g) (eh : heardBlock (g .words) heard ≡ accepted h)
-    (rules : List ℕ) (begun : Begins (ruleNumbers g) rules) (planned : Planned (plan g h)) (p : Place) (work out : List ℕ)
+    (rules edges : List ℕ) (begun : Begins (ruleNumbers g) rules) (begun′ : Begins (edgeNumbers (heardEdges h)) edges) (planned : Planned (plan g h)) (p : Place)
+    (work out : List ℕ)
     (calls : S.calling grammar heard (length work) (length out) ≡ accepted (blocks grammar heard g h eg eh)) where
   -- a refusal of what is accepted, and the blocks are these
   only : (b : S.Blocks) → S.calling grammar heard (length work) (length out) ≡ accepted b → blocks grammar heard g h eg eh ≡ b
   only b e = accepted-is (sym calls ∙ e)
+
+  okg : ValidGrammar g
+  okg = grammar-block-out grammar g eg .0
+
+  okh : ValidHeard (g .words) h
+  okh = heard-block-out (g .words) heard h eh .0
 
   pub record Gains (table : List ℕ) : Type 0 where
     pub first : p .handed ≡ 0 → (c : ℕ) → c < layout g h 256 .cells → countFound table (layout g h 256) c ≤ countFound work (layout g h 256) c + 1
@@ -79,46 +87,46 @@ module _ (grammar heard : List ℕ) (g : Grammar) (h : Heard) (eg : grammarBlock
 
   -- whatever the table held
   module _ (below : p .handed < 256) (table : List ℕ) {r : A.Answer} {work′ out′ : List ℕ}
-      (searched : Searched table rules heard (plan g h) (p .handed) work out r work′ out′) where
+      (searched : Searched table rules edges (plan g h) (p .handed) work out r work′ out′) where
     nothing-left : (a : A.Answer) → r ≡ a → isReading a ≡ false → S.Unchanged grammar heard p work out r work′ out′
     nothing-left a e n = record { table = rw (e, n) at (searched .left); output = rw (e, n) at (searched .output) }
 
-    one-more : r ≡ Reading → Gains table → (z : Tree) → HandedOut grammar heard g h eg eh rules begun planned table (p .handed) z
-        → S.OneMore grammar heard p work out r work′ out′ g h
-    one-more e gains z handed =
+    -- the reading that is written, of a derivation that the rank has
+    written : (z : Tree) → Derivation g h z → RootHas g (heardEdges h) rules (layout g h 256) table (p .handed) z → r ≡ Reading
+        → out′ ≡ packed g h z ++ drop (outputLength g h) out
+    unfolding layOut
+    written z derived has e =
+        rw e at (searched .output)
+        ∙ rw (block-is g 256 rules table h (planned .form .some-place) (planned .form .places) (p .handed) z has derived, size-is g h)
+
+    one-more : r ≡ Reading → Gains table → handsOut table rules edges (plan g h) (p .handed) ≡ true → S.OneMore grammar heard p work out r work′ out′ g h
+    one-more e gains hands =
+        let (z, derived, has, spelled) = passed-spelled g h 256 okg okh (omega arith) (omega arith) rules edges begun begun′ table (p .handed) hands in
         let left : work′ ≡ table = rw e at (searched .left) in
         rw left (record {
           tree = z;
-          derivation = handed .derivation;
-          written = rw e at (searched .output) ∙ rw (handed .block-packed, size-is g h);
-          spelled = record { rules = rules; begins = begun; stands = handed .stands; bytes-are = handed .block-packed };
+          derivation = derived;
+          written = written z derived has e;
+          spelled = spelled;
           first-adds = gains .first;
           later-adds = gains .later;
         })
 
-    answer-is : r ≡ pick (rootFound table (layout g h 256) (p .handed)) (pick (handsOut table rules heard (plan g h) (p .handed)) Reading (Refused 53)) NoMore
+    answer-is : r ≡ pick (rootFound table (layout g h 256) (p .handed)) (pick (handsOut table rules edges (plan g h) (p .handed)) Reading (Refused 53)) NoMore
     unfolding settled
     answer-is = searched .answer
 
     pub called : Gains table → S.Called grammar heard p work out r work′ out′
-    called gains = go (rootFound table (layout g h 256) (p .handed)) (handsOut table rules heard (plan g h) (p .handed)) refl answer-is
+    called gains = go (rootFound table (layout g h 256) (p .handed)) (handsOut table rules edges (plan g h) (p .handed)) refl answer-is
       where
-        go : (a b : Bool) → handsOut table rules heard (plan g h) (p .handed) ≡ b → r ≡ pick a (pick b Reading (Refused 53)) NoMore
+        go : (a b : Bool) → handsOut table rules edges (plan g h) (p .handed) ≡ b → r ≡ pick a (pick b Reading (Refused 53)) NoMore
             → S.Called grammar heard p work out r work′ out′
         go false b hands e = S.no-more calls below e (nothing-left NoMore e refl)
         go true false hands e = S.altered calls below e (nothing-left (Refused 53) e refl)
-        go true true hands e =
-            let (z, handed) = hands-derivation grammar heard g h eg eh rules begun planned table (p .handed) hands in
-            S.one-more calls below e (one-more e gains z handed)
+        go true true hands e = S.one-more calls below e (one-more e gains hands)
 
     -- where the ranks of the root are known up to the one that was looked for
-    module _ (edges : List ℕ) (begun′ : Begins (edgeNumbers (heardEdges h)) edges) (known : Listed g (heardEdges h) (layout g h 256) (p .handed) table) where
-      okg : ValidGrammar g
-      okg = grammar-block-out grammar g eg .0
-
-      okh : ValidHeard (g .words) h
-      okh = heard-block-out (g .words) heard h eh .0
-
+    module _ (known : Listed g (heardEdges h) (layout g h 256) (p .handed) table) where
       reached : Reached g h 256 okg okh (omega arith) (omega arith) rules edges begun begun′ table (p .handed)
       reached = rank-reached g h 256 okg okh (omega arith) (omega arith) rules edges begun begun′ table (p .handed) known below
 
@@ -132,11 +140,9 @@ module _ (grammar heard : List ℕ) (g : Grammar) (h : Heard) (eg : grammarBlock
         gives : p .handed < length (derivations g h)
             → (z : Tree) × Ranked g h (suc (p .handed)) z × (r ≡ Reading) × (out′ ≡ packed g h z ++ drop (outputLength g h) out)
             × AsLeft g h (suc (p .handed)) (S.placeAfter r p) work′
-        unfolding layOut
         gives more =
-            let (found, stands, (z, rank)) = reached .some more in
+            let (found, hands, (z, rank)) = reached .some more in
             let (derived, ranks, few) = least-element g h 256 (p .handed) z .0 (rank .place) in
-            let (hands, is) = rank-handed grammar heard g h eg eh rules begun planned table (p .handed) z rank derived stands in
             let reads : r ≡ Reading = answer-is ∙ rw (found, hands) in
             let left : work′ ≡ table = rw reads at (searched .left) in (
               z,
@@ -146,7 +152,7 @@ module _ (grammar heard : List ℕ) (g : Grammar) (h : Heard) (eg : grammarBlock
                 no-other = λ s c also. let there = least-element g h 256 (p .handed) s .1 (c, rw (one-add (p .handed)) also, few) in cc;
               },
               reads,
-              rw reads at (searched .output) ∙ rw (is, size-is g h),
+              written z derived (rank .has) reads,
               rw (left, reads) (record { handed = add-one (p .handed); opened = opened; table = known }),
             )
 

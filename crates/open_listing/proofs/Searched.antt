@@ -21,19 +21,19 @@ use Rattle.open_listing.specs.declared.Answer.the-variants.{Refused}
 use Rattle.open_listing.proofs.Zeros.{zeros-are}
 
 -- the new table stays where a reading is handed out, and something else where not
-module _ (table rules heard : List ℕ) (p : Plan) (x : ℕ) (work out : List ℕ) where
-  pub stays : {r : A.Answer} {b : Bool} {t out′ : List ℕ} → t ≡ table → r ≡ settled t rules heard p x → out′ ≡ outputBy (isReading r) t rules p x out
-      → b ≡ isReading r → b ≡ true → Searched table rules heard p x work out r t out′
+module _ (table rules edges : List ℕ) (p : Plan) (x : ℕ) (work out : List ℕ) where
+  pub stays : {r : A.Answer} {b : Bool} {t out′ : List ℕ} → t ≡ table → r ≡ settled t rules edges p x → out′ ≡ outputBy (isReading r) t rules p x out
+      → b ≡ isReading r → b ≡ true → Searched table rules edges p x work out r t out′
   stays {r} e answer output is reading = record {
-    answer = answer ∙ ap (λ (t : List ℕ). settled t rules heard p x) e;
+    answer = answer ∙ ap (λ (t : List ℕ). settled t rules edges p x) e;
     left = e ∙ rw (← is, reading);
     output = output ∙ ap (λ (t : List ℕ). outputBy (isReading r) t rules p x out) e;
   }
 
-  pub goes-back : {r : A.Answer} {b : Bool} {t work′ out′ : List ℕ} → t ≡ table → r ≡ settled t rules heard p x
-      → out′ ≡ outputBy (isReading r) t rules p x out → b ≡ isReading r → b ≡ false → work′ ≡ work → Searched table rules heard p x work out r work′ out′
+  pub goes-back : {r : A.Answer} {b : Bool} {t work′ out′ : List ℕ} → t ≡ table → r ≡ settled t rules edges p x
+      → out′ ≡ outputBy (isReading r) t rules p x out → b ≡ isReading r → b ≡ false → work′ ≡ work → Searched table rules edges p x work out r work′ out′
   goes-back {r} e answer output is reading back = record {
-    answer = answer ∙ ap (λ (t : List ℕ). settled t rules heard p x) e;
+    answer = answer ∙ ap (λ (t : List ℕ). settled t rules edges p x) e;
     left = back ∙ rw (← is, reading);
     output = output ∙ ap (λ (t : List ℕ). outputBy (isReading r) t rules p x out) e;
   }
@@ -51,14 +51,14 @@ module _ (rules edges : List ℕ) (p : Plan) (planned : Planned p) (x : ℕ) (wo
       e ∙ rw (keeps, stepped) (search-undone rules edges index (p .layout) work x (omega (arith, planned .form .some-place)) (planned .form .places))
 
 -- of a first call
-module _ (rules edges heard : List ℕ) (p : Plan) (work out : List ℕ) (fits : 4 * p .layout .cells ≤ length work) where
+module _ (rules edges : List ℕ) (p : Plan) (work out : List ℕ) (fits : 4 * p .layout .cells ≤ length work) where
   abbrev front : ℕ
   front = 4 * p .layout .cells
 
   -- what is promised
   abbrev pub First : A.Answer → (work′ out′ : List ℕ) → Type 0
   First r work′ out′ =
-      (zeros (take front work) ≡ true → Searched (firstTable rules edges p work) rules heard p 0 work out r work′ out′)
+      (zeros (take front work) ≡ true → Searched (firstTable rules edges p work) rules edges p 0 work out r work′ out′)
       × (zeros (take front work) ≡ false → (r ≡ Refused 53) × Untouched work out work′ out′)
 
   pub front-size : length (take front work) ≡ front
@@ -73,7 +73,7 @@ module _ (rules edges heard : List ℕ) (p : Plan) (work out : List ℕ) (fits :
     unfolding firstTable
     table-first = rw (made, front-size)
 
-    pub promised : {r : A.Answer} {work′ out′ : List ℕ} → Searched (firstTable rules edges p work) rules heard p 0 work out r work′ out′ → First r work′ out′
+    pub promised : {r : A.Answer} {work′ out′ : List ℕ} → Searched (firstTable rules edges p work) rules edges p 0 work out r work′ out′ → First r work′ out′
     promised s = ((λ z. s), λ z. absurd (false≢true (sym z ∙ sym test ∙ clear)))
 
     -- the front was zeros

@@ -13,13 +13,14 @@ use Rattle.chart_table.specs.Table.{countFound}
 use Rattle.chart_steps.specs.Found.{foundRanks}
 use Rattle.chart_steps.proofs.Added.{search-adds}
 use Rattle.chart.specs.Chart.{layOut, enumerate}
+use Rattle.chart.proofs.Front.{take-zeros}
 use Rattle.chart_theory.proofs.Accepted.{layout, first-reached, next-reached, front-filled}
 use Rattle.chart_theory.proofs.Search.Passes.{Listed}
 use Rattle.listing.specs.Listing.{tableSize}
 use Rattle.open_listing.specs.Model.{zeros, firstTable, nextTable}
-use Rattle.open_listing.proofs.Own.{take-zeros, drop-zeros, plan}
+use Rattle.open_listing.proofs.Plans.{plan}
 use Rattle.open_listing.proofs.Counted as counted
-use Rattle.open_listing.proofs.Zeros.{zeros-all}
+use Rattle.open_listing.proofs.Zeros.{zeros-all, drop-zeros}
 
 module _ (g : Grammar) (h : Heard) (okg : ValidGrammar g) (okh : ValidHeard (g .words) h) (rules edges : List ℕ) (begun : Begins (ruleNumbers g) rules)
     (begun′ : Begins (edgeNumbers (heardEdges h)) edges) (work : List ℕ) where

@@ -1,9 +1,10 @@
--- Whether all numbers of a list are 0, from one place on.
+-- Whether all numbers of a list are 0, from one place on; and what is left of zeros.
 use mathlib.Core.Path.{_≡_, refl, ap}
 use mathlib.Core.Bool.{Bool, true, false, false≢true}
 use mathlib.Core.List.{List, [], _∷_}
-use Prim.Native.Nat.{ℕ, zero, suc, _+_, _≤_, _<_}
-use native.Mathlib.Numerals.{add-one}
+use Prim.Native.Nat.{ℕ, zero, suc, _+_, _-_, _≤_, _<_}
+use native.Mathlib.Numerals.{add-one, unary-clauses}
+use native.Mathlib.Omega.{arith}
 use borrow.Author.Tests.{eq-eqb, ne-eqb, eqb-true}
 use lib.Dec.{eqb}
 use lib.ListN.{length, getD, drop, replicate, drop-of-length-le}
@@ -37,3 +38,8 @@ pub zeros-all : (n : ℕ) → zeros (replicate n 0) ≡ true
 unfolding zeros
 zeros-all zero = refl
 zeros-all (suc n) = zeros-all n
+
+pub drop-zeros : (k j : ℕ) → drop j (replicate {A = ℕ} k 0) ≡ replicate (k - j) 0
+drop-zeros k zero = simp unary-clauses refl
+drop-zeros zero (suc j) = let none : 0 ≡ 0 - suc j = omega arith in ap (λ (m : ℕ). replicate {A = ℕ} m 0) none
+drop-zeros (suc k) (suc j) = simp unary-clauses (drop-zeros k j)

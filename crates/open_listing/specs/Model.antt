@@ -2,23 +2,22 @@
 use mathlib.Core.Path.{_≡_}
 use mathlib.Core.Bool.{Bool, true, false}
 use mathlib.Core.List.{List, [], _∷_, _++_}
-use Prim.Native.Nat.{ℕ, _*_, _≤_, _<_}
+use Prim.Native.Nat.{ℕ, _*_, _≤_}
 use lib.Dec.{eqb}
-use lib.ListN.{length, take, drop, replicate}
+use lib.ListN.{length, drop, replicate}
 use Rattle.bits.specs.Bits.{pick}
 use Rattle.packing.specs.Meaning.{Grammar, Heard, heardEdges}
-use Rattle.packing.specs.Parse.{Verdict, accepted, refused}
+use Rattle.packing.specs.Parse.{accepted}
 use Rattle.packing.specs.Grammar.{grammarBlock}
 use Rattle.packing.specs.Heard.{heardBlock}
-use Rattle.packing.specs.Flat.{Begins, ruleNumbers, edgeNumbers, rulesOf}
+use Rattle.packing.specs.Flat.{Begins, ruleNumbers, edgeNumbers}
 use Rattle.chart_table.specs.Table.{Sized}
 use Rattle.chart_index.specs.Index.{indexNumbers}
 use Rattle.chart_index.specs.Build.{makeIndex}
 use Rattle.chart_search.specs.Search.{nextOfRoot}
-use Rattle.chart.specs.Chart.{layOut, enumerate, rootFound, rootStands}
+use Rattle.chart.specs.Chart.{layOut, enumerate, rootFound, rootSpelled}
 use Rattle.chart_theory.proofs.Plane.{single}
-use Rattle.checker.specs.Run.{underRules}
-use Rattle.listing.specs.Model.{formOf, FormFor, blockAt, ownSizeAt}
+use Rattle.listing.specs.Model.{formOf, FormFor, blockAt}
 use Rattle.grammar_reader.specs.Answer.{sizes}
 use Rattle.grammar_reader.specs.declared.Sizes.{Sizes}
 use Rattle.heard_reader.specs.Answer.{heardSize}
@@ -47,7 +46,6 @@ planOf b = record {
   form = formOf (b .heard .graph) (b .heard .last) (b .sizes .rules);
   layout = layOut (b .sizes .symbols) (b .heard .last) 256;
   edges = b .heard .edges;
-  words = b .sizes .words;
 }
 
 pub record Planned (p : Plan) : Type 0 where
@@ -56,24 +54,14 @@ pub record Planned (p : Plan) : Type 0 where
   pub form : FormFor (p .layout .places) (p .form)
   pub size : p .form .size ≤ 73
   pub edges : p .edges ≤ 256
-  pub some-word : 0 < p .words
-  pub words : p .words ≤ 200
 
-abbrev pub passed : Verdict (List ℕ) → Bool
-passed (accepted l) = true
-passed (refused n) = false
-
-module _ (t rules heard : List ℕ) (p : Plan) (x : ℕ) where
-  -- whether rank x of the root is handed out, once it is found: its tree stands, and its reading passes the check
-  unfoldable pub handsOut : Bool
-  handsOut =
-      pick (rootStands t rules (p .layout) x)
-      (passed (underRules (p .words) (rulesOf rules (p .form .rules)) heard (take (ownSizeAt t rules (p .layout) (p .form) x) (blockAt t rules (p .layout) (p .form) x))))
-      false
+module _ (t rules edges : List ℕ) (p : Plan) (x : ℕ) where
+  -- whether rank x of the root is handed out, once it is found: the table spells a derivation there, of the weight of its price
+  abbrev pub handsOut : Bool
+  handsOut = rootSpelled t rules edges (record { rules = p .form .rules; edges = p .edges }) (p .layout) x
 
   -- the answer
   unfoldable pub settled : A.Answer
-  unfolding handsOut
   settled = pick (rootFound t (p .layout) x) (pick handsOut Reading (Refused 53)) NoMore
 
 -- the output, if the reading is written and if it is not
@@ -91,8 +79,8 @@ nextTable rules edges p x work =
     (p .layout) work x
 
 -- what is left where rank x was looked for: the new table and the reading, or everything as it was
-pub record Searched (table rules heard : List ℕ) (p : Plan) (x : ℕ) (work out : List ℕ) (r : A.Answer) (work′ out′ : List ℕ) : Type 0 where
-  pub answer : r ≡ settled table rules heard p x
+pub record Searched (table rules edges : List ℕ) (p : Plan) (x : ℕ) (work out : List ℕ) (r : A.Answer) (work′ out′ : List ℕ) : Type 0 where
+  pub answer : r ≡ settled table rules edges p x
   pub left : work′ ≡ pick (isReading r) table work
   pub output : out′ ≡ outputBy (isReading r) table rules p x out
 
@@ -104,9 +92,9 @@ pub record Untouched (work out work′ out′ : List ℕ) : Type 0 where
 abbrev pub Promised : (grammar heard : List ℕ) → Place → (work out : List ℕ) → A.Answer → (work′ out′ : List ℕ) → Type 0
 Promised grammar heard p work out r work′ out′ = Called grammar heard p work out r work′ out′ × Kept grammar heard p work out r work′ out′
 
-abbrev pub HeardCalled : (rules edges heard : List ℕ) → Plan → Place → (work out : List ℕ) → A.Answer → (work′ out′ : List ℕ) → Type 0
-HeardCalled rules edges heard q p work out r work′ out′ =
-    (grammar : List ℕ) (g : Grammar) (h : Heard) → grammarBlock grammar ≡ accepted g → heardBlock (g .words) heard ≡ accepted h
+abbrev pub HeardCalled : (rules edges : List ℕ) → Plan → Place → (work out : List ℕ) → A.Answer → (work′ out′ : List ℕ) → Type 0
+HeardCalled rules edges q p work out r work′ out′ =
+    (grammar heard : List ℕ) (g : Grammar) (h : Heard) → grammarBlock grammar ≡ accepted g → heardBlock (g .words) heard ≡ accepted h
     → q ≡ planOf (record { sizes = sizes g; heard = heardSize h }) → Begins (ruleNumbers g) rules → Begins (edgeNumbers (heardEdges h)) edges
     → Promised grammar heard p work out r work′ out′
 

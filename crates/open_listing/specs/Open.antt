@@ -1,8 +1,7 @@
 -- Readings one by one: document 02, N2, with the rows grammar block, utterance block and listing of document 01's "Where each check stands".
--- Stands on packing's and derivation's definitions, on the listing's and on chart_steps' count of the ranks that a table has found. Of the page Left a
--- reader need believe nothing.
+-- Stands on packing's and derivation's definitions, on the listing's, on chart_steps' count of the ranks that a table has found and on chart_theory's page
+-- of the trees that it spells. Of the page Left a reader need believe nothing.
 use mathlib.Core.Path.{_≡_}
-use mathlib.Core.Bool.{true}
 use mathlib.Core.List.{List, _++_}
 use Prim.Native.Nat.{ℕ, suc, _+_, _-_, _*_, _≤_, _<_}
 use lib.Dec.{ltb}
@@ -12,18 +11,16 @@ use Rattle.packing.specs.Meaning.{Grammar, Heard, lastPlace}
 use Rattle.packing.specs.Parse.{Verdict, accepted, refused, _then_}
 use Rattle.packing.specs.Grammar.{grammarBlock}
 use Rattle.packing.specs.Heard.{heardBlock}
-use Rattle.packing.specs.Flat.{Begins, ruleNumbers}
 use Rattle.derivation.specs.Derivation.{Tree, Derivation}
 use Rattle.derivation.specs.Heard.{outputLength, packed}
 use Rattle.derivation.specs.Rank.{Number}
 use Rattle.chart_table.specs.declared.Layout.{Layout}
-use Rattle.chart_table.specs.Table.{countFound}
+use Rattle.chart_table.specs.Table.{root, countFound}
 use Rattle.chart_steps.specs.Found.{foundRanks}
-use Rattle.chart.specs.Chart.{layOut, rootStands}
+use Rattle.chart.specs.Chart.{layOut}
+use Rattle.chart_theory.specs.Spelled.{Spelled}
 use Rattle.listing.specs.Listing.{tableSize}
 use Rattle.listing.specs.Demand3.{Ranked}
-use Rattle.listing.specs.Model.{formOf, blockAt}
-use Rattle.heard_reader.specs.Answer.{isGraph}
 use Rattle.open_listing.specs.Left.{AsLeft}
 use Rattle.open_listing.specs.declared.Place.{Place}
 use Rattle.open_listing.specs.declared.Opened.{Opened}
@@ -68,14 +65,6 @@ placeAfter (Refused n) p = p
 abbrev pub layout : Grammar → Heard → Layout
 layout g h = layOut (g .symbols) (lastPlace h) 256
 
--- "what a call hands out is spelled from found ranks alone": the bytes are those that rank k, from 0, of the whole spells in a table, and
--- it and all ranks that it is put together from are found there. `rules` is the grammar's rules in an array
-pub record Spelled (g : Grammar) (h : Heard) (k : ℕ) (table bytes : List ℕ) : Type 0 where
-  pub rules : List ℕ
-  pub begins : Begins (ruleNumbers g) rules
-  pub stands : rootStands table rules (layout g h) k ≡ true
-  pub bytes-are : blockAt table rules (layout g h) (formOf (isGraph h) (lastPlace h) (length (g .rules))) k ≡ bytes
-
 -- what is to hold of a call with a grammar block, a block of what was heard, a place, a work table and an output that answers `answer`
 module _ (grammar heard : List ℕ) (p : Place) (work out : List ℕ) (answer : A.Answer) (work′ out′ : List ℕ) where
   pub record Unchanged : Type 0 where
@@ -88,7 +77,8 @@ module _ (grammar heard : List ℕ) (p : Place) (work out : List ℕ) (answer : 
     pub tree : Tree
     pub derivation : Derivation g h tree
     pub written : out′ ≡ packed g h tree ++ drop (outputLength g h) out
-    pub spelled : Spelled g h (p .handed) work′ (packed g h tree)
+    -- "what a call hands out is spelled from found ranks alone": that rank of the whole, from 0, spells it in the table
+    pub spelled : Spelled g (layout g h) work′ tree (root (layout g h)) (p .handed)
     -- "The call that gives the first reading adds at most one found rank for each span and head."
     pub first-adds : p .handed ≡ 0 → (c : ℕ) → c < layout g h .cells → countFound work′ (layout g h) c ≤ countFound work (layout g h) c + 1
     -- "After it, a call adds at most 2n−1 found ranks (n being P−1 in a graph) over all spans and heads, counted from the table itself."

@@ -6,29 +6,27 @@ use chart_table::Layout;
 use chart_table::MOST_RANKS;
 use chart_table::journal::JOURNAL_NUMBERS;
 use chart_table::zero;
-use checker::Walked;
-use checker::check_heard;
+use chart_trace::checked::Counts;
 use grammar_reader::GrammarRead;
 use grammar_reader::Sizes;
 use heard_reader::HeardRead;
 use heard_reader::HeardSize;
 use heard_reader::read_heard;
 use listing::Form;
+use listing::TracedRank;
 use listing::form_of;
-use listing::write_rank;
+use listing::write_traced;
 use packing::format::EDGES_LENGTH;
 use packing::format::RULES_LENGTH;
-use packing::format::WALK_LENGTH;
+use packing::format::TRACE_LENGTH;
 use packing::refused;
 ghost use mathlib.Core.Path.{_≡_};
 ghost use mathlib.Core.Bool.{true, false};
 ghost use Prim.Native.Nat.{_-_, _*_, _≤_, _<_};
 ghost use lib.ListN.{length, take};
-ghost use Rattle.packing.specs.Flat.{rulesOf};
 ghost use Rattle.grammar_reader.specs.Answer.{Bounded};
-ghost use Rattle.checker.specs.Run.{underRules};
 ghost use Rattle.open_listing.specs.Open.{opening, openedOf, tableOpened, Called, Kept};
-ghost use Rattle.open_listing.specs.Model.{zeros, Planned, planOf, passed, handsOut, settled, isReading, outputBy, firstTable, nextTable, Searched, Untouched, HeardCalled, GrammarOpened, GrammarCalled};
+ghost use Rattle.open_listing.specs.Model.{zeros, Planned, planOf, handsOut, settled, isReading, outputBy, firstTable, nextTable, Searched, Untouched, HeardCalled, GrammarOpened, GrammarCalled};
 
 // An open listing's place: how many readings were handed out, and whether it was opened.
 #[repr(C)]
@@ -54,15 +52,11 @@ pub enum Answer {
 // The mark of a place that was opened.
 pub const OPENED: u32 = 1;
 
-// The bytes of the longest reading.
-const READING_BYTES: usize = 73;
-
-// What a search goes by: the form of readings, the table's layout, the number of edges and the grammar's words.
+// What a search goes by: the form of readings, the table's layout and the number of edges.
 struct Plan {
     form: Form,
     layout: Layout,
     edges: usize,
-    words: u32,
 }
 
 // What was read of both blocks.
@@ -98,51 +92,49 @@ fn all_zero(t: &[u32]) -> bool
     true
 }
 
-// Whether a reading passes the check.
-fn passes(rules: &[u32], plan: Plan, heard: &[u8], reading: &[u8]) -> bool
-    requires { ⌜ Planned plan ⌝ }
-    ensures { λ r. ⌜ r ≡ passed (underRules (plan .words) (rulesOf (now (rules .entry)) (plan .form .rules)) (now (heard .entry)) (now (reading .entry))) ⌝ }
-{
-    let mut walk = [0u32; WALK_LENGTH];
-    let found = check_heard(
-        rules,
-        plan.form.rules,
-        plan.words,
-        heard,
-        reading,
-        &mut walk,
-    );
-    match found {
-        Walked::Nodes(_) => true,
-        Walked::Refused(_) => false,
-    }
-}
-
-// Whether the tree of a rank of the root stands in the table and its reading passes the check; it is written to `out` then.
-fn hand_out(t: &[u32], rules: &[u32], heard: &[u8], plan: Plan, rank: usize, out: &mut [u8]) -> bool
+// Whether the table spells a derivation at a rank of the root; its reading is written to `out` then.
+fn hand_out(
+    t: &[u32],
+    rules: &[u32],
+    edges: &[u32],
+    plan: Plan,
+    rank: usize,
+    out: &mut [u8],
+) -> bool
     requires { ⌜ (Planned plan) × (rank < plan .layout .ranks) × (plan .form .size ≤ length (now out)) ⌝ }
-    ensures { λ r. ⌜ (r ≡ handsOut (now (t .entry)) (now (rules .entry)) (now (heard .entry)) plan rank)
+    ensures { λ r. ⌜ (r ≡ handsOut (now (t .entry)) (now (rules .entry)) (now (edges .entry)) plan rank)
         × (now (out .exit) ≡ outputBy r (now (t .entry)) (now (rules .entry)) plan rank (now (out .entry))) ⌝ }
 {
-    if steps::root_stands(t, rules, plan.layout, rank) {
-        let mut reading = [0u8; READING_BYTES];
-        let own = write_rank(t, rules, plan.form, plan.layout, rank, &mut reading);
-        if passes(rules, plan, heard, &reading[..own]) {
-            padded_strings::copy(out, 0, &reading, plan.form.size);
-            return true;
-        }
+    let d = plan.layout;
+    let counts = Counts {
+        rules: plan.form.rules,
+        edges: plan.edges,
+    };
+    let mut trace = [0u32; TRACE_LENGTH];
+    let numbers = steps::checked_root(t, rules, edges, counts, d, rank, &mut trace);
+    if numbers == 0 {
+        return false;
     }
-    false
+    let traced = TracedRank { rank, numbers };
+    write_traced(t, rules, plan.form, d, traced, &trace, out);
+    true
 }
 
 // What a call answers once a rank of the root was looked for.
-fn settle(t: &[u32], rules: &[u32], heard: &[u8], plan: Plan, rank: usize, out: &mut [u8]) -> Answer
+fn settle(
+    t: &[u32],
+    rules: &[u32],
+    edges: &[u32],
+    plan: Plan,
+    rank: usize,
+    out: &mut [u8],
+) -> Answer
     requires { ⌜ (Planned plan) × (rank < plan .layout .ranks) × (plan .form .size ≤ length (now out)) ⌝ }
-    ensures { λ r. ⌜ (r ≡ settled (now (t .entry)) (now (rules .entry)) (now (heard .entry)) plan rank)
+    ensures { λ r. ⌜ (r ≡ settled (now (t .entry)) (now (rules .entry)) (now (edges .entry)) plan rank)
         × (now (out .exit) ≡ outputBy (isReading r) (now (t .entry)) (now (rules .entry)) plan rank (now (out .entry))) ⌝ }
 {
     if steps::root_found(t, plan.layout, rank) {
-        if hand_out(t, rules, heard, plan, rank, out) {
+        if hand_out(t, rules, edges, plan, rank, out) {
             return Answer::Reading;
         }
         return Answer::Refused(refused::OPEN_ALTERED);
@@ -151,17 +143,10 @@ fn settle(t: &[u32], rules: &[u32], heard: &[u8], plan: Plan, rank: usize, out: 
 }
 
 // The first call: one rank of each cell is looked for, at the table's front, which is to be zeros.
-fn first(
-    work: &mut [u32],
-    rules: &[u32],
-    edges: &[u32],
-    heard: &[u8],
-    plan: Plan,
-    out: &mut [u8],
-) -> Answer
+fn first(work: &mut [u32], rules: &[u32], edges: &[u32], plan: Plan, out: &mut [u8]) -> Answer
     requires { ⌜ (Planned plan) × (plan .form .size ≤ length (now out)) × (4 * plan .layout .cells ≤ length (now work)) ⌝ }
     ensures { λ r. ⌜ (zeros (take (4 * plan .layout .cells) (now (work .entry))) ≡ true
-        → Searched (firstTable (now (rules .entry)) (now (edges .entry)) plan (now (work .entry))) (now (rules .entry)) (now (heard .entry)) plan 0 (now (work .entry)) (now (out .entry)) r (now (work .exit)) (now (out .exit)))
+        → Searched (firstTable (now (rules .entry)) (now (edges .entry)) plan (now (work .entry))) (now (rules .entry)) (now (edges .entry)) plan 0 (now (work .entry)) (now (out .entry)) r (now (work .exit)) (now (out .exit)))
         × (zeros (take (4 * plan .layout .cells) (now (work .entry))) ≡ false
         → (r ≡ Answer.Refused 53) × Untouched (now (work .entry)) (now (out .entry)) (now (work .exit)) (now (out .exit))) ⌝ }
 {
@@ -182,7 +167,7 @@ fn first(
             plan.edges,
             single,
         );
-        let answer = settle(&work[..], rules, heard, plan, 0, out);
+        let answer = settle(&work[..], rules, edges, plan, 0, out);
         if is_reading(answer) {
             return answer;
         }
@@ -197,20 +182,19 @@ fn later(
     work: &mut [u32],
     rules: &[u32],
     edges: &[u32],
-    heard: &[u8],
     plan: Plan,
     handed: usize,
     out: &mut [u8],
 ) -> Answer
     requires { ⌜ (Planned plan) × (1 ≤ handed) × (handed < plan .layout .ranks) × (plan .form .size ≤ length (now out)) ⌝ }
-    ensures { λ r. ⌜ Searched (nextTable (now (rules .entry)) (now (edges .entry)) plan (handed - 1) (now (work .entry))) (now (rules .entry)) (now (heard .entry)) plan handed (now (work .entry)) (now (out .entry)) r (now (work .exit)) (now (out .exit)) ⌝ }
+    ensures { λ r. ⌜ Searched (nextTable (now (rules .entry)) (now (edges .entry)) plan (handed - 1) (now (work .entry))) (now (rules .entry)) (now (edges .entry)) plan handed (now (work .entry)) (now (out .entry)) r (now (work .exit)) (now (out .exit)) ⌝ }
 {
     let d = plan.layout;
     let mut index = [0u32; INDEX_NUMBERS];
     let mut kept = [0u32; JOURNAL_NUMBERS];
     steps::index_of(rules, plan.form.rules, edges, plan.edges, d, &mut index);
     steps::step(work, &mut kept, rules, edges, &index, d, handed - 1);
-    let answer = settle(&work[..], rules, heard, plan, handed, out);
+    let answer = settle(&work[..], rules, edges, plan, handed, out);
     if is_reading(answer) {
         return answer;
     }
@@ -228,7 +212,6 @@ fn plan_of(blocks: Blocks) -> Plan
         form: form_of(blocks.heard.graph, last, blocks.sizes.rules as usize),
         layout: chart::lay_out(blocks.sizes.symbols as usize, last, MOST_RANKS),
         edges: blocks.heard.edges,
-        words: blocks.sizes.words,
     }
 }
 
@@ -236,14 +219,13 @@ fn plan_of(blocks: Blocks) -> Plan
 fn next_heard(
     rules: &[u32],
     edges: &[u32],
-    heard: &[u8],
     plan: Plan,
     place: Place,
     work: &mut [u32],
     out: &mut [u8],
 ) -> Answer
     requires { ⌜ Planned plan ⌝ }
-    ensures { λ r. ⌜ HeardCalled (now (rules .entry)) (now (edges .entry)) (now (heard .entry)) plan place (now (work .entry)) (now (out .entry)) r (now (work .exit)) (now (out .exit)) ⌝ }
+    ensures { λ r. ⌜ HeardCalled (now (rules .entry)) (now (edges .entry)) plan place (now (work .entry)) (now (out .entry)) r (now (work .exit)) (now (out .exit)) ⌝ }
 {
     if work.len() < chart::table_numbers(plan.layout) {
         return Answer::Refused(refused::LISTING_WORK);
@@ -259,9 +241,9 @@ fn next_heard(
         return Answer::Refused(refused::OPEN_ALTERED);
     }
     if handed == 0 {
-        return first(work, rules, edges, heard, plan, out);
+        return first(work, rules, edges, plan, out);
     }
-    later(work, rules, edges, heard, plan, handed, out)
+    later(work, rules, edges, plan, handed, out)
 }
 
 // One more reading of a block of slots or of a graph under an accepted grammar.
@@ -281,7 +263,7 @@ fn next_grammar(
         HeardRead::Refused(n) => Answer::Refused(n),
         HeardRead::Heard(size) => {
             let plan = plan_of(Blocks { sizes, heard: size });
-            next_heard(rules, &edges, heard, plan, place, work, out)
+            next_heard(rules, &edges, plan, place, work, out)
         }
     }
 }

@@ -125,7 +125,7 @@ module _ (g : Grammar) (okg : ValidGrammar g) (rules : List ℕ) (has-rules : Be
   unfolding layOut marginsOf listedFor
   some-list n =
       let (z, first, rank) = pass-some g okg rules has-rules size u oku array has-edges room n in
-      rw (rank .weighs, rank .nodes, first-place g u first)
+      rw (rank .has .weighs, rank .has .nodes, first-place g u first)
       (entries-are u (source z first) refl (valid-ascending (g .words) u oku) z first array (λ e. edge-at (edges u) array e has-edges)
       (fill free (plain table) rules (passOf g u))
       (λ A i k in-chart. fill-is (source z first) free (rw length-replicate few-cells) (zeros (length table / 4)) (length (edges u)) A i k in-chart)

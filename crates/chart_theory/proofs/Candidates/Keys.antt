@@ -116,13 +116,13 @@ module _ {g : Grammar} {es : List Edge} {rules edges index : List ℕ} {d : Layo
   pub rule-is : (r : ℕ) {rule : Rule} → At (g .rules) r rule → ruleAt rules r ≡ rule
   rule-is r e = let h = s .rule-at r (at-length (g .rules) r e) in cc
 
-  record EdgeIs (e i k : ℕ) (x : W.Word) (cost : ℕ) : Type 0 where
-    from : getD edges (4 * e) 0 ≡ i
-    upto : getD edges (4 * e + 1) 0 ≡ k
-    carries : getD edges (4 * e + 2) 0 ≡ x .0
-    costs : getD edges (4 * e + 3) 0 ≡ cost
+  pub record EdgeIs (e i k : ℕ) (x : W.Word) (cost : ℕ) : Type 0 where
+    pub from : getD edges (4 * e) 0 ≡ i
+    pub upto : getD edges (4 * e + 1) 0 ≡ k
+    pub carries : getD edges (4 * e + 2) 0 ≡ x .0
+    pub costs : getD edges (4 * e + 3) 0 ≡ cost
 
-  edge-is : (e : ℕ) {i k cost : ℕ} {x : W.Word} → At es e (edge i k x cost) → EdgeIs e i k x cost
+  pub edge-is : (e : ℕ) {i k cost : ℕ} {x : W.Word} → At es e (edge i k x cost) → EdgeIs e i k x cost
   edge-is e {x = x} p =
       let h = s .edge-at e (at-length es e p) in
       let same : word (getD edges (4 * e + 2) 0) ≡ x = cc in

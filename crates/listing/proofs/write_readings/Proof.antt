@@ -1,5 +1,5 @@
 -- After x turns the blocks of the first x ranks stand in front of what stood beyond them.
-use mathlib.Core.Path.{_≡_, refl, sym, _∙_}
+use mathlib.Core.Path.{_≡_, refl, _∙_}
 use mathlib.Core.List.{_++_}
 use Prim.Native.Nat.{_+_, _-_, _*_, _≤_}
 use native.Mathlib.Nat.{mul-le-mul-right, zero-mul}
@@ -71,7 +71,7 @@ loop-again c =
     let part = at-write-rank .write-rank .last .1 .1 .1 .1 .1 .0 in (
       omega (arith, at-write-rank .before .before .loop-test .taken),
       same-len-mid (l .x * size) (length (l .out) - l .x * size) (l .out) part (at-write-rank .write-rank .kept .1 .1 .1 .1 .1 .0) ∙ l .inv .1,
-      written-more (a .t .now) (a .rules .now) (a .d) (a .form) (at-start .pre .1) (l .x) (a .out .now) (l .inv .2) (at-write-rank .write-rank .ensures .0),
+      written-more (a .t .now) (a .rules .now) (a .d) (a .form) (at-start .pre .1) (l .x) (a .out .now) (l .inv .2) (at-write-rank .write-rank .ensures),
     )
 
 same-length : tie.Need-same-length Inv-loop μ-loop

@@ -16,7 +16,7 @@ slice-reshare-prefix-all-zero : tie.Need-slice-reshare-prefix-all-zero
 slice-reshare-prefix-all-zero c = search needs
 
 slice-aggregate-all-zero : tie.Need-slice-aggregate-all-zero
-slice-aggregate-all-zero c = sym (length-take-le _ _ (c .before .before .before .before .before .before .before .before .pre .2))
+slice-aggregate-all-zero c = sym (length-take-le _ _ (c .before .before .before .before .before .before .before .pre .2))
 
 all-zero-requires : tie.Need-all-zero-requires
 all-zero-requires c κs = search needs
@@ -25,7 +25,7 @@ slice-relend-prefix-enumerate : tie.Need-slice-relend-prefix-enumerate
 slice-relend-prefix-enumerate c = search needs
 
 slice-aggregate-enumerate : tie.Need-slice-aggregate-enumerate
-slice-aggregate-enumerate c = sym (length-take-le _ _ (c .before .before .before .before .before .before .before .before .before .before .before .pre .2))
+slice-aggregate-enumerate c = sym (length-take-le _ _ (c .before .before .before .before .before .before .before .before .before .before .pre .2))
 
 enumerate-requires : tie.Need-enumerate-requires
 enumerate-requires c κs = search needs
@@ -44,23 +44,23 @@ same-length-2 c = search needs
 
 returns : tie.Need-returns
 returns c =
-    let a = c .before .before .before .before .before .before .before .before .before .before .before .before .before .before .before .before .before .before .before .before .before .args in
-    let planned = c .before .before .before .before .before .before .before .before .before .before .before .before .before .before .before .before .before .before .before .before .before .pre .0 in
-    let fits = c .before .before .before .before .before .before .before .before .before .before .before .before .before .before .before .before .before .before .before .before .before .pre .2 in
+    let a = c .before .before .before .before .before .before .before .before .before .before .before .before .before .before .before .before .before .before .before .before .args in
+    let planned = c .before .before .before .before .before .before .before .before .before .before .before .before .before .before .before .before .before .before .before .before .pre .0 in
+    let fits = c .before .before .before .before .before .before .before .before .before .before .before .before .before .before .before .before .before .before .before .before .pre .2 in
     let made = c .before .before .before .before .before .before .before .before .before .enumerate .ensures .0 in
     let table = firstTable (a .rules .now) (a .edges .now) (a .plan) (a .work .now) in
-    let first = table-first (a .rules .now) (a .edges .now) (a .heard .now) (a .plan) (a .work .now) (a .out .now) fits (c .before .before .before .before .before .before .before .before .before .before .before .before .all-zero .ensures) (c .before .before .before .before .before .before .before .before .before .before .before .if1 .taken) made in
-    promised (a .rules .now) (a .edges .now) (a .heard .now) (a .plan) (a .work .now) (a .out .now) fits (c .before .before .before .before .before .before .before .before .before .before .before .before .all-zero .ensures) (c .before .before .before .before .before .before .before .before .before .before .before .if1 .taken) made
-    (stays table (a .rules .now) (a .heard .now) (a .plan) 0 (a .work .now) (a .out .now) first (c .before .before .before .before .settle .ensures .0) (c .before .before .before .before .settle .ensures .1) (c .before .is-reading .ensures) (c .if2 .taken))
+    let first = table-first (a .rules .now) (a .edges .now) (a .plan) (a .work .now) (a .out .now) fits (c .before .before .before .before .before .before .before .before .before .before .before .before .all-zero .ensures) (c .before .before .before .before .before .before .before .before .before .before .before .if1 .taken) made in
+    promised (a .rules .now) (a .edges .now) (a .plan) (a .work .now) (a .out .now) fits (c .before .before .before .before .before .before .before .before .before .before .before .before .all-zero .ensures) (c .before .before .before .before .before .before .before .before .before .before .before .if1 .taken) made
+    (stays table (a .rules .now) (a .edges .now) (a .plan) 0 (a .work .now) (a .out .now) first (c .before .before .before .before .settle .ensures .0) (c .before .before .before .before .settle .ensures .1) (c .before .is-reading .ensures) (c .if2 .taken))
 
 slice-relend-prefix-zero : tie.Need-slice-relend-prefix-zero
 slice-relend-prefix-zero c = search needs
 
 slice-aggregate-zero : tie.Need-slice-aggregate-zero
 slice-aggregate-zero c =
-    let a = c .before .before .before .before .before .before .before .before .before .before .before .before .before .before .before .before .before .before .before .before .before .before .args in
+    let a = c .before .before .before .before .before .before .before .before .before .before .before .before .before .before .before .before .before .before .before .before .before .args in
     sym (length-take-le _ _ (rw length-append
-    (omega (arith, c .before .before .before .before .before .before .before .before .before .before .enumerate .kept .0, front-size (a .rules .now) (a .edges .now) (a .heard .now) (a .plan) (a .work .now) (a .out .now) (c .before .before .before .before .before .before .before .before .before .before .before .before .before .before .before .before .before .before .before .before .before .before .pre .2)))))
+    (omega (arith, c .before .before .before .before .before .before .before .before .before .before .enumerate .kept .0, front-size (a .rules .now) (a .edges .now) (a .plan) (a .work .now) (a .out .now) (c .before .before .before .before .before .before .before .before .before .before .before .before .before .before .before .before .before .before .before .before .before .pre .2)))))
 
 zero-requires : tie.Need-zero-requires
 zero-requires c κs = search needs
@@ -73,23 +73,23 @@ same-length-4 c = search needs
 
 returns-2 : tie.Need-returns-2
 returns-2 c =
-    let a = c .before .before .before .before .before .before .before .before .before .before .before .before .before .before .before .before .before .before .before .before .before .before .before .before .before .args in
-    let planned = c .before .before .before .before .before .before .before .before .before .before .before .before .before .before .before .before .before .before .before .before .before .before .before .before .before .pre .0 in
-    let fits = c .before .before .before .before .before .before .before .before .before .before .before .before .before .before .before .before .before .before .before .before .before .before .before .before .before .pre .2 in
+    let a = c .before .before .before .before .before .before .before .before .before .before .before .before .before .before .before .before .before .before .before .before .before .before .before .before .args in
+    let planned = c .before .before .before .before .before .before .before .before .before .before .before .before .before .before .before .before .before .before .before .before .before .before .before .before .pre .0 in
+    let fits = c .before .before .before .before .before .before .before .before .before .before .before .before .before .before .before .before .before .before .before .before .before .before .before .before .pre .2 in
     let made = c .before .before .before .before .before .before .before .before .before .before .before .before .before .enumerate .ensures .0 in
     let table = firstTable (a .rules .now) (a .edges .now) (a .plan) (a .work .now) in
-    let first = table-first (a .rules .now) (a .edges .now) (a .heard .now) (a .plan) (a .work .now) (a .out .now) fits (c .before .before .before .before .before .before .before .before .before .before .before .before .before .before .before .before .all-zero .ensures) (c .before .before .before .before .before .before .before .before .before .before .before .before .before .before .before .if1 .taken) made in
-    promised (a .rules .now) (a .edges .now) (a .heard .now) (a .plan) (a .work .now) (a .out .now) fits (c .before .before .before .before .before .before .before .before .before .before .before .before .before .before .before .before .all-zero .ensures) (c .before .before .before .before .before .before .before .before .before .before .before .before .before .before .before .if1 .taken) made
-    (goes-back table (a .rules .now) (a .heard .now) (a .plan) 0 (a .work .now) (a .out .now) first (c .before .before .before .before .before .before .before .before .settle .ensures .0) (c .before .before .before .before .before .before .before .before .settle .ensures .1) (c .before .before .before .before .before .is-reading .ensures) (c .before .before .before .before .if2 .left)
-    (zeros-again (a .rules .now) (a .edges .now) (a .heard .now) (a .plan) (a .work .now) (a .out .now) fits (c .before .before .before .before .before .before .before .before .before .before .before .before .before .before .before .before .all-zero .ensures) (c .before .before .before .before .before .before .before .before .before .before .before .before .before .before .before .if1 .taken) made (c .before .before .before .before .before .before .before .before .before .before .before .before .before .enumerate .kept .0) (c .before .before .zero .ensures) refl))
+    let first = table-first (a .rules .now) (a .edges .now) (a .plan) (a .work .now) (a .out .now) fits (c .before .before .before .before .before .before .before .before .before .before .before .before .before .before .before .before .all-zero .ensures) (c .before .before .before .before .before .before .before .before .before .before .before .before .before .before .before .if1 .taken) made in
+    promised (a .rules .now) (a .edges .now) (a .plan) (a .work .now) (a .out .now) fits (c .before .before .before .before .before .before .before .before .before .before .before .before .before .before .before .before .all-zero .ensures) (c .before .before .before .before .before .before .before .before .before .before .before .before .before .before .before .if1 .taken) made
+    (goes-back table (a .rules .now) (a .edges .now) (a .plan) 0 (a .work .now) (a .out .now) first (c .before .before .before .before .before .before .before .before .settle .ensures .0) (c .before .before .before .before .before .before .before .before .settle .ensures .1) (c .before .before .before .before .before .is-reading .ensures) (c .before .before .before .before .if2 .left)
+    (zeros-again (a .rules .now) (a .edges .now) (a .plan) (a .work .now) (a .out .now) fits (c .before .before .before .before .before .before .before .before .before .before .before .before .before .before .before .before .all-zero .ensures) (c .before .before .before .before .before .before .before .before .before .before .before .before .before .before .before .if1 .taken) made (c .before .before .before .before .before .before .before .before .before .before .before .before .before .enumerate .kept .0) (c .before .before .zero .ensures) refl))
 
 same-length-5 : tie.Need-same-length-5
 same-length-5 c = search needs
 
 returns-3 : tie.Need-returns-3
 returns-3 c =
-    let a = c .before .before .before .before .before .before .before .before .before .before .args in
-    not-zeros (a .rules .now) (a .edges .now) (a .heard .now) (a .plan) (a .work .now) (a .out .now) (c .before .before .before .before .before .before .before .before .before .before .pre .2) (c .before .all-zero .ensures) (c .if1 .left)
+    let a = c .before .before .before .before .before .before .before .before .before .args in
+    not-zeros (a .rules .now) (a .edges .now) (a .plan) (a .work .now) (a .out .now) (c .before .before .before .before .before .before .before .before .before .pre .2) (c .before .all-zero .ensures) (c .if1 .left)
 
 pub first-spec : {M : Type 1} → statement M
 first-spec =

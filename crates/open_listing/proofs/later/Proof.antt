@@ -38,12 +38,12 @@ same-length-2 c = search needs
 
 returns : tie.Need-returns
 returns c =
-    let a = c .before .before .before .before .before .before .before .before .before .before .before .before .before .before .before .before .before .before .before .before .before .before .before .args in
-    let planned = c .before .before .before .before .before .before .before .before .before .before .before .before .before .before .before .before .before .before .before .before .before .before .before .pre .0 in
+    let a = c .before .before .before .before .before .before .before .before .before .before .before .before .before .before .before .before .before .before .before .before .before .before .args in
+    let planned = c .before .before .before .before .before .before .before .before .before .before .before .before .before .before .before .before .before .before .before .before .before .before .pre .0 in
     let x = a .handed - 1 in
     let made = c .before .before .before .before .before .before .before .before .before .before .before .before .before .before .before .index-of .ensures in
     let next = table-next (a .rules .now) (a .edges .now) (a .plan) planned x (a .work .now) made (c .before .before .before .before .before .before .before .before .before .before .step .ensures .0) in
-    stays (nextTable (a .rules .now) (a .edges .now) (a .plan) x (a .work .now)) (a .rules .now) (a .heard .now) (a .plan) (a .handed) (a .work .now) (a .out .now)
+    stays (nextTable (a .rules .now) (a .edges .now) (a .plan) x (a .work .now)) (a .rules .now) (a .edges .now) (a .plan) (a .handed) (a .work .now) (a .out .now)
     next (c .before .before .before .before .settle .ensures .0) (c .before .before .before .before .settle .ensures .1) (c .before .is-reading .ensures) (c .if1 .taken)
 
 slice-aggregate-undo : tie.Need-slice-aggregate-undo
@@ -60,12 +60,12 @@ same-length-4 c = search needs
 
 returns-2 : tie.Need-returns-2
 returns-2 c =
-    let a = c .before .before .before .before .before .before .before .before .before .before .before .before .before .before .before .before .before .before .before .before .before .before .before .before .before .before .before .before .args in
-    let planned = c .before .before .before .before .before .before .before .before .before .before .before .before .before .before .before .before .before .before .before .before .before .before .before .before .before .before .before .before .pre .0 in
+    let a = c .before .before .before .before .before .before .before .before .before .before .before .before .before .before .before .before .before .before .before .before .before .before .before .before .before .before .before .args in
+    let planned = c .before .before .before .before .before .before .before .before .before .before .before .before .before .before .before .before .before .before .before .before .before .before .before .before .before .before .before .pre .0 in
     let x = a .handed - 1 in
     let made = c .before .before .before .before .before .before .before .before .before .before .before .before .before .before .before .before .before .before .before .before .index-of .ensures in
     let next = table-next (a .rules .now) (a .edges .now) (a .plan) planned x (a .work .now) made (c .before .before .before .before .before .before .before .before .before .before .before .before .before .before .before .step .ensures .0) in
-    goes-back (nextTable (a .rules .now) (a .edges .now) (a .plan) x (a .work .now)) (a .rules .now) (a .heard .now) (a .plan) (a .handed) (a .work .now) (a .out .now)
+    goes-back (nextTable (a .rules .now) (a .edges .now) (a .plan) x (a .work .now)) (a .rules .now) (a .edges .now) (a .plan) (a .handed) (a .work .now) (a .out .now)
     next (c .before .before .before .before .before .before .before .before .before .settle .ensures .0) (c .before .before .before .before .before .before .before .before .before .settle .ensures .1) (c .before .before .before .before .before .before .is-reading .ensures) (c .before .before .before .before .before .if1 .left)
     (put-back (a .rules .now) (a .edges .now) (a .plan) planned x (a .work .now) made (c .before .before .before .before .before .before .before .before .before .before .before .before .before .before .before .step .ensures .0) (c .before .before .before .before .before .before .before .before .before .before .before .before .before .before .before .step .ensures .1) (c .before .before .undo .ensures))
 

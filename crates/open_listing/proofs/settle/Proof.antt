@@ -18,7 +18,7 @@ returns : tie.Need-returns
 returns c =
     let a = c .before .before .before .before .before .before .before .before .before .before .before .args in
     let planned = c .before .before .before .before .before .before .before .before .before .before .before .pre .0 in (
-      found-settled (a .t .now) (a .rules .now) (a .heard .now) (a .plan) (a .rank) planned (c .before .before .before .before .before .before .root-found .ensures) (c .before .before .before .before .before .if1 .taken) (c .before .before .before .hand-out .ensures .0) (c .if2 .taken),
+      found-settled (a .t .now) (a .rules .now) (a .edges .now) (a .plan) (a .rank) planned (c .before .before .before .before .before .before .root-found .ensures) (c .before .before .before .before .before .if1 .taken) (c .before .before .before .hand-out .ensures .0) (c .if2 .taken),
       output-by (a .t .now) (a .rules .now) (a .plan) (a .rank) (a .out .now) (c .before .before .before .hand-out .ensures .1) (c .if2 .taken),
     )
 
@@ -29,7 +29,7 @@ returns-2 : tie.Need-returns-2
 returns-2 c =
     let a = c .before .before .before .before .before .before .before .before .before .before .before .args in
     let planned = c .before .before .before .before .before .before .before .before .before .before .before .pre .0 in (
-      found-settled (a .t .now) (a .rules .now) (a .heard .now) (a .plan) (a .rank) planned (c .before .before .before .before .before .before .root-found .ensures) (c .before .before .before .before .before .if1 .taken) (c .before .before .before .hand-out .ensures .0) (c .if2 .left),
+      found-settled (a .t .now) (a .rules .now) (a .edges .now) (a .plan) (a .rank) planned (c .before .before .before .before .before .before .root-found .ensures) (c .before .before .before .before .before .if1 .taken) (c .before .before .before .hand-out .ensures .0) (c .if2 .left),
       output-by (a .t .now) (a .rules .now) (a .plan) (a .rank) (a .out .now) (c .before .before .before .hand-out .ensures .1) (c .if2 .left),
     )
 
@@ -37,7 +37,7 @@ returns-3 : tie.Need-returns-3
 returns-3 c =
     let a = c .before .before .before .before .before .before .args in
     let planned = c .before .before .before .before .before .before .pre .0 in
-    (not-found-settled (a .t .now) (a .rules .now) (a .heard .now) (a .plan) (a .rank) planned (c .before .root-found .ensures) (c .if1 .left), refl)
+    (not-found-settled (a .t .now) (a .rules .now) (a .edges .now) (a .plan) (a .rank) planned (c .before .root-found .ensures) (c .if1 .left), refl)
 
 pub settle-spec : {M : Type 1} → statement M
 settle-spec =

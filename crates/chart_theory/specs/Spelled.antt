@@ -1,0 +1,28 @@
+-- The tree that a table spells: document 02, N2, "what a call hands out is spelled from found ranks alone". Stands on derivation's trees, on
+-- the entries of a table (chart_table/specs/Table), where a tree stands unless its price plus 1 is 0, and on the four numbers of a back
+-- pointer (chart_keys/specs/Keys).
+use mathlib.Core.Path.{_≡_}
+use mathlib.Core.List.{List}
+use Prim.Native.Nat.{ℕ, _<_}
+use Rattle.packing.specs.Meaning.{Grammar}
+use Rattle.packing.specs.declared.Sym.{Sym}
+use Rattle.packing.specs.declared.Rule.the-variants.{Pair}
+use Rattle.derivation.specs.Derivation.{At, Tree, leaf, node}
+use Rattle.chart_keys.specs.declared.BackPointer.{BackPointer}
+use Rattle.chart_keys.specs.Keys.{backPointer}
+use Rattle.chart_table.specs.declared.Cell.{Cell}
+use Rattle.chart_table.specs.declared.Layout.{Layout}
+use Rattle.chart_table.specs.Table.{leftPart, rightPart, cellNumber, priceAt, backAt}
+
+-- "A rank of a span and head is found once its tree stands in the table": rank x, from 0, of a cell is found, and b is its back pointer
+pub record FoundWith (d : Layout) (table : List ℕ) (c : Cell) (x : ℕ) (b : BackPointer) : Type 0 where
+  pub found : 0 < priceAt table d (cellNumber d c) x
+  pub points : backPointer (backAt table d (cellNumber d c) x) ≡ b
+
+-- Spelled g d table z c x: rank x of cell c spells the tree z. It is found, and its back pointer has the tree's rule; of a leaf it has the
+-- edge, and of a node the place where the parts meet and the ranks of the parts' own cells that spell them
+pub data Spelled (g : Grammar) (d : Layout) (table : List ℕ) : Tree → Cell → ℕ → Type 0 where
+  leaf-spelled : {c : Cell} {x : ℕ} {b : BackPointer} → FoundWith d table c x b → Spelled g d table (leaf (b .rule) (b .left)) c x
+  node-spelled : {c : Cell} {x w : ℕ} {b : BackPointer} {B C : Sym} {s t : Tree} → FoundWith d table c x b
+      → At (g .rules) (b .rule) (Pair (c .head) B C w) → Spelled g d table s (leftPart c B (b .split)) (b .left)
+      → Spelled g d table t (rightPart c C (b .split)) (b .right) → Spelled g d table (node (b .rule) (b .split) s t) c x

@@ -1,0 +1,277 @@
+// The back trace of a tree in a table that may hold anything: each node is checked as it is traced.
+use crate::part_number;
+use crate::part_of;
+use arrays::narrow_at;
+use arrays::number_at;
+use arrays::rule_at;
+use arrays::store;
+use arrays::wide;
+use chart_keys::BackPointer;
+use chart_keys::Key;
+use chart_keys::SPLITS;
+use chart_keys::back_pointer;
+use chart_table::Cell;
+use chart_table::Layout;
+use chart_table::Part;
+use chart_table::back_at;
+use chart_table::cell_number;
+use chart_table::entry_of;
+use chart_table::left_part;
+use chart_table::price_at;
+use chart_table::price_within;
+use packing::Rule;
+use packing::Sym;
+use packing::Word;
+use packing::format::EDGE_COST_AT;
+use packing::format::EDGE_TO_AT;
+use packing::format::EDGE_WORD_AT;
+use packing::format::NOT_HEARD;
+use packing::format::NUMBERS_PER_EDGE;
+use packing::format::NUMBERS_PER_NODE;
+use packing::format::NUMBERS_PER_RULE;
+use packing::format::PAIR_RULE;
+use packing::format::RULE_FIRST_AT;
+use packing::format::RULE_HEAD_AT;
+use packing::format::RULE_SECOND_AT;
+use packing::format::RULE_WEIGHT_AT;
+ghost use mathlib.Core.Path.{_≡_};
+ghost use mathlib.Core.Option.{some};
+ghost use Prim.Native.Nat.{ℕ, _+_, _-_, _*_, _<_, _≤_};
+ghost use lib.ListN.{length, getD, set};
+ghost use Rattle.packing.specs.Flat.{ruleAt};
+ghost use Rattle.packing.specs.Store.{storeAll};
+ghost use Rattle.chart_keys.specs.Keys.{digits, Digits};
+ghost use Rattle.chart_table.specs.Table.{mostRanks, cellNumber, priceAt, backAt, InTable};
+ghost use Rattle.chart_trace.specs.Trace.{traceBack};
+ghost use Rattle.chart_trace.specs.Checked.{leafIn, checkedNode, ownWeight, spelledWeight, tracedOf};
+
+// How many rules and how many edges there are, in arrays that have room for more.
+pub struct Counts {
+    pub rules: usize,
+    pub edges: usize,
+}
+
+// What a node's back pointer says in its cell: a leaf of a weight, a pairing of parts with these heads by a rule of a weight, or
+// nothing that can stand there.
+pub enum CheckedNode {
+    Leaf(usize),
+    Pairing(Sym, Sym, usize),
+    Wrong,
+}
+
+// What a checked trace answers: how many numbers it has and what the tree weighs, or that the table spells no tree.
+pub enum Traced {
+    Tree(usize, usize),
+    Nothing,
+}
+
+// An edge's four numbers.
+struct EdgeNumbers {
+    from: usize,
+    to: usize,
+    word: u32,
+    cost: u32,
+}
+
+// Reads below are of several numbers that stand together: one test serves where all are there, and else each is read by itself, as 0 past
+// the end.
+
+// The tree of a part as the table has it: its price plus 1, which is 0 where it is not found, and its back pointer as a number.
+fn tree_of(t: &[u32], d: Layout, part: Part) -> Key
+    requires { ⌜ (InTable d (part .cell)) × (part .rank ≤ mostRanks) ⌝ }
+    ensures { λ r. ⌜ (r .price ≡ priceAt (now (t .entry)) d (cellNumber d (part .cell)) (part .rank)) × (r .back ≡ backAt (now (t .entry)) d (cellNumber d (part .cell)) (part .rank)) × (r .back < 4294967296) ⌝ }
+{
+    let c = cell_number(d, part.cell);
+    if part.rank < d.ranks {
+        let at = entry_of(d, c, part.rank);
+        if at + 2 < t.len() {
+            return Key {
+                price: price_within(t, at),
+                back: wide(t[at + 2]),
+            };
+        }
+    }
+    Key {
+        price: price_at(t, d, c, part.rank),
+        back: back_at(t, d, c, part.rank),
+    }
+}
+
+// Writes the rule number of a node and the number of its left part, which of a leaf is its edge's.
+fn store_node(trace: &mut [u32], at: usize, b: BackPointer)
+    requires { ⌜ (Digits b) × (at < 4294967296) ⌝ }
+    ensures { λ _. ⌜ now (trace .exit) ≡ set (set (now (trace .entry)) at (b .rule)) (at + 1) (b .left) ⌝ }
+{
+    if at + 1 < trace.len() {
+        trace[at] = b.rule as u32;
+        trace[at + 1] = b.left as u32;
+        return;
+    }
+    store(trace, at, b.rule as u32);
+    store(trace, at + 1, b.left as u32);
+}
+
+// Rule r of an array of five numbers a rule.
+fn whole_rule(rules: &[u32], r: usize) -> Rule
+    requires { ⌜ r < 4294967296 ⌝ }
+    ensures { λ x. ⌜ x ≡ ruleAt (now (rules .entry)) r ⌝ }
+{
+    let at = NUMBERS_PER_RULE * r;
+    if at + RULE_SECOND_AT < rules.len() {
+        let head = Sym(rules[at + RULE_HEAD_AT]);
+        let weight = rules[at + RULE_WEIGHT_AT];
+        let first = rules[at + RULE_FIRST_AT];
+        if rules[at] == PAIR_RULE {
+            return Rule::Pair(head, Sym(first), Sym(rules[at + RULE_SECOND_AT]), weight);
+        }
+        return Rule::Word(head, Word(first), weight);
+    }
+    rule_at(rules, r)
+}
+
+// Edge e of an array of four numbers an edge.
+fn edge_numbers(edges: &[u32], e: usize) -> EdgeNumbers
+    requires { ⌜ e < digits ⌝ }
+    ensures { λ r. ⌜ (r .from ≡ getD (now (edges .entry)) (4 * e) 0) × (r .to ≡ getD (now (edges .entry)) (4 * e + 1) 0)
+        × (r .word ≡ getD (now (edges .entry)) (4 * e + 2) 0) × (r .cost ≡ getD (now (edges .entry)) (4 * e + 3) 0) ⌝ }
+{
+    let at = NUMBERS_PER_EDGE * e;
+    if at + EDGE_COST_AT < edges.len() {
+        return EdgeNumbers {
+            from: wide(edges[at]),
+            to: wide(edges[at + EDGE_TO_AT]),
+            word: edges[at + EDGE_WORD_AT],
+            cost: edges[at + EDGE_COST_AT],
+        };
+    }
+    EdgeNumbers {
+        from: number_at(edges, at),
+        to: number_at(edges, at + EDGE_TO_AT),
+        word: narrow_at(edges, at + EDGE_WORD_AT),
+        cost: narrow_at(edges, at + EDGE_COST_AT),
+    }
+}
+
+// A leaf by a rule of a word and a weight: its edge is one of the first `count`, goes over the cell's span with that word, and was heard.
+fn checked_leaf(
+    edges: &[u32],
+    count: usize,
+    c: Cell,
+    e: usize,
+    word: Word,
+    weight: u32,
+) -> CheckedNode
+    requires { ⌜ e < digits ⌝ }
+    ensures { λ x. ⌜ (x ≡ leafIn (now (edges .entry)) count c e word weight) × (ownWeight x < 8589934592) ⌝ }
+{
+    if count <= e {
+        return CheckedNode::Wrong;
+    }
+    let edge = edge_numbers(edges, e);
+    if edge.from != c.from {
+        return CheckedNode::Wrong;
+    }
+    if edge.to != c.to {
+        return CheckedNode::Wrong;
+    }
+    if edge.word != word.0 {
+        return CheckedNode::Wrong;
+    }
+    if NOT_HEARD <= edge.cost {
+        return CheckedNode::Wrong;
+    }
+    CheckedNode::Leaf(wide(weight) + wide(edge.cost))
+}
+
+// What a back pointer says in a cell: its rule is one of the grammar's and the cell's head is its own; of two parts the split is
+// within the span, and of a leaf the edge fits.
+fn checked_node(
+    rules: &[u32],
+    edges: &[u32],
+    counts: Counts,
+    c: Cell,
+    b: BackPointer,
+) -> CheckedNode
+    requires { ⌜ Digits b ⌝ }
+    ensures { λ x. ⌜ (x ≡ checkedNode (now (rules .entry)) (now (edges .entry)) counts c b) × (ownWeight x < 8589934592) ⌝ }
+{
+    if counts.rules <= b.rule {
+        return CheckedNode::Wrong;
+    }
+    let rule = whole_rule(rules, b.rule);
+    match rule {
+        Rule::Pair(head, first, second, weight) => {
+            if head.0 != c.head.0 {
+                return CheckedNode::Wrong;
+            }
+            if b.split <= c.from {
+                return CheckedNode::Wrong;
+            }
+            if c.to <= b.split {
+                return CheckedNode::Wrong;
+            }
+            CheckedNode::Pairing(first, second, wide(weight))
+        }
+        Rule::Word(head, word, weight) => {
+            if head.0 != c.head.0 {
+                return CheckedNode::Wrong;
+            }
+            checked_leaf(edges, counts.edges, c, b.left, word, weight)
+        }
+    }
+}
+
+// Writes the trace of a part as `trace_back` does, each node checked, and answers how many numbers it has and what the tree weighs. Where
+// a rank is not found or a node can't stand in its cell, the table spells no tree, and what is written by then is of no use.
+pub fn trace_checked(
+    t: &[u32],
+    rules: &[u32],
+    edges: &[u32],
+    counts: Counts,
+    d: Layout,
+    part: Part,
+    trace: &mut [u32],
+) -> Traced
+    requires { ⌜ (InTable d (part .cell)) × (part .rank ≤ mostRanks) ⌝ }
+    ensures { λ r. ⌜ ((f : ℕ) → part .cell .to - part .cell .from ≤ f
+        → (r ≡ tracedOf (spelledWeight (now (t .entry)) (now (rules .entry)) (now (edges .entry)) counts d f (part .cell) (part .rank)) (length (traceBack (now (t .entry)) (now (rules .entry)) d f (part .cell) (part .rank))))
+        × ((w : ℕ) → spelledWeight (now (t .entry)) (now (rules .entry)) (now (edges .entry)) counts d f (part .cell) (part .rank) ≡ some w
+        → now (trace .exit) ≡ storeAll (now (trace .entry)) 0 (traceBack (now (t .entry)) (now (rules .entry)) d f (part .cell) (part .rank)))) ⌝ }
+{
+    let mut stack = [0usize; SPLITS];
+    let mut n: usize = 0;
+    let mut here = part;
+    let mut next: usize = 0;
+    let mut weight: usize = 0;
+    loop {
+        let cell = here.cell;
+        let tree = tree_of(t, d, here);
+        if tree.price == 0 {
+            return Traced::Nothing;
+        }
+        let back = back_pointer(tree.back);
+        store_node(trace, next, back);
+        next = next + NUMBERS_PER_NODE;
+        let node = checked_node(rules, edges, counts, cell, back);
+        match node {
+            CheckedNode::Pairing(first, second, w) => {
+                weight = weight + w;
+                stack[n] = part_number(second, cell.to, back.right);
+                n = n + 1;
+                let left = left_part(cell, first, back.split);
+                here = Part {
+                    cell: left,
+                    rank: back.left,
+                };
+                continue;
+            }
+            CheckedNode::Leaf(w) => weight = weight + w,
+            CheckedNode::Wrong => return Traced::Nothing,
+        }
+        if n == 0 {
+            return Traced::Tree(next, weight);
+        }
+        n = n - 1;
+        here = part_of(cell.to, stack[n]);
+    }
+}

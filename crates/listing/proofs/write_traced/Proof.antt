@@ -1,0 +1,65 @@
+-- The reading written is the rank's, of a graph or of slots, for the trace is the rank's.
+use mathlib.Core.Path.{_≡_, ap}
+use Prim.Native.Nat.{ℕ, _+_, _/_}
+use native.Mathlib.Omega.{arith}
+use borrow.Author.Needs.{needs}
+use Rattle.packing.specs.Reading.{readingLength}
+use Rattle.listing.proofs.Written.{trace-size, given, graph-written, slots-written}
+use Rattle.listing.proofs.write_traced.Statement.{statement}
+use Rattle.listing.proofs.write_traced.Tie as tie
+
+root-weight-requires : tie.Need-root-weight-requires
+root-weight-requires c κs = search needs
+
+add-n : tie.Need-add-n
+add-n c = search needs
+
+write-graph-reading-requires : tie.Need-write-graph-reading-requires
+write-graph-reading-requires c κs =
+    let a = c .before .before .before .before .before .before .before .before .args in
+    let form = c .before .before .before .before .before .before .before .before .pre .1 in
+    let edges = ap (λ (k : ℕ). (k / 2 + 1) / 2) (c .before .before .before .before .before .before .before .before .pre .5) in
+    let g = given (a .t .now) (a .rules .now) (a .d) (a .traced .rank) (form .some-place) (form .places) (a .form) form (c .before .before .if1 .taken) edges (c .before .before .before .before .before .before .before .before .pre .4) in
+    (g .some-edge, g .few, form .some-rule, form .rules, g .long, c .before .before .before .before .before .before .before .before .pre .3, g .room)
+
+same-length : tie.Need-same-length
+same-length c = search needs
+
+returns : tie.Need-returns
+returns c =
+    let a = c .before .before .before .before .before .before .before .before .before .before .before .args in
+    let form = c .before .before .before .before .before .before .before .before .before .before .before .pre .1 in
+    let edges = ap (λ (k : ℕ). (k / 2 + 1) / 2) (c .before .before .before .before .before .before .before .before .before .before .before .pre .5) in
+    graph-written (a .t .now) (a .rules .now) (a .d) (a .traced .rank) (form .some-place) (form .places) (a .form) (a .out .now) (c .before .before .before .before .before .if1 .taken) edges
+    (c .before .before .before .before .before .before .root-weight .ensures) (c .before .before .before .before .before .before .before .before .before .before .before .pre .4) (c .before .before .write-graph-reading .ensures)
+
+write-reading-requires : tie.Need-write-reading-requires
+write-reading-requires c κs =
+    let a = c .before .before .before .before .before .before .before .args in
+    let form = c .before .before .before .before .before .before .before .pre .1 in
+    let size : a .form .size ≡ readingLength (a .d .places) (a .form .rules) = rw (c .before .if1 .left) at (form .size) in
+    let long = trace-size (a .t .now) (a .rules .now) (a .d) (a .traced .rank) (form .some-place) (form .places) (c .before .before .before .before .before .before .before .pre .4) in
+    (form .some-place, form .places, form .some-rule, form .rules, omega (arith, long, form .places), omega (arith, size, c .before .before .before .before .before .before .before .pre .3))
+
+same-length-2 : tie.Need-same-length-2
+same-length-2 c = search needs
+
+returns-2 : tie.Need-returns-2
+returns-2 c =
+    let a = c .before .before .before .before .before .before .before .before .before .before .args in
+    let form = c .before .before .before .before .before .before .before .before .before .before .pre .1 in
+    slots-written (a .t .now) (a .rules .now) (a .d) (a .traced .rank) (form .some-place) (form .places) (a .form) (a .out .now) form (c .before .before .before .before .if1 .left)
+    (c .before .before .before .before .before .root-weight .ensures) (c .before .before .before .before .before .before .before .before .before .before .pre .4) (c .before .before .write-reading .ensures)
+
+pub write-traced-spec : {M : Type 1} → statement M
+write-traced-spec =
+    tie.close
+    (tie.spec
+    root-weight-requires
+    add-n
+    write-graph-reading-requires
+    same-length
+    returns
+    write-reading-requires
+    same-length-2
+    returns-2)
