@@ -147,7 +147,7 @@ fn first_of_heads(
             continue;
         }
         let c = of_head(span, Sym(a as u32));
-        let leaf = first_leaf(rules, edges, index, leafy, c);
+        let leaf = first_leaf(rules, edges, index, &masks[..], leafy, c);
         first_rank(t, masks, rules, index, d, c, leaf);
         live = live_heads(&masks[..], d, span, leafy);
     }
