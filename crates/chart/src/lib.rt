@@ -10,7 +10,7 @@ use chart_table::ENTRY_NUMBERS;
 use chart_table::Layout;
 use chart_table::cell_number;
 use chart_table::clearing::clear;
-use chart_table::count_found;
+use chart_table::first_missing;
 use chart_table::price_at;
 use chart_table::root;
 use chart_table::zero;
@@ -75,7 +75,7 @@ pub fn enumerate(
     zero(t);
     touch_front(t, d);
     search(t, rules, edges, &index, d);
-    count_found(&t[..], d, cell_number(d, root(d)))
+    first_missing(&t[..], d, cell_number(d, root(d)))
 }
 
 // The weight of a tree from its price plus 1.

@@ -35,8 +35,8 @@ root-requires c κs = search needs
 cell-number-requires : tie.Need-cell-number-requires
 cell-number-requires c κs = rw (c .root .ensures) (search needs)
 
-count-found-requires : tie.Need-count-found-requires
-count-found-requires c κs = search needs
+first-missing-requires : tie.Need-first-missing-requires
+first-missing-requires c κs = search needs
 
 same-length : tie.Need-same-length
 same-length c = search needs
@@ -47,7 +47,7 @@ returns c =
     let a = c .before .before .before .before .before .before .before .before .before .before .before .before .before .before .before .before .before .before .before .before .before .before .before .args in
     let zeros = c .before .before .before .before .before .before .before .before .before .before .before .touch-front .ensures (zeros-own (length (a .t .now)) (c .before .before .before .before .before .before .before .before .before .before .before .before .before .before .before .zero .ensures)) ∙ c .before .before .before .before .before .before .before .before .before .before .before .before .before .before .before .zero .ensures in (
       rw (← c .before .before .before .before .before .before .before .before .before .before .before .before .before .before .before .before .before .before .make-index .ensures, ← zeros) (c .before .before .before .before .before .before .search .ensures),
-      (rw (← c .before .before .root .ensures, ← c .before .cell-number .ensures .0) (c .count-found .ensures .0), c .count-found .ensures .1),
+      (rw (← c .before .before .root .ensures, ← c .before .cell-number .ensures .0) (c .first-missing .ensures .0), c .first-missing .ensures .1),
     )
 
 pub enumerate-spec : {M : Type 1} → statement M
@@ -62,6 +62,6 @@ enumerate-spec =
     search-requires
     root-requires
     cell-number-requires
-    count-found-requires
+    first-missing-requires
     same-length
     returns)
