@@ -7,10 +7,10 @@ use mathlib.Core.Bool.{true, false≢true}
 use mathlib.Core.Option.{Option, none, some}
 use mathlib.Core.List.{List, [], _∷_, _++_}
 use Prim.Native.Nat.{ℕ, zero, suc, _+_, _-_, _*_, _/_, _≤_, _<_, min}
-use native.Mathlib.Nat.{le-refl, zero-add, suc-add}
+use native.Mathlib.Nat.{le-refl}
 use native.Mathlib.Decide.{decLt}
 use native.Mathlib.Omega.{arith}
-use lib.ListN.{length, getElem?, replicate, length-replicate}
+use lib.ListN.{length, getElem?, replicate, length-replicate, replicate-append-replicate}
 use borrow.Author.Tests.{eqb-true, eq-eqb}
 use Rattle.packing.specs.Meaning.{Grammar, Edge}
 use Rattle.packing.specs.Flat.{nodesIn}
@@ -59,10 +59,6 @@ pub record FirstIs (g : Grammar) (es : List Edge) (d : Layout) (t : List ℕ) (c
 -- the weight of a price
 weight-of : {n : ℕ} (a : Price) → n ≡ priceNumber a + 1 → costsIn a < weightUnit → (n - 1) / weightUnit ≡ weightIn a
 weight-of (price w s) e cheap = rw e (omega arith)
-
-replicate-add : (m n : ℕ) → replicate {A = ℕ} (m + n) 0 ≡ replicate m 0 ++ replicate n 0
-replicate-add zero n = rw zero-add
-replicate-add (suc m) n = rw suc-add (ap (λ (l : List ℕ). 0 ∷ l) (replicate-add m n))
 
 replicate-zeros : (len : ℕ) → Zeros (replicate len 0)
 replicate-zeros zero y = refl
@@ -202,7 +198,7 @@ module _ {g : Grammar} {es : List Edge} {rules edges index : List ℕ} {d : Layo
         let size = 4 * d .cells + rest in
         let zeros = zeros-invariant d (replicate size 0) (replicate-zeros size) g es (rw length-replicate room) in
         let plane = pass-plane s (replicate rest 0) (replicate (4 * d .cells) 0) (rw length-replicate refl) in
-        rw (← plane, ← replicate-add (4 * d .cells) rest) (pass-listed s in-root (replicate size 0) zeros)
+        rw (← plane, replicate-append-replicate {A = ℕ} (4 * d .cells) rest 0) (pass-listed s in-root (replicate size 0) zeros)
 
     pub front-size : length (search rules edges index (single d) (replicate (4 * d .cells) 0)) ≡ 4 * d .cells
     unfolding search furtherFrom
