@@ -8,7 +8,7 @@ use lib.Dec.{eqb}
 use lib.ListN.{replicate}
 use Rattle.chart_keys.specs.Keys.{weightUnit}
 use Rattle.chart_table.specs.declared.Layout.{Layout}
-use Rattle.chart_table.specs.Table.{root, cellNumber, priceAt, countFound}
+use Rattle.chart_table.specs.Table.{root, cellNumber, priceAt, firstMissing}
 use Rattle.chart_index.specs.Index.{indexNumbers}
 use Rattle.chart_index.specs.Build.{makeIndex}
 use Rattle.chart_search.specs.Search.{search}
@@ -27,7 +27,7 @@ enumerate rules R edges E d size =
 
 -- how many ranks of the root a table has, and of one of them the weight, by its price plus 1, and the trace
 unfoldable pub rootsFound : List ℕ → Layout → ℕ
-rootsFound t d = countFound t d (cellNumber d (root d))
+rootsFound t d = firstMissing t d (cellNumber d (root d))
 
 unfoldable pub rootWeight : List ℕ → Layout → ℕ → ℕ
 rootWeight t d rank = (priceAt t d (cellNumber d (root d)) rank - 1) / weightUnit

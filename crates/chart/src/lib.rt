@@ -10,14 +10,14 @@ use chart_table::ENTRY_NUMBERS;
 use chart_table::Layout;
 use chart_table::cell_number;
 use chart_table::clearing::clear;
-use chart_table::count_found;
+use chart_table::first_missing;
 use chart_table::price_at;
 use chart_table::root;
 use chart_table::zero;
 use chart_trace::trace_back;
 ghost use mathlib.Core.Path.{_≡_};
 ghost use Prim.Native.Nat.{_-_, _*_, _/_, _<_, _≤_};
-ghost use lib.ListN.{length, replicate};
+ghost use lib.ListN.{length, drop, replicate};
 ghost use Rattle.packing.specs.Store.{storeAll};
 ghost use Rattle.chart_keys.specs.Keys.{prices, weightUnit};
 ghost use Rattle.chart_table.specs.Table.{lastPlace, mostRanks, Sized, clear};
@@ -44,20 +44,29 @@ pub fn table_numbers(d: Layout) -> usize
     ENTRY_NUMBERS * d.cells * d.ranks
 }
 
-// Makes the front of a table of zeros, where the first ranks of all cells stand, zeros once more: the whole table may be larger than the
-// processor's caches, and the search begins there.
-fn touch_front(t: &mut [u32], d: Layout)
-    requires { ⌜ Sized d ⌝ }
-    ensures { λ _. ⌜ (now (t .entry) ≡ replicate (length (now (t .entry))) 0 → now (t .exit) ≡ now (t .entry)) ⌝ }
+// Makes the numbers behind the front of a table 0.
+fn zero_behind(t: &mut [u32], front: usize)
+    ensures { λ _. ⌜ drop front (now (t .exit)) ≡ replicate (length (now (t .entry)) - front) 0 ⌝ }
 {
-    let front = ENTRY_NUMBERS * d.cells;
+    if front <= t.len() {
+        zero(&mut t[front..]);
+    }
+}
+
+// Makes the front of a table, behind which all numbers are 0, zeros too.
+fn zero_front(t: &mut [u32], front: usize)
+    ensures { λ _. ⌜ (drop front (now (t .entry)) ≡ replicate (length (now (t .entry)) - front) 0 → now (t .exit) ≡ replicate (length (now (t .entry))) 0) ⌝ }
+{
     if front <= t.len() {
         zero(&mut t[..front]);
+    } else {
+        zero(t);
     }
 }
 
 // Finds the least trees of the root under the first `count` rules, over the first `arcs` edges, as many as ranks are kept, in a
-// table that may hold anything before. Answers their number.
+// table that may hold anything before. Answers their number. The table may be larger than the processor's caches, so the index and the
+// table's front, where the first ranks of all cells stand and the search begins, are made last.
 pub fn enumerate(
     t: &mut [u32],
     rules: &[u32],
@@ -70,12 +79,13 @@ pub fn enumerate(
     ensures { λ m. ⌜ now (t .exit) ≡ enumerate (now (rules .entry)) count (now (edges .entry)) arcs d (length (now (t .entry))) ⌝ }
     ensures { λ m. ⌜ (m ≡ rootsFound (now (t .exit)) d) × (m ≤ d .ranks) ⌝ }
 {
+    let front = ENTRY_NUMBERS * d.cells;
+    zero_behind(t, front);
     let mut index = [0u32; INDEX_NUMBERS];
     make_index(rules, count, d.symbols, edges, arcs, d.places, &mut index);
-    zero(t);
-    touch_front(t, d);
+    zero_front(t, front);
     search(t, rules, edges, &index, d);
-    count_found(&t[..], d, cell_number(d, root(d)))
+    first_missing(&t[..], d, cell_number(d, root(d)))
 }
 
 // The weight of a tree from its price plus 1.

@@ -21,7 +21,7 @@ use Rattle.chart_table.specs.declared.Cell.{Cell}
 use Rattle.chart_table.specs.declared.Layout.{Layout}
 use Rattle.chart_table.specs.Table.{lastPlace, leftPart, rightPart, cellNumber, priceAt}
 use Rattle.chart_index.specs.Index.{pairBase, wordBase, edgeBase, classStart, classEnd, members}
-use Rattle.chart_masks.specs.Masks.{digit, endsAt, startsAt, wordOf, Covered, Apart, NoLeaf}
+use Rattle.chart_masks.specs.Masks.{digit, endsAt, startsAt, wordOf, Covered, Apart, Worded, EdgeHeads, NoLeaf}
 use Rattle.chart_candidates.specs.declared.PairRule.{PairRule}
 use Rattle.chart_candidates.specs.Candidates.{pairKey, wordLeaf, edgeLeaves, leaves, splitSeeds, ruleSeeds, seeds}
 use Rattle.chart_candidates.specs.Passed.{RuleApart, NoSeed}
@@ -150,17 +150,27 @@ module _ (rules edges index : List ℕ) where
   leaves-below c floor best =
       iter-below _ best (classEnd index edgeBase (c .from) - classStart index edgeBase (c .from)) (λ u x. edge-below c floor u _)
 
+  -- an edge whose word no rule of the head has
+  edge-passed : (c : Cell) (floor best e : ℕ)
+      → (getD edges (4 * e + 1) 0 ≡ c .to → (z : ℕ) → classStart index wordBase (c .head .0) ≤ z → z < classEnd index wordBase (c .head .0)
+      → wordOf rules (getD index z 0) ≡ getD edges (4 * e + 2) 0 → ⊥) → edgeLeaves rules edges index c floor best e ≡ best
+  unfolding edgeLeaves
+  edge-passed c floor best e never = go (eqb (getD edges (4 * e + 1) 0) (c .to)) refl
+    where
+      go : (s : Bool) → eqb (getD edges (4 * e + 1) 0) (c .to) ≡ s
+          → pick s (members index wordBase (c .head .0) (λ x r. wordLeaf edges e floor x r (ruleAt rules r)) best) best ≡ best
+      go false q = refl
+      go true q =
+          iter-stays _ best (classEnd index wordBase (c .head .0) - classStart index wordBase (c .head .0)) λ z l.
+          other-word rules edges e floor best _ (never (eqb-true _ _ q) (classStart index wordBase (c .head .0) + z) (omega arith) (omega arith))
+
   pub no-leaves : (c : Cell) (floor best : ℕ) → NoLeaf rules edges index c → leaves rules edges index c floor best ≡ best
-  unfolding leaves edgeLeaves
+  unfolding leaves
   no-leaves c floor best never =
       iter-stays _ best (classEnd index edgeBase (c .from) - classStart index edgeBase (c .from)) λ y l.
-      edge (classStart index edgeBase (c .from) + y) (omega arith) (omega arith) (eqb (getD edges (4 * getD index (classStart index edgeBase (c .from) + y) 0 + 1) 0) (c .to)) refl
-    where
-      edge : (y : ℕ) → classStart index edgeBase (c .from) ≤ y → y < classEnd index edgeBase (c .from) → (s : Bool)
-          → eqb (getD edges (4 * getD index y 0 + 1) 0) (c .to) ≡ s
-          → pick s (members index wordBase (c .head .0) (λ x r. wordLeaf edges (getD index y 0) floor x r (ruleAt rules r)) best) best ≡ best
-      edge y h h′ false e = refl
-      edge y h h′ true e =
-          iter-stays _ best (classEnd index wordBase (c .head .0) - classStart index wordBase (c .head .0)) λ z l.
-          other-word rules edges (getD index y 0) floor best _
-          (never y (classStart index wordBase (c .head .0) + z) h h′ (eqb-true _ _ e) (omega arith) (omega arith))
+      edge-passed c floor best _ (λ reaches z. never (classStart index edgeBase (c .from) + y) z (omega arith) (omega arith) reaches)
+
+  pub word-passed : (m : List ℕ) (c : Cell) (floor best e heads : ℕ) → Worded rules index m (c .head .0) → EdgeHeads m edges e (c .to) heads
+      → digit heads (c .head .0) ≡ 0 → edgeLeaves rules edges index c floor best e ≡ best
+  word-passed m c floor best e heads worded has lacks =
+      edge-passed c floor best e (λ reaches z h l same. worded .has z h l (rw same (has (c .head .0) lacks reaches)))

@@ -13,6 +13,7 @@ use chart_keys::back_number;
 use chart_keys::leaf_price;
 use chart_keys::lesser;
 use chart_keys::no_key;
+use chart_masks::edge_heads;
 use chart_masks::lacks;
 use chart_table::Cell;
 use packing::Rule;
@@ -28,7 +29,7 @@ ghost use lib.ListN.{getD};
 ghost use Rattle.packing.specs.Flat.{ruleAt};
 ghost use Rattle.chart_keys.specs.Keys.{keyNumber, noKey};
 ghost use Rattle.chart_table.specs.Table.{lastPlace};
-ghost use Rattle.chart_masks.specs.Masks.{digit, NoLeaf};
+ghost use Rattle.chart_masks.specs.Masks.{digit, NoLeaf, Worded};
 ghost use Rattle.chart_candidates.specs.Candidates.{wordLeaf, edgeLeaves, leaves};
 
 // The best so far and the leaf of an edge by a rule, if that is a rule of the edge's word.
@@ -119,13 +120,56 @@ pub fn leaves(rules: &[u32], edges: &[u32], index: &[u32], c: Cell, floor: Key, 
     so_far
 }
 
+// The best so far and the leaves of an edge, which is passed over where the masks say that the cell's head has no rule with its word.
+fn masked_leaves(
+    rules: &[u32],
+    edges: &[u32],
+    index: &[u32],
+    masks: &[u32],
+    c: Cell,
+    e: usize,
+    best: Key,
+) -> Key
+    requires { ⌜ (e < 4294967296) × (c .head .0 ≤ lastPlace) × (Worded (now rules) (now index) (now masks) (c .head .0)) ⌝ }
+    ensures { λ x. ⌜ keyNumber x ≡ edgeLeaves (now (rules .entry)) (now (edges .entry)) (now (index .entry)) c 0 (keyNumber best) e ⌝ }
+{
+    if lacks(edge_heads(masks, edges, e, c.to), wide(c.head.0)) {
+        return best;
+    }
+    let floor = Key { price: 0, back: 0 };
+    edge_leaves(rules, edges, index, c, e, floor, best)
+}
+
+// The least leaf of a cell.
+fn least_leaf(rules: &[u32], edges: &[u32], index: &[u32], masks: &[u32], c: Cell) -> Key
+    requires { ⌜ (c .from ≤ lastPlace) × (c .head .0 ≤ lastPlace) × (Worded (now rules) (now index) (now masks) (c .head .0)) ⌝ }
+    ensures { λ x. ⌜ keyNumber x ≡ leaves (now (rules .entry)) (now (edges .entry)) (now (index .entry)) c 0 noKey ⌝ }
+{
+    let from = c.from;
+    let start = class_start(index, EDGE_BASE, from);
+    let end = class_end(index, EDGE_BASE, from);
+    let mut least = no_key();
+    for y in start..end {
+        least = masked_leaves(rules, edges, index, masks, c, number_at(index, y), least);
+    }
+    least
+}
+
 // The least leaf of a cell, if a mask of the heads that may have one has its head.
-pub fn first_leaf(rules: &[u32], edges: &[u32], index: &[u32], heads: u32, c: Cell) -> Key
+pub fn first_leaf(
+    rules: &[u32],
+    edges: &[u32],
+    index: &[u32],
+    masks: &[u32],
+    heads: u32,
+    c: Cell,
+) -> Key
     requires { ⌜ (c .from ≤ lastPlace) × (c .head .0 ≤ lastPlace) × (digit heads (c .head .0) ≡ 0 → NoLeaf (now rules) (now edges) (now index) c) ⌝ }
+    requires { ⌜ Worded (now rules) (now index) (now masks) (c .head .0) ⌝ }
     ensures { λ x. ⌜ (keyNumber x ≡ leaves (now (rules .entry)) (now (edges .entry)) (now (index .entry)) c 0 noKey) × (keyNumber x ≤ noKey) ⌝ }
 {
     if lacks(heads, wide(c.head.0)) {
         return no_key();
     }
-    leaves(rules, edges, index, c, Key { price: 0, back: 0 }, no_key())
+    least_leaf(rules, edges, index, masks, c)
 }

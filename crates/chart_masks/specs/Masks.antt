@@ -96,6 +96,11 @@ pub record Members (rules index : List ℕ) (column : Column) (n : ℕ) (m : Lis
   pub has : (a z : ℕ) → a < n → classStart index (column .base) a ≤ z → z < classEnd index (column .base) a
       → digit (maskOf m column rules (getD index z 0)) a ≡ 0 → ⊥
 
+-- so it is of one head and its words
+pub record Worded (rules index m : List ℕ) (a : ℕ) : Type 0 where
+  pub has : (z : ℕ) → classStart index wordBase a ≤ z → z < classEnd index wordBase a
+      → digit (getD m (2048 + slot 256 (getD rules (5 * getD index z 0 + 3) 0)) 0) a ≡ 0 → ⊥
+
 -- what was in a mask still is, and the masks of places are the same
 pub record Grown (m m′ : List ℕ) : Type 0 where
   pub kept : (y j : ℕ) → digit (getD m′ y 0) j ≡ 0 → digit (getD m y 0) j ≡ 0

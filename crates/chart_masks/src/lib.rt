@@ -192,7 +192,7 @@ pub fn mark_rules(masks: &mut [u32], rules: &[u32], index: &[u32], d: Layout)
 }
 
 // The heads that have the word of an edge, if that reaches a place.
-fn edge_heads(masks: &[u32], edges: &[u32], e: usize, to: usize) -> u32
+pub fn edge_heads(masks: &[u32], edges: &[u32], e: usize, to: usize) -> u32
     requires { ⌜ e < 4294967296 ⌝ }
     ensures { λ r. ⌜ EdgeHeads (now (masks .entry)) (now (edges .entry)) e to r ⌝ }
 {

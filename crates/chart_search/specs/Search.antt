@@ -66,8 +66,13 @@ module _ (rules edges index : List ℕ) (d : Layout) where
   nextOfRoot t x =
       pick (eqb (priceAt t d (cellNumber d (root d)) x) 0) t (extend d (nextOfSpan (d .places)) t (root d) (x + 1))
 
+  -- up to one that is not found: from x on, of n, and of all that are kept
+  unfoldable pub furtherFrom : ℕ → List ℕ → ℕ → List ℕ
+  furtherFrom zero t x = t
+  furtherFrom (suc n) t x = pick (eqb (priceAt t d (cellNumber d (root d)) x) 0) t (furtherFrom n (nextOfRoot t x) (x + 1))
+
   unfoldable pub search : List ℕ → List ℕ
-  search t = iter nextOfRoot (firstPass t) (d .ranks - 1)
+  search t = furtherFrom (d .ranks - 1) (firstPass t) 0
 
 -- What a journal keeps of the entries that these write over, each before it is written: what keeps a rank of a cell, of the table and the
 -- journal before.

@@ -147,7 +147,7 @@ fn first_of_heads(
             continue;
         }
         let c = of_head(span, Sym(a as u32));
-        let leaf = first_leaf(rules, edges, index, leafy, c);
+        let leaf = first_leaf(rules, edges, index, &masks[..], leafy, c);
         first_rank(t, masks, rules, index, d, c, leaf);
         live = live_heads(&masks[..], d, span, leafy);
     }
@@ -218,7 +218,7 @@ pub fn next_of_root(
     extend(t, kept, rules, edges, index, d, part_of(c, x + 1));
 }
 
-// Finds the ranks of the root, as many as are kept, in a table of zeros. Nothing is written over.
+// Finds the ranks of the root, as many as are kept and up to one that is not there, in a table of zeros. Nothing is written over.
 pub fn search(t: &mut [u32], rules: &[u32], edges: &[u32], index: &[u32], d: Layout)
     requires { ⌜ (Sized d) × (0 < d .places) × ((x : ℕ) → getD (now t) x 0 ≡ 0) ⌝ }
     ensures { λ _. ⌜ now (t .exit) ≡ search (now (rules .entry)) (now (edges .entry)) (now (index .entry)) d (now (t .entry)) ⌝ }
@@ -229,6 +229,9 @@ pub fn search(t: &mut [u32], rules: &[u32], edges: &[u32], index: &[u32], d: Lay
     let mut kept = [0u32; 0];
     let m = d.ranks - 1;
     for x in 0..m {
+        if price_at(&t[..], d, cell_number(d, root(d)), x) == 0 {
+            return;
+        }
         next_of_root(t, &mut kept, rules, edges, index, d, x);
     }
 }

@@ -4,3 +4,4 @@ pub mod Places
 pub mod Zeros
 pub mod Keys
 pub mod Clear
+pub mod Missing

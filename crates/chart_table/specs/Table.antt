@@ -3,7 +3,7 @@
 -- Nobody need believe this page: the theorems of chart_theory join it to the derivations. Assumes nothing.
 use mathlib.Core.Path.{_≡_}
 use mathlib.Core.List.{List}
-use Prim.Native.Nat.{ℕ, _+_, _-_, _*_, _/_, _%_, _≤_, _<_}
+use Prim.Native.Nat.{ℕ, zero, suc, _+_, _-_, _*_, _/_, _%_, _≤_, _<_}
 use lib.Dec.{ltb, eqb}
 use lib.ListN.{getD, set}
 use Rattle.bits.specs.Bits.{pick}
@@ -99,6 +99,14 @@ putKey t d c rank key =
 -- how many ranks of a cell are found
 unfoldable pub countFound : List ℕ → Layout → ℕ → ℕ
 countFound t d c = iter (λ m x. pick (eqb (priceAt t d c x) 0) m (m + 1)) 0 (d .ranks)
+
+-- the first rank of a cell that is not found: from x on, of n, and of all that are kept
+unfoldable pub missingFrom : List ℕ → Layout → ℕ → ℕ → ℕ → ℕ
+missingFrom t d c zero x = x
+missingFrom t d c (suc n) x = pick (eqb (priceAt t d c x) 0) x (missingFrom t d c n (x + 1))
+
+unfoldable pub firstMissing : List ℕ → Layout → ℕ → ℕ
+firstMissing t d c = missingFrom t d c (d .ranks) 0
 
 -- how many ranks of a cell there are up to the last found, of those that are kept, and one where none is found
 unfoldable pub ranksToClear : List ℕ → Layout → ℕ → ℕ

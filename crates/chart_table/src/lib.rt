@@ -14,7 +14,7 @@ ghost use mathlib.Core.Path.{_≡_};
 ghost use Prim.Native.Nat.{_+_, _<_, _≤_};
 ghost use lib.ListN.{length, replicate};
 ghost use Rattle.chart_keys.specs.Keys.{prices, keyNumber};
-ghost use Rattle.chart_table.specs.Table.{lastPlace, mostRanks, cellBound, besides, counts, cell, leftPart, rightPart, root, cellNumber, entryOf, priceOf, priceIn, priceAt, backAt, besideAt, putBeside, putFound, lastRank, putLastRank, putKey, countFound, Sized};
+ghost use Rattle.chart_table.specs.Table.{lastPlace, mostRanks, cellBound, besides, counts, cell, leftPart, rightPart, root, cellNumber, entryOf, priceOf, priceIn, priceAt, backAt, besideAt, putBeside, putFound, lastRank, putLastRank, putKey, firstMissing, Sized};
 
 // The most ranks that are kept of a cell.
 pub const MOST_RANKS: usize = DIGITS;
@@ -231,17 +231,16 @@ pub fn zero(t: &mut [u32])
     }
 }
 
-// How many ranks of a cell are found.
-pub fn count_found(t: &[u32], d: Layout, c: usize) -> usize
+// The first rank of a cell that is not found, or how many are kept where all are: as many are found as are looked at before it.
+pub fn first_missing(t: &[u32], d: Layout, c: usize) -> usize
     requires { ⌜ (Sized d) × (c < cellBound) ⌝ }
-    ensures { λ m. ⌜ (m ≡ countFound (now (t .entry)) d c) × (m ≤ d .ranks) ⌝ }
+    ensures { λ m. ⌜ (m ≡ firstMissing (now (t .entry)) d c) × (m ≤ d .ranks) ⌝ }
 {
     let ranks = d.ranks;
-    let mut m: usize = 0;
     for x in 0..ranks {
-        if price_at(t, d, c, x) != 0 {
-            m = m + 1;
+        if price_at(t, d, c, x) == 0 {
+            return x;
         }
     }
-    m
+    ranks
 }

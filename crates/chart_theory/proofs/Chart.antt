@@ -7,10 +7,10 @@ use mathlib.Core.Bool.{true, false≢true}
 use mathlib.Core.Option.{Option, none, some}
 use mathlib.Core.List.{List, [], _∷_, _++_}
 use Prim.Native.Nat.{ℕ, zero, suc, _+_, _-_, _*_, _/_, _≤_, _<_, min}
-use native.Mathlib.Nat.{le-refl, zero-add, suc-add}
+use native.Mathlib.Nat.{le-refl}
 use native.Mathlib.Decide.{decLt}
 use native.Mathlib.Omega.{arith}
-use lib.ListN.{length, getElem?, replicate, length-replicate}
+use lib.ListN.{length, getElem?, replicate, length-replicate, replicate-append-replicate}
 use borrow.Author.Tests.{eqb-true, eq-eqb}
 use Rattle.packing.specs.Meaning.{Grammar, Edge}
 use Rattle.packing.specs.Flat.{nodesIn}
@@ -22,8 +22,7 @@ use Rattle.chart_keys.specs.Keys.{weightUnit}
 use Rattle.chart_table.specs.declared.Cell.{Cell}
 use Rattle.chart_table.specs.declared.Layout.{Layout}
 use Rattle.chart_table.specs.Table.{root, cellNumber, clear}
-use Rattle.packing.specs.Loop.{iter}
-use Rattle.chart_search.specs.Search.{search}
+use Rattle.chart_search.specs.Search.{furtherFrom, search}
 use Rattle.chart_trace.specs.Checked.{spelledWeight}
 use Rattle.chart.specs.Chart.{rootsFound, rootWeight, rootTrace, weighs, rootSpelled}
 use Rattle.chart_theory.specs.Spelled.{Spelled}
@@ -32,7 +31,7 @@ use Rattle.chart_theory.proofs.Table.Cells.{InChart, rankedIn, DerivesI
 use Rattle.chart_theory.proofs.Table.Entries.{cell-below, found-kept}
 use Rattle.chart_theory.proofs.Table.Cleared.{clear-zeros}
 use Rattle.chart_theory.proofs.Invariant.{Setting, priceIn, Found, Invariant}
-use Rattle.chart_theory.proofs.Search.Passes.{Zeros, zeros-invariant, Listed, steps-known, search-known, found-exactly, count-found}
+use Rattle.chart_theory.proofs.Search.Passes.{Zeros, zeros-invariant, Listed, pass-listed, search-known, found-exactly, first-missing}
 use Rattle.chart_theory.proofs.Search.Trace.{traced, found-spelled}
 use Rattle.chart_theory.proofs.Search.Checked.{counts, weighed, spelled-sound}
 use Rattle.chart_theory.proofs.Plane.{single, pass-plane, pass-size}
@@ -60,10 +59,6 @@ pub record FirstIs (g : Grammar) (es : List Edge) (d : Layout) (t : List ℕ) (c
 -- the weight of a price
 weight-of : {n : ℕ} (a : Price) → n ≡ priceNumber a + 1 → costsIn a < weightUnit → (n - 1) / weightUnit ≡ weightIn a
 weight-of (price w s) e cheap = rw e (omega arith)
-
-replicate-add : (m n : ℕ) → replicate {A = ℕ} (m + n) 0 ≡ replicate m 0 ++ replicate n 0
-replicate-add zero n = rw zero-add
-replicate-add (suc m) n = rw suc-add (ap (λ (l : List ℕ). 0 ∷ l) (replicate-add m n))
 
 replicate-zeros : (len : ℕ) → Zeros (replicate len 0)
 replicate-zeros zero y = refl
@@ -147,7 +142,7 @@ module _ {g : Grammar} {es : List Edge} {rules edges index : List ℕ} {d : Layo
     module _ (t : List ℕ) (listed : Listed g es d (d .ranks - 1) t) where
       number : rootsFound t d ≡ min (d .ranks) (length (rankedIn g es (root d)))
       unfolding rootsFound
-      number = count-found t d (cellNumber d (root d)) _ (λ x kept. found-exactly s in-root (d .ranks - 1) t listed x (omega arith) kept)
+      number = first-missing t d (cellNumber d (root d)) _ (λ x kept. found-exactly s in-root (d .ranks - 1) t listed x (omega arith) kept)
 
       each : (x : ℕ) → x < rootsFound t d → (z : Tree) × RankIs g es rules d t x z
       each x h =
@@ -198,13 +193,13 @@ module _ {g : Grammar} {es : List Edge} {rules edges index : List ℕ} {d : Layo
     -- the first is known after a first pass in a table that keeps one rank of each cell, with what else was lent behind it
     pub first-listed : (rest : ℕ) → 4 * (d .cells * d .ranks) ≤ 4 * d .cells + rest
         → Listed g es d 0 (search rules edges index (single d) (replicate (4 * d .cells) 0) ++ replicate rest 0)
-    unfolding search iter
+    unfolding search furtherFrom
     first-listed rest room =
         let size = 4 * d .cells + rest in
         let zeros = zeros-invariant d (replicate size 0) (replicate-zeros size) g es (rw length-replicate room) in
         let plane = pass-plane s (replicate rest 0) (replicate (4 * d .cells) 0) (rw length-replicate refl) in
-        rw (← plane, ← replicate-add (4 * d .cells) rest) (steps-known s in-root (replicate size 0) zeros 0 (omega arith))
+        rw (← plane, replicate-append-replicate {A = ℕ} (4 * d .cells) rest 0) (pass-listed s in-root (replicate size 0) zeros)
 
     pub front-size : length (search rules edges index (single d) (replicate (4 * d .cells) 0)) ≡ 4 * d .cells
-    unfolding search iter
+    unfolding search furtherFrom
     front-size = pass-size s [] (replicate (4 * d .cells) 0) (rw length-replicate refl)

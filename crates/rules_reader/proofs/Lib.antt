@@ -4,3 +4,4 @@ pub mod Rows
 pub mod Keys
 pub mod Marks
 pub mod Turns
+pub mod Filter

@@ -2,10 +2,10 @@
 -- Assumes nothing.
 use mathlib.Core.Path.{_≡_}
 use mathlib.Core.List.{List, [], _∷_, map}
-use mathlib.Core.Bool.{Bool}
-use Prim.Native.Nat.{ℕ, _+_, _-_, _*_, _≤_}
+use mathlib.Core.Bool.{Bool, true}
+use Prim.Native.Nat.{ℕ, _+_, _-_, _*_, _%_, _≤_}
 use lib.Dec.{eqb}
-use lib.ListN.{length}
+use lib.ListN.{length, getD}
 use Rattle.packing.specs.Meaning.{MarkedRule, marked, ruleIn, markIn}
 use Rattle.packing.specs.Parse.{Parse, parsed, failed}
 use Rattle.packing.specs.Source.{Source, values}
@@ -59,6 +59,13 @@ keyOf n = ((n .kind * 32 + n .head) * 256 + n .first) * 256 + n .second
 
 abbrev pub among : ℕ → List ℕ → Bool
 among k xs = anyLike eqb k xs
+
+-- where a key stands in a filter, and that a filter has each key of a list
+abbrev pub filterPlace : ℕ → ℕ
+filterPlace k = k % 1021
+
+abbrev pub Filtered : List ℕ → List ℕ → Type 0
+Filtered keys filter = (k : ℕ) → among k keys ≡ true → getD filter (filterPlace k) 0 ≡ 1
 
 -- how many rules were read
 abbrev pub counted : Parse (List MarkedRule) → Parse ℕ

@@ -23,7 +23,7 @@ ghost use Rattle.packing.specs.Read.{readOf, sourceOf};
 ghost use Rattle.bits.specs.Width.{widthOf};
 ghost use Rattle.packing.specs.Ranges.{Ranges};
 ghost use Rattle.packing.specs.Grammar.{symbol, firstOf, secondOf, ruleFrom, markFrom, markedRuleFrom};
-ghost use Rattle.rules_reader.specs.Rules.{ruleRead, RuleNear, markedRead, MarkedNear, Sound, row, keyOf, among, RulesTold};
+ghost use Rattle.rules_reader.specs.Rules.{ruleRead, RuleNear, markedRead, MarkedNear, Sound, row, keyOf, among, filterPlace, Filtered, RulesTold};
 
 // S and W, on which the fields of a rule depend.
 pub struct Vocabulary {
@@ -210,6 +210,27 @@ pub fn seen(keys: &[u32], n: usize, key: u32) -> bool
     found
 }
 
+// The places of a filter: a prime number, so that keys which are alike in some numbers stand at different ones.
+const FILTER_PLACES: usize = 1021;
+
+// Where a key stands in a filter.
+fn filter_place(key: u32) -> usize
+    ensures { λ r. do ⌜ (r ≡ filterPlace key) × (r < (← ⟦FILTER_PLACES⟧ .entry)) ⌝ }
+{
+    (key as usize) % FILTER_PLACES
+}
+
+// Whether `key` is one of the first n keys, each of which stands in the filter. Most keys do not, and need not be looked for.
+fn repeated(filter: &[u8], keys: &[u32], n: usize, key: u32) -> bool
+    requires { do ⌜ (n ≤ length (now keys)) × (length (now filter) ≡ (← ⟦FILTER_PLACES⟧)) × Filtered (take n (now keys)) (now filter) ⌝ }
+    ensures { λ r. ⌜ r ≡ among key (take n (now (keys .entry))) ⌝ }
+{
+    if filter[filter_place(key)] == 0 {
+        return false;
+    }
+    seen(keys, n, key)
+}
+
 // The five numbers of rule i into the array.
 fn store_rule(rules: &mut [u32], i: usize, numbers: RuleNumbers)
     requires { ⌜ 5 * i + 5 ≤ length (now rules) ⌝ }
@@ -246,6 +267,7 @@ pub fn read_rules(
     let count = form.count;
     let end = count as usize;
     let mut keys = [0u32; MAX_RULES];
+    let mut filter = [0u8; FILTER_PLACES];
     let mut at = start;
     let mut i: usize = 0;
     while i < end {
@@ -256,10 +278,11 @@ pub fn read_rules(
             }
             MarkedRead::Rule(numbers, mark, c) => {
                 let key = rule_key(numbers);
-                if seen(&keys, i, key) {
+                if repeated(&filter, &keys, i, key) {
                     return Read::Refused(refused::GRAMMAR_REPEAT);
                 }
                 keys[i] = key;
+                filter[filter_place(key)] = 1;
                 store_rule(rules, i, numbers);
                 marks[i] = mark;
                 at = c.at;

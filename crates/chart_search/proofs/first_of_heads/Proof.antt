@@ -64,20 +64,23 @@ of-head-requires : tie.Need-of-head-requires Inv-loop μ-loop
 of-head-requires c κs = search needs
 
 first-leaf-requires : tie.Need-first-leaf-requires Inv-loop μ-loop
-first-leaf-requires c κs = rw (c .of-head .ensures) (
-  search needs,
-  search needs,
-  λ e. heads-complete _ _ _ _ _ _ (symbolOf (c .before .before .before .before .loop .a)) (c .before .before .before .before .before .before .before .before .before .before .before .before .before .before .args .span .from) (c .before .before .before .before .before .before .before .before .before .before .before .before .before .before .args .span .to) (c .before .before .before .before .before .before .before .before .before .before .before .before .before .before .pre .2 .words) (c .before .before .before .before .before .before .before .heads-over .ensures) (c .before .before .before .loop-test .taken) e,
+first-leaf-requires c κs = rw (c .before .of-head .ensures) (
+  (
+    search needs,
+    search needs,
+    λ e. heads-complete _ _ _ _ _ _ (symbolOf (c .before .before .before .before .before .loop .a)) (c .before .before .before .before .before .before .before .before .before .before .before .before .before .before .before .args .span .from) (c .before .before .before .before .before .before .before .before .before .before .before .before .before .before .before .args .span .to) (c .before .before .before .before .before .before .before .before .before .before .before .before .before .before .before .pre .2 .words) (c .before .before .before .before .before .before .before .before .heads-over .ensures) (c .before .before .before .before .loop-test .taken) e,
+  ),
+  record { has = λ z. c .before .before .before .before .before .loop .inv .4 .words .has (c .before .before .before .before .before .loop .a) z (c .before .before .before .before .loop-test .taken) },
 )
 
 first-rank-requires : tie.Need-first-rank-requires Inv-loop μ-loop
-first-rank-requires c κs = rw (c .before .before .before .of-head .ensures) (record { sized = c .before .before .before .before .before .before .before .before .before .before .before .before .before .before .before .before .before .pre .0 .sized; order = c .before .before .before .before .before .before .before .before .before .before .before .before .before .before .before .before .before .pre .0 .order; last = c .before .before .before .before .before .before .before .before .before .before .before .before .before .before .before .before .before .pre .0 .last }, c .before .before .before .before .before .before .loop-test .taken, c .before .before .before .before .before .before .before .loop .inv .3, c .before .before .first-leaf .ensures .1)
+first-rank-requires c κs = rw (c .before .before .before .before .of-head .ensures) (record { sized = c .before .before .before .before .before .before .before .before .before .before .before .before .before .before .before .before .before .before .pre .0 .sized; order = c .before .before .before .before .before .before .before .before .before .before .before .before .before .before .before .before .before .before .pre .0 .order; last = c .before .before .before .before .before .before .before .before .before .before .before .before .before .before .before .before .before .before .pre .0 .last }, c .before .before .before .before .before .before .before .loop-test .taken, c .before .before .before .before .before .before .before .before .loop .inv .3, c .before .before .first-leaf .ensures .1)
 
 live-heads-requires-2 : tie.Need-live-heads-requires-2 Inv-loop μ-loop
-live-heads-requires-2 c κs = (c .before .before .before .before .before .before .before .before .before .before .before .before .before .before .before .before .before .before .before .before .before .before .before .pre .0 .sized .symbols, omega (arith, c .before .before .before .before .before .before .before .before .before .before .before .before .before .before .before .before .before .before .before .before .before .before .before .pre .0 .order, c .before .before .before .before .before .before .before .before .before .before .before .before .before .before .before .before .before .before .before .before .before .before .before .pre .0 .last), c .before .before .before .before .before .before .before .before .before .before .before .before .before .before .before .before .before .before .before .before .before .before .before .pre .0 .last)
+live-heads-requires-2 c κs = (c .before .before .before .before .before .before .before .before .before .before .before .before .before .before .before .before .before .before .before .before .before .before .before .before .pre .0 .sized .symbols, omega (arith, c .before .before .before .before .before .before .before .before .before .before .before .before .before .before .before .before .before .before .before .before .before .before .before .before .pre .0 .order, c .before .before .before .before .before .before .before .before .before .before .before .before .before .before .before .before .before .before .before .before .before .before .before .before .pre .0 .last), c .before .before .before .before .before .before .before .before .before .before .before .before .before .before .before .before .before .before .before .before .before .before .before .before .pre .0 .last)
 
 add-a-2 : tie.Need-add-a-2 Inv-loop μ-loop
-add-a-2 c = search (needs, c .before .before .before .before .before .before .before .before .before .before .before .before .before .loop-test .taken, c .before .before .before .before .before .before .before .before .before .before .before .before .before .before .before .before .before .before .before .before .before .before .before .before .pre .0 .sized .symbols)
+add-a-2 c = search (needs, c .before .before .before .before .before .before .before .before .before .before .before .before .before .before .loop-test .taken, c .before .before .before .before .before .before .before .before .before .before .before .before .before .before .before .before .before .before .before .before .before .before .before .before .before .pre .0 .sized .symbols)
 
 loop-less-2 : tie.Need-loop-less-2 Inv-loop μ-loop
 loop-less-2 c = search needs
@@ -88,9 +91,9 @@ loop-again-2 c = (
   search needs,
   search needs,
   c .before .before .before .before .before .before .first-rank .ensures .1 .0,
-  c .before .before .before .before .before .before .first-rank .ensures .1 .1 (c .before .before .before .before .before .before .before .before .before .before .before .before .before .before .loop .inv .4),
+  c .before .before .before .before .before .before .first-rank .ensures .1 .1 (c .before .before .before .before .before .before .before .before .before .before .before .before .before .before .before .loop .inv .4),
   c .live-heads2 .ensures,
-  rw (iter-more, ← c .before .before .before .before .before .before .before .before .before .before .before .before .before .before .loop .inv .6, first-of-span _ _ _ _ _ (cell (symbolOf (c .before .before .before .before .before .before .before .before .before .before .before .before .before .before .loop .a)) (c .before .before .before .before .before .before .before .before .before .before .before .before .before .before .before .before .before .before .before .before .before .before .before .before .args .span .from) (c .before .before .before .before .before .before .before .before .before .before .before .before .before .before .before .before .before .before .before .before .before .before .before .before .args .span .to)) (c .before .before .before .before .before .before .before .before .before .before .before .before .before .before .before .before .before .before .before .before .before .before .before .before .pre .0 .order), ← c .before .before .before .before .before .before .before .before .before .before .of-head .ensures, ← c .before .before .before .before .before .before .before .before .before .first-leaf .ensures .0) (c .before .before .before .before .before .before .first-rank .ensures .0),
+  rw (iter-more, ← c .before .before .before .before .before .before .before .before .before .before .before .before .before .before .before .loop .inv .6, first-of-span _ _ _ _ _ (cell (symbolOf (c .before .before .before .before .before .before .before .before .before .before .before .before .before .before .before .loop .a)) (c .before .before .before .before .before .before .before .before .before .before .before .before .before .before .before .before .before .before .before .before .before .before .before .before .before .args .span .from) (c .before .before .before .before .before .before .before .before .before .before .before .before .before .before .before .before .before .before .before .before .before .before .before .before .before .args .span .to)) (c .before .before .before .before .before .before .before .before .before .before .before .before .before .before .before .before .before .before .before .before .before .before .before .before .before .pre .0 .order), ← c .before .before .before .before .before .before .before .before .before .before .before .of-head .ensures, ← c .before .before .before .before .before .before .before .before .before .first-leaf .ensures .0) (c .before .before .before .before .before .before .first-rank .ensures .0),
 )
 
 same-length : tie.Need-same-length Inv-loop μ-loop

@@ -1,21 +1,20 @@
--- The first pass, with masks that have rules and no places, which cover a table of zeros, and then the loop is the iteration over the
--- further ranks of the root. (The model's name is a tactic's: it stays qualified.)
+-- The first pass, with masks that have rules and no places, which cover a table of zeros, and then what is left to find of the root in
+-- each turn is what was to be found at the start. (The model's name is a tactic's: it stays qualified.)
 use Prim.Native.Nat.{_≤_, _-_}
-use mathlib.Core.Path.{_≡_, _∙_}
+use mathlib.Core.Path.{_≡_, refl, sym, _∙_}
 use native.Mathlib.Omega.{arith}
 use lib.ListN.{length}
-use Rattle.packing.specs.Loop.{iter}
-use Rattle.packing.proofs.Loop.{iter-more, iter-end}
 use Rattle.chart_masks.specs.Masks.{maskNumbers}
 use Rattle.chart_masks.proofs.Covering.{covers-zeros}
 use Rattle.chart_search.specs.Search as model
+use Rattle.chart_search.proofs.Further.{further-end, further-none, further-next}
 use Rattle.chart_index.proofs.Zeros.{zeros-at}
 use borrow.Author.Needs.{needs}
 use Rattle.chart_search.proofs.search.Statement.{statement}
 use Rattle.chart_search.proofs.search.Tie as tie
 
 abbrev Inv-loop : tie.InvT-loop
-Inv-loop t₀ rules edges index d kept₀ m x₀ t kept x = (x ≤ m) × (length t ≡ length t₀) × (t ≡ iter (model.nextOfRoot rules edges index d) t₀ x) × (length kept ≡ 0)
+Inv-loop t₀ rules edges index d kept₀ m x₀ t kept x = (x ≤ m) × (length t ≡ length t₀) × (model.furtherFrom rules edges index d m t₀ 0 ≡ model.furtherFrom rules edges index d (m - x) t x) × (length kept ≡ 0)
 
 abbrev μ-loop : tie.MeasureT-loop
 μ-loop t₀ rules edges index d kept₀ m x₀ t kept x = m - x
@@ -40,14 +39,31 @@ sub-m : tie.Need-sub-m Inv-loop μ-loop
 sub-m c = search needs
 
 loop-holds : tie.Need-loop-holds Inv-loop μ-loop
-unfolding iter
-loop-holds c = search needs
+loop-holds c = let all : c .before .before .before .before .before .before .before .before .before .before .before .before .before .before .args .d .ranks - 1 - 0 ≡ c .before .before .before .before .before .before .before .before .before .before .before .before .before .before .args .d .ranks - 1 = omega arith in (search needs, refl, rw all, refl)
+
+root-requires : tie.Need-root-requires Inv-loop μ-loop
+root-requires c κs = search needs
+
+cell-number-requires : tie.Need-cell-number-requires Inv-loop μ-loop
+cell-number-requires c κs = rw (c .root .ensures) (search needs)
+
+price-at-requires : tie.Need-price-at-requires Inv-loop μ-loop
+price-at-requires c κs = search needs
+
+same-length : tie.Need-same-length Inv-loop μ-loop
+same-length c = c .before .before .before .before .before .before .loop .inv .1 ∙ c .before .before .before .before .before .before .before .before .before .before .before .first-pass .kept .0
+
+returns : tie.Need-returns Inv-loop μ-loop
+unfolding model.search
+returns c =
+    let a = c .before .before .before .before .before .before .before .before .before .before .before .before .before .before .before .before .before .before .before .before .before .args in
+    rw (← c .before .before .before .before .before .before .before .before .before .before .before .first-pass .ensures) (sym (c .before .before .before .before .before .before .loop .inv .2 ∙ further-none (a .rules .now) (a .edges .now) (a .index .now) (a .d) (a .d .ranks - 1) (c .before .before .before .before .before .before .loop .x) (c .before .before .before .before .before .before .loop .t) (c .before .before .before .before .before .loop-test .taken) (rw (← c .before .before .before .root .ensures, ← c .before .before .cell-number .ensures .0, ← c .before .price-at .ensures .0) (c .if1 .taken))))
 
 slice-aggregate-next-of-root : tie.Need-slice-aggregate-next-of-root Inv-loop μ-loop
-slice-aggregate-next-of-root c = search (needs, c .before .before .before .loop .inv .3)
+slice-aggregate-next-of-root c = search (needs, c .before .before .before .before .before .before .before .before .loop .inv .3)
 
 next-of-root-requires : tie.Need-next-of-root-requires Inv-loop μ-loop
-next-of-root-requires c κs = search needs
+next-of-root-requires c κs = (c .before .before .before .before .before .before .before .before .before .before .before .before .before .before .before .before .before .before .before .before .before .before .before .pre .0, c .before .before .before .before .before .before .before .before .before .before .before .before .before .before .before .before .before .before .before .before .before .before .before .pre .1, omega (arith, c .before .before .before .before .before .before .before .loop-test .taken))
 
 add-x : tie.Need-add-x Inv-loop μ-loop
 add-x c = search needs
@@ -56,14 +72,23 @@ loop-less : tie.Need-loop-less Inv-loop μ-loop
 loop-less c = search needs
 
 loop-again : tie.Need-loop-again Inv-loop μ-loop
-loop-again c = (search needs, search needs, rw (iter-more, ← c .before .before .before .before .before .before .before .loop .inv .2) (c .before .before .before .next-of-root .ensures .0), c .before .before .before .next-of-root .kept .1 .0 ∙ c .before .before .before .before .before .before .before .loop .inv .3)
+loop-again c =
+    let a = c .before .before .before .before .before .before .before .before .before .before .before .before .before .before .before .before .before .before .before .before .before .before .before .before .before .before .before .args in (
+      search needs,
+      search needs,
+      c .before .before .before .before .before .before .before .before .before .before .before .before .loop .inv .2 ∙ further-next (a .rules .now) (a .edges .now) (a .index .now) (a .d) (a .d .ranks - 1) (c .before .before .before .before .before .before .before .before .before .before .before .before .loop .x) (c .before .before .before .before .before .before .before .before .before .before .before .before .loop .t) (c .before .before .before .before .before .before .before .before .before .before .before .loop-test .taken) (rw (← c .before .before .before .before .before .before .before .before .before .root .ensures, ← c .before .before .before .before .before .before .before .before .cell-number .ensures .0, ← c .before .before .before .before .before .before .before .price-at .ensures .0) (c .before .before .before .before .before .before .if1 .left))
+          ∙ rw (← c .before .before .before .next-of-root .ensures .0),
+      c .before .before .before .next-of-root .kept .1 .0 ∙ c .before .before .before .before .before .before .before .before .before .before .before .before .loop .inv .3,
+    )
 
-same-length : tie.Need-same-length Inv-loop μ-loop
-same-length c = c .before .loop .inv .1 ∙ c .before .before .before .before .before .before .first-pass .kept .0
+same-length-2 : tie.Need-same-length-2 Inv-loop μ-loop
+same-length-2 c = c .before .loop .inv .1 ∙ c .before .before .before .before .before .before .first-pass .kept .0
 
-returns : tie.Need-returns Inv-loop μ-loop
+returns-2 : tie.Need-returns-2 Inv-loop μ-loop
 unfolding model.search
-returns c = rw (← c .before .before .before .before .before .before .first-pass .ensures) (c .before .loop .inv .2 ∙ iter-end _ _ _ _ (c .before .loop .inv .0) (c .loop-test .left))
+returns-2 c =
+    let a = c .before .before .before .before .before .before .before .before .before .before .before .before .before .before .before .before .args in
+    rw (← c .before .before .before .before .before .before .first-pass .ensures) (sym (c .before .loop .inv .2 ∙ further-end (a .rules .now) (a .edges .now) (a .index .now) (a .d) (a .d .ranks - 1) (c .before .loop .x) (c .before .loop .t) (c .loop-test .left)))
 
 pub search-spec : {M : Type 1} → statement M
 search-spec =
@@ -77,10 +102,15 @@ search-spec =
     first-pass-requires
     sub-m
     loop-holds
+    root-requires
+    cell-number-requires
+    price-at-requires
+    same-length
+    returns
     slice-aggregate-next-of-root
     next-of-root-requires
     add-x
     loop-less
     loop-again
-    same-length
-    returns)
+    same-length-2
+    returns-2)

@@ -4,23 +4,22 @@ use mathlib.Core.Path.{_≡_, refl, ap, subst}
 use mathlib.Core.Logic.{⊎-elim, _↔_}
 use mathlib.Core.Bool.{Bool, true, false}
 use mathlib.Core.List.{List}
-use Prim.Native.Nat.{ℕ, suc, _+_, _-_, _*_, _≤_, _<_, min}
-use native.Mathlib.Nat.{le-refl, eq-or-lt-of-le}
+use Prim.Native.Nat.{ℕ, zero, suc, _+_, _-_, _*_, _≤_, _<_, min}
+use native.Mathlib.Nat.{le-refl, eq-or-lt-of-le, add-zero, zero-add}
 use native.Mathlib.Numerals.{add-one}
-use native.Mathlib.Decide.{decLt}
+use native.Mathlib.Decide.{decLe, decLt}
 use native.Mathlib.Omega.{arith}
 use lib.ListN.{length, getD}
 use lib.Dec.{ltb, eqb}
 use borrow.Author.Tests.{eqb-true, ltb-false}
 use Rattle.bits.specs.Bits.{pick}
 use Rattle.packing.specs.Meaning.{symbolOf, Grammar, Edge}
-use Rattle.packing.specs.Loop.{iter}
 use Rattle.packing.proofs.Loop.{iter-keeps}
 use Rattle.chart_table.specs.declared.Cell.{Cell}
 use Rattle.chart_table.specs.declared.Layout.{Layout}
-use Rattle.chart_table.specs.Table.{cell, root, entryOf, priceAt, countFound, priceOf, besideAt}
+use Rattle.chart_table.specs.Table.{cell, root, entryOf, priceAt, missingFrom, firstMissing, priceOf, besideAt}
 use Rattle.chart_queue.specs.Queue.{queueLength}
-use Rattle.chart_search.specs.Search.{extend, nextOfSpan, firstOfHeads, firstOfLength, firstPass, nextOfRoot, search}
+use Rattle.chart_search.specs.Search.{extend, nextOfSpan, firstOfHeads, firstOfLength, firstPass, nextOfRoot, furtherFrom, search}
 use Rattle.chart_theory.proofs.Table.Cells.{InChart, span, rankedIn, rank-below}
 use Rattle.chart_theory.proofs.Table.Entries.{found-test}
 use Rattle.chart_theory.proofs.Invariant.{Setting, priceIn, Found, Known, Invariant, known-grows, Grown, grown-refl, grown-trans}
@@ -145,6 +144,14 @@ module _ {g : Grammar} {es : List Edge} {rules edges index : List ℕ} {d : Layo
       rw (add-one x) (length-known u (suc x) before (omega arith) l))
 
   module _ (in-root : InChart d (root d)) where
+    -- behind a rank of the root that is not found there is none
+    none-behind : (x : ℕ) (u : List ℕ) → x < d .ranks → Listed g es d x u → priceIn d u (root d) x ≡ 0 → (z : ℕ) → Listed g es d z u
+    none-behind x u kept listed absent z = record { invariant = listed .invariant; known = λ y h. go y (decLe y x) }
+      where
+        go : (y : ℕ) → Dec (y ≤ x) → Known g es d u (root d) y
+        go y (yes below) = listed .known y below
+        go y (no above) = λ _ more. absurd (omega (arith, listed .known x (le-refl x) kept (omega arith)))
+
     pub next-known : (x : ℕ) (u : List ℕ) → x < d .ranks - 1 → Listed g es d x u → Listed g es d (suc x) (nextOfRoot rules edges index d u x)
     unfolding nextOfRoot
     next-known x u l listed = rw (add-one x) (go (eqb weight 0) refl)
@@ -152,17 +159,9 @@ module _ {g : Grammar} {es : List Edge} {rules edges index : List ℕ} {d : Layo
         weight : ℕ
         weight = priceIn d u (root d) x
 
-        -- x is the last rank, so that there is none behind it
-        at-end : weight ≡ 0 → suc x < length (rankedIn g es (root d)) → ⊥
-        at-end absent more = omega (arith, listed .known x (le-refl x) (omega arith) (omega arith))
-
         go : (b : Bool) → eqb weight 0 ≡ b
             → Listed g es d (suc x) (pick b u (extend d (nextOfSpan rules edges index d (d .places)) u (root d) (suc x)))
-        go true e = record {
-          invariant = listed .invariant;
-          known = λ y h. ⊎-elim (λ same. rw same (λ kept more. absurd (at-end (eqb-true weight 0 e) more)))
-              (λ less. listed .known y (omega arith)) (eq-or-lt-of-le h);
-        }
+        go true e = none-behind x u (omega arith) listed (eqb-true weight 0 e) (suc x)
         go false e =
             let done = extend-done s (suc (d .places)) (next-finds s (suc (d .places)) (d .places)) x (listed .invariant) in-root
             (omega arith) (omega arith) (found-test weight e) in
@@ -172,19 +171,28 @@ module _ {g : Grammar} {es : List Edge} {rules edges index : List ℕ} {d : Layo
                   (λ less. known-grows g es (done .grown .grows) (root d) y (listed .known y (omega arith))) (eq-or-lt-of-le h);
             }
 
-    -- after the first pass and x further ranks of the root
-    pub steps-known : (t : List ℕ) → Invariant g es d 1 t → (x : ℕ) → x ≤ d .ranks - 1
-        → Listed g es d x (iter (nextOfRoot rules edges index d) (firstPass rules edges index d t) x)
-    steps-known t invariant x few =
+    pub pass-listed : (t : List ℕ) → Invariant g es d 1 t → Listed g es d 0 (firstPass rules edges index d t)
+    pass-listed t invariant =
         let after = first-pass-known t invariant in
-        let first : (y : ℕ) → y ≤ 0 → Known g es d (firstPass rules edges index d t) (root d) y =
-        λ y h. let same : y ≡ 0 = omega arith in rw same (after .first-known in-root (omega arith)) in
-        iter-keeps (Listed g es d) (nextOfRoot rules edges index d) (firstPass rules edges index d t) x
-        (record { invariant = after; known = first }) (λ y u l. next-known y u (omega arith))
+        record { invariant = after; known = λ y h. let same : y ≡ 0 = omega arith in rw same (after .first-known in-root (omega arith)) }
+
+    -- n ranks behind rank x, up to one that is not found
+    further-known : (n x : ℕ) (u : List ℕ) → x + n ≤ d .ranks - 1 → Listed g es d x u → Listed g es d (x + n) (furtherFrom rules edges index d n u x)
+    unfolding furtherFrom
+    further-known zero x u few listed = rw (add-zero x) listed
+    further-known (suc n) x u few listed =
+        go (eqb (priceIn d u (root d) x) 0) refl
+        (further-known n (suc x) (nextOfRoot rules edges index d u x) (omega arith) (next-known x u (omega arith) listed))
+      where
+        go : (b : Bool) → eqb (priceIn d u (root d) x) 0 ≡ b → Listed g es d (suc x + n) (furtherFrom rules edges index d n (nextOfRoot rules edges index d u x) (suc x))
+            → Listed g es d (x + suc n) (pick b u (furtherFrom rules edges index d n (nextOfRoot rules edges index d u x) (x + 1)))
+        go true e later = none-behind x u (omega arith) listed (eqb-true (priceIn d u (root d) x) 0 e) (x + suc n)
+        go false e later = let same : x + suc n ≡ suc x + n = omega arith in rw (same, add-one x) later
 
     pub search-known : (t : List ℕ) → Invariant g es d 1 t → Listed g es d (d .ranks - 1) (search rules edges index d t)
     unfolding search
-    search-known t invariant = steps-known t invariant (d .ranks - 1) (le-refl (d .ranks - 1))
+    search-known t invariant =
+        rw (zero-add (d .ranks - 1)) at (further-known (d .ranks - 1) 0 (firstPass rules edges index d t) (omega arith) (pass-listed t invariant))
 
     -- so a rank that is kept, of those known, is found exactly if there is one
     pub found-exactly : (x : ℕ) (u : List ℕ) → Listed g es d x u → (y : ℕ) → y ≤ x → y < d .ranks
@@ -194,17 +202,19 @@ module _ {g : Grammar} {es : List Edge} {rules edges index : List ℕ} {d : Layo
       listed .known y below kept,
     )
 
--- where the found ranks are those below a number, their count is that number, or all that are kept
-pub count-found : (t : List ℕ) (d : Layout) (c total : ℕ)
-    → ((x : ℕ) → x < d .ranks → (0 < priceAt t d c x) ↔ (x < total)) → countFound t d c ≡ min (d .ranks) total
-unfolding countFound
-count-found t d c total exactly = iter-keeps (λ x count. count ≡ min x total) _ 0 (d .ranks) (omega arith) step
-  where
-    step : (x count : ℕ) → x < d .ranks → count ≡ min x total
-        → pick (eqb (priceAt t d c x) 0) count (count + 1) ≡ min (suc x) total
-    step x count l e = go (eqb (priceAt t d c x) 0) refl (decLt x total)
-      where
-        go : (b : Bool) → eqb (priceAt t d c x) 0 ≡ b → Dec (x < total) → pick b count (count + 1) ≡ min (suc x) total
-        go true h (yes less) = absurd (omega (arith, exactly x l .1 less, eqb-true (priceAt t d c x) 0 h))
-        go true h (no over) = omega arith
-        go false h less = omega (arith, exactly x l .0 (found-test (priceAt t d c x) h))
+-- where the found ranks are those below a number, the first that is not is that number, or all that are kept are found
+module _ (t : List ℕ) (d : Layout) (c total : ℕ) (exactly : (x : ℕ) → x < d .ranks → (0 < priceAt t d c x) ↔ (x < total)) where
+  missing-from : (n x : ℕ) → x + n ≡ d .ranks → x ≤ total → missingFrom t d c n x ≡ min (d .ranks) total
+  unfolding missingFrom
+  missing-from zero x all below = omega arith
+  missing-from (suc n) x all below = go (eqb (priceAt t d c x) 0) refl (decLt x total) (missing-from n (x + 1) (omega arith))
+    where
+      go : (b : Bool) → eqb (priceAt t d c x) 0 ≡ b → Dec (x < total) → (x + 1 ≤ total → missingFrom t d c n (x + 1) ≡ min (d .ranks) total)
+          → pick b x (missingFrom t d c n (x + 1)) ≡ min (d .ranks) total
+      go true h (yes less) later = absurd (omega (arith, exactly x (omega arith) .1 less, eqb-true (priceAt t d c x) 0 h))
+      go true h (no over) later = omega arith
+      go false h less later = later (omega (arith, exactly x (omega arith) .0 (found-test (priceAt t d c x) h)))
+
+  pub first-missing : firstMissing t d c ≡ min (d .ranks) total
+  unfolding firstMissing
+  first-missing = missing-from (d .ranks) 0 (omega arith) (omega arith)

@@ -4,26 +4,28 @@ use mathlib.Core.Path.{_≡_, refl, sym, subst, _∙_}
 use Prim.Native.Nat.{_+_, _-_, _*_, _≤_, _<_}
 use native.Mathlib.Omega.{arith}
 use borrow.Author.Needs.{needs}
-use lib.ListN.{length, length-set}
+use lib.ListN.{length, take, replicate, length-set}
 use Rattle.packing.specs.Read.{sourceOf}
-use Rattle.rules_reader.specs.Rules.{MarkedNear, Sound}
+use Rattle.rules_reader.specs.Rules.{MarkedNear, Sound, Filtered}
+use Rattle.rules_reader.proofs.Filter.{filtered-none, filtered-more}
 use Rattle.rules_reader.proofs.Turns.{Passed, none-passed, all-passed, rule-refused, rule-repeated, rule-passed}
 use Rattle.rules_reader.proofs.read_rules.Statement.{statement}
 use Rattle.rules_reader.proofs.read_rules.Tie as tie
 
 abbrev Inv-loop : tie.InvT-loop
-Inv-loop src block sheet start rules₀ marks₀ v marked count end keys₀ at₀ i₀ rules marks keys at i =
+Inv-loop src block sheet start rules₀ marks₀ v marked count end keys₀ filter₀ at₀ i₀ rules marks keys filter at i =
     (i ≤ end) × (at ≤ start + 42 * i) × (length keys ≡ 256) × (length rules ≡ length rules₀) × (length marks ≡ length marks₀)
     × Passed marked (sourceOf src block sheet) (v .symbols) (v .words) count start i at keys rules marks
+    × (length filter ≡ 1021) × Filtered (take i keys) filter
 
 abbrev μ-loop : tie.MeasureT-loop
-μ-loop src block sheet start rules₀ marks₀ v marked count end keys₀ at₀ i₀ rules marks keys at i = end - i
+μ-loop src block sheet start rules₀ marks₀ v marked count end keys₀ filter₀ at₀ i₀ rules marks keys filter at i = end - i
 
 cast-end : tie.Need-cast-end Inv-loop μ-loop
 cast-end c = omega (arith, c .before .before .before .before .pre .2)
 
 loop-holds : tie.Need-loop-holds Inv-loop μ-loop
-loop-holds c = (omega arith, omega arith, refl, refl, refl, none-passed _ _ _ _ _ _ _ _ _)
+loop-holds c = (omega arith, omega arith, refl, refl, refl, none-passed _ _ _ _ _ _ _ _ _, refl, filtered-none (replicate 1021 0))
 
 read-marked-requires : tie.Need-read-marked-requires Inv-loop μ-loop
 read-marked-requires c κs = (omega (arith, c .loop-test .taken, c .before .loop .inv .1, c .before .before .before .before .before .before .pre .0, c .before .before .before .before .before .before .pre .2), c .before .before .before .before .before .before .pre .1)
@@ -60,54 +62,65 @@ below c = omega (arith, c .before .before .before .before .loop-test .taken, to-
 rule-key-requires : tie.Need-rule-key-requires Inv-loop μ-loop
 rule-key-requires c κs = near c .0
 
-slice-aggregate-seen : tie.Need-slice-aggregate-seen Inv-loop μ-loop
-slice-aggregate-seen c = sym (c .before .before .before .before .before .before .before .loop .inv .2)
+slice-aggregate-repeated : tie.Need-slice-aggregate-repeated Inv-loop μ-loop
+slice-aggregate-repeated c = sym (c .before .before .before .before .before .before .before .loop .inv .6)
 
-seen-requires : tie.Need-seen-requires Inv-loop μ-loop
-seen-requires c κs = omega (arith, below (c .before .before))
+slice-aggregate-repeated-2 : tie.Need-slice-aggregate-repeated-2 Inv-loop μ-loop
+slice-aggregate-repeated-2 c = sym (c .before .before .before .before .before .before .before .before .loop .inv .2)
+
+repeated-requires : tie.Need-repeated-requires Inv-loop μ-loop
+repeated-requires c κs = (omega (arith, below (c .before .before .before)), c .before .before .before .before .before .before .before .before .loop .inv .6, c .before .before .before .before .before .before .before .before .loop .inv .7)
 
 same-length-3 : tie.Need-same-length-3 Inv-loop μ-loop
-same-length-3 c = c .before .before .before .before .before .before .before .before .before .loop .inv .3
+same-length-3 c = c .before .before .before .before .before .before .before .before .before .before .loop .inv .3
 
 same-length-4 : tie.Need-same-length-4 Inv-loop μ-loop
-same-length-4 c = c .before .before .before .before .before .before .before .before .before .loop .inv .4
+same-length-4 c = c .before .before .before .before .before .before .before .before .before .before .loop .inv .4
 
 returns-2 : tie.Need-returns-2 Inv-loop μ-loop
 returns-2 c =
-    rule-repeated _ _ _ _ _ _ (c .before .before .before .before .before .before .before .before .before .loop .inv .5) (omega (arith, c .before .before .before .before .before .before .before .before .loop-test .taken)) _ (c .before .before .before .before .before .before .before .read-marked .ensures .0) (near (c .before .before .before .before) .0) (c .before .before .before .before .before .read2 .given .1)
-    (rw (c .before .before .before .rule-key .ensures) at (c .before .seen .ensures)) (c .if1 .taken)
+    rule-repeated _ _ _ _ _ _ (c .before .before .before .before .before .before .before .before .before .before .loop .inv .5) (omega (arith, c .before .before .before .before .before .before .before .before .before .loop-test .taken)) _ (c .before .before .before .before .before .before .before .before .read-marked .ensures .0) (near (c .before .before .before .before .before) .0) (c .before .before .before .before .before .before .read2 .given .1)
+    (rw (c .before .before .before .before .rule-key .ensures) at (c .before .repeated .ensures)) (c .if1 .taken)
 
 mul-keys : tie.Need-mul-keys Inv-loop μ-loop
 mul-keys c = omega arith
 
 array-write-keys : tie.Need-array-write-keys Inv-loop μ-loop
-array-write-keys c = omega (arith, below (c .before .before .before .before))
+array-write-keys c = omega (arith, below (c .before .before .before .before .before))
+
+filter-place-requires : tie.Need-filter-place-requires Inv-loop μ-loop
+filter-place-requires c κs = search needs
+
+array-write-filter : tie.Need-array-write-filter Inv-loop μ-loop
+array-write-filter c = omega (arith, c .filter-place .ensures .1, c .before .before .before .before .before .before .before .before .before .before .before .loop .inv .6)
 
 store-rule-requires : tie.Need-store-rule-requires Inv-loop μ-loop
-store-rule-requires c κs = below (c .before .before .before .before .before) .2
+store-rule-requires c κs = below (c .before .before .before .before .before .before .before) .2
 
 mul-marks : tie.Need-mul-marks Inv-loop μ-loop
 mul-marks c = omega arith
 
 slice-write-marks : tie.Need-slice-write-marks Inv-loop μ-loop
-slice-write-marks c = below (c .before .before .before .before .before .before .before .before) .3
+slice-write-marks c = below (c .before .before .before .before .before .before .before .before .before .before) .3
 
 add-i : tie.Need-add-i Inv-loop μ-loop
-add-i c = omega (arith, below (c .before .before .before .before .before .before .before .before))
+add-i c = omega (arith, below (c .before .before .before .before .before .before .before .before .before .before))
 
 loop-less : tie.Need-loop-less Inv-loop μ-loop
-loop-less c = omega (arith, c .before .before .before .before .before .before .before .before .before .before .before .before .loop-test .taken)
+loop-less c = omega (arith, c .before .before .before .before .before .before .before .before .before .before .before .before .before .before .loop-test .taken)
 
 loop-again : tie.Need-loop-again Inv-loop μ-loop
 loop-again c = (
-  omega (arith, c .before .before .before .before .before .before .before .before .before .before .before .before .loop-test .taken),
-  omega (arith, c .before .before .before .before .before .before .before .before .before .before .before .before .before .loop .inv .1, near (c .before .before .before .before .before .before .before .before) .1),
-  simp length-set (c .before .before .before .before .before .before .before .before .before .before .before .before .before .loop .inv .2),
-  c .before .before .store-rule .kept .0 ∙ c .before .before .before .before .before .before .before .before .before .before .before .before .before .loop .inv .3,
-  simp length-set (c .before .before .before .before .before .before .before .before .before .before .before .before .before .loop .inv .4),
-  rule-passed _ _ _ _ _ _ (c .before .before .before .before .before .before .before .before .before .before .before .before .before .loop .inv .5) (omega (arith, c .before .before .before .before .before .before .before .before .before .before .before .before .loop-test .taken)) _ (c .before .before .before .before .before .before .before .before .before .before .before .read-marked .ensures .0) (near (c .before .before .before .before .before .before .before .before) .0) (c .before .before .before .before .before .before .before .before .before .read2 .given .1)
-      (rw (c .before .before .before .before .before .before .before .rule-key .ensures) at (c .before .before .before .before .before .seen .ensures)) (c .before .before .before .before .if1 .left) _ (c .before .before .before .before .before .before .before .rule-key .ensures) (below (c .before .before .before .before .before .before .before .before) .1) _ (c .before .before .store-rule .ensures)
-      (below (c .before .before .before .before .before .before .before .before) .3),
+  omega (arith, c .before .before .before .before .before .before .before .before .before .before .before .before .before .before .loop-test .taken),
+  omega (arith, c .before .before .before .before .before .before .before .before .before .before .before .before .before .before .before .loop .inv .1, near (c .before .before .before .before .before .before .before .before .before .before) .1),
+  simp length-set (c .before .before .before .before .before .before .before .before .before .before .before .before .before .before .before .loop .inv .2),
+  c .before .before .store-rule .kept .0 ∙ c .before .before .before .before .before .before .before .before .before .before .before .before .before .before .before .loop .inv .3,
+  simp length-set (c .before .before .before .before .before .before .before .before .before .before .before .before .before .before .before .loop .inv .4),
+  rule-passed _ _ _ _ _ _ (c .before .before .before .before .before .before .before .before .before .before .before .before .before .before .before .loop .inv .5) (omega (arith, c .before .before .before .before .before .before .before .before .before .before .before .before .before .before .loop-test .taken)) _ (c .before .before .before .before .before .before .before .before .before .before .before .before .before .read-marked .ensures .0) (near (c .before .before .before .before .before .before .before .before .before .before) .0) (c .before .before .before .before .before .before .before .before .before .before .before .read2 .given .1)
+      (rw (c .before .before .before .before .before .before .before .before .before .rule-key .ensures) at (c .before .before .before .before .before .before .repeated .ensures)) (c .before .before .before .before .before .if1 .left) _ (c .before .before .before .before .before .before .before .before .before .rule-key .ensures) (below (c .before .before .before .before .before .before .before .before .before .before) .1) _ (c .before .before .store-rule .ensures)
+      (below (c .before .before .before .before .before .before .before .before .before .before) .3),
+  simp length-set (c .before .before .before .before .before .before .before .before .before .before .before .before .before .before .before .loop .inv .6),
+  rw (c .before .before .before .before .filter-place .ensures .0) (filtered-more (c .before .before .before .before .before .before .before .before .before .before .before .before .before .before .before .loop .keys) (c .before .before .before .before .before .before .before .before .before .before .before .before .before .before .before .loop .filter) (c .before .before .before .before .before .before .before .before .before .before .before .before .before .before .before .loop .i) (c .before .before .before .before .before .before .before .before .before .rule-key .result) (below (c .before .before .before .before .before .before .before .before .before .before) .1) (omega (arith, c .before .before .before .before .before .before .before .before .before .before .before .before .before .before .before .loop .inv .6)) (c .before .before .before .before .before .before .before .before .before .before .before .before .before .before .before .loop .inv .7)),
 )
 
 same-length-5 : tie.Need-same-length-5 Inv-loop μ-loop
@@ -136,13 +149,16 @@ read-rules-spec =
     returns
     enum-known-read-2
     rule-key-requires
-    slice-aggregate-seen
-    seen-requires
+    slice-aggregate-repeated
+    slice-aggregate-repeated-2
+    repeated-requires
     same-length-3
     same-length-4
     returns-2
     mul-keys
     array-write-keys
+    filter-place-requires
+    array-write-filter
     store-rule-requires
     mul-marks
     slice-write-marks

@@ -17,16 +17,13 @@ no-key-requires : tie.Need-no-key-requires
 no-key-requires c κs = search needs
 
 returns : tie.Need-returns
-returns c = (c .no-key .ensures ∙ sym (no-leaves _ _ _ _ 0 noKey (c .before .before .before .before .before .before .before .pre .2 (rw (c .before .before .before .wide .ensures .0) at (c .before .before .lacks .ensures (c .before .if1 .taken))))), rw (c .no-key .ensures) (le-refl noKey))
+returns c = (c .no-key .ensures ∙ sym (no-leaves _ _ _ _ 0 noKey (c .before .before .before .before .before .before .before .before .pre .0 .2 (rw (c .before .before .before .wide .ensures .0) at (c .before .before .lacks .ensures (c .before .if1 .taken))))), rw (c .no-key .ensures) (le-refl noKey))
 
-no-key-requires-2 : tie.Need-no-key-requires-2
-no-key-requires-2 c κs = search needs
-
-leaves-requires : tie.Need-leaves-requires
-leaves-requires c κs = search needs
+least-leaf-requires : tie.Need-least-leaf-requires
+least-leaf-requires c κs = search needs
 
 returns-2 : tie.Need-returns-2
-returns-2 c = let e = rw (c .before .no-key2 .ensures) at (c .leaves .ensures) in (e, rw e (leaves-below _ _ _ _ 0 noKey))
+returns-2 c = (c .least-leaf .ensures, rw (c .least-leaf .ensures) (leaves-below _ _ _ _ 0 noKey))
 
 pub first-leaf-spec : {M : Type 1} → statement M
 first-leaf-spec =
@@ -36,6 +33,5 @@ first-leaf-spec =
     lacks-requires
     no-key-requires
     returns
-    no-key-requires-2
-    leaves-requires
+    least-leaf-requires
     returns-2)
