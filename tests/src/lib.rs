@@ -14,9 +14,11 @@
 //! | `derivation` | trees, their order, and all derivations sorted by it |
 //! | `nbest` | the N best trees of each cell, where all derivations are too many |
 //! | `compare` | one call of both on the same slices, held to each other |
+//! | `both` | both held to the same examples |
 //! | `seeded` | seeded inputs, valid and damaged |
 
 pub mod bits;
+pub mod both;
 pub mod chance;
 pub mod check;
 pub mod compare;

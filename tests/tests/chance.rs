@@ -8,12 +8,11 @@ use spireyerba_tests::compare::chance::compare;
 use spireyerba_tests::compare::{over_seeds, Tally};
 use spireyerba_tests::heard::Heard;
 use spireyerba_tests::nbest::least;
-use spireyerba_tests::refusal::{GRAMMAR_BLOCK, GRAPH_BLOCK, UTTERANCE_BLOCK};
+use spireyerba_tests::refusal::{GRAMMAR_BLOCK, GRAPH_BLOCK, READING_BLOCK, UTTERANCE_BLOCK};
 use spireyerba_tests::seeded::damage::{blocks, graph_blocks, some_grammar_blocks, some_utterance_blocks};
-use spireyerba_tests::seeded::parsable::{case, graph_case, Shape};
-use spireyerba_tests::seeded::parsable::{AMBIGUOUS, LONG, MANY_SYMBOLS, SPARSE, TINY};
+use spireyerba_tests::seeded::parsable::{heard_case, AMBIGUOUS, LONG, MANY_SYMBOLS, SPARSE, TINY};
 use spireyerba_tests::seeded::rng::Rng;
-use spireyerba_tests::{grammar, reading, utterance};
+use spireyerba_tests::{grammar, reading, tests_of_both, utterance};
 use std::cmp::Ordering;
 
 type Chance = fn(&[u8], &[u8], &[u8], &[u32], &mut f64) -> Result<(), Refusal>;
@@ -50,7 +49,7 @@ fn slots_of_g(slots: usize) -> (Vec<u8>, Vec<u8>) {
     (utterance::pack(&rules, &utterance), reading::pack(&rules, first))
 }
 
-fn expect_examples(service: Chance) {
+fn document_02s_examples(service: Chance) {
     for blocks in [[&SEVEN_RULES[..], &SLOTS, &OF_SLOTS], [&SEVEN_RULES[..], &GRAPH, &OF_GRAPH]] {
         assert_eq!(bits(service, blocks, &SEVEN_SHARES), Ok(0x3f92_47d7_0185_541a));
     }
@@ -63,7 +62,7 @@ fn expect_examples(service: Chance) {
     assert_eq!(bits(service, [&G, &longest, &of_longest], &[1, 1]), Ok(0x2290_0000_0000_0000));
 }
 
-fn expect_refusals(service: Chance) {
+fn document_02s_refusals(service: Chance) {
     let expect = |blocks: [&[u8]; 3], shares: &[u32], refusal| assert_eq!(bits(service, blocks, shares), Err(refusal));
     let of_u: [&[u8]; 3] = [&G, &U, &FIRST];
     expect(of_u, &[], SharesCount);
@@ -78,17 +77,7 @@ fn expect_refusals(service: Chance) {
     expect([&[], &[], &[]], &[], GrammarEnd);
 }
 
-#[test]
-fn document_02s_examples() {
-    expect_examples(services::chance);
-    expect_refusals(services::chance);
-}
-
-#[test]
-fn document_02s_examples_in_the_second_implementation() {
-    expect_examples(chance);
-    expect_refusals(chance);
-}
+tests_of_both! { services::chance, chance; document_02s_examples document_02s_refusals }
 
 /// A whole number of any size: digits to base 2 to the power 32, the lowest first, and none at the top that is 0.
 #[derive(PartialEq, Eq)]
@@ -169,27 +158,11 @@ fn any_shares(rng: &mut Rng, rules: usize) -> Vec<u32> {
     shares
 }
 
-fn shape(rng: &mut Rng) -> &'static Shape {
-    rng.pick(&[&TINY, &AMBIGUOUS, &SPARSE, &LONG, &MANY_SYMBOLS])
-}
-
-/// A grammar's block, what was heard under it, and blocks of its least readings.
-fn any_case(rng: &mut Rng) -> (spireyerba::Grammar, Heard) {
-    let shape = shape(rng);
-    if rng.once_in(2) {
-        let (grammar, utterance) = case(rng, shape);
-        (grammar, Heard::Slots(utterance))
-    } else {
-        let (grammar, graph) = graph_case(rng, shape);
-        (grammar, Heard::Graph(graph))
-    }
-}
-
 #[test]
 fn readings_of_derivations_damaged_ones_and_noise() {
     let mut tally = Tally::default();
     over_seeds(0..600, |rng| {
-        let (grammar, heard) = any_case(rng);
+        let (grammar, heard) = heard_case(rng, &[&TINY, &AMBIGUOUS, &SPARSE, &LONG, &MANY_SYMBOLS]);
         let (grammar_block, heard_block) = (grammar::pack(&grammar), heard.pack(&grammar));
         let readings: Vec<Vec<u8>> = heard.least(&grammar, 4).into_iter().map(|(_, block)| block).collect();
         for reading in &readings {
@@ -216,10 +189,8 @@ fn readings_of_derivations_damaged_ones_and_noise() {
             compare(rng, &mut tally, [&grammar_block, &damaged, reading], &shares);
         }
     });
-    let reading = [ReadingEnd, ReadingKind, ReadingSlots, ReadingWalk, ReadingWeight, ReadingFill];
-    let mut all = [&GRAMMAR_BLOCK[..], &UTTERANCE_BLOCK, &reading, &GRAPH_BLOCK, &[SharesCount, ShareRange]].concat();
-    all.sort();
-    tally.demand(20_000, &all);
+    let blocks = [&GRAMMAR_BLOCK[..], &UTTERANCE_BLOCK, &GRAPH_BLOCK, &READING_BLOCK].concat();
+    tally.demand(20_000, &[&blocks[..], &[SharesCount, ShareRange]].concat());
     assert!(tally.accepted() > 5_000, "{} accepted", tally.accepted());
 }
 

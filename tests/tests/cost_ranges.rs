@@ -14,7 +14,7 @@ use spireyerba_tests::seeded::damage::{some_grammar_blocks, some_utterance_block
 use spireyerba_tests::seeded::parsable::{case, cheaper, graph_case, lighter, Shape};
 use spireyerba_tests::seeded::parsable::{AMBIGUOUS, GREATEST, LONG, MANY_SYMBOLS, SPARSE, TINY, WORDY};
 use spireyerba_tests::seeded::rng::Rng;
-use spireyerba_tests::{grammar, graph, utterance};
+use spireyerba_tests::{grammar, graph, tests_of_both, utterance};
 
 type CostRanges = fn(&[u8], &[u8], &[u8], &mut [u32], &mut u32, &mut u32) -> Result<FirstReading, Refusal>;
 
@@ -48,7 +48,7 @@ fn slots(costs: [[u32; 2]; 2]) -> Vec<u8> {
     utterance::pack(&grammar::from_block(&FIFTH).expect("document 01's grammar"), &utterance)
 }
 
-fn expect_examples(service: CostRanges) {
+fn document_02s_examples(service: CostRanges) {
     use FirstReading::{Nothing, Outweighed, Stands};
     let expect = |low: &[u8], high: &[u8], first, weights| {
         assert_eq!(answer(service, [&FIFTH, low, high], 36), (Ok(first), weights));
@@ -65,7 +65,7 @@ fn expect_examples(service: CostRanges) {
     expect(&nothing, &nothing, Nothing, [UNWRITTEN, UNWRITTEN]);
 }
 
-fn expect_refusals(service: CostRanges) {
+fn document_02s_refusals(service: CostRanges) {
     let expect = |blocks: [&[u8]; 3], work_len, refusal| {
         assert_eq!(answer(service, blocks, work_len), (Err(refusal), [UNWRITTEN; 2]), "{blocks:02x?}");
     };
@@ -84,17 +84,7 @@ fn expect_refusals(service: CostRanges) {
     expect([&[], &[], &[]], 0, GrammarEnd);
 }
 
-#[test]
-fn document_02s_examples() {
-    expect_examples(services::cost_ranges);
-    expect_refusals(services::cost_ranges);
-}
-
-#[test]
-fn document_02s_examples_in_the_second_implementation() {
-    expect_examples(cost_ranges);
-    expect_refusals(cost_ranges);
-}
+tests_of_both! { services::cost_ranges, cost_ranges; document_02s_examples document_02s_refusals }
 
 /// Costs that rise by at most this much, of at most so many words, in an utterance whose costs leave room for it.
 fn risen(rng: &mut Rng, low: &mut Utterance, by: u32, words: usize) -> Utterance {
@@ -214,9 +204,7 @@ fn wide_ranges_damaged_blocks_and_unlike_ones() {
         expect(rng, [&block, &graph, &low_block]);
         expect(rng, [&block, &low_block, &graph]);
     });
-    let mut all = [&GRAMMAR_BLOCK[..], &UTTERANCE_BLOCK, &[ListingWork, CostRanges]].concat();
-    all.sort();
-    tally.demand(3_000, &all);
+    tally.demand(3_000, &[&GRAMMAR_BLOCK[..], &UTTERANCE_BLOCK, &[ListingWork, CostRanges]].concat());
     assert!(tally.accepted() > 300, "{} accepted", tally.accepted());
 }
 
