@@ -2,24 +2,23 @@
 
 use spireyerba::limits::{nodes, MAX_SHARE, MAX_SLOTS};
 use spireyerba::Refusal::*;
-use spireyerba::{services, Candidate, Refusal, Utterance};
+use spireyerba::{services, Refusal};
 use spireyerba_tests::chance::{chance, PRECISION};
 use spireyerba_tests::compare::chance::compare;
 use spireyerba_tests::compare::{over_seeds, Tally};
+use spireyerba_tests::documents::{block_of_slots, g, slots_of_g, G, U};
 use spireyerba_tests::heard::Heard;
 use spireyerba_tests::nbest::least;
 use spireyerba_tests::refusal::{GRAMMAR_BLOCK, GRAPH_BLOCK, READING_BLOCK, UTTERANCE_BLOCK};
 use spireyerba_tests::seeded::damage::{blocks, graph_blocks, some_grammar_blocks, some_utterance_blocks};
 use spireyerba_tests::seeded::parsable::{heard_case, AMBIGUOUS, LONG, MANY_SYMBOLS, SPARSE, TINY};
 use spireyerba_tests::seeded::rng::Rng;
-use spireyerba_tests::{grammar, reading, tests_of_both, utterance};
+use spireyerba_tests::{grammar, reading, tests_of_both};
 use std::cmp::Ordering;
 
 type Chance = fn(&[u8], &[u8], &[u8], &[u32], &mut f64) -> Result<(), Refusal>;
 
-/// Document 01's G and U, and U's first reading.
-const G: [u8; 9] = [0x10, 0x40, 0x40, 0x40, 0x00, 0x09, 0x00, 0x00, 0x00];
-const U: [u8; 12] = [0x21, 0x08, 0x00, 0x00, 0x80, 0x00, 0x08, 0x00, 0x00, 0x80, 0x00, 0x00];
+/// The first reading of U under G.
 const FIRST: [u8; 6] = [0x31, 0x00, 0x00, 0x00, 0xd5, 0x80];
 
 /// A grammar of seven rules, with slots, the graph that they can be redrawn as, and a reading of either: from the last node to
@@ -42,11 +41,9 @@ fn bits(service: Chance, blocks: [&[u8]; 3], shares: &[u32]) -> Result<u64, Refu
 }
 
 /// The blocks of so many slots that offer G's word, and of their first reading.
-fn slots_of_g(slots: usize) -> (Vec<u8>, Vec<u8>) {
-    let rules = grammar::from_block(&G).expect("document 01's grammar");
-    let utterance = Utterance { slots: vec![vec![Candidate { word: 0, cost: 0 }]; slots] };
-    let first = &least(&rules, &utterance, 1)[0];
-    (utterance::pack(&rules, &utterance), reading::pack(&rules, first))
+fn slots_and_reading(slots: usize) -> (Vec<u8>, Vec<u8>) {
+    let first = &least(&g(), &slots_of_g(slots), 1)[0];
+    (block_of_slots(slots), reading::pack(&g(), first))
 }
 
 fn document_02s_examples(service: Chance) {
@@ -56,9 +53,9 @@ fn document_02s_examples(service: Chance) {
     let of_u: [&[u8]; 3] = [&G, &U, &FIRST];
     assert_eq!(bits(service, of_u, &[341, 683]), Ok(0x3f7d_efd5_dca6_57ca));
     assert_eq!(bits(service, of_u, &[512, 1_024]), Ok(0x3fc0_0000_0000_0000));
-    let (one, of_one) = slots_of_g(1);
+    let (one, of_one) = slots_and_reading(1);
     assert_eq!(bits(service, [&G, &one, &of_one], &[1_024, 3]), Ok(0x3f68_0000_0000_0000));
-    let (longest, of_longest) = slots_of_g(MAX_SLOTS as usize);
+    let (longest, of_longest) = slots_and_reading(MAX_SLOTS as usize);
     assert_eq!(bits(service, [&G, &longest, &of_longest], &[1, 1]), Ok(0x2290_0000_0000_0000));
 }
 
@@ -200,7 +197,7 @@ fn every_float_is_near_to_the_exact_product() {
     let mut tally = Tally::default();
     over_seeds(0..200, |rng| {
         for slots in 1..=MAX_SLOTS as usize {
-            let (utterance, reading) = slots_of_g(slots);
+            let (utterance, reading) = slots_and_reading(slots);
             let shares = [share(rng), share(rng)];
             let float = compare(rng, &mut tally, [&G, &utterance, &reading], &shares).expect("a chance");
             let walk: Vec<u32> = (0..nodes(slots)).map(|node| shares[usize::from(node >= slots - 1)]).collect();

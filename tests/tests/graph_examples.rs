@@ -7,6 +7,7 @@ use spireyerba::Refusal::*;
 use spireyerba::{Edge, Graph, GraphReading, Reading, Refusal};
 use spireyerba_tests::bits::BitWriter;
 use spireyerba_tests::both::{self, Services, LIBRARY, SECOND};
+use spireyerba_tests::documents::{g, G, TWO_LENGTHS, U};
 use spireyerba_tests::graph_reading::{of_listed, pack_nodes, Node};
 use spireyerba_tests::{grammar, graph, graph_reading, tests_of_both};
 
@@ -27,15 +28,10 @@ tests_of_both! {
     elsewhere_a_graph_is_of_another_kind
 }
 
-/// 0 to 0 0, weight 1; 0 to word 0, weight 0.
-const G: [u8; 9] = [0x10, 0x40, 0x40, 0x40, 0x00, 0x09, 0x00, 0x00, 0x00];
-/// Four slots, each word 0 at cost 0, and the same redrawn as a graph.
-const U: [u8; 12] = [0x21, 0x08, 0x00, 0x00, 0x80, 0x00, 0x08, 0x00, 0x00, 0x80, 0x00, 0x00];
+/// U redrawn as a graph.
 const REDRAWN: [u8; 16] =
     [0x52, 0x84, 0x00, 0x40, 0x00, 0x01, 0x10, 0x00, 0x00, 0x43, 0x00, 0x00, 0x0c, 0x80, 0x00, 0x00];
-/// Places 0 to 3, with edges 0 to 1, 1 to 2, 0 to 2 at cost 3, 2 to 3.
-const TWO_LENGTHS: [u8; 16] =
-    [0x52, 0x04, 0x00, 0x40, 0x00, 0x01, 0x10, 0x00, 0x00, 0x02, 0x00, 0x01, 0x88, 0x60, 0x00, 0x00];
+/// The readings of `TWO_LENGTHS` under G.
 const OF_TWO_LENGTHS: [[u8; 8]; 3] = [
     [0x60, 0xc0, 0x00, 0x00, 0x90, 0x08, 0x18, 0x30],
     [0x60, 0xc0, 0x00, 0x00, 0x88, 0x08, 0x18, 0x30],
@@ -252,7 +248,7 @@ fn the_end_of_a_block(services: &Services) {
 const NODES: [Node; 3] = [(0, None), (1, Some(2)), (1, Some(3))];
 
 fn refusals_of_a_reading(services: &Services) {
-    let under = grammar::from_block(&G).expect("an accepted grammar");
+    let under = g();
     let pack = |edges, weight, nodes: &[Node]| pack_nodes(&under, edges, weight, nodes);
     let check = |reading: &[u8]| (services.check)(&G, &TWO_LENGTHS, reading);
     assert_eq!(check(&pack(2, 4, &NODES)), Ok(()));
@@ -284,7 +280,7 @@ fn refusals_of_a_reading(services: &Services) {
 
 /// More words or fewer than the reading says, which takes more bits or fewer: no walk, and no missing field.
 fn another_mix_of_rules(services: &Services) {
-    let under = grammar::from_block(&G).expect("an accepted grammar");
+    let under = g();
     let check = |edges, nodes: &[Node], length: usize| {
         let mut reading = pack_nodes(&under, edges, 4, nodes);
         reading.resize(length, 0xff);

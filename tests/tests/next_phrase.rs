@@ -5,6 +5,7 @@ use spireyerba::Refusal::*;
 use spireyerba::{services, Refusal};
 use spireyerba_tests::compare::next_phrase::compare;
 use spireyerba_tests::compare::{over_seeds, Tally};
+use spireyerba_tests::documents::G;
 use spireyerba_tests::grammar::pack;
 use spireyerba_tests::refusal::GRAMMAR_BLOCK;
 use spireyerba_tests::seeded::damage::some_grammar_blocks;
@@ -40,9 +41,6 @@ fn all_phrases(service: NextPhrase, grammar: &[u8], length: u32) -> Vec<Vec<u8>>
 /// 0 to 0 1; 0 to word 2; 1 to word 0; 1 to word 2; 0 to word 1: word 1 or 2, and then words 0 and 2.
 const ANY_TAIL: [u8; 16] =
     [0x10, 0x80, 0xc0, 0xa0, 0x00, 0x0b, 0x00, 0x00, 0x58, 0x00, 0x01, 0x80, 0x00, 0x50, 0x00, 0x1a];
-
-/// Document 01's G: 0 to 0 0; 0 to word 0.
-const G: [u8; 9] = [0x10, 0x40, 0x40, 0x40, 0x00, 0x09, 0x00, 0x00, 0x00];
 
 /// The door schedule of examples/.
 const DOORS: &[u8] = include_bytes!("../../examples/doors/grammar.bin");

@@ -4,9 +4,9 @@
 use spireyerba::limits::MAX_READINGS;
 use spireyerba::services::{self, Next, Place};
 use spireyerba::Refusal::{self, *};
-use spireyerba::{Candidate, Grammar, Utterance};
 use spireyerba_tests::compare::open_listing::{compare_next, compare_open, expect_sound, State};
 use spireyerba_tests::compare::{over_seeds, Tally};
+use spireyerba_tests::documents::{block_of_slots, FIFTH, FIFTH_AT_0, G, TWO_LENGTHS, U};
 use spireyerba_tests::heard::Heard;
 use spireyerba_tests::open_listing::Listed;
 use spireyerba_tests::refusal::{GRAMMAR_BLOCK, GRAPH_BLOCK, UTTERANCE_BLOCK};
@@ -15,15 +15,6 @@ use spireyerba_tests::seeded::parsable::{case, graph_case, graph_of, heard_case,
 use spireyerba_tests::seeded::parsable::{AMBIGUOUS, GREATEST, LONG, MANY_SYMBOLS, SPARSE, TINY};
 use spireyerba_tests::seeded::rng::Rng;
 use spireyerba_tests::{grammar, utterance};
-
-/// Document 01's G and U, the fifth P case, and document 02's graph of four edges.
-const G: [u8; 9] = [0x10, 0x40, 0x40, 0x40, 0x00, 0x09, 0x00, 0x00, 0x00];
-const U: [u8; 12] = [0x21, 0x08, 0x00, 0x00, 0x80, 0x00, 0x08, 0x00, 0x00, 0x80, 0x00, 0x00];
-const FIFTH: [u8; 17] =
-    [0x10, 0xc1, 0x00, 0xa0, 0x00, 0x01, 0xa8, 0x00, 0x29, 0x40, 0x00, 0xdc, 0x00, 0x03, 0x60, 0x00, 0x3c];
-const FIFTH_SLOTS: [u8; 11] = [0x20, 0x90, 0x00, 0x00, 0x80, 0x00, 0x28, 0x00, 0x03, 0x00, 0x00];
-const GRAPH: [u8; 16] =
-    [0x52, 0x04, 0x00, 0x40, 0x00, 0x01, 0x10, 0x00, 0x00, 0x02, 0x00, 0x01, 0x88, 0x60, 0x00, 0x00];
 
 /// Opens a listing and takes all of it; answers how many ranks each call found, of slices with just the room that they need.
 fn found_by_calls(grammar: &[u8], heard: &[u8], work_len: usize, out_len: usize) -> Vec<usize> {
@@ -42,21 +33,12 @@ fn found_by_calls(grammar: &[u8], heard: &[u8], work_len: usize, out_len: usize)
     }
 }
 
-fn g() -> Grammar {
-    grammar::from_block(&G).expect("G is accepted")
-}
-
-/// So many slots of word 0 at cost 0.
-fn slots(count: usize) -> Vec<u8> {
-    utterance::pack(&g(), &Utterance { slots: vec![vec![Candidate { word: 0, cost: 0 }]; count] })
-}
-
 #[test]
 fn document_02s_examples() {
     assert_eq!(found_by_calls(&G, &U, 10_240, 6), [10, 2, 1, 1, 2]);
-    assert_eq!(found_by_calls(&G, &GRAPH, 6_144, 8), [6, 1, 2]);
-    assert_eq!(found_by_calls(&FIFTH, &FIFTH_SLOTS, 9_216, 6), [3, 3, 1, 1]);
-    let six = found_by_calls(&G, &slots(6), 21_504, 6);
+    assert_eq!(found_by_calls(&G, &TWO_LENGTHS, 6_144, 8), [6, 1, 2]);
+    assert_eq!(found_by_calls(&FIFTH, &FIFTH_AT_0, 9_216, 6), [3, 3, 1, 1]);
+    let six = found_by_calls(&G, &block_of_slots(6), 21_504, 6);
     assert_eq!((six.len(), six[0], six.iter().sum::<usize>()), (42, 21, 104));
 }
 
@@ -92,7 +74,7 @@ fn lengths_and_refusals_of_the_examples() {
 /// After 256 readings every call says that the listing is full, however many there are.
 #[test]
 fn full_after_256() {
-    let (rng, mut tally, heard) = (&mut Rng::new(2), Tally::default(), slots(10));
+    let (rng, mut tally, heard) = (&mut Rng::new(2), Tally::default(), block_of_slots(10));
     let (blocks, listed) = ([&G[..], &heard], Listed::new(&G, &heard));
     let mut state = State::noise(rng, 4 * 55 * 256);
     assert!(compare_open(rng, &mut tally, blocks, &listed, &mut state));

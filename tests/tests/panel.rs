@@ -2,9 +2,10 @@
 
 use spireyerba::limits::{PANEL_MAX_READINGS, PANEL_MAX_SLOTS, PANEL_OUTPUT_MAX, PANEL_WORK_MAX};
 use spireyerba::Refusal::{self, *};
-use spireyerba::{services, Candidate, Edge, Grammar, Graph, Utterance};
+use spireyerba::{services, Edge, Grammar, Graph};
 use spireyerba_tests::compare::listing::{compare_panel, compare_services, Call};
 use spireyerba_tests::compare::{over_seeds, Tally};
+use spireyerba_tests::documents::{block_of_slots, g, G};
 use spireyerba_tests::heard::Heard;
 use spireyerba_tests::listing::panel_listing;
 use spireyerba_tests::refusal::{GRAMMAR_BLOCK, GRAPH_BLOCK, UTTERANCE_BLOCK};
@@ -13,18 +14,6 @@ use spireyerba_tests::seeded::parsable::{case, graph_case, heard_case, Shape};
 use spireyerba_tests::seeded::parsable::{AMBIGUOUS, GREATEST, LONG, MANY_SYMBOLS, SPARSE, TINY};
 use spireyerba_tests::seeded::rng::Rng;
 use spireyerba_tests::{grammar, graph, utterance};
-
-/// Document 01's grammar G, as a block and as a value.
-const G: [u8; 9] = [0x10, 0x40, 0x40, 0x40, 0x00, 0x09, 0x00, 0x00, 0x00];
-
-fn g() -> Grammar {
-    grammar::from_block(&G).expect("G is accepted")
-}
-
-/// So many slots of word 0 at cost 0.
-fn slots(count: usize) -> Vec<u8> {
-    utterance::pack(&g(), &Utterance { slots: vec![vec![Candidate { word: 0, cost: 0 }]; count] })
-}
 
 /// So many places, with word 0 at cost 0 over each step.
 fn places(count: u32) -> Vec<u8> {
@@ -44,7 +33,7 @@ fn answer(heard: &[u8], wanted: u32, work_len: usize, out_len: usize) -> Result<
 
 #[test]
 fn twelve_slots_and_sixteen_readings() {
-    let heard = slots(12);
+    let heard = block_of_slots(12);
     assert_eq!(answer(&heard, 16, 4_992, 128), Ok(16));
     assert_eq!(answer(&heard, 16, 4_991, 128), Err(ListingWork));
     assert_eq!(answer(&heard, 16, 4_992, 127), Err(ListingOutput));
@@ -57,9 +46,9 @@ fn twelve_slots_and_sixteen_readings() {
 #[test]
 fn more_slots_than_twelve() {
     for wanted in [0, 1, 16, 17, 300] {
-        assert_eq!(answer(&slots(13), wanted, 100_000, 10_000), Err(PanelSlots), "N {wanted}");
-        assert_eq!(answer(&slots(24), wanted, 0, 0), Err(PanelSlots), "N {wanted}");
-        assert_eq!(answer(&slots(25), wanted, 0, 0), Err(UtteranceRange), "N {wanted}");
+        assert_eq!(answer(&block_of_slots(13), wanted, 100_000, 10_000), Err(PanelSlots), "N {wanted}");
+        assert_eq!(answer(&block_of_slots(24), wanted, 0, 0), Err(PanelSlots), "N {wanted}");
+        assert_eq!(answer(&block_of_slots(25), wanted, 0, 0), Err(UtteranceRange), "N {wanted}");
     }
 }
 

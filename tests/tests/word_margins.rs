@@ -7,6 +7,7 @@ use spireyerba::Refusal::{self, *};
 use spireyerba::{Grammar, Lister, Utterance};
 use spireyerba_tests::compare::word_margins::compare;
 use spireyerba_tests::compare::{over_seeds, Tally};
+use spireyerba_tests::documents::FIFTH;
 use spireyerba_tests::refusal::{GRAMMAR_BLOCK, UTTERANCE_BLOCK};
 use spireyerba_tests::seeded::damage::{some_grammar_blocks, some_utterance_blocks, with_one_damaged};
 use spireyerba_tests::seeded::parsable::{case, cheaper, graph_case, lighter};
@@ -17,9 +18,7 @@ use spireyerba_tests::{grammar, graph, tests_of_both, utterance};
 
 type WordMargins = fn(&[u8], &[u8], &mut [u32], &mut [u32]) -> Result<usize, Refusal>;
 
-/// Document 01's fifth P grammar, and utterances of two slots of two words each by their costs.
-const FIFTH: [u8; 17] =
-    [0x10, 0xc1, 0x00, 0xa0, 0x00, 0x01, 0xa8, 0x00, 0x29, 0x40, 0x00, 0xdc, 0x00, 0x03, 0x60, 0x00, 0x3c];
+/// The fifth grammar's slots by their costs.
 const COSTS_4_7_3_2: [u8; 11] = [0x20, 0x90, 0x00, 0x08, 0x80, 0x03, 0xa8, 0x00, 0x0f, 0x00, 0x02];
 const COSTS_4_3_0_9: [u8; 11] = [0x20, 0x90, 0x00, 0x08, 0x80, 0x01, 0xa8, 0x00, 0x03, 0x00, 0x09];
 const NOT_HEARD_IN_FIRST: [u8; 11] = [0x20, 0x90, 0x00, 0x08, 0xff, 0xff, 0xa8, 0x00, 0x0f, 0x00, 0x02];

@@ -73,11 +73,6 @@ impl Tally {
         }
     }
 
-    /// The refusals that were met.
-    pub fn refusals(&self) -> impl Iterator<Item = Refusal> + '_ {
-        self.refusals.keys().copied()
-    }
-
     pub fn accepted(&self) -> usize {
         self.calls - self.refusals.values().sum::<usize>()
     }
@@ -89,7 +84,8 @@ impl Tally {
 
     /// The same, but that these others may have been met or not.
     pub fn demand_besides(&self, others: &[Refusal], inputs: usize, refusals: &[Refusal]) {
-        let met: BTreeSet<Refusal> = self.refusals().filter(|refusal| !others.contains(refusal)).collect();
+        let met: BTreeSet<Refusal> =
+            self.refusals.keys().copied().filter(|refusal| !others.contains(refusal)).collect();
         assert_eq!(met, refusals.iter().copied().collect(), "refusals met, refusals demanded");
         println!("{} different inputs, {} calls", self.inputs.len(), self.calls);
         assert!(self.inputs.len() >= inputs, "{} different inputs, {inputs} demanded", self.inputs.len());
