@@ -141,26 +141,50 @@ fn answer(code: i32) -> Result<usize, Refusal> {
     usize::try_from(code).map_err(refusal)
 }
 
-/// A listing of the library.
-type Listing = unsafe extern "C" fn(*const u8, usize, *const u8, usize, u32, *mut u32, usize, *mut u8, usize) -> i32;
+/// A conversion of the library that takes no grammar.
+type Conversion<I, O> = unsafe extern "C" fn(*const I, usize, *mut O, usize) -> i32;
 
 /// Calls one of them.
-fn list_by(
-    function: Listing,
+fn convert_by<I, O>(function: Conversion<I, O>, input: &[I], out: &mut [O]) -> Result<usize, Refusal> {
+    // SAFETY: the slices are borrowed until the call returns, `out` for it alone.
+    answer(unsafe { function(input.as_ptr(), input.len(), out.as_mut_ptr(), out.len()) })
+}
+
+/// A conversion of the library under a grammar.
+type ConversionUnder<I, O> = unsafe extern "C" fn(*const u8, usize, *const I, usize, *mut O, usize) -> i32;
+
+/// Calls one of them.
+fn convert_under_by<I, O>(
+    function: ConversionUnder<I, O>,
+    grammar: &[u8],
+    input: &[I],
+    out: &mut [O],
+) -> Result<usize, Refusal> {
+    let (grammar_len, input_len, out_len) = (grammar.len(), input.len(), out.len());
+    // SAFETY: the slices are borrowed until the call returns, `out` for it alone.
+    answer(unsafe { function(grammar.as_ptr(), grammar_len, input.as_ptr(), input_len, out.as_mut_ptr(), out_len) })
+}
+
+/// A listing of the library: of so many readings, or of the next at a place.
+type Listing<A> = unsafe extern "C" fn(*const u8, usize, *const u8, usize, A, *mut u32, usize, *mut u8, usize) -> i32;
+
+/// Calls one of them.
+fn list_by<A>(
+    function: Listing<A>,
     grammar: &[u8],
     utterance: &[u8],
-    wanted: u32,
+    asked: A,
     work: &mut [u32],
     out: &mut [u8],
 ) -> Result<usize, Refusal> {
-    // SAFETY: the slices are borrowed until the call returns, `work` and `out` for it alone.
+    // SAFETY: the slices and the place are borrowed until the call returns, `work`, `out` and the place for it alone.
     answer(unsafe {
         function(
             grammar.as_ptr(),
             grammar.len(),
             utterance.as_ptr(),
             utterance.len(),
-            wanted,
+            asked,
             work.as_mut_ptr(),
             work.len(),
             out.as_mut_ptr(),
@@ -190,8 +214,7 @@ fn list_by(
 /// assert_eq!(out, [0x10, 0x40, 0x40, 0x40, 0x00, 0x09, 0x00, 0x00, 0x00, 0xff, 0xff, 0xff]);
 /// ```
 pub fn grammar_to_block(sheet: &[u32], out: &mut [u8]) -> Result<usize, Refusal> {
-    // SAFETY: the slices are borrowed until the call returns, `out` for it alone.
-    answer(unsafe { spireyerba_grammar_to_block(sheet.as_ptr(), sheet.len(), out.as_mut_ptr(), out.len()) })
+    convert_by(spireyerba_grammar_to_block, sheet, out)
 }
 
 /// Unpacks a grammar's block, with or without marks.
@@ -202,8 +225,7 @@ pub fn grammar_to_block(sheet: &[u32], out: &mut [u8]) -> Result<usize, Refusal>
 /// Refuses with 1 to 7, [`GrammarEnd`](Refusal::GrammarEnd) to [`GrammarFill`](Refusal::GrammarFill), then with
 /// [`OutputShort`](Refusal::OutputShort).
 pub fn grammar_to_sheet(block: &[u8], out: &mut [u32]) -> Result<usize, Refusal> {
-    // SAFETY: the slices are borrowed until the call returns, `out` for it alone.
-    answer(unsafe { spireyerba_grammar_to_sheet(block.as_ptr(), block.len(), out.as_mut_ptr(), out.len()) })
+    convert_by(spireyerba_grammar_to_sheet, block, out)
 }
 
 /// Packs an office's sheet, as a grammar in normal form with marks.
@@ -233,8 +255,7 @@ pub fn grammar_to_sheet(block: &[u8], out: &mut [u32]) -> Result<usize, Refusal>
 /// assert_eq!(out, [0x40, 0x40, 0x40, 0x30, 0x00, 0x00, 0xff]);
 /// ```
 pub fn office_to_block(sheet: &[u32], out: &mut [u8]) -> Result<usize, Refusal> {
-    // SAFETY: the slices are borrowed until the call returns, `out` for it alone.
-    answer(unsafe { spireyerba_office_to_block(sheet.as_ptr(), sheet.len(), out.as_mut_ptr(), out.len()) })
+    convert_by(spireyerba_office_to_block, sheet, out)
 }
 
 /// Packs an utterance's sheet under a grammar.
@@ -248,17 +269,7 @@ pub fn office_to_block(sheet: &[u32], out: &mut [u8]) -> Result<usize, Refusal> 
 /// [`SheetValue`](Refusal::SheetValue), or [`SheetCount`](Refusal::SheetCount) where a number is missing, and at the end
 /// where some are left over; last with [`OutputShort`](Refusal::OutputShort).
 pub fn utterance_to_block(grammar: &[u8], sheet: &[u32], out: &mut [u8]) -> Result<usize, Refusal> {
-    // SAFETY: the slices are borrowed until the call returns, `out` for it alone.
-    answer(unsafe {
-        spireyerba_utterance_to_block(
-            grammar.as_ptr(),
-            grammar.len(),
-            sheet.as_ptr(),
-            sheet.len(),
-            out.as_mut_ptr(),
-            out.len(),
-        )
-    })
+    convert_under_by(spireyerba_utterance_to_block, grammar, sheet, out)
 }
 
 /// Unpacks an utterance's block under a grammar.
@@ -269,17 +280,7 @@ pub fn utterance_to_block(grammar: &[u8], sheet: &[u32], out: &mut [u8]) -> Resu
 /// Refuses with 1 to 7 for the grammar; then with 11 to 16, [`UtteranceEnd`](Refusal::UtteranceEnd) to
 /// [`UtteranceFill`](Refusal::UtteranceFill); then with [`OutputShort`](Refusal::OutputShort).
 pub fn utterance_to_sheet(grammar: &[u8], block: &[u8], out: &mut [u32]) -> Result<usize, Refusal> {
-    // SAFETY: the slices are borrowed until the call returns, `out` for it alone.
-    answer(unsafe {
-        spireyerba_utterance_to_sheet(
-            grammar.as_ptr(),
-            grammar.len(),
-            block.as_ptr(),
-            block.len(),
-            out.as_mut_ptr(),
-            out.len(),
-        )
-    })
+    convert_under_by(spireyerba_utterance_to_sheet, grammar, block, out)
 }
 
 /// Checks a reading of an utterance or of a word graph under a grammar.
@@ -586,21 +587,7 @@ pub fn next(
     work: &mut [u32],
     out: &mut [u8],
 ) -> Result<Next, Refusal> {
-    // SAFETY: the slices are borrowed until the call returns, `place`, `work` and `out` for it alone.
-    let code = unsafe {
-        spireyerba_next(
-            grammar.as_ptr(),
-            grammar.len(),
-            utterance.as_ptr(),
-            utterance.len(),
-            place,
-            work.as_mut_ptr(),
-            work.len(),
-            out.as_mut_ptr(),
-            out.len(),
-        )
-    };
-    Ok(match answer(code)? {
+    Ok(match list_by(spireyerba_next, grammar, utterance, place, work, out)? {
         0 => Next::NoMore,
         1 => Next::Reading,
         _ => Next::Full,

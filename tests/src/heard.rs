@@ -2,7 +2,7 @@
 
 use crate::bits::BitReader;
 use crate::{graph, graph_reading, nbest, reading, utterance};
-use spireyerba::limits::{graph_reading_length, reading_length};
+use spireyerba::limits::{graph_reading_length, reading_length, work_length};
 use spireyerba::{Grammar, Graph, Refusal, Utterance};
 use std::collections::HashMap;
 
@@ -43,6 +43,13 @@ impl Heard {
     pub fn reading_length(&self, grammar: &Grammar) -> usize {
         let length = if matches!(self, Self::Slots(_)) { reading_length } else { graph_reading_length };
         length(self.longest(), grammar.rules.len())
+    }
+
+    /// The numbers of the work table and the bytes of the output that a listing of so many readings needs.
+    pub fn listing_lengths(&self, grammar: &Grammar, wanted: u32) -> (usize, usize) {
+        let wanted = wanted as usize;
+        let work = work_length(grammar.symbols as usize, self.longest(), wanted);
+        (work, wanted * self.reading_length(grammar))
     }
 
     /// The weights and the blocks of the `wanted` least readings, each of its own length.

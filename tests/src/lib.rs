@@ -14,15 +14,18 @@
 //! | `derivation` | trees, their order, and all derivations sorted by it |
 //! | `nbest` | the N best trees of each cell, where all derivations are too many |
 //! | `compare` | one call of both on the same slices, held to each other |
+//! | `both`, `documents` | both held to the same examples; blocks of the documents |
 //! | `seeded` | seeded inputs, valid and damaged |
 
 pub mod bits;
+pub mod both;
 pub mod chance;
 pub mod check;
 pub mod compare;
 pub mod conversions;
 pub mod cost_ranges;
 pub mod derivation;
+pub mod documents;
 pub mod grammar;
 pub mod graph;
 pub mod graph_reading;

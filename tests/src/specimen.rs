@@ -176,6 +176,11 @@ pub fn derived(grammar: &Grammar, length: usize) -> impl Iterator<Item = Vec<u32
     tuples(length, grammar.words).filter(|words| derives(grammar, words))
 }
 
+/// The same strings, a word number a byte.
+pub fn derived_bytes(grammar: &Grammar, length: usize) -> impl Iterator<Item = Vec<u8>> + '_ {
+    derived(grammar, length).map(|words| words.into_iter().map(|word| word as u8).collect())
+}
+
 /// All lists of `length` numbers below `limit`, in ascending order when compared from the left.
 pub fn tuples(length: usize, limit: u32) -> impl Iterator<Item = Vec<u32>> {
     let tuple = move |number: u32| (0..length as u32).rev().map(|place| number / limit.pow(place) % limit).collect();

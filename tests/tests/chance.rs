@@ -2,25 +2,23 @@
 
 use spireyerba::limits::{nodes, MAX_SHARE, MAX_SLOTS};
 use spireyerba::Refusal::*;
-use spireyerba::{services, Candidate, Refusal, Utterance};
+use spireyerba::{services, Refusal};
 use spireyerba_tests::chance::{chance, PRECISION};
 use spireyerba_tests::compare::chance::compare;
 use spireyerba_tests::compare::{over_seeds, Tally};
+use spireyerba_tests::documents::{block_of_slots, g, slots_of_g, G, U};
 use spireyerba_tests::heard::Heard;
 use spireyerba_tests::nbest::least;
-use spireyerba_tests::refusal::{GRAMMAR_BLOCK, GRAPH_BLOCK, UTTERANCE_BLOCK};
+use spireyerba_tests::refusal::{GRAMMAR_BLOCK, GRAPH_BLOCK, READING_BLOCK, UTTERANCE_BLOCK};
 use spireyerba_tests::seeded::damage::{blocks, graph_blocks, some_grammar_blocks, some_utterance_blocks};
-use spireyerba_tests::seeded::parsable::{case, graph_case, Shape};
-use spireyerba_tests::seeded::parsable::{AMBIGUOUS, LONG, MANY_SYMBOLS, SPARSE, TINY};
+use spireyerba_tests::seeded::parsable::{heard_case, AMBIGUOUS, LONG, MANY_SYMBOLS, SPARSE, TINY};
 use spireyerba_tests::seeded::rng::Rng;
-use spireyerba_tests::{grammar, reading, utterance};
+use spireyerba_tests::{grammar, reading, tests_of_both};
 use std::cmp::Ordering;
 
 type Chance = fn(&[u8], &[u8], &[u8], &[u32], &mut f64) -> Result<(), Refusal>;
 
-/// Document 01's G and U, and U's first reading.
-const G: [u8; 9] = [0x10, 0x40, 0x40, 0x40, 0x00, 0x09, 0x00, 0x00, 0x00];
-const U: [u8; 12] = [0x21, 0x08, 0x00, 0x00, 0x80, 0x00, 0x08, 0x00, 0x00, 0x80, 0x00, 0x00];
+/// The first reading of U under G.
 const FIRST: [u8; 6] = [0x31, 0x00, 0x00, 0x00, 0xd5, 0x80];
 
 /// A grammar of seven rules, with slots, the graph that they can be redrawn as, and a reading of either: from the last node to
@@ -43,27 +41,25 @@ fn bits(service: Chance, blocks: [&[u8]; 3], shares: &[u32]) -> Result<u64, Refu
 }
 
 /// The blocks of so many slots that offer G's word, and of their first reading.
-fn slots_of_g(slots: usize) -> (Vec<u8>, Vec<u8>) {
-    let rules = grammar::from_block(&G).expect("document 01's grammar");
-    let utterance = Utterance { slots: vec![vec![Candidate { word: 0, cost: 0 }]; slots] };
-    let first = &least(&rules, &utterance, 1)[0];
-    (utterance::pack(&rules, &utterance), reading::pack(&rules, first))
+fn slots_and_reading(slots: usize) -> (Vec<u8>, Vec<u8>) {
+    let first = &least(&g(), &slots_of_g(slots), 1)[0];
+    (block_of_slots(slots), reading::pack(&g(), first))
 }
 
-fn expect_examples(service: Chance) {
+fn document_02s_examples(service: Chance) {
     for blocks in [[&SEVEN_RULES[..], &SLOTS, &OF_SLOTS], [&SEVEN_RULES[..], &GRAPH, &OF_GRAPH]] {
         assert_eq!(bits(service, blocks, &SEVEN_SHARES), Ok(0x3f92_47d7_0185_541a));
     }
     let of_u: [&[u8]; 3] = [&G, &U, &FIRST];
     assert_eq!(bits(service, of_u, &[341, 683]), Ok(0x3f7d_efd5_dca6_57ca));
     assert_eq!(bits(service, of_u, &[512, 1_024]), Ok(0x3fc0_0000_0000_0000));
-    let (one, of_one) = slots_of_g(1);
+    let (one, of_one) = slots_and_reading(1);
     assert_eq!(bits(service, [&G, &one, &of_one], &[1_024, 3]), Ok(0x3f68_0000_0000_0000));
-    let (longest, of_longest) = slots_of_g(MAX_SLOTS as usize);
+    let (longest, of_longest) = slots_and_reading(MAX_SLOTS as usize);
     assert_eq!(bits(service, [&G, &longest, &of_longest], &[1, 1]), Ok(0x2290_0000_0000_0000));
 }
 
-fn expect_refusals(service: Chance) {
+fn document_02s_refusals(service: Chance) {
     let expect = |blocks: [&[u8]; 3], shares: &[u32], refusal| assert_eq!(bits(service, blocks, shares), Err(refusal));
     let of_u: [&[u8]; 3] = [&G, &U, &FIRST];
     expect(of_u, &[], SharesCount);
@@ -78,17 +74,7 @@ fn expect_refusals(service: Chance) {
     expect([&[], &[], &[]], &[], GrammarEnd);
 }
 
-#[test]
-fn document_02s_examples() {
-    expect_examples(services::chance);
-    expect_refusals(services::chance);
-}
-
-#[test]
-fn document_02s_examples_in_the_second_implementation() {
-    expect_examples(chance);
-    expect_refusals(chance);
-}
+tests_of_both! { services::chance, chance; document_02s_examples document_02s_refusals }
 
 /// A whole number of any size: digits to base 2 to the power 32, the lowest first, and none at the top that is 0.
 #[derive(PartialEq, Eq)]
@@ -169,27 +155,11 @@ fn any_shares(rng: &mut Rng, rules: usize) -> Vec<u32> {
     shares
 }
 
-fn shape(rng: &mut Rng) -> &'static Shape {
-    rng.pick(&[&TINY, &AMBIGUOUS, &SPARSE, &LONG, &MANY_SYMBOLS])
-}
-
-/// A grammar's block, what was heard under it, and blocks of its least readings.
-fn any_case(rng: &mut Rng) -> (spireyerba::Grammar, Heard) {
-    let shape = shape(rng);
-    if rng.once_in(2) {
-        let (grammar, utterance) = case(rng, shape);
-        (grammar, Heard::Slots(utterance))
-    } else {
-        let (grammar, graph) = graph_case(rng, shape);
-        (grammar, Heard::Graph(graph))
-    }
-}
-
 #[test]
 fn readings_of_derivations_damaged_ones_and_noise() {
     let mut tally = Tally::default();
     over_seeds(0..600, |rng| {
-        let (grammar, heard) = any_case(rng);
+        let (grammar, heard) = heard_case(rng, &[&TINY, &AMBIGUOUS, &SPARSE, &LONG, &MANY_SYMBOLS]);
         let (grammar_block, heard_block) = (grammar::pack(&grammar), heard.pack(&grammar));
         let readings: Vec<Vec<u8>> = heard.least(&grammar, 4).into_iter().map(|(_, block)| block).collect();
         for reading in &readings {
@@ -216,10 +186,8 @@ fn readings_of_derivations_damaged_ones_and_noise() {
             compare(rng, &mut tally, [&grammar_block, &damaged, reading], &shares);
         }
     });
-    let reading = [ReadingEnd, ReadingKind, ReadingSlots, ReadingWalk, ReadingWeight, ReadingFill];
-    let mut all = [&GRAMMAR_BLOCK[..], &UTTERANCE_BLOCK, &reading, &GRAPH_BLOCK, &[SharesCount, ShareRange]].concat();
-    all.sort();
-    tally.demand(20_000, &all);
+    let blocks = [&GRAMMAR_BLOCK[..], &UTTERANCE_BLOCK, &GRAPH_BLOCK, &READING_BLOCK].concat();
+    tally.demand(20_000, &[&blocks[..], &[SharesCount, ShareRange]].concat());
     assert!(tally.accepted() > 5_000, "{} accepted", tally.accepted());
 }
 
@@ -229,7 +197,7 @@ fn every_float_is_near_to_the_exact_product() {
     let mut tally = Tally::default();
     over_seeds(0..200, |rng| {
         for slots in 1..=MAX_SLOTS as usize {
-            let (utterance, reading) = slots_of_g(slots);
+            let (utterance, reading) = slots_and_reading(slots);
             let shares = [share(rng), share(rng)];
             let float = compare(rng, &mut tally, [&G, &utterance, &reading], &shares).expect("a chance");
             let walk: Vec<u32> = (0..nodes(slots)).map(|node| shares[usize::from(node >= slots - 1)]).collect();

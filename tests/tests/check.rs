@@ -3,41 +3,19 @@
 use spireyerba::limits::{nodes, NOT_HEARD, READING_BLOCK_MAX};
 use spireyerba::Refusal::*;
 use spireyerba::{Grammar, Reading, Utterance};
-use spireyerba_tests::compare::check::compare;
+use spireyerba_tests::compare::check::{compare, compare_with_surplus};
 use spireyerba_tests::compare::{over_seeds, Tally};
-use spireyerba_tests::grammar::rule_width;
 use spireyerba_tests::nbest::least;
 use spireyerba_tests::reading::{count_not_heard, words};
-use spireyerba_tests::refusal::{GRAMMAR_BLOCK, UTTERANCE_BLOCK};
-use spireyerba_tests::seeded::damage::{blocks, some_grammar_blocks, some_utterance_blocks, surplus};
-use spireyerba_tests::seeded::parsable::{case, utterance_of, Shape};
-use spireyerba_tests::seeded::parsable::{AMBIGUOUS, GREATEST, LONG, MANY_SYMBOLS, SPARSE, TINY};
+use spireyerba_tests::refusal::{GRAMMAR_BLOCK, READING_BLOCK, UTTERANCE_BLOCK};
+use spireyerba_tests::seeded::damage::{blocks, rule_number, some_grammar_blocks, some_utterance_blocks};
+use spireyerba_tests::seeded::parsable::{any_shape, case, utterance_of, AMBIGUOUS, SPARSE, TINY};
 use spireyerba_tests::seeded::rng::Rng;
 use spireyerba_tests::seeded::utterances::{heard_at, unheard};
 use spireyerba_tests::{grammar, reading, utterance};
 
 /// More bits than a reading has: each is turned.
 const EVERY_BIT: usize = 8 * READING_BLOCK_MAX;
-
-fn shape(rng: &mut Rng) -> &'static Shape {
-    match rng.below(100) {
-        0 => &GREATEST,
-        1..=10 => &LONG,
-        11..=25 => &MANY_SYMBOLS,
-        26..=50 => &SPARSE,
-        51..=75 => &TINY,
-        _ => &AMBIGUOUS,
-    }
-}
-
-/// A number that some rule has, or one that its width can carry.
-fn rule_number(rng: &mut Rng, grammar: &Grammar) -> u32 {
-    if rng.once_in(4) {
-        rng.within(0..=(1 << rule_width(grammar)) - 1)
-    } else {
-        rng.below(grammar.rules.len()) as u32
-    }
-}
 
 /// The reading with another weight, with one number replaced, and with two numbers exchanged.
 fn altered(rng: &mut Rng, grammar: &Grammar, reading: &Reading) -> Vec<Reading> {
@@ -94,7 +72,7 @@ fn without_a_word(rng: &mut Rng, grammar: &Grammar, utterance: &Utterance, readi
 fn readings_of_derivations_damaged_ones_and_noise() {
     let mut tally = Tally::default();
     over_seeds(0..400, |rng| {
-        let shape = shape(rng);
+        let shape = any_shape(rng);
         let (grammar, utterance) = case(rng, shape);
         let (grammar_block, utterance_block) = (grammar::pack(&grammar), utterance::pack(&grammar, &utterance));
         let mut readings = early_and_late(rng, &grammar, &utterance);
@@ -119,9 +97,8 @@ fn readings_of_derivations_damaged_ones_and_noise() {
             compare(rng, &mut tally, [&grammar_block, &damaged, reading]);
         }
     });
-    let row = [ReadingEnd, ReadingKind, ReadingSlots, ReadingWalk, ReadingWeight, ReadingFill];
     // a random kind can be that of a graph, whose edges are then random too
-    tally.demand(20_000, &[GRAMMAR_BLOCK.as_slice(), &UTTERANCE_BLOCK, &row, &[EdgePlaces]].concat());
+    tally.demand(20_000, &[GRAMMAR_BLOCK.as_slice(), &UTTERANCE_BLOCK, &READING_BLOCK, &[EdgePlaces]].concat());
     assert!(tally.accepted() > 1_000, "{} readings passed", tally.accepted());
 }
 
@@ -140,10 +117,7 @@ fn readings_that_use_a_word_not_heard_are_no_walks() {
         let grammar_block = grammar::pack(&grammar);
         for (utterance, reading) in inputs {
             let (utterance, reading) = (utterance::pack(&grammar, &utterance), reading::pack(&grammar, &reading));
-            compare(rng, &mut tally, [&grammar_block, &utterance, &reading]);
-            for longer in surplus(rng, &reading) {
-                compare(rng, &mut tally, [&grammar_block, &utterance, &longer]);
-            }
+            compare_with_surplus(rng, &mut tally, [&grammar_block, &utterance, &reading]);
         }
     });
     tally.demand(10_000, &[ReadingWalk]);

@@ -5,14 +5,13 @@ use spireyerba::{Reading, Refusal};
 use spireyerba_tests::check::check;
 use spireyerba_tests::conversions::{grammar_to_block, grammar_to_sheet, utterance_to_block, utterance_to_sheet};
 use spireyerba_tests::derivation::ranked;
+use spireyerba_tests::documents::{G, U};
 use spireyerba_tests::listing::listing;
 use spireyerba_tests::nbest::least;
 use spireyerba_tests::specimen::specimen;
 use spireyerba_tests::{grammar, reading, utterance};
 
-const G: [u8; 9] = [0x10, 0x40, 0x40, 0x40, 0x00, 0x09, 0x00, 0x00, 0x00];
 const G_SHEET: [u32; 13] = [1, 1, 2, 0, 0, 1, 0, 0, 1, 0, 0, 0, 0];
-const U: [u8; 12] = [0x21, 0x08, 0x00, 0x00, 0x80, 0x00, 0x08, 0x00, 0x00, 0x80, 0x00, 0x00];
 const U_SHEET: [u32; 13] = [4, 1, 0, 0, 1, 0, 0, 1, 0, 0, 1, 0, 0];
 
 /// The readings of G and U, cheapest first.

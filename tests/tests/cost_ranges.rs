@@ -8,20 +8,18 @@ use spireyerba::{Candidate, Grammar, Refusal, Utterance};
 use spireyerba_tests::compare::cost_ranges::compare;
 use spireyerba_tests::compare::{over_seeds, Tally};
 use spireyerba_tests::cost_ranges::{cost_ranges, weight};
+use spireyerba_tests::documents::{FIFTH, FIFTH_AT_0};
 use spireyerba_tests::nbest::least;
 use spireyerba_tests::refusal::{GRAMMAR_BLOCK, UTTERANCE_BLOCK};
 use spireyerba_tests::seeded::damage::{some_grammar_blocks, some_utterance_blocks};
 use spireyerba_tests::seeded::parsable::{case, cheaper, graph_case, lighter, Shape};
 use spireyerba_tests::seeded::parsable::{AMBIGUOUS, GREATEST, LONG, MANY_SYMBOLS, SPARSE, TINY, WORDY};
 use spireyerba_tests::seeded::rng::Rng;
-use spireyerba_tests::{grammar, graph, utterance};
+use spireyerba_tests::{grammar, graph, tests_of_both, utterance};
 
 type CostRanges = fn(&[u8], &[u8], &[u8], &mut [u32], &mut u32, &mut u32) -> Result<FirstReading, Refusal>;
 
-/// Document 01's fifth P grammar, and utterances of two slots of two words each.
-const FIFTH: [u8; 17] =
-    [0x10, 0xc1, 0x00, 0xa0, 0x00, 0x01, 0xa8, 0x00, 0x29, 0x40, 0x00, 0xdc, 0x00, 0x03, 0x60, 0x00, 0x3c];
-const ALL_0: [u8; 11] = [0x20, 0x90, 0x00, 0x00, 0x80, 0x00, 0x28, 0x00, 0x03, 0x00, 0x00];
+/// The greatest costs of the fifth grammar's slots.
 const UP_TO_9_1_1_9: [u8; 11] = [0x20, 0x90, 0x00, 0x12, 0x80, 0x00, 0xa8, 0x00, 0x07, 0x00, 0x09];
 const UP_TO_9_2_2_9: [u8; 11] = [0x20, 0x90, 0x00, 0x12, 0x80, 0x01, 0x28, 0x00, 0x0b, 0x00, 0x09];
 const UP_TO_9_3_2_9: [u8; 11] = [0x20, 0x90, 0x00, 0x12, 0x80, 0x01, 0xa8, 0x00, 0x0b, 0x00, 0x09];
@@ -48,16 +46,16 @@ fn slots(costs: [[u32; 2]; 2]) -> Vec<u8> {
     utterance::pack(&grammar::from_block(&FIFTH).expect("document 01's grammar"), &utterance)
 }
 
-fn expect_examples(service: CostRanges) {
+fn document_02s_examples(service: CostRanges) {
     use FirstReading::{Nothing, Outweighed, Stands};
     let expect = |low: &[u8], high: &[u8], first, weights| {
         assert_eq!(answer(service, [&FIFTH, low, high], 36), (Ok(first), weights));
     };
-    expect(&ALL_0, &ALL_0, Stands, [4, 4]);
-    expect(&ALL_0, &UP_TO_9_1_1_9, Stands, [4, 6]);
+    expect(&FIFTH_AT_0, &FIFTH_AT_0, Stands, [4, 4]);
+    expect(&FIFTH_AT_0, &UP_TO_9_1_1_9, Stands, [4, 6]);
     // a tie does not outweigh
-    expect(&ALL_0, &UP_TO_9_2_2_9, Stands, [4, 8]);
-    expect(&ALL_0, &UP_TO_9_3_2_9, Outweighed, [4, 9]);
+    expect(&FIFTH_AT_0, &UP_TO_9_2_2_9, Stands, [4, 8]);
+    expect(&FIFTH_AT_0, &UP_TO_9_3_2_9, Outweighed, [4, 9]);
     // what was not heard is in no reading, whatever the ranges of the rest
     let silent = slots([[0, NOT_HEARD], [0, 0]]);
     expect(&silent, &slots([[7, NOT_HEARD], [9, 9]]), Outweighed, [6, 22]);
@@ -65,7 +63,7 @@ fn expect_examples(service: CostRanges) {
     expect(&nothing, &nothing, Nothing, [UNWRITTEN, UNWRITTEN]);
 }
 
-fn expect_refusals(service: CostRanges) {
+fn document_02s_refusals(service: CostRanges) {
     let expect = |blocks: [&[u8]; 3], work_len, refusal| {
         assert_eq!(answer(service, blocks, work_len), (Err(refusal), [UNWRITTEN; 2]), "{blocks:02x?}");
     };
@@ -73,28 +71,18 @@ fn expect_refusals(service: CostRanges) {
     expect([&FIFTH, &one, &slots([[1, 1], [1, 0]])], 36, CostRanges);
     expect([&FIFTH, &slots([[0, 65_534], [0, 0]]), &slots([[0, NOT_HEARD], [0, 0]])], 36, CostRanges);
     // 59 comes before 22, and 36 numbers suffice
-    expect([&FIFTH, &one, &ALL_0], 0, CostRanges);
-    expect([&FIFTH, &ALL_0, &one], 35, ListingWork);
+    expect([&FIFTH, &one, &FIFTH_AT_0], 0, CostRanges);
+    expect([&FIFTH, &FIFTH_AT_0, &one], 35, ListingWork);
     // the blocks' own checks, the low block's first
     let graph = [0x52, 0x84, 0x00, 0x40, 0x00, 0x10, 0x89, 0x00, 0x01, 0x10, 0xe0, 0x00, 0x11, 0x93, 0x00, 0x01];
-    expect([&FIFTH, &graph, &ALL_0[..5]], 0, UtteranceKind);
-    expect([&FIFTH, &ALL_0, &graph], 0, UtteranceKind);
-    expect([&FIFTH, &ALL_0[..10], &graph], 0, UtteranceEnd);
-    expect([&FIFTH, &ALL_0, &ALL_0[..10]], 0, UtteranceEnd);
+    expect([&FIFTH, &graph, &FIFTH_AT_0[..5]], 0, UtteranceKind);
+    expect([&FIFTH, &FIFTH_AT_0, &graph], 0, UtteranceKind);
+    expect([&FIFTH, &FIFTH_AT_0[..10], &graph], 0, UtteranceEnd);
+    expect([&FIFTH, &FIFTH_AT_0, &FIFTH_AT_0[..10]], 0, UtteranceEnd);
     expect([&[], &[], &[]], 0, GrammarEnd);
 }
 
-#[test]
-fn document_02s_examples() {
-    expect_examples(services::cost_ranges);
-    expect_refusals(services::cost_ranges);
-}
-
-#[test]
-fn document_02s_examples_in_the_second_implementation() {
-    expect_examples(cost_ranges);
-    expect_refusals(cost_ranges);
-}
+tests_of_both! { services::cost_ranges, cost_ranges; document_02s_examples document_02s_refusals }
 
 /// Costs that rise by at most this much, of at most so many words, in an utterance whose costs leave room for it.
 fn risen(rng: &mut Rng, low: &mut Utterance, by: u32, words: usize) -> Utterance {
@@ -214,9 +202,7 @@ fn wide_ranges_damaged_blocks_and_unlike_ones() {
         expect(rng, [&block, &graph, &low_block]);
         expect(rng, [&block, &low_block, &graph]);
     });
-    let mut all = [&GRAMMAR_BLOCK[..], &UTTERANCE_BLOCK, &[ListingWork, CostRanges]].concat();
-    all.sort();
-    tally.demand(3_000, &all);
+    tally.demand(3_000, &[&GRAMMAR_BLOCK[..], &UTTERANCE_BLOCK, &[ListingWork, CostRanges]].concat());
     assert!(tally.accepted() > 300, "{} accepted", tally.accepted());
 }
 

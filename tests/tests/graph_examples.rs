@@ -1,43 +1,18 @@
 //! Word graphs by example (document 02, N1): the blocks, readings and lines that are known, and every refusal in its place.
 //! Each test runs on the library and on the second implementation.
 
-use spireyerba::limits::{graph_reading_length, work_length, GRAPH_BLOCK_MAX, GRAPH_READING_BLOCK_MAX};
+use spireyerba::limits::{GRAPH_BLOCK_MAX, GRAPH_READING_BLOCK_MAX};
 use spireyerba::text::print_list;
 use spireyerba::Refusal::*;
-use spireyerba::{services, Edge, Graph, GraphReading, Reading, Refusal};
+use spireyerba::{Edge, Graph, GraphReading, Reading, Refusal};
 use spireyerba_tests::bits::BitWriter;
-use spireyerba_tests::compare::conversions::Service;
+use spireyerba_tests::both::{self, Services, LIBRARY, SECOND};
+use spireyerba_tests::documents::{g, G, TWO_LENGTHS, U};
 use spireyerba_tests::graph_reading::{of_listed, pack_nodes, Node};
-use spireyerba_tests::{check, conversions, grammar, graph, graph_reading, listing};
-
-type Listing = fn(&[u8], &[u8], u32, &mut [u32], &mut [u8]) -> Result<usize, Refusal>;
-type Check = fn(&[u8], &[u8], &[u8]) -> Result<(), Refusal>;
-
-/// The services of either implementation that meet a graph.
-struct Services {
-    listing: Listing,
-    check: Check,
-    to_sheet: Service<u8, u32>,
-}
-
-const LIBRARY: Services =
-    Services { listing: services::listing, check: services::check, to_sheet: services::utterance_to_sheet };
-const SECOND: Services =
-    Services { listing: listing::listing, check: check::check, to_sheet: conversions::utterance_to_sheet };
-
-/// The functions of this page with these names, as tests of both.
-macro_rules! tests_of_both {
-    ($($name:ident)+) => {
-        mod library {
-            $(#[test] fn $name() { super::$name(&super::LIBRARY); })+
-        }
-        mod second_implementation {
-            $(#[test] fn $name() { super::$name(&super::SECOND); })+
-        }
-    };
-}
+use spireyerba_tests::{grammar, graph, graph_reading, tests_of_both};
 
 tests_of_both! {
+    &LIBRARY, &SECOND;
     slots_redrawn
     paths_of_two_lengths
     one_edge_over_two_places
@@ -53,15 +28,10 @@ tests_of_both! {
     elsewhere_a_graph_is_of_another_kind
 }
 
-/// 0 to 0 0, weight 1; 0 to word 0, weight 0.
-const G: [u8; 9] = [0x10, 0x40, 0x40, 0x40, 0x00, 0x09, 0x00, 0x00, 0x00];
-/// Four slots, each word 0 at cost 0, and the same redrawn as a graph.
-const U: [u8; 12] = [0x21, 0x08, 0x00, 0x00, 0x80, 0x00, 0x08, 0x00, 0x00, 0x80, 0x00, 0x00];
+/// U redrawn as a graph.
 const REDRAWN: [u8; 16] =
     [0x52, 0x84, 0x00, 0x40, 0x00, 0x01, 0x10, 0x00, 0x00, 0x43, 0x00, 0x00, 0x0c, 0x80, 0x00, 0x00];
-/// Places 0 to 3, with edges 0 to 1, 1 to 2, 0 to 2 at cost 3, 2 to 3.
-const TWO_LENGTHS: [u8; 16] =
-    [0x52, 0x04, 0x00, 0x40, 0x00, 0x01, 0x10, 0x00, 0x00, 0x02, 0x00, 0x01, 0x88, 0x60, 0x00, 0x00];
+/// The readings of `TWO_LENGTHS` under G.
 const OF_TWO_LENGTHS: [[u8; 8]; 3] = [
     [0x60, 0xc0, 0x00, 0x00, 0x90, 0x08, 0x18, 0x30],
     [0x60, 0xc0, 0x00, 0x00, 0x88, 0x08, 0x18, 0x30],
@@ -85,36 +55,27 @@ fn expect_block(grammar_block: &[u8], block: &[u8], places: u32, edges: &[(u32, 
     assert_eq!(value.to_block(grammar_block).as_deref(), Ok(block));
 }
 
-/// The output of a listing of eight in which everything is exact, cut to what was found. What both slices hold afterwards is
-/// as for any listing.
-fn list(services: &Services, grammar: &[u8], graph: &[u8], places: usize) -> Vec<u8> {
-    let under = grammar::from_block(grammar).expect("an accepted grammar");
-    let length = graph_reading_length(places - 1, under.rules.len());
-    let mut work = vec![7; work_length(under.symbols as usize, places - 1, 8)];
-    let mut out = vec![0xa5; 8 * length];
-    let found = (services.listing)(grammar, graph, 8, &mut work, &mut out).expect("an accepted listing");
-    assert!(work.iter().all(|&number| number == 0));
-    assert!(out[found * length..].iter().all(|&byte| byte == 0xa5));
-    out.truncate(found * length);
-    out
+/// The readings of a listing of eight.
+fn list(services: &Services, grammar: &[u8], graph: &[u8]) -> Vec<Vec<u8>> {
+    both::list(services.listing, grammar, graph, 8)
 }
 
-/// What the lister prints of readings in a listing's output.
-fn printed(grammar: &[u8], graph: &[u8], out: &[u8], length: usize) -> String {
+/// What the lister prints of readings that were listed.
+fn printed(grammar: &[u8], graph: &[u8], readings: &[Vec<u8>]) -> String {
     let grammar = grammar::from_block(grammar).expect("an accepted grammar");
     let graph = graph::from_block(&grammar, graph).expect("an accepted graph");
-    let reading = |block| of_listed(&grammar, &graph, block).reading;
-    print_list(&out.chunks_exact(length).map(reading).collect::<Vec<Reading>>())
+    let reading = |block: &Vec<u8>| of_listed(&grammar, &graph, block).reading;
+    print_list(&readings.iter().map(reading).collect::<Vec<Reading>>())
 }
 
 fn slots_redrawn(services: &Services) {
     expect_block(&G, &REDRAWN, 5, &[(0, 1, 0, 0), (1, 2, 0, 0), (2, 3, 0, 0), (3, 4, 0, 0)]);
-    let out = list(services, &G, &REDRAWN, 5);
-    assert_eq!(out[..9], [0x61, 0x00, 0x00, 0x00, 0xd0, 0x08, 0x14, 0x14, 0x18]);
+    let readings = list(services, &G, &REDRAWN);
+    assert_eq!(readings[0], [0x61, 0x00, 0x00, 0x00, 0xd0, 0x08, 0x14, 0x14, 0x18]);
     let lines =
         "readings 5\n1 3 0 1 0 1 0 1 1\n2 3 0 1 0 0 1 1 1\n3 3 0 0 1 1 0 1 1\n4 3 0 0 1 0 1 1 1\n5 3 0 0 0 1 1 1 1\n";
-    assert_eq!(printed(&G, &REDRAWN, &out, 9), lines);
-    for reading in out.chunks_exact(9) {
+    assert_eq!(printed(&G, &REDRAWN, &readings), lines);
+    for reading in &readings {
         assert_eq!((services.check)(&G, &REDRAWN, reading), Ok(()));
         assert_eq!((services.check)(&G, &U, reading), Err(ReadingKind));
     }
@@ -123,9 +84,9 @@ fn slots_redrawn(services: &Services) {
 
 fn paths_of_two_lengths(services: &Services) {
     expect_block(&G, &TWO_LENGTHS, 4, &[(0, 1, 0, 0), (1, 2, 0, 0), (0, 2, 0, 3), (2, 3, 0, 0)]);
-    let out = list(services, &G, &TWO_LENGTHS, 4);
-    assert_eq!(out, OF_TWO_LENGTHS.as_flattened());
-    assert_eq!(printed(&G, &TWO_LENGTHS, &out, 8), "readings 3\n1 2 0 1 0 1 1\n2 2 0 0 1 1 1\n3 4 0 1 1\n");
+    let readings = list(services, &G, &TWO_LENGTHS);
+    assert_eq!(readings, OF_TWO_LENGTHS);
+    assert_eq!(printed(&G, &TWO_LENGTHS, &readings), "readings 3\n1 2 0 1 0 1 1\n2 2 0 0 1 1 1\n3 4 0 1 1\n");
     let check = |reading: &[u8]| (services.check)(&G, &TWO_LENGTHS, reading);
     let [first, second, third] = OF_TWO_LENGTHS;
     assert_eq!((check(&first), check(&second), check(&third[..7])), (Ok(()), Ok(()), Ok(())));
@@ -135,16 +96,16 @@ fn paths_of_two_lengths(services: &Services) {
 
 fn one_edge_over_two_places(services: &Services) {
     expect_block(&G, &OVER_TWO, 3, &[(0, 2, 0, 7)]);
-    let out = list(services, &G, &OVER_TWO, 3);
-    assert_eq!(out, [0x60, 0x40, 0x00, 0x01, 0xe0, 0x00, 0x00]);
-    assert_eq!(printed(&G, &OVER_TWO, &out, 7), "readings 1\n1 7 1\n");
-    assert_eq!((services.check)(&G, &OVER_TWO, &out[..6]), Ok(()));
-    assert_eq!((services.check)(&G, &OVER_TWO, &out), Err(ReadingFill));
+    let readings = list(services, &G, &OVER_TWO);
+    assert_eq!(readings, [[0x60, 0x40, 0x00, 0x01, 0xe0, 0x00, 0x00]]);
+    assert_eq!(printed(&G, &OVER_TWO, &readings), "readings 1\n1 7 1\n");
+    assert_eq!((services.check)(&G, &OVER_TWO, &readings[0][..6]), Ok(()));
+    assert_eq!((services.check)(&G, &OVER_TWO, &readings[0]), Err(ReadingFill));
 }
 
 fn no_path(services: &Services) {
     expect_block(&G, &NO_PATH, 3, &[(0, 1, 0, 0)]);
-    assert_eq!(list(services, &G, &NO_PATH, 3), []);
+    assert_eq!(list(services, &G, &NO_PATH), [[]; 0]);
     assert_eq!((services.check)(&G, &NO_PATH, &[0x60, 0x40, 0x00, 0x01, 0xe0, 0x00]), Err(ReadingWalk));
 }
 
@@ -154,9 +115,9 @@ fn a_word_that_was_not_heard(services: &Services) {
     let grammar = [0x10, 0x40, 0x80, 0x50, 0x00, 0x2a, 0x00, 0x03, 0x80];
     let graph = [0x51, 0x02, 0x00, 0x5f, 0xff, 0xe0, 0x0c, 0x00, 0x00];
     expect_block(&grammar, &graph, 2, &[(0, 1, 0, 65_535), (0, 1, 1, 0)]);
-    let out = list(services, &grammar, &graph, 2);
-    assert_eq!(out, [0x60, 0x40, 0x00, 0x00, 0xe0, 0x40]);
-    assert_eq!((services.check)(&grammar, &graph, &out), Ok(()));
+    let readings = list(services, &grammar, &graph);
+    assert_eq!(readings, [[0x60, 0x40, 0x00, 0x00, 0xe0, 0x40]]);
+    assert_eq!((services.check)(&grammar, &graph, &readings[0]), Ok(()));
     let under = grammar::from_block(&grammar).expect("an accepted grammar");
     for weight in [5, 5 + 65_535, 0] {
         let of_edge_0 = pack_nodes(&under, 1, weight, &[(0, Some(0))]);
@@ -174,13 +135,14 @@ fn the_greatest_sizes(services: &Services) {
     let graph = Graph { places: 25, edges: (0..96).map(edge).collect() };
     let (grammar_block, graph_block) = (grammar::pack(&grammar), graph::pack(&grammar, &graph));
     assert_eq!(graph_block.len(), GRAPH_BLOCK_MAX);
-    let out = list(services, &grammar_block, &graph_block, 25);
-    assert_eq!(out.len(), 8 * GRAPH_READING_BLOCK_MAX);
-    for block in out.chunks_exact(GRAPH_READING_BLOCK_MAX) {
+    let readings = list(services, &grammar_block, &graph_block);
+    assert_eq!(readings.len(), 8);
+    for block in &readings {
+        assert_eq!(block.len(), GRAPH_READING_BLOCK_MAX);
         assert_eq!((services.check)(&grammar_block, &graph_block, block), Ok(()));
         let reading = of_listed(&grammar, &graph, block);
         assert_eq!(reading.path.len(), 24);
-        assert_eq!(graph_reading::pack(&grammar, &reading), block);
+        assert_eq!(graph_reading::pack(&grammar, &reading), *block);
     }
 }
 
@@ -286,7 +248,7 @@ fn the_end_of_a_block(services: &Services) {
 const NODES: [Node; 3] = [(0, None), (1, Some(2)), (1, Some(3))];
 
 fn refusals_of_a_reading(services: &Services) {
-    let under = grammar::from_block(&G).expect("an accepted grammar");
+    let under = g();
     let pack = |edges, weight, nodes: &[Node]| pack_nodes(&under, edges, weight, nodes);
     let check = |reading: &[u8]| (services.check)(&G, &TWO_LENGTHS, reading);
     assert_eq!(check(&pack(2, 4, &NODES)), Ok(()));
@@ -318,7 +280,7 @@ fn refusals_of_a_reading(services: &Services) {
 
 /// More words or fewer than the reading says, which takes more bits or fewer: no walk, and no missing field.
 fn another_mix_of_rules(services: &Services) {
-    let under = grammar::from_block(&G).expect("an accepted grammar");
+    let under = g();
     let check = |edges, nodes: &[Node], length: usize| {
         let mut reading = pack_nodes(&under, edges, 4, nodes);
         reading.resize(length, 0xff);
@@ -383,6 +345,6 @@ fn numbers_that_are_no_walk(services: &Services) {
 
 fn elsewhere_a_graph_is_of_another_kind(services: &Services) {
     for graph in [&REDRAWN[..], &TWO_LENGTHS, &OVER_TWO, &NO_PATH, &[0x50]] {
-        assert_eq!((services.to_sheet)(&G, graph, &mut [7; 400]), Err(UtteranceKind));
+        assert_eq!((services.utterance_to_sheet)(&G, graph, &mut [7; 400]), Err(UtteranceKind));
     }
 }

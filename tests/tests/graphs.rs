@@ -1,21 +1,22 @@
 //! The library's listing and check of word graphs beside the second implementation, and the values of the crate `spireyerba`.
 
-use spireyerba::limits::{nodes, work_length, GRAPH_READING_BLOCK_MAX, MAX_EDGES};
+use spireyerba::limits::{nodes, GRAPH_READING_BLOCK_MAX, MAX_EDGES};
 use spireyerba::Refusal::*;
-use spireyerba::{Grammar, Graph, GraphReading};
-use spireyerba_tests::compare::listing::Call;
-use spireyerba_tests::compare::{check, listing, over_seeds, Tally};
-use spireyerba_tests::grammar::rule_width;
+use spireyerba::{services, Grammar, Graph, GraphReading};
+use spireyerba_tests::both::list;
+use spireyerba_tests::compare::listing::{compare, Call, Lists};
+use spireyerba_tests::compare::listing::{compare_accepted, compare_damaged, compare_short_and_out_of_range};
+use spireyerba_tests::compare::{check, over_seeds, Tally};
 use spireyerba_tests::graph_reading::{nodes_of, pack_nodes, Node};
 use spireyerba_tests::heard::Heard;
 use spireyerba_tests::nbest::{least, least_of_graph};
-use spireyerba_tests::refusal::{GRAMMAR_BLOCK, GRAPH_BLOCK, UTTERANCE_BLOCK};
+use spireyerba_tests::refusal::{GRAMMAR_BLOCK, GRAPH_BLOCK, READING_BLOCK, UTTERANCE_BLOCK};
 use spireyerba_tests::seeded::damage::{
-    blocks, graph_blocks, repeated_edge, replaced_bytes, some_grammar_blocks, surplus,
+    blocks, graph_blocks, repeated_edge, replaced_bytes, rule_number, some_grammar_blocks, with_one_damaged,
 };
 use spireyerba_tests::seeded::grammars::Size;
 use spireyerba_tests::seeded::graphs::{heard_at, unheard};
-use spireyerba_tests::seeded::parsable::{case, graph_case, graph_of, utterance_of, Shape};
+use spireyerba_tests::seeded::parsable::{any_shape, case, graph_case, graph_of, utterance_of, wanted, Shape};
 use spireyerba_tests::seeded::parsable::{AMBIGUOUS, GREATEST, LONG, MANY_SYMBOLS, SPARSE, TINY};
 use spireyerba_tests::seeded::rng::Rng;
 use spireyerba_tests::seeded::{grammars, graphs};
@@ -25,105 +26,60 @@ use std::ops::Range;
 /// More bits than a reading has: each is turned.
 const EVERY_BIT: usize = 8 * GRAPH_READING_BLOCK_MAX;
 
-fn wanted(rng: &mut Rng) -> u32 {
-    match rng.below(6) {
-        0 => 1,
-        1 => 256,
-        2 => rng.within(1..=256),
-        _ => rng.within(2..=20),
-    }
-}
-
-/// The lengths of work table and output that a listing needs.
-fn lengths(grammar: &Grammar, heard: &Heard, wanted: u32) -> (usize, usize) {
-    let wanted = wanted as usize;
-    (work_length(grammar.symbols as usize, heard.longest(), wanted), wanted * heard.reading_length(grammar))
-}
-
-/// Lists that were empty, that ended early, and that were as long as was wanted; those of graphs without a path, with an edge
-/// that was not heard, and with zeros behind the first reading.
+/// Graphs without a path, with an edge that was not heard, and with zeros behind the first reading.
 #[derive(Debug, Default)]
-struct Lists {
-    empty: usize,
-    short: usize,
-    full: usize,
+struct Graphs {
     no_path: usize,
     not_heard: usize,
     zeros: usize,
 }
 
-impl Lists {
-    fn record(&mut self, grammar: &Grammar, graph: &Graph, found: usize, wanted: u32) {
+impl Graphs {
+    fn record(&mut self, grammar: &Grammar, graph: &Graph) {
         self.no_path += usize::from(graph::paths(graph, 1_000).is_some_and(|paths| paths.is_empty()));
         self.not_heard += usize::from(graph.edges.iter().any(|edge| !edge.is_offered()));
         let shorter = |reading: &GraphReading| reading.path.len() + 1 < graph.places as usize;
         self.zeros += usize::from(least_of_graph(grammar, graph, 1).first().is_some_and(shorter));
-        match found {
-            0 => self.empty += 1,
-            _ if found < wanted as usize => self.short += 1,
-            _ => self.full += 1,
-        }
     }
 }
 
-/// A listing for each seed, with slices that are exact or longer and full of noise; so many at least are different.
-fn accepted_listings(seeds: Range<u64>, different: usize, shapes: &[&Shape], wanted: fn(&mut Rng) -> u32) -> Lists {
-    let (mut tally, mut lists) = (Tally::default(), Lists::default());
-    over_seeds(seeds, |rng| {
+/// A listing of a graph for each seed; so many at least are different.
+fn accepted(seeds: Range<u64>, different: usize, shapes: &[&Shape], wanted: fn(&mut Rng) -> u32) -> (Lists, Graphs) {
+    let mut graphs = Graphs::default();
+    let lists = compare_accepted(seeds, different, |rng| {
         let shape = rng.pick(shapes);
         let (grammar, graph) = graph_case(rng, shape);
-        let wanted = wanted(rng);
-        let (work, out) = lengths(&grammar, &Heard::Graph(graph.clone()), wanted);
-        let call = Call {
-            grammar: &grammar::pack(&grammar),
-            utterance: &graph::pack(&grammar, &graph),
-            wanted,
-            work_len: work + rng.pick(&[0, 0, 1, 50]),
-            out_len: out + rng.pick(&[0, 0, 1, 50]),
-        };
-        let found = listing::compare(rng, &mut tally, &call);
-        lists.record(&grammar, &graph, found.expect("an accepted listing"), wanted);
+        graphs.record(&grammar, &graph);
+        (grammar, Heard::Graph(graph), wanted(rng))
     });
-    tally.demand(different, &[]);
-    lists
+    (lists, graphs)
 }
 
 #[test]
 fn small_lists() {
-    let lists = accepted_listings(0..8_000, 5_000, &[&TINY, &TINY, &AMBIGUOUS, &AMBIGUOUS, &SPARSE], wanted);
+    let (lists, graphs) = accepted(0..8_000, 5_000, &[&TINY, &TINY, &AMBIGUOUS, &AMBIGUOUS, &SPARSE], wanted);
     assert!(lists.empty > 1_000 && lists.short > 1_000 && lists.full > 1_000, "{lists:?}");
-    assert!(lists.no_path > 1_000 && lists.not_heard > 2_000 && lists.zeros > 1_000, "{lists:?}");
+    assert!(graphs.no_path > 1_000 && graphs.not_heard > 2_000 && graphs.zeros > 1_000, "{graphs:?}");
 }
 
 #[test]
 fn many_places_and_many_symbols() {
-    let lists = accepted_listings(10_000..10_500, 500, &[&LONG, &MANY_SYMBOLS], wanted);
-    assert!(lists.full > 100 && lists.zeros > 100, "{lists:?}");
+    let (lists, graphs) = accepted(10_000..10_500, 500, &[&LONG, &MANY_SYMBOLS], wanted);
+    assert!(lists.full > 100 && graphs.zeros > 100, "{lists:?} {graphs:?}");
 }
 
 #[test]
 fn the_greatest_sizes() {
-    let lists = accepted_listings(20_000..20_016, 16, &[&GREATEST], |rng| rng.pick(&[1, 16, 255, 256, 256]));
+    let (lists, _) = accepted(20_000..20_016, 16, &[&GREATEST], |rng| rng.pick(&[1, 16, 255, 256, 256]));
     assert!(lists.full > 4, "{lists:?}");
 }
 
-/// Slices of which one or both are one short, and numbers of readings that cannot be wanted.
 #[test]
 fn short_slices_and_numbers_out_of_range() {
-    let mut tally = Tally::default();
-    over_seeds(30_000..30_400, |rng| {
+    compare_short_and_out_of_range(30_000..30_400, |rng| {
         let (grammar, graph) = graph_case(rng, &AMBIGUOUS);
-        let (grammar_block, graph_block) = (grammar::pack(&grammar), graph::pack(&grammar, &graph));
-        let wanted = wanted(rng);
-        let (work, out) = lengths(&grammar, &Heard::Graph(graph), wanted);
-        let sizes = [(wanted, work - 1, out), (wanted, work, out - 1), (wanted, work - 1, out - 1), (wanted, 0, 0)];
-        let wild = [0, 257, 258, u32::MAX].map(|wanted| (wanted, work, rng.below(out)));
-        for (wanted, work_len, out_len) in sizes.into_iter().chain(wild) {
-            let call = Call { grammar: &grammar_block, utterance: &graph_block, wanted, work_len, out_len };
-            listing::compare(rng, &mut tally, &call);
-        }
+        (grammar, Heard::Graph(graph))
     });
-    tally.demand(2_000, &[ListingWanted, ListingWork, ListingOutput]);
 }
 
 /// Bit by bit and byte by byte, which makes slots of some graphs.
@@ -132,17 +88,11 @@ fn damaged_blocks() {
     let mut tally = Tally::default();
     over_seeds(40_000..40_120, |rng| {
         let (grammar, graph) = graph_case(rng, &SPARSE);
-        let (grammar_block, graph_block) = (grammar::pack(&grammar), graph::pack(&grammar, &graph));
-        let mut inputs = Vec::new();
-        inputs.extend(some_grammar_blocks(rng, &grammar, 10).into_iter().map(|damaged| (damaged, graph_block.clone())));
-        for damaged in graph_blocks(rng, &grammar, &graph, 300) {
-            inputs.push((grammar_block.clone(), damaged));
-        }
-        for (grammar, graph) in &inputs {
-            // enough for any small block that the damage makes, so that most that are accepted are listed
-            let call = Call { grammar, utterance: graph, wanted: rng.within(1..=4), work_len: 60_000, out_len: 292 };
-            listing::compare(rng, &mut tally, &call);
-            listing::compare(rng, &mut tally, &Call { wanted: 0, work_len: 0, out_len: 0, ..call });
+        let blocks = [grammar::pack(&grammar), graph::pack(&grammar, &graph)];
+        let grammars = some_grammar_blocks(rng, &grammar, 10);
+        let graphs = graph_blocks(rng, &grammar, &graph, 300);
+        for blocks in &with_one_damaged(&blocks, grammars, graphs) {
+            compare_damaged(rng, &mut tally, blocks);
         }
     });
     tally.demand(20_000, &[GRAMMAR_BLOCK.as_slice(), &UTTERANCE_BLOCK, &[ListingWanted], &GRAPH_BLOCK].concat());
@@ -167,33 +117,18 @@ fn slots_redrawn_as_a_graph() {
             assert!(places.eq(0..utterance.slots.len() as u32), "{reading:?} {path:?}");
         }
         readings += of_slots.len();
-        let (work_len, out_len) = lengths(&grammar, &Heard::Graph(redrawn.clone()), 60);
         let block = graph::pack(&grammar, &redrawn);
+        let (work_len, out_len) = Heard::Graph(redrawn).listing_lengths(&grammar, 60);
         let call = Call { grammar: &grammar::pack(&grammar), utterance: &block, wanted: 60, work_len, out_len };
-        assert_eq!(listing::compare(rng, &mut tally, &call), Some(of_slots.len()));
+        assert_eq!(compare(rng, &mut tally, &call), Some(of_slots.len()));
     });
     tally.demand(2_000, &[]);
     assert!(readings > 10_000, "{readings} readings");
 }
 
-fn shape(rng: &mut Rng) -> &'static Shape {
-    match rng.below(100) {
-        0 => &GREATEST,
-        1..=10 => &LONG,
-        11..=25 => &MANY_SYMBOLS,
-        26..=50 => &SPARSE,
-        51..=75 => &TINY,
-        _ => &AMBIGUOUS,
-    }
-}
-
 /// A node that some rule has, with or without an edge, or one of any numbers.
 fn node(rng: &mut Rng, grammar: &Grammar, graph: &Graph) -> Node {
-    let rule = if rng.once_in(4) {
-        rng.within(0..=(1 << rule_width(grammar)) - 1)
-    } else {
-        rng.below(grammar.rules.len()) as u32
-    };
+    let rule = rule_number(rng, grammar);
     let edge = if rng.once_in(4) { rng.within(0..=127) } else { rng.below(graph.edges.len()) as u32 };
     (rule, rng.pick(&[None, Some(edge), Some(edge)]))
 }
@@ -241,7 +176,7 @@ fn of_words_not_heard(grammar: &Grammar, graph: &Graph) -> Vec<GraphReading> {
 fn readings_of_derivations_damaged_ones_and_noise() {
     let mut tally = Tally::default();
     over_seeds(60_000..60_400, |rng| {
-        let shape = shape(rng);
+        let shape = any_shape(rng);
         let (grammar, graph) = graph_case(rng, shape);
         let (grammar_block, graph_block) = (grammar::pack(&grammar), graph::pack(&grammar, &graph));
         let pack = |reading: &GraphReading| graph_reading::pack(&grammar, reading);
@@ -276,8 +211,7 @@ fn readings_of_derivations_damaged_ones_and_noise() {
             check::compare(rng, &mut tally, [&grammar_block, damaged, reading]);
         }
     });
-    let row = [ReadingEnd, ReadingKind, ReadingSlots, ReadingWalk, ReadingWeight, ReadingFill];
-    tally.demand(20_000, &[GRAMMAR_BLOCK.as_slice(), &UTTERANCE_BLOCK, &row, &GRAPH_BLOCK].concat());
+    tally.demand(20_000, &[GRAMMAR_BLOCK.as_slice(), &UTTERANCE_BLOCK, &READING_BLOCK, &GRAPH_BLOCK].concat());
     assert!(tally.accepted() > 700, "{} readings passed", tally.accepted());
 }
 
@@ -297,10 +231,7 @@ fn readings_that_use_an_edge_not_heard_are_no_walks() {
         let grammar_block = grammar::pack(&grammar);
         for (graph, reading) in inputs {
             let (graph, reading) = (graph::pack(&grammar, &graph), graph_reading::pack(&grammar, &reading));
-            check::compare(rng, &mut tally, [&grammar_block, &graph, &reading]);
-            for longer in surplus(rng, &reading) {
-                check::compare(rng, &mut tally, [&grammar_block, &graph, &longer]);
-            }
+            check::compare_with_surplus(rng, &mut tally, [&grammar_block, &graph, &reading]);
         }
     });
     tally.demand(10_000, &[ReadingWalk]);
@@ -315,17 +246,13 @@ fn what_is_listed_passes_when_it_is_cut() {
         let shape = rng.pick(&[&TINY, &AMBIGUOUS, &SPARSE, &MANY_SYMBOLS]);
         let (grammar, graph) = graph_case(rng, shape);
         let (grammar_block, graph_block) = (grammar::pack(&grammar), graph::pack(&grammar, &graph));
-        let (work, out) = lengths(&grammar, &Heard::Graph(graph.clone()), 20);
-        let (mut work, mut out) = (rng.noise(work), rng.noise(out));
-        let found = spireyerba::services::listing(&grammar_block, &graph_block, 20, &mut work, &mut out).unwrap();
-        let length = out.len() / 20;
-        for reading in out.chunks_exact(length).take(found) {
-            let own = graph_reading::pack(&grammar, &graph_reading::of_listed(&grammar, &graph, reading)).len();
-            let check = |reading: &[u8]| spireyerba::services::check(&grammar_block, &graph_block, reading);
+        let check = |reading: &[u8]| services::check(&grammar_block, &graph_block, reading);
+        for reading in list(services::listing, &grammar_block, &graph_block, 20) {
+            let own = graph_reading::pack(&grammar, &graph_reading::of_listed(&grammar, &graph, &reading)).len();
             assert_eq!(check(&reading[..own]), Ok(()));
             assert!(reading[own..].iter().all(|&byte| byte == 0));
-            if own < length {
-                assert_eq!(check(reading), Err(ReadingFill));
+            if own < reading.len() {
+                assert_eq!(check(&reading), Err(ReadingFill));
                 cut += 1;
             }
             passed += 1;

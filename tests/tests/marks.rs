@@ -4,27 +4,15 @@
 use spireyerba::limits::{work_length, GRAMMAR_BLOCK_MAX, GRAMMAR_SHEET_MAX};
 use spireyerba::Refusal::*;
 use spireyerba::{services, Body, Grammar, MarkedGrammar, Refusal, Rule};
-use spireyerba_tests::compare::conversions::Conversion;
+use spireyerba_tests::compare::conversions::{GRAMMAR_TO_BLOCK, GRAMMAR_TO_SHEET};
 use spireyerba_tests::compare::{over_seeds, Tally};
+use spireyerba_tests::grammar;
 use spireyerba_tests::heard::Heard;
-use spireyerba_tests::refusal::GRAMMAR_BLOCK;
+use spireyerba_tests::refusal::{GRAMMAR_BLOCK, GRAMMAR_SHEET};
 use spireyerba_tests::seeded::damage::{blocks, repeated_rule, sheets};
 use spireyerba_tests::seeded::grammars::{grammar, Size};
 use spireyerba_tests::seeded::offices::marked;
-use spireyerba_tests::seeded::parsable::{case, graph_case, AMBIGUOUS, SPARSE};
-use spireyerba_tests::seeded::rng::Rng;
-use spireyerba_tests::{conversions, grammar};
-
-const TO_BLOCK: Conversion<u32, u8> = Conversion {
-    library: |_, sheet, out| services::grammar_to_block(sheet, out),
-    second: |_, sheet, out| conversions::grammar_to_block(sheet, out),
-    longest: GRAMMAR_BLOCK_MAX,
-};
-const TO_SHEET: Conversion<u8, u32> = Conversion {
-    library: |_, block, out| services::grammar_to_sheet(block, out),
-    second: |_, block, out| conversions::grammar_to_sheet(block, out),
-    longest: GRAMMAR_SHEET_MAX,
-};
+use spireyerba_tests::seeded::parsable::{heard_case, AMBIGUOUS, SPARSE};
 
 /// G with marks 0 and 1.
 const SHEET: [u32; 15] = [1, 1, 2, 0, 0, 1, 0, 0, 0, 1, 0, 0, 0, 0, 1];
@@ -32,22 +20,12 @@ const BLOCK: [u8; 9] = [0x40, 0x40, 0x40, 0x40, 0x00, 0x08, 0x80, 0x00, 0x10];
 
 /// The answer of both implementations to a sheet.
 fn packed(sheet: &[u32]) -> Result<Vec<u8>, Refusal> {
-    let answers = [TO_BLOCK.library, TO_BLOCK.second].map(|service| {
-        let mut out = vec![0xa5; GRAMMAR_BLOCK_MAX];
-        service(&[], sheet, &mut out).map(|length| out[..length].to_vec())
-    });
-    assert_eq!(answers[0], answers[1], "{sheet:?}");
-    answers[0].clone()
+    GRAMMAR_TO_BLOCK.answer(&[], sheet)
 }
 
 /// The answer of both implementations to a block.
 fn unpacked(block: &[u8]) -> Result<Vec<u32>, Refusal> {
-    let answers = [TO_SHEET.library, TO_SHEET.second].map(|service| {
-        let mut out = vec![0xa5a5; GRAMMAR_SHEET_MAX];
-        service(&[], block, &mut out).map(|length| out[..length].to_vec())
-    });
-    assert_eq!(answers[0], answers[1], "{block:?}");
-    answers[0].clone()
+    GRAMMAR_TO_SHEET.answer(&[], block)
 }
 
 #[test]
@@ -107,45 +85,32 @@ fn the_greatest_sizes() {
     assert_eq!(packed(&marked.to_sheet()), Ok(block));
 }
 
-fn size(rng: &mut Rng) -> Size {
-    match rng.below(40) {
-        0 => Size::Greatest,
-        1..=6 => Size::Middle,
-        _ => Size::Small,
-    }
-}
-
 #[test]
 fn sheets_beside_the_second_implementation() {
     let mut tally = Tally::default();
     over_seeds(0..400, |rng| {
-        let size = size(rng);
+        let size = Size::any(rng);
         let grammar = grammar(rng, size);
         let sheet = marked(rng, &grammar).to_sheet();
         let mut inputs = sheets(rng, &sheet, 60);
         let repeated = repeated_rule(rng, &grammar);
         inputs.push(marked(rng, &repeated).to_sheet());
-        for sheet in inputs {
-            TO_BLOCK.compare(rng, &mut tally, &[], &sheet);
-        }
+        GRAMMAR_TO_BLOCK.compare_each(rng, &mut tally, &[], &inputs);
     });
-    let refusals = [GrammarRange, GrammarSymbol, GrammarWord, GrammarRepeat, SheetCount, SheetValue, OutputShort];
-    tally.demand(20_000, &refusals);
+    tally.demand(20_000, &[GRAMMAR_SHEET.as_slice(), &[OutputShort]].concat());
 }
 
 #[test]
 fn blocks_beside_the_second_implementation() {
     let mut tally = Tally::default();
     over_seeds(1_000..1_300, |rng| {
-        let size = size(rng);
+        let size = Size::any(rng);
         let grammar = grammar(rng, size);
         let block = grammar::pack_marked(&marked(rng, &grammar));
         let mut inputs = blocks(rng, &block, 300);
         let repeated = repeated_rule(rng, &grammar);
         inputs.push(grammar::pack_marked(&marked(rng, &repeated)));
-        for block in inputs {
-            TO_SHEET.compare(rng, &mut tally, &[], &block);
-        }
+        GRAMMAR_TO_SHEET.compare_each(rng, &mut tally, &[], &inputs);
     });
     tally.demand(20_000, &[GRAMMAR_BLOCK.as_slice(), &[OutputShort]].concat());
 }
@@ -182,14 +147,7 @@ fn answers(grammar: &[u8], symbols: u32, heard: &Heard, block: &[u8]) -> Vec<(Re
 fn every_service_takes_either_kind() {
     let mut passed = 0;
     over_seeds(2_000..2_400, |rng| {
-        let shape = rng.pick(&[&AMBIGUOUS, &SPARSE]);
-        let (grammar, heard) = if rng.once_in(2) {
-            let (grammar, utterance) = case(rng, shape);
-            (grammar, Heard::Slots(utterance))
-        } else {
-            let (grammar, graph) = graph_case(rng, shape);
-            (grammar, Heard::Graph(graph))
-        };
+        let (grammar, heard) = heard_case(rng, &[&AMBIGUOUS, &SPARSE]);
         let block = heard.pack(&grammar);
         let plain = answers(&grammar::pack(&grammar), grammar.symbols, &heard, &block);
         let with_marks = grammar::pack_marked(&marked(rng, &grammar));

@@ -1,17 +1,18 @@
 //! The library's next phrase beside known sequences, beside the second implementation's, and beside all strings.
 
-use spireyerba::limits::{MAX_PHRASE, MAX_WORDS};
+use spireyerba::limits::MAX_PHRASE;
 use spireyerba::Refusal::*;
 use spireyerba::{services, Refusal};
 use spireyerba_tests::compare::next_phrase::compare;
 use spireyerba_tests::compare::{over_seeds, Tally};
+use spireyerba_tests::documents::G;
 use spireyerba_tests::grammar::pack;
 use spireyerba_tests::refusal::GRAMMAR_BLOCK;
 use spireyerba_tests::seeded::damage::some_grammar_blocks;
-use spireyerba_tests::seeded::grammars::with_rules;
-use spireyerba_tests::seeded::phrases::any_grammar;
+use spireyerba_tests::seeded::phrases::{any_grammar, of_few_strings};
 use spireyerba_tests::seeded::rng::Rng;
-use spireyerba_tests::specimen::{derived, next_phrase};
+use spireyerba_tests::specimen::{derived_bytes, next_phrase};
+use spireyerba_tests::tests_of_both;
 
 type NextPhrase = fn(&[u8], u32, bool, &mut [u8]) -> Result<bool, Refusal>;
 
@@ -41,13 +42,10 @@ fn all_phrases(service: NextPhrase, grammar: &[u8], length: u32) -> Vec<Vec<u8>>
 const ANY_TAIL: [u8; 16] =
     [0x10, 0x80, 0xc0, 0xa0, 0x00, 0x0b, 0x00, 0x00, 0x58, 0x00, 0x01, 0x80, 0x00, 0x50, 0x00, 0x1a];
 
-/// Document 01's G: 0 to 0 0; 0 to word 0.
-const G: [u8; 9] = [0x10, 0x40, 0x40, 0x40, 0x00, 0x09, 0x00, 0x00, 0x00];
-
 /// The door schedule of examples/.
 const DOORS: &[u8] = include_bytes!("../../examples/doors/grammar.bin");
 
-fn expect_examples(service: NextPhrase) {
+fn examples(service: NextPhrase) {
     assert_eq!(all_phrases(service, &ANY_TAIL, 2), [[1, 0], [1, 2], [2, 0], [2, 2]]);
     assert_eq!(above(service, &ANY_TAIL, &[0, 0, 0]), Some(vec![1, 0, 0]));
     assert_eq!(above(service, &ANY_TAIL, &[1, 0, 1]), Some(vec![1, 0, 2]));
@@ -61,34 +59,18 @@ fn expect_examples(service: NextPhrase) {
     assert_eq!(counts, [0, 0, 12, 72, 264, 816]);
 }
 
-#[test]
-fn examples_of_the_library() {
-    expect_examples(services::next_phrase);
-}
+tests_of_both! { services::next_phrase, next_phrase; examples }
 
-#[test]
-fn examples_of_the_second_implementation() {
-    expect_examples(next_phrase);
-}
-
-/// Few words and strings of up to six, or all words and strings of one or two.
 #[test]
 fn whole_sequences_beside_all_strings() {
     let mut handed_out = 0;
     over_seeds(20_000..20_200, |rng| {
-        let (words, longest) = if rng.once_in(10) { (MAX_WORDS, 2) } else { (rng.within(1..=3), 6) };
-        let (symbols, pairs, word_rules) = (rng.within(1..=4), rng.within(0..=6), rng.within(1..=6));
-        let grammar = with_rules(rng, symbols, words, pairs, word_rules);
+        let (grammar, longest) = of_few_strings(rng);
         let block = pack(&grammar);
         for length in 1..=longest {
-            let byte_strings =
-                derived(&grammar, length).map(|words| words.into_iter().map(|word| word as u8).collect());
-            let expected: Vec<Vec<u8>> = byte_strings.collect();
-            assert_eq!(
-                all_phrases(services::next_phrase, &block, length as u32),
-                expected,
-                "length {length} of {grammar:?}"
-            );
+            let expected: Vec<Vec<u8>> = derived_bytes(&grammar, length).collect();
+            let phrases = all_phrases(services::next_phrase, &block, length as u32);
+            assert_eq!(phrases, expected, "length {length} of {grammar:?}");
             handed_out += expected.len();
         }
     });
@@ -119,10 +101,8 @@ fn later_calls_on_any_bytes() {
             for first in [true, false, false] {
                 let mut held = some_string(rng, &block, grammar.words, length);
                 held.extend(vec![7; rng.pick(&[0, 0, 1, 40])]);
-                match compare(rng, &mut tally, &block, length, first, &held) {
-                    Some(true) => some += 1,
-                    _ => none += 1,
-                }
+                let is_found = compare(rng, &mut tally, &block, length, first, &held) == Some(true);
+                *if is_found { &mut some } else { &mut none } += 1;
             }
         }
     });

@@ -1,55 +1,16 @@
 //! Words that were not heard: candidates of cost 65,535, which are not offered (document 02, N3). Each test runs on the
 //! library and on the second implementation.
 
-use spireyerba::limits::{reading_length, work_length, MAX_SLOTS, NOT_HEARD};
-use spireyerba::{services, Body, Candidate, Grammar, Reading, Refusal, Rule, Utterance};
-use spireyerba_tests::compare::conversions::Service;
+use spireyerba::limits::NOT_HEARD;
+use spireyerba::{Body, Candidate, Grammar, Reading, Refusal, Rule, Utterance};
+use spireyerba_tests::both::{self, Services, LIBRARY, SECOND};
 use spireyerba_tests::compare::over_seeds;
 use spireyerba_tests::seeded::parsable::{case, AMBIGUOUS, SPARSE, TINY};
 use spireyerba_tests::seeded::utterances::heard_at;
-use spireyerba_tests::{check, conversions, grammar, listing, nbest, reading, specimen, utterance};
-
-type Listing = fn(&[u8], &[u8], u32, &mut [u32], &mut [u8]) -> Result<usize, Refusal>;
-type Check = fn(&[u8], &[u8], &[u8]) -> Result<(), Refusal>;
-
-/// The services of either implementation: the conversions of utterances, the listing, the check, and whether there is a
-/// specimen of a length.
-struct Services {
-    to_block: Service<u32, u8>,
-    to_sheet: Service<u8, u32>,
-    listing: Listing,
-    check: Check,
-    has_specimen: fn(&[u8], u32) -> Result<bool, Refusal>,
-}
-
-const LIBRARY: Services = Services {
-    to_block: services::utterance_to_block,
-    to_sheet: services::utterance_to_sheet,
-    listing: services::listing,
-    check: services::check,
-    has_specimen: |grammar, length| services::specimen(grammar, length, &mut [0; MAX_SLOTS as usize]),
-};
-const SECOND: Services = Services {
-    to_block: conversions::utterance_to_block,
-    to_sheet: conversions::utterance_to_sheet,
-    listing: listing::listing,
-    check: check::check,
-    has_specimen: |grammar, length| specimen::specimen(grammar, length, &mut [0; MAX_SLOTS as usize]),
-};
-
-/// The functions of this page with these names, as tests of both.
-macro_rules! tests_of_both {
-    ($($name:ident)+) => {
-        mod library {
-            $(#[test] fn $name() { super::$name(&super::LIBRARY); })+
-        }
-        mod second_implementation {
-            $(#[test] fn $name() { super::$name(&super::SECOND); })+
-        }
-    };
-}
+use spireyerba_tests::{grammar, nbest, reading, tests_of_both, utterance};
 
 tests_of_both! {
+    &LIBRARY, &SECOND;
     the_examples
     a_reading_that_uses_such_a_word
     such_candidates_count_and_ascend
@@ -71,18 +32,9 @@ const RULE_0_AT_5: [u8; 5] = [0x30, 0x40, 0x00, 0x01, 0x40];
 const RULE_1_AT_65537: [u8; 5] = [0x30, 0x40, 0x40, 0x00, 0x60];
 const RULE_1_AT_65538: [u8; 5] = [0x30, 0x40, 0x40, 0x00, 0xa0];
 
-/// The readings of a listing, one after another. What both slices hold afterwards is as for any listing.
-fn list(services: &Services, grammar: &[u8], utterance: &[u8], wanted: u32) -> Vec<u8> {
-    let under = grammar::from_block(grammar).expect("an accepted grammar");
-    let slots = utterance::from_block(&under, utterance).expect("an accepted utterance").slots.len();
-    let length = reading_length(slots, under.rules.len());
-    let mut work = vec![7; work_length(under.symbols as usize, slots, wanted as usize)];
-    let mut out = vec![0xa5; wanted as usize * length];
-    let found = (services.listing)(grammar, utterance, wanted, &mut work, &mut out).expect("an accepted listing");
-    assert!(work.iter().all(|&number| number == 0));
-    assert!(out[found * length..].iter().all(|&byte| byte == 0xa5));
-    out.truncate(found * length);
-    out
+/// The readings of a listing.
+fn list(services: &Services, grammar: &[u8], utterance: &[u8], wanted: u32) -> Vec<Vec<u8>> {
+    both::list(services.listing, grammar, utterance, wanted)
 }
 
 fn the_examples(services: &Services) {
@@ -94,13 +46,13 @@ fn the_examples(services: &Services) {
     for (costs, block, readings) in rows {
         let sheet = [1, 2, 0, costs[0], 1, costs[1]];
         let (mut as_block, mut as_sheet) = ([0; 6], [0; 6]);
-        assert_eq!((services.to_block)(&GRAMMAR, &sheet, &mut as_block), Ok(6));
-        assert_eq!((services.to_sheet)(&GRAMMAR, &block, &mut as_sheet), Ok(6));
+        assert_eq!((services.utterance_to_block)(&GRAMMAR, &sheet, &mut as_block), Ok(6));
+        assert_eq!((services.utterance_to_sheet)(&GRAMMAR, &block, &mut as_sheet), Ok(6));
         assert_eq!((as_block, as_sheet), (block, sheet));
         for wanted in [8, 256] {
-            assert_eq!(list(services, &GRAMMAR, &block, wanted), readings.as_flattened(), "costs {costs:?}");
+            assert_eq!(list(services, &GRAMMAR, &block, wanted), readings, "costs {costs:?}");
         }
-        assert_eq!(list(services, &GRAMMAR, &block, 1), readings.as_flattened()[..5 * readings.len().min(1)]);
+        assert_eq!(list(services, &GRAMMAR, &block, 1), readings[..readings.len().min(1)], "costs {costs:?}");
         for reading in readings {
             assert_eq!((services.check)(&GRAMMAR, &block, reading), Ok(()), "costs {costs:?}");
         }
@@ -135,14 +87,14 @@ fn such_candidates_count_and_ascend(services: &Services) {
         (&[1, 1, 0, 65_535, 0], Refusal::SheetCount),
     ];
     for (sheet, refusal) in refused {
-        assert_eq!((services.to_block)(&GRAMMAR, sheet, &mut [0; 16]), Err(refusal), "{sheet:?}");
+        assert_eq!((services.utterance_to_block)(&GRAMMAR, sheet, &mut [0; 16]), Err(refusal), "{sheet:?}");
     }
     // blocks with the words the wrong way round
     for costs in [[65_535, 0], [65_535, 65_535], [0, 65_535]] {
         let slot = vec![Candidate { word: 1, cost: costs[0] }, Candidate { word: 0, cost: costs[1] }];
         let under = grammar::from_block(&GRAMMAR).expect("an accepted grammar");
         let block = utterance::pack(&under, &Utterance { slots: vec![slot] });
-        assert_eq!((services.to_sheet)(&GRAMMAR, &block, &mut [0; 16]), Err(Refusal::UtteranceOrder));
+        assert_eq!((services.utterance_to_sheet)(&GRAMMAR, &block, &mut [0; 16]), Err(Refusal::UtteranceOrder));
         assert_eq!((services.check)(&GRAMMAR, &block, &RULE_0_AT_5), Err(Refusal::UtteranceOrder));
         assert_eq!((services.listing)(&GRAMMAR, &block, 1, &mut [], &mut []), Err(Refusal::UtteranceOrder));
     }
@@ -165,9 +117,8 @@ fn slots(costs: &[[u32; 2]]) -> Utterance {
 fn readings(services: &Services, weight: u32, costs: &[[u32; 2]]) -> Vec<Reading> {
     let under = phrases(weight);
     let (grammar, utterance) = (grammar::pack(&under), utterance::pack(&under, &slots(costs)));
-    let blocks = list(services, &grammar, &utterance, 256);
-    let reading = |block: &[u8]| reading::from_block(&under, costs.len(), block).expect("a reading").0;
-    blocks.chunks_exact(reading_length(costs.len(), under.rules.len())).map(reading).collect()
+    let reading = |block: &Vec<u8>| reading::from_block(&under, costs.len(), block).expect("a reading").0;
+    list(services, &grammar, &utterance, 256).iter().map(reading).collect()
 }
 
 fn a_slot_of_only_such_words(services: &Services) {
@@ -202,7 +153,7 @@ fn the_greatest_weight(services: &Services) {
 /// The specimen has no utterance, and so nothing that was not heard.
 fn the_specimen(services: &Services) {
     for weight in [0, 65_535] {
-        assert_eq!((services.has_specimen)(&grammar::pack(&phrases(weight)), 24), Ok(true));
+        assert_eq!((services.specimen)(&grammar::pack(&phrases(weight)), 24, &mut [0; 24]), Ok(true));
     }
 }
 
@@ -223,7 +174,7 @@ fn struck_out_by_hand(services: &Services) {
         let listed = list(services, &grammar_block, &utterance_block, 100);
         if by_hand.slots.contains(&Vec::new()) {
             // no block can hold it
-            assert_eq!(listed, [], "{}", context());
+            assert!(listed.is_empty(), "{listed:02x?} {}", context());
             silent += 1;
             return;
         }
@@ -233,7 +184,7 @@ fn struck_out_by_hand(services: &Services) {
             .iter()
             .map(|reading| reading::pack(&grammar, reading))
             .collect();
-        shorter += usize::from(listed.len() < with_all.concat().len());
+        shorter += usize::from(listed.len() < with_all.len());
         for reading in with_all {
             let check = |utterance: &[u8]| (services.check)(&grammar_block, utterance, &reading);
             assert_eq!(check(&utterance_block), check(&by_hand), "{} {reading:02x?}", context());

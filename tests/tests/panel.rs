@@ -1,30 +1,19 @@
 //! The panel's listing (document 02, N8): its examples, beside the second implementation, and beside the library's listing.
 
-use spireyerba::limits::{work_length, PANEL_MAX_READINGS, PANEL_MAX_SLOTS, PANEL_OUTPUT_MAX, PANEL_WORK_MAX};
+use spireyerba::limits::{PANEL_MAX_READINGS, PANEL_MAX_SLOTS, PANEL_OUTPUT_MAX, PANEL_WORK_MAX};
 use spireyerba::Refusal::{self, *};
-use spireyerba::{services, Candidate, Edge, Grammar, Graph, Utterance};
+use spireyerba::{services, Edge, Grammar, Graph};
 use spireyerba_tests::compare::listing::{compare_panel, compare_services, Call};
 use spireyerba_tests::compare::{over_seeds, Tally};
+use spireyerba_tests::documents::{block_of_slots, g, G};
 use spireyerba_tests::heard::Heard;
 use spireyerba_tests::listing::panel_listing;
 use spireyerba_tests::refusal::{GRAMMAR_BLOCK, GRAPH_BLOCK, UTTERANCE_BLOCK};
-use spireyerba_tests::seeded::damage::{graph_blocks, some_grammar_blocks, some_utterance_blocks};
-use spireyerba_tests::seeded::parsable::{case, graph_case, Shape};
+use spireyerba_tests::seeded::damage::{graph_blocks, some_grammar_blocks, some_utterance_blocks, with_one_damaged};
+use spireyerba_tests::seeded::parsable::{case, graph_case, heard_case, Shape};
 use spireyerba_tests::seeded::parsable::{AMBIGUOUS, GREATEST, LONG, MANY_SYMBOLS, SPARSE, TINY};
 use spireyerba_tests::seeded::rng::Rng;
 use spireyerba_tests::{grammar, graph, utterance};
-
-/// Document 01's grammar G, as a block and as a value.
-const G: [u8; 9] = [0x10, 0x40, 0x40, 0x40, 0x00, 0x09, 0x00, 0x00, 0x00];
-
-fn g() -> Grammar {
-    grammar::from_block(&G).expect("G is accepted")
-}
-
-/// So many slots of word 0 at cost 0.
-fn slots(count: usize) -> Vec<u8> {
-    utterance::pack(&g(), &Utterance { slots: vec![vec![Candidate { word: 0, cost: 0 }]; count] })
-}
 
 /// So many places, with word 0 at cost 0 over each step.
 fn places(count: u32) -> Vec<u8> {
@@ -44,7 +33,7 @@ fn answer(heard: &[u8], wanted: u32, work_len: usize, out_len: usize) -> Result<
 
 #[test]
 fn twelve_slots_and_sixteen_readings() {
-    let heard = slots(12);
+    let heard = block_of_slots(12);
     assert_eq!(answer(&heard, 16, 4_992, 128), Ok(16));
     assert_eq!(answer(&heard, 16, 4_991, 128), Err(ListingWork));
     assert_eq!(answer(&heard, 16, 4_992, 127), Err(ListingOutput));
@@ -57,9 +46,9 @@ fn twelve_slots_and_sixteen_readings() {
 #[test]
 fn more_slots_than_twelve() {
     for wanted in [0, 1, 16, 17, 300] {
-        assert_eq!(answer(&slots(13), wanted, 100_000, 10_000), Err(PanelSlots), "N {wanted}");
-        assert_eq!(answer(&slots(24), wanted, 0, 0), Err(PanelSlots), "N {wanted}");
-        assert_eq!(answer(&slots(25), wanted, 0, 0), Err(UtteranceRange), "N {wanted}");
+        assert_eq!(answer(&block_of_slots(13), wanted, 100_000, 10_000), Err(PanelSlots), "N {wanted}");
+        assert_eq!(answer(&block_of_slots(24), wanted, 0, 0), Err(PanelSlots), "N {wanted}");
+        assert_eq!(answer(&block_of_slots(25), wanted, 0, 0), Err(UtteranceRange), "N {wanted}");
     }
 }
 
@@ -82,23 +71,9 @@ fn wanted(rng: &mut Rng) -> u32 {
     }
 }
 
-/// A grammar and what was heard, slots or a graph.
-fn any_case(rng: &mut Rng, shapes: &[&Shape]) -> (Grammar, Heard) {
-    let shape = rng.pick(shapes);
-    if rng.once_in(2) {
-        let (grammar, graph) = graph_case(rng, shape);
-        (grammar, Heard::Graph(graph))
-    } else {
-        let (grammar, utterance) = case(rng, shape);
-        (grammar, Heard::Slots(utterance))
-    }
-}
-
 /// The lengths of work table and output that a listing needs, or one less of either.
 fn lengths(rng: &mut Rng, grammar: &Grammar, heard: &Heard, wanted: u32) -> (usize, usize) {
-    let wanted = wanted.min(PANEL_MAX_READINGS) as usize;
-    let work = work_length(grammar.symbols as usize, heard.longest(), wanted);
-    let out = wanted * heard.reading_length(grammar);
+    let (work, out) = heard.listing_lengths(grammar, wanted.min(PANEL_MAX_READINGS));
     match rng.below(6) {
         0 => (work.saturating_sub(1), out),
         1 => (work, out.saturating_sub(1)),
@@ -111,7 +86,7 @@ fn lengths(rng: &mut Rng, grammar: &Grammar, heard: &Heard, wanted: u32) -> (usi
 fn beside_the_second_implementation() {
     let mut tally = Tally::default();
     over_seeds(0..6_000, |rng| {
-        let (grammar, heard) = any_case(rng, &[&TINY, &AMBIGUOUS, &AMBIGUOUS, &SPARSE, &LONG, &MANY_SYMBOLS]);
+        let (grammar, heard) = heard_case(rng, &[&TINY, &AMBIGUOUS, &AMBIGUOUS, &SPARSE, &LONG, &MANY_SYMBOLS]);
         let wanted = wanted(rng);
         let (work_len, out_len) = lengths(rng, &grammar, &heard, wanted);
         let call =
@@ -128,31 +103,18 @@ fn damaged_blocks() {
     over_seeds(10_000..10_200, |rng| {
         let (grammar, utterance) = case(rng, &SPARSE);
         let (_, graph) = graph_case(rng, &SPARSE);
-        let grammar_block = grammar::pack(&grammar);
-        let utterance_block = utterance::pack(&grammar, &utterance);
-        let mut inputs = Vec::new();
-        for damaged in some_grammar_blocks(rng, &grammar, 10) {
-            inputs.push((damaged, utterance_block.clone()));
-        }
-        for damaged in some_utterance_blocks(rng, &grammar, &utterance, 10) {
-            inputs.push((grammar_block.clone(), damaged));
-        }
-        for damaged in graph_blocks(rng, &grammar, &graph, 10) {
-            inputs.push((grammar_block.clone(), damaged));
-        }
-        for (grammar, utterance) in &inputs {
+        let blocks = [grammar::pack(&grammar), utterance::pack(&grammar, &utterance)];
+        let grammars = some_grammar_blocks(rng, &grammar, 10);
+        let mut damaged = some_utterance_blocks(rng, &grammar, &utterance, 10);
+        damaged.extend(graph_blocks(rng, &grammar, &graph, 10));
+        for [grammar, utterance] in &with_one_damaged(&blocks, grammars, damaged) {
             let call = Call { grammar, utterance, wanted: wanted(rng), work_len: PANEL_WORK_MAX / 8, out_len: 300 };
             compare_panel(rng, &mut tally, &call);
         }
     });
-    let listing = [ListingWanted, ListingWork, ListingOutput];
-    let met: Vec<Refusal> = tally.refusals().collect();
-    for refusal in [GRAMMAR_BLOCK.as_slice(), &UTTERANCE_BLOCK, &GRAPH_BLOCK, &[ListingWanted, PanelWanted]].concat() {
-        assert!(met.contains(&refusal), "{refusal} was not met");
-    }
-    let known = |refusal: &Refusal| listing.contains(refusal) || [PanelSlots, PanelWanted].contains(refusal);
     let blocks = [GRAMMAR_BLOCK.as_slice(), &UTTERANCE_BLOCK, &GRAPH_BLOCK].concat();
-    assert!(met.iter().all(|refusal| known(refusal) || blocks.contains(refusal)), "{met:?}");
+    let refusals = [&blocks[..], &[ListingWanted, PanelWanted]].concat();
+    tally.demand_besides(&[ListingWork, ListingOutput, PanelSlots], 5_000, &refusals);
 }
 
 /// Within the panel's limits both exported functions answer the same and leave the same in both slices.
@@ -161,7 +123,7 @@ fn beside_the_library() {
     let mut tally = Tally::default();
     let short = Shape { slots: 12..=12, ..GREATEST };
     over_seeds(20_000..23_000, |rng| {
-        let (grammar, heard) = any_case(rng, &[&TINY, &AMBIGUOUS, &AMBIGUOUS, &SPARSE, &MANY_SYMBOLS]);
+        let (grammar, heard) = heard_case(rng, &[&TINY, &AMBIGUOUS, &AMBIGUOUS, &SPARSE, &MANY_SYMBOLS]);
         let wanted = rng.within(0..=PANEL_MAX_READINGS);
         let (work_len, out_len) = lengths(rng, &grammar, &heard, wanted);
         let call =
@@ -169,7 +131,7 @@ fn beside_the_library() {
         compare_services(rng, &mut tally, &call, [services::panel_listing, services::listing]);
     });
     over_seeds(30_000..30_020, |rng| {
-        let (grammar, heard) = any_case(rng, &[&short]);
+        let (grammar, heard) = heard_case(rng, &[&short]);
         assert_eq!(heard.longest(), PANEL_MAX_SLOTS as usize);
         let call = Call {
             grammar: &grammar::pack(&grammar),

@@ -2,30 +2,17 @@
 //! every rank; one that is shorter than the number wanted holds the same derivations (document 02, N13). Each test runs on the
 //! library and on the second implementation.
 
-use spireyerba::limits::work_length;
-use spireyerba::{services, Body, Candidate, Edge, Grammar, Graph, GraphReading, Refusal, Rule, Utterance};
+use spireyerba::{services, Body, Candidate, Edge, Grammar, Graph, GraphReading, Rule, Utterance};
+use spireyerba_tests::both::{self, Listing};
 use spireyerba_tests::compare::over_seeds;
 use spireyerba_tests::heard::Heard;
 use spireyerba_tests::seeded::parsable::{case, graph_case, AMBIGUOUS, LONG, MANY_SYMBOLS, SPARSE, TINY};
 use spireyerba_tests::seeded::rng::Rng;
-use spireyerba_tests::{grammar, graph_reading, listing, reading, utterance};
+use spireyerba_tests::{grammar, graph_reading, listing, reading, tests_of_both, utterance};
 use std::ops::Range;
 
-type Listing = fn(&[u8], &[u8], u32, &mut [u32], &mut [u8]) -> Result<usize, Refusal>;
-
-/// The functions of this page with these names, as tests of both.
-macro_rules! tests_of_both {
-    ($($name:ident)+) => {
-        mod library {
-            $(#[test] fn $name() { super::$name(super::services::listing); })+
-        }
-        mod second_implementation {
-            $(#[test] fn $name() { super::$name(super::listing::listing); })+
-        }
-    };
-}
-
 tests_of_both! {
+    services::listing, listing::listing;
     heard_better_whichever_rule_is_first
     of_two_that_are_tied_each_order_lists_its_own_rule_0
     slots
@@ -68,16 +55,12 @@ impl Listed {
 
 /// What a listing finds, in its order.
 fn list(listing: Listing, grammar: &Grammar, heard: &Heard, wanted: u32) -> Vec<Listed> {
-    let length = heard.reading_length(grammar);
-    let mut work = vec![7; work_length(grammar.symbols as usize, heard.longest(), wanted as usize)];
-    let mut out = vec![0xa5; wanted as usize * length];
-    let (grammar_block, heard_block) = (grammar::pack(grammar), heard.pack(grammar));
-    let found = listing(&grammar_block, &heard_block, wanted, &mut work, &mut out).expect("an accepted listing");
-    let listed = |block: &[u8]| match heard {
+    let readings = both::list(listing, &grammar::pack(grammar), &heard.pack(grammar), wanted);
+    let listed = |block: &Vec<u8>| match heard {
         Heard::Slots(utterance) => Listed::of_slots(grammar, utterance, block),
         Heard::Graph(graph) => Listed::of_graph(grammar, graph, block),
     };
-    out.chunks_exact(length).take(found).map(listed).collect()
+    readings.iter().map(listed).collect()
 }
 
 /// The grammar with its rules in another order, and the number there of each rule.

@@ -1,18 +1,17 @@
 //! The library's specimen beside known strings, beside the second implementation's, and beside the first of all strings.
 
-use spireyerba::limits::{MAX_SLOTS, MAX_WEIGHT, MAX_WORDS};
+use spireyerba::limits::{MAX_SLOTS, MAX_WEIGHT};
+use spireyerba::services;
 use spireyerba::Refusal::*;
-use spireyerba::{services, Refusal};
+use spireyerba_tests::both::Specimen;
 use spireyerba_tests::compare::specimen::compare;
 use spireyerba_tests::compare::{over_seeds, Tally};
 use spireyerba_tests::grammar::pack;
 use spireyerba_tests::refusal::GRAMMAR_BLOCK;
 use spireyerba_tests::seeded::damage::some_grammar_blocks;
-use spireyerba_tests::seeded::grammars::with_rules;
-use spireyerba_tests::seeded::phrases::any_grammar;
-use spireyerba_tests::specimen::{derived, specimen};
-
-type Specimen = fn(&[u8], u32, &mut [u8]) -> Result<bool, Refusal>;
+use spireyerba_tests::seeded::phrases::{any_grammar, of_few_strings};
+use spireyerba_tests::specimen::{derived_bytes, specimen};
+use spireyerba_tests::tests_of_both;
 
 /// A specimen, which takes the front of the output and no more.
 fn ask(service: Specimen, grammar: &[u8], length: u32) -> Option<Vec<u8>> {
@@ -33,7 +32,7 @@ const LATER_IS_LESS: [u8; 17] =
 /// The door schedule of examples/.
 const DOORS: &[u8] = include_bytes!("../../examples/doors/grammar.bin");
 
-fn expect_examples(service: Specimen) {
+fn examples(service: Specimen) {
     let expect = |grammar, length, string: Option<&[u8]>| {
         assert_eq!(ask(service, grammar, length).as_deref(), string, "length {length} of {grammar:02x?}");
     };
@@ -49,15 +48,7 @@ fn expect_examples(service: Specimen) {
     expect(DOORS, 4, Some(&[4, 0, 2, 5]));
 }
 
-#[test]
-fn examples_of_the_library() {
-    expect_examples(services::specimen);
-}
-
-#[test]
-fn examples_of_the_second_implementation() {
-    expect_examples(specimen);
-}
+tests_of_both! { services::specimen, specimen; examples }
 
 #[test]
 fn specimens_of_every_length() {
@@ -67,27 +58,21 @@ fn specimens_of_every_length() {
         let grammar = pack(&any_grammar(rng));
         for length in 1..=MAX_SLOTS {
             let out_len = length as usize + rng.pick(&[0, 0, 1, 40]);
-            match compare(rng, &mut tally, &grammar, length, out_len) {
-                Some(true) => some += 1,
-                _ => none += 1,
-            }
+            let is_found = compare(rng, &mut tally, &grammar, length, out_len) == Some(true);
+            *if is_found { &mut some } else { &mut none } += 1;
         }
     });
     tally.demand(20_000, &[]);
     assert!(some > 10_000 && none > 5_000, "{some} specimens, {none} times none");
 }
 
-/// Few words and strings of up to six, or all words and strings of one or two.
 #[test]
 fn specimens_beside_all_strings() {
     over_seeds(20_000..20_500, |rng| {
-        let (words, longest) = if rng.once_in(10) { (MAX_WORDS, 2) } else { (rng.within(1..=3), 6) };
-        let (symbols, pairs, word_rules) = (rng.within(1..=4), rng.within(0..=6), rng.within(1..=6));
-        let grammar = with_rules(rng, symbols, words, pairs, word_rules);
+        let (grammar, longest) = of_few_strings(rng);
         let block = pack(&grammar);
         for length in 1..=longest {
-            let first = derived(&grammar, length).next();
-            let first = first.map(|words| words.into_iter().map(|word| word as u8).collect());
+            let first = derived_bytes(&grammar, length).next();
             assert_eq!(ask(services::specimen, &block, length as u32), first, "length {length} of {grammar:?}");
         }
     });

@@ -3,7 +3,7 @@
 
 use spireyerba::text::{graph_reading_text, is_graph, parse_graph_reading, parse_reading, reading_text};
 use spireyerba::text::{NamedGrammar, UtteranceReader};
-use spireyerba::{Body, Grammar, Graph, GraphReading, Lister, Rule};
+use spireyerba::{Body, Error, Grammar, Graph, GraphReading, Lister, Rule};
 use spireyerba_tests::compare::over_seeds;
 use spireyerba_tests::graph_reading;
 use spireyerba_tests::seeded::grammars::{grammar, Size};
@@ -12,6 +12,7 @@ use spireyerba_tests::seeded::parsable::{case, graph_case, AMBIGUOUS, SPARSE};
 use spireyerba_tests::seeded::rng::Rng;
 use spireyerba_tests::seeded::utterances::utterance;
 use std::collections::{HashMap, HashSet};
+use std::fmt::Debug;
 
 const SIZES: [Size; 3] = [Size::Small, Size::Middle, Size::Greatest];
 /// Characters of names, some of which mean something in texts.
@@ -62,17 +63,28 @@ fn grammars_without_names() {
     });
 }
 
+/// The text in one line.
+fn in_a_line(text: &str) -> String {
+    text.trim_end().replace('\n', " ; ")
+}
+
+/// A text is read as this value, and so is the same in one line. Answers what was read.
+fn expect_read<T: PartialEq + Debug>(text: &str, value: &T, read: impl Fn(&str) -> Result<T, Error>) -> T {
+    let [of_lines, _] = [text, &in_a_line(text)].map(|text| {
+        let found = read(text).unwrap_or_else(|error| panic!("{error}\n{text}"));
+        assert_eq!(found, *value, "{text}");
+        found
+    });
+    of_lines
+}
+
 #[test]
 fn utterances() {
     over_seeds(2_000..2_300, |rng| {
         let named = named(rng);
         let size = rng.pick(&SIZES);
         let utterance = utterance(rng, size, named.grammar.words);
-        let text = named.utterance_text(&utterance);
-        let read = named.parse_utterance(&text).unwrap_or_else(|error| panic!("{error}\n{text}"));
-        assert_eq!(read, utterance, "{text}");
-        let in_a_line = text.trim_end().replace('\n', " ; ");
-        assert_eq!(named.parse_utterance(&in_a_line), Ok(utterance), "{in_a_line}");
+        expect_read(&named.utterance_text(&utterance), &utterance, |text| named.parse_utterance(text));
     });
 }
 
@@ -87,7 +99,7 @@ fn utterances_in_plain_lines() {
         let block = named.to_block().expect("an accepted grammar");
         let size = rng.pick(&SIZES);
         let utterance = utterance(rng, size, named.grammar.words);
-        let mut line: Vec<char> = named.utterance_text(&utterance).trim_end().replace('\n', " ; ").chars().collect();
+        let mut line: Vec<char> = in_a_line(&named.utterance_text(&utterance)).chars().collect();
         for _ in 0..rng.within(0..=2) {
             let (at, letter) = (rng.below(line.len()), rng.pick(&[' ', '|', ';', '#', '"', '9', 'a', '-', '\t', 'ü']));
             match rng.within(0..=2) {
@@ -127,11 +139,8 @@ fn graphs() {
             is_graph(&text) && !is_graph(&named.utterance_text(&utterance(rng, size, named.grammar.words))),
             "{text}"
         );
-        let read = named.parse_graph(&text).unwrap_or_else(|error| panic!("{error}\n{text}"));
-        assert_eq!(read, graph, "{text}");
-        let in_a_line = text.trim_end().replace('\n', " ; ");
-        assert!(is_graph(&in_a_line));
-        assert_eq!(named.parse_graph(&in_a_line), Ok(read.clone()), "{in_a_line}");
+        assert!(is_graph(&in_a_line(&text)), "{text}");
+        let read = expect_read(&text, &graph, |text| named.parse_graph(text));
         let block = named.grammar.to_block().expect("an accepted grammar");
         assert_eq!(read.to_block(&block), graph.to_block(&block));
     });

@@ -1,25 +1,12 @@
 //! Ties go to what was heard better: where weights are equal, the lower sum of costs comes first, at every level (document 02,
 //! N6). Each test runs on the library and on the second implementation.
 
-use spireyerba::limits::{reading_length, work_length};
-use spireyerba::{services, Refusal};
-use spireyerba_tests::{grammar, listing, reading, utterance};
-
-type Listing = fn(&[u8], &[u8], u32, &mut [u32], &mut [u8]) -> Result<usize, Refusal>;
-
-/// The functions of this page with these names, as tests of both.
-macro_rules! tests_of_both {
-    ($($name:ident)+) => {
-        mod library {
-            $(#[test] fn $name() { super::$name(super::services::listing); })+
-        }
-        mod second_implementation {
-            $(#[test] fn $name() { super::$name(super::listing::listing); })+
-        }
-    };
-}
+use spireyerba::services;
+use spireyerba_tests::both::{self, Listing};
+use spireyerba_tests::{grammar, listing, reading, tests_of_both, utterance};
 
 tests_of_both! {
+    services::listing, listing::listing;
     between_two_leaves
     between_two_nodes
     between_the_parts
@@ -29,13 +16,9 @@ tests_of_both! {
 fn list(listing: Listing, grammar: &[u8], utterance: &[u8], wanted: u32) -> Vec<(u32, Vec<u32>)> {
     let under = grammar::from_block(grammar).expect("an accepted grammar");
     let slots = utterance::from_block(&under, utterance).expect("an accepted utterance").slots.len();
-    let length = reading_length(slots, under.rules.len());
-    let mut work = vec![7; work_length(under.symbols as usize, slots, wanted as usize)];
-    let mut out = vec![0xa5; wanted as usize * length];
-    let found = listing(grammar, utterance, wanted, &mut work, &mut out).expect("an accepted listing");
-    assert!(work.iter().all(|&number| number == 0));
-    let reading = |block: &[u8]| reading::from_block(&under, slots, block).expect("a reading").0;
-    out.chunks_exact(length).take(found).map(reading).map(|reading| (reading.weight, reading.walk)).collect()
+    let reading = |block: &Vec<u8>| reading::from_block(&under, slots, block).expect("a reading").0;
+    let readings = both::list(listing, grammar, utterance, wanted);
+    readings.iter().map(reading).map(|reading| (reading.weight, reading.walk)).collect()
 }
 
 /// These walks in this order, all of one weight, and the first ones of them where fewer are wanted.

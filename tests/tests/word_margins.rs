@@ -7,19 +7,18 @@ use spireyerba::Refusal::{self, *};
 use spireyerba::{Grammar, Lister, Utterance};
 use spireyerba_tests::compare::word_margins::compare;
 use spireyerba_tests::compare::{over_seeds, Tally};
+use spireyerba_tests::documents::FIFTH;
 use spireyerba_tests::refusal::{GRAMMAR_BLOCK, UTTERANCE_BLOCK};
-use spireyerba_tests::seeded::damage::{some_grammar_blocks, some_utterance_blocks};
+use spireyerba_tests::seeded::damage::{some_grammar_blocks, some_utterance_blocks, with_one_damaged};
 use spireyerba_tests::seeded::parsable::{case, cheaper, graph_case, lighter};
 use spireyerba_tests::seeded::parsable::{AMBIGUOUS, GREATEST, LONG, MANY_SYMBOLS, SPARSE, TINY, WORDY};
 use spireyerba_tests::seeded::rng::Rng;
 use spireyerba_tests::word_margins::{entries, with_fallen_cost, word_margins, words_of, Entry, MOST_TRIED};
-use spireyerba_tests::{grammar, graph, utterance};
+use spireyerba_tests::{grammar, graph, tests_of_both, utterance};
 
 type WordMargins = fn(&[u8], &[u8], &mut [u32], &mut [u32]) -> Result<usize, Refusal>;
 
-/// Document 01's fifth P grammar, and utterances of two slots of two words each by their costs.
-const FIFTH: [u8; 17] =
-    [0x10, 0xc1, 0x00, 0xa0, 0x00, 0x01, 0xa8, 0x00, 0x29, 0x40, 0x00, 0xdc, 0x00, 0x03, 0x60, 0x00, 0x3c];
+/// The fifth grammar's slots by their costs.
 const COSTS_4_7_3_2: [u8; 11] = [0x20, 0x90, 0x00, 0x08, 0x80, 0x03, 0xa8, 0x00, 0x0f, 0x00, 0x02];
 const COSTS_4_3_0_9: [u8; 11] = [0x20, 0x90, 0x00, 0x08, 0x80, 0x01, 0xa8, 0x00, 0x03, 0x00, 0x09];
 const NOT_HEARD_IN_FIRST: [u8; 11] = [0x20, 0x90, 0x00, 0x08, 0xff, 0xff, 0xa8, 0x00, 0x0f, 0x00, 0x02];
@@ -46,7 +45,7 @@ fn answer(
     (answer, out)
 }
 
-fn expect_examples(service: WordMargins) {
+fn document_02s_examples(service: WordMargins) {
     let expect = |heard: &[u8], entries: &[Entry]| {
         assert_eq!(answer(service, [&FIFTH, heard], 36, 16), (Ok(entries.len()), entries.concat()));
     };
@@ -58,7 +57,7 @@ fn expect_examples(service: WordMargins) {
     expect(&[0x20, 0x50, 0x00, 0x08, 0x80, 0x03, 0x80], &[]);
 }
 
-fn expect_refusals(service: WordMargins) {
+fn document_02s_refusals(service: WordMargins) {
     let expect = |blocks: [&[u8]; 2], work_len, out_len, refusal| {
         assert_eq!(answer(service, blocks, work_len, out_len), (Err(refusal), Vec::new()), "{blocks:02x?}");
     };
@@ -75,17 +74,7 @@ fn expect_refusals(service: WordMargins) {
     expect([&FIFTH[..16], &slots[..10]], 0, 0, GrammarEnd);
 }
 
-#[test]
-fn document_02s_examples() {
-    expect_examples(services::word_margins);
-    expect_refusals(services::word_margins);
-}
-
-#[test]
-fn document_02s_examples_in_the_second_implementation() {
-    expect_examples(word_margins);
-    expect_refusals(word_margins);
-}
+tests_of_both! { services::word_margins, word_margins; document_02s_examples document_02s_refusals }
 
 /// The lengths of both slices that are needed, or others.
 fn lengths(rng: &mut Rng, grammar: &Grammar, utterance: &Utterance) -> (usize, usize) {
@@ -127,25 +116,17 @@ fn any_costs_and_damaged_blocks() {
     over_seeds(10_000..10_120, |rng| {
         let shape = rng.pick(&[&TINY, &SPARSE]);
         let (grammar, utterance) = case(rng, shape);
-        let block = grammar::pack(&grammar);
-        let utterance_block = utterance::pack(&grammar, &utterance);
-        let mut inputs = vec![(block.clone(), utterance_block.clone())];
-        inputs.extend(
-            some_grammar_blocks(rng, &grammar, 6).into_iter().map(|damaged| (damaged, utterance_block.clone())),
-        );
-        inputs.extend(
-            some_utterance_blocks(rng, &grammar, &utterance, 12).into_iter().map(|damaged| (block.clone(), damaged)),
-        );
+        let blocks = [grammar::pack(&grammar), utterance::pack(&grammar, &utterance)];
+        let grammars = some_grammar_blocks(rng, &grammar, 6);
+        let mut damaged = some_utterance_blocks(rng, &grammar, &utterance, 12);
         let (_, graph) = graph_case(rng, shape);
-        inputs.push((block.clone(), graph::pack(&grammar, &graph)));
-        for (grammar_block, heard) in &inputs {
+        damaged.push(graph::pack(&grammar, &graph));
+        for [grammar_block, heard] in [blocks.clone()].iter().chain(&with_one_damaged(&blocks, grammars, damaged)) {
             let (work_len, out_len) = lengths(rng, &grammar, &utterance);
             compare(rng, &mut tally, [grammar_block, heard], work_len, out_len);
         }
     });
-    let mut all = [&GRAMMAR_BLOCK[..], &UTTERANCE_BLOCK, &[ListingWork, OutputShort]].concat();
-    all.sort();
-    tally.demand(1_500, &all);
+    tally.demand(1_500, &[&GRAMMAR_BLOCK[..], &UTTERANCE_BLOCK, &[ListingWork, OutputShort]].concat());
     assert!(tally.accepted() > 300, "{} accepted", tally.accepted());
 }
 

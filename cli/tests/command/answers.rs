@@ -1,6 +1,8 @@
 //! Every subcommand over the door schedule.
 
-use crate::common::{answer, answered, doors, folder, refused, run, run_in, run_with, Run};
+use crate::common::{
+    answer, answer_in, answer_with, answered, doors, expect_refused_readings, folder, refused, run, run_with, Run,
+};
 use spireyerba::Refusal;
 
 #[test]
@@ -127,7 +129,7 @@ fn why_adds_up() {
 #[test]
 fn why_of_equal_weights() {
     let folder = folder("equal", &[("g", b"A -> A A [1] | \"x\""), ("u", b"x 0; x 0; x 0")]);
-    let text = answered(run_in(&folder, "why g u 2"), "why");
+    let text = answer_in(&folder, "why g u 2");
     assert!(text.starts_with("reading 2 weighs 2, as much as the first\n"), "{text}");
     assert!(text.contains("words cost less") && text.contains("ends earlier") && text.ends_with("0\n"), "{text}");
 }
@@ -137,7 +139,7 @@ fn check_a_reading() {
     let check = |reading: &str| run_with(&doors(), "check grammar.txt utterance.txt -", reading.as_bytes());
     let passes = answered(check("72 0 2 12 3 13 15 8 17 11 20 21"), "check");
     assert_eq!(passes, "passes: 72  door twenty four oak fire thirty\n");
-    for (reading, refusal) in [
+    let rows = [
         ("73 0 2 12 3 13 15 8 17 11 20 21", Refusal::ReadingWeight),
         ("72 0 2 12 3 13 15 8 17 11 20 20", Refusal::ReadingWalk),
         ("72 0 2 12 3 13 15 8 17 11 20 99", Refusal::ReadingWalk),
@@ -145,9 +147,8 @@ fn check_a_reading() {
         ("72 0 2 12", Refusal::ReadingSlots),
         ("72", Refusal::ReadingSlots),
         ("99999999 0 2 12 3 13 15 8 17 11 20 21", Refusal::ReadingWeight),
-    ] {
-        assert_eq!(refused(check(reading), 1), format!("<stdin>: {refusal}\n"), "{reading}");
-    }
+    ];
+    expect_refused_readings(check, &rows);
 }
 
 #[test]
@@ -161,14 +162,14 @@ fn pack_and_unpack() {
     assert_eq!(read(packed.join("u")), read(doors().join("utterance.bin")));
     let text = "door 4 | four 61\ntwenty 12 | forty 20\n";
     assert_eq!(answer("unpack grammar.txt utterance.bin").lines().count(), 6);
-    let sorted = answered(run_with(&doors(), "unpack grammar.txt -", text.as_bytes()), "unpack");
+    let sorted = answer_with(&doors(), "unpack grammar.txt -", text.as_bytes());
     assert_eq!(sorted, "four 61 | door 4\ntwenty 12 | forty 20\n");
     assert_eq!(answer("unpack grammar.bin").lines().next(), Some("S0 -> S1 S2"));
     assert_eq!(answer("unpack grammar.bin utterance.bin").lines().next(), Some("w2 61 | w4 4"));
     let network = answer("unpack grammar.txt utterance.bin --network --scale 100");
     assert_eq!(network.lines().nth(2), Some("align 0 four 0.543 door 0.96"));
-    let back = run_with(&doors(), "unpack grammar.txt - --scale 100", network.as_bytes());
-    assert_eq!(answered(back, "unpack"), answer("unpack grammar.txt utterance.bin"));
+    let back = answer_with(&doors(), "unpack grammar.txt - --scale 100", network.as_bytes());
+    assert_eq!(back, answer("unpack grammar.txt utterance.bin"));
 }
 
 #[test]
@@ -291,7 +292,7 @@ g:4:6: no derivation can use rule 4, D -> \"x\"
 g:1:7: no rule has the word unused
 g: 4 of 32 symbols (28 left), 3 of 200 words (197 left), 5 of 256 rules (251 left)
 ";
-    assert_eq!(answered(run_in(&folder, "lint g"), "lint"), lint);
+    assert_eq!(answer_in(&folder, "lint g"), lint);
 }
 
 /// An utterance has room for 24 words, so a symbol whose shortest string is longer derives nothing, and a rule that is only
@@ -301,11 +302,11 @@ fn lint_looks_as_far_as_an_utterance_goes() {
     let doubling: String = (0..5).map(|n| format!("D{n} -> D{} D{}\n", n + 1, n + 1)).collect();
     let text = format!("S -> \"x\" | D0 E\n{doubling}D5 -> \"x\"\nE -> \"y\"\n");
     let folder = folder("lint_long", &[("g", text.as_bytes())]);
-    let lint = answered(run_in(&folder, "lint g"), "lint");
+    let lint = answer_in(&folder, "lint g");
     assert!(lint.starts_with("g:1:12: symbol D0 derives nothing\n"), "{lint}");
     assert_eq!(lint.lines().filter(|line| line.contains("no derivation can use")).count(), 8, "{lint}");
     let short = folder_of_sixteen();
-    let lint = answered(run_in(&short, "lint g"), "lint");
+    let lint = answer_in(&short, "lint g");
     assert_eq!(lint.lines().count(), 1, "{lint}");
 }
 

@@ -1,6 +1,6 @@
 //! Many utterances on all cores.
 
-use crate::common::{answer, answered, doors, run_with};
+use crate::common::{answer, answer_with, doors, doors_graph, run_with};
 
 #[test]
 fn batch_of_utterances() {
@@ -19,8 +19,7 @@ fn batch_answers_in_order() {
     let line = |number: usize| format!("door {} ; {} 1 ; oak 2\n", number, words[number % words.len()]);
     let text: String = (0..5_000).map(line).collect();
     for jobs in ["-j 1", "-j 2", "-j 7", ""] {
-        let run = run_with(&doors(), &format!("batch grammar.txt - -n 1 {jobs}"), text.as_bytes());
-        let out = answered(run, "batch");
+        let out = answer_with(&doors(), &format!("batch grammar.txt - -n 1 {jobs}"), text.as_bytes());
         assert_eq!(out.lines().count(), 5_000);
         for (number, answer) in out.lines().enumerate() {
             // the tens alone weigh 10, the units alone 5, an entry without details 30
@@ -52,7 +51,7 @@ fn batch_goes_on_after_a_refusal() {
 /// Graphs stand between utterances, and their answers say which edges were taken.
 #[test]
 fn batch_of_graphs() {
-    let graph = std::fs::read_to_string(doors().join("../doors_graph/graph.txt")).expect("the example");
+    let graph = std::fs::read_to_string(doors_graph().join("graph.txt")).expect("the example");
     let edges = graph.lines().map(|line| line.split('#').next().unwrap_or_default().trim());
     let graph = edges.filter(|edge| !edge.is_empty()).collect::<Vec<_>>().join(" ; ");
     let text = format!("door 1; four 2; oak 3\n  {graph}\n0 1 door 1 ; 1 1 four 2\n0 1 door 1 ; 2 3 oak 4\n");

@@ -1,6 +1,6 @@
 //! Chances beside weights, over the door schedule.
 
-use crate::common::{answer, answered, doors, folder, refused, run, run_in, run_with};
+use crate::common::{answer, answer_in, answer_with, doors, doors_graph, example, folder, refused, run, run_with};
 use spireyerba::Refusal;
 
 /// Rank and chance of each line, as the examples have them.
@@ -22,10 +22,10 @@ fn chances_of_a_list() {
     assert_eq!(answer("chance grammar.txt utterance.txt shares.txt -n 3"), list);
     for (folder, heard) in [("doors", "utterance.txt"), ("doors_graph", "graph.txt"), ("doors_graph", "utterance.bin")]
     {
-        let folder = doors().join("..").join(folder);
+        let folder = example(folder);
         let words = format!("chance grammar.txt {heard} ../doors/shares.txt");
         let chances = std::fs::read_to_string(folder.join("chances.txt")).expect("the chances of the example");
-        assert_eq!(ranks_and_chances(&answered(run_in(&folder, &words), &words)), chances);
+        assert_eq!(ranks_and_chances(&answer_in(&folder, &words)), chances);
     }
 }
 
@@ -33,13 +33,13 @@ fn chances_of_a_list() {
 fn the_chance_of_one() {
     let second = "2  80  0.022688767313514546  door twenty four oak fire sixty\n";
     assert_eq!(answer("chance grammar.txt utterance.txt shares.txt 2"), second);
-    let of_file = |words: &str, reading: &str| answered(run_with(&doors(), words, reading.as_bytes()), words);
+    let of_file = |words: &str, reading: &str| answer_with(&doors(), words, reading.as_bytes());
     let reading = "80 0 2 12 3 13 15 8 17 11 20 22";
     let words = "chance grammar.txt utterance.txt shares.txt -";
     assert_eq!(of_file(words, reading), "80  0.022688767313514546  door twenty four oak fire sixty\n");
     let words = "chance grammar.txt ../doors_graph/graph.txt shares.txt -";
     let found = of_file(words, "80 0 2 12 5 8 17 11 20 21 | 0 3 7 9 12");
-    let chances = std::fs::read_to_string(doors().join("../doors_graph/chances.txt")).expect("the example");
+    let chances = std::fs::read_to_string(doors_graph().join("chances.txt")).expect("the example");
     assert_eq!(found, format!("80  {}  door forty oak fire thirty\n", &chances.lines().nth(1).expect("rank 2")[2..]));
     let json = r#"{"readings":[{"weight":80,"words":["door","twenty","four","oak","fire","sixty"],"#.to_owned()
         + r#""rules":[0,2,12,3,13,15,8,17,11,20,22],"chance":0.022688767313514546}]}"#;
@@ -61,7 +61,7 @@ fn shares_of_an_office() {
     let folder = folder("office_shares", &files);
     for shares in ["own", "all"] {
         let words = format!("chance g u {shares}");
-        assert_eq!(answered(run_in(&folder, &words), &words), "1  11  0.046875  x x z y y\n");
+        assert_eq!(answer_in(&folder, &words), "1  11  0.046875  x x z y y\n");
     }
     let few = refused(run_with(&folder, "chance g u -", b"256"), 1);
     assert_eq!(few, "<stdin>:1:4: refused 60: not one share for each rule: 1 of them for 2 rules\n");

@@ -1,14 +1,25 @@
 //! The command run as a user runs it.
 
+use spireyerba::Refusal;
 use std::io::Write;
 use std::path::{Path, PathBuf};
 use std::process::{Command, Output, Stdio};
 
 pub const PROGRAM: &str = env!("CARGO_BIN_EXE_spireyerba");
 
+/// A folder of examples/.
+pub fn example(name: &str) -> PathBuf {
+    Path::new(env!("CARGO_MANIFEST_DIR")).join("../examples").join(name)
+}
+
 /// The folder of the door schedule.
 pub fn doors() -> PathBuf {
-    Path::new(env!("CARGO_MANIFEST_DIR")).join("../examples/doors")
+    example("doors")
+}
+
+/// The folder of the door schedule as a word graph.
+pub fn doors_graph() -> PathBuf {
+    example("doors_graph")
 }
 
 /// A new folder of a test, with these files in it.
@@ -63,9 +74,24 @@ pub fn run(words: &str) -> Run {
     run_in(&doors(), words)
 }
 
-/// What the command prints when it answers and has no messages.
+/// What the command prints over the door schedule when it answers and has no messages.
 pub fn answer(words: &str) -> String {
-    answered(run(words), words)
+    answer_in(&doors(), words)
+}
+
+/// The same over the door schedule as a word graph.
+pub fn answer_graph(words: &str) -> String {
+    answer_in(&doors_graph(), words)
+}
+
+/// The same in a folder.
+pub fn answer_in(folder: &Path, words: &str) -> String {
+    answer_with(folder, words, b"")
+}
+
+/// The same in a folder, with something on standard input.
+pub fn answer_with(folder: &Path, words: &str, input: &[u8]) -> String {
+    answered(run_with(folder, words, input), words)
 }
 
 pub fn answered(run: Run, words: &str) -> String {
@@ -77,4 +103,11 @@ pub fn answered(run: Run, words: &str) -> String {
 pub fn refused(run: Run, status: i32) -> String {
     assert_eq!((run.status, run.out.as_str()), (status, ""), "{}", run.err);
     run.err
+}
+
+/// A check of readings from standard input refuses each of these so.
+pub fn expect_refused_readings(check: impl Fn(&str) -> Run, rows: &[(&str, Refusal)]) {
+    for (reading, refusal) in rows {
+        assert_eq!(refused(check(reading), 1), format!("<stdin>: {refusal}\n"), "{reading}");
+    }
 }

@@ -1,20 +1,11 @@
 //! Word graphs where utterances stand, over the door schedule as a graph.
 
-use crate::common::{answer, answered, doors, folder, refused, run, run_in, run_with, Run};
+use crate::common::{
+    answer, answer_graph, answer_with, answered, doors_graph, expect_refused_readings, folder, refused, run, run_in,
+    run_with,
+};
 use spireyerba::Refusal;
 use std::path::PathBuf;
-
-fn doors_graph() -> PathBuf {
-    doors().join("../doors_graph")
-}
-
-fn run_graph(words: &str) -> Run {
-    run_in(&doors_graph(), words)
-}
-
-fn answer_graph(words: &str) -> String {
-    answered(run_graph(words), words)
-}
 
 #[test]
 fn list_in_words() {
@@ -48,9 +39,9 @@ fn list_as_trees_and_for_programs() {
 
 #[test]
 fn a_graph_has_no_slots() {
-    let said = refused(run_graph("list grammar.txt graph.txt --said 0=door"), 1);
+    let said = refused(run_in(&doors_graph(), "list grammar.txt graph.txt --said 0=door"), 1);
     assert_eq!(said, "--said 0=door: a word graph has no slots\n");
-    let network = refused(run_graph("unpack grammar.txt utterance.bin --network --scale 100"), 1);
+    let network = refused(run_in(&doors_graph(), "unpack grammar.txt utterance.bin --network --scale 100"), 1);
     assert_eq!(network, "utterance.bin: --network: a word graph is no confusion network\n");
 }
 
@@ -81,7 +72,7 @@ fn check_a_reading() {
     let check = |reading: &str| run_with(&doors_graph(), "check grammar.txt graph.txt -", reading.as_bytes());
     let passes = answered(check("80 0 2 12 5 8 17 11 20 21 | 0 3 7 9 12"), "check");
     assert_eq!(passes, "passes: 80  door forty oak fire thirty\n");
-    for (reading, refusal) in [
+    let rows = [
         ("81 0 2 12 5 8 17 11 20 21 | 0 3 7 9 12", Refusal::ReadingWeight),
         ("80 0 2 12 5 8 17 11 20 21 | 0 3 7 9 13", Refusal::ReadingWalk),
         ("80 0 2 12 5 8 17 11 20 21 | 0 3 7 9 12 12", Refusal::ReadingWalk),
@@ -89,9 +80,8 @@ fn check_a_reading() {
         ("80 0 2 12 5 8 17 11 20 21", Refusal::ReadingWalk),
         ("80 0 2 12 5 8 17 11 20 99 | 0 3 7 9 12", Refusal::ReadingWalk),
         ("99999999 0 2 12 5 8 17 11 20 21 | 0 3 7 9 12", Refusal::ReadingWeight),
-    ] {
-        assert_eq!(refused(check(reading), 1), format!("<stdin>: {refusal}\n"), "{reading}");
-    }
+    ];
+    expect_refused_readings(check, &rows);
     assert_eq!(refused(check("80 0 | 3 | 4"), 1), "<stdin>:1:10: `|` is not a whole number\n");
 }
 
@@ -106,7 +96,7 @@ fn pack_and_unpack() {
     assert_eq!(read(packed.join("graph")), read(doors_graph().join("utterance.bin")));
     let unpacked = answer_graph("unpack grammar.txt utterance.bin");
     assert!(unpacked.starts_with("0 1 door 4\n0 1 four 61\n") && unpacked.ends_with("5 6 sixty 33\n6\n"), "{unpacked}");
-    assert_eq!(answered(run_with(&doors_graph(), "unpack grammar.txt -", unpacked.as_bytes()), "unpack"), unpacked);
+    assert_eq!(answer_with(&doors_graph(), "unpack grammar.txt -", unpacked.as_bytes()), unpacked);
     answer_graph(&format!("pack grammar.txt graph.txt {text} -o {block}"));
     assert_eq!(answer_graph(&format!("unpack grammar.txt graph.txt {block}")), reading);
     let other = refused(run(&format!("check grammar.txt utterance.txt {block}")), 1);

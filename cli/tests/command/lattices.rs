@@ -1,48 +1,37 @@
 //! HTK's lattices where word graphs stand, over the door schedule as a lattice.
 
-use crate::common::{answered, doors, folder, refused, run_in, run_with, Run};
-use std::path::PathBuf;
-
-fn doors_graph() -> PathBuf {
-    doors().join("../doors_graph")
-}
-
-fn run(words: &str) -> Run {
-    run_in(&doors_graph(), words)
-}
-
-fn answer(words: &str) -> String {
-    answered(run(words), words)
-}
+use crate::common::{answer_graph, answer_in, answer_with, doors_graph, folder, refused, run_in, run_with};
 
 #[test]
 fn a_lattice_is_a_word_graph() {
     for form in ["", "--tree", "--rules", "--json"] {
         let words = |file: &str| format!("list grammar.txt {file} {form}");
-        assert_eq!(answer(&words("lattice.slf --scale 100")), answer(&words("graph.txt")), "{form}");
+        assert_eq!(answer_graph(&words("lattice.slf --scale 100")), answer_graph(&words("graph.txt")), "{form}");
     }
     let why = "why grammar.txt lattice.slf 4 --scale 100";
-    assert_eq!(answer(why), answer("why grammar.txt graph.txt 4"));
-    assert!(answer("report grammar.txt lattice.slf --scale 100").contains("A word graph of 7 places and 14 edges."));
+    assert_eq!(answer_graph(why), answer_graph("why grammar.txt graph.txt 4"));
+    assert!(
+        answer_graph("report grammar.txt lattice.slf --scale 100").contains("A word graph of 7 places and 14 edges.")
+    );
     let reading = b"80 0 2 12 5 8 17 11 20 21 | 0 3 7 9 12";
-    let check = run_with(&doors_graph(), "check grammar.txt lattice.slf - --scale 100", reading);
-    assert_eq!(answered(check, "check"), "passes: 80  door forty oak fire thirty\n");
+    let check = answer_with(&doors_graph(), "check grammar.txt lattice.slf - --scale 100", reading);
+    assert_eq!(check, "passes: 80  door forty oak fire thirty\n");
 }
 
 #[test]
 fn to_a_block_and_back() {
     let packed = folder("packed_lattice", &[]).join("block").display().to_string();
-    answer(&format!("pack grammar.txt lattice.slf --scale 100 -o {packed}"));
+    answer_graph(&format!("pack grammar.txt lattice.slf --scale 100 -o {packed}"));
     let block = std::fs::read(&packed).expect("a block");
     assert_eq!(block, std::fs::read(doors_graph().join("utterance.bin")).expect("the example"));
-    let text = answer("unpack grammar.txt lattice.slf --scale 100");
-    assert_eq!(text, answer("unpack grammar.txt utterance.bin"));
-    let lattice = answer("unpack grammar.txt utterance.bin --lattice --scale 100");
+    let text = answer_graph("unpack grammar.txt lattice.slf --scale 100");
+    assert_eq!(text, answer_graph("unpack grammar.txt utterance.bin"));
+    let lattice = answer_graph("unpack grammar.txt utterance.bin --lattice --scale 100");
     let begin = "VERSION=1.0\nstart=0 end=6\nN=7 L=14\nI=0\n";
     assert!(lattice.starts_with(begin) && lattice.ends_with("J=13 S=5 E=6 W=sixty a=-0.33\n"), "{lattice}");
     assert!(lattice.contains("J=8 S=3 E=4 W=steel a=-1e10\n"), "{lattice}");
-    let back = run_with(&doors_graph(), "unpack grammar.txt - --scale 100", lattice.as_bytes());
-    assert_eq!(answered(back, "unpack"), text);
+    let back = answer_with(&doors_graph(), "unpack grammar.txt - --scale 100", lattice.as_bytes());
+    assert_eq!(back, text);
 }
 
 #[test]
@@ -50,7 +39,7 @@ fn what_cannot_be_written_as_a_lattice() {
     let dead = run_with(&doors_graph(), "unpack grammar.txt - --lattice --scale 100", b"0 1 door 4\n3");
     let why = "no lattice can say this: an edge is on no path, or a cost is too great beside --scale";
     assert_eq!(refused(dead, 1), format!("-: {why}\n"));
-    let slots = refused(run("unpack grammar.txt ../doors/utterance.txt --lattice --scale 100"), 1);
+    let slots = refused(run_in(&doors_graph(), "unpack grammar.txt ../doors/utterance.txt --lattice --scale 100"), 1);
     assert_eq!(slots, "../doors/utterance.txt: --lattice: slots are no word graph\n");
 }
 
@@ -63,7 +52,7 @@ fn words_that_nobody_says() {
         refused(run_in(&folder, "list g l --scale 10"), 1),
         "l:6:1: refused 14: the grammar has no word `sil`\n"
     );
-    let list = answered(run_in(&folder, "list g l --scale 10 --empty sil"), "list");
+    let list = answer_in(&folder, "list g l --scale 10 --empty sil");
     assert_eq!(list, "1  15  x x\n");
     let left_out = refused(run_in(&folder, "list g l --scale 10 --drop-unknown"), 1);
     assert_eq!(left_out, "l:7:1: refused 13: there is no word on a path to the end\n");
@@ -93,5 +82,5 @@ fn mistakes() {
     ] {
         assert_eq!(refused(run_in(&folder, &format!("list g {words}")), 1), format!("{message}\n"), "{words}");
     }
-    assert_eq!(answered(run_in(&folder, "list g scores --scale 1"), "list"), "1  700  x\n");
+    assert_eq!(answer_in(&folder, "list g scores --scale 1"), "1  700  x\n");
 }

@@ -1,25 +1,23 @@
 //! Grammars as offices write them, over the door schedule: every answer is in the office's own rules.
 
-use crate::common::{answered, doors, folder, refused, run_in, run_with, Run};
+use crate::common::{
+    answer_in, answer_with, answered, doors, example, expect_refused_readings, folder, refused, run_in, run_with,
+};
 use spireyerba::Refusal;
 use std::path::PathBuf;
 
 fn doors_office() -> PathBuf {
-    doors().join("../doors_office")
-}
-
-fn run(words: &str) -> Run {
-    run_in(&doors_office(), words)
+    example("doors_office")
 }
 
 fn answer(words: &str) -> String {
-    answered(run(words), words)
+    answer_in(&doors_office(), words)
 }
 
 #[test]
 fn list_in_every_form() {
     let words = "list grammar.txt utterance.txt";
-    assert_eq!(answer(words), answered(run_in(&doors(), words), words));
+    assert_eq!(answer(words), answer_in(&doors(), words));
     let tree = "\
 1  72  door twenty four oak fire thirty
    Entry [0]
@@ -48,7 +46,7 @@ fn list_in_every_form() {
 
 #[test]
 fn list_a_graph() {
-    let graph = run("list grammar.txt ../doors_graph/graph.txt --tree -n 2").out;
+    let graph = answer("list grammar.txt ../doors_graph/graph.txt --tree -n 2");
     assert!(graph.ends_with("      ├─ fire 10\n      └─ Minutes [0]  thirty 25\n"), "{graph}");
     let json = answer("list grammar.txt ../doors_graph/graph.txt --json");
     assert!(json.contains(r#""rules":[0,2,5,8,15,18],"edges":[0,3,7,9,12],"tree":["Entry",["Name","door","#), "{json}");
@@ -63,7 +61,7 @@ fn why_names_the_office_s_rules() {
             ("u", b"x 1; z 2; y 3; y 4 | z 9"),
         ],
     );
-    let text = answered(run_in(&folder, "list g u --tree"), "list");
+    let text = answer_in(&folder, "list g u --tree");
     assert!(
         text.contains(
             "1  13  x z y y\n   A [0]\n   ├─ x 1\n   └─ B [2]\n      ├─ A [1]  z 2\n      ├─ y 3\n      └─ y 4\n"
@@ -84,15 +82,14 @@ fn check_pack_and_unpack() {
     for reading in ["72 0 2 3 11 13 8 15 18", "72 0 2 22 3 11 13 8 15 24 23 18", "72 0 2 22 3 11 13 8 15 18"] {
         assert_eq!(answered(check(reading), reading), "passes: 72  door twenty four oak fire thirty\n");
     }
-    for (reading, refusal) in [
+    let rows = [
         ("73 0 2 3 11 13 8 15 18", Refusal::ReadingWeight),
         ("72 0 2 3 11 13 8 15 19", Refusal::ReadingWeight),
         ("72 0 2 3 11 13 8 15 20", Refusal::ReadingWalk),
         ("72 0 2 3 11 13 8 18", Refusal::ReadingEnd),
         ("72 0 2 3 11 13 8 15 18 18 18", Refusal::ReadingSlots),
-    ] {
-        assert_eq!(refused(check(reading), 1), format!("<stdin>: {refusal}\n"), "{reading}");
-    }
+    ];
+    expect_refused_readings(check, &rows);
     let packed = folder("packed_office", &[("reading", b"72 0 2 3 11 13 8 15 18\n")]);
     let path = |name: &str| packed.join(name).display().to_string();
     let (reading, block, grammar) = (path("reading"), path("block"), path("grammar"));
@@ -123,7 +120,7 @@ g:4:6: no derivation can use rule 3, C -> \"z\" \"z\" \"z\"
 g:1:7: no rule has the word unused
 g: 3 of 32 symbols and 6 for helpers (23 left), 4 of 200 words (196 left), 4 of 256 rules and 6 for helpers (246 left)
 ";
-    assert_eq!(answered(run_in(&folder, "lint g"), "lint"), lint);
+    assert_eq!(answer_in(&folder, "lint g"), lint);
 }
 
 #[test]
@@ -132,7 +129,7 @@ fn the_page_and_what_can_be_said() {
     assert!(page.contains("utterance.txt under grammar.txt (9 symbols, 13 words, 22 rules)"), "{page}");
     assert!(page.contains("<title>rule 8: Details -&gt; Leaf &quot;fire&quot; Minutes</title>"), "{page}");
     for words in ["specimen grammar.txt 4", "phrases grammar.txt 3"] {
-        assert_eq!(answer(words), answered(run_in(&doors(), words), words));
+        assert_eq!(answer(words), answer_in(&doors(), words));
     }
     let taken = run_with(&doors_office(), "pick grammar.txt utterance.txt", b"y\n");
     assert_eq!(taken.out, "1  72  door twenty four oak fire thirty\n");
@@ -173,13 +170,12 @@ fn any_marks() {
     let text = "A -> B A [1 helper]\nA -> \"x\" [2]\nB -> \"x\" [helper]\n";
     let folder = folder("any_marks", &[("g", text.as_bytes()), ("u", b"x 1; x 2; x 3")]);
     let tree = "1  10  x x x\n   A [1]\n   ├─ x 1\n   ├─ x 2\n   └─ A [2]  x 3\n";
-    assert_eq!(answered(run_in(&folder, "list g u --tree"), "list"), tree);
-    assert_eq!(answered(run_in(&folder, "list g u --rules"), "list"), "readings 1\n1 10 1\n");
-    assert_eq!(answered(run_in(&folder, "unpack g"), "unpack"), text);
-    answered(run_in(&folder, "pack g -o block"), "pack");
-    assert_eq!(answered(run_in(&folder, "pack block -o again"), "pack"), "");
+    assert_eq!(answer_in(&folder, "list g u --tree"), tree);
+    assert_eq!(answer_in(&folder, "list g u --rules"), "readings 1\n1 10 1\n");
+    assert_eq!(answer_in(&folder, "unpack g"), text);
+    answer_in(&folder, "pack g -o block");
+    assert_eq!(answer_in(&folder, "pack block -o again"), "");
     let read = |name: &str| std::fs::read(folder.join(name)).expect("a block");
     assert_eq!((read("block")[0] >> 4, read("block")), (4, read("again")));
-    let check = run_with(&folder, "check g u -", b"10 0 2 0 2 1");
-    assert_eq!(answered(check, "check"), "passes: 10  x x x\n");
+    assert_eq!(answer_with(&folder, "check g u -", b"10 0 2 0 2 1"), "passes: 10  x x x\n");
 }

@@ -1,6 +1,6 @@
 //! What README shows of the command is what it prints.
 
-use crate::common::{answered, run_in};
+use crate::common::answer_in;
 use std::path::Path;
 
 /// The lines of a text that are set off as code, each block by itself.
@@ -27,7 +27,7 @@ fn runs_of_the_command() {
         else {
             continue;
         };
-        let out = answered(run_in(&root, words), words);
+        let out = answer_in(&root, words);
         assert_eq!(out.lines().collect::<Vec<_>>(), shown, "{words}");
         runs += 1;
     }
@@ -44,7 +44,7 @@ fn the_table_of_commands() {
     let named = rows.flat_map(|row| row.split(" | ").next().unwrap_or_default().split(", "));
     let mut named: Vec<&str> =
         named.map(|command| command.trim_matches(['|', ' ', '`']).split(' ').next().unwrap_or_default()).collect();
-    let help = answered(run_in(&root, "--help"), "--help");
+    let help = answer_in(&root, "--help");
     let rows = help.lines().filter_map(|line| line.strip_prefix("  ")?.split(' ').next());
     let mut known: Vec<&str> = rows.filter(|name| !name.is_empty()).collect();
     named.sort_unstable();

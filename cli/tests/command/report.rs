@@ -1,6 +1,6 @@
 //! The page of `report`: its parts, and what a browser makes of it.
 
-use crate::common::{answer, answered, doors, folder, output, refused, run, run_in, run_with};
+use crate::common::{answer, answer_in, answer_with, doors, folder, output, refused, run, run_with};
 use std::io::Write;
 use std::path::Path;
 use std::process::{Command, Output};
@@ -43,8 +43,8 @@ fn words_to_listen_to_again() {
         [["9", "1", "forty", "20", "80"], ["9", "5", "sixty", "33", "80"], ["51", "3", "glass", "52", "122"]];
     assert_eq!(rows(&page, "margins"), expected);
     assert!(!page.contains("Costs within ranges"));
-    let none = run_with(&doors(), "report grammar.txt -", b"door 1; four 2; oak 3");
-    assert!(answered(none, "report").contains("<p>No other word brings another reading, however cheap it is.</p>"));
+    let none = answer_with(&doors(), "report grammar.txt -", b"door 1; four 2; oak 3");
+    assert!(none.contains("<p>No other word brings another reading, however cheap it is.</p>"));
     for nothing in ["../doors_graph/graph.txt", "utterance.txt --skip 20"] {
         let page = run(&format!("report grammar.txt {nothing}"));
         assert!(page.status == 0 && !page.out.contains("listen to again"), "{nothing}");
@@ -61,8 +61,8 @@ fn costs_within_ranges() {
     assert!(page.contains("<span>twenty</span><span class=\"number\">12–19</span>"), "{page}");
     let high =
         std::fs::read_to_string(doors().join("high.txt")).expect("the example").replace("twenty 19", "twenty 29");
-    let outweighed = run_with(&doors(), "report grammar.txt utterance.txt --high -", high.as_bytes());
-    assert!(answered(outweighed, "report").contains("<strong>The first reading can be outweighed</strong>"));
+    let outweighed = answer_with(&doors(), "report grammar.txt utterance.txt --high -", high.as_bytes());
+    assert!(outweighed.contains("<strong>The first reading can be outweighed</strong>"));
     // what is known for certain is so in both
     assert!(answer("report grammar.txt utterance.txt --high high.txt --said 1=forty").contains("first reading stands"));
     let none = run_with(&doors(), "report grammar.txt - --high high.txt", b"door 1");
@@ -86,7 +86,7 @@ fn names_are_text() {
         ("high", b"\"<&\\\">\" 3 | \"<b>\" 9"),
     ];
     let folder = folder("report_names", &files);
-    let page = answered(run_in(&folder, "report g u --high high"), "report");
+    let page = answer_in(&folder, "report g u --high high");
     assert!(page.contains("&lt;&amp;&quot;&gt;") && page.contains("&lt;b&gt;"));
     assert!(!page.contains("<b>") && !page.contains("<&"));
 }
@@ -160,7 +160,7 @@ fn a_browser_finds_room_for_every_text() {
         (format!("{examples}/doors_office/grammar.txt {examples}/doors_office/utterance.txt -n 256"), 0),
         ("g u -n 3".to_owned(), 0),
     ] {
-        let page = answered(run_in(&folder, &format!("report {command}")), &command);
+        let page = answer_in(&folder, &format!("report {command}"));
         std::fs::write(folder.join("probe.html"), page.replace("</body>", &format!("{PROBE}</body>"))).expect("a file");
         let run = open(browser, &folder, "probe.html", &["--dump-dom"]);
         let dom = String::from_utf8_lossy(&run.stdout);

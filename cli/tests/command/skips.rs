@@ -1,6 +1,6 @@
 //! Slots that may be passed over.
 
-use crate::common::{doors, folder, refused, run, run_in, run_with, Run};
+use crate::common::{doors, doors_graph, folder, refused, run, run_in, run_with, Run};
 
 const ANY: &str = "--skip 20: any number of slots in a row may be passed over\n";
 
@@ -84,7 +84,7 @@ fn as_many_in_a_row_as_there_is_room_for() {
 
 #[test]
 fn mistakes() {
-    let graph = run_in(&doors().join("../doors_graph"), "list grammar.txt graph.txt --skip 5");
+    let graph = run_in(&doors_graph(), "list grammar.txt graph.txt --skip 5");
     assert_eq!(refused(graph, 1), "--skip 5: a word graph has no slots\n");
     let words: Vec<String> = (0..5).map(|word| format!("A -> \"w{word}\"\n")).collect();
     let slot: Vec<String> = (0..5).map(|word| format!("w{word} 1")).collect();

@@ -1,6 +1,6 @@
 //! Help at every level, wrong usage, mistakes in files, pipes and empty input.
 
-use crate::common::{answer, answered, doors, folder, output, refused, run, run_in, run_with, PROGRAM};
+use crate::common::{answer, answer_in, answer_with, doors, folder, output, refused, run, run_in, run_with, PROGRAM};
 use spireyerba::Refusal;
 use std::io::Write;
 use std::path::Path;
@@ -174,7 +174,7 @@ fn mistakes_in_files() {
     ] {
         assert_eq!(refused(run_in(&folder, words), 1), format!("{message}\n"), "{words}");
     }
-    let list = answered(run_in(&folder, "list g word --drop-unknown"), "list");
+    let list = answer_in(&folder, "list g word --drop-unknown");
     assert_eq!(list, "1  7  x x\n");
     assert_eq!(run_in(&folder, "list g network --scale 100 --drop-deletes").status, 0);
 }
@@ -189,11 +189,11 @@ fn standard_input_stands_for_any_file() {
         ("list - utterance.bin", "grammar.txt"),
         ("list grammar.txt -", "utterance.bin"),
     ] {
-        assert_eq!(answered(run_with(&doors(), words, &read(file)), words), list);
+        assert_eq!(answer_with(&doors(), words, &read(file)), list);
     }
     let empty = run_with(&doors(), "list grammar.txt -", b"");
     assert_eq!(refused(empty, 1), "<stdin>:1:1: refused 13: there is no slot\n");
-    assert_eq!(answered(run_with(&doors(), "batch grammar.txt -", b""), "batch"), "");
+    assert_eq!(answer_with(&doors(), "batch grammar.txt -", b""), "");
 }
 
 #[test]

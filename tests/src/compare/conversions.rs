@@ -1,8 +1,10 @@
 //! The comparison of a conversion.
 
 use super::{Lent, Tally};
+use crate::conversions;
 use crate::seeded::rng::{Noise, Rng};
-use spireyerba::Refusal;
+use spireyerba::limits::{GRAMMAR_BLOCK_MAX, GRAMMAR_SHEET_MAX};
+use spireyerba::{services, Refusal};
 use std::fmt::Debug;
 use std::hash::Hash;
 
@@ -16,6 +18,17 @@ pub struct Conversion<I, O> {
     /// The length of the longest result.
     pub longest: usize,
 }
+
+pub const GRAMMAR_TO_BLOCK: Conversion<u32, u8> = Conversion {
+    library: |_, sheet, out| services::grammar_to_block(sheet, out),
+    second: |_, sheet, out| conversions::grammar_to_block(sheet, out),
+    longest: GRAMMAR_BLOCK_MAX,
+};
+pub const GRAMMAR_TO_SHEET: Conversion<u8, u32> = Conversion {
+    library: |_, block, out| services::grammar_to_sheet(block, out),
+    second: |_, block, out| conversions::grammar_to_sheet(block, out),
+    longest: GRAMMAR_SHEET_MAX,
+};
 
 impl<I: Noise + PartialEq + Debug + Hash, O: Noise + PartialEq + Debug> Conversion<I, O> {
     /// Compares on one input with outputs of several lengths: none, one short, exact and one more where the input is
@@ -33,6 +46,23 @@ impl<I: Noise + PartialEq + Debug + Hash, O: Noise + PartialEq + Debug> Conversi
                 self.compare_at(rng, tally, grammar, input, length);
             }
         }
+    }
+
+    /// Compares on each of these inputs.
+    pub fn compare_each(&self, rng: &mut Rng, tally: &mut Tally, grammar: &[u8], inputs: &[Vec<I>]) {
+        for input in inputs {
+            self.compare(rng, tally, grammar, input);
+        }
+    }
+
+    /// What both implementations make of one input, with room for the longest result.
+    pub fn answer(&self, grammar: &[u8], input: &[I]) -> Result<Vec<O>, Refusal> {
+        let [library, second] = [self.library, self.second].map(|service| {
+            let mut out = vec![O::cut(0xa5a5); self.longest];
+            service(grammar, input, &mut out).map(|length| out[..length].to_vec())
+        });
+        assert_eq!(library, second, "answers of the library and of the second implementation\n{input:?}");
+        library
     }
 
     /// Compares the answer and every slice after the call, guards included.

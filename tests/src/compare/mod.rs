@@ -12,7 +12,7 @@ pub mod word_margins;
 
 use crate::seeded::rng::{Noise, Rng};
 use spireyerba::Refusal;
-use std::collections::{BTreeMap, HashSet};
+use std::collections::{BTreeMap, BTreeSet, HashSet};
 use std::hash::{DefaultHasher, Hash, Hasher};
 use std::ops::Range;
 
@@ -73,19 +73,20 @@ impl Tally {
         }
     }
 
-    /// The refusals that were met.
-    pub fn refusals(&self) -> impl Iterator<Item = Refusal> + '_ {
-        self.refusals.keys().copied()
-    }
-
     pub fn accepted(&self) -> usize {
         self.calls - self.refusals.values().sum::<usize>()
     }
 
     /// Exactly these refusals were met, over at least so many different inputs.
     pub fn demand(&self, inputs: usize, refusals: &[Refusal]) {
-        let met: Vec<Refusal> = self.refusals().collect();
-        assert_eq!(met, refusals, "refusals met, refusals demanded");
+        self.demand_besides(&[], inputs, refusals);
+    }
+
+    /// The same, but that these others may have been met or not.
+    pub fn demand_besides(&self, others: &[Refusal], inputs: usize, refusals: &[Refusal]) {
+        let met: BTreeSet<Refusal> =
+            self.refusals.keys().copied().filter(|refusal| !others.contains(refusal)).collect();
+        assert_eq!(met, refusals.iter().copied().collect(), "refusals met, refusals demanded");
         println!("{} different inputs, {} calls", self.inputs.len(), self.calls);
         assert!(self.inputs.len() >= inputs, "{} different inputs, {inputs} demanded", self.inputs.len());
     }

@@ -3,7 +3,8 @@
 use super::rng::{Noise, Rng};
 use super::utterances::unheard;
 use super::{graphs, raw};
-use crate::{grammar, graph, utterance};
+use crate::grammar::{self, rule_width};
+use crate::{graph, utterance};
 use spireyerba::{Grammar, Graph, Utterance};
 
 /// Every proper prefix.
@@ -93,6 +94,15 @@ pub fn repeated_rule(rng: &mut Rng, grammar: &Grammar) -> Grammar {
     damaged
 }
 
+/// A number that some rule has, or one that its width can carry.
+pub fn rule_number(rng: &mut Rng, grammar: &Grammar) -> u32 {
+    if rng.once_in(4) {
+        rng.within(0..=(1 << rule_width(grammar)) - 1)
+    } else {
+        rng.below(grammar.rules.len()) as u32
+    }
+}
+
 /// Some damaged blocks of a grammar, of each kind of damage.
 pub fn some_grammar_blocks(rng: &mut Rng, grammar: &Grammar, count: usize) -> Vec<Vec<u8>> {
     let mut some = some_blocks(rng, &grammar::pack(grammar), count);
@@ -132,6 +142,17 @@ pub fn graph_blocks(rng: &mut Rng, grammar: &Grammar, graph: &Graph, most_flips:
     }
     all.push(raw::graph_block(rng, grammar.words));
     all
+}
+
+/// Blocks of a grammar and of what was heard, of which one is damaged: each of these grammars with what was heard, and the grammar
+/// with each of these.
+pub fn with_one_damaged(
+    [grammar, heard]: &[Vec<u8>; 2],
+    grammars: Vec<Vec<u8>>,
+    damaged: Vec<Vec<u8>>,
+) -> Vec<[Vec<u8>; 2]> {
+    let with_grammars = grammars.into_iter().map(|other| [other, heard.clone()]);
+    with_grammars.chain(damaged.into_iter().map(|other| [grammar.clone(), other])).collect()
 }
 
 fn some_blocks(rng: &mut Rng, block: &[u8], count: usize) -> Vec<Vec<u8>> {

@@ -13,6 +13,17 @@ pub enum Size {
     Greatest,
 }
 
+impl Size {
+    /// Mostly small, so that there is time for every way to damage what has this size.
+    pub fn any(rng: &mut Rng) -> Self {
+        match rng.below(40) {
+            0 => Self::Greatest,
+            1..=6 => Self::Middle,
+            _ => Self::Small,
+        }
+    }
+}
+
 /// How weights and costs are drawn.
 #[derive(Clone, Copy, Debug)]
 pub enum Weights {

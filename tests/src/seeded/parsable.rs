@@ -5,7 +5,8 @@ use super::graphs::with_edges;
 use super::rng::Rng;
 use super::utterances::{slot, Costs};
 use crate::grammar::words_of_rules;
-use spireyerba::limits::MAX_EDGES;
+use crate::heard::Heard;
+use spireyerba::limits::{MAX_EDGES, MAX_READINGS};
 use spireyerba::{Grammar, Graph, Utterance};
 use std::ops::RangeInclusive;
 
@@ -51,6 +52,18 @@ pub const GREATEST: Shape = Shape {
     candidates: 7..=7,
 };
 
+/// A shape, of those that take long only few.
+pub fn any_shape(rng: &mut Rng) -> &'static Shape {
+    match rng.below(100) {
+        0 => &GREATEST,
+        1..=10 => &LONG,
+        11..=25 => &MANY_SYMBOLS,
+        26..=50 => &SPARSE,
+        51..=75 => &TINY,
+        _ => &AMBIGUOUS,
+    }
+}
+
 /// The costs of what was heard brought below a bound.
 pub fn cheaper(utterance: &mut Utterance, bound: u32) {
     let candidates = utterance.slots.iter_mut().flatten().filter(|candidate| candidate.is_offered());
@@ -74,6 +87,28 @@ pub fn graph_case(rng: &mut Rng, shape: &Shape) -> (Grammar, Graph) {
     let grammar = grammar_of(rng, shape);
     let graph = graph_of(rng, &grammar, shape);
     (grammar, graph)
+}
+
+/// A grammar and what was heard, slots or a graph, of one of these shapes.
+pub fn heard_case(rng: &mut Rng, shapes: &[&Shape]) -> (Grammar, Heard) {
+    let shape = rng.pick(shapes);
+    if rng.once_in(2) {
+        let (grammar, graph) = graph_case(rng, shape);
+        (grammar, Heard::Graph(graph))
+    } else {
+        let (grammar, utterance) = case(rng, shape);
+        (grammar, Heard::Slots(utterance))
+    }
+}
+
+/// A number of readings that can be wanted, mostly few.
+pub fn wanted(rng: &mut Rng) -> u32 {
+    match rng.below(6) {
+        0 => 1,
+        1 => MAX_READINGS,
+        2 => rng.within(1..=MAX_READINGS),
+        _ => rng.within(2..=20),
+    }
 }
 
 fn grammar_of(rng: &mut Rng, shape: &Shape) -> Grammar {

@@ -81,3 +81,11 @@ pub fn any_grammar(rng: &mut Rng) -> Grammar {
         _ => grammar(rng, Size::Small),
     }
 }
+
+/// A grammar with the length up to which all strings can be tried: few words and strings of up to six, or all words and strings
+/// of one or two.
+pub fn of_few_strings(rng: &mut Rng) -> (Grammar, usize) {
+    let (words, longest) = if rng.once_in(10) { (MAX_WORDS, 2) } else { (rng.within(1..=3), 6) };
+    let (symbols, pairs, word_rules) = (rng.within(1..=4), rng.within(0..=6), rng.within(1..=6));
+    (with_rules(rng, symbols, words, pairs, word_rules), longest)
+}
