@@ -1,3 +1,4 @@
 pub mod Left
+pub mod StandIn
 pub mod Open
 pub mod Model
