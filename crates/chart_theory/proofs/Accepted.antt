@@ -160,7 +160,7 @@ module _ (g : Grammar) (h : Heard) (N : ℕ) where
     unfolding layOut rootWeight
     spelled-passed t x z derived reading = root-complete setting in-root (namesEdges h) t x derived (reading .tree) (reading .weighs)
 
-    -- and then rank x is the derivation of that place, or there is none
+    -- where the ranks of the root are known up to x, rank x is the derivation of that place, or there is none
     pub record Reached (t : List ℕ) (x : ℕ) : Type 0 where
       pub some : x < length (derivations g h)
           → (rootFound t layout x ≡ true) × (rootSpelled t rules edge-array (scope g h) layout x ≡ true) × ((z : Tree) × HoldsRank rules t x z)

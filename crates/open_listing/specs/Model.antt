@@ -58,7 +58,7 @@ pub record Planned (p : Plan) : Type 0 where
 module _ (t rules edges : List ℕ) (p : Plan) (x : ℕ) where
   -- whether rank x of the root is handed out, once it is found: the table spells a derivation there, of the weight of its price
   abbrev pub handsOut : Bool
-  handsOut = rootSpelled t rules edges (record { rules = p .form .rules; edges = p .edges }) (p .layout) x
+  handsOut = rootSpelled t rules edges (record { rules = p .form .rules; edges = p .edges; named = p .form .graph }) (p .layout) x
 
   -- the answer
   unfoldable pub settled : A.Answer
