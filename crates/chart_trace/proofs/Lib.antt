@@ -2,5 +2,6 @@
 pub mod Trace
 pub mod Pending
 pub mod Shape
+pub mod Leaf
 pub mod Spelled
 pub mod Weighing

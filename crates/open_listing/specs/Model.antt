@@ -60,7 +60,7 @@ pub record Planned (p : Plan) : Type 0 where
 module _ (t rules edges : List ℕ) (p : Plan) (x : ℕ) where
   -- whether the table spells a derivation at rank x of the root, of the weight of its price
   abbrev pub handsOut : Bool
-  handsOut = rootSpelled t rules edges (record { rules = p .form .rules; edges = p .edges }) (p .layout) x
+  handsOut = rootSpelled t rules edges (record { rules = p .form .rules; edges = p .edges; named = p .form .graph }) (p .layout) x
 
   -- the answer, where the rank is there, which the first test says
   unfoldable pub settled : Bool → A.Answer

@@ -6,7 +6,7 @@ use chart_table::Layout;
 use chart_table::MOST_RANKS;
 use chart_table::journal::JOURNAL_NUMBERS;
 use chart_table::zero;
-use chart_trace::checked::Counts;
+use chart_trace::checked::Scope;
 use grammar_reader::GrammarRead;
 use grammar_reader::Sizes;
 use heard_reader::HeardRead;
@@ -107,12 +107,13 @@ fn hand_out(
         × (now (out .exit) ≡ outputBy r (now (t .entry)) (now (rules .entry)) plan rank (now (out .entry))) ⌝ }
 {
     let d = plan.layout;
-    let counts = Counts {
+    let scope = Scope {
         rules: plan.form.rules,
         edges: plan.edges,
+        named: plan.form.graph,
     };
     let mut trace = [0u32; TRACE_LENGTH];
-    let numbers = steps::checked_root(t, rules, edges, counts, d, rank, &mut trace);
+    let numbers = steps::checked_root(t, rules, edges, scope, d, rank, &mut trace);
     if numbers == 0 {
         return false;
     }
