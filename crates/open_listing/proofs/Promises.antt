@@ -2,7 +2,7 @@
 use mathlib.Core.Path.{_≡_, refl, sym, _∙_}
 use mathlib.Core.Bool.{Bool, true, false, false≢true}
 use mathlib.Core.List.{List, _++_}
-use Prim.Native.Nat.{ℕ, suc, _+_, _-_, _*_, _≤_, _<_}
+use Prim.Native.Nat.{ℕ, suc, _+_, _≤_, _<_}
 use native.Mathlib.Numerals.{add-one, one-add}
 use native.Mathlib.Omega.{arith}
 use borrow.Author.Tests.{lt-ltb, le-ltb, eqb-true, eqb-false, not-true, not-false}
@@ -24,8 +24,9 @@ use Rattle.derivation.specs.HeardList.{derivations}
 use Rattle.derivation.specs.Rank.{Number}
 use Rattle.derivation.proofs.HeardTheorems.{least-element, least-length}
 use Rattle.chart.specs.Chart.{layOut, rootFound}
-use Rattle.chart_theory.proofs.Chart.{RootHas}
-use Rattle.chart_theory.proofs.Accepted.{layout, passed-spelled, Reached, rank-reached}
+use Rattle.chart_theory.specs.Spelled.{namesEdges, SpelledReading}
+use Rattle.chart_theory.proofs.Chart.{RootSpells, has-spells}
+use Rattle.chart_theory.proofs.Accepted.{layout, passed-spelled, spelled-passed, Reached, rank-reached}
 use Rattle.chart_theory.proofs.Search.Passes.{Listed}
 use Rattle.listing.specs.Listing.{tableSize}
 use Rattle.listing.specs.Demand3.{Ranked}
@@ -33,7 +34,6 @@ use Rattle.listing.proofs.Sizes.{size-is}
 use Rattle.listing.proofs.Blocks.{block-is}
 use Rattle.open_listing.specs.Left.{AsLeft}
 use Rattle.open_listing.specs.Open as S
-use Rattle.open_listing.specs.StandIn.{SpelledReading}
 use Rattle.open_listing.specs.Model.{Planned, isReading, handsOut, settled, Answered, Searched}
 use Rattle.open_listing.specs.declared.Place.{Place}
 use Rattle.open_listing.specs.declared.Answer as A
@@ -87,8 +87,8 @@ module _ (grammar heard : List ℕ) (g : Grammar) (h : Heard) (eg : grammarBlock
     nothing-left : (a : A.Answer) → r ≡ a → isReading a ≡ false → S.Unchanged grammar heard p work out r work′ out′
     nothing-left a e n = record { table = rw (e, n) at (answered .left); output = rw (e, n) at (answered .output) }
 
-    -- the reading that is written, of a derivation that the rank has
-    written : (z : Tree) → Derivation g h z → RootHas g (heardEdges h) rules (layout g h 256) table (p .handed) z → r ≡ Reading
+    -- the reading that is written, of a derivation that the rank spells
+    written : (z : Tree) → Derivation g h z → RootSpells (namesEdges h) g (heardEdges h) rules (layout g h 256) table (p .handed) z → r ≡ Reading
         → out′ ≡ packed g h z ++ drop (outputLength g h) out
     unfolding layOut
     written z derived has e =
@@ -99,7 +99,7 @@ module _ (grammar heard : List ℕ) (g : Grammar) (h : Heard) (eg : grammarBlock
     one-more e looked hands =
         let (z, derived, has, spelled) = passed-spelled g h 256 okg okh (omega arith) (omega arith) rules edges begun begun′ table (p .handed) hands in
         let left : work′ ≡ table = rw e at (answered .left) in
-        rw left (record { tree = z; derivation = derived; written = written z derived has e; spelled = planned .laws .passed g h table (p .handed) z spelled; looked = looked })
+        rw left (record { tree = z; derivation = derived; written = written z derived has e; spelled = spelled; looked = looked })
 
     answer-is : r ≡ pick found (pick (handsOut table rules edges (plan g h) (p .handed)) Reading (Refused 53)) NoMore
     unfolding settled
@@ -115,7 +115,8 @@ module _ (grammar heard : List ℕ) (g : Grammar) (h : Heard) (eg : grammarBlock
     called-by opened looked astray missing = go found (handsOut table rules edges (plan g h) (p .handed)) refl refl answer-is
       where
         none-passes : handsOut table rules edges (plan g h) (p .handed) ≡ false → NonePasses
-        none-passes f z derived spelled = false≢true (sym f ∙ planned .laws .spelled g h table rules edges (p .handed) z spelled)
+        none-passes f z derived spelled =
+            false≢true (sym f ∙ spelled-passed g h 256 okg okh (omega arith) (omega arith) rules edges begun begun′ table (p .handed) z derived spelled)
 
         go : (a b : Bool) → found ≡ a → handsOut table rules edges (plan g h) (p .handed) ≡ b → r ≡ pick a (pick b Reading (Refused 53)) NoMore
             → S.Called grammar heard p work out r work′ out′
@@ -128,7 +129,7 @@ module _ (grammar heard : List ℕ) (g : Grammar) (h : Heard) (eg : grammarBlock
       → Answered true work rules edges (plan g h) (p .handed) work out r work′ out′ → S.Called grammar heard p work out r work′ out′
   as-it-is-called first opened dirty looked answered =
       called-by (omega arith) work answered opened looked
-      (λ is none. record { looked = looked; none = none; first-found = λ z front. absurd (dirty front); later-found = λ some. absurd (omega arith) })
+      (λ is none. record { looked = looked; none = none; later-found = λ some. absurd (omega arith); first-found = λ z front. absurd (dirty front) })
       (λ is. absurd (false≢true (sym is)))
 
   -- of a table in which the rank was looked for
@@ -141,8 +142,8 @@ module _ (grammar heard : List ℕ) (g : Grammar) (h : Heard) (eg : grammarBlock
         called-by below table searched opened looked
         (λ is none.
         let some : 0 < price = omega (arith, eqb-false price 0 (not-true (eqb price 0) is)) in
-        record { looked = looked; none = none; first-found = λ z f. some; later-found = λ l. some })
-        (λ is. record { looked = looked; none = eqb-true price 0 (not-false (eqb price 0) is); front = front })
+        record { looked = looked; none = none; later-found = λ l. some; first-found = λ z f. some })
+        (λ is. record { looked = looked; missing = eqb-true price 0 (not-false (eqb price 0) is); front = front })
 
     -- where the ranks of the root are known up to the one that was looked for
     module _ (known : Listed g (heardEdges h) (layout g h 256) (p .handed) table) where
@@ -171,7 +172,7 @@ module _ (grammar heard : List ℕ) (g : Grammar) (h : Heard) (eg : grammarBlock
                 no-other = λ s c also. let there = least-element g h 256 (p .handed) s .1 (c, rw (one-add (p .handed)) also, few) in cc;
               },
               reads,
-              written below table searched z derived (rank .has) reads,
+              written below table searched z derived (has-spells (namesEdges h) (rank .has)) reads,
               rw (left, reads) (record { handed = add-one (p .handed); opened = opened; table = known }),
             )
 

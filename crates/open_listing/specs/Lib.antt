@@ -1,4 +1,3 @@
 pub mod Left
-pub mod StandIn
 pub mod Open
 pub mod Model

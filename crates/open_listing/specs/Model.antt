@@ -21,7 +21,6 @@ use Rattle.listing.specs.Model.{formOf, FormFor, blockAt}
 use Rattle.grammar_reader.specs.Answer.{sizes}
 use Rattle.grammar_reader.specs.declared.Sizes.{Sizes}
 use Rattle.heard_reader.specs.Answer.{heardSize}
-use Rattle.open_listing.specs.StandIn.{Laws}
 use Rattle.open_listing.specs.Open.{opening, openedOf, tableOpened, Called, Kept}
 use Rattle.open_listing.specs.declared.Place.{Place}
 use Rattle.open_listing.specs.declared.Plan.{Plan}
@@ -55,7 +54,6 @@ pub record Planned (p : Plan) : Type 0 where
   pub form : FormFor (p .layout .places) (p .form)
   pub size : p .form .size ≤ 73
   pub edges : p .edges ≤ 256
-  pub laws : Laws (p .layout)
 
 module _ (t rules edges : List ℕ) (p : Plan) (x : ℕ) where
   -- whether the table spells a derivation at rank x of the root, of the weight of its price
