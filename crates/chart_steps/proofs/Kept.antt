@@ -102,7 +102,8 @@ module _ (rules edges index : List ℕ) (d : Layout) where
 
   -- the tree of a rank of a cell that is found
   pub search-keeps : (t : List ℕ) (x c rank : ℕ) → 0 < priceAt t d c rank
-      → (priceAt (nextOfRoot rules edges index d t x) d c rank ≡ priceAt t d c rank) × (backAt (nextOfRoot rules edges index d t x) d c rank ≡ backAt t d c rank)
+      → (priceAt (nextOfRoot rules edges index d t x) d c rank ≡ priceAt t d c rank)
+      × (backAt (nextOfRoot rules edges index d t x) d c rank ≡ backAt t d c rank)
   unfolding priceAt backAt
   search-keeps t x c rank found = go (ltb rank (d .ranks)) found
     where
@@ -110,7 +111,8 @@ module _ (rules edges index : List ℕ) (d : Layout) where
       u = nextOfRoot rules edges index d t x
 
       go : (b : Bool) → 0 < pick b (priceIn t (entryOf d c rank)) 0
-          → (pick b (priceIn u (entryOf d c rank)) 0 ≡ pick b (priceIn t (entryOf d c rank)) 0) × (getD u (entryOf d c rank + 2) 0 ≡ getD t (entryOf d c rank + 2) 0)
+          → (pick b (priceIn u (entryOf d c rank)) 0 ≡ pick b (priceIn t (entryOf d c rank)) 0)
+          × (getD u (entryOf d c rank + 2) 0 ≡ getD t (entryOf d c rank + 2) 0)
       go true found =
           let f = fourth d c rank in
           let same = root-keeps t x .trees (f .quarter) (rw (f .is) at found) in

@@ -131,8 +131,8 @@ module _ (rules edges : List ℕ) (q : Plan) (planned : Planned q) (p : Place) (
             let s₃ : Searched table rules edges (plan g h) (p .handed) work out a work′ out′ = rw is at s₂ in
             let below : p .handed < 256 = omega arith in
             let front : S.FrontZero g h work = front-zero grammar heard g h eg eh is clear in (
-              called grammar heard g h eg eh rules edges begun begun′ (planned′ grammar heard g h eg eh is) p work out (calls grammar heard g h eg eh is) below table s₃ opened
-                  (steps.first-looked g h okg okh rules edges begun begun′ work p front none) (λ z. front),
+              called grammar heard g h eg eh rules edges begun begun′ (planned′ grammar heard g h eg eh is) p work out (calls grammar heard g h eg eh is)
+                  below table s₃ opened (steps.first-looked g h okg okh rules edges begun begun′ work p front none) (λ z. front),
               kept grammar heard g h eg eh is begun begun′ below table s₂ (λ k left.
                   let zero-left : TableAfter g h 0 work = rw (← left .handed, none) at (left .table) in
                   rw none (steps.first-known g h okg okh rules edges begun begun′ work (fits grammar heard g h eg eh is) zero-left)),
@@ -173,8 +173,8 @@ module _ (rules edges : List ℕ) (q : Plan) (planned : Planned q) (p : Place) (
           let s₂ : Searched table rules edges q (p .handed) work out a work′ out′ = rw (ap (λ (y : Plan). nextTable rules edges y x work) is) at s in
           let s₃ : Searched table rules edges (plan g h) (p .handed) work out a work′ out′ = rw is at s₂ in
           let next : suc x ≡ p .handed = omega arith in (
-            called grammar heard g h eg eh rules edges begun begun′ (planned′ grammar heard g h eg eh is) p work out (calls grammar heard g h eg eh is) below table s₃ opened
-                (steps.later-looked g h okg okh rules edges begun begun′ work p some) (λ z. absurd (omega arith)),
+            called grammar heard g h eg eh rules edges begun begun′ (planned′ grammar heard g h eg eh is) p work out (calls grammar heard g h eg eh is)
+                below table s₃ opened (steps.later-looked g h okg okh rules edges begun begun′ work p some) (λ z. absurd (omega arith)),
             kept grammar heard g h eg eh is begun begun′ below table s₂ (λ k left.
                 let before : TableAfter g h (suc x) work = rw (← left .handed, ← next) at (left .table) in
                 let known = steps.later-known g h okg okh rules edges begun begun′ work x (omega arith) before in

@@ -95,7 +95,8 @@ module _ (grammar heard : List ℕ) (g : Grammar) (h : Heard) (eg : grammarBlock
         rw e at (answered .output)
         ∙ rw (block-is g 256 rules table h (planned .form .some-place) (planned .form .places) (p .handed) z has derived, size-is g h)
 
-    one-more : r ≡ Reading → S.Looked g h p work table → handsOut table rules edges (plan g h) (p .handed) ≡ true → S.OneMore grammar heard p work out r work′ out′ g h
+    one-more : r ≡ Reading → S.Looked g h p work table → handsOut table rules edges (plan g h) (p .handed) ≡ true
+        → S.OneMore grammar heard p work out r work′ out′ g h
     one-more e looked hands =
         let (z, derived, has, spelled) = passed-spelled g h 256 okg okh (omega arith) (omega arith) rules edges begun begun′ table (p .handed) hands in
         let left : work′ ≡ table = rw e at (answered .left) in

@@ -22,8 +22,8 @@ use Rattle.open_listing.proofs.Zeros.{zeros-are}
 
 -- the new table stays where a reading is handed out, and something else where not
 module _ (table rules edges : List ℕ) (p : Plan) (x : ℕ) (work out : List ℕ) where
-  pub stays : {r : A.Answer} {b : Bool} {t out′ : List ℕ} → t ≡ table → r ≡ settled t rules edges p x (rootFound t (p .layout) x) → out′ ≡ outputBy (isReading r) t rules p x out
-      → b ≡ isReading r → b ≡ true → Searched table rules edges p x work out r t out′
+  pub stays : {r : A.Answer} {b : Bool} {t out′ : List ℕ} → t ≡ table → r ≡ settled t rules edges p x (rootFound t (p .layout) x)
+      → out′ ≡ outputBy (isReading r) t rules p x out → b ≡ isReading r → b ≡ true → Searched table rules edges p x work out r t out′
   stays {r} e answer output is reading = record {
     answer = answer ∙ ap (λ (t : List ℕ). settled t rules edges p x (rootFound t (p .layout) x)) e;
     left = e ∙ rw (← is, reading);
