@@ -115,7 +115,8 @@ module _ {g : Grammar} {es : List Edge} {rules edges index : List ℕ} {d : Layo
         let (v, held) = listed .invariant .holds x in-root found in
         let (z, place, o) = held .place in
         let derives = row-derives g es o in
-        let spelled : (named : Bool) → Spelled g named d t z (root d) x = λ named. found-spelled s t (listed .invariant) named (d .places) (root d) x z in-root (omega arith) found place in (
+        let spelled : (named : Bool) → Spelled g named d t z (root d) x =
+        λ named. found-spelled s t (listed .invariant) named (d .places) (root d) x z in-root (omega arith) found place in (
           z,
           record {
             place = place;

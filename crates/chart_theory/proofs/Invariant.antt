@@ -26,7 +26,7 @@ use Rattle.chart_theory.proofs.Table.Entries.{InEntry}
 use Rattle.chart_theory.proofs.Queue.Numbers.{tagAt}
 use Rattle.chart_theory.proofs.Queue.Pool.{Queue, Fresh}
 
--- the arrays hold the grammar and the edges, the index is theirs, and a key has room for all of their numbers
+-- the arrays hold the grammar and the edges, the index is theirs, a key has room for all of their numbers, and by one rule a cell has one leaf
 pub record Setting (g : Grammar) (es : List Edge) (rules edges index : List ℕ) (d : Layout) : Type 0 where
   pub kept : 0 < d .ranks
   pub few-ranks : d .ranks ≤ 256

@@ -34,10 +34,11 @@ add-t11 c = search needs
 
 returns : tie.Need-returns Inv-loop μ-loop
 returns c =
-    let c₃ = c .before .before .before in
+    let c₂ = c .before .before in
+    let c₃ = c₂ .before in
     let c₅ = c₃ .before .before in (
-      leaf-read _ _ _ _ _ _ (c₃ .edge-cost .ensures) (c .before .before .if1 .taken) (c .before .wide .ensures .0) (c .wide2 .ensures .0)
-          ∙ sym (c₅ .loop .inv .1 ∙ last-fits _ _ _ _ _ (c₅ .loop .e) (c₃ .before .loop-test .taken) (fits _ _ _ _ _ _ (c₃ .edge-cost .ensures) (c .before .before .if1 .taken))),
+      leaf-read _ _ _ _ _ _ (c₃ .edge-cost .ensures) (c₂ .if1 .taken) (c .before .wide .ensures .0) (c .wide2 .ensures .0)
+          ∙ sym (c₅ .loop .inv .1 ∙ last-fits _ _ _ _ _ (c₅ .loop .e) (c₃ .before .loop-test .taken) (fits _ _ _ _ _ _ (c₃ .edge-cost .ensures) (c₂ .if1 .taken))),
       omega (arith, c .before .wide .ensures .1, c .wide2 .ensures .1),
     )
 

@@ -18,10 +18,12 @@ add-t11 : tie.Need-add-t11
 add-t11 c = search needs
 
 returns : tie.Need-returns
-returns c = (
-  rw (fits _ _ _ _ _ _ (c .before .before .before .edge-cost .ensures) (c .before .before .if1 .taken)) (leaf-read _ _ _ _ _ _ (c .before .before .before .edge-cost .ensures) (c .before .before .if1 .taken) (c .before .wide .ensures .0) (c .wide2 .ensures .0)),
-  omega (arith, c .before .wide .ensures .1, c .wide2 .ensures .1),
-)
+returns c =
+    let c₂ = c .before .before in
+    let c₃ = c₂ .before in (
+      rw (fits _ _ _ _ _ _ (c₃ .edge-cost .ensures) (c₂ .if1 .taken)) (leaf-read _ _ _ _ _ _ (c₃ .edge-cost .ensures) (c₂ .if1 .taken) (c .before .wide .ensures .0) (c .wide2 .ensures .0)),
+      omega (arith, c .before .wide .ensures .1, c .wide2 .ensures .1),
+    )
 
 returns-2 : tie.Need-returns-2
 returns-2 c = (rw (unfit _ _ _ _ _ _ (c .before .before .edge-cost .ensures) (c .before .if1 .left), c .if2 .taken), omega arith)
@@ -30,7 +32,9 @@ any-leaf-requires : tie.Need-any-leaf-requires
 any-leaf-requires c κs = search needs
 
 returns-3 : tie.Need-returns-3
-returns-3 c = (rw (unfit _ _ _ _ _ _ (c .before .before .before .edge-cost .ensures) (c .before .before .if1 .left), c .before .if2 .left) (c .any-leaf .ensures .0), c .any-leaf .ensures .1)
+returns-3 c =
+    let c₂ = c .before .before in
+    (rw (unfit _ _ _ _ _ _ (c₂ .before .edge-cost .ensures) (c₂ .if1 .left), c .before .if2 .left) (c .any-leaf .ensures .0), c .any-leaf .ensures .1)
 
 pub checked-leaf-spec : {M : Type 1} → statement M
 checked-leaf-spec =
