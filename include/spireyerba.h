@@ -450,12 +450,15 @@ enum {
 ** more in all, for a graph with P - 1 for n: no call does the work of the whole
 ** listing.
 **
-** Where place or work was altered, or the blocks are others, a call ends, and what
-** it hands out passes the check (that of a graph cut to its own length).
+** Where place or work was altered, or the blocks are others, a call ends, what it
+** hands out passes the check (that of a graph cut to its own length), and no tree
+** that stands in work is written over. If numbers stand in work for the reading that
+** is asked for, it is handed out if they spell one that passes the check; of slots
+** no edge number counts for that, since a reading of slots has none.
 **
 ** Refuses for the blocks, then with LISTING_WORK, LISTING_OUTPUT, and last of all
 ** with ALTERED_WALK: a place that was never opened, or altered numbers that spell no
-** reading. NEXT_FULL comes before it.
+** reading that passes. NEXT_FULL comes before it.
 */
 int32_t spireyerba_next(
     const uint8_t *grammar, size_t grammar_len,

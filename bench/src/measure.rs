@@ -10,7 +10,12 @@ pub struct Plan {
 }
 
 /// The median time of one call of each function.
-pub fn medians<const COUNT: usize>(plan: Plan, mut functions: [&mut dyn FnMut(); COUNT]) -> [Duration; COUNT] {
+pub fn medians<const COUNT: usize>(plan: Plan, functions: [&mut dyn FnMut(); COUNT]) -> [Duration; COUNT] {
+    samples(plan, functions).map(median)
+}
+
+/// The times of one call of each function, round by round.
+pub fn samples<const COUNT: usize>(plan: Plan, mut functions: [&mut dyn FnMut(); COUNT]) -> [Vec<Duration>; COUNT] {
     let mut samples = [(); COUNT].map(|()| Vec::with_capacity(plan.rounds));
     for _ in 0..plan.rounds {
         for (function, samples) in functions.iter_mut().zip(&mut samples) {
@@ -21,7 +26,7 @@ pub fn medians<const COUNT: usize>(plan: Plan, mut functions: [&mut dyn FnMut();
             samples.push((thread_time() - begin) / plan.calls);
         }
     }
-    samples.map(median)
+    samples
 }
 
 /// The median of some times.
@@ -90,7 +95,24 @@ pub fn micros(time: Duration) -> String {
 
 /// How long the first takes beside the second.
 pub fn ratio(first: Duration, second: Duration) -> String {
-    format!("{:.2}", first.as_secs_f64() / second.as_secs_f64())
+    format!("{:.2}", quotient(first, second))
+}
+
+/// How long the first takes without `apart`, beside the second: the median over all rounds, so that what disturbs a round disturbs
+/// its three times alike.
+pub fn ratio_of_rounds(first: &[Duration], apart: &[Duration], second: &[Duration]) -> String {
+    let mut ratios: Vec<f64> = first
+        .iter()
+        .zip(apart)
+        .zip(second)
+        .map(|((first, apart), second)| quotient(first.saturating_sub(*apart), *second))
+        .collect();
+    ratios.sort_unstable_by(f64::total_cmp);
+    format!("{:.2}", ratios[ratios.len() / 2])
+}
+
+fn quotient(first: Duration, second: Duration) -> f64 {
+    first.as_secs_f64() / second.as_secs_f64()
 }
 
 #[cfg(test)]
@@ -102,6 +124,14 @@ mod tests {
         assert_eq!(micros(Duration::from_nanos(1_234)), "1.23");
         assert_eq!(micros(Duration::from_micros(1_234)), "1234");
         assert_eq!(ratio(Duration::from_micros(3), Duration::from_micros(4)), "0.75");
+    }
+
+    #[test]
+    fn a_ratio_of_rounds_is_of_one_round() {
+        let times = |numbers: [u64; 3]| numbers.map(Duration::from_micros);
+        // 6 / 4, 30 / 40, 7 / 7
+        let (first, apart, second) = (times([8, 50, 7]), times([2, 20, 0]), times([4, 40, 7]));
+        assert_eq!(ratio_of_rounds(&first, &apart, &second), "1.00");
     }
 
     #[test]

@@ -1,7 +1,7 @@
 //! Readings one by one: opening a listing and taking its readings, up to 256, beside the listing of 256.
 
 use crate::inputs::{graphs, greatest, shapes, Input};
-use crate::measure::{medians, micros, ratio, Plan};
+use crate::measure::{median, micros, ratio_of_rounds, samples, Plan};
 use crate::office;
 use crate::table::{print_head, print_row};
 use spireyerba::limits::{work_length, MAX_READINGS};
@@ -30,7 +30,7 @@ pub fn print_table() {
         let lent = RefCell::new(lent);
         let calls = |call: fn(&mut Lent)| (0..found).for_each(|_| call(&mut lent.borrow_mut()));
         // in this order, since the listing leaves the table all zeros, which `find_nothing` needs
-        let [single, whole, indexed, read] = medians(
+        let [single, whole, indexed, read] = samples(
             PLAN,
             [
                 &mut || lent.borrow_mut().one_by_one(found),
@@ -40,8 +40,9 @@ pub fn print_table() {
             ],
         );
         let apart = [read, indexed];
-        let each = apart.map(|time| micros(time / found.max(1) as u32));
-        let ratios = apart.map(|time| ratio(single.saturating_sub(time), whole));
+        let ratios = apart.each_ref().map(|apart| ratio_of_rounds(&single, apart, &whole));
+        let each = apart.map(|times| micros(median(times) / found.max(1) as u32));
+        let [whole, single] = [whole, single].map(median);
         let sizes = [input.heard.longest(), found].map(|number| number.to_string());
         print_row(input.name, &[&sizes[..], &[whole, single].map(micros), &each, &ratios].concat());
     }

@@ -1,12 +1,13 @@
 //! Readings one by one (document 02, N2), from the full list: a call after k readings hands out number k + 1 of it.
 //!
-//! And which ranks a work table shows to be found, as docs/ARCHITECTURE.md draws it.
+//! And which ranks a work table shows to be found, and what they spell, as docs/ARCHITECTURE.md draws it.
 
-use crate::grammar;
+use crate::graph_reading::{self, Node};
 use crate::heard::Heard;
+use crate::{grammar, reading};
 use spireyerba::limits::{work_length, MAX_READINGS};
 use spireyerba::services::{Next, Place};
-use spireyerba::{Grammar, Refusal};
+use spireyerba::{Body, Grammar, Reading, Refusal};
 
 const RANKS: usize = MAX_READINGS as usize;
 
@@ -89,20 +90,110 @@ impl Listed {
     /// ranks.
     pub fn found(&self, work: &[u32]) -> Vec<usize> {
         let mut found = vec![0; self.cells()];
-        let entries = work[..self.work_length()].chunks_exact(ENTRY).map(is_found);
+        let entries = work[..self.work_length()].chunks_exact(ENTRY).map(|entry| price(entry) != 0);
         for (number, _) in entries.enumerate().filter(|(_, is_found)| *is_found) {
             let cell = if number < found.len() { number } else { (number - found.len()) / (RANKS - 1) };
             found[cell] += 1;
         }
         found
     }
+
+    /// Where the back pointers of found leaves stand.
+    pub fn leaves(&self, work: &[u32]) -> Vec<usize> {
+        let is_word_rule = |rule: u32| matches!(self.grammar.rules.get(rule as usize), Some(rule) if matches!(rule.body, Body::Word(_)));
+        let entries = work[..self.work_length()].chunks_exact(ENTRY).enumerate();
+        let leaves = entries.filter(|(_, entry)| price(entry) != 0 && is_word_rule(entry[2] >> 21));
+        leaves.map(|(number, _)| ENTRY * number + 2).collect()
+    }
+
+    /// Whether the first ranks of all spans and heads are as opening leaves them.
+    pub fn front_is_zero(&self, work: &[u32]) -> bool {
+        work[..ENTRY * self.cells()].iter().all(|number| *number == 0)
+    }
+
+    /// The reading that a rank of the whole spells in a table, of its own length, if numbers spell one at all; nothing if that rank
+    /// is not found.
+    pub fn spelled(&self, work: &[u32], rank: usize) -> Option<Option<Vec<u8>>> {
+        let whole = Part { head: 0, from: 0, to: self.heard.longest(), rank };
+        let Entry { price, .. } = self.entry(work, whole)?;
+        let weight = ((price - 1) / WEIGHT_UNIT) as u32;
+        let mut nodes = Vec::new();
+        Some(self.trace(work, whole, &mut nodes).map(|()| match &self.heard {
+            Heard::Slots(_) => {
+                let walk = nodes.iter().map(|(rule, _)| *rule).collect();
+                reading::pack(&self.grammar, &Reading { weight, walk })
+            }
+            Heard::Graph(_) => {
+                let edges = nodes.iter().filter(|(_, edge)| edge.is_some()).count() as u32;
+                graph_reading::pack_nodes(&self.grammar, edges, weight, &nodes)
+            }
+        }))
+    }
+
+    /// Appends the nodes that a part spells, or nothing where a rank is not found or a number stands for nothing there.
+    fn trace(&self, work: &[u32], part: Part, nodes: &mut Vec<Node>) -> Option<()> {
+        let Entry { rule, split, left, right, .. } = self.entry(work, part)?;
+        let Part { from, to, .. } = part;
+        match self.grammar.rules.get(rule as usize)?.body {
+            Body::Word(_) => nodes.push((rule, self.edge_over(from, to, left)?)),
+            Body::Pair(first, second) => {
+                if !(from + 1..to).contains(&split) {
+                    return None;
+                }
+                nodes.push((rule, None));
+                self.trace(work, Part { head: first, from, to: split, rank: left }, nodes)?;
+                self.trace(work, Part { head: second, from: split, to, rank: right }, nodes)?;
+            }
+        }
+        Some(())
+    }
+
+    /// The edge that a leaf over a span names, if there is such an edge; of slots no edge is named.
+    fn edge_over(&self, from: usize, to: usize, number: usize) -> Option<Option<u32>> {
+        let Heard::Graph(graph) = &self.heard else {
+            return Some(None);
+        };
+        let edge = graph.edges.get(number)?;
+        ((edge.from as usize, edge.to as usize) == (from, to)).then_some(Some(number as u32))
+    }
+
+    /// What stands in the entry of a part, if that is found.
+    fn entry(&self, work: &[u32], Part { head, from, to, rank }: Part) -> Option<Entry> {
+        let cell = (to * (to - 1) / 2 + from) * self.grammar.symbols as usize + head as usize;
+        let number = if rank == 0 { cell } else { self.cells() + cell * (RANKS - 1) + rank - 1 };
+        let entry = &work[ENTRY * number..][..ENTRY];
+        let price = price(entry);
+        let [split, left, right] = [16, 8, 0].map(|shift| (entry[2] >> shift) as usize);
+        let found = Entry { price, rule: entry[2] >> 21, split: split & 0x1f, left: left & 0xff, right: right & 0xff };
+        (price != 0).then_some(found)
+    }
 }
 
-/// The numbers of an entry, and the bits of the second that belong to the price.
+/// A rank of a head over a span.
+#[derive(Clone, Copy)]
+struct Part {
+    head: u32,
+    from: usize,
+    to: usize,
+    rank: usize,
+}
+
+/// A tree as an entry has it: its price plus 1, its rule, where its parts meet, and their ranks; a leaf's edge stands for the left
+/// one.
+struct Entry {
+    price: u64,
+    rule: u32,
+    split: usize,
+    left: usize,
+    right: usize,
+}
+
+/// The numbers of an entry, the bits of the second that belong to the price, and what a weight of 1 adds to a price.
 const ENTRY: usize = 4;
 const PRICE_HIGH: u32 = 0x7ff;
+const WEIGHT_UNIT: u64 = 24 << 16;
 
-/// Whether a tree stands in an entry: its price plus 1 is not 0.
-fn is_found(entry: &[u32]) -> bool {
-    entry[0] != 0 || entry[1] & PRICE_HIGH != 0
+/// The price plus 1 of an entry's tree, 0 where none stands there.
+fn price(entry: &[u32]) -> u64 {
+    u64::from(entry[1] & PRICE_HIGH) << 32 | u64::from(entry[0])
 }

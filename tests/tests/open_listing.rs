@@ -218,6 +218,44 @@ fn altered_places_and_tables() {
     met.demand(48_000, 1_000);
 }
 
+/// Nothing but the edge number of one found leaf is altered. A reading of slots has no edge numbers, so its walk is one that passes
+/// still, and the reading is handed out as if nothing had been altered; of a graph its edge is another or none.
+#[test]
+fn altered_edges() {
+    let (mut of_slots, mut of_graphs) = (Met::default(), Met::default());
+    over_seeds(47_000..49_000, |rng| {
+        let (grammar, heard) = heard_case(rng, &[&TINY, &AMBIGUOUS, &SPARSE]);
+        let blocks = [grammar::pack(&grammar), heard.pack(&grammar)];
+        let blocks = [&blocks[0][..], &blocks[1]];
+        let listed = Listed::new(blocks[0], blocks[1]).expect("accepted");
+        let calls = 1 + rng.below(4);
+        let mut state = opened(rng, blocks, &listed, calls);
+        let handed = state.place().handed;
+        let leaves = listed.leaves(state.work.slice());
+        if leaves.is_empty() {
+            return;
+        }
+        let at = rng.pick(&leaves);
+        let bits = rng.within(1..=255) << 8;
+        state.work.slice_mut()[at] ^= bits;
+        for rank in 0..handed {
+            *state.place() = Place { handed: rank, opened: 1 };
+            let before = state.clone();
+            let answer = expect_sound(rng, blocks, &listed, &mut state, listed.reading_length());
+            state = before;
+            match heard {
+                Heard::Slots(_) => {
+                    assert_eq!(answer, Ok(Next::Reading));
+                    of_slots.count(answer);
+                }
+                Heard::Graph(_) => of_graphs.count(answer),
+            }
+        }
+    });
+    println!("slots {of_slots:?}, graphs {of_graphs:?}");
+    assert!(of_slots.0[1] > 1_000 && of_graphs.0[1] > 500 && of_graphs.0[3] > 300, "{of_slots:?} {of_graphs:?}");
+}
+
 /// The table of one utterance or grammar lent to a call with another, which may need as much room or less.
 #[test]
 fn other_blocks() {

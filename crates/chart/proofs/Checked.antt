@@ -11,7 +11,7 @@ use Rattle.bits.specs.Bits.{pick}
 use Rattle.packing.specs.Store.{storeAll}
 use Rattle.chart_table.specs.declared.Layout.{Layout}
 use Rattle.chart_table.specs.Table.{root}
-use Rattle.chart_trace.specs.declared.checked.Counts.{Counts}
+use Rattle.chart_trace.specs.declared.checked.Scope.{Scope}
 use Rattle.chart_trace.specs.declared.checked.Traced.{Traced}
 use Rattle.chart_trace.specs.declared.checked.Traced.the-variants.{Tree, Nothing}
 use Rattle.chart_trace.specs.Trace.{traceBack}
@@ -27,13 +27,13 @@ by-tree none n m w e = let z : _≡_ {A = ℕ} 0 1 = cc in absurd (omega arith)
 by-tree (some v) n m w e = (cc, cc)
 
 -- what the root spells, and its trace
-abbrev spelled : (t rules edges : List ℕ) → Counts → Layout → ℕ → Option ℕ
+abbrev spelled : (t rules edges : List ℕ) → Scope → Layout → ℕ → Option ℕ
 spelled t rules edges k d rank = spelledWeight t rules edges k d (d .places) (root d) rank
 
 abbrev numbers : (t rules : List ℕ) → Layout → ℕ → List ℕ
 numbers t rules d rank = traceBack t rules d (d .places) (root d) rank
 
-module _ (t rules edges : List ℕ) (k : Counts) (d : Layout) (rank : ℕ) {r : Traced} {trace : List ℕ} (trace₀ : List ℕ)
+module _ (t rules edges : List ℕ) (k : Scope) (d : Layout) (rank : ℕ) {r : Traced} {trace : List ℕ} (trace₀ : List ℕ)
     (traced : (r ≡ tracedOf (spelled t rules edges k d rank) (length (numbers t rules d rank)))
     × ((w : ℕ) → spelled t rules edges k d rank ≡ some w → trace ≡ storeAll trace₀ 0 (numbers t rules d rank))) where
   -- what is answered, and what is written where the root spells a tree

@@ -14,7 +14,7 @@ use Rattle.chart_index.specs.Build.{makeIndex}
 use Rattle.chart_search.specs.Search.{search}
 use Rattle.chart_trace.specs.Trace.{traceBack}
 use Rattle.chart_trace.specs.Checked.{spelledWeight}
-use Rattle.chart_trace.specs.declared.checked.Counts.{Counts}
+use Rattle.chart_trace.specs.declared.checked.Scope.{Scope}
 
 -- the layout of a table for N ranks of each cell, over S symbols and n places
 unfoldable pub layOut : ℕ → ℕ → ℕ → Layout
@@ -44,5 +44,5 @@ abbrev pub weighs : Option ℕ → ℕ → Bool
 weighs none w = false
 weighs (some v) w = eqb v w
 
-unfoldable pub rootSpelled : (t rules edges : List ℕ) → Counts → Layout → ℕ → Bool
+unfoldable pub rootSpelled : (t rules edges : List ℕ) → Scope → Layout → ℕ → Bool
 rootSpelled t rules edges k d rank = weighs (spelledWeight t rules edges k d (d .places) (root d) rank) (rootWeight t d rank)

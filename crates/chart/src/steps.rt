@@ -9,7 +9,7 @@ use chart_table::cell_number;
 use chart_table::journal::put_back;
 use chart_table::price_at;
 use chart_table::root;
-use chart_trace::checked::Counts;
+use chart_trace::checked::Scope;
 use chart_trace::checked::Traced;
 use chart_trace::checked::trace_checked;
 ghost use mathlib.Core.Path.{_≡_};
@@ -77,21 +77,21 @@ pub fn checked_root(
     t: &[u32],
     rules: &[u32],
     edges: &[u32],
-    counts: Counts,
+    scope: Scope,
     d: Layout,
     rank: usize,
     trace: &mut [u32],
 ) -> usize
-    requires { ⌜ (Sized d) × (0 < d .places) × (rank < d .ranks) ⌝ }
-    ensures { λ r. ⌜ r ≡ pick (rootSpelled (now (t .entry)) (now (rules .entry)) (now (edges .entry)) counts d rank) (length (rootTrace (now (t .entry)) (now (rules .entry)) d rank)) 0 ⌝ }
-    ensures { λ r. ⌜ (rootSpelled (now (t .entry)) (now (rules .entry)) (now (edges .entry)) counts d rank ≡ true
+    requires { ⌜ (Sized d) × (0 < d .places) × (rank < d .ranks) × (scope .edges ≤ 256) ⌝ }
+    ensures { λ r. ⌜ r ≡ pick (rootSpelled (now (t .entry)) (now (rules .entry)) (now (edges .entry)) scope d rank) (length (rootTrace (now (t .entry)) (now (rules .entry)) d rank)) 0 ⌝ }
+    ensures { λ r. ⌜ (rootSpelled (now (t .entry)) (now (rules .entry)) (now (edges .entry)) scope d rank ≡ true
         → now (trace .exit) ≡ storeAll (now (trace .entry)) 0 (rootTrace (now (t .entry)) (now (rules .entry)) d rank)) ⌝ }
 {
     let part = Part {
         cell: root(d),
         rank,
     };
-    let traced = trace_checked(t, rules, edges, counts, d, part, trace);
+    let traced = trace_checked(t, rules, edges, scope, d, part, trace);
     match traced {
         Traced::Nothing => 0,
         Traced::Tree(numbers, weight) => {

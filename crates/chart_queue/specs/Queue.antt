@@ -10,7 +10,7 @@ use Rattle.chart_keys.specs.declared.BackPointer.{BackPointer}
 use Rattle.chart_keys.specs.Keys.{backPointer, keyUnit, keyOf, noKey}
 use Rattle.chart_table.specs.declared.Layout.{Layout}
 use Rattle.chart_table.specs.Table.{entryOf, backAt, besideAt, putBeside, putKey}
-use Rattle.chart_table.specs.Journal.{keepEntry}
+use Rattle.chart_table.specs.Journal.{keepFour}
 
 -- a leaf, or first with first: a candidate that follows none
 abbrev pub isInitial : BackPointer → Bool
@@ -92,7 +92,7 @@ extractMin t d c rank lo hi =
 -- of m queued ones stands, place y, and the place behind the last
 unfoldable pub keepWritten : (t k : List ℕ) → Layout → ℕ → ℕ → ℕ → ℕ → List ℕ
 keepWritten t k d c rank m y =
-    keepEntry t (keepEntry t (keepEntry t (keepEntry t k (entryOf d c 0)) (entryOf d c rank)) (entryOf d c (y + 1))) (entryOf d c (m + 1))
+    keepFour t k (record { first = entryOf d c 0; second = entryOf d c rank; third = entryOf d c (y + 1); fourth = entryOf d c (m + 1) })
 
 abbrev pub keepMin : (t k : List ℕ) → Layout → ℕ → ℕ → List ℕ
 keepMin t k d c rank =

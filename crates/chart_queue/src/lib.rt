@@ -12,7 +12,8 @@ use chart_table::Layout;
 use chart_table::back_at;
 use chart_table::beside_at;
 use chart_table::entry_of;
-use chart_table::journal::keep_entry;
+use chart_table::journal::Places;
+use chart_table::journal::keep_four;
 use chart_table::put_beside;
 use chart_table::put_key;
 ghost use mathlib.Core.Path.{_≡_};
@@ -235,10 +236,13 @@ fn keep_written(t: &[u32], kept: &mut [u32], d: Layout, c: usize, rank: usize, m
     if kept.len() == 0 {
         return;
     }
-    keep_entry(t, kept, entry_of(d, c, 0));
-    keep_entry(t, kept, entry_of(d, c, rank));
-    keep_entry(t, kept, entry_of(d, c, y + 1));
-    keep_entry(t, kept, entry_of(d, c, m + 1));
+    let at = Places {
+        first: entry_of(d, c, 0),
+        second: entry_of(d, c, rank),
+        third: entry_of(d, c, y + 1),
+        fourth: entry_of(d, c, m + 1),
+    };
+    keep_four(t, kept, at);
 }
 
 // Writes the least of the queue and two more keys, the lesser first, at a rank; the others are in the queue afterwards. What is

@@ -17,7 +17,7 @@ use Rattle.chart_keys.specs.declared.BackPointer.{BackPointer}
 use Rattle.chart_table.specs.declared.Cell.{Cell}
 use Rattle.chart_table.specs.declared.Layout.{Layout}
 use Rattle.chart_table.specs.Table.{leftPart, rightPart, root, cellNumber, entryOf, priceAt}
-use Rattle.chart_table.specs.Journal.{putBack}
+use Rattle.chart_table.specs.Journal.{keepFour, putBack}
 use Rattle.chart_queue.specs.Queue.{queueLength, leastPlace, keepWritten, keepMin}
 use Rattle.chart_ranks.specs.Ranks.{nextRank}
 use Rattle.chart_search.specs.Search.{Finder, Keeper, extend, extendParts, advancePairing, backBefore, nextOfSpan, nextOfRoot, keepExtend, keepParts, keepPairing, keepOfSpan, keepOfRoot}
@@ -52,7 +52,7 @@ undoes-more n m t k u j h p l kept room =
 -- a rank
 rank-undone : (rules edges index : List ℕ) (d : Layout) (c : Cell) (rank : ℕ) (t k : List ℕ)
     → Undoes 4 t k (nextRank rules edges index d c rank t) (keepMin t k d (cellNumber d c) rank)
-unfolding nextRank keepWritten
+unfolding nextRank keepWritten keepFour
 rank-undone rules edges index d c rank t k l kept room =
     let at = cellNumber d c in
     let m = queueLength t d at in

@@ -1,11 +1,12 @@
 -- The journal: entries of the table as they were, and the table with them put back.
--- Nobody need believe this page: that what a search overwrites is put back is a theorem (chart_theory/proofs/Undo). Assumes nothing.
+-- Nobody need believe this page: that what a search overwrites is put back is a theorem (chart_steps/proofs/Undo). Assumes nothing.
 use mathlib.Core.List.{List}
-use Prim.Native.Nat.{ℕ, zero, suc, _+_, _*_, _/_, _%_}
+use Prim.Native.Nat.{ℕ, zero, suc, _+_, _*_, _/_, _%_, _<_}
 use lib.Dec.{ltb}
 use lib.ListN.{getD, set}
 use Rattle.bits.specs.Bits.{pick}
 use Rattle.chart_table.specs.declared.journal.EntryNumbers.{EntryNumbers}
+use Rattle.chart_table.specs.declared.journal.Places.{Places}
 
 -- the most entries that are kept
 abbrev pub mostKept : ℕ
@@ -31,6 +32,22 @@ unfolding writeKept
 keepEntry t k at =
     let n = getD k 0 0 in
     pick (ltb n mostKept) (set (writeKept k (keptAt n) at (entryNumbers t at)) 0 (n + 1)) k
+
+-- four places that entries start at
+pub record Below (at : Places) : Type 0 where
+  pub first : at .first < 17592186044416
+  pub second : at .second < 17592186044416
+  pub third : at .third < 17592186044416
+  pub fourth : at .fourth < 17592186044416
+
+-- the entries there, written one behind another, and kept
+unfoldable pub writeFour : (t k : List ℕ) → ℕ → Places → List ℕ
+writeFour t k to at =
+    writeKept (writeKept (writeKept (writeKept k to (at .first) (entryNumbers t (at .first))) (to + 6) (at .second) (entryNumbers t (at .second)))
+    (to + 12) (at .third) (entryNumbers t (at .third))) (to + 18) (at .fourth) (entryNumbers t (at .fourth))
+
+unfoldable pub keepFour : (t k : List ℕ) → Places → List ℕ
+keepFour t k at = keepEntry t (keepEntry t (keepEntry t (keepEntry t k (at .first)) (at .second)) (at .third)) (at .fourth)
 
 -- the kept entry x is put back
 unfoldable pub restoreEntry : (k : List ℕ) → ℕ → List ℕ → List ℕ

@@ -7,7 +7,7 @@ use arrays::store;
 ghost use mathlib.Core.Path.{_≡_};
 ghost use Prim.Native.Nat.{_+_, _<_};
 ghost use lib.ListN.{length, set};
-ghost use Rattle.chart_table.specs.Journal.{entryNumbers, writeKept, keepEntry, restoreEntry, putBack};
+ghost use Rattle.chart_table.specs.Journal.{entryNumbers, writeKept, keepEntry, Below, writeFour, keepFour, restoreEntry, putBack};
 
 // The most entries that are kept.
 pub const MOST_KEPT: usize = 188;
@@ -16,6 +16,9 @@ pub const MOST_KEPT: usize = 188;
 const KEPT_NUMBERS: usize = 6;
 
 pub const JOURNAL_NUMBERS: usize = 1 + KEPT_NUMBERS * MOST_KEPT;
+
+// The entries that are kept of a rank, which is looked for once it is known what is written.
+const AT_ONCE: usize = 4;
 
 // The four numbers of an entry.
 struct EntryNumbers {
@@ -77,7 +80,7 @@ fn write_kept(kept: &mut [u32], to: usize, at: usize, entry: EntryNumbers)
 }
 
 // Keeps the entry that starts at a place of the table.
-pub fn keep_entry(t: &[u32], kept: &mut [u32], at: usize)
+fn keep_entry(t: &[u32], kept: &mut [u32], at: usize)
     requires { ⌜ at < 17592186044416 ⌝ }
     ensures { λ _. ⌜ now (kept .exit) ≡ keepEntry (now (t .entry)) (now (kept .entry)) at ⌝ }
 {
@@ -86,6 +89,61 @@ pub fn keep_entry(t: &[u32], kept: &mut [u32], at: usize)
         write_kept(kept, 1 + KEPT_NUMBERS * n, at, numbers_at(t, at));
         store(kept, 0, (n + 1) as u32);
     }
+}
+
+// The places of four entries.
+pub struct Places {
+    pub first: usize,
+    pub second: usize,
+    pub third: usize,
+    pub fourth: usize,
+}
+
+// Writes the entry that starts at a place of the table to a place of the journal that has room for it.
+fn copy_entry(t: &[u32], kept: &mut [u32], to: usize, at: usize)
+    requires { ⌜ (to + 5 < length (now kept)) × (at < 17592186044416) ⌝ }
+    ensures { λ _. ⌜ now (kept .exit) ≡ writeKept (now (kept .entry)) to at (entryNumbers (now (t .entry)) at) ⌝ }
+{
+    write_within(kept, to, at, numbers_at(t, at));
+}
+
+// Writes four entries, one behind another.
+fn copy_four(t: &[u32], kept: &mut [u32], to: usize, at: Places)
+    requires { ⌜ (to + 23 < length (now kept)) × (Below at) ⌝ }
+    ensures { λ _. ⌜ now (kept .exit) ≡ writeFour (now (t .entry)) (now (kept .entry)) to at ⌝ }
+{
+    copy_entry(t, kept, to, at.first);
+    copy_entry(t, kept, to + KEPT_NUMBERS, at.second);
+    copy_entry(t, kept, to + 2 * KEPT_NUMBERS, at.third);
+    copy_entry(t, kept, to + 3 * KEPT_NUMBERS, at.fourth);
+}
+
+// Keeps the entries that start at four places of the table, one after another.
+fn keep_each(t: &[u32], kept: &mut [u32], at: Places)
+    requires { ⌜ Below at ⌝ }
+    ensures { λ _. ⌜ now (kept .exit) ≡ keepFour (now (t .entry)) (now (kept .entry)) at ⌝ }
+{
+    keep_entry(t, kept, at.first);
+    keep_entry(t, kept, at.second);
+    keep_entry(t, kept, at.third);
+    keep_entry(t, kept, at.fourth);
+}
+
+// The same. One test suffices where there is room for all.
+pub fn keep_four(t: &[u32], kept: &mut [u32], at: Places)
+    requires { ⌜ Below at ⌝ }
+    ensures { λ _. ⌜ now (kept .exit) ≡ keepFour (now (t .entry)) (now (kept .entry)) at ⌝ }
+{
+    let n = number_at(&kept[..], 0);
+    if n + AT_ONCE <= MOST_KEPT {
+        let to = 1 + KEPT_NUMBERS * n;
+        if to + KEPT_NUMBERS * AT_ONCE <= kept.len() {
+            copy_four(t, kept, to, at);
+            store(kept, 0, (n + AT_ONCE) as u32);
+            return;
+        }
+    }
+    keep_each(t, kept, at);
 }
 
 // Stores a number so many places behind one, and nothing past the end.

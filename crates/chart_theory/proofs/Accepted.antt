@@ -21,7 +21,7 @@ use Rattle.derivation.specs.HeardList.{derivations, leastDerivations}
 use Rattle.derivation.proofs.Lists.{at-take}
 use Rattle.derivation.proofs.Ranges.{all-at, Within, valid-rules, valid-sizes, valid-within, valid-light}
 use Rattle.derivation.proofs.Paths.{forward-weight, forward-costs}
-use Rattle.derivation.proofs.HeardReadings.{heard-forward, heard-cheap, heard-last}
+use Rattle.derivation.proofs.HeardReadings.{heard-forward, heard-cheap, heard-last, heard-one-edge}
 use Rattle.chart_table.specs.declared.Cell.{Cell}
 use Rattle.chart_table.specs.declared.Layout.{Layout}
 use Rattle.chart_table.specs.Table.{root, cellNumber, priceAt, clear}
@@ -29,19 +29,23 @@ use Rattle.chart_index.specs.Index.{indexNumbers}
 use Rattle.chart_index.specs.Build.{makeIndex}
 use Rattle.chart_index.proofs.Index.{indexed}
 use Rattle.chart_search.specs.Search.{nextOfRoot}
-use Rattle.chart_trace.specs.declared.checked.Counts.{Counts}
-use Rattle.chart.specs.Chart.{layOut, enumerate, rootsFound, rootFound, rootSpelled}
-use Rattle.chart_theory.specs.Spelled.{Spelled}
+use Rattle.chart_trace.specs.declared.checked.Scope.{Scope}
+use Rattle.chart.specs.Chart.{layOut, enumerate, rootsFound, rootWeight, rootFound, rootSpelled}
+use Rattle.chart_theory.specs.Spelled.{namesEdges, SpelledReading}
 use Rattle.chart_theory.proofs.Table.Cells.{InChart}
 use Rattle.chart_theory.proofs.Invariant.{Setting}
 use Rattle.chart_theory.proofs.Search.Passes.{Listed, next-known}
-use Rattle.chart_theory.proofs.Chart.{RootHas, Lists, search-lists, FirstIs, search-firsts, root-sound, known-step, first-listed, front-size}
+use Rattle.chart_theory.proofs.Chart.{RootHas, RootSpells, Lists, search-lists, FirstIs, search-firsts, root-sound, root-complete, known-step, first-listed, front-size}
 
 -- there is a place behind the first, and at most 7 edges for each slot, or 96
 pub heard-sizes : (W : ℕ) (h : Heard) → ValidHeard W h → (1 ≤ lastPlace h) × (length (heardEdges h) ≤ 168)
 unfolding utteranceEntries
 heard-sizes W (slots u) ((some, few), f) = (some, omega (arith, slots-edges W 0 u f))
 heard-sizes W (graph h) v = (omega (arith, valid-places W h v), omega (arith, valid-edge-count W h v))
+
+-- what a trace is checked against
+abbrev pub scope : Grammar → Heard → Scope
+scope g h = record { rules = length (g .rules); edges = length (heardEdges h); named = namesEdges h }
 
 module _ (g : Grammar) (h : Heard) (N : ℕ) where
   -- the layout of a table for N readings
@@ -105,6 +109,7 @@ module _ (g : Grammar) (h : Heard) (N : ℕ) where
           let costs = forward-costs g (heardEdges h) forward p in
           let n = heard-last (g .words) h okh in
           (omega arith, omega arith);
+      one-edge = λ c r e f p q. heard-one-edge (g .words) h okh p q;
     }
 
     in-root : InChart layout (root layout)
@@ -142,19 +147,23 @@ module _ (g : Grammar) (h : Heard) (N : ℕ) where
     unfolding enumerate layOut
     front-filled = front-size setting in-root
 
-    -- what passes the checked back trace of any table is a derivation
-    abbrev pub counts : Counts
-    counts = record { rules = length (g .rules); edges = length (heardEdges h) }
+    -- in any table, what passes the checked back trace is a derivation whose reading is spelled, and a derivation whose reading is spelled passes
+    pub passed-spelled : (t : List ℕ) (x : ℕ) → rootSpelled t rules edge-array (scope g h) layout x ≡ true
+        → (z : Tree) × Derivation g h z × RootSpells (namesEdges h) g (heardEdges h) rules layout t x z × SpelledReading g h layout t x z
+    unfolding layOut rootWeight
+    passed-spelled t x e =
+        let (z, derived, has, spelled) = root-sound setting in-root (namesEdges h) t x e in
+        (z, derived, has, record { tree = spelled; weighs = has .weighs })
 
-    pub passed-spelled : (t : List ℕ) (x : ℕ) → rootSpelled t rules edge-array counts layout x ≡ true
-        → (z : Tree) × Derivation g h z × RootHas g (heardEdges h) rules layout t x z × Spelled g layout t z (root layout) x
-    unfolding layOut
-    passed-spelled t x = root-sound setting in-root t x
+    pub spelled-passed : (t : List ℕ) (x : ℕ) (z : Tree) → Derivation g h z → SpelledReading g h layout t x z
+        → rootSpelled t rules edge-array (scope g h) layout x ≡ true
+    unfolding layOut rootWeight
+    spelled-passed t x z derived reading = root-complete setting in-root (namesEdges h) t x derived (reading .tree) (reading .weighs)
 
-    -- and then rank x is the derivation of that place, or there is none
+    -- where the ranks of the root are known up to x, rank x is the derivation of that place, or there is none
     pub record Reached (t : List ℕ) (x : ℕ) : Type 0 where
       pub some : x < length (derivations g h)
-          → (rootFound t layout x ≡ true) × (rootSpelled t rules edge-array counts layout x ≡ true) × ((z : Tree) × HoldsRank rules t x z)
+          → (rootFound t layout x ≡ true) × (rootSpelled t rules edge-array (scope g h) layout x ≡ true) × ((z : Tree) × HoldsRank rules t x z)
       pub none : length (derivations g h) ≤ x → rootFound t layout x ≡ false
 
     pub rank-reached : (t : List ℕ) (x : ℕ) → Listed g (heardEdges h) layout x t → x < N → Reached t x
@@ -165,7 +174,7 @@ module _ (g : Grammar) (h : Heard) (N : ℕ) where
           some = λ below.
               let (found, passes, (z, rank)) = step .some below in (
                 rw (ne-eqb (priceAt t layout (cellNumber layout (root layout)) x) 0 (λ e. omega (arith, e, found))),
-                passes,
+                passes (namesEdges h),
                 (z, record { place = at-take N (derivations g h) x z .1 (rank .place, kept); has = rank .has }),
               );
           none = λ beyond. rw (eq-eqb (priceAt t layout (cellNumber layout (root layout)) x) 0 (step .none beyond));

@@ -3,9 +3,9 @@
 -- clearing the entries found leaves zeros. For the search keeps the invariant, and in the end knows every rank that is kept, and the first of
 -- every cell.
 use mathlib.Core.Path.{_≡_, refl, sym, ap, _∙_}
-use mathlib.Core.Bool.{true, false≢true}
+use mathlib.Core.Bool.{Bool, true, false, false≢true}
 use mathlib.Core.Option.{Option, none, some}
-use mathlib.Core.List.{List, [], _∷_, _++_}
+use mathlib.Core.List.{List, [], _∷_, _++_, map}
 use Prim.Native.Nat.{ℕ, zero, suc, _+_, _-_, _*_, _/_, _≤_, _<_, min}
 use native.Mathlib.Nat.{le-refl}
 use native.Mathlib.Decide.{decLt}
@@ -13,7 +13,7 @@ use native.Mathlib.Omega.{arith}
 use lib.ListN.{length, getElem?, replicate, length-replicate, replicate-append-replicate}
 use borrow.Author.Tests.{eqb-true, eq-eqb}
 use Rattle.packing.specs.Meaning.{Grammar, Edge}
-use Rattle.packing.specs.Flat.{nodesIn}
+use Rattle.packing.specs.Flat.{nodeRule, nodesIn}
 use Rattle.derivation.specs.Derivation.{At, Tree, weight}
 use Rattle.derivation.specs.Heard.{trace}
 use Rattle.derivation.proofs.Lists.{none≢some, at-length}
@@ -32,15 +32,26 @@ use Rattle.chart_theory.proofs.Table.Entries.{cell-below, found-kept}
 use Rattle.chart_theory.proofs.Table.Cleared.{clear-zeros}
 use Rattle.chart_theory.proofs.Invariant.{Setting, priceIn, Found, Invariant}
 use Rattle.chart_theory.proofs.Search.Passes.{Zeros, zeros-invariant, Listed, pass-listed, search-known, found-exactly, first-missing}
-use Rattle.chart_theory.proofs.Search.Trace.{traced, found-spelled}
-use Rattle.chart_theory.proofs.Search.Checked.{counts, weighed, spelled-sound}
+use Rattle.chart_theory.proofs.Search.Trace.{SameNodes, traced, found-spelled}
+use Rattle.chart_theory.proofs.Search.Checked.{scope, weighed, spelled-sound}
 use Rattle.chart_theory.proofs.Plane.{single, pass-plane, pass-size}
 
--- rank x of the root has the weight of the tree z, and its back trace has the nodes; and it is the tree of that place
+-- rank x of the root has the weight of the tree z, and its back trace has the nodes
 pub record RootHas (g : Grammar) (es : List Edge) (rules : List ℕ) (d : Layout) (t : List ℕ) (x : ℕ) (z : Tree) : Type 0 where
   pub weighs : rootWeight t d x ≡ weight g es z
   pub nodes : nodesIn rules (rootTrace t rules d x) ≡ trace z
 
+-- or, where leaves do not name their edges, the rules of the nodes
+pub record RootSpells (named : Bool) (g : Grammar) (es : List Edge) (rules : List ℕ) (d : Layout) (t : List ℕ) (x : ℕ) (z : Tree) : Type 0 where
+  pub weighs : rootWeight t d x ≡ weight g es z
+  pub nodes : SameNodes named (nodesIn rules (rootTrace t rules d x)) (trace z)
+
+pub has-spells : (named : Bool) {g : Grammar} {es : List Edge} {rules : List ℕ} {d : Layout} {t : List ℕ} {x : ℕ} {z : Tree} → RootHas g es rules d t x z
+    → RootSpells named g es rules d t x z
+has-spells true has = record { weighs = has .weighs; nodes = has .nodes }
+has-spells false has = record { weighs = has .weighs; nodes = ap (map nodeRule) (has .nodes) }
+
+-- and it is the tree of that place
 pub record RankIs (g : Grammar) (es : List Edge) (rules : List ℕ) (d : Layout) (t : List ℕ) (x : ℕ) (z : Tree) : Type 0 where
   pub place : At (rankedIn g es (root d)) x z
   pub has : RootHas g es rules d t x z
@@ -98,19 +109,20 @@ module _ {g : Grammar} {es : List Edge} {rules edges index : List ℕ} {d : Layo
   module _ (in-root : InChart d (root d)) where
     -- a rank of the root that is found spells the tree of that place
     pub rank-found : {k : ℕ} (t : List ℕ) → Listed g es d k t → (x : ℕ) → Found d t (root d) x
-        → (z : Tree) × RankIs g es rules d t x z × DerivesIn g es (root d) z × Spelled g d t z (root d) x
+        → (z : Tree) × RankIs g es rules d t x z × DerivesIn g es (root d) z × ((named : Bool) → Spelled g named d t z (root d) x)
     unfolding rootWeight rootTrace
     rank-found t listed x found =
         let (v, held) = listed .invariant .holds x in-root found in
         let (z, place, o) = held .place in
         let derives = row-derives g es o in
-        let spelled = found-spelled s t (listed .invariant) (d .places) (root d) x z in-root (omega arith) found place in (
+        let spelled : (named : Bool) → Spelled g named d t z (root d) x =
+        λ named. found-spelled s t (listed .invariant) named (d .places) (root d) x z in-root (omega arith) found place in (
           z,
           record {
             place = place;
             has = record {
               weighs = weight-of (rowPrice v) (held .priced) (held .fits .cheap) ∙ ap weightIn (row-price g es o);
-              nodes = traced s t (d .places) (root d) x z spelled derives (in-root .order) (omega arith);
+              nodes = traced s t true (d .places) (root d) x z (spelled true) derives (in-root .order) (omega arith);
             };
           },
           derives,
@@ -118,26 +130,33 @@ module _ {g : Grammar} {es : List Edge} {rules edges index : List ℕ} {d : Layo
         )
 
     -- in any table, what passes the checked back trace spells a tree
-    pub root-sound : (t : List ℕ) (x : ℕ) → rootSpelled t rules edges (counts s) d x ≡ true
-        → (z : Tree) × DerivesIn g es (root d) z × RootHas g es rules d t x z × Spelled g d t z (root d) x
+    pub root-sound : (named : Bool) (t : List ℕ) (x : ℕ) → rootSpelled t rules edges (scope s named) d x ≡ true
+        → (z : Tree) × DerivesIn g es (root d) z × RootSpells named g es rules d t x z × Spelled g named d t z (root d) x
     unfolding rootSpelled rootTrace
-    root-sound t x e = go (spelledWeight t rules edges (counts s) d (d .places) (root d) x) refl e
+    root-sound named t x e = go (spelledWeight t rules edges (scope s named) d (d .places) (root d) x) refl e
       where
-        go : (o : Option ℕ) → spelledWeight t rules edges (counts s) d (d .places) (root d) x ≡ o → weighs o (rootWeight t d x) ≡ true
-            → (z : Tree) × DerivesIn g es (root d) z × RootHas g es rules d t x z × Spelled g d t z (root d) x
+        go : (o : Option ℕ) → spelledWeight t rules edges (scope s named) d (d .places) (root d) x ≡ o → weighs o (rootWeight t d x) ≡ true
+            → (z : Tree) × DerivesIn g es (root d) z × RootSpells named g es rules d t x z × Spelled g named d t z (root d) x
         go none h e = absurd (false≢true e)
         go (some w) h e =
-            let (z, derives, spelled) = spelled-sound s t (d .places) (root d) x w h in
-            let sum = weighed s t (d .places) (root d) x spelled derives (in-root .order) (omega arith) in
+            let (z, derives, spelled) = spelled-sound s named t (d .places) (root d) x w h in
+            let sum = weighed s named t (d .places) (root d) x spelled derives (in-root .order) (omega arith) in
             let same : w ≡ weight g es z = cc in (
               z,
               derives,
               record {
                 weighs = sym (eqb-true _ _ e) ∙ same;
-                nodes = traced s t (d .places) (root d) x z spelled derives (in-root .order) (omega arith);
+                nodes = traced s t named (d .places) (root d) x z spelled derives (in-root .order) (omega arith);
               },
               spelled,
             )
+
+    -- and what spells a tree of the weight that its price says passes
+    pub root-complete : (named : Bool) (t : List ℕ) (x : ℕ) {z : Tree} → DerivesIn g es (root d) z → Spelled g named d t z (root d) x
+        → rootWeight t d x ≡ weight g es z → rootSpelled t rules edges (scope s named) d x ≡ true
+    unfolding rootSpelled
+    root-complete named t x derives spelled weighs =
+        rw (weighed s named t (d .places) (root d) x spelled derives (in-root .order) (omega arith)) (eq-eqb _ _ (sym weighs))
 
     module _ (t : List ℕ) (listed : Listed g es d (d .ranks - 1) t) where
       number : rootsFound t d ≡ min (d .ranks) (length (rankedIn g es (root d)))
@@ -167,11 +186,11 @@ module _ {g : Grammar} {es : List Edge} {rules edges index : List ℕ} {d : Layo
 
     -- the ranks of the root one by one. Rank x, known, is the tree of that place, and it passes the checked back trace, or there is none
     pub record Step (t : List ℕ) (x : ℕ) : Type 0 where
-      pub some : x < length (rankedIn g es (root d)) → Found d t (root d) x × (rootSpelled t rules edges (counts s) d x ≡ true) × ((z : Tree) × RankIs g es rules d t x z)
+      pub some : x < length (rankedIn g es (root d))
+          → Found d t (root d) x × ((named : Bool) → rootSpelled t rules edges (scope s named) d x ≡ true) × ((z : Tree) × RankIs g es rules d t x z)
       pub none : length (rankedIn g es (root d)) ≤ x → priceIn d t (root d) x ≡ 0
 
     pub known-step : (t : List ℕ) (x : ℕ) → Listed g es d x t → x < d .ranks → Step t x
-    unfolding rootSpelled
     known-step t x listed kept =
         let exactly = found-exactly s in-root x t listed x (le-refl x) kept in
         record {
@@ -179,7 +198,7 @@ module _ {g : Grammar} {es : List Edge} {rules edges index : List ℕ} {d : Layo
               let found = exactly .1 h in
               let (z, rank, derives, spelled) = rank-found t listed x found in (
                 found,
-                rw (weighed s t (d .places) (root d) x spelled derives (in-root .order) (omega arith)) (eq-eqb _ _ (sym (rank .has .weighs))),
+                λ named. root-complete named t x derives (spelled named) (rank .has .weighs),
                 (z, rank),
               );
           none = λ h. go (decLt 0 (priceIn d t (root d) x)) (exactly .0) h;

@@ -11,7 +11,7 @@ use Rattle.packing.specs.declared.Sym.{Sym}
 use Rattle.packing.specs.declared.Rule.the-variants.{Pair}
 use Rattle.packing.specs.Meaning.{word, Grammar, Edge, edge}
 use Rattle.packing.specs.Flat.{ruleAt}
-use Rattle.derivation.specs.Derivation.{At, Tree, weight}
+use Rattle.derivation.specs.Derivation.{At, Tree, leaf, weight}
 use Rattle.derivation.specs.Order.{costSum}
 use Rattle.derivation.proofs.Rows.{Row, row}
 use Rattle.chart_keys.specs.Keys.{weightUnit, backNumber, backPointer}
@@ -26,7 +26,7 @@ use Rattle.chart_theory.proofs.Table.Entries.{InEntry}
 use Rattle.chart_theory.proofs.Queue.Numbers.{tagAt}
 use Rattle.chart_theory.proofs.Queue.Pool.{Queue, Fresh}
 
--- the arrays hold the grammar and the edges, the index is theirs, and a key has room for all of their numbers
+-- the arrays hold the grammar and the edges, the index is theirs, a key has room for all of their numbers, and by one rule a cell has one leaf
 pub record Setting (g : Grammar) (es : List Edge) (rules edges index : List ℕ) (d : Layout) : Type 0 where
   pub kept : 0 < d .ranks
   pub few-ranks : d .ranks ≤ 256
@@ -42,6 +42,7 @@ pub record Setting (g : Grammar) (es : List Edge) (rules edges index : List ℕ)
   pub parts : (A B C : Sym) (r w : ℕ) → At (g .rules) r (Pair A B C w) → (B .0 < d .symbols) × (C .0 < d .symbols)
   pub price-bound : (c : Cell) (z : Tree) → c .to ≤ d .places → DerivesIn g es c z
       → (weight g es z < 5592405) × (costSum es z < weightUnit)
+  pub one-edge : (c : Cell) (r e f : ℕ) → DerivesIn g es c (leaf r e) → DerivesIn g es c (leaf r f) → e ≡ f
 
 -- the price of a rank of a cell, plus 1; the rank, from 0, is found
 abbrev pub priceIn : Layout → List ℕ → Cell → ℕ → ℕ

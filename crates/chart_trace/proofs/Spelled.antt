@@ -20,18 +20,18 @@ use Rattle.chart_keys.specs.declared.BackPointer.{BackPointer}
 use Rattle.chart_table.specs.declared.Cell.{Cell}
 use Rattle.chart_table.specs.declared.Layout.{Layout}
 use Rattle.chart_table.specs.Table.{leftPart, rightPart, cellNumber, priceAt}
-use Rattle.chart_trace.specs.declared.checked.Counts.{Counts}
+use Rattle.chart_trace.specs.declared.checked.Scope.{Scope}
 use Rattle.chart_trace.specs.declared.checked.CheckedNode.{CheckedNode}
 use Rattle.chart_trace.specs.declared.checked.CheckedNode.the-variants.{Leaf, Pairing, Wrong}
 use Rattle.chart_trace.specs.declared.checked.Traced.{Traced}
 use Rattle.chart_trace.specs.declared.checked.Traced.the-variants.{Tree, Nothing}
 use Rattle.chart_trace.specs.Trace.{traceBack}
-use Rattle.chart_trace.specs.Checked.{edgeFits, nodeIn, checkedNode, withParts, nodeWeight, spelledWeight, tracedOf}
+use Rattle.chart_trace.specs.Checked.{edgeFits, anyLeaf, nodeIn, checkedNode, withParts, nodeWeight, spelledWeight, tracedOf}
 use Rattle.chart_trace.proofs.Trace.{noParts, ruleWithin, backOf, fuel-enough, traceOf}
 
 -- a node by its rule
-pub by-rule : (rules edges : List ℕ) (k : Counts) (c : Cell) (b : BackPointer) {z y : Rule} → b .rule < k .rules → z ≡ ruleAt rules (b .rule) → z ≡ y
-    → checkedNode rules edges k c b ≡ nodeIn edges (k .edges) c b y
+pub by-rule : (rules edges : List ℕ) (k : Scope) (c : Cell) (b : BackPointer) {z y : Rule} → b .rule < k .rules → z ≡ ruleAt rules (b .rule) → z ≡ y
+    → checkedNode rules edges k c b ≡ nodeIn edges k c b y
 unfolding checkedNode
 by-rule rules edges k c b l e f = rw (lt-ltb _ _ l, ← e, f)
 
@@ -47,7 +47,22 @@ word-within true true r e = (_, _, _, e)
 word-within true false r e = (_, _, _, refl)
 word-within false s′ r e = (_, _, _, refl)
 
-pub seen : (rules edges : List ℕ) (k : Counts) (c : Cell) (b : BackPointer) → Seen rules c b (checkedNode rules edges k c b)
+module _ (rules edges : List ℕ) (E : ℕ) (c : Cell) (b : BackPointer) {h : Sym} {x : W.Word} {w : ℕ} (e : ruleAt rules (b .rule) ≡ Word h x w) where
+  leaf-seen : (s : Bool) (v : ℕ) (n : CheckedNode) → Seen rules c b n → Seen rules c b (pick s (Leaf v) n)
+  leaf-seen true v n other = word-within (ltb (c .from) (b .split)) (ltb (b .split) (c .to)) (ruleAt rules (b .rule)) e
+  leaf-seen false v n other = other
+
+  any-seen : (v n : ℕ) → Seen rules c b (anyLeaf edges E c x v n)
+  unfolding anyLeaf
+  any-seen v zero = tt
+  any-seen v (suc n) = leaf-seen (edgeFits edges E c n x) _ (anyLeaf edges E c x v n) (any-seen v n)
+
+  word-seen : (a s named : Bool) (v v′ : ℕ) → Seen rules c b (pick a (pick s (Leaf v) (pick named Wrong (anyLeaf edges E c x v′ E))) Wrong)
+  word-seen true s true v v′ = leaf-seen s v Wrong tt
+  word-seen true s false v v′ = leaf-seen s v (anyLeaf edges E c x v′ E) (any-seen v′ E)
+  word-seen false s named v v′ = tt
+
+pub seen : (rules edges : List ℕ) (k : Scope) (c : Cell) (b : BackPointer) → Seen rules c b (checkedNode rules edges k c b)
 unfolding checkedNode
 seen rules edges k c b = go (ltb (b .rule) (k .rules)) (ruleAt rules (b .rule)) refl
   where
@@ -58,17 +73,12 @@ seen rules edges k c b = go (ltb (b .rule) (k .rules)) (ruleAt rules (b .rule)) 
     on-pair true false s′ f g h x y w e = tt
     on-pair false s s′ f g h x y w e = tt
 
-    on-word : (a s : Bool) {h : Sym} {x : W.Word} {w : ℕ} (v : ℕ) → ruleAt rules (b .rule) ≡ Word h x w → Seen rules c b (pick a (pick s (Leaf v) Wrong) Wrong)
-    on-word true true v e = word-within (ltb (c .from) (b .split)) (ltb (b .split) (c .to)) (ruleAt rules (b .rule)) e
-    on-word true false v e = tt
-    on-word false s v e = tt
-
-    go : (q : Bool) (r : Rule) → ruleAt rules (b .rule) ≡ r → Seen rules c b (pick q (nodeIn edges (k .edges) c b r) Wrong)
+    go : (q : Bool) (r : Rule) → ruleAt rules (b .rule) ≡ r → Seen rules c b (pick q (nodeIn edges k c b r) Wrong)
     go true (Pair h x y w) e = on-pair (eqb (h .0) (c .head .0)) (ltb (c .from) (b .split)) (ltb (b .split) (c .to)) refl refl h x y w e
-    go true (Word h x w) e = on-word (eqb (h .0) (c .head .0)) (edgeFits edges (k .edges) c (b .left) x) _ e
+    go true (Word h x w) e = word-seen rules edges (k .edges) c b e (eqb (h .0) (c .head .0)) (edgeFits edges (k .edges) c (b .left) x) (k .named) _ w
     go false r e = tt
 
-pub seen-as : (rules edges : List ℕ) (k : Counts) (c : Cell) (b : BackPointer) {n m : CheckedNode} → n ≡ checkedNode rules edges k c b → n ≡ m → Seen rules c b m
+pub seen-as : (rules edges : List ℕ) (k : Scope) (c : Cell) (b : BackPointer) {n m : CheckedNode} → n ≡ checkedNode rules edges k c b → n ≡ m → Seen rules c b m
 seen-as rules edges k c b e is = subst (Seen rules c b) (sym e ∙ is) (seen rules edges k c b)
 
 -- fuel: parts are over shorter spans
@@ -81,7 +91,7 @@ parts-same rules spelled spelled′ c b (Pairing x y w) s same =
     rw (same (leftPart c x (b .split)) (b .left) l (omega arith), same (rightPart c y (b .split)) (b .right) m (omega arith))
 parts-same rules spelled spelled′ c b Wrong s same = refl
 
-module _ (t rules edges : List ℕ) (k : Counts) (d : Layout) where
+module _ (t rules edges : List ℕ) (k : Scope) (d : Layout) where
   pub spelled-enough : (f g : ℕ) (c : Cell) (x : ℕ) → c .from < c .to → c .to - c .from ≤ f → c .to - c .from ≤ g
       → spelledWeight t rules edges k d f c x ≡ spelledWeight t rules edges k d g c x
   unfolding spelledWeight

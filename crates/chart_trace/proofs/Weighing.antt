@@ -14,7 +14,7 @@ use Rattle.chart_keys.specs.Keys.{Digits}
 use Rattle.chart_table.specs.declared.Layout.{Layout}
 use Rattle.chart_table.specs.declared.Part.{Part}
 use Rattle.chart_table.specs.Table.{lastPlace, leftPart, rightPart}
-use Rattle.chart_trace.specs.declared.checked.Counts.{Counts}
+use Rattle.chart_trace.specs.declared.checked.Scope.{Scope}
 use Rattle.chart_trace.specs.Checked.{withParts}
 use Rattle.chart_trace.proofs.Pending.{part, partNumber, endOf, partOf, end-number, part-number}
 use Rattle.chart_trace.proofs.Spelled.{spelledOf}
@@ -41,7 +41,7 @@ leaf-last v w = ap some (omega arith)
 heavier : (v w next : ℕ) → v ≤ next * 4294967296 → w < 8589934592 → v + w ≤ (next + 2) * 4294967296
 heavier v w next h l = omega arith
 
-module _ (t rules edges : List ℕ) (k : Counts) (d : Layout) where
+module _ (t rules edges : List ℕ) (k : Scope) (d : Layout) where
   -- what a part spells, and the pending parts together
   abbrev pub spelledPart : Part → Option ℕ
   spelledPart p = spelledOf t rules edges k d (p .cell) (p .rank)

@@ -18,7 +18,7 @@ use Rattle.chart_keys.specs.Keys.{backPointer}
 use Rattle.chart_table.specs.declared.Cell.{Cell}
 use Rattle.chart_table.specs.declared.Layout.{Layout}
 use Rattle.chart_table.specs.Table.{leftPart, rightPart, cellNumber, priceAt, backAt}
-use Rattle.chart_trace.specs.declared.checked.Counts.{Counts}
+use Rattle.chart_trace.specs.declared.checked.Scope.{Scope}
 use Rattle.chart_trace.specs.declared.checked.CheckedNode.{CheckedNode}
 use Rattle.chart_trace.specs.declared.checked.CheckedNode.the-variants.{Leaf, Pairing, Wrong}
 use Rattle.chart_trace.specs.declared.checked.Traced.{Traced}
@@ -32,19 +32,28 @@ edgeFits edges E c e x =
     (pick (eqb (getD edges (4 * e + 1) 0) (c .to))
     (pick (eqb (getD edges (4 * e + 2) 0) (x .0)) (ltb (getD edges (4 * e + 3) 0) notHeard) false) false) false) false
 
--- a leaf of that edge, by a rule of that word
-abbrev pub leafIn : List ℕ → ℕ → Cell → ℕ → W.Word → ℕ → CheckedNode
-leafIn edges E c e x w = pick (edgeFits edges E c e x) (Leaf (w + getD edges (4 * e + 3) 0)) Wrong
+-- the leaf of edge e, by a rule of weight w
+abbrev pub leafOf : List ℕ → ℕ → ℕ → CheckedNode
+leafOf edges e w = Leaf (w + getD edges (4 * e + 3) 0)
+
+-- the leaf of the last of the first n edges that fits
+unfoldable pub anyLeaf : List ℕ → ℕ → Cell → W.Word → ℕ → ℕ → CheckedNode
+anyLeaf edges E c x w zero = Wrong
+anyLeaf edges E c x w (suc e) = pick (edgeFits edges E c e x) (leafOf edges e w) (anyLeaf edges E c x w e)
+
+-- a leaf by a rule of that word: of edge e, if that fits, and else, where leaves do not name their edges, of any edge that does
+abbrev pub leafIn : List ℕ → Scope → Cell → ℕ → W.Word → ℕ → CheckedNode
+leafIn edges k c e x w = pick (edgeFits edges (k .edges) c e x) (leafOf edges e w) (pick (k .named) Wrong (anyLeaf edges (k .edges) c x w (k .edges)))
 
 -- a node in a cell by its back pointer and its rule, whose head is to be the cell's
-abbrev pub nodeIn : List ℕ → ℕ → Cell → BackPointer → Rule → CheckedNode
-nodeIn edges E c b (Pair h x y w) =
+abbrev pub nodeIn : List ℕ → Scope → Cell → BackPointer → Rule → CheckedNode
+nodeIn edges k c b (Pair h x y w) =
     pick (eqb (h .0) (c .head .0)) (pick (ltb (c .from) (b .split)) (pick (ltb (b .split) (c .to)) (Pairing x y w) Wrong) Wrong) Wrong
-nodeIn edges E c b (Word h x w) =
-    pick (eqb (h .0) (c .head .0)) (leafIn edges E c (b .left) x w) Wrong
+nodeIn edges k c b (Word h x w) =
+    pick (eqb (h .0) (c .head .0)) (leafIn edges k c (b .left) x w) Wrong
 
-unfoldable pub checkedNode : List ℕ → List ℕ → Counts → Cell → BackPointer → CheckedNode
-checkedNode rules edges k c b = pick (ltb (b .rule) (k .rules)) (nodeIn edges (k .edges) c b (ruleAt rules (b .rule))) Wrong
+unfoldable pub checkedNode : List ℕ → List ℕ → Scope → Cell → BackPointer → CheckedNode
+checkedNode rules edges k c b = pick (ltb (b .rule) (k .rules)) (nodeIn edges k c b (ruleAt rules (b .rule))) Wrong
 
 -- what the node's own rule and edge weigh
 abbrev pub ownWeight : CheckedNode → ℕ
@@ -64,7 +73,7 @@ nodeWeight spelled c b (Pairing x y w) = withParts w (spelled (leftPart c x (b .
 nodeWeight spelled c b Wrong = none
 
 -- the weight of the tree that a rank of a cell spells; any fuel of at least the span's length serves
-unfoldable pub spelledWeight : (t rules edges : List ℕ) → Counts → Layout → ℕ → Cell → ℕ → Option ℕ
+unfoldable pub spelledWeight : (t rules edges : List ℕ) → Scope → Layout → ℕ → Cell → ℕ → Option ℕ
 spelledWeight t rules edges k d zero c rank = none
 spelledWeight t rules edges k d (suc fuel) c rank =
     let b = backPointer (backAt t d (cellNumber d c) rank) in

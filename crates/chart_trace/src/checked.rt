@@ -37,18 +37,22 @@ use packing::format::RULE_WEIGHT_AT;
 ghost use mathlib.Core.Path.{_≡_};
 ghost use mathlib.Core.Option.{some};
 ghost use Prim.Native.Nat.{ℕ, _+_, _-_, _*_, _<_, _≤_};
+ghost use lib.Dec.{ltb};
 ghost use lib.ListN.{length, getD, set};
+ghost use Rattle.packing.specs.Meaning.{notHeard};
 ghost use Rattle.packing.specs.Flat.{ruleAt};
 ghost use Rattle.packing.specs.Store.{storeAll};
 ghost use Rattle.chart_keys.specs.Keys.{digits, Digits};
 ghost use Rattle.chart_table.specs.Table.{mostRanks, cellNumber, priceAt, backAt, InTable};
 ghost use Rattle.chart_trace.specs.Trace.{traceBack};
-ghost use Rattle.chart_trace.specs.Checked.{leafIn, checkedNode, ownWeight, spelledWeight, tracedOf};
+ghost use Rattle.chart_trace.specs.Checked.{edgeFits, anyLeaf, leafIn, checkedNode, ownWeight, spelledWeight, tracedOf};
 
-// How many rules and how many edges there are, in arrays that have room for more.
-pub struct Counts {
+// What a trace is checked against: how many rules and edges there are, in arrays that have room for more, and whether a leaf names its edge,
+// as those of a graph do.
+pub struct Scope {
     pub rules: usize,
     pub edges: usize,
+    pub named: bool,
 }
 
 // What a node's back pointer says in its cell: a leaf of a weight, a pairing of parts with these heads by a rule of a weight, or
@@ -152,50 +156,73 @@ fn edge_numbers(edges: &[u32], e: usize) -> EdgeNumbers
     }
 }
 
-// A leaf by a rule of a word and a weight: its edge is one of the first `count`, goes over the cell's span with that word, and was heard.
+// What edge e costs, where it is one of the first `count`, goes over the cell's span with a word, and was heard. Else a cost as of what was
+// not heard.
+fn edge_cost(edges: &[u32], count: usize, c: Cell, e: usize, word: Word) -> u32
+    requires { ⌜ e < digits ⌝ }
+    ensures { λ x. ⌜ (ltb x notHeard ≡ edgeFits (now (edges .entry)) count c e word) × (x < notHeard → x ≡ getD (now (edges .entry)) (4 * e + 3) 0) ⌝ }
+{
+    if count <= e {
+        return NOT_HEARD;
+    }
+    let edge = edge_numbers(edges, e);
+    if edge.from != c.from {
+        return NOT_HEARD;
+    }
+    if edge.to != c.to {
+        return NOT_HEARD;
+    }
+    if edge.word != word.0 {
+        return NOT_HEARD;
+    }
+    edge.cost
+}
+
+// A leaf by a rule of a word and a weight, of the last of the first `count` edges that fits.
+fn any_leaf(edges: &[u32], count: usize, c: Cell, word: Word, weight: u32) -> CheckedNode
+    requires { ⌜ count ≤ digits ⌝ }
+    ensures { λ x. ⌜ (x ≡ anyLeaf (now (edges .entry)) count c word weight count) × (ownWeight x < 8589934592) ⌝ }
+{
+    let mut e = count;
+    while 0 < e {
+        e = e - 1;
+        let cost = edge_cost(edges, count, c, e, word);
+        if cost < NOT_HEARD {
+            return CheckedNode::Leaf(wide(weight) + wide(cost));
+        }
+    }
+    CheckedNode::Wrong
+}
+
+// A leaf by a rule of a word and a weight: of edge e, if that fits. If not, and leaves do not name their edges, of any edge that does.
 fn checked_leaf(
     edges: &[u32],
-    count: usize,
+    scope: Scope,
     c: Cell,
     e: usize,
     word: Word,
     weight: u32,
 ) -> CheckedNode
-    requires { ⌜ e < digits ⌝ }
-    ensures { λ x. ⌜ (x ≡ leafIn (now (edges .entry)) count c e word weight) × (ownWeight x < 8589934592) ⌝ }
+    requires { ⌜ (e < digits) × (scope .edges ≤ digits) ⌝ }
+    ensures { λ x. ⌜ (x ≡ leafIn (now (edges .entry)) scope c e word weight) × (ownWeight x < 8589934592) ⌝ }
 {
-    if count <= e {
+    let cost = edge_cost(edges, scope.edges, c, e, word);
+    if cost < NOT_HEARD {
+        return CheckedNode::Leaf(wide(weight) + wide(cost));
+    }
+    if scope.named {
         return CheckedNode::Wrong;
     }
-    let edge = edge_numbers(edges, e);
-    if edge.from != c.from {
-        return CheckedNode::Wrong;
-    }
-    if edge.to != c.to {
-        return CheckedNode::Wrong;
-    }
-    if edge.word != word.0 {
-        return CheckedNode::Wrong;
-    }
-    if NOT_HEARD <= edge.cost {
-        return CheckedNode::Wrong;
-    }
-    CheckedNode::Leaf(wide(weight) + wide(edge.cost))
+    any_leaf(edges, scope.edges, c, word, weight)
 }
 
 // What a back pointer says in a cell: its rule is one of the grammar's and the cell's head is its own; of two parts the split is
 // within the span, and of a leaf the edge fits.
-fn checked_node(
-    rules: &[u32],
-    edges: &[u32],
-    counts: Counts,
-    c: Cell,
-    b: BackPointer,
-) -> CheckedNode
-    requires { ⌜ Digits b ⌝ }
-    ensures { λ x. ⌜ (x ≡ checkedNode (now (rules .entry)) (now (edges .entry)) counts c b) × (ownWeight x < 8589934592) ⌝ }
+fn checked_node(rules: &[u32], edges: &[u32], scope: Scope, c: Cell, b: BackPointer) -> CheckedNode
+    requires { ⌜ (Digits b) × (scope .edges ≤ digits) ⌝ }
+    ensures { λ x. ⌜ (x ≡ checkedNode (now (rules .entry)) (now (edges .entry)) scope c b) × (ownWeight x < 8589934592) ⌝ }
 {
-    if counts.rules <= b.rule {
+    if scope.rules <= b.rule {
         return CheckedNode::Wrong;
     }
     let rule = whole_rule(rules, b.rule);
@@ -216,7 +243,7 @@ fn checked_node(
             if head.0 != c.head.0 {
                 return CheckedNode::Wrong;
             }
-            checked_leaf(edges, counts.edges, c, b.left, word, weight)
+            checked_leaf(edges, scope, c, b.left, word, weight)
         }
     }
 }
@@ -227,15 +254,15 @@ pub fn trace_checked(
     t: &[u32],
     rules: &[u32],
     edges: &[u32],
-    counts: Counts,
+    scope: Scope,
     d: Layout,
     part: Part,
     trace: &mut [u32],
 ) -> Traced
-    requires { ⌜ (InTable d (part .cell)) × (part .rank ≤ mostRanks) ⌝ }
+    requires { ⌜ (InTable d (part .cell)) × (part .rank ≤ mostRanks) × (scope .edges ≤ digits) ⌝ }
     ensures { λ r. ⌜ ((f : ℕ) → part .cell .to - part .cell .from ≤ f
-        → (r ≡ tracedOf (spelledWeight (now (t .entry)) (now (rules .entry)) (now (edges .entry)) counts d f (part .cell) (part .rank)) (length (traceBack (now (t .entry)) (now (rules .entry)) d f (part .cell) (part .rank))))
-        × ((w : ℕ) → spelledWeight (now (t .entry)) (now (rules .entry)) (now (edges .entry)) counts d f (part .cell) (part .rank) ≡ some w
+        → (r ≡ tracedOf (spelledWeight (now (t .entry)) (now (rules .entry)) (now (edges .entry)) scope d f (part .cell) (part .rank)) (length (traceBack (now (t .entry)) (now (rules .entry)) d f (part .cell) (part .rank))))
+        × ((w : ℕ) → spelledWeight (now (t .entry)) (now (rules .entry)) (now (edges .entry)) scope d f (part .cell) (part .rank) ≡ some w
         → now (trace .exit) ≡ storeAll (now (trace .entry)) 0 (traceBack (now (t .entry)) (now (rules .entry)) d f (part .cell) (part .rank)))) ⌝ }
 {
     let mut stack = [0usize; SPLITS];
@@ -252,7 +279,7 @@ pub fn trace_checked(
         let back = back_pointer(tree.back);
         store_node(trace, next, back);
         next = next + NUMBERS_PER_NODE;
-        let node = checked_node(rules, edges, counts, cell, back);
+        let node = checked_node(rules, edges, scope, cell, back);
         match node {
             CheckedNode::Pairing(first, second, w) => {
                 weight = weight + w;

@@ -22,8 +22,9 @@ use Rattle.derivation.proofs.HeardTheorems.{least-element}
 use Rattle.derivation.proofs.HeardReadings.{heard-last}
 use Rattle.heard_reader.specs.Answer.{isGraph}
 use Rattle.reading_writer.specs.Answer.{walkIn}
-use Rattle.chart.specs.Chart.{layOut}
-use Rattle.chart_theory.proofs.Chart.{RootHas}
+use Rattle.chart.specs.Chart.{layOut, rootTrace}
+use Rattle.chart_theory.specs.Spelled.{namesEdges}
+use Rattle.chart_theory.proofs.Chart.{RootSpells, has-spells}
 use Rattle.chart_theory.proofs.Accepted.{Holds, layout}
 use Rattle.listing.specs.Listing.{joined}
 use Rattle.listing.specs.Model.{formOf, blockAt, blocksAt}
@@ -62,14 +63,15 @@ abbrev pub form : Grammar → Heard → Form
 form g h = formOf (isGraph h) (lastPlace h) (length (g .rules))
 
 module _ (g : Grammar) (N : ℕ) (rules t : List ℕ) where
-  pub block-is : (h : Heard) → 1 ≤ lastPlace h → lastPlace h ≤ 24 → (x : ℕ) (z : Tree) → RootHas g (heardEdges h) rules (layout g h N) t x z → Derivation g h z
-      → blockAt t rules (layout g h N) (form g h) x ≡ packed g h z
+  pub block-is : (h : Heard) → 1 ≤ lastPlace h → lastPlace h ≤ 24 → (x : ℕ) (z : Tree) → RootSpells (namesEdges h) g (heardEdges h) rules (layout g h N) t x z
+      → Derivation g h z → blockAt t rules (layout g h N) (form g h) x ≡ packed g h z
   unfolding blockAt layOut reading graphReading
   block-is (slots u) some few x z has derived =
       let (m, p) = path t rules (layout g (slots u) N) x some few in
-      let edges : m ≡ length u = omega (arith, p .nodes, ap length (has .nodes), trace-length z, walk-path z, nodes g u z derived) in
+      let walks : map nodeRule (nodesIn rules (rootTrace t rules (layout g (slots u) N) x)) ≡ walk z = has .nodes ∙ walk-trace z in
+      let edges : m ≡ length u = omega (arith, p .nodes, simp length-map at (ap length walks), walk-path z, nodes g u z derived) in
       let stands = rw edges at (p .stands) in
-      rw (has .weighs, stands, walk-nodes rules, has .nodes, walk-trace z)
+      rw (has .weighs, stands, walk-nodes rules, walks)
   block-is (graph h) some few x z has derived =
       let (m, p) = path t rules (layout g (graph h) N) x some few in
       let edges : m ≡ pathLength z = omega (arith, p .nodes, ap length (has .nodes), trace-length z) in
@@ -79,7 +81,7 @@ module _ (g : Grammar) (N : ℕ) (rules t : List ℕ) where
     block-at : (x : ℕ) → x < m → At (blocks g h N) x (blockAt t rules (layout g h N) (form g h) x)
     block-at x l =
         let (z, rank) = holds .each x l in
-        rw (block-is h some (heard-last (g .words) h okh) x z (rank .has) (least-element g h N x z .0 (rank .place) .0))
+        rw (block-is h some (heard-last (g .words) h okh) x z (has-spells (namesEdges h) (rank .has)) (least-element g h N x z .0 (rank .place) .0))
         (at-map (packed g h) (leastDerivations g h N) x (rank .place))
 
     pub count-found : length (blocks g h N) ≡ m

@@ -10,6 +10,7 @@ use Rattle.chart_table.specs.Table.{root}
 use Rattle.chart_trace.proofs.Shape.{shape}
 use Rattle.chart.specs.Chart.{rootTrace, rootFound}
 use Rattle.open_listing.specs.Model.{Planned, handsOut, settled, outputBy}
+use Rattle.open_listing.specs.declared.Answer as A
 use Rattle.open_listing.specs.declared.Answer.the-variants.{Reading, NoMore, Refused}
 use Rattle.open_listing.specs.declared.Plan.{Plan}
 
@@ -38,13 +39,16 @@ module _ (t rules edges : List ℕ) (p : Plan) (x : ℕ) (planned : Planned p) w
       go true e = absurd (omega (arith, some-numbers))
       go false e = refl
 
-  -- what a call answers
-  pub found-settled : {a b c : Bool} → a ≡ rootFound t (p .layout) x → a ≡ true → b ≡ handsOut t rules edges p x → b ≡ c
-      → pick c Reading (Refused 53) ≡ settled t rules edges p x
+  -- what a call answers by what the table spells, and by whether the rank is found
+  pub spelled-settled : {b c : Bool} → b ≡ handsOut t rules edges p x → b ≡ c → pick c Reading (Refused 53) ≡ settled t rules edges p x true
   unfolding settled
-  found-settled e₁ e₂ e₃ e₄ = rw (← e₁, e₂, ← e₃, e₄)
+  spelled-settled e₁ e₂ = rw (← e₁, e₂)
 
-  pub not-found-settled : {a : Bool} → a ≡ rootFound t (p .layout) x → a ≡ false → NoMore ≡ settled t rules edges p x
+  pub found-settled : {a : Bool} {r : A.Answer} → a ≡ rootFound t (p .layout) x → a ≡ true → r ≡ settled t rules edges p x true
+      → r ≡ settled t rules edges p x (rootFound t (p .layout) x)
+  found-settled e₁ e₂ e₃ = rw (← e₁, e₂) e₃
+
+  pub not-found-settled : {a : Bool} → a ≡ rootFound t (p .layout) x → a ≡ false → NoMore ≡ settled t rules edges p x (rootFound t (p .layout) x)
   unfolding settled
   not-found-settled e₁ e₂ = rw (← e₁, e₂)
 

@@ -5,6 +5,7 @@ use mathlib.Core.List.{List}
 use Prim.Native.Nat.{ℕ, suc, _-_, _*_, _≤_, _<_}
 use native.Mathlib.Omega.{arith}
 use lib.ListN.{length, replicate, take}
+use lib.Seq.{length-take-le}
 use Rattle.packing.specs.Meaning.{Grammar, Heard, lastPlace, heardEdges}
 use Rattle.packing.specs.Parse.{Verdict, accepted, refused}
 use Rattle.packing.specs.Grammar.{grammarBlock}
@@ -15,7 +16,7 @@ use Rattle.packing.proofs.Whole.{grammar-block-out}
 use Rattle.packing.proofs.Heard.{heard-block-out}
 use Rattle.derivation.specs.Derivation.{Derivation}
 use Rattle.derivation.specs.Rank.{Number}
-use Rattle.chart_theory.proofs.Accepted.{layout, heard-sizes}
+use Rattle.chart_theory.proofs.Accepted.{layout}
 use Rattle.chart_theory.proofs.Search.Passes.{Listed}
 use Rattle.listing.specs.Listing.{tableSize}
 use Rattle.grammar_reader.specs.Answer.{sizes}
@@ -24,14 +25,15 @@ use Rattle.heard_reader.specs.Answer.{heardSize}
 use Rattle.heard_reader.specs.declared.HeardSize.{HeardSize}
 use Rattle.open_listing.specs.Left.{TableAfter, AsLeft}
 use Rattle.open_listing.specs.Open as S
-use Rattle.open_listing.specs.Model.{Planned, planOf, zeros, firstTable, nextTable, Searched, Untouched, Promised, HeardCalled, GrammarCalled, GrammarOpened}
+use Rattle.open_listing.specs.Model.{Planned, planOf, zeros, firstTable, nextTable, Answered, Searched, FirstCalled, Promised, HeardCalled, GrammarCalled, GrammarOpened}
 use Rattle.open_listing.specs.declared.Place.{Place}
 use Rattle.open_listing.specs.declared.Plan.{Plan}
 use Rattle.open_listing.specs.declared.Opened.the-variants as O
 use Rattle.open_listing.specs.declared.Answer as A
 use Rattle.open_listing.specs.declared.Answer.the-variants.{Full, Refused}
-use Rattle.open_listing.proofs.Plans.{plan, numbers-are, bytes-are}
-use Rattle.open_listing.proofs.Promises.{blocks, opening-short, opening-accepts, calling-short, calling-output, calling-accepts, called, after}
+use Rattle.open_listing.proofs.Zeros.{zeros-are, zeros-all}
+use Rattle.open_listing.proofs.Plans.{plan, numbers-are, bytes-are, front-fits}
+use Rattle.open_listing.proofs.Promises.{blocks, opening-short, opening-accepts, calling-short, calling-output, calling-accepts, called, as-it-is-called, after}
 use Rattle.open_listing.proofs.Steps as steps
 
 different : {X : Type 0} {v : Verdict S.Blocks} {n : ℕ} {b : S.Blocks} → v ≡ refused n → v ≡ accepted b → X
@@ -70,6 +72,16 @@ module _ (rules edges : List ℕ) (q : Plan) (planned : Planned q) (p : Place) (
       planned′ : Planned (plan g h)
       planned′ = rw is at planned
 
+      -- the test of the front says what it should
+      front-zero : zeros (take (4 * q .layout .cells) work) ≡ true → S.FrontZero g h work
+      front-zero z =
+          let size : length (take (4 * q .layout .cells) work) ≡ 4 * q .layout .cells = length-take-le _ work (front-fits q planned e room) in
+          let were : take (4 * q .layout .cells) work ≡ replicate (4 * q .layout .cells) 0 = rw size at (zeros-are _ z) in
+          rw is at were
+
+      zeros-front : S.FrontZero g h work → zeros (take (4 * q .layout .cells) work) ≡ true
+      zeros-front front = rw is (ap zeros front ∙ zeros-all (4 * S.layout g h .cells))
+
       -- nothing is kept of a place that no calls left
       never-left : {a : A.Answer} {work′ out′ : List ℕ} → ((b : S.Blocks) (k : ℕ) → k < 256 → AsLeft (b .grammar) (b .heard) k p work → ⊥)
           → S.Kept grammar heard p work out a work′ out′
@@ -100,73 +112,74 @@ module _ (rules edges : List ℕ) (q : Plan) (planned : Planned q) (p : Place) (
 
     pub not-opened : p .handed < 256 → (p .opened ≡ 1 → ⊥) → HeardCalled rules edges q p work out (Refused 53) work out
     not-opened below other grammar heard g h eg eh is begun begun′ = (
-      S.altered (calls grammar heard g h eg eh is) below refl (unchanged grammar heard (Refused 53)),
+      S.not-opened (calls grammar heard g h eg eh is) below other refl (unchanged grammar heard (Refused 53)),
       never-left grammar heard g h eg eh is (λ b k few left. other (left .opened)),
     )
 
-    -- the first call
-    module _ (none : p .handed ≡ 0) {a : A.Answer} {work′ out′ : List ℕ} where
-      first-searched : Searched (firstTable rules edges q work) rules edges q 0 work out a work′ out′ → HeardCalled rules edges q p work out a work′ out′
-      first-searched s grammar heard g h eg eh is begun begun′ =
+    -- where the place was opened
+    module _ (opened : p .opened ≡ 1) where
+      -- the first call
+      module _ (none : p .handed ≡ 0) {a : A.Answer} {work′ out′ : List ℕ} where
+        first-searched : zeros (take (4 * q .layout .cells) work) ≡ true → Searched (firstTable rules edges q work) rules edges q 0 work out a work′ out′
+            → HeardCalled rules edges q p work out a work′ out′
+        first-searched clear s grammar heard g h eg eh is begun begun′ =
+            let okg = grammar-block-out grammar g eg .0 in
+            let okh = heard-block-out (g .words) heard h eh .0 in
+            let table = firstTable rules edges (plan g h) work in
+            let s₁ : Searched (firstTable rules edges q work) rules edges q (p .handed) work out a work′ out′ = rw none s in
+            let s₂ : Searched table rules edges q (p .handed) work out a work′ out′ = rw (ap (λ (x : Plan). firstTable rules edges x work) is) at s₁ in
+            let s₃ : Searched table rules edges (plan g h) (p .handed) work out a work′ out′ = rw is at s₂ in
+            let below : p .handed < 256 = omega arith in
+            let front : S.FrontZero g h work = front-zero grammar heard g h eg eh is clear in (
+              called grammar heard g h eg eh rules edges begun begun′ (planned′ grammar heard g h eg eh is) p work out (calls grammar heard g h eg eh is)
+                  below table s₃ opened (steps.first-looked g h okg okh rules edges begun begun′ work p front none) (λ z. front),
+              kept grammar heard g h eg eh is begun begun′ below table s₂ (λ k left.
+                  let zero-left : TableAfter g h 0 work = rw (← left .handed, none) at (left .table) in
+                  rw none (steps.first-known g h okg okh rules edges begun begun′ work (fits grammar heard g h eg eh is) zero-left)),
+            )
+
+        first-altered : zeros (take (4 * q .layout .cells) work) ≡ false → Answered true work rules edges q 0 work out a work′ out′
+            → HeardCalled rules edges q p work out a work′ out′
+        first-altered other s grammar heard g h eg eh is begun begun′ =
+            let okg = grammar-block-out grammar g eg .0 in
+            let okh = heard-block-out (g .words) heard h eh .0 in
+            let s₁ : Answered true work rules edges (plan g h) (p .handed) work out a work′ out′ = rw (none, ← is) s in
+            let dirty : S.FrontZero g h work → ⊥ = λ front. false≢true (sym other ∙ zeros-front grammar heard g h eg eh is front) in (
+              as-it-is-called grammar heard g h eg eh rules edges begun begun′ (planned′ grammar heard g h eg eh is) p work out (calls grammar heard g h eg eh is)
+                  none opened dirty (steps.same-looked g h okg okh rules edges begun begun′ work p) s₁,
+              λ b f k few left n all.
+                  let now : blocks grammar heard g h eg eh ≡ b = accepted-is (sym (calls grammar heard g h eg eh is) ∙ f) in
+                  let left′ : AsLeft g h k p work = rw (← now) at left in
+                  let zero-left : TableAfter g h 0 work = rw (← left′ .handed, none) at (left′ .table) in
+                  absurd (dirty (steps.front-zero g h okg okh rules edges begun begun′ work (fits grammar heard g h eg eh is) zero-left)),
+            )
+
+        pub first-called : FirstCalled rules edges q work out a work′ out′ → HeardCalled rules edges q p work out a work′ out′
+        first-called due = go (zeros (take (4 * q .layout .cells) work)) refl
+          where
+            go : (b : Bool) → zeros (take (4 * q .layout .cells) work) ≡ b → HeardCalled rules edges q p work out a work′ out′
+            go true z = first-searched z (due .clear z)
+            go false z = first-altered z (due .altered z)
+
+      -- a later call
+      pub later-called : 1 ≤ p .handed → p .handed < 256 → {a : A.Answer} {work′ out′ : List ℕ}
+          → Searched (nextTable rules edges q (p .handed - 1) work) rules edges q (p .handed) work out a work′ out′
+          → HeardCalled rules edges q p work out a work′ out′
+      later-called some below {a} {work′} {out′} s grammar heard g h eg eh is begun begun′ =
           let okg = grammar-block-out grammar g eg .0 in
           let okh = heard-block-out (g .words) heard h eh .0 in
-          let table = firstTable rules edges (plan g h) work in
-          let s₁ : Searched (firstTable rules edges q work) rules edges q (p .handed) work out a work′ out′ = rw none s in
-          let s₂ : Searched table rules edges q (p .handed) work out a work′ out′ = rw (ap (λ (x : Plan). firstTable rules edges x work) is) at s₁ in
+          let x = p .handed - 1 in
+          let table = nextTable rules edges (plan g h) x work in
+          let s₂ : Searched table rules edges q (p .handed) work out a work′ out′ = rw (ap (λ (y : Plan). nextTable rules edges y x work) is) at s in
           let s₃ : Searched table rules edges (plan g h) (p .handed) work out a work′ out′ = rw is at s₂ in
-          let below : p .handed < 256 = omega arith in (
-            called grammar heard g h eg eh rules edges begun begun′ (planned′ grammar heard g h eg eh is) p work out (calls grammar heard g h eg eh is) below table s₃ (record {
-              first = λ z c l. steps.first-adds g h okg okh rules edges begun begun′ work c;
-              later = λ some. absurd (omega arith);
-            }),
+          let next : suc x ≡ p .handed = omega arith in (
+            called grammar heard g h eg eh rules edges begun begun′ (planned′ grammar heard g h eg eh is) p work out (calls grammar heard g h eg eh is)
+                below table s₃ opened (steps.later-looked g h okg okh rules edges begun begun′ work p some) (λ z. absurd (omega arith)),
             kept grammar heard g h eg eh is begun begun′ below table s₂ (λ k left.
-                let zero-left : TableAfter g h 0 work = rw (← left .handed, none) at (left .table) in
-                rw none (steps.first-known g h okg okh rules edges begun begun′ work (fits grammar heard g h eg eh is) zero-left)),
+                let before : TableAfter g h (suc x) work = rw (← left .handed, ← next) at (left .table) in
+                let known = steps.later-known g h okg okh rules edges begun begun′ work x (omega arith) before in
+                rw next at known),
           )
-
-      first-altered : zeros (take (4 * q .layout .cells) work) ≡ false → a ≡ Refused 53 → Untouched work out work′ out′ → HeardCalled rules edges q p work out a work′ out′
-      first-altered other e same grammar heard g h eg eh is begun begun′ =
-          let okg = grammar-block-out grammar g eg .0 in
-          let okh = heard-block-out (g .words) heard h eh .0 in (
-            S.altered (calls grammar heard g h eg eh is) (omega arith) e (record { table = same .table; output = same .output }),
-            λ b f k few left n all.
-                let now : blocks grammar heard g h eg eh ≡ b = accepted-is (sym (calls grammar heard g h eg eh is) ∙ f) in
-                let left′ : AsLeft g h k p work = rw (← now) at left in
-                let zero-left : TableAfter g h 0 work = rw (← left′ .handed, none) at (left′ .table) in
-                let all-zero = steps.front-zeros g h okg okh rules edges begun begun′ work (fits grammar heard g h eg eh is) zero-left in
-                absurd (false≢true (sym other ∙ rw is all-zero)),
-          )
-
-      pub first-called : (zeros (take (4 * q .layout .cells) work) ≡ true → Searched (firstTable rules edges q work) rules edges q 0 work out a work′ out′)
-          × (zeros (take (4 * q .layout .cells) work) ≡ false → (a ≡ Refused 53) × Untouched work out work′ out′)
-          → HeardCalled rules edges q p work out a work′ out′
-      first-called (clear, dirty) = go (zeros (take (4 * q .layout .cells) work)) refl
-        where
-          go : (b : Bool) → zeros (take (4 * q .layout .cells) work) ≡ b → HeardCalled rules edges q p work out a work′ out′
-          go true z = first-searched (clear z)
-          go false z = first-altered z (dirty z .0) (dirty z .1)
-
-    -- a later call
-    pub later-called : 1 ≤ p .handed → p .handed < 256 → {a : A.Answer} {work′ out′ : List ℕ}
-        → Searched (nextTable rules edges q (p .handed - 1) work) rules edges q (p .handed) work out a work′ out′
-        → HeardCalled rules edges q p work out a work′ out′
-    later-called some below {a} {work′} {out′} s grammar heard g h eg eh is begun begun′ =
-        let okg = grammar-block-out grammar g eg .0 in
-        let okh = heard-block-out (g .words) heard h eh .0 in
-        let x = p .handed - 1 in
-        let table = nextTable rules edges (plan g h) x work in
-        let s₂ : Searched table rules edges q (p .handed) work out a work′ out′ = rw (ap (λ (y : Plan). nextTable rules edges y x work) is) at s in
-        let s₃ : Searched table rules edges (plan g h) (p .handed) work out a work′ out′ = rw is at s₂ in
-        let next : suc x ≡ p .handed = omega arith in (
-          called grammar heard g h eg eh rules edges begun begun′ (planned′ grammar heard g h eg eh is) p work out (calls grammar heard g h eg eh is) below table s₃ (record {
-            first = λ z. absurd (omega arith);
-            later = λ l. steps.later-adds g h okg okh rules edges begun begun′ work (heard-sizes (g .words) h okh .0) x;
-          }),
-          kept grammar heard g h eg eh is begun begun′ below table s₂ (λ k left.
-              let before : TableAfter g h (suc x) work = rw (← left .handed, ← next) at (left .table) in
-              let known = steps.later-known g h okg okh rules edges begun begun′ work x (omega arith) before in
-              rw next at known),
-        )
 
 -- of a block of what was heard
 module _ (rules : List ℕ) (z : Sizes) (heard : List ℕ) (p : Place) (work out : List ℕ) where

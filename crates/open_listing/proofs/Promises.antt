@@ -1,11 +1,12 @@
 -- What a call is to promise, from what its search leaves: whatever the table held (`Called`), and after k readings (`Kept`).
 use mathlib.Core.Path.{_≡_, refl, sym, _∙_}
-use mathlib.Core.Bool.{Bool, true, false}
+use mathlib.Core.Bool.{Bool, true, false, false≢true}
 use mathlib.Core.List.{List, _++_}
-use Prim.Native.Nat.{ℕ, suc, _+_, _-_, _*_, _≤_, _<_}
+use Prim.Native.Nat.{ℕ, suc, _+_, _≤_, _<_}
 use native.Mathlib.Numerals.{add-one, one-add}
 use native.Mathlib.Omega.{arith}
-use borrow.Author.Tests.{lt-ltb, le-ltb}
+use borrow.Author.Tests.{lt-ltb, le-ltb, eqb-true, eqb-false, not-true, not-false}
+use lib.Dec.{eqb}
 use lib.ListN.{length, drop, length-take}
 use Rattle.bits.specs.Bits.{pick}
 use Rattle.packing.specs.Meaning.{Grammar, Heard, lastPlace, heardEdges}
@@ -22,11 +23,10 @@ use Rattle.derivation.specs.Heard.{outputLength, packed}
 use Rattle.derivation.specs.HeardList.{derivations}
 use Rattle.derivation.specs.Rank.{Number}
 use Rattle.derivation.proofs.HeardTheorems.{least-element, least-length}
-use Rattle.chart_table.specs.Table.{countFound}
-use Rattle.chart_steps.specs.Found.{foundRanks}
 use Rattle.chart.specs.Chart.{layOut, rootFound}
-use Rattle.chart_theory.proofs.Chart.{RootHas}
-use Rattle.chart_theory.proofs.Accepted.{layout, passed-spelled, Reached, rank-reached}
+use Rattle.chart_theory.specs.Spelled.{namesEdges, SpelledReading}
+use Rattle.chart_theory.proofs.Chart.{RootSpells, has-spells}
+use Rattle.chart_theory.proofs.Accepted.{layout, passed-spelled, spelled-passed, Reached, rank-reached}
 use Rattle.chart_theory.proofs.Search.Passes.{Listed}
 use Rattle.listing.specs.Listing.{tableSize}
 use Rattle.listing.specs.Demand3.{Ranked}
@@ -34,7 +34,7 @@ use Rattle.listing.proofs.Sizes.{size-is}
 use Rattle.listing.proofs.Blocks.{block-is}
 use Rattle.open_listing.specs.Left.{AsLeft}
 use Rattle.open_listing.specs.Open as S
-use Rattle.open_listing.specs.Model.{Planned, isReading, handsOut, settled, Searched}
+use Rattle.open_listing.specs.Model.{Planned, isReading, handsOut, settled, Answered, Searched}
 use Rattle.open_listing.specs.declared.Place.{Place}
 use Rattle.open_listing.specs.declared.Answer as A
 use Rattle.open_listing.specs.declared.Answer.the-variants.{Reading, NoMore, Refused}
@@ -81,49 +81,70 @@ module _ (grammar heard : List ℕ) (g : Grammar) (h : Heard) (eg : grammarBlock
   okh : ValidHeard (g .words) h
   okh = heard-block-out (g .words) heard h eh .0
 
-  pub record Gains (table : List ℕ) : Type 0 where
-    pub first : p .handed ≡ 0 → (c : ℕ) → c < layout g h 256 .cells → countFound table (layout g h 256) c ≤ countFound work (layout g h 256) c + 1
-    pub later : 1 ≤ p .handed → foundRanks table (layout g h 256) ≤ foundRanks work (layout g h 256) + (2 * lastPlace h - 1)
-
   -- whatever the table held
-  module _ (below : p .handed < 256) (table : List ℕ) {r : A.Answer} {work′ out′ : List ℕ}
-      (searched : Searched table rules edges (plan g h) (p .handed) work out r work′ out′) where
+  module _ (below : p .handed < 256) {found : Bool} (table : List ℕ) {r : A.Answer} {work′ out′ : List ℕ}
+      (answered : Answered found table rules edges (plan g h) (p .handed) work out r work′ out′) where
     nothing-left : (a : A.Answer) → r ≡ a → isReading a ≡ false → S.Unchanged grammar heard p work out r work′ out′
-    nothing-left a e n = record { table = rw (e, n) at (searched .left); output = rw (e, n) at (searched .output) }
+    nothing-left a e n = record { table = rw (e, n) at (answered .left); output = rw (e, n) at (answered .output) }
 
-    -- the reading that is written, of a derivation that the rank has
-    written : (z : Tree) → Derivation g h z → RootHas g (heardEdges h) rules (layout g h 256) table (p .handed) z → r ≡ Reading
+    -- the reading that is written, of a derivation that the rank spells
+    written : (z : Tree) → Derivation g h z → RootSpells (namesEdges h) g (heardEdges h) rules (layout g h 256) table (p .handed) z → r ≡ Reading
         → out′ ≡ packed g h z ++ drop (outputLength g h) out
     unfolding layOut
     written z derived has e =
-        rw e at (searched .output)
+        rw e at (answered .output)
         ∙ rw (block-is g 256 rules table h (planned .form .some-place) (planned .form .places) (p .handed) z has derived, size-is g h)
 
-    one-more : r ≡ Reading → Gains table → handsOut table rules edges (plan g h) (p .handed) ≡ true → S.OneMore grammar heard p work out r work′ out′ g h
-    one-more e gains hands =
+    one-more : r ≡ Reading → S.Looked g h p work table → handsOut table rules edges (plan g h) (p .handed) ≡ true
+        → S.OneMore grammar heard p work out r work′ out′ g h
+    one-more e looked hands =
         let (z, derived, has, spelled) = passed-spelled g h 256 okg okh (omega arith) (omega arith) rules edges begun begun′ table (p .handed) hands in
-        let left : work′ ≡ table = rw e at (searched .left) in
-        rw left (record {
-          tree = z;
-          derivation = derived;
-          written = written z derived has e;
-          spelled = spelled;
-          first-adds = gains .first;
-          later-adds = gains .later;
-        })
+        let left : work′ ≡ table = rw e at (answered .left) in
+        rw left (record { tree = z; derivation = derived; written = written z derived has e; spelled = spelled; looked = looked })
 
-    answer-is : r ≡ pick (rootFound table (layout g h 256) (p .handed)) (pick (handsOut table rules edges (plan g h) (p .handed)) Reading (Refused 53)) NoMore
+    answer-is : r ≡ pick found (pick (handsOut table rules edges (plan g h) (p .handed)) Reading (Refused 53)) NoMore
     unfolding settled
-    answer-is = searched .answer
+    answer-is = answered .answer
 
-    pub called : Gains table → S.Called grammar heard p work out r work′ out′
-    called gains = go (rootFound table (layout g h 256) (p .handed)) (handsOut table rules edges (plan g h) (p .handed)) refl answer-is
+    -- no reading that passes is spelled
+    abbrev NonePasses : Type 0
+    NonePasses = (z : Tree) → Derivation g h z → SpelledReading g h (S.layout g h) table (p .handed) z → ⊥
+
+    -- by what is known of the table where the rank is taken for found, and where not
+    called-by : p .opened ≡ 1 → S.Looked g h p work table → (found ≡ true → NonePasses → S.Astray g h p work table)
+        → (found ≡ false → S.Missing g h p work table) → S.Called grammar heard p work out r work′ out′
+    called-by opened looked astray missing = go found (handsOut table rules edges (plan g h) (p .handed)) refl refl answer-is
       where
-        go : (a b : Bool) → handsOut table rules edges (plan g h) (p .handed) ≡ b → r ≡ pick a (pick b Reading (Refused 53)) NoMore
+        none-passes : handsOut table rules edges (plan g h) (p .handed) ≡ false → NonePasses
+        none-passes f z derived spelled =
+            false≢true (sym f ∙ spelled-passed g h 256 okg okh (omega arith) (omega arith) rules edges begun begun′ table (p .handed) z derived spelled)
+
+        go : (a b : Bool) → found ≡ a → handsOut table rules edges (plan g h) (p .handed) ≡ b → r ≡ pick a (pick b Reading (Refused 53)) NoMore
             → S.Called grammar heard p work out r work′ out′
-        go false b hands e = S.no-more calls below e (nothing-left NoMore e refl)
-        go true false hands e = S.altered calls below e (nothing-left (Refused 53) e refl)
-        go true true hands e = S.one-more calls below e (one-more e gains hands)
+        go false b is hands e = S.no-more calls below opened (missing is) e (nothing-left NoMore e refl)
+        go true false is hands e = S.altered calls below opened (astray is (none-passes hands)) e (nothing-left (Refused 53) e refl)
+        go true true is hands e = S.one-more calls below opened e (one-more e looked hands)
+
+  -- of a table as it is, whose front is not zeros
+  pub as-it-is-called : p .handed ≡ 0 → p .opened ≡ 1 → (S.FrontZero g h work → ⊥) → S.Looked g h p work work → {r : A.Answer} {work′ out′ : List ℕ}
+      → Answered true work rules edges (plan g h) (p .handed) work out r work′ out′ → S.Called grammar heard p work out r work′ out′
+  as-it-is-called first opened dirty looked answered =
+      called-by (omega arith) work answered opened looked
+      (λ is none. record { looked = looked; none = none; later-found = λ some. absurd (omega arith); first-found = λ z front. absurd (dirty front) })
+      (λ is. absurd (false≢true (sym is)))
+
+  -- of a table in which the rank was looked for
+  module _ (below : p .handed < 256) (table : List ℕ) {r : A.Answer} {work′ out′ : List ℕ}
+      (searched : Searched table rules edges (plan g h) (p .handed) work out r work′ out′) where
+    pub called : p .opened ≡ 1 → S.Looked g h p work table → (p .handed ≡ 0 → S.FrontZero g h work) → S.Called grammar heard p work out r work′ out′
+    unfolding rootFound
+    called opened looked front =
+        let price = S.soughtPrice g h p work table in
+        called-by below table searched opened looked
+        (λ is none.
+        let some : 0 < price = omega (arith, eqb-false price 0 (not-true (eqb price 0) is)) in
+        record { looked = looked; none = none; later-found = λ l. some; first-found = λ z f. some })
+        (λ is. record { looked = looked; missing = eqb-true price 0 (not-false (eqb price 0) is); front = front })
 
     -- where the ranks of the root are known up to the one that was looked for
     module _ (known : Listed g (heardEdges h) (layout g h 256) (p .handed) table) where
@@ -143,7 +164,7 @@ module _ (grammar heard : List ℕ) (g : Grammar) (h : Heard) (eg : grammarBlock
         gives more =
             let (found, hands, (z, rank)) = reached .some more in
             let (derived, ranks, few) = least-element g h 256 (p .handed) z .0 (rank .place) in
-            let reads : r ≡ Reading = answer-is ∙ rw (found, hands) in
+            let reads : r ≡ Reading = answer-is below table searched ∙ rw (found, hands) in
             let left : work′ ≡ table = rw reads at (searched .left) in (
               z,
               record {
@@ -152,12 +173,12 @@ module _ (grammar heard : List ℕ) (g : Grammar) (h : Heard) (eg : grammarBlock
                 no-other = λ s c also. let there = least-element g h 256 (p .handed) s .1 (c, rw (one-add (p .handed)) also, few) in cc;
               },
               reads,
-              written z derived (rank .has) reads,
+              written below table searched z derived (has-spells (namesEdges h) (rank .has)) reads,
               rw (left, reads) (record { handed = add-one (p .handed); opened = opened; table = known }),
             )
 
         pub after : (n : ℕ) → Number (Derivation g h) n → S.After grammar heard p work out r work′ out′ g h (p .handed) n
         after n all = record {
           gives = λ more. gives (omega (arith, number-is n all));
-          says-no-more = λ none. answer-is ∙ rw (reached .none (omega (arith, number-is n all)));
+          says-no-more = λ none. answer-is below table searched ∙ rw (reached .none (omega (arith, number-is n all)));
         }

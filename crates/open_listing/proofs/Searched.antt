@@ -1,5 +1,5 @@
 -- What is left where a rank of the root was looked for: the new table, or the old one. Of a later call it is put back from the journal, of a first
--- call the front is made zeros again, which it was.
+-- call the front is made zeros again, which it was; where it was not, the table is taken as it is.
 use mathlib.Core.Path.{_≡_, refl, sym, ap, _∙_}
 use mathlib.Core.Bool.{Bool, true, false, false≢true}
 use mathlib.Core.List.{List, _++_}
@@ -7,33 +7,33 @@ use Prim.Native.Nat.{ℕ, _*_, _≤_}
 use native.Mathlib.Omega.{arith}
 use lib.ListN.{length, take, drop, replicate, take-append-drop}
 use lib.Seq.{length-take-le, take-at, drop-at}
+use Rattle.bits.specs.Bits.{pick}
 use Rattle.chart_index.specs.Index.{indexNumbers}
 use Rattle.chart_index.specs.Build.{makeIndex}
 use Rattle.chart_table.specs.Journal.{putBack}
 use Rattle.chart_search.specs.Search.{nextOfRoot, keepOfRoot}
-use Rattle.chart.specs.Chart.{enumerate}
+use Rattle.chart.specs.Chart.{enumerate, rootFound}
 use Rattle.chart_theory.proofs.Plane.{single}
 use Rattle.chart_steps.proofs.Undo.{search-undone}
-use Rattle.open_listing.specs.Model.{Planned, zeros, isReading, settled, outputBy, firstTable, nextTable, Searched, Untouched}
+use Rattle.open_listing.specs.Model.{Planned, zeros, isReading, settled, outputBy, firstTable, nextTable, Searched, FirstCalled}
 use Rattle.open_listing.specs.declared.Plan.{Plan}
 use Rattle.open_listing.specs.declared.Answer as A
-use Rattle.open_listing.specs.declared.Answer.the-variants.{Refused}
 use Rattle.open_listing.proofs.Zeros.{zeros-are}
 
 -- the new table stays where a reading is handed out, and something else where not
 module _ (table rules edges : List ℕ) (p : Plan) (x : ℕ) (work out : List ℕ) where
-  pub stays : {r : A.Answer} {b : Bool} {t out′ : List ℕ} → t ≡ table → r ≡ settled t rules edges p x → out′ ≡ outputBy (isReading r) t rules p x out
-      → b ≡ isReading r → b ≡ true → Searched table rules edges p x work out r t out′
+  pub stays : {r : A.Answer} {b : Bool} {t out′ : List ℕ} → t ≡ table → r ≡ settled t rules edges p x (rootFound t (p .layout) x)
+      → out′ ≡ outputBy (isReading r) t rules p x out → b ≡ isReading r → b ≡ true → Searched table rules edges p x work out r t out′
   stays {r} e answer output is reading = record {
-    answer = answer ∙ ap (λ (t : List ℕ). settled t rules edges p x) e;
+    answer = answer ∙ ap (λ (t : List ℕ). settled t rules edges p x (rootFound t (p .layout) x)) e;
     left = e ∙ rw (← is, reading);
     output = output ∙ ap (λ (t : List ℕ). outputBy (isReading r) t rules p x out) e;
   }
 
-  pub goes-back : {r : A.Answer} {b : Bool} {t work′ out′ : List ℕ} → t ≡ table → r ≡ settled t rules edges p x
+  pub goes-back : {r : A.Answer} {b : Bool} {t work′ out′ : List ℕ} → t ≡ table → r ≡ settled t rules edges p x (rootFound t (p .layout) x)
       → out′ ≡ outputBy (isReading r) t rules p x out → b ≡ isReading r → b ≡ false → work′ ≡ work → Searched table rules edges p x work out r work′ out′
   goes-back {r} e answer output is reading back = record {
-    answer = answer ∙ ap (λ (t : List ℕ). settled t rules edges p x) e;
+    answer = answer ∙ ap (λ (t : List ℕ). settled t rules edges p x (rootFound t (p .layout) x)) e;
     left = back ∙ rw (← is, reading);
     output = output ∙ ap (λ (t : List ℕ). outputBy (isReading r) t rules p x out) e;
   }
@@ -55,17 +55,19 @@ module _ (rules edges : List ℕ) (p : Plan) (work out : List ℕ) (fits : 4 * p
   abbrev front : ℕ
   front = 4 * p .layout .cells
 
-  -- what is promised
-  abbrev pub First : A.Answer → (work′ out′ : List ℕ) → Type 0
-  First r work′ out′ =
-      (zeros (take front work) ≡ true → Searched (firstTable rules edges p work) rules edges p 0 work out r work′ out′)
-      × (zeros (take front work) ≡ false → (r ≡ Refused 53) × Untouched work out work′ out′)
-
   pub front-size : length (take front work) ≡ front
   front-size = length-take-le front work fits
 
-  pub not-zeros : {b : Bool} → b ≡ zeros (take front work) → b ≡ false → First (Refused 53) work out
-  not-zeros e f = ((λ z. absurd (false≢true (sym f ∙ e ∙ z))), λ z. (refl, record { table = refl; output = refl }))
+  pub not-zeros : {b : Bool} {r : A.Answer} {out′ : List ℕ} → b ≡ zeros (take front work) → b ≡ false → r ≡ settled work rules edges p 0 true
+      → out′ ≡ outputBy (isReading r) work rules p 0 out → FirstCalled rules edges p work out r work out′
+  not-zeros {r = r} e f answer output = record {
+    clear = λ z. absurd (false≢true (sym f ∙ e ∙ z));
+    altered = λ z. record { answer = answer; left = either (isReading r); output = output };
+  }
+    where
+      either : (b : Bool) → work ≡ pick b work work
+      either true = refl
+      either false = refl
 
   module _ {b : Bool} (test : b ≡ zeros (take front work)) (clear : b ≡ true) {e : List ℕ}
       (made : e ≡ enumerate rules (p .form .rules) edges (p .edges) (single (p .layout)) (length (take front work))) where
@@ -73,8 +75,9 @@ module _ (rules edges : List ℕ) (p : Plan) (work out : List ℕ) (fits : 4 * p
     unfolding firstTable
     table-first = rw (made, front-size)
 
-    pub promised : {r : A.Answer} {work′ out′ : List ℕ} → Searched (firstTable rules edges p work) rules edges p 0 work out r work′ out′ → First r work′ out′
-    promised s = ((λ z. s), λ z. absurd (false≢true (sym z ∙ sym test ∙ clear)))
+    pub promised : {r : A.Answer} {work′ out′ : List ℕ} → Searched (firstTable rules edges p work) rules edges p 0 work out r work′ out′
+        → FirstCalled rules edges p work out r work′ out′
+    promised s = record { clear = λ z. s; altered = λ z. absurd (false≢true (sym z ∙ sym test ∙ clear)) }
 
     -- the front was zeros
     pub zeros-again : length e ≡ length (take front work) → {z work′ : List ℕ} → z ≡ replicate (length (take front (e ++ drop front work))) 0

@@ -1,6 +1,6 @@
--- The tables that a first call and a later one search: what they gain, and that the ranks of the root are known in them where they were left so.
-use mathlib.Core.Path.{_≡_, ap, _∙_}
-use mathlib.Core.Bool.{true}
+-- The tables that a first call and a later one search: what stays and what they gain, and that the ranks of the root are known in them where they were
+-- left so.
+use mathlib.Core.Path.{_≡_, refl, ap, _∙_}
 use mathlib.Core.List.{List}
 use Prim.Native.Nat.{ℕ, suc, _+_, _-_, _*_, _≤_, _<_}
 use native.Mathlib.Omega.{arith}
@@ -9,38 +9,56 @@ use Rattle.packing.specs.Meaning.{Grammar, Heard, lastPlace, heardEdges}
 use Rattle.packing.specs.Flat.{Begins, ruleNumbers, edgeNumbers}
 use Rattle.packing.specs.Valid.{ValidGrammar, ValidHeard}
 use Rattle.chart_table.specs.declared.Layout.{Layout}
-use Rattle.chart_table.specs.Table.{countFound}
-use Rattle.chart_steps.specs.Found.{foundRanks}
 use Rattle.chart_steps.proofs.Added.{search-adds}
+use Rattle.chart_steps.proofs.Kept.{search-keeps}
 use Rattle.chart.specs.Chart.{layOut, enumerate}
 use Rattle.chart.proofs.Front.{take-zeros}
-use Rattle.chart_theory.proofs.Accepted.{layout, first-reached, next-reached, front-filled}
+use Rattle.chart_theory.proofs.Accepted.{layout, heard-sizes, first-reached, next-reached, front-filled}
 use Rattle.chart_theory.proofs.Search.Passes.{Listed}
 use Rattle.listing.specs.Listing.{tableSize}
-use Rattle.open_listing.specs.Model.{zeros, firstTable, nextTable}
+use Rattle.open_listing.specs.Open as S
+use Rattle.open_listing.specs.Model.{firstTable, nextTable}
+use Rattle.open_listing.specs.declared.Place.{Place}
 use Rattle.open_listing.proofs.Plans.{plan}
 use Rattle.open_listing.proofs.Counted as counted
-use Rattle.open_listing.proofs.Zeros.{zeros-all, drop-zeros}
+use Rattle.open_listing.proofs.Zeros.{drop-zeros}
 
 module _ (g : Grammar) (h : Heard) (okg : ValidGrammar g) (okh : ValidHeard (g .words) h) (rules edges : List ℕ) (begun : Begins (ruleNumbers g) rules)
     (begun′ : Begins (edgeNumbers (heardEdges h)) edges) (work : List ℕ) where
   abbrev d : Layout
   d = layout g h 256
 
-  pub first-adds : (c : ℕ) → countFound (firstTable rules edges (plan g h) work) d c ≤ countFound work d c + 1
-  unfolding firstTable layOut
-  first-adds c = counted.first-adds d
-      (enumerate rules (length (g .rules)) edges (length (heardEdges h)) (layOut (g .symbols) (lastPlace h) 1) (4 * d .cells)) work (front-filled g h 256 okg okh (omega arith) (omega arith) rules edges begun begun′) c
+  -- a first call, whose front was zeros
+  module _ (p : Place) (clear : S.FrontZero g h work) (none : p .handed ≡ 0) where
+    pub first-looked : S.Looked g h p work (firstTable rules edges (plan g h) work)
+    unfolding firstTable layOut
+    first-looked =
+        let e = enumerate rules (length (g .rules)) edges (length (heardEdges h)) (layOut (g .symbols) (lastPlace h) 1) (4 * d .cells) in
+        let size = front-filled g h 256 okg okh (omega arith) (omega arith) rules edges begun begun′ in
+        record {
+          stays = λ c x l few found. counted.first-stays d e work size clear c x l found;
+          first-adds = λ z c l. counted.first-adds d e work size c;
+          later-adds = λ some. absurd (omega arith);
+        }
 
-  pub later-adds : 1 ≤ lastPlace h → (x : ℕ) → foundRanks (nextTable rules edges (plan g h) x work) d ≤ foundRanks work d + (2 * lastPlace h - 1)
+  -- and one whose front was not, where nothing is looked for
+  pub same-looked : (p : Place) → S.Looked g h p work work
+  same-looked p = record { stays = λ c x l few found. (refl, refl); first-adds = λ z c l. omega arith; later-adds = λ some. omega arith }
+
+  -- a later call
+  pub later-looked : (p : Place) → 1 ≤ p .handed → S.Looked g h p work (nextTable rules edges (plan g h) (p .handed - 1) work)
   unfolding nextTable layOut
-  later-adds some x = search-adds (d .cells * d .ranks) rules edges _ d work x some
+  later-looked p some = record {
+    stays = λ c x l few found. search-keeps rules edges _ d work (p .handed - 1) c x found;
+    first-adds = λ z. absurd (omega arith);
+    later-adds = λ z. search-adds (d .cells * d .ranks) rules edges _ d work (p .handed - 1) (heard-sizes (g .words) h okh .0);
+  }
 
   -- from zeros
   module _ (room : tableSize (g .symbols) (lastPlace h) 256 ≤ length work) (is : work ≡ replicate (length work) 0) where
-    pub front-zeros : zeros (take (4 * d .cells) work) ≡ true
+    pub front-zero : S.FrontZero g h work
     unfolding tableSize layOut
-    front-zeros = ap zeros (ap (take (4 * d .cells)) is ∙ take-zeros (length work) (4 * d .cells) (omega (arith, room))) ∙ zeros-all (4 * d .cells)
+    front-zero = ap (take (4 * d .cells)) is ∙ take-zeros (length work) (4 * d .cells) (omega (arith, room))
 
     pub first-known : Listed g (heardEdges h) d 0 (firstTable rules edges (plan g h) work)
     unfolding firstTable tableSize layOut

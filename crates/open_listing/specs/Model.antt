@@ -4,7 +4,7 @@ use mathlib.Core.Bool.{Bool, true, false}
 use mathlib.Core.List.{List, [], _∷_, _++_}
 use Prim.Native.Nat.{ℕ, _*_, _≤_}
 use lib.Dec.{eqb}
-use lib.ListN.{length, drop, replicate}
+use lib.ListN.{length, take, drop, replicate}
 use Rattle.bits.specs.Bits.{pick}
 use Rattle.packing.specs.Meaning.{Grammar, Heard, heardEdges}
 use Rattle.packing.specs.Parse.{accepted}
@@ -56,13 +56,13 @@ pub record Planned (p : Plan) : Type 0 where
   pub edges : p .edges ≤ 256
 
 module _ (t rules edges : List ℕ) (p : Plan) (x : ℕ) where
-  -- whether rank x of the root is handed out, once it is found: the table spells a derivation there, of the weight of its price
+  -- whether the table spells a derivation at rank x of the root, of the weight of its price
   abbrev pub handsOut : Bool
-  handsOut = rootSpelled t rules edges (record { rules = p .form .rules; edges = p .edges }) (p .layout) x
+  handsOut = rootSpelled t rules edges (record { rules = p .form .rules; edges = p .edges; named = p .form .graph }) (p .layout) x
 
-  -- the answer
-  unfoldable pub settled : A.Answer
-  settled = pick (rootFound t (p .layout) x) (pick handsOut Reading (Refused 53)) NoMore
+  -- the answer, where the rank is there, which the first test says
+  unfoldable pub settled : Bool → A.Answer
+  settled found = pick found (pick handsOut Reading (Refused 53)) NoMore
 
 -- the output, if the reading is written and if it is not
 abbrev pub outputBy : Bool → (t rules : List ℕ) → Plan → ℕ → List ℕ → List ℕ
@@ -78,15 +78,20 @@ nextTable rules edges p x work =
     nextOfRoot rules edges (makeIndex rules (p .form .rules) (p .layout .symbols) edges (p .edges) (p .layout .places) (replicate indexNumbers 0))
     (p .layout) work x
 
--- what is left where rank x was looked for: the new table and the reading, or everything as it was
-pub record Searched (table rules edges : List ℕ) (p : Plan) (x : ℕ) (work out : List ℕ) (r : A.Answer) (work′ out′ : List ℕ) : Type 0 where
-  pub answer : r ≡ settled table rules edges p x
+-- what is left where rank x is there or not, as the first test says: the table and the reading, or everything as it was
+pub record Answered (found : Bool) (table rules edges : List ℕ) (p : Plan) (x : ℕ) (work out : List ℕ) (r : A.Answer) (work′ out′ : List ℕ) : Type 0 where
+  pub answer : r ≡ settled table rules edges p x found
   pub left : work′ ≡ pick (isReading r) table work
   pub output : out′ ≡ outputBy (isReading r) table rules p x out
 
-pub record Untouched (work out work′ out′ : List ℕ) : Type 0 where
-  pub table : work′ ≡ work
-  pub output : out′ ≡ out
+-- in a table in which it was looked for
+abbrev pub Searched : (table rules edges : List ℕ) → Plan → ℕ → (work out : List ℕ) → A.Answer → (work′ out′ : List ℕ) → Type 0
+Searched table rules edges p x = Answered (rootFound table (p .layout) x) table rules edges p x
+
+-- what a first call leaves: it searches a table whose front is zeros, and takes another as it is
+pub record FirstCalled (rules edges : List ℕ) (p : Plan) (work out : List ℕ) (r : A.Answer) (work′ out′ : List ℕ) : Type 0 where
+  pub clear : zeros (take (4 * p .layout .cells) work) ≡ true → Searched (firstTable rules edges p work) rules edges p 0 work out r work′ out′
+  pub altered : zeros (take (4 * p .layout .cells) work) ≡ false → Answered true work rules edges p 0 work out r work′ out′
 
 -- what is promised where the edges of what was heard are in an array, and where the rules of a grammar are
 abbrev pub Promised : (grammar heard : List ℕ) → Place → (work out : List ℕ) → A.Answer → (work′ out′ : List ℕ) → Type 0

@@ -6,7 +6,7 @@ use chart_table::Layout;
 use chart_table::MOST_RANKS;
 use chart_table::journal::JOURNAL_NUMBERS;
 use chart_table::zero;
-use chart_trace::checked::Counts;
+use chart_trace::checked::Scope;
 use grammar_reader::GrammarRead;
 use grammar_reader::Sizes;
 use heard_reader::HeardRead;
@@ -21,12 +21,13 @@ use packing::format::RULES_LENGTH;
 use packing::format::TRACE_LENGTH;
 use packing::refused;
 ghost use mathlib.Core.Path.{_≡_};
-ghost use mathlib.Core.Bool.{true, false};
+ghost use mathlib.Core.Bool.{true};
 ghost use Prim.Native.Nat.{_-_, _*_, _≤_, _<_};
-ghost use lib.ListN.{length, take};
+ghost use lib.ListN.{length};
+ghost use Rattle.chart.specs.Chart.{rootFound};
 ghost use Rattle.grammar_reader.specs.Answer.{Bounded};
 ghost use Rattle.open_listing.specs.Open.{opening, openedOf, tableOpened, Called, Kept};
-ghost use Rattle.open_listing.specs.Model.{zeros, Planned, planOf, handsOut, settled, isReading, outputBy, firstTable, nextTable, Searched, Untouched, HeardCalled, GrammarOpened, GrammarCalled};
+ghost use Rattle.open_listing.specs.Model.{zeros, Planned, planOf, handsOut, settled, isReading, outputBy, nextTable, Searched, FirstCalled, HeardCalled, GrammarOpened, GrammarCalled};
 
 // An open listing's place: how many readings were handed out, and whether it was opened.
 #[repr(C)]
@@ -106,18 +107,38 @@ fn hand_out(
         × (now (out .exit) ≡ outputBy r (now (t .entry)) (now (rules .entry)) plan rank (now (out .entry))) ⌝ }
 {
     let d = plan.layout;
-    let counts = Counts {
+    let scope = Scope {
         rules: plan.form.rules,
         edges: plan.edges,
+        named: plan.form.graph,
     };
     let mut trace = [0u32; TRACE_LENGTH];
-    let numbers = steps::checked_root(t, rules, edges, counts, d, rank, &mut trace);
+    let numbers = steps::checked_root(t, rules, edges, scope, d, rank, &mut trace);
     if numbers == 0 {
         return false;
     }
     let traced = TracedRank { rank, numbers };
     write_traced(t, rules, plan.form, d, traced, &trace, out);
     true
+}
+
+// What a call answers by what the table spells at a rank of the root: that reading, or 53.
+fn as_spelled(
+    t: &[u32],
+    rules: &[u32],
+    edges: &[u32],
+    plan: Plan,
+    rank: usize,
+    out: &mut [u8],
+) -> Answer
+    requires { ⌜ (Planned plan) × (rank < plan .layout .ranks) × (plan .form .size ≤ length (now out)) ⌝ }
+    ensures { λ r. ⌜ (r ≡ settled (now (t .entry)) (now (rules .entry)) (now (edges .entry)) plan rank true)
+        × (now (out .exit) ≡ outputBy (isReading r) (now (t .entry)) (now (rules .entry)) plan rank (now (out .entry))) ⌝ }
+{
+    if hand_out(t, rules, edges, plan, rank, out) {
+        return Answer::Reading;
+    }
+    Answer::Refused(refused::OPEN_ALTERED)
 }
 
 // What a call answers once a rank of the root was looked for.
@@ -130,25 +151,19 @@ fn settle(
     out: &mut [u8],
 ) -> Answer
     requires { ⌜ (Planned plan) × (rank < plan .layout .ranks) × (plan .form .size ≤ length (now out)) ⌝ }
-    ensures { λ r. ⌜ (r ≡ settled (now (t .entry)) (now (rules .entry)) (now (edges .entry)) plan rank)
+    ensures { λ r. ⌜ (r ≡ settled (now (t .entry)) (now (rules .entry)) (now (edges .entry)) plan rank (rootFound (now (t .entry)) (plan .layout) rank))
         × (now (out .exit) ≡ outputBy (isReading r) (now (t .entry)) (now (rules .entry)) plan rank (now (out .entry))) ⌝ }
 {
     if steps::root_found(t, plan.layout, rank) {
-        if hand_out(t, rules, edges, plan, rank, out) {
-            return Answer::Reading;
-        }
-        return Answer::Refused(refused::OPEN_ALTERED);
+        return as_spelled(t, rules, edges, plan, rank, out);
     }
     Answer::NoMore
 }
 
-// The first call: one rank of each cell is looked for, at the table's front, which is to be zeros.
+// The first call: one rank of each cell is looked for, at the table's front, if that is zeros. If not, the table is taken as it is.
 fn first(work: &mut [u32], rules: &[u32], edges: &[u32], plan: Plan, out: &mut [u8]) -> Answer
     requires { ⌜ (Planned plan) × (plan .form .size ≤ length (now out)) × (4 * plan .layout .cells ≤ length (now work)) ⌝ }
-    ensures { λ r. ⌜ (zeros (take (4 * plan .layout .cells) (now (work .entry))) ≡ true
-        → Searched (firstTable (now (rules .entry)) (now (edges .entry)) plan (now (work .entry))) (now (rules .entry)) (now (edges .entry)) plan 0 (now (work .entry)) (now (out .entry)) r (now (work .exit)) (now (out .exit)))
-        × (zeros (take (4 * plan .layout .cells) (now (work .entry))) ≡ false
-        → (r ≡ Answer.Refused 53) × Untouched (now (work .entry)) (now (out .entry)) (now (work .exit)) (now (out .exit))) ⌝ }
+    ensures { λ r. ⌜ FirstCalled (now (rules .entry)) (now (edges .entry)) plan (now (work .entry)) (now (out .entry)) r (now (work .exit)) (now (out .exit)) ⌝ }
 {
     let d = plan.layout;
     let front = chart_table::ENTRY_NUMBERS * d.cells;
@@ -174,7 +189,7 @@ fn first(work: &mut [u32], rules: &[u32], edges: &[u32], plan: Plan, out: &mut [
         zero(&mut work[..front]);
         return answer;
     }
-    Answer::Refused(refused::OPEN_ALTERED)
+    as_spelled(&work[..], rules, edges, plan, 0, out)
 }
 
 // A later call: the rank behind the last that was handed out is looked for. Unless it is handed out, what was written over is put back.

@@ -56,16 +56,18 @@ module _ {grammar heard : List ℕ} {p : Place} {work out : List ℕ} {a : A.Ans
   idle-changes : S.Called grammar heard p work out a work′ out′ → (a ≡ Reading → ⊥) → S.Unchanged grammar heard p work out a work′ out′
   idle-changes (S.turned-away e is same) other = same
   idle-changes (S.full e many is same) other = same
-  idle-changes (S.altered e below is same) other = same
-  idle-changes (S.no-more e below is same) other = same
-  idle-changes (S.one-more e below is more) other = absurd (other is)
+  idle-changes (S.not-opened e below closed is same) other = same
+  idle-changes (S.altered e below opened astray is same) other = same
+  idle-changes (S.no-more e below opened missing is same) other = same
+  idle-changes (S.one-more e below opened is more) other = absurd (other is)
 
   full-said : S.Called grammar heard p work out a work′ out′ → 256 ≤ p .handed → a ≡ Full
   full-said (S.turned-away e is same) many = let z : _≡_ {A = ℕ} 0 1 = cc in absurd (omega arith)
   full-said (S.full e enough is same) many = is
-  full-said (S.altered e below is same) many = absurd (omega arith)
-  full-said (S.no-more e below is same) many = absurd (omega arith)
-  full-said (S.one-more e below is same) many = absurd (omega arith)
+  full-said (S.not-opened e below closed is same) many = absurd (omega arith)
+  full-said (S.altered e below opened astray is same) many = absurd (omega arith)
+  full-said (S.no-more e below opened missing is same) many = absurd (omega arith)
+  full-said (S.one-more e below opened is more) many = absurd (omega arith)
 
 module _ (grammar heard : List ℕ) (K : ℕ) (place : ℕ → Place) (work : ℕ → List ℕ) (code : ℕ → ℤ) (out written : ℕ → List ℕ)
     (calls : Calls grammar heard K place work code out written)

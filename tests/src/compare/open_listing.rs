@@ -5,7 +5,7 @@ use crate::check;
 use crate::heard::Heard;
 use crate::open_listing::Listed;
 use crate::seeded::rng::Rng;
-use spireyerba::limits::graph_reading_length;
+use spireyerba::limits::{graph_reading_length, MAX_READINGS};
 use spireyerba::services::{self, Next, Place};
 use spireyerba::Refusal;
 
@@ -110,7 +110,8 @@ fn found_within(listed: &Listed, before: &State, after: &State) -> usize {
 }
 
 /// A call with any place and table, of blocks that are accepted. What it hands out passes the check; whatever is no reading changes
-/// nothing.
+/// nothing. Where the rank that it looks for stands in the table already, it hands out what that spells if that passes the check, and
+/// answers 53 if not.
 pub fn expect_sound(
     rng: &mut Rng,
     blocks: [&[u8]; 2],
@@ -124,6 +125,11 @@ pub fn expect_sound(
     let answer = state.next(&lent, &mut out);
     let context = || format!("{answer:?}\n{blocks:02x?}\n{:?}", before.places[1]);
     assert!(lent == blocks_before, "a block was changed\n{}", context());
+    if let Some(expected) = spelled_in(blocks, listed, &before) {
+        let reading = answer.is_ok().then(|| &out.slice()[..listed.reading_length()]);
+        assert_eq!(reading, expected.as_deref(), "what the table spells\n{}", context());
+        assert!(matches!(answer, Ok(Next::Reading) | Err(Refusal::AlteredWalk)), "{}", context());
+    }
     if answer != Ok(Next::Reading) {
         assert_eq!(state.places, before.places, "the place was changed\n{}", context());
         assert!(*state == before, "the table was changed\n{}", context());
@@ -142,6 +148,23 @@ pub fn expect_sound(
     assert!(reading[own..].iter().all(|byte| *byte == 0), "zeros behind a shorter path: {reading:02x?}\n{}", context());
     assert!(out.has_guards_of(&out_before) && out_before.slice().ends_with(behind), "{}", context());
     answer
+}
+
+/// What a call is to hand out, with its zeros, or nothing if it is to answer 53, where its table alone decides that: the rank that it
+/// looks for is found already, or it is a first call whose table is not zeros where the first ranks stand.
+fn spelled_in(blocks: [&[u8]; 2], listed: &Listed, state: &State) -> Option<Option<Vec<u8>>> {
+    let (Place { handed, opened }, work) = (state.places[1], state.work.slice());
+    if opened != 1 || handed >= MAX_READINGS {
+        return None;
+    }
+    let Some(spelled) = listed.spelled(work, handed as usize) else {
+        return (handed == 0 && !listed.front_is_zero(work)).then_some(None);
+    };
+    let mut reading = spelled.filter(|reading| check::check(blocks[0], blocks[1], reading).is_ok());
+    if let Some(reading) = &mut reading {
+        reading.resize(listed.reading_length(), 0);
+    }
+    Some(reading)
 }
 
 /// The bytes of a reading by the number of words that it says it has.

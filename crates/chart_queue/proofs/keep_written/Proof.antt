@@ -1,11 +1,11 @@
--- Four entries, one after another; of a journal of no numbers none.
+-- Four entries; of a journal of no numbers none.
 use mathlib.Core.Path.{_≡_, refl}
 use mathlib.Core.List.{List, [], _∷_}
 use Prim.Native.Nat.{ℕ}
 use native.Mathlib.Omega.{arith}
 use lib.ListN.{length}
 use Rattle.chart_table.specs.declared.Layout.{Layout}
-use Rattle.chart_table.specs.Journal.{keepEntry}
+use Rattle.chart_table.specs.Journal.{keepEntry, keepFour}
 use Rattle.chart_queue.specs.Queue.{keepWritten}
 use borrow.Author.Needs.{needs}
 use Rattle.chart_queue.proofs.keep_written.Statement.{statement}
@@ -13,7 +13,7 @@ use Rattle.chart_queue.proofs.keep_written.Tie as tie
 
 -- of no numbers nothing is kept
 nothing-kept : (t k : List ℕ) (d : Layout) (c rank m y : ℕ) → length k ≡ 0 → k ≡ keepWritten t k d c rank m y
-unfolding keepWritten keepEntry
+unfolding keepWritten keepFour keepEntry
 nothing-kept t [] d c rank m y e = refl
 nothing-kept t (x ∷ k) d c rank m y e = absurd (omega arith)
 
@@ -23,14 +23,8 @@ returns c = let a = c .before .before .before .args in nothing-kept (a .t .now) 
 entry-of-requires : tie.Need-entry-of-requires
 entry-of-requires c κs = search needs
 
-keep-entry-requires : tie.Need-keep-entry-requires
-keep-entry-requires c κs = search needs
-
 entry-of-requires-2 : tie.Need-entry-of-requires-2
 entry-of-requires-2 c κs = search needs
-
-keep-entry-requires-2 : tie.Need-keep-entry-requires-2
-keep-entry-requires-2 c κs = search needs
 
 add-entry-of : tie.Need-add-entry-of
 add-entry-of c = search needs
@@ -38,24 +32,21 @@ add-entry-of c = search needs
 entry-of-requires-3 : tie.Need-entry-of-requires-3
 entry-of-requires-3 c κs = search needs
 
-keep-entry-requires-3 : tie.Need-keep-entry-requires-3
-keep-entry-requires-3 c κs = search needs
-
 add-entry-of-2 : tie.Need-add-entry-of-2
 add-entry-of-2 c = search needs
 
 entry-of-requires-4 : tie.Need-entry-of-requires-4
 entry-of-requires-4 c κs = search needs
 
-keep-entry-requires-4 : tie.Need-keep-entry-requires-4
-keep-entry-requires-4 c κs = search needs
+keep-four-requires : tie.Need-keep-four-requires
+keep-four-requires c κs = search needs
 
 same-length : tie.Need-same-length
 same-length c = search needs
 
 returns-2 : tie.Need-returns-2
 unfolding keepWritten
-returns-2 c = rw (c .before .before .keep-entry4 .ensures, c .before .before .before .before .before .before .before .keep-entry3 .ensures, c .before .before .before .before .before .before .before .before .before .before .before .before .keep-entry2 .ensures, c .before .before .before .before .before .before .before .before .before .before .before .before .before .before .before .before .before .keep-entry .ensures, c .before .before .before .before .before .before .before .before .before .before .before .before .before .before .before .before .before .before .entry-of .ensures .0, c .before .before .before .before .before .before .before .before .before .before .before .before .before .entry-of2 .ensures .0, c .before .before .before .before .before .before .before .before .entry-of3 .ensures .0, c .before .before .before .entry-of4 .ensures .0)
+returns-2 c = rw (c .before .before .keep-four .ensures, c .before .before .before .before .before .before .before .entry-of .ensures .0, c .before .before .before .before .before .before .entry-of2 .ensures .0, c .before .before .before .before .before .entry-of3 .ensures .0, c .before .before .before .before .entry-of4 .ensures .0)
 
 pub keep-written-spec : {M : Type 1} → statement M
 keep-written-spec =
@@ -63,14 +54,11 @@ keep-written-spec =
     (tie.spec
     returns
     entry-of-requires
-    keep-entry-requires
     entry-of-requires-2
-    keep-entry-requires-2
     add-entry-of
     entry-of-requires-3
-    keep-entry-requires-3
     add-entry-of-2
     entry-of-requires-4
-    keep-entry-requires-4
+    keep-four-requires
     same-length
     returns-2)

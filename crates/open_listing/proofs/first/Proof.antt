@@ -1,4 +1,4 @@
--- The table's front is filled, and made zeros again unless a reading is handed out.
+-- The table's front is filled, and made zeros again unless a reading is handed out. Where it was not zeros, the table is taken as it is.
 use mathlib.Core.Path.{refl, sym}
 use native.Mathlib.Omega.{arith}
 use lib.ListN.{length-append}
@@ -83,13 +83,19 @@ returns-2 c =
     (goes-back table (a .rules .now) (a .edges .now) (a .plan) 0 (a .work .now) (a .out .now) first (c .before .before .before .before .before .before .before .before .settle .ensures .0) (c .before .before .before .before .before .before .before .before .settle .ensures .1) (c .before .before .before .before .before .is-reading .ensures) (c .before .before .before .before .if2 .left)
     (zeros-again (a .rules .now) (a .edges .now) (a .plan) (a .work .now) (a .out .now) fits (c .before .before .before .before .before .before .before .before .before .before .before .before .before .before .before .before .all-zero .ensures) (c .before .before .before .before .before .before .before .before .before .before .before .before .before .before .before .if1 .taken) made (c .before .before .before .before .before .before .before .before .before .before .before .before .before .enumerate .kept .0) (c .before .before .zero .ensures) refl))
 
+as-spelled-requires : tie.Need-as-spelled-requires
+as-spelled-requires c κs = search needs
+
 same-length-5 : tie.Need-same-length-5
 same-length-5 c = search needs
 
+same-length-6 : tie.Need-same-length-6
+same-length-6 c = search needs
+
 returns-3 : tie.Need-returns-3
 returns-3 c =
-    let a = c .before .before .before .before .before .before .before .before .before .args in
-    not-zeros (a .rules .now) (a .edges .now) (a .plan) (a .work .now) (a .out .now) (c .before .before .before .before .before .before .before .before .before .pre .2) (c .before .all-zero .ensures) (c .if1 .left)
+    let a = c .before .before .before .before .before .before .before .before .before .before .before .before .before .before .args in
+    not-zeros (a .rules .now) (a .edges .now) (a .plan) (a .work .now) (a .out .now) (c .before .before .before .before .before .before .before .before .before .before .before .before .before .before .pre .2) (c .before .before .before .before .before .before .all-zero .ensures) (c .before .before .before .before .before .if1 .left) (c .before .before .as-spelled .ensures .0) (c .before .before .as-spelled .ensures .1)
 
 pub first-spec : {M : Type 1} → statement M
 first-spec =
@@ -113,5 +119,7 @@ first-spec =
     same-length-3
     same-length-4
     returns-2
+    as-spelled-requires
     same-length-5
+    same-length-6
     returns-3)

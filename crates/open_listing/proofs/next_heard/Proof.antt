@@ -45,7 +45,7 @@ same-length-2 c = search needs
 returns-5 : tie.Need-returns-5
 returns-5 c =
     let a = c .before .before .before .before .before .before .before .before .before .before .before .before .before .before .before .before .before .before .before .before .args in
-    first-called (a .rules .now) (a .edges .now) (a .plan) (c .before .before .before .before .before .before .before .before .before .before .before .before .before .before .before .before .before .before .before .before .pre) (a .place) (a .work .now) (a .out .now) (c .before .before .before .before .before .before .before .before .before .before .before .before .before .before .before .table-numbers .ensures .0) (omega (arith, c .before .before .before .before .before .before .before .before .before .before .before .before .before .before .if1 .left)) (omega (arith, c .before .before .before .before .before .before .before .before .before .before .before .before .if2 .left)) (c .before .before .before .before .before .before .before .if5 .taken) (c .before .before .before .before .first .ensures)
+    first-called (a .rules .now) (a .edges .now) (a .plan) (c .before .before .before .before .before .before .before .before .before .before .before .before .before .before .before .before .before .before .before .before .pre) (a .place) (a .work .now) (a .out .now) (c .before .before .before .before .before .before .before .before .before .before .before .before .before .before .before .table-numbers .ensures .0) (omega (arith, c .before .before .before .before .before .before .before .before .before .before .before .before .before .before .if1 .left)) (omega (arith, c .before .before .before .before .before .before .before .before .before .before .before .before .if2 .left)) (c .before .before .before .before .before .before .before .before .if4 .left) (c .before .before .before .before .before .before .before .if5 .taken) (c .before .before .before .before .first .ensures)
 
 later-requires : tie.Need-later-requires
 later-requires c κs =
@@ -60,7 +60,7 @@ same-length-4 c = search needs
 returns-6 : tie.Need-returns-6
 returns-6 c =
     let a = c .before .before .before .before .before .before .before .before .before .before .before .before .before .before .before .before .before .before .before .before .args in
-    later-called (a .rules .now) (a .edges .now) (a .plan) (c .before .before .before .before .before .before .before .before .before .before .before .before .before .before .before .before .before .before .before .before .pre) (a .place) (a .work .now) (a .out .now) (c .before .before .before .before .before .before .before .before .before .before .before .before .before .before .before .table-numbers .ensures .0) (omega (arith, c .before .before .before .before .before .before .before .before .before .before .before .before .before .before .if1 .left)) (omega (arith, c .before .before .before .before .before .before .before .before .before .before .before .before .if2 .left)) (omega (arith, c .before .before .before .before .before .before .before .if5 .left)) (omega (arith, c .before .before .before .before .before .before .before .before .before .before .if3 .left)) (c .before .before .before .before .later .ensures)
+    later-called (a .rules .now) (a .edges .now) (a .plan) (c .before .before .before .before .before .before .before .before .before .before .before .before .before .before .before .before .before .before .before .before .pre) (a .place) (a .work .now) (a .out .now) (c .before .before .before .before .before .before .before .before .before .before .before .before .before .before .before .table-numbers .ensures .0) (omega (arith, c .before .before .before .before .before .before .before .before .before .before .before .before .before .before .if1 .left)) (omega (arith, c .before .before .before .before .before .before .before .before .before .before .before .before .if2 .left)) (c .before .before .before .before .before .before .before .before .if4 .left) (omega (arith, c .before .before .before .before .before .before .before .if5 .left)) (omega (arith, c .before .before .before .before .before .before .before .before .before .before .if3 .left)) (c .before .before .before .before .later .ensures)
 
 pub next-heard-spec : {M : Type 1} → statement M
 next-heard-spec =

@@ -12,13 +12,13 @@ use Rattle.chart_trace.proofs.checked.trace_checked.Statement.{statemen
 use Rattle.chart_trace.proofs.checked.trace_checked.Tie as tie
 
 abbrev Inv-loop : tie.InvT-loop
-Inv-loop t rules edges counts d trace₀ stack₀ n₀ here₀ next₀ weight₀ trace stack n here next weight =
+Inv-loop t rules edges scope d trace₀ stack₀ n₀ here₀ next₀ weight₀ trace stack n here next weight =
     (length trace ≡ length trace₀)
     × Tracing t rules d (here₀ .cell .from) (here₀ .cell .to) trace₀ (tracePart t rules d here₀) trace stack n here next
-    × Weighing t rules edges counts d (spelledPart t rules edges counts d here₀) stack n here next weight
+    × Weighing t rules edges scope d (spelledPart t rules edges scope d here₀) stack n here next weight
 
 abbrev μ-loop : tie.MeasureT-loop
-μ-loop t rules edges counts d trace₀ stack₀ n₀ here₀ next₀ weight₀ trace stack n here next weight = 2 * (here₀ .cell .to - here .cell .from) - n
+μ-loop t rules edges scope d trace₀ stack₀ n₀ here₀ next₀ weight₀ trace stack n here next weight = 2 * (here₀ .cell .to - here .cell .from) - n
 
 loop-holds : tie.Need-loop-holds Inv-loop μ-loop
 loop-holds c =

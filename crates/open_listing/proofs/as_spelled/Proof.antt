@@ -1,0 +1,38 @@
+-- Handed out or not.
+use Rattle.open_listing.proofs.HandOut.{spelled-settled, output-by}
+use borrow.Author.Needs.{needs}
+use Rattle.open_listing.proofs.as_spelled.Statement.{statement}
+use Rattle.open_listing.proofs.as_spelled.Tie as tie
+
+hand-out-requires : tie.Need-hand-out-requires
+hand-out-requires c κs = search needs
+
+same-length : tie.Need-same-length
+same-length c = search needs
+
+returns : tie.Need-returns
+returns c =
+    let a = c .before .before .before .before .before .before .before .before .before .args in (
+      spelled-settled (a .t .now) (a .rules .now) (a .edges .now) (a .plan) (a .rank) (c .before .before .before .before .before .before .before .before .before .pre .0) (c .before .before .before .hand-out .ensures .0) (c .if1 .taken),
+      output-by (a .t .now) (a .rules .now) (a .plan) (a .rank) (a .out .now) (c .before .before .before .hand-out .ensures .1) (c .if1 .taken),
+    )
+
+same-length-2 : tie.Need-same-length-2
+same-length-2 c = search needs
+
+returns-2 : tie.Need-returns-2
+returns-2 c =
+    let a = c .before .before .before .before .before .before .before .before .before .args in (
+      spelled-settled (a .t .now) (a .rules .now) (a .edges .now) (a .plan) (a .rank) (c .before .before .before .before .before .before .before .before .before .pre .0) (c .before .before .before .hand-out .ensures .0) (c .if1 .left),
+      output-by (a .t .now) (a .rules .now) (a .plan) (a .rank) (a .out .now) (c .before .before .before .hand-out .ensures .1) (c .if1 .left),
+    )
+
+pub as-spelled-spec : {M : Type 1} → statement M
+as-spelled-spec =
+    tie.close
+    (tie.spec
+    hand-out-requires
+    same-length
+    returns
+    same-length-2
+    returns-2)
