@@ -44,10 +44,10 @@ pub and-disjoint : (x y : ℕ) → bitAnd x y ≡ 0 → Disjoint x y
 and-disjoint x y e j = and-parts x y j (rw e (zero-digit j))
 
 -- the mask of one place
-own-digit : (j : ℕ) → digit (2 ^ j) j ≡ 1
+pub own-digit : (j : ℕ) → digit (2 ^ j) j ≡ 1
 own-digit j = rw (div-self {n = 2 ^ j} (pow-pos j))
 
-and-lacks : (x j : ℕ) → bitAnd x (2 ^ j) ≡ 0 → digit x j ≡ 0
+pub and-lacks : (x j : ℕ) → bitAnd x (2 ^ j) ≡ 0 → digit x j ≡ 0
 and-lacks x j e = go (and-disjoint x (2 ^ j) e j)
   where
     go : (digit x j ≡ 0) ⊎ (digit (2 ^ j) j ≡ 0) → digit x j ≡ 0
@@ -58,14 +58,14 @@ pub or-lacks : (x y j : ℕ) → digit (bitOr x y) j ≡ 0 → (digit x j ≡ 0)
 or-lacks x y j e = let z = rw (or-digit x y j) at e in (omega (arith, z), omega (arith, z))
 
 -- as the machine shifts
-shifted : (j : ℕ) → j < 32 → 1 * 2 ^ j % 4294967296 ≡ 2 ^ j
-shifted j h = rw (shl-exact {a = 1} 1 j 32 (omega arith) (omega arith), one-mul (2 ^ j))
+pub shifted : (bits j : ℕ) → j < bits → 1 * 2 ^ j % 2 ^ bits ≡ 2 ^ j
+shifted bits j h = rw (shl-exact {a = 1} 1 j bits (omega arith) (omega arith), one-mul (2 ^ j))
 
 pub shift-only : (j : ℕ) → j < 32 → digit (1 * 2 ^ j % 4294967296) j ≡ 1
-shift-only j h = rw (shifted j h) (own-digit j)
+shift-only j h = rw (shifted 32 j h) (own-digit j)
 
 pub shift-lacks : (x j : ℕ) → j < 32 → bitAnd x (1 * 2 ^ j % 4294967296) ≡ 0 → digit x j ≡ 0
-shift-lacks x j h e = and-lacks x j (rw (shifted j h) at e)
+shift-lacks x j h e = and-lacks x j (rw (shifted 32 j h) at e)
 
 -- what was in a mask stays there
 pub put-or : (l : List ℕ) (at x : ℕ) → at < length l → Put l at x (set l at (bitOr (getD l at 0) x))
