@@ -67,3 +67,19 @@ put-part o at (suc (suc w)) v z h l =
     let b : at / 8 < length o = omega arith in
     let m = part-more (getD o (at / 8) 0) (suc w) (7 - (at + suc w) % 8) v in
     rw (put-part o at (suc w) (v / 2) (omega arith) (omega arith) l, e, getD-set-same o (at / 8), set-set, d, m)
+
+-- the front of a byte, of which nothing is kept, from the lower bits u of the value
+module _ (w v u : ℕ) (hw : w ≤ 8) (hu : u ≡ v % 2 ^ w) where
+  none-kept : 0 * 2 ^ w % 2 ^ 32 + u ≡ u
+  none-kept = omega arith
+
+  pub end-lt : u * 2 ^ (8 - w) % 2 ^ 32 < 256
+  end-lt = rw none-kept at (part-lt 0 8 w v u (omega arith) (omega arith) hw hu)
+
+  pub put-end : (o : List ℕ) (b : ℕ) → getD o b 0 < 256 → 0 < w → b < length o → put o (8 * b) w v ≡ set o b (u * 2 ^ (8 - w) % 2 ^ 32)
+  put-end o b hx z l =
+      let q : 8 * b / 8 ≡ b = omega arith in
+      let m : 8 - 8 * b % 8 ≡ 8 = omega arith in
+      let x : getD o b 0 / 2 ^ 8 ≡ 0 = omega arith in
+      let e = rw none-kept at (joined-shl 0 8 w v u (omega arith) (omega arith) hw hu) in
+      put-part o (8 * b) w v z (omega arith) (omega arith) ∙ rw (q, m, x, e)

@@ -1,12 +1,14 @@
 -- What is passed over changes no selection: a part that is missing makes a key that is none or above, and a best that is none or
--- below stays. Where no edge over a span has the word of a rule, there is no leaf.
+-- below stays. Where no edge over a span has the word of a rule, there is no leaf; nor is there one of an edge whose word a filter lacks.
 use mathlib.Core.Path.{_≡_, refl, ap, _∙_}
 use mathlib.Core.Logic.{_⊎_, inl, inr}
 use mathlib.Core.Bool.{Bool, true, false}
 use mathlib.Core.List.{List}
-use Prim.Native.Nat.{ℕ, zero, suc, _+_, _-_, _*_, _≤_, _<_}
+use Prim.Native.Nat.{ℕ, zero, suc, _+_, _-_, _*_, _^_, _≤_, _<_}
+use native.Mathlib.Decide.{ℕ-discrete}
 use native.Mathlib.Nat.{le-refl, le-trans, mul-le-mul-right}
 use native.Mathlib.Omega.{arith}
+use lib.Bits.{bitAnd, bitOr}
 use lib.Dec.{ltb, eqb}
 use lib.ListN.{getD}
 use borrow.Author.Tests.{ltb-true, le-ltb, eqb-true, ne-eqb}
@@ -22,9 +24,10 @@ use Rattle.chart_table.specs.declared.Layout.{Layout}
 use Rattle.chart_table.specs.Table.{lastPlace, leftPart, rightPart, cellNumber, priceAt}
 use Rattle.chart_index.specs.Index.{pairBase, wordBase, edgeBase, classStart, classEnd, members}
 use Rattle.chart_masks.specs.Masks.{digit, endsAt, startsAt, wordOf, Covered, Apart, Worded, EdgeHeads, NoLeaf}
+use Rattle.chart_masks.proofs.Digits.{own-digit, and-lacks, or-lacks}
 use Rattle.chart_candidates.specs.declared.PairRule.{PairRule}
 use Rattle.chart_candidates.specs.Candidates.{pairKey, wordLeaf, edgeLeaves, leaves, splitSeeds, ruleSeeds, seeds}
-use Rattle.chart_candidates.specs.Passed.{RuleApart, NoSeed}
+use Rattle.chart_candidates.specs.Passed.{filterPlace, wordBit, RuleApart, NoSeed, WordsBefore, WordFilter}
 
 -- a loop whose every turn changes nothing, and one whose every turn comes to no more
 iter-stays : {A : Type 0} (g : A → ℕ → A) (b : A) (n : ℕ) → ((x : ℕ) → x < n → g b x ≡ b) → iter g b n ≡ b
@@ -174,3 +177,21 @@ module _ (rules edges index : List ℕ) where
       → digit heads (c .head .0) ≡ 0 → edgeLeaves rules edges index c floor best e ≡ best
   word-passed m c floor best e heads worded has lacks =
       edge-passed c floor best e (λ reaches z h l same. worded .has z h l (rw same (has (c .head .0) lacks reaches)))
+
+  -- and one whose word a filter of the head's words lacks
+  pub filter-passed : (c : Cell) (floor best e filter : ℕ) → WordFilter rules index (c .head .0) filter
+      → bitAnd filter (wordBit (getD edges (4 * e + 2) 0)) ≡ 0 → edgeLeaves rules edges index c floor best e ≡ best
+  filter-passed c floor best e filter words lacks =
+      edge-passed c floor best e (λ reaches z h l same. words .has z h l (rw same (and-lacks filter (filterPlace (getD edges (4 * e + 2) 0)) lacks)))
+
+-- one more word in a filter
+pub filter-next : (rules : List ℕ) {index : List ℕ} {start y filter : ℕ} → WordsBefore rules index start y filter
+    → WordsBefore rules index start (y + 1) (bitOr filter (wordBit (wordOf rules (getD index y 0))))
+filter-next rules {index} {start} {y} {filter} before = record { has = λ z h l e. go z h l (or-lacks filter _ _ e) (ℕ-discrete z y) }
+  where
+    place : ℕ → ℕ
+    place z = filterPlace (wordOf rules (getD index z 0))
+
+    go : (z : ℕ) → start ≤ z → z < y + 1 → (digit filter (place z) ≡ 0) × (digit (2 ^ place y) (place z) ≡ 0) → Dec (z ≡ y) → ⊥
+    go z h l e (yes same) = omega (arith, own-digit (place y), rw same at (e .1))
+    go z h l e (no other) = before .has z h (omega arith) (e .0)

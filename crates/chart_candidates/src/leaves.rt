@@ -1,4 +1,5 @@
 // The leaves of a cell: edges over its span by the word rules of its head.
+use crate::Range;
 use arrays::narrow_at;
 use arrays::number_at;
 use arrays::rule_at;
@@ -31,6 +32,10 @@ ghost use Rattle.chart_keys.specs.Keys.{keyNumber, noKey};
 ghost use Rattle.chart_table.specs.Table.{lastPlace};
 ghost use Rattle.chart_masks.specs.Masks.{digit, NoLeaf, Worded};
 ghost use Rattle.chart_candidates.specs.Candidates.{wordLeaf, edgeLeaves, leaves};
+ghost use Rattle.chart_candidates.specs.Passed.{wordBit, WordFilter};
+
+// The bits of a filter of words.
+const FILTER_BITS: u32 = 64;
 
 // The best so far and the leaf of an edge by a rule, if that is a rule of the edge's word.
 fn rule_leaf(rules: &[u32], edges: &[u32], e: usize, r: usize, floor: Key, best: Key) -> Key
@@ -105,7 +110,49 @@ fn edge_leaves(
     so_far
 }
 
-// The best so far and the leaves of a cell.
+// The bit of a word in a filter. Words that are alike modulo its bits share one.
+fn word_bit(word: u32) -> u64
+    ensures { λ r. ⌜ r ≡ wordBit word ⌝ }
+{
+    1 << (word % FILTER_BITS)
+}
+
+// A filter of the words that the rules of a head have.
+fn word_filter(rules: &[u32], index: &[u32], head: usize) -> u64
+    requires { ⌜ head < 4294967296 ⌝ }
+    ensures { λ r. ⌜ WordFilter (now (rules .entry)) (now (index .entry)) head r ⌝ }
+{
+    let start = class_start(index, WORD_BASE, head);
+    let end = class_end(index, WORD_BASE, head);
+    let mut filter: u64 = 0;
+    for y in start..end {
+        let r = number_at(index, y);
+        filter = filter | word_bit(narrow_at(rules, NUMBERS_PER_RULE * r + RULE_FIRST_AT));
+    }
+    filter
+}
+
+// The best so far and the leaves of an edge, which is passed over where the filter of the words of the cell's head lacks its word.
+fn filtered_leaves(
+    rules: &[u32],
+    edges: &[u32],
+    index: &[u32],
+    filter: u64,
+    c: Cell,
+    e: usize,
+    range: Range,
+) -> Key
+    requires { ⌜ (e < 4294967296) × (WordFilter (now rules) (now index) (c .head .0) filter) ⌝ }
+    ensures { λ x. ⌜ keyNumber x ≡ edgeLeaves (now (rules .entry)) (now (edges .entry)) (now (index .entry)) c (keyNumber (range .floor)) (keyNumber (range .best)) e ⌝ }
+{
+    let word = narrow_at(edges, NUMBERS_PER_EDGE * e + EDGE_WORD_AT);
+    if filter & word_bit(word) == 0 {
+        return range.best;
+    }
+    edge_leaves(rules, edges, index, c, e, range.floor, range.best)
+}
+
+// The best so far and the leaves of a cell. Most edges have a word of other heads, so a filter is made of the words of its own first.
 pub fn leaves(rules: &[u32], edges: &[u32], index: &[u32], c: Cell, floor: Key, best: Key) -> Key
     requires { ⌜ c .from ≤ lastPlace ⌝ }
     ensures { λ x. ⌜ keyNumber x ≡ leaves (now (rules .entry)) (now (edges .entry)) (now (index .entry)) c (keyNumber floor) (keyNumber best) ⌝ }
@@ -113,9 +160,25 @@ pub fn leaves(rules: &[u32], edges: &[u32], index: &[u32], c: Cell, floor: Key, 
     let from = c.from;
     let start = class_start(index, EDGE_BASE, from);
     let end = class_end(index, EDGE_BASE, from);
+    if start == end {
+        return best;
+    }
+    let filter = word_filter(rules, index, wide(c.head.0));
     let mut so_far = best;
     for y in start..end {
-        so_far = edge_leaves(rules, edges, index, c, number_at(index, y), floor, so_far);
+        let e = number_at(index, y);
+        so_far = filtered_leaves(
+            rules,
+            edges,
+            index,
+            filter,
+            c,
+            e,
+            Range {
+                floor,
+                best: so_far,
+            },
+        );
     }
     so_far
 }

@@ -3,13 +3,14 @@
 use mathlib.Core.Path.{_≡_, refl, sym, _∙_}
 use mathlib.Core.Logic.{_⊎_, inl, inr}
 use mathlib.Core.List.{List}
-use Prim.Native.Nat.{ℕ, zero, suc, _+_, _*_, _/_, _%_, _^_, _<_, min, max}
-use native.Mathlib.Nat.{zero-div, div-self, one-mul}
+use Prim.Native.Nat.{ℕ, zero, suc, _+_, _-_, _*_, _/_, _%_, _^_, _≤_, _<_, min, max}
+use native.Mathlib.Nat.{zero-div, div-one, div-self, one-mul}
 use native.Mathlib.Decide.{ℕ-discrete}
 use native.Mathlib.Omega.{arith}
 use lib.Bits.{bitAnd, bitOr, and-shr, and-step, or-shr, or-step}
+use lib.Count.{under, trailingZeros}
 use lib.ListN.{length, getD, set}
-use lib.Pow.{pow-pos, shl-exact}
+use lib.Pow.{pow-pos, shl-exact, shr-shr}
 use lib.Seq.{getD-set-same, getD-set-other}
 use Rattle.chart_masks.specs.Masks.{digit, Disjoint, Put}
 
@@ -44,10 +45,10 @@ pub and-disjoint : (x y : ℕ) → bitAnd x y ≡ 0 → Disjoint x y
 and-disjoint x y e j = and-parts x y j (rw e (zero-digit j))
 
 -- the mask of one place
-own-digit : (j : ℕ) → digit (2 ^ j) j ≡ 1
+pub own-digit : (j : ℕ) → digit (2 ^ j) j ≡ 1
 own-digit j = rw (div-self {n = 2 ^ j} (pow-pos j))
 
-and-lacks : (x j : ℕ) → bitAnd x (2 ^ j) ≡ 0 → digit x j ≡ 0
+pub and-lacks : (x j : ℕ) → bitAnd x (2 ^ j) ≡ 0 → digit x j ≡ 0
 and-lacks x j e = go (and-disjoint x (2 ^ j) e j)
   where
     go : (digit x j ≡ 0) ⊎ (digit (2 ^ j) j ≡ 0) → digit x j ≡ 0
@@ -58,14 +59,36 @@ pub or-lacks : (x y j : ℕ) → digit (bitOr x y) j ≡ 0 → (digit x j ≡ 0)
 or-lacks x y j e = let z = rw (or-digit x y j) at e in (omega (arith, z), omega (arith, z))
 
 -- as the machine shifts
-shifted : (j : ℕ) → j < 32 → 1 * 2 ^ j % 4294967296 ≡ 2 ^ j
-shifted j h = rw (shl-exact {a = 1} 1 j 32 (omega arith) (omega arith), one-mul (2 ^ j))
+pub shifted : (bits j : ℕ) → j < bits → 1 * 2 ^ j % 2 ^ bits ≡ 2 ^ j
+shifted bits j h = rw (shl-exact {a = 1} 1 j bits (omega arith) (omega arith), one-mul (2 ^ j))
 
 pub shift-only : (j : ℕ) → j < 32 → digit (1 * 2 ^ j % 4294967296) j ≡ 1
-shift-only j h = rw (shifted j h) (own-digit j)
+shift-only j h = rw (shifted 32 j h) (own-digit j)
 
 pub shift-lacks : (x j : ℕ) → j < 32 → bitAnd x (1 * 2 ^ j % 4294967296) ≡ 0 → digit x j ≡ 0
-shift-lacks x j h e = and-lacks x j (rw (shifted j h) at e)
+shift-lacks x j h e = and-lacks x j (rw (shifted 32 j h) at e)
+
+-- a mask lacks what stands before its first place, counted from its start or from a place on
+under-first : (p t : ℕ) → 0 < under p t → p ≡ 0
+under-first zero t h = refl
+under-first (suc p) t h = absurd (omega arith)
+
+under-rest : (p t j : ℕ) → suc j < under p t → j < t
+under-rest zero t j h = omega arith
+under-rest (suc p) t j h = absurd (omega arith)
+
+trailing-lacks : (bits x j : ℕ) → j < trailingZeros bits x → digit x j ≡ 0
+unfolding trailingZeros
+trailing-lacks zero x j h = absurd (omega arith)
+trailing-lacks (suc bits) x zero h = rw (div-one x) (under-first (x % 2) (trailingZeros bits (x / 2)) h)
+trailing-lacks (suc bits) x (suc j) h =
+    let e : suc j ≡ 1 + j = omega arith in
+    rw (e, ← shr-shr x 1 j) (trailing-lacks bits (x / 2) j (under-rest (x % 2) (trailingZeros bits (x / 2)) j h))
+
+pub lacks-before : (bits x from j : ℕ) → from ≤ j → j < from + trailingZeros bits (x / 2 ^ from) → digit x j ≡ 0
+lacks-before bits x from j h l =
+    let e : j ≡ from + (j - from) = omega arith in
+    rw (e, ← shr-shr x from (j - from)) (trailing-lacks bits (x / 2 ^ from) (j - from) (omega arith))
 
 -- what was in a mask stays there
 pub put-or : (l : List ℕ) (at x : ℕ) → at < length l → Put l at x (set l at (bitOr (getD l at 0) x))

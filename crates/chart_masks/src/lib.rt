@@ -82,6 +82,29 @@ pub fn lacks(x: u32, head: usize) -> bool
     x & (1 << head) == 0
 }
 
+// The first head from one on that a mask has, of n heads, or n where it has none.
+fn head_from(heads: u32, from: usize, n: usize) -> usize
+    requires { ⌜ (from < n) × (n ≤ 32) ⌝ }
+    ensures { λ r. ⌜ (from ≤ r) × (r ≤ n) × ((b : ℕ) → from ≤ b → b < r → digit heads b ≡ 0) ⌝ }
+{
+    let next = from + u32::trailing_zeros(heads >> from) as usize;
+    if next < n { next } else { n }
+}
+
+// The same. Where most heads are in the mask, the test of the very next one is foreseen right, and nothing waits for the mask.
+pub fn next_head(heads: u32, from: usize, n: usize) -> usize
+    requires { ⌜ (from ≤ n) × (n ≤ 32) ⌝ }
+    ensures { λ r. ⌜ (from ≤ r) × (r ≤ n) × ((b : ℕ) → from ≤ b → b < r → digit heads b ≡ 0) ⌝ }
+{
+    if n <= from {
+        return n;
+    }
+    if lacks(heads, from) {
+        return head_from(heads, from, n);
+    }
+    from
+}
+
 // Puts what is in a mask into another.
 fn put(masks: &mut [u32], at: usize, x: u32)
     requires { ⌜ at < length (now masks) ⌝ }

@@ -1,3 +1,4 @@
--- The first rank of a cell, and the further ranks of the root.
+-- The first rank of a cell, heads that are passed over, and the further ranks of the root.
 pub mod Fuel
+pub mod Heads
 pub mod Further

@@ -5,9 +5,9 @@ use chart_keys::BackPointer;
 use chart_keys::back_pointer;
 use chart_masks::MASKS;
 use chart_masks::heads_over;
-use chart_masks::lacks;
 use chart_masks::live_heads;
 use chart_masks::mark_rules;
+use chart_masks::next_head;
 use chart_ranks::first_rank;
 use chart_ranks::next_rank;
 use chart_table::Cell;
@@ -142,14 +142,13 @@ fn first_of_heads(
     let leafy = heads_over(&masks[..], edges, index, span);
     let mut live = live_heads(&masks[..], d, span, leafy);
     let n = d.symbols;
-    for a in 0..n {
-        if lacks(live, a) {
-            continue;
-        }
+    let mut a = next_head(live, 0, n);
+    while a < n {
         let c = of_head(span, Sym(a as u32));
         let leaf = first_leaf(rules, edges, index, &masks[..], leafy, c);
         first_rank(t, masks, rules, index, d, c, leaf);
         live = live_heads(&masks[..], d, span, leafy);
+        a = next_head(live, a + 1, n);
     }
 }
 

@@ -1,88 +1,92 @@
--- After each turn the bits put are the upper ones of the value, and each part is put within one byte.
+-- A field within one byte is one part; a field that ends in the next byte is put in two (`put-append`), the last at the front of that byte.
 use mathlib.Core.Path.{_≡_, refl}
-use Prim.Native.Nat.{_≤_, _-_, _/_, _^_}
+use Prim.Native.Nat.{_-_, _+_, _*_, _/_, _%_, _^_}
 use native.Mathlib.Omega.{arith}
-use borrow.Author.Needs.{needs}
-use lib.ListN.{length}
 use Rattle.bits.specs.Put.{put}
-use Rattle.bits.proofs.Put.{put-more, put-all}
+use Rattle.bits.proofs.Put.{put-append}
+use borrow.Author.Needs.{needs}
 use Rattle.bit_writer.proofs.write_field.Statement.{statement}
 use Rattle.bit_writer.proofs.write_field.Tie as tie
 
-abbrev Inv-loop : tie.InvT-loop
-Inv-loop out₀ at width value done₀ out done = (done ≤ width) × (length out ≡ length out₀) × (out ≡ put out₀ at done (value / 2 ^ (width - done)))
+sub-room : tie.Need-sub-room
+sub-room c = search needs
 
-abbrev μ-loop : tie.MeasureT-loop
-μ-loop out₀ at width value done₀ out done = width - done
-
-loop-holds : tie.Need-loop-holds Inv-loop μ-loop
-unfolding put
-loop-holds c = (omega arith, refl, refl)
-
-add-p : tie.Need-add-p Inv-loop μ-loop
-add-p c = search needs
-
-sub-left : tie.Need-sub-left Inv-loop μ-loop
-sub-left c = search needs
-
-sub-least : tie.Need-sub-least Inv-loop μ-loop
-sub-least c = search needs
-
-least-requires : tie.Need-least-requires Inv-loop μ-loop
-least-requires c κs = search needs
-
-sub-write-part : tie.Need-sub-write-part Inv-loop μ-loop
-sub-write-part c = search needs
-
-cast-write-part : tie.Need-cast-write-part Inv-loop μ-loop
-cast-write-part c = search needs
-
-shr-write-part : tie.Need-shr-write-part Inv-loop μ-loop
-shr-write-part c = search needs
-
-write-part-requires : tie.Need-write-part-requires Inv-loop μ-loop
+write-part-requires : tie.Need-write-part-requires
 write-part-requires c κs = search needs
 
-add-done : tie.Need-add-done Inv-loop μ-loop
-add-done c = search needs
-
-loop-less : tie.Need-loop-less Inv-loop μ-loop
-loop-less c = search needs
-
-loop-again : tie.Need-loop-again Inv-loop μ-loop
-loop-again c =
-    let b = c .before .before in
-    let n = b .before .before in
-    let l = n .before .before .loop in
-    let a = n .before .before .before .before .args in (
-      omega arith,
-      omega arith,
-      put-more (a .out .now) (a .at) (a .width) (a .value) (l .done) (n .least .result) (omega arith) (l .inv .2) (b .write-part .ensures),
-    )
-
-same-length : tie.Need-same-length Inv-loop μ-loop
+same-length : tie.Need-same-length
 same-length c = search needs
 
-returns : tie.Need-returns Inv-loop μ-loop
-returns c = let a = c .before .before .before .args in put-all (a .out .now) (a .at) (a .width) (a .value) (c .before .loop .done) (omega arith) (c .before .loop .inv .2)
+returns : tie.Need-returns
+returns c = search needs
+
+returns-2 : tie.Need-returns-2
+unfolding put
+returns-2 c =
+    let a = c .before .before .before .args in
+    let z : a .width ≡ 0 = omega arith in
+    rw z refl
+
+add-if3 : tie.Need-add-if3
+add-if3 c = search needs
+
+sub-left : tie.Need-sub-left
+sub-left c = search needs
+
+cast-write-part : tie.Need-cast-write-part
+cast-write-part c = search needs
+
+shr-write-part : tie.Need-shr-write-part
+shr-write-part c = search needs
+
+write-part-requires-2 : tie.Need-write-part-requires-2
+write-part-requires-2 c κs = search needs
+
+add-write-end : tie.Need-add-write-end
+add-write-end c = search needs
+
+write-end-requires : tie.Need-write-end-requires
+write-end-requires c κs = search needs
+
+same-length-2 : tie.Need-same-length-2
+same-length-2 c = search needs
+
+returns-3 : tie.Need-returns-3
+returns-3 c =
+    let a = c .before .before .before .before .before .before .before .before .before .before .before .args in
+    let room = 8 - a .at % 8 in
+    let e : room + (a .width - room) ≡ a .width = omega arith in
+    let n : a .at + room ≡ 8 * (a .at / 8 + 1) = omega arith in
+    let p = rw (e, n) at (put-append (a .out .now) (a .at) room (a .width - room) (a .value)) in
+    cc
+
+write-parts-requires : tie.Need-write-parts-requires
+write-parts-requires c κs = search needs
+
+same-length-3 : tie.Need-same-length-3
+same-length-3 c = search needs
+
+returns-4 : tie.Need-returns-4
+returns-4 c = search needs
 
 pub write-field-spec : {M : Type 1} → statement M
 write-field-spec =
     tie.close
     (tie.spec
-    Inv-loop
-    μ-loop
-    loop-holds
-    add-p
+    sub-room
+    write-part-requires
+    same-length
+    returns
+    returns-2
+    add-if3
     sub-left
-    sub-least
-    least-requires
-    sub-write-part
     cast-write-part
     shr-write-part
-    write-part-requires
-    add-done
-    loop-less
-    loop-again
-    same-length
-    returns)
+    write-part-requires-2
+    add-write-end
+    write-end-requires
+    same-length-2
+    returns-3
+    write-parts-requires
+    same-length-3
+    returns-4)
