@@ -2,7 +2,7 @@
 -- neither nothing is found. So the iteration over the heads is at the next live one what it was behind the last.
 use mathlib.Core.Path.{_≡_, refl, sym, _∙_}
 use mathlib.Core.List.{List}
-use Prim.Native.Nat.{ℕ, suc, _-_, _≤_, _<_}
+use Prim.Native.Nat.{ℕ, _-_, _≤_, _<_}
 use native.Mathlib.Decide.{le-ind}
 use native.Mathlib.Nat.{le-refl}
 use native.Mathlib.Omega.{arith}

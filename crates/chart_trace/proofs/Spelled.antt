@@ -92,7 +92,7 @@ parts-same rules spelled spelled′ c b (Pairing x y w) s same =
 parts-same rules spelled spelled′ c b Wrong s same = refl
 
 module _ (t rules edges : List ℕ) (k : Scope) (d : Layout) where
-  pub spelled-enough : (f g : ℕ) (c : Cell) (x : ℕ) → c .from < c .to → c .to - c .from ≤ f → c .to - c .from ≤ g
+  spelled-enough : (f g : ℕ) (c : Cell) (x : ℕ) → c .from < c .to → c .to - c .from ≤ f → c .to - c .from ≤ g
       → spelledWeight t rules edges k d f c x ≡ spelledWeight t rules edges k d g c x
   unfolding spelledWeight
   spelled-enough zero g c x h l m = absurd (omega arith)

@@ -1,13 +1,12 @@
 -- The readings of what was heard: of slots by document 01's theorems, of a graph since a packed reading, zeros behind it or not, decides
 -- its trace, and that its derivation.
-use mathlib.Core.Path.{_≡_, refl, ap, _∙_}
-use mathlib.Core.List.{List}
-use Prim.Native.Nat.{ℕ, suc, _-_, _*_, _≤_, _<_}
+use mathlib.Core.Path.{_≡_, refl, ap}
+use Prim.Native.Nat.{ℕ, _-_, _*_, _≤_}
 use native.Mathlib.Omega.{arith}
 use lib.ListN.{length}
 use Rattle.packing.specs.declared.Sym.{Sym}
-use Rattle.packing.specs.Meaning.{Grammar, Utterance, Reading, edges, Graph, Heard, slots, graph, lastPlace, heardEdges, GraphReading}
-use Rattle.packing.specs.Reading.{blockOfReading, readingLength}
+use Rattle.packing.specs.Meaning.{Grammar, Reading, edges, Graph, Heard, slots, graph, lastPlace, heardEdges, GraphReading}
+use Rattle.packing.specs.Reading.{blockOfReading}
 use Rattle.packing.specs.GraphReading.{graphReadingLength, padded, wordNodes}
 use Rattle.packing.specs.Valid.{ValidGrammar, ValidReading, ValidGraph, ValidHeard, ValidGraphReading}
 use Rattle.packing.proofs.Whole.{reading-block-back}

@@ -1,11 +1,11 @@
 -- An utterance, and the same without the candidates that were not heard, have the same readings: for a walk takes each slot's word
 -- at the same cost. There every candidate was heard, so a leaf is plainly document 001's: a word rule and a word of the slot.
-use mathlib.Core.Path.{_≡_, refl, sym, ap, _∙_}
+use mathlib.Core.Path.{_≡_, refl, sym, _∙_}
 use mathlib.Core.Logic.{_↔_, ⊎-elim}
 use mathlib.Core.Bool.{Bool, true, false}
 use mathlib.Core.Option.{Option, none, some}
-use mathlib.Core.List.{List, [], _∷_, map, List·Memᴰ·cases-cons, List·Memᴰ·not-nil}
-use Prim.Native.Nat.{ℕ, zero, suc, _+_, _≤_, _<_}
+use mathlib.Core.List.{List, [], _∷_, List·Memᴰ·cases-cons, List·Memᴰ·not-nil}
+use Prim.Native.Nat.{ℕ, suc, _+_, _≤_, _<_}
 use native.Mathlib.Omega.{arith}
 use borrow.Author.Tests.{eqb-true, ltb-true, ne-eqb}
 use lib.Dec.{eqb, ltb}
@@ -16,13 +16,13 @@ use Rattle.packing.specs.declared.Word as W
 use Rattle.packing.specs.declared.Rule as R
 use Rattle.packing.specs.declared.Rule.the-variants.{Pair, Word}
 use Rattle.packing.specs.Meaning as M
-use Rattle.packing.specs.Meaning.{notHeard, symbolOf, Grammar, Utterance, Candidate, candidate, Edge, edge, edges, Reading}
+use Rattle.packing.specs.Meaning.{notHeard, symbolOf, Grammar, Utterance, Candidate, candidate, edge, edges, Reading}
 use Rattle.packing.specs.Valid.{ValidUtterance}
 use Rattle.derivation.specs.Derivation.{At, Offered, Tree, Derivation, reading}
 use Rattle.derivation.specs.Rank.{_∈_}
 use Rattle.derivation.specs.Walk.{State, onward, astray, costOf, leafStep, ruleStep, step, run, finished, walkWeight}
 use Rattle.derivation.specs.Struck.{heard, struckOut}
-use Rattle.derivation.proofs.Lists.{none≢some, at-mem, map-at}
+use Rattle.derivation.proofs.Lists.{map-at}
 use Rattle.derivation.proofs.Ranges.{AscendingFrom, Ascending, valid-ascending}
 use Rattle.derivation.proofs.Slots.{edge-slot}
 use Rattle.derivation.proofs.Theorems.{reading-found}

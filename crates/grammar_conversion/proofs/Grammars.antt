@@ -1,9 +1,9 @@
 -- The arrays that a grammar was read into give back the grammar: its rules, its block and its sheet.
 -- Assumes nothing.
-use mathlib.Core.Path.{_≡_, refl, sym, ap, _∙_}
+use mathlib.Core.Path.{_≡_, refl, ap, _∙_}
 use mathlib.Core.Bool.{Bool, true, false}
 use mathlib.Core.List.{List, [], _∷_, _++_, map, map-append, append-nil}
-use Prim.Native.Nat.{ℕ, zero, suc, _+_, _*_, _≤_, _<_}
+use Prim.Native.Nat.{ℕ, suc, _+_, _*_, _≤_, _<_}
 use native.Mathlib.Nat.{add-zero, zero-add}
 use native.Mathlib.Omega.{arith}
 use lib.ListN.{length, length-map, take, getD}
@@ -11,7 +11,7 @@ use Rattle.packing.specs.Meaning as meaning
 use Rattle.packing.specs.Meaning.{MarkedRule, marked, ruleIn, markIn, grammarOf}
 use Rattle.packing.specs.Parse.{Verdict, accepted, _then_}
 use Rattle.packing.specs.Source.{values, valueOf}
-use Rattle.packing.specs.Grammar.{numbersPerRule, ruleEntries, rulesEntries, markedRuleEntries, markedRulesEntries, markedEntries, blockOfMarked, sheetOfMarked}
+use Rattle.packing.specs.Grammar.{ruleEntries, rulesEntries, markedRulesEntries, markedEntries, blockOfMarked, sheetOfMarked}
 use Rattle.packing.specs.Flat.{Begins, ruleNumbers, markNumbers, MarkedIn}
 use Rattle.packing.specs.Store.{storeAll}
 use Rattle.packing.specs.declared.Rule.the-variants.{Pair, Word}

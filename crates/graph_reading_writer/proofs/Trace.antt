@@ -1,16 +1,15 @@
 -- A reading's fields, written one after the other into zeros, are its block and the zeros behind it. Assumes nothing.
-use mathlib.Core.Path.{_≡_, refl, sym, ap, _∙_}
-use mathlib.Core.List.{List, [], _∷_, _++_, append-assoc, map-append}
-use Prim.Native.Nat.{ℕ, zero, suc, _+_, _-_, _*_, _/_, _≤_, _<_}
+use mathlib.Core.Path.{_≡_, refl, ap, _∙_}
+use mathlib.Core.List.{List, [], _++_, append-assoc, map-append}
+use Prim.Native.Nat.{ℕ, suc, _+_, _-_, _*_, _≤_, _<_}
 use native.Mathlib.Nat.{mul-le-mul}
-use native.Mathlib.Numerals.{add-one}
 use native.Mathlib.Omega.{arith}
 use lib.ListN.{length, take, drop, getD, replicate, length-append, length-replicate, length-drop}
 use lib.Seq.{drop-cons, getD-drop}
-use Rattle.bits.specs.Put.{put, laid, puts}
+use Rattle.bits.specs.Put.{put, puts}
 use Rattle.bits.specs.Bits.{pack}
 use Rattle.bits.specs.Width.{widthOf}
-use Rattle.bits.specs.Fields.{Fld, fld, widths, bitsOfAll}
+use Rattle.bits.specs.Fields.{Fld, widths, bitsOfAll}
 use Rattle.bits.proofs.Fields.{puts-block, length-block}
 use Rattle.bits.proofs.Remaining.{Remaining}
 use Rattle.packing.specs.declared.Sym.{Sym}

@@ -6,12 +6,11 @@ use Prim.Native.Nat.{ℕ, _+_, _≤_, _<_}
 use native.Mathlib.Numerals.{add-one}
 use native.Mathlib.Omega.{arith}
 use borrow.Author.Tests.{ne-eqb}
-use lib.Dec.{eqb}
 use lib.ListN.{length, length-map, getD, set, take}
 use lib.Seq.{take-suc, take-suc-set, length-take-le}
 use Rattle.packing.specs.declared.Sym.{Sym}
 use Rattle.packing.specs.Meaning.{Grammar, markIn, ruleIn, grammarOf, Edge, heardEdges}
-use Rattle.packing.specs.Flat.{Begins, markNumbers}
+use Rattle.packing.specs.Flat.{markNumbers}
 use Rattle.packing.proofs.Flat.{begins-at}
 use Rattle.packing.proofs.Grammar.{valid-unmarked}
 use Rattle.derivation.specs.Derivation.{Tree, Derives, by-word, by-pair, walk}

@@ -1,23 +1,23 @@
 -- An accepted sheet is a valid office grammar, whose rules stand in the sheet from place 3 on.
-use mathlib.Core.Path.{_≡_, refl, sym, ap, _∙_, subst}
+use mathlib.Core.Path.{_≡_, refl, sym, ap, _∙_}
 use mathlib.Core.Bool.{Bool, true, false}
-use mathlib.Core.Option.{Option, none, some}
+use mathlib.Core.Option.{some}
 use mathlib.Core.List.{List, [], _∷_, _++_}
-use Prim.Native.Nat.{ℕ, zero, suc, _+_, _*_, _≤_, _<_}
+use Prim.Native.Nat.{ℕ, zero, suc, _+_}
 use native.Mathlib.Omega.{arith}
 use borrow.Author.Tests.{eq-eqb, eqb-true}
 use lib.Dec.{eqb}
 use lib.ListN.{length, getElem?}
 use Rattle.bits.specs.Bits.{pick}
 use Rattle.packing.specs.declared.Sym.{Sym}
-use Rattle.packing.specs.Parse.{parsed, failed, accepted}
+use Rattle.packing.specs.Parse.{parsed, accepted}
 use Rattle.packing.specs.Source.{numbers, fieldAt}
 use Rattle.packing.specs.Alike.{anyLike, unlikeFrom}
 use Rattle.packing.specs.Grammar.{sizeField}
 use Rattle.packing.proofs.Parse.{through, same-parsed, finish-out, parsed-else}
 use Rattle.packing.proofs.Taking.{field-at-numbers-out}
 use Rattle.office.specs.Office.{Item, symbol, spoken, OfficeRule, rule, Office, Unlike, Valid}
-use Rattle.office.specs.Sheet.{itemAlike, itemsAlike, ruleAlike, officeRuleFrom, officeRulesFrom, officeFrom, officeSheet}
+use Rattle.office.specs.Sheet.{itemsAlike, ruleAlike, officeRuleFrom, officeRulesFrom, officeFrom, officeSheet}
 use Rattle.office.specs.Flat.{officeRulesAt, behindAll}
 use Rattle.office.proofs.Read.{rules-read, length-rules}
 

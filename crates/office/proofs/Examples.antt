@@ -1,6 +1,6 @@
 -- Office sheets of document 02's request N5 and what they mean: the main example, and each refusal at its field.
 use mathlib.Core.Path.{_≡_, refl}
-use mathlib.Core.List.{List, [], _∷_}
+use mathlib.Core.List.{[], _∷_}
 use Rattle.packing.specs.declared.Rule.the-variants.{Pair, Word}
 use Rattle.packing.specs.Meaning.{symbolOf, word}
 use Rattle.packing.specs.Parse.{accepted, refused}

@@ -1,11 +1,11 @@
 -- The converted grammar of kind 4 is the converted grammar with its marks.
-use mathlib.Core.Path.{_≡_, refl, ap, _∙_}
-use mathlib.Core.List.{List, [], _∷_, _++_, map, map-append}
+use mathlib.Core.Path.{_≡_, refl, ap}
+use mathlib.Core.List.{List, [], _∷_, map, map-append}
 use Prim.Native.Nat.{ℕ}
 use native.Mathlib.Omega.{arith}
 use lib.ListN.{length}
 use Rattle.packing.specs.declared.Rule as R
-use Rattle.packing.specs.Meaning.{MarkedRule, marked, ruleIn, markIn, grammarOf}
+use Rattle.packing.specs.Meaning.{marked, ruleIn, markIn, grammarOf}
 use Rattle.office.specs.Office.{Office}
 use Rattle.office.specs.Conversion.{rulesBehind, helpers, helperRules, convert, marks, convertMarked}
 use Rattle.office.proofs.Steps.{rules-length, helpers-length}

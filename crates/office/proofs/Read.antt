@@ -2,24 +2,22 @@
 use mathlib.Core.Path.{_≡_, refl, sym, ap, _∙_, subst}
 use mathlib.Core.Bool.{Bool, true, false}
 use mathlib.Core.List.{List, [], _∷_, _++_}
-use Prim.Native.Nat.{ℕ, zero, suc, _+_, _-_, _*_, _≤_, _<_}
-use native.Mathlib.Decide.{ℕ-discrete}
+use Prim.Native.Nat.{ℕ, zero, suc, _+_, _-_, _*_, _≤_}
 use native.Mathlib.Omega.{arith}
-use borrow.Author.Tests.{eq-eqb, ne-eqb, eqb-true}
+use borrow.Author.Tests.{ne-eqb}
 use lib.Dec.{eqb}
 use lib.ListN.{length, getD}
 use Rattle.bits.specs.Bits.{pick}
 use Rattle.packing.specs.Meaning as M
-use Rattle.packing.specs.Parse.{Parse, parsed, failed, _⟫_, accepted}
+use Rattle.packing.specs.Parse.{parsed}
 use Rattle.packing.specs.Source.{numbers, fieldAt}
 use Rattle.packing.specs.Alike.{anyLike, unlikeFrom}
 use Rattle.packing.specs.Grammar as G
-use Rattle.packing.specs.Grammar.{sizeField, weightField, firstOf}
-use Rattle.packing.specs.declared.Field.{Field}
+use Rattle.packing.specs.Grammar.{weightField, firstOf}
 use Rattle.packing.specs.Valid.{InRange}
-use Rattle.packing.proofs.Parse.{through, same-parsed, finish-out, parsed-else}
+use Rattle.packing.proofs.Parse.{through, same-parsed, parsed-else}
 use Rattle.packing.proofs.Taking.{field-at-numbers-out}
-use Rattle.office.specs.Office.{Item, symbol, spoken, OfficeRule, rule, Office, ItemWithin, ItemsWithin, Body, RuleWithin, RulesWithin}
+use Rattle.office.specs.Office.{Item, symbol, spoken, OfficeRule, ItemWithin, ItemsWithin, Body, RuleWithin, RulesWithin}
 use Rattle.office.specs.Sheet.{itemCount, itemKind, itemOf, itemFrom, itemsFrom, officeRuleFrom, ruleAlike, officeRulesFrom}
 use Rattle.office.specs.Flat.{itemAt, itemsAt, countAt, officeRuleAt, behind, behindAll, officeRulesAt}
 

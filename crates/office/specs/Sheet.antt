@@ -7,7 +7,7 @@ use lib.Dec.{eqb}
 use lib.ListN.{length}
 use Rattle.bits.specs.Bits.{pick}
 use Rattle.packing.specs.Meaning.{symbolOf, word}
-use Rattle.packing.specs.Parse.{Parse, parsed, failed, _⟫_, Verdict, finish}
+use Rattle.packing.specs.Parse.{Parse, parsed, _⟫_, Verdict, finish}
 use Rattle.packing.specs.Source.{numbers, fieldAt, within}
 use Rattle.packing.specs.Alike.{unlikeFrom}
 use Rattle.packing.specs.Grammar as G

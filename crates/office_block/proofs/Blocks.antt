@@ -1,16 +1,15 @@
 -- What the conversion answers tells the block that is to be written: the arrays have the rules and the marks of the converted grammar.
 -- Assumes nothing.
-use mathlib.Core.Path.{_≡_, refl, sym, ap, _∙_, subst}
+use mathlib.Core.Path.{_≡_, refl, sym, ap, subst}
 use mathlib.Core.Bool.{true}
-use mathlib.Core.List.{List, map}
+use mathlib.Core.List.{List}
 use Prim.Native.Nat.{ℕ, _-_, _≤_}
 use native.Mathlib.Omega.{arith}
 use lib.ListN.{length, replicate}
 use Rattle.packing.specs.Meaning as meaning
-use Rattle.packing.specs.Meaning.{ruleIn, grammarOf}
 use Rattle.packing.specs.Parse.{Verdict, accepted, refused, _then_}
 use Rattle.packing.specs.Grammar.{blockOfMarked}
-use Rattle.packing.specs.Flat.{Begins, ruleNumbers, markNumbers}
+use Rattle.packing.specs.Flat.{Begins, ruleNumbers}
 use Rattle.packing.specs.Ranges.{Ranges}
 use Rattle.sheet_writer.specs.Arrays.{grammarFields, blockOf}
 use Rattle.grammar_reader.specs.Answer.{sizes}

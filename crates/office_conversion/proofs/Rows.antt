@@ -1,16 +1,16 @@
 -- Rows stored behind rows: the rules' part of the array and the helpers' part do not meet.
 use mathlib.Core.Path.{_≡_, refl, sym, ap, _∙_}
-use mathlib.Core.List.{List, [], _∷_, _++_, append-nil, append-assoc}
-use Prim.Native.Nat.{ℕ, zero, suc, _+_, _*_, _≤_, _<_}
+use mathlib.Core.List.{List, [], _∷_, _++_}
+use Prim.Native.Nat.{ℕ, suc, _+_, _*_, _≤_}
 use native.Mathlib.Omega.{arith}
-use lib.ListN.{length, set, length-append}
+use lib.ListN.{length, set}
 use lib.Seq.{set-comm}
 use Rattle.packing.specs.Store.{storeAll}
 use Rattle.packing.specs.declared.Rule as K
 use Rattle.packing.specs.declared.Rule.the-variants.{Pair, Word}
 use Rattle.packing.proofs.Store.{store-append}
 use Rattle.office.proofs.Steps.{helpers-length}
-use Rattle.office.specs.Conversion.{Helper, forWord, joins, helper, helperRule, helperRules}
+use Rattle.office.specs.Conversion.{Helper, helperRules}
 use Rattle.office_conversion.specs.Pass.{rowOf, rowsOf, Holds}
 
 pub rows-append : (qs rs : List K.Rule) → rowsOf (qs ++ rs) ≡ rowsOf qs ++ rowsOf rs

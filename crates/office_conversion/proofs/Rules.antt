@@ -1,5 +1,5 @@
 -- One rule, and the turns of the loop over the rules.
-use mathlib.Core.Path.{_≡_, refl, sym, ap, _∙_, subst}
+use mathlib.Core.Path.{_≡_, refl, sym, ap, _∙_}
 use mathlib.Core.Bool.{Bool, true, false}
 use mathlib.Core.List.{List, [], _∷_, _++_, map, append-assoc, append-nil}
 use Prim.Native.Nat.{ℕ, zero, suc, _+_, _-_, _*_, _≤_, _<_}
@@ -13,12 +13,11 @@ use Rattle.packing.specs.declared.Sym.{Sym}
 use Rattle.packing.specs.declared.Rule as K
 use Rattle.packing.specs.declared.Rule.the-variants.{Pair, Word}
 use Rattle.office.specs.Office.{Item, symbol, spoken, OfficeRule, rule, Body}
-use Rattle.office.specs.Sheet.{itemOf}
 use Rattle.office.specs.Flat.{itemAt, itemsAt, countAt, officeRuleAt, behind, officeRulesAt}
 use Rattle.office.specs.Conversion.{Helper, placeOf, withWords, withChain, pairRule, named, chain, chainTop, helperRules, becomes, after, rulesBehind, helpersBehind}
 use Rattle.office.proofs.Steps.{chain-length}
 use Rattle.office.proofs.Read.{length-items}
-use Rattle.office_conversion.specs.Pass.{rowsOf, rowOf, symbolAt, symbolsAt, tag, Holds, Converted, Passable, AllPassable, WordsBelow}
+use Rattle.office_conversion.specs.Pass.{rowsOf, rowOf, symbolAt, symbolsAt, tag, Holds, Converted, Passable, AllPassable}
 use Rattle.office_conversion.proofs.Rows.{helpers-stored, rule-stored}
 use Rattle.office_conversion.proofs.Table.{chain-stays}
 use Rattle.office_conversion.proofs.Words.{all-known, symbols-named}

@@ -1,23 +1,21 @@
 -- What the pass leaves of an accepted sheet is the converted grammar.
-use mathlib.Core.Path.{_≡_, refl, sym, ap, _∙_, subst}
-use mathlib.Core.List.{List, [], _∷_, _++_, map, map-append}
-use Prim.Native.Nat.{ℕ, zero, suc, _+_, _-_, _*_, _≤_, _<_}
+use mathlib.Core.Path.{_≡_, refl, sym, ap, _∙_}
+use mathlib.Core.List.{List, [], _∷_, _++_}
+use Prim.Native.Nat.{ℕ, _+_, _-_, _*_, _≤_}
 use native.Mathlib.Omega.{arith}
-use lib.Dec.{ltb}
-use lib.ListN.{length, getD, take, drop, length-append}
+use lib.ListN.{length, drop, length-append}
 use lib.Seq.{take-at}
-use Rattle.bits.specs.Bits.{pick}
-use Rattle.packing.specs.Source.{values, valueOf}
-use Rattle.packing.specs.Grammar.{ruleEntries, rulesEntries}
+use Rattle.packing.specs.Source.{values}
+use Rattle.packing.specs.Grammar.{rulesEntries}
 use Rattle.packing.specs.Flat.{Begins, ruleNumbers}
 use Rattle.packing.specs.Store.{storeAll}
 use Rattle.packing.specs.declared.Rule as K
 use Rattle.packing.specs.declared.Rule.the-variants.{Pair, Word}
 use Rattle.packing.proofs.Store.{store-append, store-at}
-use Rattle.office.specs.Office.{Item, symbol, spoken, OfficeRule, rule, Office, ItemsWithin, RuleWithin, RulesWithin, Valid}
+use Rattle.office.specs.Office.{Item, symbol, spoken, OfficeRule, rule, Office, ItemsWithin, RulesWithin, Valid}
 use Rattle.office.proofs.Steps.{rules-length, helpers-length, result-symbols, result-rules}
-use Rattle.office.specs.Conversion.{Helper, helperRules, becomes, after, rulesBehind, helpersBehind, helpers, convert, marks}
-use Rattle.office_conversion.specs.Pass.{rowOf, rowsOf, Converted, WordsBelow, Passable, AllPassable}
+use Rattle.office.specs.Conversion.{helperRules, rulesBehind, helpersBehind, helpers, convert}
+use Rattle.office_conversion.specs.Pass.{rowsOf, Converted, WordsBelow, AllPassable}
 use Rattle.office_conversion.proofs.Rows.{length-rows, rows-append, store-swap}
 
 -- a valid office grammar can be passed

@@ -1,9 +1,9 @@
 -- A body's words, one after the other, and their symbols then.
-use mathlib.Core.Path.{_≡_, refl, sym, ap, _∙_, subst}
+use mathlib.Core.Path.{_≡_, refl, sym, ap, _∙_}
 use mathlib.Core.Bool.{Bool, true, false}
-use mathlib.Core.List.{List, [], _∷_, _++_, map}
+use mathlib.Core.List.{List, [], _∷_, map}
 use Prim.Native.Nat.{ℕ, zero, suc, _+_, _-_, _*_, _≤_, _<_}
-use native.Mathlib.Decide.{ℕ-discrete, decLt}
+use native.Mathlib.Decide.{decLt}
 use native.Mathlib.Omega.{arith}
 use borrow.Author.Tests.{eq-eqb, ne-eqb}
 use lib.Dec.{eqb}
@@ -12,7 +12,6 @@ use Rattle.bits.specs.Bits.{pick}
 use Rattle.packing.specs.Meaning as M
 use Rattle.packing.specs.Meaning.{word}
 use Rattle.packing.specs.Store.{storeAll}
-use Rattle.packing.specs.declared.Sym.{Sym}
 use Rattle.packing.specs.declared.Word as W
 use Rattle.packing.specs.declared.Rule as K
 use Rattle.office.specs.Office.{Item, symbol, spoken}
@@ -20,7 +19,7 @@ use Rattle.office.specs.Sheet.{itemOf}
 use Rattle.office.specs.Flat.{itemAt, itemsAt}
 use Rattle.office.specs.Conversion.{Helper, forWord, placeOf, withWord, withWords, named, helperRules}
 use Rattle.office.proofs.Steps.{place-within, word-known, word-fresh, place-stays, words-append}
-use Rattle.office_conversion.specs.Pass.{rowsOf, symbolAt, symbolsAt, tag, Holds, WordsBelow}
+use Rattle.office_conversion.specs.Pass.{rowsOf, symbolsAt, tag, Holds, WordsBelow}
 use Rattle.office_conversion.proofs.Rows.{helpers-stored}
 use Rattle.office_conversion.proofs.Table.{known-tag, tag-known, tag-unknown, table-more, place-past, place-own}
 

@@ -2,14 +2,14 @@
 use mathlib.Core.Path.{_≡_, refl, sym, ap, _∙_}
 use mathlib.Core.Bool.{Bool, true, false, _&&_}
 use mathlib.Core.List.{List, [], _∷_}
-use Prim.Native.Nat.{ℕ, zero, suc, _+_, _-_, _*_, _≤_, _<_}
+use Prim.Native.Nat.{ℕ, suc, _+_, _-_, _*_, _≤_, _<_}
 use native.Mathlib.Omega.{arith}
 use borrow.Author.Tests.{eq-eqb, ne-eqb}
 use lib.Dec.{eqb}
 use lib.ListN.{length, getD}
 use Rattle.bits.specs.Bits.{pick}
 use Rattle.packing.specs.Alike.{anyLike}
-use Rattle.office.specs.Office.{Item, symbol, spoken, OfficeRule}
+use Rattle.office.specs.Office.{Item}
 use Rattle.office.specs.Sheet.{itemOf, itemAlike, itemsAlike, ruleAlike}
 use Rattle.office.specs.Flat.{itemAt, itemsAt, countAt, officeRuleAt, behind, officeRulesAt}
 use Rattle.office.proofs.Read.{length-items}

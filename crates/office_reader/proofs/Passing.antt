@@ -1,14 +1,13 @@
 -- What an answer of the reader tells of the parse, and the turns of its loops.
-use mathlib.Core.Path.{_≡_, refl, sym, ap, _∙_}
+use mathlib.Core.Path.{_≡_, refl, sym, ap}
 use mathlib.Core.Bool.{true, false}
 use mathlib.Core.List.{List, [], _∷_, _++_}
-use Prim.Native.Nat.{ℕ, zero, suc, _+_, _-_, _*_, _≤_, _<_}
+use Prim.Native.Nat.{ℕ, suc, _+_, _-_, _≤_, _<_}
 use native.Mathlib.Numerals.{add-one}
 use native.Mathlib.Omega.{arith}
-use lib.ListN.{length}
 use Rattle.packing.specs.Parse.{Parse, parsed, failed, _⟫_}
 use Rattle.packing.specs.Alike.{anyLike, unlikeFrom}
-use Rattle.office.specs.Office.{Item, OfficeRule}
+use Rattle.office.specs.Office.{Item}
 use Rattle.office.specs.Sheet.{itemFrom, itemsFrom, officeRuleFrom, officeRulesFrom, ruleAlike}
 use Rattle.office.specs.Flat.{officeRuleAt, behindAll, officeRulesAt}
 use Rattle.office.proofs.Read.{item-read, rule-read, rules-snoc}

@@ -1,6 +1,6 @@
 -- A converted grammar that keeps the limits of symbols and rules is accepted: every field is in its range, and no two rules are
 -- alike.
-use mathlib.Core.Path.{_≡_, refl, sym, ap, _∙_, subst}
+use mathlib.Core.Path.{_≡_, refl, sym, subst}
 use mathlib.Core.Bool.{Bool, true, false, false≢true, _&&_}
 use mathlib.Core.List.{List, [], _∷_, _++_, map, append-nil}
 use Prim.Native.Nat.{ℕ, suc, _+_, _≤_, _<_}
@@ -25,7 +25,7 @@ use Rattle.derivation.proofs.Trees.{same-sym, same-word}
 use Rattle.office.specs.Office.{OfficeRule, Office, Valid, Within, Unlike}
 use Rattle.office.proofs.Marked.{marked-grammar}
 use Rattle.office.proofs.Steps.{result-symbols, result-words, result-rules}
-use Rattle.office.specs.Conversion.{Helper, forWord, joins, helper, helpers, convert, rulesBehind, helperRules, convertMarked}
+use Rattle.office.specs.Conversion.{forWord, joins, helper, helpers, convert, rulesBehind, helperRules, convertMarked}
 use Rattle.office_theory.proofs.Spelled.{Becomes, word-rule, pair-rule, Meant, for-word, for-items, spells-below}
 use Rattle.office_theory.proofs.Facts.{headOf, Origin, of-office, of-word, of-joined, origin, ranges, helper-meant, Place, office, helping, place, spells-one}
 

@@ -3,10 +3,9 @@
 use mathlib.Core.Path.{_≡_, refl}
 use mathlib.Core.List.{List, [], _∷_}
 use native.Mathlib.Omega.{arith}
-use Rattle.packing.specs.declared.Rule.the-variants.{Pair, Word}
 use Rattle.packing.specs.Meaning.{symbolOf, word, Edge, edge}
 use Rattle.derivation.specs.Derivation.{leaf, node}
-use Rattle.office.specs.Office.{Item, symbol, spoken, OfficeRule, rule, Office, Within}
+use Rattle.office.specs.Office.{Item, symbol, spoken, OfficeRule, rule, Within}
 use Rattle.office_theory.specs.Derivations.{OfficeTree, heard, ruled, parted, OfficeDerives, by-edge, by-rule, by-parts, officeWeight}
 use Rattle.office.specs.Conversion.{convert, marks}
 use Rattle.office_theory.specs.Matching.{unlessMarked, reduced, leftOf, rightOf, helperNumber, expandedBy, toGrammar, toOffice, withoutMarked}

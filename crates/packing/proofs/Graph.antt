@@ -12,7 +12,7 @@ use lib.ListN.{length, getElem?}
 use Rattle.bits.specs.Bits.{pick}
 use Rattle.bits.specs.Fields.{widths}
 use Rattle.bits.proofs.Fields.{widths-append, length-block}
-use Rattle.packing.specs.Meaning.{Edge, edge, word, Graph}
+use Rattle.packing.specs.Meaning.{Edge, edge, Graph}
 use Rattle.packing.specs.declared.Word.{Word}
 use Rattle.packing.specs.Parse.{parsed}
 use Rattle.packing.specs.Source.{Source, fieldAt, fldOf, flds}

@@ -4,8 +4,8 @@
 use mathlib.Core.Path.{_≡_, refl, sym, ap, subst, _∙_}
 use mathlib.Core.Bool.{Bool, true, false, false≢true}
 use mathlib.Core.List.{List, [], _∷_, _++_}
-use Prim.Native.Nat.{ℕ, zero, suc, _+_, _-_, _*_, _/_, _%_, _^_, _≤_, _<_}
-use native.Mathlib.Nat.{mul-le-mul, mul-le-mul-right, zero-mul, suc-mul, zero-add}
+use Prim.Native.Nat.{ℕ, _+_, _-_, _*_, _/_, _%_, _^_, _≤_, _<_}
+use native.Mathlib.Nat.{mul-le-mul, mul-le-mul-right, zero-mul, suc-mul}
 use native.Mathlib.Omega.{arith}
 use borrow.Author.Tests.{le-ltb}
 use lib.Dec.{ltb}
@@ -17,15 +17,15 @@ use Rattle.bits.proofs.Holds.{Holds}
 use Rattle.bits.proofs.Fields.{length-block, holds-block, block-ended}
 use Rattle.packing.specs.Meaning.{Node, byPair, byWord, GraphReading}
 use Rattle.packing.specs.Parse.{parsed}
-use Rattle.packing.specs.Source.{Source, bytes, fieldAt, Entry, entry, flds}
-use Rattle.packing.specs.Reading.{readingWeight, ruleNumber}
+use Rattle.packing.specs.Source.{Source, bytes, fieldAt, Entry, flds}
+use Rattle.packing.specs.Reading.{readingWeight}
 use Rattle.packing.specs.Grammar.{blockKind}
-use Rattle.packing.specs.GraphReading.{pathEdges, nodeEntries, traceEntries, graphReadingEntries, blockOfGraphReading, graphReadingBits, graphReadingLength, padded, wordNodes, GraphHead, graphHeadFrom, TraceIn}
+use Rattle.packing.specs.GraphReading.{pathEdges, traceEntries, graphReadingEntries, blockOfGraphReading, graphReadingBits, graphReadingLength, padded, wordNodes, GraphHead, graphHeadFrom, TraceIn}
 use Rattle.packing.specs.Valid.{Bytes, InWidth, Each, Fits, ValidGraphReading}
 use Rattle.packing.proofs.Parse.{through, same-parsed, parsed-else}
 use Rattle.packing.proofs.Bounds.{field-at-range}
 use Rattle.packing.proofs.Taking.{field-at-bytes, field-at-bytes-out}
-use Rattle.packing.proofs.Taken.{Taken, all, more, taken-held, held-taken}
+use Rattle.packing.proofs.Taken.{Taken, more, taken-held, held-taken}
 use Rattle.packing.proofs.Whole.{taken-block, block-taken}
 use Rattle.packing.proofs.Widths.{byte-width, number-room}
 

@@ -7,12 +7,12 @@ use Prim.Native.Nat.{ℕ, _+_, _*_, _≤_, _<_}
 use native.Mathlib.Omega.{arith}
 use native.Mathlib.Decide.{ℕ-discrete, decLt}
 use borrow.Author.Tests.{eq-eqb, ne-eqb, lt-ltb, le-ltb, le-leb}
-use lib.Dec.{ltb, eqb}
+use lib.Dec.{ltb}
 use lib.ListN.{length}
 use Rattle.bits.specs.Bits.{pick, num, ended, field}
 use Rattle.bits.proofs.Fields.{block-ended}
 use Rattle.packing.specs.Meaning.{Utterance, Graph, Heard, slots, graph}
-use Rattle.packing.specs.Parse.{Parse, parsed, failed, Verdict, accepted, refused, _then_, _⟫_, finish}
+use Rattle.packing.specs.Parse.{Parse, parsed, failed, accepted, refused, _⟫_, finish}
 use Rattle.packing.specs.Source.{bytes, inRange, fieldAt, Entry, entry, flds}
 use Rattle.packing.specs.Grammar.{blockKind}
 use Rattle.packing.specs.Utterance.{utteranceFrom, utteranceBlock, blockOfUtterance}

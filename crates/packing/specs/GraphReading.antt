@@ -10,7 +10,7 @@ use Rattle.bits.specs.Width.{widthOf}
 use Rattle.bits.specs.Fields.{bitsOfAll}
 use Rattle.packing.specs.Meaning.{Node, byPair, byWord, GraphReading}
 use Rattle.packing.specs.Parse.{Parse, parsed, failed, _⟫_}
-use Rattle.packing.specs.Source.{Source, bytes, fieldAt, within, Entry, entry, flds}
+use Rattle.packing.specs.Source.{bytes, fieldAt, within, Entry, entry, flds}
 use Rattle.packing.specs.Grammar.{blockKind}
 use Rattle.packing.specs.Reading.{readingWeight, ruleNumber}
 use Rattle.packing.specs.declared.Field.{Field}

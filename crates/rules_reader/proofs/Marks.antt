@@ -1,17 +1,16 @@
 -- A rule and then its mark, as the definition has them: each way out over plain values. Assumes nothing.
-use mathlib.Core.Path.{_≡_, sym, _∙_, ap}
+use mathlib.Core.Path.{_≡_, sym, _∙_}
 use mathlib.Core.Bool.{Bool, true, false}
 use Prim.Native.Nat.{ℕ, _+_, _≤_}
 use native.Mathlib.Omega.{arith}
-use Rattle.packing.specs.Meaning.{marked}
-use Rattle.packing.specs.Parse.{parsed, failed}
+use Rattle.packing.specs.Parse.{parsed}
 use Rattle.packing.specs.Source.{Source}
 use Rattle.packing.specs.Read.{readOf}
 use Rattle.packing.specs.Grammar.{markField, ruleFrom, markFrom, markedRuleFrom}
 use Rattle.packing.specs.declared.Cursor.{Cursor}
 use Rattle.packing.specs.declared.Read as read
 use Rattle.packing.proofs.Parse.{number-told, refused-out, same-parsed}
-use Rattle.rules_reader.specs.Rules.{ruleBy, ruleRead, RuleNear, Sound, markedRead, MarkedNear}
+use Rattle.rules_reader.specs.Rules.{ruleRead, Sound, markedRead, MarkedNear}
 use Rattle.rules_reader.specs.declared.RuleNumbers.{RuleNumbers}
 use Rattle.rules_reader.specs.declared.RuleRead as rule
 use Rattle.rules_reader.specs.declared.MarkedRead as marking

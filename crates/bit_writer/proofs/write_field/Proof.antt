@@ -1,6 +1,6 @@
 -- A field within one byte is one part; a field that ends in the next byte is put in two (`put-append`), the last at the front of that byte.
 use mathlib.Core.Path.{_≡_, refl}
-use Prim.Native.Nat.{_-_, _+_, _*_, _/_, _%_, _^_}
+use Prim.Native.Nat.{_-_, _+_, _*_, _/_, _%_}
 use native.Mathlib.Omega.{arith}
 use Rattle.bits.specs.Put.{put}
 use Rattle.bits.proofs.Put.{put-append}

@@ -1,9 +1,6 @@
 -- `grammar_reader::read_marked_block` meets its contract: the kind is the one that the block says. Assumes nothing.
-use mathlib.Core.Path.{_≡_, subst, sym}
-use mathlib.Core.Bool.{Bool}
 use borrow.Author.Needs.{needs}
-use Rattle.packing.specs.Grammar.{blockBy, markedBlock}
-use Rattle.grammar_reader.specs.Answer.{MarkedTold}
+use Rattle.packing.specs.Grammar.{markedBlock}
 use Rattle.grammar_reader.proofs.read_marked_block.Statement.{statement}
 use Rattle.grammar_reader.proofs.read_marked_block.Tie as tie
 

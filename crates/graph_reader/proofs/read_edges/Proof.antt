@@ -5,7 +5,6 @@ use Prim.Native.Nat.{_+_, _-_, _*_, _≤_, _<_}
 use native.Mathlib.Omega.{arith}
 use borrow.Author.Needs.{needs}
 use lib.ListN.{length, length-set}
-use Rattle.packing.specs.Meaning.{edge, word}
 use Rattle.packing.specs.Source.{bytes}
 use Rattle.graph_reader.proofs.Told.{edge-told}
 use Rattle.graph_reader.proofs.Edges.{edge-near}

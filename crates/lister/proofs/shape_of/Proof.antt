@@ -1,6 +1,5 @@
 -- What both readers say of the blocks.
 use mathlib.Core.Path.{sym, _∙_}
-use native.Mathlib.Omega.{arith}
 use borrow.Author.Needs.{needs}
 use Rattle.packing.specs.Heard.{heardBlock}
 use Rattle.heard_reader.proofs.Outcome as heard

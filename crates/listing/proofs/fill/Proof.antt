@@ -1,5 +1,4 @@
 -- The table that the chart makes of zeros is read for the readings, and then the entries found are cleared.
-use mathlib.Core.Path.{_∙_}
 use native.Mathlib.Nat.{mul-le-mul-right}
 use native.Mathlib.Omega.{arith}
 use borrow.Author.Needs.{needs}

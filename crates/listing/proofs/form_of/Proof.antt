@@ -1,7 +1,6 @@
 -- The length is that of the kind.
 use mathlib.Core.Path.{refl}
 use mathlib.Core.Bool.{true, false}
-use native.Mathlib.Omega.{arith}
 use borrow.Author.Needs.{needs}
 use Rattle.listing.proofs.Sizes.{size-small}
 use Rattle.listing.proofs.form_of.Statement.{statement}

@@ -3,7 +3,7 @@ use mathlib.Core.Path.{_≡_, refl, sym, _∙_}
 use Prim.Native.Nat.{_-_, _≤_}
 use native.Mathlib.Omega.{arith}
 use borrow.Author.Needs.{needs}
-use lib.ListN.{length, length-set}
+use lib.ListN.{length}
 use Rattle.office_block.proofs.Marks.{Left, ones-turn, ones-end}
 use Rattle.office_block.proofs.mark_helpers.Statement.{statement}
 use Rattle.office_block.proofs.mark_helpers.Tie as tie

@@ -1,6 +1,6 @@
 -- Each field is the next of the definition; where one is refused, so is the head.
 use mathlib.Core.Path.{_≡_, sym, _∙_}
-use Prim.Native.Nat.{_+_, _≤_}
+use Prim.Native.Nat.{_≤_}
 use native.Mathlib.Omega.{arith}
 use borrow.Author.Needs.{needs}
 use Rattle.packing.specs.Parse.{parsed}

@@ -1,5 +1,5 @@
 -- `rules_reader::read_marked` meets its contract: the rule and then its mark, as the definition has them. Assumes nothing.
-use mathlib.Core.Path.{_≡_, subst}
+use mathlib.Core.Path.{subst}
 use Prim.Native.Nat.{_+_, _≤_}
 use native.Mathlib.Omega.{arith}
 use borrow.Author.Needs.{needs}
