@@ -17,7 +17,7 @@ const KEPT_NUMBERS: usize = 6;
 
 pub const JOURNAL_NUMBERS: usize = 1 + KEPT_NUMBERS * MOST_KEPT;
 
-// The entries that are kept of a rank, which is looked for once it is known what is written.
+// The entries that finding a rank writes over, which are kept at once.
 const AT_ONCE: usize = 4;
 
 // The four numbers of an entry.

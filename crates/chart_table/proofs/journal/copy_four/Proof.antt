@@ -3,51 +3,37 @@ use Rattle.chart_table.specs.Journal.{writeFour}
 use borrow.Author.Needs.{needs}
 use Rattle.chart_table.proofs.journal.copy_four.Statement.{statement}
 use Rattle.chart_table.proofs.journal.copy_four.Tie as tie
-use Rattle.chart_table.proofs.journal.copy_four.Reads as reads
-use Rattle.chart_table.proofs.journal.copy_four.Lts as lts
-use Rattle.chart_table.proofs.journal.copy_entry.Reads as copy-entry-reads
 
--- src/journal.rt:115:5
 copy-entry-requires : tie.Need-copy-entry-requires
 copy-entry-requires c κs = search needs
 
--- src/journal.rt:116:25
 add-copy-entry : tie.Need-add-copy-entry
 add-copy-entry c = search needs
 
--- src/journal.rt:116:5
 copy-entry-requires-2 : tie.Need-copy-entry-requires-2
 copy-entry-requires-2 c κs = search needs
 
--- src/journal.rt:117:30
 mul-copy-entry : tie.Need-mul-copy-entry
 mul-copy-entry c = search needs
 
--- src/journal.rt:117:25
 add-copy-entry-2 : tie.Need-add-copy-entry-2
 add-copy-entry-2 c = search needs
 
--- src/journal.rt:117:5
 copy-entry-requires-3 : tie.Need-copy-entry-requires-3
 copy-entry-requires-3 c κs = search needs
 
--- src/journal.rt:118:30
 mul-copy-entry-2 : tie.Need-mul-copy-entry-2
 mul-copy-entry-2 c = search needs
 
--- src/journal.rt:118:25
 add-copy-entry-3 : tie.Need-add-copy-entry-3
 add-copy-entry-3 c = search needs
 
--- src/journal.rt:118:5
 copy-entry-requires-4 : tie.Need-copy-entry-requires-4
 copy-entry-requires-4 c κs = search needs
 
--- src/journal.rt:111:1
 same-length : tie.Need-same-length
 same-length c = search needs
 
--- src/journal.rt:111:1
 returns : tie.Need-returns
 unfolding writeFour
 returns c = rw (c .before .before .copy-entry4 .ensures, c .before .before .before .before .before .before .copy-entry3 .ensures, c .before .before .before .before .before .before .before .before .before .before .copy-entry2 .ensures, c .before .before .before .before .before .before .before .before .before .before .before .before .before .before .copy-entry .ensures)

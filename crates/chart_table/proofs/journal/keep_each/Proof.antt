@@ -3,31 +3,22 @@ use Rattle.chart_table.specs.Journal.{keepFour}
 use borrow.Author.Needs.{needs}
 use Rattle.chart_table.proofs.journal.keep_each.Statement.{statement}
 use Rattle.chart_table.proofs.journal.keep_each.Tie as tie
-use Rattle.chart_table.proofs.journal.keep_each.Reads as reads
-use Rattle.chart_table.proofs.journal.keep_each.Lts as lts
-use Rattle.chart_table.proofs.journal.keep_entry.Reads as keep-entry-reads
 
--- src/journal.rt:126:5
 keep-entry-requires : tie.Need-keep-entry-requires
 keep-entry-requires c κs = search needs
 
--- src/journal.rt:127:5
 keep-entry-requires-2 : tie.Need-keep-entry-requires-2
 keep-entry-requires-2 c κs = search needs
 
--- src/journal.rt:128:5
 keep-entry-requires-3 : tie.Need-keep-entry-requires-3
 keep-entry-requires-3 c κs = search needs
 
--- src/journal.rt:129:5
 keep-entry-requires-4 : tie.Need-keep-entry-requires-4
 keep-entry-requires-4 c κs = search needs
 
--- src/journal.rt:122:1
 same-length : tie.Need-same-length
 same-length c = search needs
 
--- src/journal.rt:122:1
 returns : tie.Need-returns
 unfolding keepFour
 returns c = rw (c .before .before .keep-entry4 .ensures, c .before .before .before .before .before .before .keep-entry3 .ensures, c .before .before .before .before .before .before .before .before .before .before .keep-entry2 .ensures, c .before .before .before .before .before .before .before .before .before .before .before .before .before .before .keep-entry .ensures)

@@ -4,73 +4,52 @@ use Rattle.chart_table.proofs.Kept.{kept-at-once}
 use borrow.Author.Needs.{needs}
 use Rattle.chart_table.proofs.journal.keep_four.Statement.{statement}
 use Rattle.chart_table.proofs.journal.keep_four.Tie as tie
-use Rattle.chart_table.proofs.journal.keep_four.Reads as reads
-use Rattle.chart_table.proofs.journal.keep_four.Lts as lts
-use Rattle.arrays.proofs.number_at.Reads as number-at-reads
-use Rattle.arrays.proofs.store.Reads as store-reads
-use Rattle.chart_table.proofs.journal.copy_four.Reads as copy-four-reads
-use Rattle.chart_table.proofs.journal.keep_each.Reads as keep-each-reads
 
--- src/journal.rt:137:9
 number-at-requires : tie.Need-number-at-requires
 number-at-requires c κs = search needs
 
--- src/journal.rt:138:8
 add-if1 : tie.Need-add-if1
 add-if1 c = search needs
 
--- src/journal.rt:139:22
 mul-to : tie.Need-mul-to
 mul-to c = search needs
 
--- src/journal.rt:139:18
 add-to : tie.Need-add-to
 add-to c = search needs
 
--- src/journal.rt:140:17
 mul-if2 : tie.Need-mul-if2
 mul-if2 c = search needs
 
--- src/journal.rt:140:12
 add-if2 : tie.Need-add-if2
 add-if2 c = search needs
 
--- src/journal.rt:141:13
 copy-four-requires : tie.Need-copy-four-requires
 copy-four-requires c κs = search needs
 
--- src/journal.rt:142:29
 add-store : tie.Need-add-store
 add-store c = search needs
 
--- src/journal.rt:142:28
 cast-store : tie.Need-cast-store
 cast-store c = search needs
 
--- src/journal.rt:142:13
 store-requires : tie.Need-store-requires
 store-requires c κs = search needs
 
--- src/journal.rt:143:13
 same-length : tie.Need-same-length
 same-length c = search needs
 
--- src/journal.rt:143:13
 returns : tie.Need-returns
 returns c =
     let a = c .before .before .before .before .before .before .before .before .before .before .before .before .before .before .args in
     rw (c .before .before .store .ensures, c .before .before .before .before .before .before .copy-four .ensures)
     (kept-at-once (a .t .now) (a .kept .now) _ (a .at) (c .before .before .before .before .before .before .before .before .before .before .number-at .ensures .0) (c .before .before .before .before .before .before .before .before .before .if1 .taken) (omega (arith, c .before .before .before .before .before .before .before .before .if2 .taken)))
 
--- src/journal.rt:146:5
 keep-each-requires : tie.Need-keep-each-requires
 keep-each-requires c κs = search needs
 
--- src/journal.rt:133:1
 same-length-2 : tie.Need-same-length-2
 same-length-2 c = search needs
 
--- src/journal.rt:133:1
 returns-2 : tie.Need-returns-2
 returns-2 c = search needs
 
