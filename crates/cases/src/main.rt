@@ -1,20 +1,16 @@
 // The checked examples of document 01 that are not marked P, of G and U with N = 8: 320 numbers of work table are enough, 319
 // are not; 48 bytes of output are enough, 47 are not; other N; another G. Where a case is not about them, both are longer.
-// Then those of the panel (document 02, N8), of G with slots and with word graphs.
-use libc::STDOUT_FILENO;
+// Then those of the panel (document 02, N8), of G with slots and with word graphs, and the lister's lines (N1, N5) of a graph and of grammars
+// of kind 4.
+use lines::SHOWN_NUMBERS;
 use listing::Listed;
 use listing::PANEL;
 use listing::listing_within;
+use printing::print;
+use printing::print_end;
+use printing::print_number;
+use printing::print_rows;
 ghost use Prim.Native.Nat.{_≤_};
-
-fn print(text: &[u8]) {
-    io::write_all(STDOUT_FILENO, text);
-}
-
-fn print_number(n: usize) {
-    io::print_decimal(STDOUT_FILENO, n as u64);
-    print(b"\n");
-}
 
 fn print_answer(name: &[u8], answer: Listed) {
     print(name);
@@ -22,10 +18,12 @@ fn print_answer(name: &[u8], answer: Listed) {
         Listed::Found(m) => {
             print(b": readings ");
             print_number(m);
+            print_end();
         }
         Listed::Refused(n) => {
             print(b": refused ");
             print_number(n as usize);
+            print_end();
         }
     }
 }
@@ -85,6 +83,34 @@ fn run_places() {
     run_panel(b"14 places, N 16", fourteen, 16, 4993, 289);
 }
 
+// The lister's lines of what was heard under a grammar, with a table, an output and rows full of noise.
+fn run_lines(name: &[u8], grammar: &[u8], heard: &[u8]) {
+    let mut work = [12345u32; 8192];
+    let mut out = [123u8; 1024];
+    let mut shown = [12345u32; SHOWN_NUMBERS];
+    let answer = lines::lines(grammar, heard, &mut work, &mut out, &mut shown);
+    print_answer(name, answer);
+    if let Listed::Found(m) = answer {
+        print_rows(&shown, m);
+    }
+}
+
+// G with marks 0 and 1, of U and of U redrawn as a graph; G, of that graph; an office's grammar, of slots; and slots that are refused.
+fn run_marked() {
+    let g = [16u8, 64, 64, 64, 0, 9, 0, 0, 0];
+    let marked = [64u8, 64, 64, 64, 0, 8, 128, 0, 16];
+    let slots = [33u8, 8, 0, 0, 128, 0, 8, 0, 0, 128, 0, 0];
+    let graph = [82u8, 132, 0, 64, 0, 1, 16, 0, 0, 67, 0, 0, 12, 128, 0, 0];
+    let office =
+        b"\x42\x41\x01\x60\x00\x05\x24\x44\x00\x05\x04\x00\x09\x58\x00\x00\x72\x74\x80\x00\x0c\xc0\x00\x29\x00\x00\x04\xf5\x00\x00\xf6\x00\x00\x67\x00\x00\x18\xa0\x00\x00\xce";
+    let said = b"\x21\x08\x00\x08\x90\x00\x9c\x00\x31\x20\x01\x30\x00\x39\x80\x01\xc0";
+    run_lines(b"G, graph", &g, &graph);
+    run_lines(b"G with marks, slots", &marked, &slots);
+    run_lines(b"G with marks, graph", &marked, &graph);
+    run_lines(b"an office's grammar, slots", office, said);
+    run_lines(b"G with marks, no slots", &marked, &g);
+}
+
 fn main() {
     run(b"work 320", 0, 8, 320, 49);
     run(b"work 319", 0, 8, 319, 49);
@@ -105,4 +131,5 @@ fn main() {
     run_thirteen(b"13 slots, N 0", 0);
     run_thirteen(b"13 slots, N 300", 300);
     run_places();
+    run_marked();
 }

@@ -16,7 +16,8 @@ use Rattle.packing.proofs.Parse.{picked-first}
 use Rattle.checker.specs.Run.{Answered}
 use Rattle.checker.specs.declared.Walked.{Walked}
 use Rattle.checker.specs.declared.Walked.the-variants as W
-use Rattle.chance.specs.Chance.{isShare, areShares, sharesOf, one, factorOf, productOf, sharedBy, chanceOf}
+use Rattle.chance.specs.Answer.{sharedBy, chanceOf}
+use Rattle.chance.specs.Chance.{isShare, areShares, sharesOf, one, factorOf, productOf}
 use Rattle.chance.specs.Model.{Held, Shared}
 use Rattle.chance.specs.declared.Outcome.the-variants.{Refused}
 use Rattle.chance.proofs.Error.{Share}

@@ -33,7 +33,8 @@ use Rattle.checker.specs.Run.{underRules}
 use Rattle.checker.proofs.Runs.{walksOf, under-rules}
 use Rattle.checker.proofs.Refused.{check-row}
 use Rattle.checker.proofs.Theorems.{accepts}
-use Rattle.chance.specs.Chance.{areShares, sharesOf, one, productOf, sharedBy, chance, chanceOf, Shown}
+use Rattle.chance.specs.Answer.{sharedBy, chance, chanceOf}
+use Rattle.chance.specs.Chance.{areShares, sharesOf, one, productOf, Shown, withShares, askedChance}
 use Rattle.chance.specs.declared.Outcome.{Outcome}
 use Rattle.chance.specs.declared.Outcome.the-variants.{Product, Refused}
 use Rattle.chance.proofs.Error.{Share, product-near, product-exact}
@@ -76,7 +77,7 @@ shared-out : (R : ℕ) (shares rs : List ℕ) {x : Float} → sharedBy R shares 
 shared-out R shares rs {x} e = go (eqb (length shares) R) refl (areShares shares) refl e
   where
     go : (a : Bool) → eqb (length shares) R ≡ a → (b : Bool) → areShares shares ≡ b
-        → pick a (pick b (accepted (productOf one (sharesOf shares rs))) (refused 61)) (refused 60) ≡ accepted x
+        → (pick a (pick b (accepted rs) (refused 61)) (refused 60) then λ rs. accepted (productOf one (sharesOf shares rs))) ≡ accepted x
         → (length shares ≡ R) × (areShares shares ≡ true) × (x ≡ productOf one (sharesOf shares rs))
     go false h b k e = absurd (refused≢accepted e)
     go true h false k e = absurd (refused≢accepted e)
@@ -89,8 +90,28 @@ module _ (grammar heard reading shares : List ℕ) where
   chance-row =
       refusals.then-row (refusals.wider (λ n r. inl (inl (inl r))) (refusals.grammar-block-row grammar)) λ g p.
       then-rows (check-row grammar heard reading) λ t e.
-      choose-row (eqb (length shares) (length (g .rules)))
-      (choose-row (areShares shares) refusals.granted (denied {n = 61} (omega arith, omega arith))) (denied {n = 60} (omega arith, omega arith))
+      refusals.then-row (choose-row (eqb (length shares) (length (g .rules)))
+      (choose-row (areShares shares) refusals.granted (denied {n = 61} (omega arith, omega arith))) (denied {n = 60} (omega arith, omega arith)))
+      λ rs f. refusals.granted
+
+  -- what is due is made of what is asked, where the check comes to what it does
+  pub chance-asked : chance grammar heard reading shares
+      ≡ (askedChance grammar shares (check grammar heard reading) then λ t. accepted (productOf one (sharesOf shares (walk t))))
+  unfolding chance askedChance
+  chance-asked = go (grammarBlock grammar) (check grammar heard reading)
+    where
+      tested : (a b : Bool) (t : Tree)
+          → (pick a (pick b (accepted (walk t)) (refused 61)) (refused 60) then λ rs. accepted (productOf one (sharesOf shares rs)))
+          ≡ (pick a (pick b (accepted t) (refused 61)) (refused 60) then λ t. accepted (productOf one (sharesOf shares (walk t))))
+      tested true true t = refl
+      tested true false t = refl
+      tested false b t = refl
+
+      go : (v : Verdict Grammar) (w : Verdict Tree) → (v then λ g. w then λ t. sharedBy (length (g .rules)) shares (walk t))
+          ≡ ((v then λ g. w then λ t. withShares (length (g .rules)) shares t) then λ t. accepted (productOf one (sharesOf shares (walk t))))
+      go (refused n) w = refl
+      go (accepted g) (refused n) = refl
+      go (accepted g) (accepted t) = tested (eqb (length shares) (length (g .rules))) (areShares shares) t
 
   module _ (bytes : Bytes reading) where
     pub shown : (x : Float) → chance grammar heard reading shares ≡ accepted x → Shown grammar heard reading shares x

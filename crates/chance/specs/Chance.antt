@@ -1,4 +1,4 @@
--- The chance of a reading: document 02, N14. Stands on the check's definition, on packing's and derivation's, and on the kit's IEEE
+-- The chance of a reading: document 02, N14. Stands on packing's and derivation's definitions, and on the kit's IEEE
 -- numbers (lib.Ieee), whose `round` gives the float nearest to a fraction and whose `mul` rounds once.
 use mathlib.Core.Path.{_≡_}
 use mathlib.Core.Bool.{Bool, true, false}
@@ -16,8 +16,6 @@ use Rattle.packing.specs.Grammar.{grammarBlock}
 use Rattle.packing.specs.Heard.{heardBlock}
 use Rattle.derivation.specs.Derivation.{Tree, walk, Derivation}
 use Rattle.derivation.specs.Heard.{pathLength, ownBlock}
-use Rattle.checker.specs.Check.{check}
-use Rattle.chance.specs.declared.Outcome as O
 
 -- "shares for their rules, whole numbers from 1 to 1,024"
 abbrev pub isShare : ℕ → Bool
@@ -45,20 +43,13 @@ unfoldable pub productOf : Float → List ℕ → Float
 productOf p [] = p
 productOf p (s ∷ ss) = productOf (mul binary64 p (factorOf s)) ss
 
--- "60 the number of shares is not R, after the reading's checks; 61 a share outside 1 to 1,024, next"
-abbrev pub sharedBy : ℕ → List ℕ → List ℕ → Verdict Float
-sharedBy R shares rs =
-    pick (eqb (length shares) R) (pick (areShares shares) (accepted (productOf one (sharesOf shares rs))) (refused 61)) (refused 60)
+-- "60 the number of shares is not R, after the reading's checks; 61 a share outside 1 to 1,024, next", of what has R rules, whatever it is
+abbrev pub withShares : {A : Type 0} → ℕ → List ℕ → A → Verdict A
+withShares R shares a = pick (eqb (length shares) R) (pick (areShares shares) (accepted a) (refused 61)) (refused 60)
 
--- the chance of a reading that passes the check, or the refusal
-unfoldable pub chance : List ℕ → List ℕ → List ℕ → List ℕ → Verdict Float
-chance grammar heard reading shares =
-    grammarBlock grammar then λ g. check grammar heard reading then λ t. sharedBy (length (g .rules)) shares (walk t)
-
--- the code's answer
-abbrev pub chanceOf : Verdict Float → O.Outcome
-chanceOf (accepted x) = O.the-variants.Product x
-chanceOf (refused n) = O.the-variants.Refused n
+-- the derivation whose chance is shown, or the refusal, where the check comes to v
+unfoldable pub askedChance : (grammar shares : List ℕ) (v : Verdict Tree) → Verdict Tree
+askedChance grammar shares v = grammarBlock grammar then λ g. v then λ t. withShares (length (g .rules)) shares t
 
 -- "P the exact product of the whole shares"
 unfoldable pub exactOf : List ℕ → ℕ

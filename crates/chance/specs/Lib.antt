@@ -1,2 +1,3 @@
 pub mod Chance
+pub mod Answer
 pub mod Model

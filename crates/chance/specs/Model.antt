@@ -5,7 +5,7 @@ use Prim.Native.Nat.{ℕ, _≤_}
 use Rattle.packing.specs.Parse.{Verdict, _then_}
 use Rattle.checker.specs.Run.{Answered}
 use Rattle.checker.specs.declared.Walked as W
-use Rattle.chance.specs.Chance.{sharedBy, chanceOf}
+use Rattle.chance.specs.Answer.{sharedBy, chanceOf}
 use Rattle.chance.specs.declared.Outcome.{Outcome}
 
 -- the nodes that were found have their numbers in the array

@@ -10,8 +10,9 @@ ghost use mathlib.Core.Bool.{true};
 ghost use Prim.Native.Nat.{_≤_};
 ghost use lib.Ieee.{Float};
 ghost use lib.ListN.{length, take};
-ghost use Rattle.chance.specs.Chance as definition;
-ghost use Rattle.chance.specs.Chance.{areShares, sharesOf, one, factorOf, productOf, chanceOf, Shown};
+ghost use Rattle.chance.specs.Answer as definition;
+ghost use Rattle.chance.specs.Answer.{chanceOf};
+ghost use Rattle.chance.specs.Chance.{areShares, sharesOf, one, factorOf, productOf, Shown};
 ghost use Rattle.chance.specs.Model.{Held, Shared};
 
 // What shares are of.

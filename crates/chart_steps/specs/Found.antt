@@ -1,6 +1,5 @@
--- The ranks that are found, counted from the table itself: document 02, N2, "A rank of a span and head is found once its tree stands in the
--- table". The table is entries of four numbers, one for each rank that is kept of each span and head, and a tree stands in an entry unless
--- its price plus 1 is 0 (chart_table/specs/Table). Stands on that page alone.
+-- The ranks that are found, counted entry by entry: a tree stands in an entry unless its price plus 1 is 0 (chart_table/specs/Table).
+-- Nobody need believe this page: open_listing joins it to what its page Stands says of spans and heads.
 use mathlib.Core.List.{List}
 use Prim.Native.Nat.{ℕ, _+_, _*_}
 use lib.Dec.{eqb}

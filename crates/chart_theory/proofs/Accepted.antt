@@ -1,13 +1,14 @@
 -- What the chart's callers need: with an accepted grammar and what was heard, slots or a graph, in flat arrays, enumerating finds
 -- derivation's least derivations. For the index that it makes is one, and the ranges of accepted meanings meet all that the theory
 -- assumes.
-use mathlib.Core.Path.{_≡_, refl, sym, _∙_}
+use mathlib.Core.Path.{_≡_, refl, sym, ap, _∙_}
 use mathlib.Core.Bool.{true, false}
 use mathlib.Core.List.{List, _++_}
-use Prim.Native.Nat.{ℕ, suc, _+_, _*_, _/_, _≤_, _<_}
+use Prim.Native.Nat.{ℕ, suc, _+_, _-_, _*_, _/_, _%_, _≤_, _<_}
 use native.Mathlib.Nat.{le-refl}
+use native.Mathlib.Decide.{decLt}
 use native.Mathlib.Omega.{arith}
-use lib.ListN.{length, replicate, length-take, length-replicate}
+use lib.ListN.{length, getD, replicate, length-take, length-replicate}
 use borrow.Author.Tests.{eq-eqb, ne-eqb}
 use Rattle.packing.specs.Meaning.{Grammar, Heard, slots, graph, lastPlace, heardEdges}
 use Rattle.packing.specs.Utterance.{utteranceEntries}
@@ -16,24 +17,30 @@ use Rattle.packing.specs.Flat.{Begins, ruleNumbers, edgeNumbers}
 use Rattle.packing.proofs.Flat.{rule-at, edge-at}
 use Rattle.packing.proofs.Graph.{valid-places, valid-edge-count}
 use Rattle.packing.proofs.Redrawn.{slots-edges}
-use Rattle.derivation.specs.Derivation.{At, Tree, Derivation}
+use Rattle.derivation.specs.Derivation.{At, Tree, Derivation, weight}
+use Rattle.derivation.specs.Order.{costSum}
 use Rattle.derivation.specs.HeardList.{derivations, leastDerivations}
 use Rattle.derivation.proofs.Lists.{at-take}
+use Rattle.derivation.proofs.Rows.{Price, price, weightIn, costsIn, rowPrice, row-price}
 use Rattle.derivation.proofs.Ranges.{all-at, Within, valid-rules, valid-sizes, valid-within, valid-light}
 use Rattle.derivation.proofs.Paths.{forward-weight, forward-costs}
 use Rattle.derivation.proofs.HeardReadings.{heard-forward, heard-cheap, heard-last, heard-one-edge}
 use Rattle.chart_table.specs.declared.Cell.{Cell}
 use Rattle.chart_table.specs.declared.Layout.{Layout}
-use Rattle.chart_table.specs.Table.{root, cellNumber, priceAt, clear}
+use Rattle.chart_keys.specs.Keys.{weightUnit}
+use Rattle.chart_table.specs.Table.{root, cellNumber, entryOf, priceAt, clear}
 use Rattle.chart_index.specs.Index.{indexNumbers}
 use Rattle.chart_index.specs.Build.{makeIndex}
 use Rattle.chart_index.proofs.Index.{indexed}
 use Rattle.chart_search.specs.Search.{nextOfRoot}
 use Rattle.chart_trace.specs.declared.checked.Scope.{Scope}
 use Rattle.chart.specs.Chart.{layOut, enumerate, rootsFound, rootWeight, rootFound, rootSpelled}
-use Rattle.chart_theory.specs.Spelled.{namesEdges, SpelledReading}
-use Rattle.chart_theory.proofs.Table.Cells.{InChart}
-use Rattle.chart_theory.proofs.Invariant.{Setting}
+use Rattle.chart_theory.specs.Spelled.{namesEdges, Spelled, SpelledReading}
+use Rattle.chart_theory.proofs.Table.Keys.{priceNumber}
+use Rattle.chart_theory.proofs.Table.Cells.{InChart, rankedIn}
+use Rattle.chart_theory.proofs.Table.Entries.{entry-four, found-kept, same-entry}
+use Rattle.chart_theory.proofs.Invariant.{Setting, Found}
+use Rattle.chart_theory.proofs.Search.Trace.{found-spelled}
 use Rattle.chart_theory.proofs.Search.Passes.{Listed, next-known}
 use Rattle.chart_theory.proofs.Chart.{RootHas, RootSpells, Lists, search-lists, FirstIs, search-firsts, root-sound, root-complete, known-step, first-listed, front-size}
 
@@ -46,6 +53,10 @@ heard-sizes W (graph h) v = (omega (arith, valid-places W h v), omega (arith, va
 -- what a trace is checked against
 abbrev pub scope : Grammar → Heard → Scope
 scope g h = record { rules = length (g .rules); edges = length (heardEdges h); named = namesEdges h }
+
+-- weight and costs of a price plus 1
+price-parts : {n : ℕ} (a : Price) → n ≡ priceNumber a + 1 → costsIn a < weightUnit → ((n - 1) / weightUnit ≡ weightIn a) × ((n - 1) % weightUnit ≡ costsIn a)
+price-parts (price w s) e cheap = rw e (omega arith, omega arith)
 
 module _ (g : Grammar) (h : Heard) (N : ℕ) where
   -- the layout of a table for N readings
@@ -179,3 +190,41 @@ module _ (g : Grammar) (h : Heard) (N : ℕ) where
               );
           none = λ beyond. rw (eq-eqb (priceAt t layout (cellNumber layout (root layout)) x) 0 (step .none beyond));
         }
+
+    -- what stands at a rank of a cell: the tree of that place, spelled, with its weight and its costs
+    pub record Stands (t : List ℕ) (c : Cell) (x : ℕ) : Type 0 where
+      pub tree : Tree
+      pub place : At (rankedIn g (heardEdges h) c) x tree
+      pub spelled : Spelled g (namesEdges h) layout t tree c x
+      pub weighs : (priceAt t layout (cellNumber layout c) x - 1) / weightUnit ≡ weight g (heardEdges h) tree
+      pub costs : (priceAt t layout (cellNumber layout c) x - 1) % weightUnit ≡ costSum (heardEdges h) tree
+
+    module _ (k : ℕ) (t : List ℕ) (listed : Listed g (heardEdges h) layout k t) {c : Cell} (in-chart : InChart layout c) (x : ℕ) where
+      pub found-stands : Found layout t c x → Stands t c x
+      unfolding layOut
+      found-stands found =
+          let (v, held) = listed .invariant .holds x in-chart found in
+          let (z, place, o) = held .place in
+          let (w, s) = price-parts (rowPrice v) (held .priced) (held .fits .cheap) in
+          let priced = row-price g (heardEdges h) o in
+          record {
+            tree = z;
+            place = place;
+            spelled = found-spelled setting t (listed .invariant) (namesEdges h) (lastPlace h) c x z in-chart (omega (arith, in-chart .within)) found place;
+            weighs = w ∙ ap weightIn priced;
+            costs = s ∙ ap costsIn priced;
+          }
+
+      -- and where none is found, each of the entry's four numbers is 0
+      pub nothing-stands : x < N → priceAt t layout (cellNumber layout c) x ≡ 0 → (y : ℕ) → y < 4 → getD t (entryOf layout (cellNumber layout c) x + y) 0 ≡ 0
+      unfolding layOut
+      nothing-stands kept none y few = go (decLt 0 (getD t (entryOf layout (cellNumber layout c) x + y) 0))
+        where
+          go : Dec (0 < getD t (entryOf layout (cellNumber layout c) x + y) 0) → getD t (entryOf layout (cellNumber layout c) x + y) 0 ≡ 0
+          go (yes some) =
+              let (c′, x′, in-chart′, found, (low, high)) = listed .invariant .nonzero-found _ some in
+              let e : entryOf layout (cellNumber layout c) x ≡ entryOf layout (cellNumber layout c′) x′ =
+              omega (arith, entry-four layout (cellNumber layout c) x, entry-four layout (cellNumber layout c′) x′, low, high, few) in
+              let same = same-entry t layout (cellNumber layout c) x (cellNumber layout c′) x′ kept (found-kept t layout (cellNumber layout c′) x′ found) e in
+              absurd (omega (arith, same, none, found))
+          go (no nothing) = omega (arith, nothing)

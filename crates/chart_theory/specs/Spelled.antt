@@ -1,6 +1,6 @@
--- The tree that a table spells: document 02, N2, "what a call hands out is spelled from found ranks alone". Stands on derivation's trees, on
--- the entries of a table (chart_table/specs/Table), where a tree stands unless its price plus 1 is 0, and on the four numbers of a back
--- pointer (chart_keys/specs/Keys).
+-- The tree that a table spells, in the chart's terms: on the entries of a table (chart_table/specs/Table), where a tree stands unless its price
+-- plus 1 is 0, and on the four numbers of a back pointer (chart_keys/specs/Keys).
+-- Nobody need believe this page: open_listing joins it to its page Stands.
 use mathlib.Core.Path.{_≡_}
 use mathlib.Core.Bool.{Bool, true, false}
 use mathlib.Core.List.{List}

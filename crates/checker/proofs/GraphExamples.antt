@@ -14,7 +14,8 @@ use Rattle.packing.specs.GraphReading.{traceEntries, graphHeadFrom}
 use Rattle.derivation.specs.Derivation.{weight}
 use Rattle.derivation.specs.Heard.{pathLength, trace}
 use Rattle.derivation.specs.List.{trees}
-use Rattle.checker.specs.Check.{hasBits, fieldsFrom, firstWith, derivationOf, check, checkedOf}
+use Rattle.checker.specs.Judgement.{fieldsFrom}
+use Rattle.checker.specs.Check.{hasBits, firstWith, derivationOf, check, checkedOf}
 use Rattle.checker.specs.declared.Checked.{Checked}
 use Rattle.checker.specs.declared.Checked.the-variants.{Passes, Refused}
 

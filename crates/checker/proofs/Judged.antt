@@ -34,7 +34,8 @@ use Rattle.derivation.proofs.Readings.{walk-one}
 use Rattle.derivation.proofs.Trees.{trees-derive}
 use Rattle.derivation.proofs.HeardReadings.{heard-forward}
 use Rattle.derivation.proofs.Path.{stands-one}
-use Rattle.checker.specs.Check.{same, hasBits, Fields, walked, headed, fieldsFrom, fits, HasNodes, firstWith, derivationOf, Has}
+use Rattle.checker.specs.Judgement.{Fields, walked, headed, fieldsFrom, HasNodes, Has}
+use Rattle.checker.specs.Check.{same, hasBits, fits, firstWith, derivationOf}
 
 false≢true : false ≡ true → ⊥
 false≢true e = let z : _≡_ {A = ℕ} 0 1 = cc in omega arith

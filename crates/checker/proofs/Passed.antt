@@ -21,7 +21,8 @@ use Rattle.derivation.specs.Derivation.{Tree, Derivation, walk, weight, reading
 use Rattle.derivation.specs.Heard.{pathLength, graphReading, ownBlock}
 use Rattle.derivation.proofs.Theorems.{reading-packs}
 use Rattle.derivation.proofs.HeardReadings.{path, graph-reading-packs}
-use Rattle.checker.specs.Check.{Fields, walked, headed, weightRead, fieldsFrom, derivationOf, judged, afterFields, Has}
+use Rattle.checker.specs.Judgement.{Fields, walked, headed, weightRead, fieldsFrom, Has}
+use Rattle.checker.specs.Check.{derivationOf, judged, afterFields}
 use Rattle.checker.proofs.Judged.{Found, derivation-found, has-one, slots-fields, graph-fields, head-read}
 
 -- the fields were read, and a derivation has them

@@ -1,9 +1,9 @@
 -- The refusals of the check. Those of the blocks and of the fields are of their rows (packing's Refusals). After the fields, 34, 35 and
--- 36 each come exactly where specs/Check says: the derivation with the nodes that were read is found if there is one, and there is one
+-- 36 each come exactly where specs/Judgement says: the derivation with the nodes that were read is found if there is one, and there is one
 -- at most.
-use mathlib.Core.Path.{_≡_, refl, _∙_}
+use mathlib.Core.Path.{_≡_, refl, ap, _∙_}
 use mathlib.Core.Bool.{Bool, true, false}
-use mathlib.Core.Logic.{_↔_, ⊎-elim}
+use mathlib.Core.Logic.{_↔_, _⊎_, inl, inr, ⊎-elim}
 use mathlib.Core.List.{List}
 use mathlib.Core.Option.{Option, none, some}
 use Prim.Native.Nat.{ℕ, _-_, _≤_}
@@ -27,7 +27,9 @@ use Rattle.packing.proofs.Whole.{grammar-block-out}
 use Rattle.packing.proofs.Heard.{heard-block-out}
 use Rattle.derivation.specs.Derivation.{Tree, weight}
 use Rattle.derivation.proofs.Ranges.{valid-rules}
-use Rattle.checker.specs.Check.{Fields, weightRead, fieldsFrom, derivationOf, judged, afterFields, check, FieldsRead, Has, NoWalk, OtherWeight, Surplus}
+use Rattle.checker.specs.Judgement as J
+use Rattle.checker.specs.Judgement.{Fields, weightRead, fieldsFrom, FieldsRead, Has, NoWalk, OtherWeight, Surplus, Judgement}
+use Rattle.checker.specs.Check.{derivationOf, judged, afterFields, check}
 use Rattle.checker.proofs.Judged.{Found, derivation-found, has-one}
 
 -- "a refusal is a number of its row"
@@ -167,3 +169,30 @@ module _ (grammar heard block : List ℕ) where
     λ e. onward (λ g h d at okg ok p j. says g h block d at j .further refl) (late 36 (omega arith) (omega arith) e),
     λ r. refused-late (onward (λ g h d at okg ok p (t, c, w, e). found g h block d at okg ok p t c ∙ rw (eq-eqb _ _ w, e)) r),
   )
+
+  -- so a refusal is the one that is due
+  pub refusal-judged : {n : ℕ} → check grammar heard block ≡ refused n → Judgement grammar heard block (refused n)
+  unfolding check
+  refusal-judged {n} due =
+      denied-at (grammarBlock grammar) _ due (λ p. J.grammar-refused p) λ g p e.
+      denied-at (heardBlock (g .words) heard) _ e (λ q. J.heard-refused p q) λ h q e.
+      go g h p q (fieldsFrom g h block) refl e
+    where
+      number : (g : Grammar) (es : List Edge) (w at : ℕ) (o : Option Tree) → judged g es block w at o ≡ refused n → (n ≡ 34) ⊎ ((n ≡ 35) ⊎ (n ≡ 36))
+      number g es w at none e = let same : n ≡ 34 = cc in inl same
+      number g es w at (some t) e = test (eqb (weight g es t) w) (ended block at) e
+        where
+          test : (b c : Bool) → pick b (pick c (accepted t) (refused 36)) (refused 35) ≡ refused n → (n ≡ 34) ⊎ ((n ≡ 35) ⊎ (n ≡ 36))
+          test false c e = let same : n ≡ 35 = cc in inr (inl same)
+          test true false e = let same : n ≡ 36 = cc in inr (inr same)
+          test true true e = let z : _≡_ {A = ℕ} 0 1 = cc in absurd (omega arith)
+
+      by : (n ≡ 34) ⊎ ((n ≡ 35) ⊎ (n ≡ 36)) → Judgement grammar heard block (refused n)
+      by (inl e) = rw e (J.no-walk (refused-34 .0 (rw e at due)))
+      by (inr (inl e)) = rw e (J.other-weight (refused-35 .0 (rw e at due)))
+      by (inr (inr e)) = rw e (J.surplus (refused-36 .0 (rw e at due)))
+
+      go : (g : Grammar) (h : Heard) → grammarBlock grammar ≡ accepted g → heardBlock (g .words) heard ≡ accepted h
+          → (x : Parse Fields) → fieldsFrom g h block ≡ x → afterFields g h block x ≡ refused n → Judgement grammar heard block (refused n)
+      go g h p q (failed m) f e = let same : m ≡ n = cc in J.field-refused p q (f ∙ ap failed same)
+      go g h p q (parsed d at) f e = by (number g (heardEdges h) (weightRead d) at (derivationOf g h block d) e)

@@ -27,7 +27,8 @@ use Rattle.derivation.proofs.Ranges.{valid-ascending, valid-rules}
 use Rattle.derivation.proofs.Walk.{walk-weight, walk-none}
 use Rattle.derivation.proofs.HeardReadings.{heard-forward}
 use Rattle.derivation.proofs.Path.{Stands, rules-read, path-weight, path-none}
-use Rattle.checker.specs.Check.{walked, headed, fieldsFrom, derivationOf, judged, afterFields, check, checkedOf, Has}
+use Rattle.checker.specs.Judgement.{walked, headed, fieldsFrom, Has}
+use Rattle.checker.specs.Check.{derivationOf, judged, afterFields, check, checkedOf}
 use Rattle.checker.specs.Run.{weighed, byWalk, pathWalk, byPath, underRules, walkedOf, checkedBy}
 use Rattle.checker.proofs.Judged.{Found, derivation-found, head-read}
 

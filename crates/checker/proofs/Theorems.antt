@@ -16,10 +16,13 @@ use Rattle.packing.proofs.Whole.{grammar-block-out}
 use Rattle.packing.proofs.Heard.{heard-block-out}
 use Rattle.derivation.specs.Derivation.{Tree, Derivation}
 use Rattle.derivation.specs.Heard.{ownBlock}
-use Rattle.checker.specs.Check.{check, checkedOf, OfDerivation}
+use Rattle.checker.specs.Judgement as J
+use Rattle.checker.specs.Judgement.{OfDerivation, Judgement}
+use Rattle.checker.specs.Check.{check, checkedOf}
 use Rattle.checker.specs.declared.Checked.{Checked}
 use Rattle.checker.specs.declared.Checked.the-variants.{Passes}
 use Rattle.checker.proofs.Passed.{passed-out, passed-back}
+use Rattle.checker.proofs.Refused.{refused-34, refused-35, refused-36, refusal-judged}
 
 module _ (grammar heard block : List ℕ) (bytes : Bytes block) where
   -- Under a grammar and what was heard that are accepted, the check accepts a block with the derivation t exactly if t is a derivation
@@ -31,6 +34,13 @@ module _ (grammar heard block : List ℕ) (bytes : Bytes block) where
       let (okg, _) = grammar-block-out grammar g p in
       let (ok, _) = heard-block-out (g .words) heard h q in
       rw (p, q) (passed-out g block okg bytes h ok, λ (c, b). passed-back g block okg bytes h ok t c b)
+
+  accepted-judged : {t : Tree} → check grammar heard block ≡ accepted t → Judgement grammar heard block (accepted t)
+  unfolding check
+  accepted-judged {t} e =
+      granted (grammarBlock grammar) _ e λ g p k. granted (heardBlock (g .words) heard) _ k λ h q _.
+      let (c, b) = accepts g h p q t .0 e in
+      J.passes p q c b
 
   -- The check passes a block exactly if there is a derivation of this grammar and of what was heard whose packed reading, with its
   -- true weight, is that block.
@@ -52,3 +62,22 @@ module _ (grammar heard block : List ℕ) (bytes : Bytes block) where
   pub promised : {r : Checked} → r ≡ checkedOf (check grammar heard block)
       → (r ≡ checkedOf (check grammar heard block)) × ((r ≡ Passes) ↔ OfDerivation grammar heard block)
   promised e = (e, rw e passes)
+
+  -- What the check comes to is what is due.
+  pub judged-so : Judgement grammar heard block (check grammar heard block)
+  judged-so = go (check grammar heard block) refl
+    where
+      go : (v : Verdict Tree) → check grammar heard block ≡ v → Judgement grammar heard block v
+      go (refused n) e = refusal-judged grammar heard block e
+      go (accepted t) e = accepted-judged e
+
+  -- And nothing else is.
+  pub judged-once : {v : Verdict Tree} → Judgement grammar heard block v → check grammar heard block ≡ v
+  unfolding check
+  judged-once (J.grammar-refused p) = rw p
+  judged-once (J.heard-refused p q) = rw (p, q)
+  judged-once (J.field-refused p q f) = rw (p, q, f)
+  judged-once (J.no-walk r) = refused-34 grammar heard block .1 r
+  judged-once (J.other-weight r) = refused-35 grammar heard block .1 r
+  judged-once (J.surplus r) = refused-36 grammar heard block .1 r
+  judged-once (J.passes {g} {h} {t} p q c b) = accepts g h p q t .1 (c, b)

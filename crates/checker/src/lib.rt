@@ -27,7 +27,8 @@ ghost use Rattle.packing.specs.Flat.{rulesOf, slotsOf};
 ghost use Rattle.parts_stack.specs.Stack.{numberOf};
 ghost use Rattle.graph_run.specs.Edges.{edgesOf};
 ghost use Rattle.checker.specs.Check as definition;
-ghost use Rattle.checker.specs.Check.{checkedOf, OfDerivation};
+ghost use Rattle.checker.specs.Judgement.{OfDerivation};
+ghost use Rattle.checker.specs.Check.{checkedOf};
 ghost use Rattle.checker.specs.Run.{Judges, byWalk, byPath, underSlots, underGraph, underRules, checkedBy, Answered};
 
 // What the check answers.

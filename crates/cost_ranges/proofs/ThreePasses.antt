@@ -29,7 +29,7 @@ use Rattle.cost_changes.proofs.Theorems.{risen-derives}
 use Rattle.chart_table.specs.Table.{clear}
 use Rattle.chart.specs.Chart.{rootsFound}
 use Rattle.chart_theory.proofs.Accepted.{HoldsRank, Holds, layout, chart-holds}
-use Rattle.listing.specs.Listing.{tableSize}
+use Rattle.listing.specs.Conditions.{tableSize}
 use Rattle.cost_ranges.specs.CostRanges.{answered}
 use Rattle.cost_ranges.specs.Model.{tableBy, weightBy, nodesWeight, found, firstNodes, mixed, passed, leftBy}
 use Rattle.cost_ranges.specs.declared.Pass.{Pass}

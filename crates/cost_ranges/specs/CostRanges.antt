@@ -1,28 +1,26 @@
--- Costs known within ranges: document 02, N11, with the rows grammar block and utterance block of document 01's "Where each check stands".
--- Stands on packing's definitions, on cost_changes' Ranges and on the listing's size of a table.
+-- Costs known within ranges as a function that can be run: what is asked for (Conditions), and then the three passes of cost_changes' Passes. Nobody
+-- need believe this page: cost_changes' Ranges says what the answer is over all choices, and proofs/Outcome that this is it (Meant).
 use mathlib.Core.Path.{_≡_}
 use mathlib.Core.Bool.{true}
 use mathlib.Core.List.{List}
 use Prim.Native.Nat.{ℕ, _≤_}
-use lib.Dec.{ltb}
 use lib.ListN.{length, replicate}
-use Rattle.bits.specs.Bits.{pick}
 use Rattle.packing.specs.Meaning.{Grammar, Utterance}
 use Rattle.packing.specs.Parse.{Verdict, accepted, refused, _then_}
 use Rattle.packing.specs.Grammar.{grammarBlock}
 use Rattle.packing.specs.Utterance.{utteranceBlock}
 use Rattle.cost_changes.specs.Ranges.{rises, Answer, nothing, outweighed, stands, Answers}
 use Rattle.cost_changes.specs.Passes.{answer}
-use Rattle.listing.specs.Listing.{tableSize}
+use Rattle.listing.specs.Conditions.{tableSize}
+use Rattle.cost_ranges.specs.Conditions.{rangesConditions}
 use Rattle.cost_ranges.specs.declared.Ranged.{Ranged}
 use Rattle.cost_ranges.specs.declared.Ranged.the-variants.{Nothing, Outweighed, Stands, Refused}
 
--- 59, and then 22 for one reading, of a grammar and of the utterances with low and high costs, all accepted; then the answer
+-- of a grammar and of the utterances with low and high costs, all accepted
 unfoldable pub ranged : Grammar → Utterance → Utterance → ℕ → Verdict Answer
-ranged g low high work =
-    pick (rises low high) (pick (ltb work (tableSize (g .symbols) (length low) 1)) (refused 22) (accepted (answer g low high))) (refused 59)
+ranged g low high work = rangesConditions g low high work then λ b. accepted (answer (b .0) (b .1) (b .2))
 
--- "59 .. after both blocks' own checks, the low block's first", for a work table of this length
+-- the answer, or the refusal, for a work table of this length
 unfoldable pub ranges : List ℕ → List ℕ → List ℕ → ℕ → Verdict Answer
 ranges grammar low high work =
     grammarBlock grammar then λ g. utteranceBlock (g .words) low then λ u. utteranceBlock (g .words) high then λ v. ranged g u v work

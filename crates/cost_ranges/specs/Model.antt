@@ -102,8 +102,8 @@ module _ (rules low high : List ℕ) (p : Pass) (size : ℕ) where
 abbrev pub Promised : Verdict Answer → (work : List ℕ) → Ranged → (work′ : List ℕ) → Type 0
 Promised v work r work′ = (r ≡ rangedOf v) × (work′ ≡ tableAfter v work)
 
--- what is promised where the edges of both utterances are in arrays, and are alike but for rising costs; where they are not known to be; where
--- the high block is not read yet; and where only the grammar is
+-- what is promised where the edges of both utterances are in arrays, and are alike but for rising costs; where they are not known to be; and
+-- where the high block is not read yet
 abbrev pub AlikeRanged : (rules : List ℕ) → Sizes → (low high : List ℕ) → HeardSize → (work : List ℕ) → Ranged → (work′ : List ℕ) → Type 0
 AlikeRanged rules z low high y work r work′ =
     (g : Grammar) (u v : Utterance) → ValidGrammar g → ValidUtterance (g .words) u → ValidUtterance (g .words) v → z ≡ sizes g
@@ -122,8 +122,3 @@ LowRanged rules z low y high work r work′ =
     (g : Grammar) (u : Utterance) → ValidGrammar g → ValidUtterance (g .words) u → z ≡ sizes g → y ≡ heardSize (slots u)
     → Begins (ruleNumbers g) rules → Begins (edgeNumbers (edges u)) low
     → Promised (utteranceBlock (g .words) high then λ v. ranged g u v (length work)) work r work′
-
-abbrev pub GrammarRanged : (rules : List ℕ) → Sizes → (low high work : List ℕ) → Ranged → (work′ : List ℕ) → Type 0
-GrammarRanged rules z low high work r work′ =
-    (g : Grammar) → ValidGrammar g → z ≡ sizes g → Begins (ruleNumbers g) rules
-    → Promised (utteranceBlock (g .words) low then λ u. utteranceBlock (g .words) high then λ v. ranged g u v (length work)) work r work′

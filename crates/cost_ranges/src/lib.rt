@@ -4,11 +4,12 @@ use arrays::narrow_at;
 use arrays::rule_at;
 use arrays::wide;
 use chart_table::Layout;
-use grammar_reader::GrammarRead;
 use grammar_reader::Sizes;
 use heard_reader::HeardRead;
 use heard_reader::HeardSize;
 use heard_reader::read_slots;
+use inputs::InputsRead;
+use inputs::read_slot_inputs;
 use packing::Rule;
 use packing::format::EDGE_COST_AT;
 use packing::format::EDGE_WORD_AT;
@@ -26,7 +27,7 @@ ghost use Rattle.packing.specs.Flat.{ruleAt, nodeBy, nodesIn};
 ghost use Rattle.cost_changes.specs.Ranges.{costRises};
 ghost use Rattle.grammar_reader.specs.Answer.{Bounded};
 ghost use Rattle.cost_ranges.specs.CostRanges.{answered, ranges, rangedOf, tableAfter, Meant};
-ghost use Rattle.cost_ranges.specs.Model.{edgeRises, edgesRise, raiseNode, nodeWeight, raiseNodes, nodesWeight, Passable, tableBy, weightBy, hasLeast, decide, passed, leftBy, bothRise, AlikeRanged, EdgesRanged, LowRanged, GrammarRanged};
+ghost use Rattle.cost_ranges.specs.Model.{edgeRises, edgesRise, raiseNode, nodeWeight, raiseNodes, nodesWeight, Passable, tableBy, weightBy, hasLeast, decide, passed, leftBy, bothRise, AlikeRanged, EdgesRanged, LowRanged};
 
 // The least and the greatest first weight.
 pub struct Weights {
@@ -268,18 +269,6 @@ fn ranges_high(
     }
 }
 
-// The answer for two blocks under an accepted grammar.
-fn ranges_grammar(rules: &[u32], sizes: Sizes, low: &[u8], high: &[u8], work: &mut [u32]) -> Ranged
-    requires { ⌜ Bounded sizes ⌝ }
-    ensures { λ r. ⌜ GrammarRanged (now (rules .entry)) sizes (now (low .entry)) (now (high .entry)) (now (work .entry)) r (now (work .exit)) ⌝ }
-{
-    let mut edges = [0u32; EDGES_LENGTH];
-    match read_slots(low, sizes.words, &mut edges) {
-        HeardRead::Refused(n) => Ranged::Refused(n),
-        HeardRead::Heard(heard) => { ranges_high(rules, sizes, &mut edges, heard, high, work) }
-    }
-}
-
 // The least and the greatest first weight over all choices of costs between the blocks, and whether the first reading for the low costs is
 // outweighed under some choice, with a work table that is all zeros afterwards.
 pub fn cost_ranges(grammar: &[u8], low: &[u8], high: &[u8], work: &mut [u32]) -> Ranged
@@ -288,8 +277,11 @@ pub fn cost_ranges(grammar: &[u8], low: &[u8], high: &[u8], work: &mut [u32]) ->
     ensures { λ r. ⌜ Meant (now (grammar .entry)) (now (low .entry)) (now (high .entry)) (now (work .entry)) (λ a. r ≡ answered a) (now (work .exit)) ⌝ }
 {
     let mut rules = [0u32; RULES_LENGTH];
-    match grammar_reader::read_block(grammar, &mut rules) {
-        GrammarRead::Refused(n) => Ranged::Refused(n),
-        GrammarRead::Grammar(sizes) => { ranges_grammar(&rules, sizes, low, high, work) }
+    let mut edges = [0u32; EDGES_LENGTH];
+    match read_slot_inputs(grammar, low, &mut rules, &mut edges) {
+        InputsRead::Refused(n) => Ranged::Refused(n),
+        InputsRead::Read(inputs) => {
+            ranges_high(&rules, inputs.sizes, &mut edges, inputs.heard, high, work)
+        }
     }
 }

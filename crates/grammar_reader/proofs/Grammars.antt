@@ -18,6 +18,8 @@ use Rattle.packing.specs.declared.Read.{Read}
 use Rattle.packing.specs.declared.Read as read
 use Rattle.packing.proofs.Parse.{number-out, refused-out}
 use Rattle.packing.proofs.Grammar.{grammar-out}
+use Rattle.packing.proofs.Flat.{overlaid-begins}
+use Rattle.packing.specs.Flat.{ruleNumbers}
 use Rattle.rules_reader.specs.Rules.{counted, RulesTold}
 use Rattle.grammar_reader.specs.Answer.{sizes, Bounded, MarkedTold}
 use Rattle.grammar_reader.specs.Parts.{sizesFrom, sizesOf, sizesIn, GrammarTold}
@@ -71,32 +73,32 @@ counted-failed (parsed rs at) e = cc
 counted-failed (failed n) e = cc
 
 module _ (marking : Bool) (src : Source) (at : ℕ) where
-  grammar-refused : (n : ℕ) (rules marks : List ℕ) → grammarFrom marking src at ≡ failed n → GrammarTold marking src at (Refused n) rules marks
-  grammar-refused n rules marks e = record { answer = rw e; stands = rw e tt; near = tt }
+  grammar-refused : (n : ℕ) (before rules marks : List ℕ) → grammarFrom marking src at ≡ failed n → GrammarTold marking src at (Refused n) before rules marks
+  grammar-refused n before rules marks e = record { answer = rw e; stands = rw e tt; near = tt }
 
-  module _ {r : SizesRead} (told : r ≡ sizesOf (sizesFrom src at)) (rules marks : List ℕ) where
-    pub sizes-refused : {n : ℕ} → r ≡ Refused n → GrammarTold marking src at r rules marks
+  module _ {r : SizesRead} (told : r ≡ sizesOf (sizesFrom src at)) (before rules marks : List ℕ) where
+    pub sizes-refused : {n : ℕ} → r ≡ Refused n → GrammarTold marking src at r before rules marks
     sizes-refused {n} e =
-        rw e (grammar-refused n rules marks (sym (sizes-first marking src at) ∙ rw (sizes-out (sizesFrom src at) told, e)))
+        rw e (grammar-refused n before rules marks (sym (sizes-first marking src at) ∙ rw (sizes-out (sizesFrom src at) told, e)))
 
     module _ {z : Z.Sizes} {c : Cursor} (e : r ≡ Sizes z c) where
       after-sizes : rest marking src z (c .at) ≡ grammarFrom marking src at
       after-sizes = rw (sizes-out (sizesFrom src at) told, e) at (sizes-first marking src at)
 
-      pub sheet-unfit : unfit marking src (z .rules) ≡ true → GrammarTold marking src at (Refused 41) rules marks
-      sheet-unfit u = grammar-refused 41 rules marks (rw u at (sym after-sizes))
+      pub sheet-unfit : unfit marking src (z .rules) ≡ true → GrammarTold marking src at (Refused 41) before rules marks
+      sheet-unfit u = grammar-refused 41 before rules marks (rw u at (sym after-sizes))
 
-      module _ (u : unfit marking src (z .rules) ≡ false) {body : Read} (t : RulesTold marking src (z .symbols) (z .words) (z .rules) (c .at) body rules marks) where
+      module _ (u : unfit marking src (z .rules) ≡ false) {body : Read} (t : RulesTold marking src (z .symbols) (z .words) (z .rules) (c .at) body before rules marks) where
         abbrev all : Parse (List MarkedRule)
         all = rulesFrom marking src (z .symbols) (z .words) (z .rules) (c .at) []
 
-        pub rules-refused : {n m : ℕ} → body ≡ read.the-variants.Refused n → m ≡ refusalOf body → GrammarTold marking src at (Refused m) rules marks
+        pub rules-refused : {n m : ℕ} → body ≡ read.the-variants.Refused n → m ≡ refusalOf body → GrammarTold marking src at (Refused m) before rules marks
         rules-refused {n} {m} b h =
             let p = counted-failed all (refused-out _ (sym (t .answer) ∙ b)) in
             let m-is : m ≡ n = rw b at h in
-            rw m-is (grammar-refused n rules marks (rw (u, p) at (sym after-sizes)))
+            rw m-is (grammar-refused n before rules marks (rw (u, p) at (sym after-sizes)))
 
-        pub rules-read : {v : ℕ} {d : Cursor} → body ≡ read.the-variants.Number v d → Bounded z → c .at ≤ at + 23 → GrammarTold marking src at (Sizes z d) rules marks
+        pub rules-read : {v : ℕ} {d : Cursor} → body ≡ read.the-variants.Number v d → Bounded z → c .at ≤ at + 23 → GrammarTold marking src at (Sizes z d) before rules marks
         rules-read {v} {d} b h near =
             let (rs, x, l) = counted-out all (number-out (counted all) (sym (t .answer) ∙ b)) in
             let (count, far) = rw b at (t .near) in
@@ -116,15 +118,15 @@ sizes-in-failed (parsed m at) e = cc
 sizes-in-failed (failed n) e = cc
 
 -- the end of a block or a sheet
-module _ {marking : Bool} {src : Source} {at : ℕ} {r : SizesRead} {rules marks : List ℕ} (t : GrammarTold marking src at r rules marks) (end : ℕ → Bool) (n : ℕ) where
+module _ {marking : Bool} {src : Source} {at : ℕ} {r : SizesRead} {before rules marks : List ℕ} (t : GrammarTold marking src at r before rules marks) (end : ℕ → Bool) (n : ℕ) where
   -- the verdict that goes with what was read and the end
   abbrev verdict : Verdict meaning.Marked
   verdict = finish end n (grammarFrom marking src at)
 
-  pub end-refused : {m : ℕ} → r ≡ Refused m → MarkedTold verdict (answer.the-variants.Refused m) rules marks
+  pub end-refused : {m : ℕ} → r ≡ Refused m → MarkedTold verdict (answer.the-variants.Refused m) before rules marks
   end-refused e =
       let x = sizes-in-failed (grammarFrom marking src at) (sizes-out _ (t .answer) ∙ ap parseOf e) in
-      record { answer = rw x; stands = rw x tt; bounds = tt }
+      record { answer = rw x; stands = rw x tt; laid = rw x tt; bounds = tt }
 
   module _ {z : Z.Sizes} {c : Cursor} (e : r ≡ Sizes z c) where
     -- what was read has the kind that was asked for
@@ -133,17 +135,19 @@ module _ {marking : Bool} {src : Source} {at : ℕ} {r : SizesRead} {rules marks
         let (m, x, s) = sizes-in-out (grammarFrom marking src at) (sizes-out _ (t .answer) ∙ ap parseOf e) in
         (m, x, s, sym (grammar-out marking src at x .0))
 
-    pub end-passed : end (c .at) ≡ true → Bounded z → MarkedTold verdict (answer.the-variants.Grammar z marking) rules marks
+    pub end-passed : end (c .at) ≡ true → Bounded z → MarkedTold verdict (answer.the-variants.Grammar z marking) before rules marks
     end-passed h b =
         let (m, x, s, k) = was-read in
+        let (rows, borne) = rw x at (t .stands) in
         record {
           answer = ap (λ (y : Z.Sizes). answer.the-variants.Grammar y marking) s
               ∙ ap (λ (y : Bool). answer.the-variants.Grammar (sizes (meaning.grammarOf m)) y) k ∙ rw (x, h);
-          stands = rw (x, h) (rw x at (t .stands));
+          stands = rw (x, h) (overlaid-begins (ruleNumbers (meaning.grammarOf m)) before rules rows, borne);
+          laid = rw (x, h) rows;
           bounds = b;
         }
 
-    pub end-failed : end (c .at) ≡ false → MarkedTold verdict (answer.the-variants.Refused n) rules marks
+    pub end-failed : end (c .at) ≡ false → MarkedTold verdict (answer.the-variants.Refused n) before rules marks
     end-failed h =
         let (m, x, s, k) = was-read in
-        record { answer = rw (x, h); stands = rw (x, h) tt; bounds = tt }
+        record { answer = rw (x, h); stands = rw (x, h) tt; laid = rw (x, h) tt; bounds = tt }

@@ -8,7 +8,7 @@ use native.Mathlib.Omega.{arith}
 use Rattle.packing.specs.Meaning as meaning
 use Rattle.packing.specs.Parse.{Verdict, accepted, refused, _then_}
 use Rattle.packing.specs.Flat.{RulesIn, MarkedIn}
-use Rattle.grammar_reader.specs.Answer.{sizes, answerOf, Bounded, InBounds, markedAnswer, MarkedTold}
+use Rattle.grammar_reader.specs.Answer.{sizes, answerOf, Bounded, InBounds, markedAnswer, RulesOver, MarkedOver, MarkedTold}
 use Rattle.grammar_reader.specs.declared.Sizes.{Sizes}
 use Rattle.grammar_reader.specs.declared.GrammarRead.{GrammarRead}
 use Rattle.grammar_reader.specs.declared.GrammarRead.the-variants.{Grammar, Refused}
@@ -46,20 +46,20 @@ abbrev plain : Verdict meaning.Marked → Verdict meaning.Grammar
 plain v = v then λ m. accepted (meaning.grammarOf m)
 
 -- the answer and the array that go with it
-abbrev Plain : Verdict meaning.Marked → List ℕ → GrammarRead → Type 0
-Plain v rules r = (r ≡ answerOf (plain v)) × RulesIn (plain v) rules × InBounds r
+abbrev Plain : Verdict meaning.Marked → List ℕ → List ℕ → GrammarRead → Type 0
+Plain v before rules r = (r ≡ answerOf (plain v)) × RulesIn (plain v) rules × InBounds r × RulesOver (plain v) before rules
 
-module _ (v : Verdict meaning.Marked) {r : answer.MarkedRead} {rules marks : List ℕ} (t : MarkedTold v r rules marks) where
-  pub plain-refused : {n : ℕ} → r ≡ answer.the-variants.Refused n → Plain v rules (Refused n)
+module _ (v : Verdict meaning.Marked) {r : answer.MarkedRead} {before rules marks : List ℕ} (t : MarkedTold v r before rules marks) where
+  pub plain-refused : {n : ℕ} → r ≡ answer.the-variants.Refused n → Plain v before rules (Refused n)
   plain-refused {n} e = go v (sym (t .answer) ∙ e)
     where
-      go : (v : Verdict meaning.Marked) → markedAnswer v ≡ answer.the-variants.Refused n → Plain v rules (Refused n)
+      go : (v : Verdict meaning.Marked) → markedAnswer v ≡ answer.the-variants.Refused n → Plain v before rules (Refused n)
       go (accepted m) e = let z : _≡_ {A = ℕ} 0 1 = cc in absurd (omega arith)
-      go (refused m) e = let k : n ≡ m = cc in (ap Refused k, tt, tt)
+      go (refused m) e = let k : n ≡ m = cc in (ap Refused k, tt, tt, tt)
 
-  pub plain-read : {z : Sizes} {b : Bool} → r ≡ answer.the-variants.Grammar z b → Plain v rules (Grammar z)
-  plain-read {z} {b} e = go v (sym (t .answer) ∙ e) (t .stands) (rw e at (t .bounds))
+  pub plain-read : {z : Sizes} {b : Bool} → r ≡ answer.the-variants.Grammar z b → Plain v before rules (Grammar z)
+  plain-read {z} {b} e = go v (sym (t .answer) ∙ e) (t .stands) (t .laid) (rw e at (t .bounds))
     where
-      go : (v : Verdict meaning.Marked) → markedAnswer v ≡ answer.the-variants.Grammar z b → MarkedIn v rules marks → Bounded z → Plain v rules (Grammar z)
-      go (accepted m) e h s = let k : z ≡ sizes (meaning.grammarOf m) = cc in (ap Grammar k, h .0, s)
-      go (refused m) e h s = let z : _≡_ {A = ℕ} 0 1 = cc in absurd (omega arith)
+      go : (v : Verdict meaning.Marked) → markedAnswer v ≡ answer.the-variants.Grammar z b → MarkedIn v rules marks → MarkedOver v before rules → Bounded z → Plain v before rules (Grammar z)
+      go (accepted m) e h o s = let k : z ≡ sizes (meaning.grammarOf m) = cc in (ap Grammar k, h .0, s, o)
+      go (refused m) e h o s = let z : _≡_ {A = ℕ} 0 1 = cc in absurd (omega arith)

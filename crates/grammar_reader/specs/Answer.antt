@@ -6,7 +6,7 @@ use Prim.Native.Nat.{ℕ, _≤_}
 use lib.ListN.{length}
 use Rattle.packing.specs.Meaning as meaning
 use Rattle.packing.specs.Parse.{Verdict, accepted, refused}
-use Rattle.packing.specs.Flat.{MarkedIn}
+use Rattle.packing.specs.Flat.{Overlaid, ruleNumbers, MarkedIn}
 use Rattle.grammar_reader.specs.declared.Sizes.{Sizes}
 use Rattle.grammar_reader.specs.declared.GrammarRead.{GrammarRead}
 use Rattle.grammar_reader.specs.declared.GrammarRead.the-variants.{Grammar, Refused}
@@ -42,8 +42,18 @@ abbrev pub MarkedBounds : marked.MarkedRead → Type 0
 MarkedBounds (marked.the-variants.Grammar z b) = Bounded z
 MarkedBounds (marked.the-variants.Refused n) = Unit {0}
 
+-- the rules' numbers are laid over the front of the array, and what stood behind them stands there still
+abbrev pub RulesOver : Verdict meaning.Grammar → List ℕ → List ℕ → Type 0
+RulesOver (accepted g) before rules = Overlaid (ruleNumbers g) before rules
+RulesOver (refused n) before rules = Unit {0}
+
+abbrev pub MarkedOver : Verdict meaning.Marked → List ℕ → List ℕ → Type 0
+MarkedOver (accepted m) before rules = Overlaid (ruleNumbers (meaning.grammarOf m)) before rules
+MarkedOver (refused n) before rules = Unit {0}
+
 -- what the readers promise of a verdict, the answer and the arrays
-pub record MarkedTold (v : Verdict meaning.Marked) (r : marked.MarkedRead) (rules marks : List ℕ) : Type 0 where
+pub record MarkedTold (v : Verdict meaning.Marked) (r : marked.MarkedRead) (before rules marks : List ℕ) : Type 0 where
   pub answer : r ≡ markedAnswer v
   pub stands : MarkedIn v rules marks
+  pub laid : MarkedOver v before rules
   pub bounds : MarkedBounds r

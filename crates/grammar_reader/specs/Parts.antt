@@ -7,7 +7,7 @@ use Rattle.packing.specs.Meaning as meaning
 use Rattle.packing.specs.Parse.{Parse, parsed, failed, _⟫_}
 use Rattle.packing.specs.Source.{Source, fieldAt}
 use Rattle.packing.specs.Grammar.{sizeField, grammarFrom}
-use Rattle.packing.specs.Flat.{Begins, ruleNumbers, markNumbers}
+use Rattle.packing.specs.Flat.{Begins, Overlaid, ruleNumbers, markNumbers}
 use Rattle.grammar_reader.specs.Answer.{sizes, Bounded}
 use Rattle.grammar_reader.specs.declared.Sizes as Z
 use Rattle.grammar_reader.specs.declared.SizesRead.{SizesRead}
@@ -33,12 +33,12 @@ abbrev pub sizesIn : Parse meaning.Marked → Parse Z.Sizes
 sizesIn (parsed m at) = parsed (sizes (meaning.grammarOf m)) at
 sizesIn (failed n) = failed n
 
-abbrev pub GrammarIn : Parse meaning.Marked → List ℕ → List ℕ → Type 0
-GrammarIn (parsed m at) rules marks = Begins (ruleNumbers (meaning.grammarOf m)) rules × Begins (markNumbers m) marks
-GrammarIn (failed n) rules marks = Unit {0}
+abbrev pub GrammarIn : Parse meaning.Marked → List ℕ → List ℕ → List ℕ → Type 0
+GrammarIn (parsed m at) before rules marks = Overlaid (ruleNumbers (meaning.grammarOf m)) before rules × Begins (markNumbers m) marks
+GrammarIn (failed n) before rules marks = Unit {0}
 
 -- what reading a grammar from a place promises of its answer and of the arrays
-pub record GrammarTold (marking : Bool) (src : Source) (at : ℕ) (r : SizesRead) (rules marks : List ℕ) : Type 0 where
+pub record GrammarTold (marking : Bool) (src : Source) (at : ℕ) (r : SizesRead) (before rules marks : List ℕ) : Type 0 where
   pub answer : r ≡ sizesOf (sizesIn (grammarFrom marking src at))
-  pub stands : GrammarIn (grammarFrom marking src at) rules marks
+  pub stands : GrammarIn (grammarFrom marking src at) before rules marks
   pub near : SizesNear (at + 23 + 42 * 256) r

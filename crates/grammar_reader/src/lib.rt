@@ -22,7 +22,7 @@ ghost use Rattle.packing.specs.Read.{sourceOf};
 ghost use Rattle.packing.specs.Grammar.{blockKind, kindNumber, blockBy, markedBlock, markedSheet, grammarBlock};
 ghost use Rattle.packing.specs.Grammar as grammar;
 ghost use Rattle.packing.specs.Flat.{RulesIn};
-ghost use Rattle.grammar_reader.specs.Answer.{answerOf, InBounds, MarkedTold};
+ghost use Rattle.grammar_reader.specs.Answer.{answerOf, InBounds, RulesOver, MarkedTold};
 ghost use Rattle.grammar_reader.specs.Parts.{sizesFrom, sizesOf, SizesNear, GrammarTold};
 
 // S, W and R of a grammar.
@@ -105,7 +105,7 @@ fn read_grammar(
     marks: &mut [u32],
 ) -> SizesRead
     requires { do ⌜ (at < 2 ^ 7) × ((← ⟦RULES_LENGTH⟧) ≤ length (now rules)) × ((← ⟦MAX_RULES⟧) ≤ length (now marks)) ⌝ }
-    ensures { λ r. ⌜ GrammarTold marked (sourceOf src (now (block .entry)) (now (sheet .entry))) at r (now (rules .exit)) (now (marks .exit)) ⌝ }
+    ensures { λ r. ⌜ GrammarTold marked (sourceOf src (now (block .entry)) (now (sheet .entry))) at r (now (rules .entry)) (now (rules .exit)) (now (marks .exit)) ⌝ }
 {
     let head = read_sizes(src, block, sheet, at);
     let SizesRead::Sizes(sizes, c) = head else {
@@ -141,7 +141,7 @@ fn kind_field(marked: bool) -> Field
 // The meaning of a block of a kind: its sizes, and its rules and marks in the arrays.
 fn read_kind(block: &[u8], marked: bool, rules: &mut [u32], marks: &mut [u32]) -> MarkedRead
     requires { do ⌜ ((← ⟦RULES_LENGTH⟧) ≤ length (now rules)) × ((← ⟦MAX_RULES⟧) ≤ length (now marks)) ⌝ }
-    ensures { λ r. ⌜ MarkedTold (blockBy marked (now (block .entry))) r (now (rules .exit)) (now (marks .exit)) ⌝ }
+    ensures { λ r. ⌜ MarkedTold (blockBy marked (now (block .entry))) r (now (rules .entry)) (now (rules .exit)) (now (marks .exit)) ⌝ }
 {
     let no_sheet = [0u32; 1];
     let src = Source::Block(refused::GRAMMAR_END);
@@ -166,7 +166,7 @@ fn read_kind(block: &[u8], marked: bool, rules: &mut [u32], marks: &mut [u32]) -
 // The meaning of a grammar block of either kind: its sizes, and its rules and marks in the arrays.
 pub fn read_marked_block(block: &[u8], rules: &mut [u32], marks: &mut [u32]) -> MarkedRead
     requires { do ⌜ ((← ⟦RULES_LENGTH⟧) ≤ length (now rules)) × ((← ⟦MAX_RULES⟧) ≤ length (now marks)) ⌝ }
-    ensures { λ r. ⌜ MarkedTold (markedBlock (now (block .entry))) r (now (rules .exit)) (now (marks .exit)) ⌝ }
+    ensures { λ r. ⌜ MarkedTold (markedBlock (now (block .entry))) r (now (rules .entry)) (now (rules .exit)) (now (marks .exit)) ⌝ }
 {
     let marked = packing::is_kind(block, format::MARKED_GRAMMAR_BLOCK);
     read_kind(block, marked, rules, marks)
@@ -175,7 +175,8 @@ pub fn read_marked_block(block: &[u8], rules: &mut [u32], marks: &mut [u32]) -> 
 // The meaning of a grammar block of either kind without its marks: its sizes, and its rules in the array.
 pub fn read_block(block: &[u8], rules: &mut [u32]) -> GrammarRead
     requires { do ⌜ (← ⟦RULES_LENGTH⟧) ≤ length (now rules) ⌝ }
-    ensures { λ r. ⌜ (r ≡ answerOf (grammarBlock (now (block .entry)))) × RulesIn (grammarBlock (now (block .entry))) (now (rules .exit)) × InBounds r ⌝ }
+    ensures { λ r. ⌜ (r ≡ answerOf (grammarBlock (now (block .entry)))) × RulesIn (grammarBlock (now (block .entry))) (now (rules .exit)) × InBounds r
+        × RulesOver (grammarBlock (now (block .entry))) (now (rules .entry)) (now (rules .exit)) ⌝ }
 {
     let mut marks = [0u32; MAX_RULES];
     let read = read_marked_block(block, rules, &mut marks);
@@ -197,7 +198,7 @@ fn is_marked_sheet(sheet: &[u32]) -> bool
 // The meaning of a grammar sheet of either kind: its sizes, and its rules and marks in the arrays.
 pub fn read_sheet(sheet: &[u32], rules: &mut [u32], marks: &mut [u32]) -> MarkedRead
     requires { do ⌜ ((← ⟦RULES_LENGTH⟧) ≤ length (now rules)) × ((← ⟦MAX_RULES⟧) ≤ length (now marks)) ⌝ }
-    ensures { λ r. ⌜ MarkedTold (markedSheet (now (sheet .entry))) r (now (rules .exit)) (now (marks .exit)) ⌝ }
+    ensures { λ r. ⌜ MarkedTold (markedSheet (now (sheet .entry))) r (now (rules .entry)) (now (rules .exit)) (now (marks .exit)) ⌝ }
 {
     if sheet.len() < GRAMMAR_SHEET_HEAD {
         return MarkedRead::Refused(refused::SHEET_COUNT);

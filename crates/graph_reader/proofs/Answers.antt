@@ -7,26 +7,28 @@ use Rattle.bits.specs.Bits.{ended}
 use Rattle.packing.specs.Parse.{parsed, failed, Verdict, accepted, refused}
 use Rattle.packing.specs.Source.{bytes, fieldAt}
 use Rattle.packing.specs.Grammar.{blockKind}
-use Rattle.packing.specs.Flat.{Begins, edgeNumbers}
+use Rattle.packing.specs.Flat.{Overlaid, edgeNumbers}
 use Rattle.packing.specs.Meaning.{Graph}
 use Rattle.packing.specs.Graph.{graphFrom, graphBlock, graphEntries}
 use Rattle.packing.specs.Valid.{ValidGraph}
+use Rattle.packing.proofs.Flat.{overlaid-begins}
 use Rattle.packing.proofs.Heard.{graph-block-out}
-use Rattle.graph_reader.specs.Answer.{graphSize, graphRead, EdgesIn, Sized}
+use Rattle.graph_reader.specs.Answer.{graphSize, graphRead, EdgesIn, EdgesOver, Sized}
 use Rattle.graph_reader.specs.declared.GraphSize.{GraphSize}
 use Rattle.graph_reader.specs.declared.GraphRead as R
 
 -- what the reader promises, of a verdict, the array and the answer
-abbrev Promised : Verdict Graph → List ℕ → R.GraphRead → Type 0
-Promised v after r = (r ≡ graphRead v) × EdgesIn v after × Sized r
+abbrev Promised : Verdict Graph → List ℕ → List ℕ → R.GraphRead → Type 0
+Promised v before after r = (r ≡ graphRead v) × EdgesIn v after × Sized r × EdgesOver v before after
 
-pub promised-refusal : {v : Verdict Graph} (after : List ℕ) {n : ℕ} → v ≡ refused n → Promised v after (R.the-variants.Refused n)
-promised-refusal after e = rw e (refl, tt, tt)
+pub promised-refusal : {v : Verdict Graph} (before after : List ℕ) {n : ℕ} → v ≡ refused n → Promised v before after (R.the-variants.Refused n)
+promised-refusal before after e = rw e (refl, tt, tt, tt)
 
-pub promised-graph : (W : ℕ) {v : Verdict Graph} (after : List ℕ) {g : Graph} {z : GraphSize} → v ≡ accepted g → ValidGraph W g → z ≡ graphSize g
-    → Begins (edgeNumbers (g .edges)) after → Promised v after (R.the-variants.Graph z)
+pub promised-graph : (W : ℕ) {v : Verdict Graph} (before after : List ℕ) {g : Graph} {z : GraphSize} → v ≡ accepted g → ValidGraph W g → z ≡ graphSize g
+    → Overlaid (edgeNumbers (g .edges)) before after → Promised v before after (R.the-variants.Graph z)
 unfolding graphEntries
-promised-graph W after e (((a, b), ((c, d), h)), u) f s = rw (e, f) (refl, s, (a, b, c, d))
+promised-graph W before after {g} e (((a, b), ((c, d), h)), u) f s =
+    rw (e, f) (refl, overlaid-begins (edgeNumbers (g .edges)) before after s, (a, b, c, d), s)
 
 -- the ways out
 module _ (W : ℕ) (s : List ℕ) where

@@ -12,7 +12,7 @@ use Rattle.packing.specs.Store.{storeAll}
 use Rattle.packing.specs.declared.Cursor.{Cursor}
 use Rattle.packing.proofs.Parse.{through, same-parsed, parsed-else}
 use Rattle.packing.proofs.Bounds.{field-at-range, field-at-next}
-use Rattle.packing.proofs.Flat.{length-edges, stored-begins}
+use Rattle.packing.proofs.Flat.{length-edges, stored-overlaid}
 use Rattle.packing.proofs.Taken.{taken-fits}
 use Rattle.packing.specs.Graph.{placeCount, edgeCount, edgeFrom, edgesAlike, graphEdgesFrom, graphFrom, graphEntries}
 use Rattle.packing.specs.Alike.{anyLike, unlikeFrom}
@@ -43,11 +43,11 @@ module _ (src : Source) (W at : ℕ) where
   -- edges that are stored at the front, with room for them, are the graph of the answer
   pub graph-placed : {P v : ℕ} {c : Cursor} (before : List ℕ) {after : List ℕ} (es : List Edge) → graphFrom src W at ≡ parsed (record { places = P; edges = es }) (c .at)
       → v ≡ length es → after ≡ storeAll before 0 (edgeNumbers es) → 384 ≤ length before
-      → GraphAs after (graphFrom src W at) (B.the-variants.Read (record { places = P; edges = v }) c)
+      → GraphAs before after (graphFrom src W at) (B.the-variants.Read (record { places = P; edges = v }) c)
   unfolding graphEntries
   graph-placed {P} {c = c} before es e k s room =
       let f = taken-fits (graph-out src W at e .0) .1 .0 .1 in
-      rw (e, k, s) (body (record { places = P; edges = es }) (c .at) (stored-begins before (edgeNumbers es) (omega (arith, length-edges es))))
+      rw (e, k, s) (body (record { places = P; edges = es }) (c .at) (stored-overlaid before (edgeNumbers es) (omega (arith, length-edges es))))
 
 -- a graph takes at most 12 + 96 * 34 bits
 module _ (src : Source) (W : ℕ) (few : W ≤ 200) where

@@ -6,7 +6,7 @@ use native.Mathlib.Omega.{arith}
 use lib.ListN.{length}
 use Rattle.packing.specs.Meaning.{Edge, edge, word, Graph}
 use Rattle.packing.specs.Parse.{Parse, parsed, failed}
-use Rattle.packing.specs.Flat.{Begins, edgeNumbers}
+use Rattle.packing.specs.Flat.{Overlaid, edgeNumbers}
 use Rattle.packing.specs.Store.{storeAll}
 use Rattle.packing.specs.declared.Cursor.{Cursor}
 use Rattle.packing.specs.declared.Read as R
@@ -41,13 +41,13 @@ not-found-told (found es next h) e = let z : _≡_ {A = ℕ} 0 1 = cc in absurd 
 not-found-told (not-found n) e = cc
 
 -- of the graph
-pub body-told : {after : List ℕ} {x : Parse Graph} {r : B.BodyRead} {z : GraphSize} {c : Cursor} → GraphAs after x r → r ≡ B.the-variants.Read z c
-    → (g : Graph) × (x ≡ parsed g (c .at)) × (z ≡ graphSize g) × Begins (edgeNumbers (g .edges)) after
+pub body-told : {before after : List ℕ} {x : Parse Graph} {r : B.BodyRead} {z : GraphSize} {c : Cursor} → GraphAs before after x r → r ≡ B.the-variants.Read z c
+    → (g : Graph) × (x ≡ parsed g (c .at)) × (z ≡ graphSize g) × Overlaid (edgeNumbers (g .edges)) before after
 body-told {c = c} (body g next h) e =
     let same : _≡_ {A = Cursor} (record { at = next }) c = cc in
     (g, ap (λ (d : Cursor). parsed g (d .at)) same, cc, h)
 body-told (no-body n) e = let z : _≡_ {A = ℕ} 0 1 = cc in absurd (omega arith)
 
-pub no-body-told : {after : List ℕ} {x : Parse Graph} {r : B.BodyRead} {n : ℕ} → GraphAs after x r → r ≡ B.the-variants.Refused n → x ≡ failed n
+pub no-body-told : {before after : List ℕ} {x : Parse Graph} {r : B.BodyRead} {n : ℕ} → GraphAs before after x r → r ≡ B.the-variants.Refused n → x ≡ failed n
 no-body-told (body g next h) e = let z : _≡_ {A = ℕ} 0 1 = cc in absurd (omega arith)
 no-body-told (no-body n) e = cc

@@ -5,7 +5,7 @@ use Prim.Native.Nat.{ℕ, _≤_}
 use lib.ListN.{length}
 use Rattle.packing.specs.Meaning as M
 use Rattle.packing.specs.Parse.{Verdict, accepted, refused}
-use Rattle.packing.specs.Flat.{Begins, edgeNumbers}
+use Rattle.packing.specs.Flat.{Begins, Overlaid, edgeNumbers}
 use Rattle.graph_reader.specs.declared.GraphSize.{GraphSize}
 use Rattle.graph_reader.specs.declared.GraphRead.{GraphRead}
 use Rattle.graph_reader.specs.declared.GraphRead.the-variants.{Graph, Refused}
@@ -22,6 +22,11 @@ graphRead (refused n) = Refused n
 abbrev pub EdgesIn : Verdict M.Graph → List ℕ → Type 0
 EdgesIn (accepted g) array = Begins (edgeNumbers (g .edges)) array
 EdgesIn (refused n) array = Unit {0}
+
+-- and what stood behind them stands there still
+abbrev pub EdgesOver : Verdict M.Graph → List ℕ → List ℕ → Type 0
+EdgesOver (accepted g) before array = Overlaid (edgeNumbers (g .edges)) before array
+EdgesOver (refused n) before array = Unit {0}
 
 -- from 2 to 25 places and from 1 to 96 edges
 abbrev pub Sized : GraphRead → Type 0

@@ -5,7 +5,7 @@ use Prim.Native.Nat.{ℕ, _+_, _*_}
 use lib.ListN.{length}
 use Rattle.packing.specs.Meaning.{Edge, edge, Graph}
 use Rattle.packing.specs.Parse.{Parse, parsed, failed}
-use Rattle.packing.specs.Flat.{Begins, edgeNumbers}
+use Rattle.packing.specs.Flat.{Overlaid, edgeNumbers}
 use Rattle.packing.specs.Store.{storeAll}
 use Rattle.packing.specs.declared.Read as R
 use Rattle.graph_reader.specs.declared.EdgeRead as E
@@ -27,8 +27,8 @@ pub data EdgesAs (before after : List ℕ) : Parse (List Edge) → R.Read → Ty
       → EdgesAs before after (parsed es next) (R.the-variants.Number (length es) (record { at = next }))
   not-found : (n : ℕ) → EdgesAs before after (failed n) (R.the-variants.Refused n)
 
--- the edges of a graph that was parsed stand at the front; a refusal is answered
-pub data GraphAs (after : List ℕ) : Parse Graph → B.BodyRead → Type 0 where
-  body : (g : Graph) (next : ℕ) → Begins (edgeNumbers (g .edges)) after
-      → GraphAs after (parsed g next) (B.the-variants.Read (graphSize g) (record { at = next }))
-  no-body : (n : ℕ) → GraphAs after (failed n) (B.the-variants.Refused n)
+-- the edges of a graph that was parsed are laid over the front; a refusal is answered
+pub data GraphAs (before after : List ℕ) : Parse Graph → B.BodyRead → Type 0 where
+  body : (g : Graph) (next : ℕ) → Overlaid (edgeNumbers (g .edges)) before after
+      → GraphAs before after (parsed g next) (B.the-variants.Read (graphSize g) (record { at = next }))
+  no-body : (n : ℕ) → GraphAs before after (failed n) (B.the-variants.Refused n)

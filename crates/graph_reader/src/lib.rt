@@ -20,7 +20,7 @@ ghost use Rattle.packing.specs.Read.{readOf};
 ghost use Rattle.packing.specs.Graph.{endPlace, edgeFrom, graphEdgesFrom, graphFrom, graphBlock};
 ghost use Rattle.slots_reader.specs.Placed.{candidateOf, candidateFrom};
 ghost use Rattle.graph_reader.specs.Parts.{edgeOf, keyOf, EdgesAs, GraphAs};
-ghost use Rattle.graph_reader.specs.Answer.{graphRead, EdgesIn, Sized};
+ghost use Rattle.graph_reader.specs.Answer.{graphRead, EdgesIn, EdgesOver, Sized};
 
 // P, and the number of edges.
 pub struct GraphSize {
@@ -156,7 +156,7 @@ fn read_edges(
 // P and the edges, from place `at` of the block, into the array.
 fn read_body(block: &[u8], at: usize, words: u32, edges: &mut [u32]) -> BodyRead
     requires { do ⌜ (at < 2 ^ 15) × (0 < words) × (words ≤ (← ⟦MAX_WORDS⟧)) × ((← ⟦GRAPH_EDGES_LENGTH⟧) ≤ length (now edges)) ⌝ }
-    ensures { λ r. ⌜ GraphAs (now (edges .exit)) (graphFrom (bytes 11 (now (block .entry))) words at) r ⌝ }
+    ensures { λ r. ⌜ GraphAs (now (edges .entry)) (now (edges .exit)) (graphFrom (bytes 11 (now (block .entry))) words at) r ⌝ }
 {
     let first = block_field(block, at, format::PLACES_FIELD);
     let Read::Number(places, c) = first else {
@@ -183,7 +183,8 @@ fn read_body(block: &[u8], at: usize, words: u32, edges: &mut [u32]) -> BodyRead
 // The graph of a block under a grammar of `words` words.
 pub fn read_graph(block: &[u8], words: u32, edges: &mut [u32]) -> GraphRead
     requires { do ⌜ (0 < words) × (words ≤ (← ⟦MAX_WORDS⟧)) × ((← ⟦GRAPH_EDGES_LENGTH⟧) ≤ length (now edges)) ⌝ }
-    ensures { λ r. ⌜ (r ≡ graphRead (graphBlock words (now (block .entry)))) × EdgesIn (graphBlock words (now (block .entry))) (now (edges .exit)) × Sized r ⌝ }
+    ensures { λ r. ⌜ (r ≡ graphRead (graphBlock words (now (block .entry)))) × EdgesIn (graphBlock words (now (block .entry))) (now (edges .exit)) × Sized r
+        × EdgesOver (graphBlock words (now (block .entry))) (now (edges .entry)) (now (edges .exit)) ⌝ }
 {
     let kind = block_field(block, 0, format::GRAPH_KIND_FIELD);
     let Read::Number(_, c) = kind else {

@@ -8,7 +8,7 @@ use lib.ListN.{length}
 use Rattle.packing.specs.Meaning as M
 use Rattle.packing.specs.Meaning.{slots, graph, lastPlace, heardEdges}
 use Rattle.packing.specs.Parse.{Verdict, accepted, refused}
-use Rattle.packing.specs.Flat.{Begins, edgeNumbers}
+use Rattle.packing.specs.Flat.{Begins, Overlaid, edgeNumbers}
 use Rattle.heard_reader.specs.declared.HeardSize.{HeardSize}
 use Rattle.heard_reader.specs.declared.HeardRead.{HeardRead}
 use Rattle.heard_reader.specs.declared.HeardRead.the-variants.{Heard, Refused}
@@ -30,13 +30,19 @@ abbrev pub EdgesIn : Verdict M.Heard → List ℕ → Type 0
 EdgesIn (accepted h) array = Begins (edgeNumbers (heardEdges h)) array
 EdgesIn (refused n) array = Unit {0}
 
+-- and what stood behind them stands there still
+abbrev pub EdgesOver : Verdict M.Heard → List ℕ → List ℕ → Type 0
+EdgesOver (accepted h) before array = Overlaid (edgeNumbers (heardEdges h)) before array
+EdgesOver (refused n) before array = Unit {0}
+
 -- the last place is from 1 to 24, and there are from 1 to 168 edges: 7 for each slot
 abbrev pub Sized : HeardRead → Type 0
 Sized (Heard z) = (1 ≤ z .last) × (z .last ≤ 24) × (1 ≤ z .edges) × (z .edges ≤ 168)
 Sized (Refused n) = Unit {0}
 
 -- what the readers promise, of a verdict, the array and the answer
-pub record Promised (v : Verdict M.Heard) (after : List ℕ) (r : HeardRead) : Type 0 where
+pub record Promised (v : Verdict M.Heard) (before after : List ℕ) (r : HeardRead) : Type 0 where
   pub answer : r ≡ heardRead v
   pub edges : EdgesIn v after
+  pub laid : EdgesOver v before after
   pub sized : Sized r

@@ -36,7 +36,7 @@ pub fn is_graph(block: &[u8]) -> bool
 // A block read as a graph.
 fn read_graph(block: &[u8], words: u32, edges: &mut [u32]) -> HeardRead
     requires { do ⌜ (0 < words) × (words ≤ (← ⟦MAX_WORDS⟧)) × ((← ⟦EDGES_LENGTH⟧) ≤ length (now edges)) ⌝ }
-    ensures { λ r. ⌜ Promised (asGraph words (now (block .entry))) (now (edges .exit)) r ⌝ }
+    ensures { λ r. ⌜ Promised (asGraph words (now (block .entry))) (now (edges .entry)) (now (edges .exit)) r ⌝ }
 {
     match graph_reader::read_graph(block, words, edges) {
         GraphRead::Refused(n) => HeardRead::Refused(n),
@@ -51,7 +51,7 @@ fn read_graph(block: &[u8], words: u32, edges: &mut [u32]) -> HeardRead
 // A block read as slots.
 pub fn read_slots(block: &[u8], words: u32, edges: &mut [u32]) -> HeardRead
     requires { do ⌜ (0 < words) × (words ≤ (← ⟦MAX_WORDS⟧)) × ((← ⟦EDGES_LENGTH⟧) ≤ length (now edges)) ⌝ }
-    ensures { λ r. ⌜ Promised (asSlots words (now (block .entry))) (now (edges .exit)) r ⌝ }
+    ensures { λ r. ⌜ Promised (asSlots words (now (block .entry))) (now (edges .entry)) (now (edges .exit)) r ⌝ }
 {
     let mut slots = [0u32; SLOTS_LENGTH];
     match utterance_reader::read_block(block, words, &mut slots) {
@@ -71,7 +71,7 @@ pub fn read_slots(block: &[u8], words: u32, edges: &mut [u32]) -> HeardRead
 // What was heard, of a block of either kind under a grammar of `words` words, with its edges in the array.
 pub fn read_heard(block: &[u8], words: u32, edges: &mut [u32]) -> HeardRead
     requires { do ⌜ (0 < words) × (words ≤ (← ⟦MAX_WORDS⟧)) × ((← ⟦EDGES_LENGTH⟧) ≤ length (now edges)) ⌝ }
-    ensures { λ r. ⌜ Promised (heardBlock words (now (block .entry))) (now (edges .exit)) r ⌝ }
+    ensures { λ r. ⌜ Promised (heardBlock words (now (block .entry))) (now (edges .entry)) (now (edges .exit)) r ⌝ }
 {
     if is_graph(block) {
         return read_graph(block, words, edges);

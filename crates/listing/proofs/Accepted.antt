@@ -1,14 +1,14 @@
 -- Within the limits and with enough work table and output the listing accepts. Of a valid grammar and what was heard, valid too, every reading has the length
 -- L, since each in the list is a derivation's.
-use mathlib.Core.Path.{_≡_, refl, _∙_}
-use mathlib.Core.List.{List, [], _∷_, map}
+use mathlib.Core.Path.{_≡_, refl, sym, subst, _∙_}
+use mathlib.Core.List.{List, [], _∷_}
 use Prim.Native.Nat.{ℕ, suc, _*_, _≤_, min}
 use native.Mathlib.Omega.{arith}
 use lib.Dec.{ltb}
 use lib.ListN.{length, length-map, length-take}
 use borrow.Author.Tests.{le-ltb, ltb-false}
 use Rattle.packing.specs.Meaning.{Grammar, Heard, lastPlace}
-use Rattle.packing.specs.Parse.{Verdict, accepted, refused}
+use Rattle.packing.specs.Parse.{Verdict, accepted, refused, _then_}
 use Rattle.packing.specs.Grammar.{grammarBlock}
 use Rattle.packing.specs.Heard.{heardBlock}
 use Rattle.packing.specs.Valid.{ValidGrammar, ValidHeard}
@@ -20,11 +20,13 @@ use Rattle.derivation.specs.Rank.{Number}
 use Rattle.derivation.proofs.Lists.{map-at}
 use Rattle.derivation.proofs.Ranges.{All}
 use Rattle.derivation.proofs.HeardTheorems.{least-length, least-element, output-bytes}
-use Rattle.listing.specs.Listing.{tableSize, listed, list, listedOf}
+use Rattle.listing.specs.Conditions.{tableSize, conditions, askedListing}
+use Rattle.listing.specs.Listing.{readingsOf, listed, list, listedOf}
 use Rattle.listing.specs.declared.Limits.{Limits}
 use Rattle.listing.specs.declared.Listed.{Listed}
 use Rattle.listing.specs.declared.Listed.the-variants.{Found}
 use Rattle.listing.proofs.Joined.{Sized}
+use Rattle.listing.proofs.Due.{then-within}
 
 at-all : {A : Type 0} (P : A → Type 0) (l : List A) → ((k : ℕ) (x : A) → At l k x → P x) → All P l
 at-all P [] h = tt
@@ -33,7 +35,7 @@ at-all P (x ∷ l) h = (h 0 x refl, at-all P l (λ k. h (suc k)))
 module _ (g : Grammar) (h : Heard) (N : ℕ) where
   -- the N least readings, packed
   abbrev pub blocks : List (List ℕ)
-  blocks = map (packed g h) (leastDerivations g h N)
+  blocks = readingsOf N (g, h)
 
   pub count-blocks : (all : ℕ) → Number (Derivation g h) all → length blocks ≡ min N all
   count-blocks all number = length-map (leastDerivations g h N) (packed g h) ∙ least-length g h N all number
@@ -46,7 +48,7 @@ module _ (g : Grammar) (h : Heard) (N : ℕ) where
 
   pub listing-accepts : (l : Limits) (work out : ℕ) → lastPlace h ≤ l .slots → N ≤ l .readings → 1 ≤ N → N ≤ 256
       → tableSize (g .symbols) (lastPlace h) N ≤ work → N * outputLength g h ≤ out → listed l g h N work out ≡ accepted blocks
-  unfolding listed
+  unfolding listed conditions
   listing-accepts l work out slots readings h₁ h₂ h₃ h₄ = rw (
     le-ltb (l .slots) (lastPlace h) slots,
     le-ltb N 1 h₁,
@@ -63,10 +65,10 @@ pub record Asks (g : Grammar) (h : Heard) (N work out : ℕ) : Type 0 where
   pub table : tableSize (g .symbols) (lastPlace h) N ≤ work
   pub room : N * outputLength g h ≤ out
 
-pub accepted-asks : (l : Limits) (g : Grammar) (h : Heard) (N work out : ℕ) {ls : List (List ℕ)} → listed l g h N work out ≡ accepted ls
-    → Asks g h N work out × (blocks g h N ≡ ls)
-unfolding listed
-accepted-asks l g h N work out e =
+pub conditions-asks : (l : Limits) (g : Grammar) (h : Heard) (N work out : ℕ) {b : Grammar × Heard} → conditions l g h N work out ≡ accepted b
+    → Asks g h N work out × ((g, h) ≡ b)
+unfolding conditions
+conditions-asks l g h N work out e =
     let (_, e₀) = accepted-else (ltb (l .slots) (lastPlace h)) 57 _ e in
     let (n₁, e₁) = accepted-else (ltb N 1) 21 _ e₀ in
     let (n₂, e₂) = accepted-else (ltb 256 N) 21 _ e₁ in
@@ -77,15 +79,32 @@ accepted-asks l g h N work out e =
       accepted-is e₅,
     )
 
+-- what is accepted are both blocks' meanings, asked for and lent enough
+pub asked-out : (l : Limits) (grammar heard : List ℕ) (N work out : ℕ) {g : Grammar} {h : Heard} → askedListing l grammar heard N work out ≡ accepted (g, h)
+    → (grammarBlock grammar ≡ accepted g) × (heardBlock (g .words) heard ≡ accepted h) × Asks g h N work out
+unfolding askedListing
+asked-out l grammar heard N work out {g} {h} e =
+    granted (grammarBlock grammar) _ e λ f p e.
+    granted (heardBlock (f .words) heard) _ e λ k q e.
+    let (asks, same) = conditions-asks l f k N work out e in
+    subst (λ (b : Grammar × Heard). (grammarBlock grammar ≡ accepted (b .0)) × (heardBlock (b .0 .words) heard ≡ accepted (b .1)) × Asks (b .0) (b .1) N work out)
+    same (p, q, asks)
+
+-- what is due is made of what is asked
+pub list-asked : (l : Limits) (grammar heard : List ℕ) (N work out : ℕ)
+    → list l grammar heard N work out ≡ (askedListing l grammar heard N work out then λ b. accepted (readingsOf N b))
+unfolding list listed askedListing
+list-asked l grammar heard N work out =
+    then-within (grammarBlock grammar) (λ g. heardBlock (g .words) heard then λ h. conditions l g h N work out) (λ b. accepted (readingsOf N b)) λ g.
+    then-within (heardBlock (g .words) heard) (λ h. conditions l g h N work out) (λ b. accepted (readingsOf N b)) λ h. refl
+
 -- what the listing answers that it found is never more than was asked for, and that at most 256
 pub accepted-few : (l : Limits) (grammar heard : List ℕ) (N work out : ℕ) {ls : List (List ℕ)} → list l grammar heard N work out ≡ accepted ls
     → (length ls ≤ N) × (N ≤ 256)
-unfolding list
 accepted-few l grammar heard N work out e =
-    granted (grammarBlock grammar) _ e λ g p e.
-    granted (heardBlock (g .words) heard) _ e λ h q e.
-    let (asks, same) = accepted-asks l g h N work out e in
-    (rw (← same) (simp (length-map, length-take) (omega arith)), asks .few)
+    granted (askedListing l grammar heard N work out) _ (sym (list-asked l grammar heard N work out) ∙ e) λ (g, h) p q.
+    let (_, _, asks) = asked-out l grammar heard N work out p in
+    (rw (← accepted-is q) (simp (length-map, length-take) (omega arith)), asks .few)
 
 pub found-few : (l : Limits) (grammar heard : List ℕ) (N work out : ℕ) {r : Listed} {m : ℕ} → r ≡ listedOf (list l grammar heard N work out)
     → r ≡ Found m → m ≤ N

@@ -10,6 +10,8 @@ use lib.ListN.{length, drop, length-map}
 use lib.Seq.{drop-at}
 use Rattle.packing.specs.Meaning.{Grammar, Heard, heardEdges}
 use Rattle.packing.specs.Parse.{Verdict, accepted}
+use Rattle.packing.specs.Grammar.{grammarBlock}
+use Rattle.packing.specs.Heard.{heardBlock}
 use Rattle.packing.specs.Valid.{ValidGrammar, ValidHeard}
 use Rattle.packing.proofs.Whole.{grammar-block-out}
 use Rattle.packing.proofs.Heard.{heard-block-out}
@@ -21,8 +23,9 @@ use Rattle.derivation.specs.Rank.{Rank}
 use Rattle.derivation.proofs.Lists.{at-map, length-at}
 use Rattle.derivation.proofs.HeardReadings.{heard-last}
 use Rattle.derivation.proofs.HeardTheorems.{finitely-many, one-comes-before, never-both, least-element, readings-differ}
-use Rattle.listing.specs.Listing.{library, Within, joined, list, listedOf, outputAfter, workAfter}
-use Rattle.listing.specs.Demand3.{kthBytes, Ranked, Either, Demand3}
+use Rattle.listing.specs.Conditions.{library, Within}
+use Rattle.listing.specs.Listing.{joined, list, listedOf, outputAfter, workAfter}
+use Rattle.listing.specs.Demand3.{kthBytes, Ranked, Either, RankedList, Demand3}
 use Rattle.listing.specs.Model.{Promised}
 use Rattle.listing.specs.declared.Limits.{Limits}
 use Rattle.listing.specs.declared.Listed.{Listed}
@@ -76,15 +79,13 @@ module _ (l : Limits) (grammar heard : List ℕ) (N : ℕ) (work out : List ℕ)
   abbrev due : Verdict (List (List ℕ))
   due = list l grammar heard N (length work) (length out)
 
-  -- where the answer and both slices are what is due, within the limits demand 3 is met
-  pub demand-3 : (AnswerIs : ℕ → Type 0) → ((ls : List (List ℕ)) → due ≡ accepted ls → AnswerIs (length ls)) → (work′ out′ : List ℕ)
-      → work′ ≡ workAfter due work → out′ ≡ outputAfter due out → Within l grammar heard N → Demand3 grammar heard N work out AnswerIs work′ out′
-  unfolding list
-  demand-3 AnswerIs answers work′ out′ works writes within g p h q h₁ h₂ h₃ h₄ =
+  -- where the answer and both slices are what is due, and that is the readings of both blocks' meanings, they are listed by rank
+  pub ranked-list : (AnswerIs : ℕ → Type 0) (work′ out′ : List ℕ) → work′ ≡ workAfter due work → out′ ≡ outputAfter due out
+      → {g : Grammar} {h : Heard} → grammarBlock grammar ≡ accepted g → heardBlock (g .words) heard ≡ accepted h → due ≡ accepted (blocks g h N)
+      → AnswerIs (length (blocks g h N)) → RankedList g h N work out AnswerIs work′ out′
+  ranked-list AnswerIs work′ out′ works writes {g} {h} p q met answer =
       let okg = grammar-block-out grammar g p .0 in
       let okh = heard-block-out (g .words) heard h q .0 in
-      let met : due ≡ accepted (blocks g h N) = rw (p, q)
-      (listing-accepts g h N l (length work) (length out) (within .slots g h p q) (within .readings) h₁ h₂ h₃ h₄) in
       let writes : out′ ≡ outputAfter (accepted (blocks g h N)) out = rw met at writes in
       record {
         different = readings-differ g h okg okh;
@@ -92,12 +93,21 @@ module _ (l : Limits) (grammar heard : List ℕ) (N : ℕ) (work out : List ℕ)
         derivations = _;
         finitely-many = finitely-many g h;
         m = length (blocks g h N);
-        accepts = answers (blocks g h N) met;
+        accepts = answer;
         m-is = count-blocks g h N _ (finitely-many g h);
         readings = λ k l m. rw writes (reading-of g h okg okh N out k l m);
         beyond = rw writes (unchanged g h okg okh N out);
         zeros = rw met at works;
       }
+
+  -- within the limits demand 3 is met
+  pub demand-3 : (AnswerIs : ℕ → Type 0) → ((ls : List (List ℕ)) → due ≡ accepted ls → AnswerIs (length ls)) → (work′ out′ : List ℕ)
+      → work′ ≡ workAfter due work → out′ ≡ outputAfter due out → Within l grammar heard N → Demand3 grammar heard N work out AnswerIs work′ out′
+  unfolding list
+  demand-3 AnswerIs answers work′ out′ works writes within g p h q h₁ h₂ h₃ h₄ =
+      let met : due ≡ accepted (blocks g h N) = rw (p, q)
+      (listing-accepts g h N l (length work) (length out) (within .slots g h p q) (within .readings) h₁ h₂ h₃ h₄) in
+      ranked-list AnswerIs work′ out′ works writes p q met (answers (blocks g h N) met)
 
   -- the promises of `listing_within`: its answer and both slices, and so demand 3
   pub promised : (r : Listed) (work′ out′ : List ℕ) → Promised due work out r work′ out′

@@ -1,3 +1,4 @@
+pub mod Due
 pub mod Sizes
 pub mod Joined
 pub mod Accepted

@@ -5,27 +5,25 @@ use mathlib.Core.List.{List}
 use Prim.Native.Nat.{ℕ, _*_, _≤_}
 use lib.ListN.{length, replicate}
 use Rattle.packing.specs.Meaning.{Grammar, Heard, lastPlace, heardEdges}
-use Rattle.packing.specs.Parse.{accepted, refused}
+use Rattle.packing.specs.Parse.{refused}
 use Rattle.packing.specs.Flat.{Begins, ruleNumbers, edgeNumbers}
 use Rattle.packing.specs.Valid.{ValidGrammar, ValidHeard}
-use Rattle.packing.specs.Grammar.{grammarBlock}
 use Rattle.packing.specs.Heard.{heardBlock}
 use Rattle.packing.proofs.Whole.{grammar-block-out}
 use Rattle.packing.proofs.Heard.{heard-block-out}
 use Rattle.derivation.specs.Heard.{outputLength}
-use Rattle.grammar_reader.specs.Answer.{sizes}
-use Rattle.grammar_reader.specs.declared.Sizes.{Sizes}
-use Rattle.heard_reader.specs.Answer.{heardSize}
-use Rattle.heard_reader.specs.declared.HeardSize.{HeardSize}
+use Rattle.inputs.specs.Inputs.{meantBy}
+use Rattle.inputs.specs.declared.Inputs.{Inputs}
+use Rattle.inputs.proofs.Outcome.{rules-begin, edges-begin, meant-first}
 use Rattle.chart_table.specs.declared.Layout.{Layout}
 use Rattle.chart.specs.Chart.{layOut}
 use Rattle.chart_theory.proofs.Accepted.{Holds, layout, chart-holds}
-use Rattle.listing.specs.Listing.{tableSize, joined, listed, list}
-use Rattle.listing.specs.Model.{shortage, formOf, Filled, Promised, HeardListed, GrammarListed}
+use Rattle.listing.specs.Conditions.{tableSize}
+use Rattle.listing.specs.Listing.{joined, listed, list}
+use Rattle.listing.specs.Model.{shortage, formOf, Filled, Promised, ReadListed}
 use Rattle.listing.specs.declared.Asked.{Asked}
 use Rattle.listing.specs.declared.Form.{Form}
 use Rattle.listing.specs.declared.Limits.{Limits}
-use Rattle.listing.specs.declared.Listed.{Listed}
 use Rattle.listing.specs.declared.Listed.the-variants.{Found, Refused}
 use Rattle.listing.proofs.Sizes.{size-is, Met, all-met, short}
 use Rattle.listing.proofs.Joined.{length-joined}
@@ -57,46 +55,34 @@ module _ (g : Grammar) (h : Heard) (okg : ValidGrammar g) (okh : ValidHeard (g .
         ),
       )
 
--- the ways out where the edges of what was heard are in an array
-module _ (rules : List ℕ) (z : Sizes) (edges : List ℕ) (y : HeardSize) (asked : Asked) (work out : List ℕ) {f : Form} (formed : f ≡ formOf (y .graph) (y .last) (z .rules)) where
-  pub heard-refused : {x : ℕ} → x ≡ shortage asked (z .symbols) (y .last) (f .size) (length work) (length out) → (x ≡ 0 → ⊥)
-      → HeardListed rules z edges y asked work out (Refused x) work out
-  heard-refused e short-of g h okg okh ez ey begun begun′ =
-      let is = rw (formed, ez, ey, size-is g h) at e in
-      rw (short asked g h (length work) (length out) (λ none. short-of (is ∙ none)), is) (refl, (refl, refl))
-
-  pub heard-found : 1 ≤ y .last → {m : ℕ} {d : Layout} {work′ out′ : List ℕ}
-      → shortage asked (z .symbols) (y .last) (f .size) (length work) (length out) ≡ 0 → d ≡ layOut (z .symbols) (y .last) (asked .wanted)
-      → Filled rules f edges (y .edges) d work out m work′ out′ → HeardListed rules z edges y asked work out (Found m) work′ out′
-  heard-found some {m} {work′ = work′} {out′} none e-layout filled g h okg okh ez ey begun begun′ =
-      let met = all-met asked (g .symbols) (lastPlace h) (outputLength g h) (length work) (length out) (rw (formed, ez, ey, size-is g h) at none) in
-      readings-due g h okg okh (rw ey at some) asked work out met rules edges m work′ out′ begun begun′ (rw (e-layout, formed, ez, ey) at filled)
-
--- where the rules of an accepted grammar are in an array
-module _ (rules : List ℕ) (z : Sizes) (heard : List ℕ) (asked : Asked) (work out : List ℕ) where
-  pub grammar-refused : {n : ℕ} → heardBlock (z .words) heard ≡ refused n → GrammarListed rules z heard asked work out (Refused n) work out
-  grammar-refused e g okg ez begun = rw (rw ez at e) (refl, (refl, refl))
-
-  pub grammar-listed : (edges : List ℕ) {y : HeardSize} {r : Listed} {work′ out′ : List ℕ} (h : Heard)
-      → heardBlock (z .words) heard ≡ accepted h → y ≡ heardSize h → Begins (edgeNumbers (heardEdges h)) edges
-      → HeardListed rules z edges y asked work out r work′ out′ → GrammarListed rules z heard asked work out r work′ out′
-  grammar-listed edges h e ey begun′ due g okg ez begun =
-      let is = rw ez at e in
-      let okh = heard-block-out (g .words) heard h is .0 in
-      rw is (due g h okg okh ez ey begun begun′)
-
--- and where both blocks are given
-module _ (l : Limits) (grammar heard : List ℕ) (N : ℕ) (work out : List ℕ) where
-  abbrev asked : Asked
-  asked = record { limits = l; wanted = N }
-
-  pub block-refused : {n : ℕ} → grammarBlock grammar ≡ refused n
-      → Promised (list l grammar heard N (length work) (length out)) work out (Refused n) work out
+-- the ways out of inputs that were read
+module _ (rules edges : List ℕ) (z : Inputs) (asked : Asked) (work out : List ℕ) {f : Form} (formed : f ≡ formOf (z .heard .graph) (z .heard .last) (z .sizes .rules)) where
+  pub read-refused : {x : ℕ} → x ≡ shortage asked (z .sizes .symbols) (z .heard .last) (f .size) (length work) (length out) → (x ≡ 0 → ⊥)
+      → ReadListed rules edges z asked work out (Refused x) work out
   unfolding list
-  block-refused e = rw e (refl, (refl, refl))
+  read-refused e short-of grammar heard rules₀ edges₀ k =
+      let g = k .meant .grammar in
+      let h = k .meant .heard in
+      let is = rw (formed, k .sizes, size-is g h) at e in
+      rw (k .grammar-is, k .heard-is, short asked g h (length work) (length out) (λ none. short-of (is ∙ none)), is) (refl, (refl, refl))
 
-  pub block-listed : (rules : List ℕ) {z : Sizes} {r : Listed} {work′ out′ : List ℕ} (g : Grammar) → grammarBlock grammar ≡ accepted g → z ≡ sizes g
-      → Begins (ruleNumbers g) rules → GrammarListed rules z heard asked work out r work′ out′
-      → Promised (list l grammar heard N (length work) (length out)) work out r work′ out′
+  pub read-found : {m : ℕ} {d : Layout} {work′ out′ : List ℕ}
+      → shortage asked (z .sizes .symbols) (z .heard .last) (f .size) (length work) (length out) ≡ 0 → d ≡ layOut (z .sizes .symbols) (z .heard .last) (asked .wanted)
+      → Filled rules f edges (z .heard .edges) d work out m work′ out′ → ReadListed rules edges z asked work out (Found m) work′ out′
   unfolding list
-  block-listed rules g e ez begun due = rw e (due g (grammar-block-out grammar g e .0) ez begun)
+  read-found {m} {work′ = work′} {out′} none e-layout filled grammar heard rules₀ edges₀ k =
+      let g = k .meant .grammar in
+      let h = k .meant .heard in
+      let okg = grammar-block-out grammar g (k .grammar-is) .0 in
+      let okh = heard-block-out (g .words) heard h (k .heard-is) .0 in
+      let met = all-met asked (g .symbols) (lastPlace h) (outputLength g h) (length work) (length out) (rw (formed, k .sizes, size-is g h) at none) in
+      let some : 1 ≤ lastPlace h = rw (k .sizes) at (k .bounds .some-place) in
+      rw (k .grammar-is, k .heard-is)
+      (readings-due g h okg okh some asked work out met rules edges m work′ out′ (rules-begin k) (edges-begin k) (rw (e-layout, formed, k .sizes) at filled))
+
+-- and of blocks that were not
+pub not-read : (l : Limits) (grammar heard : List ℕ) (N : ℕ) (work out : List ℕ) {n : ℕ} → meantBy heardBlock grammar heard ≡ refused n
+    → Promised (list l grammar heard N (length work) (length out)) work out (Refused n) work out
+unfolding list
+not-read l grammar heard N work out e =
+    rw (meant-first heardBlock grammar heard (λ g h. listed l g h N (length work) (length out)), e) (refl, (refl, refl))

@@ -21,7 +21,8 @@ use Rattle.derivation.specs.Heard.{outputLength}
 use Rattle.derivation.proofs.HeardReadings.{heard-last}
 use Rattle.derivation.proofs.Ranges.{valid-sizes, valid-rules}
 use Rattle.heard_reader.specs.Answer.{isGraph}
-use Rattle.listing.specs.Listing.{library, panel, tableSize, listed, list}
+use Rattle.listing.specs.Conditions.{library, panel, tableSize, conditions}
+use Rattle.listing.specs.Listing.{listed, list}
 use Rattle.listing.specs.declared.Limits.{Limits}
 use Rattle.listing.proofs.Sizes.{size-is, mostNumbers, mostBytes, table-within, output-within}
 use Rattle.listing.proofs.Accepted.{listing-accepts}
@@ -36,7 +37,7 @@ pub record Turned (Row : ℕ → Type 0) (l : Limits) (g : Grammar) (h : Heard) 
 
 module _ (Row : ℕ → Type 0) (l : Limits) where
   listed-row : (g : Grammar) (h : Heard) (N work out : ℕ) → Turned Row l g h N work out → Refuses Row (listed l g h N work out)
-  unfolding listed
+  unfolding listed conditions
   listed-row g h N work out turned =
       go (ltb (l .slots) (lastPlace h)) (ltb N 1) (ltb 256 N) (ltb (l .readings) N) (ltb work (tableSize (g .symbols) (lastPlace h) N))
       (ltb out (N * outputLength g h)) refl refl refl refl refl refl

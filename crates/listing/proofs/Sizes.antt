@@ -19,7 +19,8 @@ use Rattle.derivation.specs.Heard.{outputLength}
 use Rattle.heard_reader.specs.Answer.{isGraph}
 use Rattle.chart_table.specs.declared.Layout.{Layout}
 use Rattle.chart.specs.Chart.{layOut}
-use Rattle.listing.specs.Listing.{tableSize, listed}
+use Rattle.listing.specs.Conditions.{tableSize, conditions}
+use Rattle.listing.specs.Listing.{listed}
 use Rattle.listing.specs.Model.{firstRefusal, shortage, sizeOf}
 use Rattle.listing.specs.declared.Asked.{Asked}
 use Rattle.listing.specs.declared.Limits.{Limits}
@@ -118,9 +119,14 @@ picks k false false false false true f rest h = refl
 picks k false false false false false true rest h = refl
 picks k false false false false false false rest h = absurd (h refl)
 
-pub short : (asked : Asked) (g : Grammar) (h : Heard) (work out : ℕ) → (shortage asked (g .symbols) (lastPlace h) (outputLength g h) work out ≡ 0 → ⊥)
-    → listed (asked .limits) g h (asked .wanted) work out ≡ refused (shortage asked (g .symbols) (lastPlace h) (outputLength g h) work out)
-unfolding shortage listed
-short asked g h work out =
+conditions-short : (asked : Asked) (g : Grammar) (h : Heard) (work out : ℕ) → (shortage asked (g .symbols) (lastPlace h) (outputLength g h) work out ≡ 0 → ⊥)
+    → conditions (asked .limits) g h (asked .wanted) work out ≡ refused (shortage asked (g .symbols) (lastPlace h) (outputLength g h) work out)
+unfolding shortage conditions
+conditions-short asked g h work out =
     picks refused (ltb (asked .limits .slots) (lastPlace h)) (ltb (asked .wanted) 1) (ltb 256 (asked .wanted)) (ltb (asked .limits .readings) (asked .wanted))
     (ltb work (tableSize (g .symbols) (lastPlace h) (asked .wanted))) (ltb out (asked .wanted * outputLength g h)) _
+
+pub short : (asked : Asked) (g : Grammar) (h : Heard) (work out : ℕ) → (shortage asked (g .symbols) (lastPlace h) (outputLength g h) work out ≡ 0 → ⊥)
+    → listed (asked .limits) g h (asked .wanted) work out ≡ refused (shortage asked (g .symbols) (lastPlace h) (outputLength g h) work out)
+unfolding listed
+short asked g h work out none = rw (conditions-short asked g h work out none)

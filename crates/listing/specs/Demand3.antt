@@ -1,6 +1,6 @@
 -- Demand 3, whole: document 01, "Tables" and "The list of demand 3", and document 02, N1, "Demand 3 covers paths too, each reading taken
 -- with its zeros", as one claim about what a listing answers and leaves in both slices. Each part stands under the sentence that it
--- renders. The terms are those of specs/Listing and of derivation's specs: `Derivation g h t` says that t is a derivation of what was
+-- renders. The terms are those of specs/Conditions and of derivation's specs: `Derivation g h t` says that t is a derivation of what was
 -- heard, slots or a graph, `packed g h t` is its reading as it stands in the output, `outputLength g h` is L, `Before` is the order,
 -- `Number P n` says that n things have the property P, and `Rank g h t k` that k is 1 plus the number of derivations that come before t.
 use mathlib.Core.Path.{_≡_}
@@ -16,7 +16,7 @@ use Rattle.derivation.specs.Derivation.{Tree, Derivation}
 use Rattle.derivation.specs.Heard.{outputLength, packed}
 use Rattle.derivation.specs.Order.{Before}
 use Rattle.derivation.specs.Rank.{Number, Rank}
-use Rattle.listing.specs.Listing.{tableSize}
+use Rattle.listing.specs.Conditions.{tableSize}
 
 -- the kth L bytes of an output, k from 1
 abbrev pub kthBytes : ℕ → ℕ → List ℕ → List ℕ

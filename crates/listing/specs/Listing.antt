@@ -1,50 +1,26 @@
--- The listing: document 01, "Tables", "The list of demand 3" and the rows grammar block, utterance block and listing of
--- "Where each check stands"; document 02, N1, of slots and of word graphs, and N8, within the limits of the library or of the panel. Stands
--- on packing's and derivation's definitions.
-use mathlib.Core.Path.{_≡_}
+-- The listing as a function that can be run: what is asked for (Conditions), and then the first N of the sorted enumeration of derivation's
+-- HeardList, packed. Nobody need believe this page: Demand3 says by ranks what is listed, and proofs/Demand3 that this is it.
 use mathlib.Core.List.{List, [], _∷_, _++_, map}
-use Prim.Native.Nat.{ℕ, _+_, _*_, _/_, _≤_}
-use lib.Dec.{ltb}
+use Prim.Native.Nat.{ℕ}
 use lib.ListN.{length, drop, replicate}
-use Rattle.bits.specs.Bits.{pick}
-use Rattle.packing.specs.Meaning.{Grammar, Heard, lastPlace}
+use Rattle.packing.specs.Meaning.{Grammar, Heard}
 use Rattle.packing.specs.Parse.{Verdict, accepted, refused, _then_}
 use Rattle.packing.specs.Grammar.{grammarBlock}
 use Rattle.packing.specs.Heard.{heardBlock}
-use Rattle.derivation.specs.Heard.{outputLength, packed}
+use Rattle.derivation.specs.Heard.{packed}
 use Rattle.derivation.specs.HeardList.{leastDerivations}
+use Rattle.listing.specs.Conditions.{conditions}
 use Rattle.listing.specs.declared.Limits.{Limits}
 use Rattle.listing.specs.declared.Listed.{Listed}
 use Rattle.listing.specs.declared.Listed.the-variants.{Found, Refused}
 
--- the most slots, in a graph one less than its places, and the most readings: "The library keeps 24 and 256", the panel has "at most 12 slots and
--- 16 readings", "12 slots or 13 places"
-abbrev pub library : Limits
-library = record { slots = 24; readings = 256 }
+-- the N least readings, each packed as it stands in the output
+abbrev pub readingsOf : ℕ → Grammar × Heard → List (List ℕ)
+readingsOf N b = map (packed (b .0) (b .1)) (leastDerivations (b .0) (b .1) N)
 
-abbrev pub panel : Limits
-panel = record { slots = 12; readings = 16 }
-
--- what was heard, if both blocks are accepted, and N are within the limits
-pub record Within (l : Limits) (grammar heard : List ℕ) (N : ℕ) : Type 0 where
-  pub slots : (g : Grammar) (h : Heard) → grammarBlock grammar ≡ accepted g → heardBlock (g .words) heard ≡ accepted h → lastPlace h ≤ l .slots
-  pub readings : N ≤ l .readings
-
--- the numbers of work table that N readings need, for n slots; "Work is as for P−1 slots"
-unfoldable pub tableSize : ℕ → ℕ → ℕ → ℕ
-tableSize S n N = 4 * S * (n * (n + 1) / 2) * N
-
--- the conditions 57 ("after 16"), 21, 58 ("directly after 21"), 22 and 23, in this order, of a grammar and of what was heard, both accepted; then
--- the readings, each packed as it stands in the output
+-- of a grammar and of what was heard, both accepted
 unfoldable pub listed : Limits → Grammar → Heard → ℕ → ℕ → ℕ → Verdict (List (List ℕ))
-listed l g h N work out =
-    pick (ltb (l .slots) (lastPlace h)) (refused 57)
-    (pick (ltb N 1) (refused 21)
-    (pick (ltb 256 N) (refused 21)
-    (pick (ltb (l .readings) N) (refused 58)
-    (pick (ltb work (tableSize (g .symbols) (lastPlace h) N)) (refused 22)
-    (pick (ltb out (N * outputLength g h)) (refused 23)
-    (accepted (map (packed g h) (leastDerivations g h N))))))))
+listed l g h N work out = conditions l g h N work out then λ b. accepted (readingsOf N b)
 
 -- the readings found, or the refusal, for a work table and an output of these lengths
 unfoldable pub list : Limits → List ℕ → List ℕ → ℕ → ℕ → ℕ → Verdict (List (List ℕ))

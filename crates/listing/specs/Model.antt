@@ -6,25 +6,21 @@ use Prim.Native.Nat.{ℕ, _+_, _*_, _/_, _≤_}
 use lib.Dec.{ltb}
 use lib.ListN.{length, drop, replicate}
 use Rattle.bits.specs.Bits.{pick}
-use Rattle.packing.specs.Meaning.{Grammar, Heard, heardEdges}
-use Rattle.packing.specs.Parse.{Verdict, _then_}
-use Rattle.packing.specs.Flat.{Begins, ruleNumbers, edgeNumbers}
+use Rattle.packing.specs.Parse.{Verdict}
 use Rattle.packing.specs.Heard.{heardBlock}
 use Rattle.packing.specs.Loop.{iter}
 use Rattle.packing.specs.Store.{storeAll}
 use Rattle.packing.specs.Reading.{blockOfReading, readingLength}
 use Rattle.packing.specs.GraphReading.{blockOfGraphReading, graphReadingLength, padded}
-use Rattle.packing.specs.Valid.{ValidGrammar, ValidHeard}
-use Rattle.grammar_reader.specs.Answer.{sizes}
-use Rattle.grammar_reader.specs.declared.Sizes.{Sizes}
-use Rattle.heard_reader.specs.Answer.{heardSize}
-use Rattle.heard_reader.specs.declared.HeardSize.{HeardSize}
+use Rattle.inputs.specs.Inputs.{ReadOf}
+use Rattle.inputs.specs.declared.Inputs.{Inputs}
 use Rattle.reading_writer.specs.Answer.{readingOf}
 use Rattle.graph_reading_writer.specs.Answer.{graphReadingOf}
 use Rattle.chart_table.specs.declared.Layout.{Layout}
 use Rattle.chart_table.specs.Table.{clear}
 use Rattle.chart.specs.Chart.{enumerate, rootsFound, rootWeight, rootTrace}
-use Rattle.listing.specs.Listing.{tableSize, listed, listedOf, outputAfter, workAfter}
+use Rattle.listing.specs.Conditions.{tableSize}
+use Rattle.listing.specs.Listing.{list, listedOf, outputAfter, workAfter}
 use Rattle.listing.specs.declared.Asked.{Asked}
 use Rattle.listing.specs.declared.Listed.{Listed}
 use Rattle.listing.specs.declared.Form.{Form}
@@ -88,13 +84,8 @@ pub record Filled (rules : List ℕ) (f : Form) (edges : List ℕ) (E : ℕ) (d 
 abbrev pub Promised : Verdict (List (List ℕ)) → (work out : List ℕ) → Listed → (work′ out′ : List ℕ) → Type 0
 Promised v work out r work′ out′ = (r ≡ listedOf v) × ((work′ ≡ workAfter v work) × (out′ ≡ outputAfter v out))
 
--- what is promised where the edges of what was heard are in an array, and where the rules of a grammar are
-abbrev pub HeardListed : (rules : List ℕ) → Sizes → (edges : List ℕ) → HeardSize → Asked → (work out : List ℕ) → Listed → (work′ out′ : List ℕ) → Type 0
-HeardListed rules z edges y a work out r work′ out′ =
-    (g : Grammar) (h : Heard) → ValidGrammar g → ValidHeard (g .words) h → z ≡ sizes g → y ≡ heardSize h → Begins (ruleNumbers g) rules
-    → Begins (edgeNumbers (heardEdges h)) edges → Promised (listed (a .limits) g h (a .wanted) (length work) (length out)) work out r work′ out′
-
-abbrev pub GrammarListed : (rules : List ℕ) → Sizes → (heard : List ℕ) → Asked → (work out : List ℕ) → Listed → (work′ out′ : List ℕ) → Type 0
-GrammarListed rules z heard a work out r work′ out′ =
-    (g : Grammar) → ValidGrammar g → z ≡ sizes g → Begins (ruleNumbers g) rules
-    → Promised (heardBlock (g .words) heard then λ h. listed (a .limits) g h (a .wanted) (length work) (length out)) work out r work′ out′
+-- what is promised of inputs that were read
+abbrev pub ReadListed : (rules edges : List ℕ) → Inputs → Asked → (work out : List ℕ) → Listed → (work′ out′ : List ℕ) → Type 0
+ReadListed rules edges z a work out r work′ out′ =
+    (grammar heard rules₀ edges₀ : List ℕ) → ReadOf heardBlock grammar heard rules₀ edges₀ z rules edges
+    → Promised (list (a .limits) grammar heard (a .wanted) (length work) (length out)) work out r work′ out′

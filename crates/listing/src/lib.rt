@@ -1,13 +1,11 @@
 // The listing of the N least readings, within the limits of the library or of the panel.
 use chart_table::Layout;
 use chart_table::MOST_RANKS;
-use grammar_reader::GrammarRead;
-use grammar_reader::Sizes;
 use graph_reading_writer::graph_reading_length;
 use graph_reading_writer::write_graph_reading;
-use heard_reader::HeardRead;
-use heard_reader::HeardSize;
-use heard_reader::read_heard;
+use inputs::Inputs;
+use inputs::InputsRead;
+use inputs::read_inputs;
 use packing::format::EDGES_LENGTH;
 use packing::format::MAX_SLOTS;
 use packing::format::NUMBERS_PER_NODE;
@@ -20,12 +18,13 @@ ghost use mathlib.Core.Path.{_≡_};
 ghost use mathlib.Core.List.{_++_};
 ghost use Prim.Native.Nat.{_+_, _*_, _≤_, _<_};
 ghost use lib.ListN.{length, drop};
-ghost use Rattle.grammar_reader.specs.Answer.{Bounded};
+ghost use Rattle.inputs.specs.Inputs.{Bounds};
 ghost use Rattle.chart_table.specs.Table.{Sized};
 ghost use Rattle.chart.specs.Chart.{rootTrace};
-ghost use Rattle.listing.specs.Listing.{library, Within, list, listedOf, outputAfter, workAfter};
+ghost use Rattle.listing.specs.Conditions.{library, Within};
+ghost use Rattle.listing.specs.Listing.{list, listedOf, outputAfter, workAfter};
 ghost use Rattle.listing.specs.Demand3.{Demand3};
-ghost use Rattle.listing.specs.Model.{shortage, formOf, FormFor, traceAt, blockAt, blocksAt, Filled, HeardListed, GrammarListed};
+ghost use Rattle.listing.specs.Model.{shortage, formOf, FormFor, traceAt, blockAt, blocksAt, Filled, ReadListed};
 
 // What the listing answers: the number found.
 pub enum Listed {
@@ -179,47 +178,27 @@ fn fill(
     m
 }
 
-// The listing of what was heard, its edges in an array, under an accepted grammar.
-fn list_heard(
+// The listing of inputs that were read, their rules and edges in arrays.
+fn list_read(
     rules: &[u32],
-    sizes: Sizes,
     edges: &[u32],
-    heard: HeardSize,
+    inputs: Inputs,
     asked: Asked,
     work: &mut [u32],
     out: &mut [u8],
 ) -> Listed
-    requires { ⌜ (Bounded sizes) × (1 ≤ heard .last) × (heard .last ≤ 24) × (heard .edges ≤ 168) ⌝ }
-    ensures { λ r. ⌜ HeardListed (now (rules .entry)) sizes (now (edges .entry)) heard asked (now (work .entry)) (now (out .entry)) r (now (work .exit)) (now (out .exit)) ⌝ }
+    requires { ⌜ Bounds inputs ⌝ }
+    ensures { λ r. ⌜ ReadListed (now (rules .entry)) (now (edges .entry)) inputs asked (now (work .entry)) (now (out .entry)) r (now (work .exit)) (now (out .exit)) ⌝ }
 {
-    let symbols = sizes.symbols as usize;
-    let last = heard.last;
-    let form = form_of(heard.graph, last, sizes.rules as usize);
+    let symbols = inputs.sizes.symbols as usize;
+    let last = inputs.heard.last;
+    let form = form_of(inputs.heard.graph, last, inputs.sizes.rules as usize);
     let refusal = shortage(asked, symbols, last, form.size, work.len(), out.len());
     if refusal != 0 {
         return Listed::Refused(refusal);
     }
     let d = chart::lay_out(symbols, last, asked.wanted as usize);
-    Listed::Found(fill(rules, form, edges, heard.edges, d, work, out))
-}
-
-// The listing of a block of slots or of a graph under an accepted grammar.
-fn list_grammar(
-    rules: &[u32],
-    sizes: Sizes,
-    heard: &[u8],
-    asked: Asked,
-    work: &mut [u32],
-    out: &mut [u8],
-) -> Listed
-    requires { ⌜ Bounded sizes ⌝ }
-    ensures { λ r. ⌜ GrammarListed (now (rules .entry)) sizes (now (heard .entry)) asked (now (work .entry)) (now (out .entry)) r (now (work .exit)) (now (out .exit)) ⌝ }
-{
-    let mut edges = [0u32; EDGES_LENGTH];
-    match read_heard(heard, sizes.words, &mut edges) {
-        HeardRead::Refused(n) => Listed::Refused(n),
-        HeardRead::Heard(size) => { list_heard(rules, sizes, &edges, size, asked, work, out) }
-    }
+    Listed::Found(fill(rules, form, edges, inputs.heard.edges, d, work, out))
 }
 
 // The N least readings of what was heard, slots or a graph, under the grammar, one after another into `out`, with a work table that
@@ -238,10 +217,11 @@ pub fn listing_within(
     ensures { λ r. ⌜ (Within limits (now (grammar .entry)) (now (heard .entry)) wanted → Demand3 (now (grammar .entry)) (now (heard .entry)) wanted (now (work .entry)) (now (out .entry)) (λ m. r ≡ Listed.Found m) (now (work .exit)) (now (out .exit))) ⌝ }
 {
     let mut rules = [0u32; RULES_LENGTH];
-    match grammar_reader::read_block(grammar, &mut rules) {
-        GrammarRead::Refused(n) => Listed::Refused(n),
-        GrammarRead::Grammar(sizes) => {
-            list_grammar(&rules, sizes, heard, Asked { limits, wanted }, work, out)
+    let mut edges = [0u32; EDGES_LENGTH];
+    match read_inputs(grammar, heard, &mut rules, &mut edges) {
+        InputsRead::Refused(n) => Listed::Refused(n),
+        InputsRead::Read(inputs) => {
+            list_read(&rules, &edges, inputs, Asked { limits, wanted }, work, out)
         }
     }
 }

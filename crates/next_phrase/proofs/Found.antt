@@ -1,213 +1,102 @@
--- The table holds the least string of each symbol over its places, of words that may stand there; so the search finds the next phrase: what
--- first differs at a later place comes first. Assumes nothing.
-use mathlib.Core.Path.{_≡_, refl, sym, ap, _∙_}
-use mathlib.Core.Logic.{_⊎_, inl, inr, ⊎-elim}
+-- The number at the start's cell tells the answer: the least phrase above s, or the least, or that there is none. Assumes nothing.
+use mathlib.Core.Path.{_≡_, refl, ap}
 use mathlib.Core.Bool.{Bool, true, false}
-use mathlib.Core.Option.{none, some}
+use mathlib.Core.Option.{Option}
 use mathlib.Core.List.{List, _++_}
-use Prim.Native.Nat.{ℕ, zero, suc, _+_, _-_, _*_, _/_, _%_, _≤_, _<_}
-use native.Mathlib.Decide.{ℕ-discrete}
+use Prim.Native.Nat.{ℕ, _+_, _≤_, _<_}
 use native.Mathlib.Omega.{arith}
-use borrow.Author.Tests.{eqb-true, eqb-false, ltb-true, ltb-false}
-use lib.Dec.{eqb, ltb}
-use lib.ListN.{length, getD, take, replicate}
-use lib.Seq.{slice, paste, length-take-le}
+use lib.Dec.{eqb}
+use lib.ListN.{length, take, drop, replicate, length-replicate, getD-replicate}
+use lib.Seq.{length-take-le}
 use Rattle.bits.specs.Bits.{pick}
 use Rattle.packing.specs.Flat.{Begins, ruleNumbers}
 use Rattle.packing.specs.Meaning.{Grammar, symbolOf}
 use Rattle.packing.specs.Parse.{accepted}
 use Rattle.packing.specs.Valid.{ValidGrammar}
-use Rattle.packing.specs.declared.Sym.{Sym}
 use Rattle.derivation.proofs.Ranges.{valid-sizes}
 use Rattle.grammar_reader.specs.declared.Sizes.{Sizes}
 use Rattle.grammar_reader.specs.Answer.{sizes}
-use Rattle.phrases.specs.Phrases.{Phrase, Precedes, Least}
-use Rattle.phrases.specs.Enumeration.{nextPhrase}
-use Rattle.phrases.specs.Recursion.{leastOver, allows}
-use Rattle.phrases.specs.Padded.{noString, padded, stringAt}
+use Rattle.phrases.specs.Phrases.{Phrase, Precedes}
+use Rattle.phrases.specs.Enumeration.{firstPhrase, nextPhrase}
+use Rattle.phrases.specs.Numbers.{placed, noNumber, Bytes}
 use Rattle.phrases.proofs.Yields.{says-yields, yields-says}
-use Rattle.phrases.proofs.Least.{Property, nothing, first, least-unique}
-use Rattle.phrases.proofs.Enumeration.{true≢false}
-use Rattle.phrases.proofs.Theorems.{nextPhrase-least}
+use Rattle.phrases.proofs.Least.{Property, LeastOrNone, first, least-unique}
+use Rattle.phrases.proofs.Theorems.{yields-below, firstPhrase-least, nextPhrase-least}
 use Rattle.phrases.proofs.Cell.{Of}
-use Rattle.phrases.proofs.Above.{Differs, differs-precedes, precedes-differs, differs-order, fits-differs, differs-fits}
-use Rattle.phrases.proofs.Keeping.{Finds, Over, each, string, sized-of, leastOver-is}
-use Rattle.phrases.proofs.Filled.{filled}
-use Rattle.phrases.proofs.Padded.{Pads, word-first, padded-keeps, string-fits, strings-table}
+use Rattle.phrases.proofs.Numbers.{Kept, kept-same, kept-nothing, kept-first, below-bytes}
 use Rattle.specimen.specs.Specimen.{answeredOf, outputOf}
-use Rattle.specimen.specs.Table.{fittedAt}
 use Rattle.specimen.specs.declared.Answered.the-variants.{Written, Nothing}
-use Rattle.specimen.proofs.Parts.{lent, lent-is, first-byte}
-use Rattle.specimen.proofs.Said.{stored, written-told}
-use Rattle.next_phrase.specs.Table.{cellOver, leastOfCell, fillTable, startAt, searched}
+use Rattle.next_phrase.specs.Table.{cellOver, cellAt, fillTable, askedOf}
+use Rattle.next_phrase.specs.declared.Cell.{Cell}
+use Rattle.next_phrase.proofs.Cells.{Holds}
+use Rattle.next_phrase.proofs.Right.{start-holds}
 
--- the search tells whether there is a string with the property, and the table then has the least at the cell c
-pub data Hits (n c : ℕ) (P : Property) : Bool × List ℕ → Type 0 where
-  hit : {u s : List ℕ} → Least P s → Pads n (some s) (stringAt u c) → Hits n c P (true, u)
-  miss : {u : List ℕ} → ((s : List ℕ) → P s → ⊥) → Hits n c P (false, u)
+-- o is the least string of n bytes with some property, or none, and c keeps it
+record Finds (n : ℕ) (o : Option (List ℕ)) (c : ℕ) : Type 1 where
+  P : Property
+  sized : (t : List ℕ) → P t → (length t ≡ n) × Bytes t
+  least : LeastOrNone P o
+  kept : Kept 6 P c
 
-hits-same : {n c : ℕ} {P Q : Property} {x : Bool × List ℕ} → ((s : List ℕ) → P s → Q s) → ((s : List ℕ) → Q s → P s) → Hits n c P x → Hits n c Q x
-hits-same f g (hit (p, l) e) = hit (f _ p, λ t q. l t (g t q)) e
-hits-same f g (miss never) = miss (λ s q. never s (g s q))
+module _ (n : ℕ) (h : n ≤ 6) {o : Option (List ℕ)} {c : ℕ} (f : Finds n o c) (out : List ℕ) where
+  nothing-told : noNumber ≤ c → (Nothing ≡ answeredOf (accepted o)) × (out ≡ outputOf (accepted o) out)
+  nothing-told b = rw (least-unique (f .least) (kept-nothing n h (f .sized) (f .kept) b)) (refl, refl)
 
-module _ (g : Grammar) (v : ValidGrammar g) (rules : List ℕ) (b : Begins (ruleNumbers g) rules) (s : List ℕ) (pos : 0 < length s) (most : length s ≤ 6) where
-  module _ (p : ℕ) where
-    abbrev Right : ℕ → List ℕ → Type 0
-    Right c x =
-        (length x ≡ 24)
-        × (c / 32 % 6 + (c / 192 + 1) ≤ length s → Finds Pads (c / 192 + 1) (Over g (allows s p) (symbolOf (c % 32)) (c / 32 % 6) (c / 192 + 1)) x)
+  written-told : c < noNumber → {exit : List ℕ} → ((t : List ℕ) → length t ≡ n → Bytes t → c ≡ placed 6 t → exit ≡ t ++ drop n out)
+      → (Written ≡ answeredOf (accepted o)) × (exit ≡ outputOf (accepted o) out)
+  written-told b w =
+      let (t, m, e) = kept-first n h (f .sized) (f .kept) b in
+      let (z, y) = f .sized t (m .0) in
+      rw (least-unique (f .least) (first m), z) (refl, w t z y e)
 
-    of-cell : (A : Sym) (i m : ℕ) → A .0 < 32 → 0 < m → i + m ≤ length s → {x : List ℕ} → Right (cellOver A i m) x
-        → Finds Pads m (Over g (allows s p) A i m) x
-    of-cell A i m a q h f =
-        let e₁ : cellOver A i m / 192 + 1 ≡ m = omega arith in
-        let e₂ : cellOver A i m / 32 % 6 ≡ i = omega arith in
-        let e₃ : cellOver A i m % 32 ≡ A .0 = omega arith in
-        (rw (e₁, e₂, e₃) at (f .1)) h
+module _ (g : Grammar) (v : ValidGrammar g) where
+  phrase-sized : (n : ℕ) (t : List ℕ) → Phrase g n t → (length t ≡ n) × Bytes t
+  phrase-sized n t (l, y) = (l, below-bytes (g .words) (let few = valid-sizes g v .3 in omega arith) t (yields-below g v (says-yields g t y)))
 
-    cell : (t : List ℕ) (c : ℕ) → c < 192 * length s → ((d : ℕ) → d < c → Right d (stringAt t d)) → Right c (leastOfCell rules (length (g .rules)) s p t c)
-    unfolding leastOfCell
-    cell t c l done = go (ltb (length s) (c / 32 % 6 + (c / 192 + 1))) refl
-      where
-        go : (x : Bool) → ltb (length s) (c / 32 % 6 + (c / 192 + 1)) ≡ x
-            → Right c (pick x noString (leastOver padded (fittedAt rules) (length (g .rules)) (allows s p) (λ B q j. stringAt t (cellOver B q j)) (symbolOf (c % 32)) (c / 32 % 6) (c / 192 + 1)))
-        go true e = (refl, λ h. absurd (omega (arith, ltb-true (length s) (c / 32 % 6 + (c / 192 + 1)) e)))
-        go false e =
-            let within : c / 32 % 6 + (c / 192 + 1) ≤ length s = ltb-false (length s) (c / 32 % 6 + (c / 192 + 1)) e in
-            let few = valid-sizes g v .1 in
-            let found = leastOver-is g v (fittedAt rules) (stored g v rules b) (padded-keeps (g .words) (valid-sizes g v .3)) (allows s p)
-            (symbolOf (c % 32)) (c / 32 % 6) (c / 192 + 1) (omega arith) (omega arith) (λ B q j. stringAt t (cellOver B q j))
-            (λ B q j k r z w. of-cell B q j (omega arith) r (omega arith) (done (cellOver B q j) (omega arith))) in (
-              string-fits (g .words) (c / 192 + 1) (found .0) _ (omega arith) (each (λ t o. sized-of g v (symbolOf (c % 32)) (c / 192 + 1) t (o .0)) (found .1)) (found .2),
-              λ h. found,
-            )
+  finds-above : (s : List ℕ) (c : Cell) → Holds 6 s (Of g (symbolOf 0) (length s)) c → Finds (length s) (nextPhrase g (length s) s) (c .above)
+  finds-above s c (a, b, d) = record {
+    P = λ t. Phrase g (length s) t × Precedes s t;
+    sized = λ t z. phrase-sized (length s) t (z .0);
+    least = nextPhrase-least g (length s) v s;
+    kept = kept-same (λ t z. ((z .0 .0, yields-says g t (z .0 .1)), z .1)) (λ t z. ((z .0 .0, says-yields g t (z .0 .1)), z .1)) b;
+  }
 
-    module _ (t : List ℕ) (room : 4608 * length s ≤ length t) where
-      table-filled : (4608 * length s ≤ length (fillTable rules (length (g .rules)) s p t))
-          × ((c : ℕ) → c < 192 * length s → Right c (stringAt (fillTable rules (length (g .rules)) s p t) c))
-      table-filled =
-          let (r, f) = filled (strings-table (192 * length s)) Right (leastOfCell rules (length (g .rules)) s p) (192 * length s) (omega arith) (λ c x l f. f .0) cell t (omega arith) in
-          (omega arith, f)
+  finds-least : (s : List ℕ) (c : Cell) → Holds 6 s (Of g (symbolOf 0) (length s)) c → Finds (length s) (firstPhrase g (length s)) (c .least)
+  finds-least s c (a, b, d) = record {
+    P = Phrase g (length s);
+    sized = phrase-sized (length s);
+    least = firstPhrase-least g (length s) v;
+    kept = kept-same (λ t z. (z .0, yields-says g t (z .1))) (λ t z. (z .0, says-yields g t (z .1))) d;
+  }
 
-      start-found : Finds Pads (length s) (Over g (allows s p) (symbolOf 0) 0 (length s))
-          (stringAt (fillTable rules (length (g .rules)) s p t) (cellOver (symbolOf 0) 0 (length s)))
-      start-found = of-cell (symbolOf 0) 0 (length s) (omega arith) pos (omega arith) (table-filled .1 (cellOver (symbolOf 0) 0 (length s)) (omega arith))
-
-  -- what differs at a place below q
-  abbrev Below : ℕ → Property
-  Below q t = Of g (symbolOf 0) (length s) t × ((p : ℕ) × (p < q) × Differs s p t)
-
-  below-more : (q : ℕ) (t : List ℕ) → Below (suc q) t → Below q t ⊎ (Of g (symbolOf 0) (length s) t × Differs s q t)
-  below-more q t (o, (p, l, d)) = go (ℕ-discrete p q)
+  finds-asked : (call : ℕ) (s : List ℕ) (c : Cell) → Holds 6 s (Of g (symbolOf 0) (length s)) c
+      → Finds (length s) (pick (eqb call 0) (nextPhrase g (length s) s) (firstPhrase g (length s))) (askedOf call c)
+  finds-asked call s c k = go (eqb call 0)
     where
-      go : Dec (p ≡ q) → Below q t ⊎ (Of g (symbolOf 0) (length s) t × Differs s q t)
-      go (yes e) = inr (o, rw e at d)
-      go (no e) = inl (o, (p, omega arith, d))
+      go : (x : Bool) → Finds (length s) (pick x (nextPhrase g (length s) s) (firstPhrase g (length s))) (pick x (c .above) (c .least))
+      go true = finds-above s c k
+      go false = finds-least s c k
 
-  less-below : (q : ℕ) (t : List ℕ) → Below q t → Below (suc q) t
-  less-below q t (o, (p, l, d)) = (o, (p, omega arith, d))
+-- from what the code knows: the table, the start's cell, and what is asked for of it
+module _ (n call : ℕ) (pos : 0 < n) (most : n ≤ 6) (out : List ℕ) (room : n ≤ length out) (z : Sizes) (rules : List ℕ)
+    {full : List ℕ} (p : full ≡ fillTable rules (z .rules) (take n out) (replicate 3456 noNumber))
+    {at : ℕ} (q : at ≡ cellOver (symbolOf 0) 0 n) {cell : Cell} (r : cell ≡ cellAt full at) {found : ℕ} (f : found ≡ askedOf call cell)
+    (g : Grammar) (e : z ≡ sizes g) (v : ValidGrammar g) (begins : Begins (ruleNumbers g) rules) where
+  finds : Finds n (pick (eqb call 0) (nextPhrase g n (take n out)) (firstPhrase g n)) found
+  finds =
+      let size = length-take-le n out room in
+      let k = start-holds g v rules begins (take n out) (omega (arith, size)) (replicate 3456 noNumber) (length-replicate 3456 noNumber)
+      (λ y l. getD-replicate 3456 y noNumber 0 l) (omega (arith, size)) in
+      let w : fillTable rules (z .rules) (take n out) (replicate 3456 noNumber) ≡ fillTable rules (length (g .rules)) (take n out) (replicate 3456 noNumber) =
+      ap (λ (y : Sizes). fillTable rules (y .rules) (take n out) (replicate 3456 noNumber)) e in
+      rw (f, r, q, p, w) (rw size at (finds-asked g v call (take n out) _ k))
 
-  -- one place more: it has strings, and the least of them is the least of all; or it has none
-  some-here : (q : ℕ) → q < length s → (t : List ℕ) → Least (Over g (allows s q) (symbolOf 0) 0 (length s)) t → Least (Below (suc q)) t
-  some-here q h t ((o, f), l) = (
-    (o, (q, omega arith, fits-differs s q t f)),
-    (λ u z. ⊎-elim
-        (λ (a, (p, k, d)). inr (differs-order s t u q p (sym (o .0)) (sym (a .0)) k (let e = o .0 in omega arith) (fits-differs s q t f) d))
-        (λ (a, d). l u (a, differs-fits s q u d)) (below-more q u z)),
-  )
+  pub nothing-said : noNumber ≤ found
+      → (Nothing ≡ answeredOf (accepted (pick (eqb call 0) (nextPhrase g n (take n out)) (firstPhrase g n))))
+      × (out ≡ outputOf (accepted (pick (eqb call 0) (nextPhrase g n (take n out)) (firstPhrase g n))) out)
+  nothing-said l = nothing-told n most finds out l
 
-  none-here : (q : ℕ) → ((t : List ℕ) → Over g (allows s q) (symbolOf 0) 0 (length s) t → ⊥) → (t : List ℕ) → Below (suc q) t → Below q t
-  none-here q never t z = ⊎-elim (λ y. y) (λ (a, d). absurd (never t (a, differs-fits s q t d))) (below-more q t z)
-
-  searched-is : (q : ℕ) → q ≤ length s → (t : List ℕ) → 4608 * length s ≤ length t
-      → Hits (length s) (cellOver (symbolOf 0) 0 (length s)) (Below q) (searched rules (length (g .rules)) s q t)
-  unfolding searched
-  searched-is zero h t room = miss (λ u (o, (p, l, d)). absurd (omega arith))
-  searched-is (suc q) h t room =
-      go (eqb (getD u (startAt s) 0) 255) refl (start-found q t room) (searched-is q (omega arith) u (table-filled q t room .0))
-    where
-      u : List ℕ
-      u = fillTable rules (length (g .rules)) s q t
-
-      begins : getD (stringAt u (cellOver (symbolOf 0) 0 (length s))) 0 0 ≡ getD u (startAt s) 0
-      begins = first-byte u (startAt s)
-
-      go : (x : Bool) → eqb (getD u (startAt s) 0) 255 ≡ x
-          → Finds Pads (length s) (Over g (allows s q) (symbolOf 0) 0 (length s)) (stringAt u (cellOver (symbolOf 0) 0 (length s)))
-          → Hits (length s) (cellOver (symbolOf 0) 0 (length s)) (Below q) (searched rules (length (g .rules)) s q u)
-          → Hits (length s) (cellOver (symbolOf 0) 0 (length s)) (Below (suc q)) (pick x (searched rules (length (g .rules)) s q u) (true, u))
-      go true e (none, nothing never, k) rest = hits-same (less-below q) (none-here q never) rest
-      go true e (some t, first l, k) rest =
-          let z = word-first (g .words) (valid-sizes g v .3) (length s) t (replicate (24 - length s) 0) pos (sized-of g v (symbolOf 0) (length s) t (l .0 .0)) in
-          let y : getD (t ++ replicate (24 - length s) 0) 0 0 ≡ 255 = rw k at (begins ∙ eqb-true _ _ e) in
-          absurd (omega arith)
-      go false e (none, nothing never, k) rest = absurd (eqb-false _ _ e (sym begins ∙ ap (λ (l : List ℕ). getD l 0 0) k))
-      go false e (some t, first l, k) rest = hit (some-here q (omega arith) t l) k
-
-  -- so the search finds the least phrase above s
-  abbrev Above : Property
-  Above t = Phrase g (length s) t × Precedes s t
-
-  next-hits : (t : List ℕ) → 4608 * length s ≤ length t
-      → Hits (length s) (cellOver (symbolOf 0) 0 (length s)) Above (searched rules (length (g .rules)) s (length s) t)
-  next-hits t room =
-      hits-same
-      (λ u (o, (p, l, d)). ((o .0, yields-says g u (o .1)), differs-precedes s u p (sym (o .0)) (let e = o .0 in omega arith) d))
-      (λ u (o, h). ((o .0, says-yields g u (o .1)), (let (p, l, d) = precedes-differs s u (sym (o .0)) h in (p, (let e = o .0 in omega arith), d))))
-      (searched-is (length s) (omega arith) t room)
-
-  -- from what the code knows: whether the search found a string, and the table
-  module _ (z : Sizes) (e : z ≡ sizes g) (t : List ℕ) (room : length t ≡ 27648) {found : Bool} {full : List ℕ}
-      (p : found ≡ searched rules (z .rules) s (length s) t .0) (q : full ≡ searched rules (z .rules) s (length s) t .1) where
-    known : Hits (length s) (cellOver (symbolOf 0) 0 (length s)) Above (found, full)
-    known =
-        let r : searched rules (z .rules) s (length s) t ≡ searched rules (length (g .rules)) s (length s) t = ap (λ (y : Sizes). searched rules (y .rules) s (length s) t) e in
-        rw (p, q, r) (next-hits t (omega arith))
-
-    pub nothing-said : (out : List ℕ) → found ≡ false
-        → (Nothing ≡ answeredOf (accepted (nextPhrase g (length s) s))) × (out ≡ outputOf (accepted (nextPhrase g (length s) s)) out)
-    nothing-said out h = go known h
-      where
-        go : {x : Bool × List ℕ} → Hits (length s) (cellOver (symbolOf 0) 0 (length s)) Above x → x .0 ≡ false
-            → (Nothing ≡ answeredOf (accepted (nextPhrase g (length s) s))) × (out ≡ outputOf (accepted (nextPhrase g (length s) s)) out)
-        go (hit l k) h = absurd (true≢false h)
-        go (miss never) h = rw (least-unique (nextPhrase-least g (length s) v s) (nothing never)) (refl, refl)
-
-    pub string-said : (out : List ℕ) {exit : List ℕ} {at : ℕ} → found ≡ true → at ≡ startAt s → exit ≡ paste out 0 (lent full at) (length s)
-        → (Written ≡ answeredOf (accepted (nextPhrase g (length s) s))) × (exit ≡ outputOf (accepted (nextPhrase g (length s) s)) out)
-    string-said out {exit} {at} h a w = go known h (w ∙ ap (λ (l : List ℕ). paste out 0 l (length s)) (lent-is full at ∙ ap (λ (n : ℕ). slice n (n + 24) full) a))
-      where
-        go : {x : Bool × List ℕ} → Hits (length s) (cellOver (symbolOf 0) 0 (length s)) Above x → x .0 ≡ true
-            → exit ≡ paste out 0 (stringAt (x .1) (cellOver (symbolOf 0) 0 (length s))) (length s)
-            → (Written ≡ answeredOf (accepted (nextPhrase g (length s) s))) × (exit ≡ outputOf (accepted (nextPhrase g (length s) s)) out)
-        go (miss never) h w = absurd (true≢false (sym h))
-        go (hit {u} {s = t} l k) h w =
-            let sized = sized-of g v (symbolOf 0) (length s) t (l .0 .0 .0, says-yields g t (l .0 .0 .1)) in
-            let z = word-first (g .words) (valid-sizes g v .3) (length s) t (replicate (24 - length s) 0) pos sized in
-            let told = written-told (g .words) (length s) (valid-sizes g v .3) pos (some t) (stringAt u (cellOver (symbolOf 0) 0 (length s))) out (string sized) k
-            (λ y. let n : getD (t ++ replicate (24 - length s) 0) 0 0 ≡ 255 = rw k at y in omega arith) in
-            rw (least-unique (nextPhrase-least g (length s) v s) (first l)) (told .0, w ∙ told .1)
-
--- the same where s is what the output's first n bytes are
-pub start-is : (n : ℕ) (out : List ℕ) → n ≤ length out → {at : ℕ} → at ≡ 24 * cellOver (symbolOf 0) 0 n → at ≡ startAt (take n out)
-start-is n out h p = rw (length-take-le n out h) p
-
-pub front-short : (n : ℕ) (out : List ℕ) → n ≤ length out → n ≤ 6 → length (take n out) ≤ 6
-front-short n out h k = omega (arith, length-take-le n out h)
-
-module _ (g : Grammar) (v : ValidGrammar g) (rules : List ℕ) (b : Begins (ruleNumbers g) rules) (n : ℕ) (pos : 0 < n) (most : n ≤ 6)
-    (out : List ℕ) (fits : n ≤ length out) (z : Sizes) (e : z ≡ sizes g) (t : List ℕ) (room : length t ≡ 27648) {found : Bool} {full : List ℕ}
-    (p : found ≡ searched rules (z .rules) (take n out) (length (take n out)) t .0)
-    (q : full ≡ searched rules (z .rules) (take n out) (length (take n out)) t .1) where
-  size : length (take n out) ≡ n
-  size = length-take-le n out fits
-
-  pub later-nothing : found ≡ false
-      → (Nothing ≡ answeredOf (accepted (nextPhrase g n (take n out)))) × (out ≡ outputOf (accepted (nextPhrase g n (take n out))) out)
-  later-nothing h = rw size at (nothing-said g v rules b (take n out) (omega (arith, size)) (omega (arith, size)) z e t room p q out h)
-
-  pub later-string : {exit : List ℕ} {at : ℕ} → found ≡ true → at ≡ 24 * cellOver (symbolOf 0) 0 n → exit ≡ paste out 0 (lent full at) n
-      → (Written ≡ answeredOf (accepted (nextPhrase g n (take n out)))) × (exit ≡ outputOf (accepted (nextPhrase g n (take n out))) out)
-  later-string {exit} {at} h a w =
-      let copied : exit ≡ paste out 0 (lent full at) (length (take n out)) = rw size w in
-      rw size at (string-said g v rules b (take n out) (omega (arith, size)) (omega (arith, size)) z e t room p q out h (start-is n out fits a) copied)
+  pub string-said : found < noNumber → {exit : List ℕ} → ((t : List ℕ) → length t ≡ n → Bytes t → found ≡ placed 6 t → exit ≡ t ++ drop n out)
+      → (Written ≡ answeredOf (accepted (pick (eqb call 0) (nextPhrase g n (take n out)) (firstPhrase g n))))
+      × (exit ≡ outputOf (accepted (pick (eqb call 0) (nextPhrase g n (take n out)) (firstPhrase g n))) out)
+  string-said l w = written-told n most finds out l w

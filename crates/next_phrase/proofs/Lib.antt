@@ -1,4 +1,6 @@
-pub mod Parts
-pub mod Places
-pub mod Found
 pub mod Told
+pub mod Digits
+pub mod Cells
+pub mod Parts
+pub mod Right
+pub mod Found

@@ -2,14 +2,14 @@
 use mathlib.Core.Path.{_≡_}
 use mathlib.Core.List.{List}
 use Prim.Native.Nat.{ℕ}
-use borrow.Author.Tests.{eq-eqb, ne-eqb}
 use lib.Dec.{eqb}
 use lib.ListN.{length, take}
 use Rattle.bits.specs.Bits.{pick}
 use Rattle.packing.specs.Meaning.{Grammar}
 use Rattle.packing.specs.Parse.{accepted, refused}
 use Rattle.phrases.specs.Enumeration.{firstPhrase, nextPhrase}
-use Rattle.specimen.specs.Specimen.{asked, answeredOf, outputOf}
+use Rattle.specimen.specs.Conditions.{asked}
+use Rattle.specimen.specs.Specimen.{answeredOf, outputOf}
 use Rattle.specimen.specs.declared.Answered.the-variants.{Refused}
 use Rattle.specimen.proofs.Asked.{refused-told}
 use Rattle.next_phrase.specs.NextPhrase.{next}
@@ -19,11 +19,7 @@ module _ (s : List ℕ) (n call : ℕ) (out : List ℕ) where
   unfolding next
   next-refused e = refused-told (asked 6 s n (length out)) (λ g. pick (eqb call 0) (nextPhrase g n (take n out)) (firstPhrase g n)) out e
 
-  module _ {g : Grammar} (e : asked 6 s n (length out) ≡ accepted g) where
-    pub next-later : call ≡ 0 → next s n call out ≡ accepted (nextPhrase g n (take n out))
-    unfolding next
-    next-later h = rw (e, eq-eqb call 0 h)
-
-    pub next-first : (call ≡ 0 → ⊥) → next s n call out ≡ accepted (firstPhrase g n)
-    unfolding next
-    next-first h = rw (e, ne-eqb call 0 h)
+  pub next-told : {g : Grammar} → asked 6 s n (length out) ≡ accepted g
+      → next s n call out ≡ accepted (pick (eqb call 0) (nextPhrase g n (take n out)) (firstPhrase g n))
+  unfolding next
+  next-told e = rw e

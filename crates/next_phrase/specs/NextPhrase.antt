@@ -1,4 +1,5 @@
--- The next phrase: document 02, N9. Stands on packing's, phrases' and specimen's definitions.
+-- The next phrase as a function that can be run: document 02, N9, by the enumeration of phrases. Nobody need believe this page: phrases' theorems say
+-- that it is the least phrase above the one at hand.
 use mathlib.Core.Option.{Option}
 use mathlib.Core.List.{List}
 use Prim.Native.Nat.{ℕ}
@@ -7,7 +8,7 @@ use lib.ListN.{length, take}
 use Rattle.bits.specs.Bits.{pick}
 use Rattle.packing.specs.Parse.{Verdict, accepted, _then_}
 use Rattle.phrases.specs.Enumeration.{firstPhrase, nextPhrase}
-use Rattle.specimen.specs.Specimen.{asked}
+use Rattle.specimen.specs.Conditions.{asked}
 
 -- "The caller says whether a call is the first. The first call gives the specimen, or "end" if there is none. A later call finds some string
 -- in the output and writes the least derivable one above it, or says "end" and writes nothing. 25 means outside 1 to 6 here; 26 applies."

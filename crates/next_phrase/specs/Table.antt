@@ -1,56 +1,79 @@
--- The next phrase's code as functions on lists of numbers: a table of padded strings, one for each symbol, place and length, shorter
--- lengths first, filled anew for each place at which a string above s can first differ from it. Nobody need believe this page: proofs/ has
--- that what is found so is what NextPhrase says. Assumes nothing.
-use mathlib.Core.Bool.{Bool, true, false}
+-- The next phrase's code as functions on lists of numbers: a table with three numbers for each symbol and part of a string s, filled part by
+-- part, shorter ones first, and rule by rule. Nobody need believe this page: proofs/ has that what is found so is what NextPhrase says.
+-- Assumes nothing.
 use mathlib.Core.List.{List}
-use Prim.Native.Nat.{ℕ, zero, suc, _+_, _-_, _*_, _/_, _%_}
+use Prim.Native.Nat.{ℕ, _+_, _-_, _*_, _/_, _%_}
 use lib.Dec.{eqb, ltb}
-use lib.ListN.{length, getD}
+use lib.ListN.{length, getD, set}
 use Rattle.bits.specs.Bits.{pick}
 use Rattle.packing.specs.Loop.{iter}
 use Rattle.packing.specs.Meaning.{symbolOf}
 use Rattle.packing.specs.declared.Sym.{Sym}
 use Rattle.packing.specs.declared.Rule.{Rule}
-use Rattle.phrases.specs.Recursion.{byRule, fill, leastOver, allows}
-use Rattle.phrases.specs.Padded.{noString, lesserWord, lesserJoin, padded, stringAt, putString}
+use Rattle.phrases.specs.Recursion.{made}
+use Rattle.phrases.specs.Numbers.{scale, noNumber, lesser}
 use Rattle.specimen.specs.Table.{fittedAt}
+use Rattle.next_phrase.specs.declared.Cell.{Cell}
 
--- the cell of symbol A over m places from place i on
+-- the cell of symbol A over the part of m words from place i on, read and put
 abbrev pub cellOver : Sym → ℕ → ℕ → ℕ
 cellOver A i m = ((m - 1) * 6 + i) * 32 + A .0
 
--- the lesser of the best string and of two joined, with a left part of length j; of such for every j; of a word that may stand at place i; of
--- what a rule makes
-unfoldable pub lesserSplit : List ℕ → ℕ → ℕ → Sym → Sym → ℕ → List ℕ → List ℕ
-unfolding lesserJoin
-lesserSplit t i m b c j best = lesserJoin best (stringAt t (cellOver b i j)) (stringAt t (cellOver c (i + j) (m - j))) j
+abbrev pub cellAt : List ℕ → ℕ → Cell
+cellAt t c = record { same = getD t (3 * c) 0; above = getD t (3 * c + 1) 0; least = getD t (3 * c + 2) 0 }
 
-abbrev pub lesserPair : List ℕ → ℕ → ℕ → Sym → Sym → List ℕ → List ℕ
-lesserPair t i m b c best = iter (λ x y. lesserSplit t i m b c (y + 1) x) best (m - 1)
+abbrev pub putCell : List ℕ → ℕ → Cell → List ℕ
+putCell t c x = set (set (set t (3 * c) (x .same)) (3 * c + 1) (x .above)) (3 * c + 2) (x .least)
 
-abbrev pub lesserWordAt : List ℕ → ℕ → ℕ → ℕ → List ℕ → List ℕ
-lesserWordAt s p i x best = pick (allows s p i x) (lesserWord best x) best
+-- two joined, none if one is none
+abbrev pub sum : ℕ → ℕ → ℕ
+sum u v = lesser u noNumber + lesser v noNumber
 
-unfoldable pub lesserRule : List ℕ → List ℕ → ℕ → Sym → ℕ → ℕ → List ℕ → Rule → List ℕ
-unfolding byRule
-lesserRule t s p a i m best rule = byRule (lesserSplit t i m) (lesserWordAt s p i) a m best rule
+-- a cell with the strings joined of two parts', and with a word x, of some value, at a place where s has y
+unfoldable pub withJoined : Cell → Cell → Cell → Cell
+unfolding lesser
+withJoined b c best = record {
+  same = lesser (sum (b .same) (c .same)) (best .same);
+  above = lesser (sum (b .above) (c .least)) (lesser (sum (b .same) (c .above)) (best .above));
+  least = lesser (sum (b .least) (c .least)) (best .least);
+}
 
--- the string of cell c, none where the places pass the end of s, and the table with the strings of all lengths
-unfoldable pub leastOfCell : List ℕ → ℕ → List ℕ → ℕ → List ℕ → ℕ → List ℕ
-unfolding leastOver
-leastOfCell rules count s p t c =
-    pick (ltb (length s) (c / 32 % 6 + (c / 192 + 1))) noString
-    (leastOver padded (fittedAt rules) count (allows s p) (λ B q j. stringAt t (cellOver B q j)) (symbolOf (c % 32)) (c / 32 % 6) (c / 192 + 1))
+unfoldable pub withWord : ℕ → ℕ → ℕ → Cell → Cell
+unfolding lesser
+withWord value y x best =
+    pick (eqb x y) (record { same = lesser value (best .same); above = best .above; least = lesser value (best .least) })
+    (pick (ltb y x) (record { same = best .same; above = lesser value (best .above); least = lesser value (best .least) })
+    (record { same = best .same; above = best .above; least = lesser value (best .least) }))
 
-abbrev pub fillTable : List ℕ → ℕ → List ℕ → ℕ → List ℕ → List ℕ
-fillTable rules count s p t = fill putString (leastOfCell rules count s p) t (192 * length s)
+-- what a rule makes of a part's strings: with a left part of length j, with a word; and of the cell of its head
+unfoldable pub withSplit : List ℕ → ℕ → ℕ → Sym → Sym → ℕ → Cell → Cell
+unfolding withJoined
+withSplit t i m b c j best = withJoined (cellAt t (cellOver b i j)) (cellAt t (cellOver c (i + j) (m - j))) best
 
--- places below q tried, the last first: whether there is a string, and the table, which then holds it
-abbrev pub startAt : List ℕ → ℕ
-startAt s = 24 * cellOver (symbolOf 0) 0 (length s)
+unfoldable pub withRule : List ℕ → List ℕ → ℕ → ℕ → Cell → Rule → Cell
+unfolding withSplit withWord made scale
+withRule t s i m best rule = made (withSplit t i m) (λ x. withWord (x * scale (5 - i)) (getD s i 0) x) m best rule
 
-unfoldable pub searched : List ℕ → ℕ → List ℕ → ℕ → List ℕ → Bool × List ℕ
-searched rules count s zero t = (false, t)
-searched rules count s (suc q) t =
-    pick (eqb (getD (fillTable rules count s q t) (startAt s) 0) 255) (searched rules count s q (fillTable rules count s q t))
-    (true, fillTable rules count s q t)
+abbrev pub headCell : List ℕ → ℕ → ℕ → ℕ → ℕ
+headCell rules r i m = cellOver (symbolOf (getD rules (5 * r + 1) 0 % 32)) i m
+
+unfoldable pub addRule : List ℕ → List ℕ → ℕ → ℕ → List ℕ → ℕ → List ℕ
+unfolding withRule
+addRule rules s i m t r = putCell t (headCell rules r i m) (withRule t s i m (cellAt t (headCell rules r i m)) (fittedAt rules r))
+
+-- all rules over a part; all parts, those that pass the end of s left out
+unfoldable pub fillPart : List ℕ → ℕ → List ℕ → ℕ → ℕ → List ℕ → List ℕ
+unfolding iter addRule
+fillPart rules count s i m t = iter (addRule rules s i m) t count
+
+unfoldable pub partStep : List ℕ → ℕ → List ℕ → List ℕ → ℕ → List ℕ
+unfolding fillPart
+partStep rules count s t p = pick (ltb (length s) (p % 6 + (p / 6 + 1))) t (fillPart rules count s (p % 6) (p / 6 + 1) t)
+
+unfoldable pub fillTable : List ℕ → ℕ → List ℕ → List ℕ → List ℕ
+unfolding iter partStep
+fillTable rules count s t = iter (partStep rules count s) t (6 * length s)
+
+-- what is asked for of the start's cell: of a later call the least string above, of a first one the least
+abbrev pub askedOf : ℕ → Cell → ℕ
+askedOf call c = pick (eqb call 0) (c .above) (c .least)

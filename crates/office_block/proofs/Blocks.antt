@@ -19,7 +19,8 @@ use Rattle.office.specs.Office.{Office}
 use Rattle.office.specs.Conversion.{convert, marks, convertMarked}
 use Rattle.office.proofs.Marked.{marked-grammar, marked-marks}
 use Rattle.office.proofs.Steps.{result-rules}
-use Rattle.office_conversion.specs.Answer.{officeGrammar, answerOf, RulesIn}
+use Rattle.office_conversion.specs.Limits.{officeGrammar}
+use Rattle.office_conversion.specs.Answer.{answerOf, RulesIn}
 use Rattle.office_conversion.specs.declared.OfficeGrammar.the-variants.{Grammar, Refused}
 use Rattle.office_conversion.proofs.Limits.{limited, some-symbol, words-between, office-first}
 use Rattle.office_block.specs.Block.{officeToBlock}

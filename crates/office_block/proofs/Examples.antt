@@ -12,7 +12,7 @@ use Rattle.packing.specs.Grammar.{markedRulesEntries, markedEntries, blockOfMar
 use Rattle.packing.specs.Conversion.{fitting}
 use Rattle.office.specs.Sheet.{itemFrom, itemsFrom, officeRuleFrom, itemsAlike, ruleAlike, officeFrom, officeSheet}
 use Rattle.office.specs.Conversion.{convert, convertMarked}
-use Rattle.office_conversion.specs.Answer.{inLimits, officeGrammar}
+use Rattle.office_conversion.specs.Limits.{inLimits, officeGrammar}
 use Rattle.office_block.specs.Block.{officeToBlock}
 
 abbrev desk : List ℕ

@@ -10,7 +10,7 @@ use Rattle.packing.proofs.Refusals.{Refuses, granted, denied, then-row, then-ro
 use Rattle.office.specs.Office.{Office}
 use Rattle.office.specs.Conversion.{convert}
 use Rattle.office.proofs.Refusals.{office-row}
-use Rattle.office_conversion.specs.Answer.{inLimits, officeGrammar}
+use Rattle.office_conversion.specs.Limits.{inLimits, officeGrammar}
 use Rattle.office_block.specs.Block.{officeToBlock}
 
 limits-row : (o : Office) → Refuses OfficeSizeRow (inLimits o)

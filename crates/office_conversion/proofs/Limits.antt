@@ -13,7 +13,7 @@ use Rattle.office.specs.Sheet.{officeSheet}
 use Rattle.office.specs.Conversion.{convert}
 use Rattle.office.proofs.Accepted.{accepted-meant}
 use Rattle.office.proofs.Steps.{result-symbols, result-words, result-rules}
-use Rattle.office_conversion.specs.Answer.{inLimits, officeGrammar}
+use Rattle.office_conversion.specs.Limits.{inLimits, officeGrammar}
 
 pub record Limited (s : List ℕ) (o : Office) : Type 0 where
   pub read : officeSheet s ≡ accepted o

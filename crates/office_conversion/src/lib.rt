@@ -25,7 +25,8 @@ ghost use Rattle.packing.specs.declared.Rule as R;
 ghost use Rattle.office.specs.Conversion.{Helper, withWord, withWords, chain, chainTop, helperRules, becomes, after};
 ghost use Rattle.office.specs.Flat.{itemAt, itemsAt, officeRuleAt, officeRulesAt};
 ghost use Rattle.office_conversion.specs.Pass.{rowsOf, symbolAt, symbolsAt, Holds, Converted, WordsBelow, Passable, AllPassable};
-ghost use Rattle.office_conversion.specs.Answer.{officeGrammar, answerOf, RulesIn};
+ghost use Rattle.office_conversion.specs.Limits.{officeGrammar};
+ghost use Rattle.office_conversion.specs.Answer.{answerOf, RulesIn};
 
 // What an office sheet's grammar is: its sizes, with its rules in the lent array, and the number from which on they are helpers'
 // and marked; or the refusal.

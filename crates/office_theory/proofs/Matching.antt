@@ -1,6 +1,6 @@
 -- The two maps between an office grammar's derivations and its conversion's are inverse to each other and keep the weight. Each
 -- holds for any list of items and the symbol that stands for it, by recursion on the derivation.
-use mathlib.Core.Path.{_≡_, refl, sym, _∙_, subst}
+use mathlib.Core.Path.{_≡_, refl, sym, ap, _∙_, subst}
 use mathlib.Core.List.{List, [], _∷_}
 use Prim.Native.Nat.{ℕ, _+_, _<_}
 use native.Mathlib.Omega.{arith}
@@ -12,9 +12,10 @@ use Rattle.packing.specs.Meaning.{Edge, edge}
 use Rattle.derivation.specs.Derivation.{At, Offered, Tree, leaf, node, Derives, by-word, by-pair, edgeCost, weight}
 use Rattle.derivation.proofs.Rows.{leaf-weight, node-weight}
 use Rattle.office.specs.Office.{Item, symbol, rule, Office, Within}
-use Rattle.office_theory.specs.Derivations.{OfficeTree, heard, ruled, parted, OfficeDerives, by-edge, by-rule, by-parts, officeRuleWeight, officeWeight}
+use Rattle.office_theory.specs.Derivations.{OfficeTree, heard, ruled, parted, OfficeDerives, by-edge, by-rule, by-parts, officeRuleWeight, officeWeight, officeWalk}
 use Rattle.office.specs.Conversion.{helper, helpers, convert, marks}
-use Rattle.office_theory.specs.Matching.{unlessMarked, reduced, leftOf, rightOf, helperNumber, expandedBy, OneToOne}
+use Rattle.office_theory.specs.Matching.{unlessMarked, reduced, leftOf, rightOf, helperNumber, expandedBy, OfficeDerivation, toGrammar, toOffice, OneToOne}
+use Rattle.office_theory.proofs.Walks.{walk-reduced}
 use Rattle.office_theory.proofs.Spelled.{Spells, a-symbol, a-word, several, word-rule, pair-rule}
 use Rattle.office_theory.proofs.Facts.{Origin, of-office, of-word, of-joined, helper-rule, helper-number, origin, head-below, word-at, pair-at, not-one-symbol, spells-office, spells-word, Joined, joined, spells-joined, office-kept, helper-left-out}
 
@@ -160,7 +161,11 @@ module _ (o : Office) (v : Within o) (es : List Edge) where
   one-to-one A i k h = record {
     out = λ t d. rw (any-number d 0 (helperNumber o A)) (out d (a-symbol h) .derives);
     back = λ s d. back d (a-symbol h) .derives;
-    out-back = λ t d. rw (any-number d 0 (helperNumber o A)) (out d (a-symbol h) .returns);
+    out-back = λ t d. returns d;
     back-out = λ s d. any-number (back d (a-symbol h) .derives) 0 (helperNumber o A) ∙ back d (a-symbol h) .returns;
     weighs = λ t d. rw (any-number d 0 (helperNumber o A)) (out d (a-symbol h) .weighs);
+    walks = λ t d. walk-reduced (marks o) (toGrammar o t) ∙ ap officeWalk (returns d);
   }
+    where
+      returns : {t : OfficeTree} → OfficeDerivation o es A i k t → toOffice o (toGrammar o t) ≡ t
+      returns d = rw (any-number d 0 (helperNumber o A)) (out d (a-symbol h) .returns)

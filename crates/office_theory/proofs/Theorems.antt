@@ -8,20 +8,18 @@ use native.Mathlib.Omega.{arith}
 use lib.ListN.{length}
 use Rattle.packing.specs.declared.Sym.{Sym}
 use Rattle.packing.specs.declared.Rule as R
-use Rattle.packing.specs.Meaning.{symbolOf, Edge, Heard, heardEdges, lastPlace}
+use Rattle.packing.specs.Meaning.{symbolOf, Heard, heardEdges, lastPlace}
 use Rattle.packing.specs.Parse.{accepted}
 use Rattle.packing.specs.Grammar.{markedBlock, blockOfMarked}
 use Rattle.packing.proofs.Whole.{marked-block-back}
-use Rattle.derivation.specs.Derivation.{At, ruleWeight, walk}
+use Rattle.derivation.specs.Derivation.{At, ruleWeight}
 use Rattle.office.specs.Office.{Item, rule, Office, Valid}
-use Rattle.office_theory.specs.Derivations.{OfficeTree, officeWalk}
-use Rattle.office.specs.Conversion.{Helper, helper, helpers, helperRule, convert, marks, convertMarked}
-use Rattle.office_theory.specs.Matching.{OfficeDerivation, toGrammar, Match, withoutMarked}
+use Rattle.office.specs.Conversion.{Helper, helper, helpers, helperRule, convert, convertMarked}
+use Rattle.office_theory.specs.Matching.{Match}
 use Rattle.office_theory.proofs.Spelled.{Becomes, word-rule, pair-rule}
 use Rattle.office_theory.proofs.Facts.{headOf, helper-rule, Place, office, helping, place, office-rule}
 use Rattle.office_theory.proofs.Matching.{one-to-one}
 use Rattle.office_theory.proofs.Accepted.{marked-valid}
-use Rattle.office_theory.proofs.Walks.{office-walk}
 
 module _ (o : Office) (v : Valid o) where
   -- "Office rules keep their numbers and weights": and their heads
@@ -52,14 +50,10 @@ module _ (o : Office) (v : Valid o) where
       go (office b q s) = absurd (omega (arith, number))
       go (helping m h n) = omega (arith, number)
 
-  -- "The office's derivations and the converted grammar's match one to one, with equal weight": of slots and of graphs
+  -- "The office's derivations and the converted grammar's match one to one, with equal weight": of slots and of graphs. "The lister leaves helper
+  -- nodes out": what is left is the office's own walk
   pub derivations-match : (h : Heard) → Match o h
   derivations-match h = one-to-one o (v .within) (heardEdges h) (symbolOf 0) 0 (lastPlace h) (v .symbols .0)
-
-  -- "The lister leaves helper nodes out": what is left is the office's own walk
-  pub helper-nodes-out : (es : List Edge) (i k : ℕ) (t : OfficeTree) → OfficeDerivation o es (symbolOf 0) i k t
-      → withoutMarked (marks o) (walk (toGrammar o t)) ≡ officeWalk t
-  helper-nodes-out es i k t d = office-walk o (v .within) es (symbolOf 0) i k (v .symbols .0) t d
 
   -- "The result is a packed grammar of kind 4": what does not pass 32 symbols or 256 rules is accepted as one
   pub result-accepted : convert o .symbols ≤ 32 → length (convert o .rules) ≤ 256

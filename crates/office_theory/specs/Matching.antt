@@ -11,9 +11,9 @@ use Rattle.packing.specs.declared.Sym.{Sym}
 use Rattle.packing.specs.declared.Rule as R
 use Rattle.packing.specs.declared.Rule.the-variants.{Pair, Word}
 use Rattle.packing.specs.Meaning.{symbolOf, Edge, Heard, heardEdges, lastPlace}
-use Rattle.derivation.specs.Derivation.{Tree, leaf, node, Derives, weight}
+use Rattle.derivation.specs.Derivation.{Tree, leaf, node, Derives, weight, walk}
 use Rattle.office.specs.Office.{symbol, Office}
-use Rattle.office_theory.specs.Derivations.{OfficeTree, heard, ruled, parted, OfficeDerives, officeWeight}
+use Rattle.office_theory.specs.Derivations.{OfficeTree, heard, ruled, parted, OfficeDerives, officeWeight, officeWalk}
 use Rattle.office.specs.Conversion.{convert, marks}
 
 -- a tree without its marked nodes
@@ -57,19 +57,21 @@ toGrammar o t = expandedBy o 0 t
 abbrev pub toOffice : Office → Tree → OfficeTree
 toOffice o s = reduced (marks o) s
 
--- each map takes derivations to derivations, and the other takes them back; weights are equal
+-- a walk without its marked numbers, as the lister prints it
+unfoldable pub withoutMarked : List ℕ → List ℕ → List ℕ
+withoutMarked ms [] = []
+withoutMarked ms (r ∷ rs) = pick (eqb (getD ms r 0) 0) (r ∷ withoutMarked ms rs) (withoutMarked ms rs)
+
+-- each map takes derivations to derivations, and the other takes them back; weights are equal; and "the lister leaves helper nodes out": what is
+-- left of the walk is the office derivation's own list of rule numbers
 pub record OneToOne (o : Office) (es : List Edge) (A : Sym) (i k : ℕ) : Type 0 where
   pub out : (t : OfficeTree) → OfficeDerivation o es A i k t → Derives (convert o) es A i k (toGrammar o t)
   pub back : (s : Tree) → Derives (convert o) es A i k s → OfficeDerivation o es A i k (toOffice o s)
   pub out-back : (t : OfficeTree) → OfficeDerivation o es A i k t → toOffice o (toGrammar o t) ≡ t
   pub back-out : (s : Tree) → Derives (convert o) es A i k s → toGrammar o (toOffice o s) ≡ s
   pub weighs : (t : OfficeTree) → OfficeDerivation o es A i k t → weight (convert o) es (toGrammar o t) ≡ officeWeight o es t
+  pub walks : (t : OfficeTree) → OfficeDerivation o es A i k t → withoutMarked (marks o) (walk (toGrammar o t)) ≡ officeWalk t
 
 -- of what was heard, slots or a graph: between the office's derivations and the converted grammar's
 abbrev pub Match : Office → Heard → Type 0
 Match o h = OneToOne o (heardEdges h) (symbolOf 0) 0 (lastPlace h)
-
--- a walk without its marked numbers, as the lister prints it
-unfoldable pub withoutMarked : List ℕ → List ℕ → List ℕ
-withoutMarked ms [] = []
-withoutMarked ms (r ∷ rs) = pick (eqb (getD ms r 0) 0) (r ∷ withoutMarked ms rs) (withoutMarked ms rs)

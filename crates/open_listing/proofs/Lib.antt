@@ -1,3 +1,6 @@
+pub mod Stands
+pub mod Sums
+pub mod Standing
 pub mod Zeros
 pub mod HandOut
 pub mod Searched
@@ -5,5 +8,7 @@ pub mod Counted
 pub mod Plans
 pub mod Promises
 pub mod Steps
+pub mod Calls
 pub mod Outcome
 pub mod Refused
+pub mod Decided

@@ -7,18 +7,18 @@ use Rattle.derivation.specs.Heard.{outputLength}
 use Rattle.chart_table.specs.declared.Layout.{Layout}
 use Rattle.chart_table.specs.Table.{Sized}
 use Rattle.chart.specs.Chart.{layOut}
-use Rattle.grammar_reader.specs.Answer.{sizes, Bounded}
+use Rattle.grammar_reader.specs.Answer.{sizes}
+use Rattle.inputs.specs.Inputs.{Bounds}
 use Rattle.heard_reader.specs.Answer.{heardSize}
-use Rattle.listing.specs.Listing.{tableSize}
+use Rattle.listing.specs.Conditions.{tableSize}
 use Rattle.listing.specs.Model.{formOf}
 use Rattle.listing.specs.declared.Form.{Form}
 use Rattle.listing.proofs.Sizes.{table-is, size-is}
 use Rattle.open_listing.specs.Model.{Planned, planOf}
 use Rattle.open_listing.specs.declared.Plan.{Plan}
-use Rattle.open_listing.specs.declared.Blocks as read
+use Rattle.inputs.specs.declared.Inputs.{Inputs}
 
-module _ (b : read.Blocks) (bounded : Bounded (b .sizes)) (some : 1 ≤ b .heard .last) (few : b .heard .last ≤ 24) (edges : b .heard .edges ≤ 168)
-    {f : Form} {d : Layout} (formed : f ≡ formOf (b .heard .graph) (b .heard .last) (b .sizes .rules)) (laid : d ≡ layOut (b .sizes .symbols) (b .heard .last) 256) where
+module _ (b : Inputs) (bounds : Bounds b) {f : Form} {d : Layout} (formed : f ≡ formOf (b .heard .graph) (b .heard .last) (b .sizes .rules)) (laid : d ≡ layOut (b .sizes .symbols) (b .heard .last) 256) where
   abbrev made : Plan
   made = record { form = f; layout = d; edges = b .heard .edges }
 
@@ -30,9 +30,9 @@ module _ (b : read.Blocks) (bounded : Bounded (b .sizes)) (some : 1 ≤ b .heard
   plan-planned sized small = record {
     sized = sized;
     all-ranks = rw laid;
-    form = rw (formed, laid) (record { some-place = some; places = few; some-rule = bounded .some-rule; rules = bounded .rules; size = refl });
+    form = rw (formed, laid) (record { some-place = bounds .some-place; places = bounds .places; some-rule = bounds .sizes .some-rule; rules = bounds .sizes .rules; size = refl });
     size = small;
-    edges = omega arith;
+    edges = omega (arith, bounds .edges);
   }
 
 -- of a grammar and what was heard

@@ -1,5 +1,5 @@
 -- What a call is to promise, from what its search leaves: whatever the table held (`Called`), and after k readings (`Kept`).
-use mathlib.Core.Path.{_≡_, refl, sym, _∙_}
+use mathlib.Core.Path.{_≡_, refl, sym, ap, _∙_}
 use mathlib.Core.Bool.{Bool, true, false, false≢true}
 use mathlib.Core.List.{List, _++_}
 use Prim.Native.Nat.{ℕ, suc, _+_, _≤_, _<_}
@@ -9,7 +9,7 @@ use borrow.Author.Tests.{lt-ltb, le-ltb, eqb-true, eqb-false, not-true, not-fals
 use lib.Dec.{eqb}
 use lib.ListN.{length, drop, length-take}
 use Rattle.bits.specs.Bits.{pick}
-use Rattle.packing.specs.Meaning.{Grammar, Heard, lastPlace, heardEdges}
+use Rattle.packing.specs.Meaning.{symbolOf, Grammar, Heard, lastPlace, heardEdges}
 use Rattle.packing.specs.Parse.{accepted, refused}
 use Rattle.packing.specs.Grammar.{grammarBlock}
 use Rattle.packing.specs.Heard.{heardBlock}
@@ -23,22 +23,25 @@ use Rattle.derivation.specs.Heard.{outputLength, packed}
 use Rattle.derivation.specs.HeardList.{derivations}
 use Rattle.derivation.specs.Rank.{Number}
 use Rattle.derivation.proofs.HeardTheorems.{least-element, least-length}
+use Rattle.chart_table.specs.Table.{root, cellNumber, priceAt}
 use Rattle.chart.specs.Chart.{layOut, rootFound}
-use Rattle.chart_theory.specs.Spelled.{namesEdges, SpelledReading}
+use Rattle.chart_theory.specs.Spelled.{namesEdges}
 use Rattle.chart_theory.proofs.Chart.{RootSpells, has-spells}
 use Rattle.chart_theory.proofs.Accepted.{layout, passed-spelled, spelled-passed, Reached, rank-reached}
 use Rattle.chart_theory.proofs.Search.Passes.{Listed}
-use Rattle.listing.specs.Listing.{tableSize}
+use Rattle.listing.specs.Conditions.{tableSize}
 use Rattle.listing.specs.Demand3.{Ranked}
 use Rattle.listing.proofs.Sizes.{size-is}
 use Rattle.listing.proofs.Blocks.{block-is}
-use Rattle.open_listing.specs.Left.{AsLeft}
+use Rattle.open_listing.specs.Stands.{SpelledReading, Standing}
 use Rattle.open_listing.specs.Open as S
 use Rattle.open_listing.specs.Model.{Planned, isReading, handsOut, settled, Answered, Searched}
 use Rattle.open_listing.specs.declared.Place.{Place}
 use Rattle.open_listing.specs.declared.Answer as A
 use Rattle.open_listing.specs.declared.Answer.the-variants.{Reading, NoMore, Refused}
 use Rattle.open_listing.proofs.Plans.{plan}
+use Rattle.open_listing.proofs.Stands.{found-entry, no-entry, reading-to, reading-from}
+use Rattle.open_listing.proofs.Standing.{standing}
 
 -- what is tested before the search
 module _ (grammar heard : List ℕ) (g : Grammar) (h : Heard) (eg : grammarBlock grammar ≡ accepted g) (eh : heardBlock (g .words) heard ≡ accepted h) where
@@ -67,7 +70,7 @@ module _ (grammar heard : List ℕ) (g : Grammar) (h : Heard) (eg : grammarBlock
     calling-accepts room enough = rw (opening-accepts work room, le-ltb out (outputLength g h) enough)
 
 -- where nothing is short
-module _ (grammar heard : List ℕ) (g : Grammar) (h : Heard) (eg : grammarBlock grammar ≡ accepted g) (eh : heardBlock (g .words) heard ≡ accepted h)
+module _ (search : S.Search) (grammar heard : List ℕ) (g : Grammar) (h : Heard) (eg : grammarBlock grammar ≡ accepted g) (eh : heardBlock (g .words) heard ≡ accepted h)
     (rules edges : List ℕ) (begun : Begins (ruleNumbers g) rules) (begun′ : Begins (edgeNumbers (heardEdges h)) edges) (planned : Planned (plan g h)) (p : Place)
     (work out : List ℕ)
     (calls : S.calling grammar heard (length work) (length out) ≡ accepted (blocks grammar heard g h eg eh)) where
@@ -84,7 +87,7 @@ module _ (grammar heard : List ℕ) (g : Grammar) (h : Heard) (eg : grammarBlock
   -- whatever the table held
   module _ (below : p .handed < 256) {found : Bool} (table : List ℕ) {r : A.Answer} {work′ out′ : List ℕ}
       (answered : Answered found table rules edges (plan g h) (p .handed) work out r work′ out′) where
-    nothing-left : (a : A.Answer) → r ≡ a → isReading a ≡ false → S.Unchanged grammar heard p work out r work′ out′
+    nothing-left : (a : A.Answer) → r ≡ a → isReading a ≡ false → S.Unchanged search grammar heard p work out r work′ out′
     nothing-left a e n = record { table = rw (e, n) at (answered .left); output = rw (e, n) at (answered .output) }
 
     -- the reading that is written, of a derivation that the rank spells
@@ -95,12 +98,12 @@ module _ (grammar heard : List ℕ) (g : Grammar) (h : Heard) (eg : grammarBlock
         rw e at (answered .output)
         ∙ rw (block-is g 256 rules table h (planned .form .some-place) (planned .form .places) (p .handed) z has derived, size-is g h)
 
-    one-more : r ≡ Reading → S.Looked g h p work table → handsOut table rules edges (plan g h) (p .handed) ≡ true
-        → S.OneMore grammar heard p work out r work′ out′ g h
-    one-more e looked hands =
+    one-more : r ≡ Reading → search g h p work ≡ table → S.Looked g h p work table → handsOut table rules edges (plan g h) (p .handed) ≡ true
+        → S.OneMore search grammar heard p work out r work′ out′ g h
+    one-more e made looked hands =
         let (z, derived, has, spelled) = passed-spelled g h 256 okg okh (omega arith) (omega arith) rules edges begun begun′ table (p .handed) hands in
         let left : work′ ≡ table = rw e at (answered .left) in
-        rw left (record { tree = z; derivation = derived; written = written z derived has e; spelled = spelled; looked = looked })
+        rw left (record { tree = z; derivation = derived; written = written z derived has e; spelled = reading-from g h table spelled derived; looked = looked; table-is = sym made })
 
     answer-is : r ≡ pick found (pick (handsOut table rules edges (plan g h) (p .handed)) Reading (Refused 53)) NoMore
     unfolding settled
@@ -108,43 +111,47 @@ module _ (grammar heard : List ℕ) (g : Grammar) (h : Heard) (eg : grammarBlock
 
     -- no reading that passes is spelled
     abbrev NonePasses : Type 0
-    NonePasses = (z : Tree) → Derivation g h z → SpelledReading g h (S.layout g h) table (p .handed) z → ⊥
+    NonePasses = (z : Tree) → Derivation g h z → SpelledReading g h table (p .handed) z → ⊥
 
     -- by what is known of the table where the rank is taken for found, and where not
-    called-by : p .opened ≡ 1 → S.Looked g h p work table → (found ≡ true → NonePasses → S.Astray g h p work table)
-        → (found ≡ false → S.Missing g h p work table) → S.Called grammar heard p work out r work′ out′
-    called-by opened looked astray missing = go found (handsOut table rules edges (plan g h) (p .handed)) refl refl answer-is
+    called-by : p .opened ≡ 1 → search g h p work ≡ table → S.Looked g h p work table → (found ≡ true → NonePasses → S.Astray g h p work table)
+        → (found ≡ false → S.Missing g h p work table) → S.Called search grammar heard p work out r work′ out′
+    called-by opened made looked astray missing = go found (handsOut table rules edges (plan g h) (p .handed)) refl refl answer-is
       where
         none-passes : handsOut table rules edges (plan g h) (p .handed) ≡ false → NonePasses
         none-passes f z derived spelled =
-            false≢true (sym f ∙ spelled-passed g h 256 okg okh (omega arith) (omega arith) rules edges begun begun′ table (p .handed) z derived spelled)
+            false≢true (sym f ∙ spelled-passed g h 256 okg okh (omega arith) (omega arith) rules edges begun begun′ table (p .handed) z derived (reading-to g h table spelled))
 
         go : (a b : Bool) → found ≡ a → handsOut table rules edges (plan g h) (p .handed) ≡ b → r ≡ pick a (pick b Reading (Refused 53)) NoMore
-            → S.Called grammar heard p work out r work′ out′
-        go false b is hands e = S.no-more calls below opened (missing is) e (nothing-left NoMore e refl)
-        go true false is hands e = S.altered calls below opened (astray is (none-passes hands)) e (nothing-left (Refused 53) e refl)
-        go true true is hands e = S.one-more calls below opened e (one-more e looked hands)
+            → S.Called search grammar heard p work out r work′ out′
+        go false b is hands e = S.no-more calls below opened (rw made (missing is)) e (nothing-left NoMore e refl)
+        go true false is hands e = S.altered calls below opened (rw made (astray is (none-passes hands))) e (nothing-left (Refused 53) e refl)
+        go true true is hands e = S.one-more calls below opened e (one-more e made looked hands)
 
   -- of a table as it is, whose front is not zeros
-  pub as-it-is-called : p .handed ≡ 0 → p .opened ≡ 1 → (S.FrontZero g h work → ⊥) → S.Looked g h p work work → {r : A.Answer} {work′ out′ : List ℕ}
-      → Answered true work rules edges (plan g h) (p .handed) work out r work′ out′ → S.Called grammar heard p work out r work′ out′
-  as-it-is-called first opened dirty looked answered =
-      called-by (omega arith) work answered opened looked
-      (λ is none. record { looked = looked; none = none; later-found = λ some. absurd (omega arith); first-found = λ z front. absurd (dirty front) })
+  pub as-it-is-called : p .handed ≡ 0 → p .opened ≡ 1 → (S.FrontZero g h work → ⊥) → search g h p work ≡ work → S.Looked g h p work work → {r : A.Answer} {work′ out′ : List ℕ}
+      → Answered true work rules edges (plan g h) (p .handed) work out r work′ out′ → S.Called search grammar heard p work out r work′ out′
+  as-it-is-called first opened dirty made looked answered =
+      called-by (omega arith) work answered opened made looked
+      (λ is none. record { looked = looked; none-passes = none; later-found = λ some. absurd (omega arith); first-found = λ z front. absurd (dirty front) })
       (λ is. absurd (false≢true (sym is)))
 
   -- of a table in which the rank was looked for
   module _ (below : p .handed < 256) (table : List ℕ) {r : A.Answer} {work′ out′ : List ℕ}
       (searched : Searched table rules edges (plan g h) (p .handed) work out r work′ out′) where
-    pub called : p .opened ≡ 1 → S.Looked g h p work table → (p .handed ≡ 0 → S.FrontZero g h work) → S.Called grammar heard p work out r work′ out′
-    unfolding rootFound
-    called opened looked front =
-        let price = S.soughtPrice g h p work table in
-        called-by below table searched opened looked
+    pub called : p .opened ≡ 1 → search g h p work ≡ table → S.Looked g h p work table → (p .handed ≡ 0 → S.FrontZero g h work)
+        → S.Called search grammar heard p work out r work′ out′
+    unfolding rootFound layOut
+    called opened made looked front =
+        let price = priceAt table (layout g h 256) (cellNumber (layout g h 256) (root (layout g h 256))) (p .handed) in
+        called-by below table searched opened made looked
         (λ is none.
         let some : 0 < price = omega (arith, eqb-false price 0 (not-true (eqb price 0) is)) in
-        record { looked = looked; none = none; later-found = λ l. some; first-found = λ z f. some })
-        (λ is. record { looked = looked; missing = eqb-true price 0 (not-false (eqb price 0) is); front = front })
+        let found : S.SoughtFound g h p work table = (_, found-entry g h table (symbolOf 0) 0 (lastPlace h) (p .handed) some) in
+        record { looked = looked; none-passes = none; later-found = λ l. found; first-found = λ z f. found })
+        (λ is.
+        let nothing : price ≡ 0 = eqb-true price 0 (not-false (eqb price 0) is) in
+        record { looked = looked; missing = no-entry g h table (symbolOf 0) 0 (lastPlace h) (p .handed) nothing; front-zero = front })
 
     -- where the ranks of the root are known up to the one that was looked for
     module _ (known : Listed g (heardEdges h) (layout g h 256) (p .handed) table) where
@@ -157,15 +164,19 @@ module _ (grammar heard : List ℕ) (g : Grammar) (h : Heard) (eg : grammarBlock
           let N = n + length (derivations g h) in
           omega (arith, least-length g h N n all, length-take N (derivations g h))
 
-      module _ (opened : p .opened ≡ 1) where
+      module _ (size : ℕ) (left : S.AsLeft search g h size (p .handed) p work) (made : search g h p work ≡ table) where
         gives : p .handed < length (derivations g h)
             → (z : Tree) × Ranked g h (suc (p .handed)) z × (r ≡ Reading) × (out′ ≡ packed g h z ++ drop (outputLength g h) out)
-            × AsLeft g h (suc (p .handed)) (S.placeAfter r p) work′
+            × S.AsLeft search g h size (suc (p .handed)) (S.placeAfter r p) work′ × Standing g h work′
         gives more =
             let (found, hands, (z, rank)) = reached .some more in
             let (derived, ranks, few) = least-element g h 256 (p .handed) z .0 (rank .place) in
             let reads : r ≡ Reading = answer-is below table searched ∙ rw (found, hands) in
-            let left : work′ ≡ table = rw reads at (searched .left) in (
+            let stays : work′ ≡ table = rw reads at (searched .left) in
+            let opened : p .opened ≡ 1 = ap (λ (q : Place). q .opened) (left .place) in
+            let place : S.placeAfter r p ≡ S.placeOf (suc (p .handed)) = ap (λ (a : A.Answer). S.placeAfter a p) reads ∙ rw (add-one (p .handed), opened) in
+            let again : search g h p work ≡ S.tableAfter search g h size (suc (p .handed)) =
+            ap (λ (q : Place). search g h q work) (left .place) ∙ ap (search g h (S.placeOf (p .handed))) (left .table) in (
               z,
               record {
                 derivation = derived;
@@ -174,10 +185,11 @@ module _ (grammar heard : List ℕ) (g : Grammar) (h : Heard) (eg : grammarBlock
               },
               reads,
               written below table searched z derived (has-spells (namesEdges h) (rank .has)) reads,
-              rw (left, reads) (record { handed = add-one (p .handed); opened = opened; table = known }),
+              record { enough = left .enough; place = place; table = stays ∙ sym made ∙ again },
+              rw stays (standing g h okg okh rules edges begun begun′ (p .handed) table known),
             )
 
-        pub after : (n : ℕ) → Number (Derivation g h) n → S.After grammar heard p work out r work′ out′ g h (p .handed) n
+        pub after : (n : ℕ) → Number (Derivation g h) n → S.After search grammar heard p work out r work′ out′ g h size (p .handed) n
         after n all = record {
           gives = λ more. gives (omega (arith, number-is n all));
           says-no-more = λ none. answer-is below table searched ∙ rw (reached .none (omega (arith, number-is n all)));

@@ -11,7 +11,7 @@ use Rattle.packing.specs.Rows.{_∪_, GrammarBlockRow, HeardBlockRow, OpenRow, 
 use Rattle.packing.proofs.Refusals.{Refuses, granted, denied, refusal-number, wider, then-row, choose-row, grammar-block-row}
 use Rattle.packing.proofs.GraphRefusals.{heard-block-row}
 use Rattle.derivation.specs.Heard.{outputLength}
-use Rattle.listing.specs.Listing.{tableSize}
+use Rattle.listing.specs.Conditions.{tableSize}
 use Rattle.open_listing.specs.Open as S
 use Rattle.open_listing.specs.Open.{opening, calling}
 use Rattle.open_listing.specs.declared.Place.{Place}
@@ -34,8 +34,8 @@ calling-row grammar heard work out =
     choose-row (ltb out (outputLength (b .grammar) (b .heard))) (denied {n = 23} (inr (inl (omega arith, omega arith)))) granted
 
 -- of a call's answer
-module _ {grammar heard : List ℕ} {p : Place} {work out : List ℕ} {a : A.Answer} {work′ out′ : List ℕ} where
-  pub refused-row : S.Called grammar heard p work out a work′ out′ → (n : ℕ) → a ≡ Refused n → (GrammarBlockRow ∪ HeardBlockRow ∪ CallRow) n
+module _ {search : S.Search} {grammar heard : List ℕ} {p : Place} {work out : List ℕ} {a : A.Answer} {work′ out′ : List ℕ} where
+  pub refused-row : S.Called search grammar heard p work out a work′ out′ → (n : ℕ) → a ≡ Refused n → (GrammarBlockRow ∪ HeardBlockRow ∪ CallRow) n
   refused-row (S.turned-away {n = m} e is same) n f =
       let equal : m ≡ n = cc in
       refusal-number (calling-row grammar heard (length work) (length out)) (rw equal at e)
@@ -45,7 +45,7 @@ module _ {grammar heard : List ℕ} {p : Place} {work out : List ℕ} {a : A.Ans
   refused-row (S.no-more e below opened missing is same) n f = let z : _≡_ {A = ℕ} 0 1 = cc in absurd (omega arith)
   refused-row (S.one-more e below opened is more) n f = let z : _≡_ {A = ℕ} 0 1 = cc in absurd (omega arith)
 
-  pub reading-below : S.Called grammar heard p work out a work′ out′ → a ≡ Reading → p .handed < 256
+  pub reading-below : S.Called search grammar heard p work out a work′ out′ → a ≡ Reading → p .handed < 256
   reading-below (S.turned-away e is same) f = let z : _≡_ {A = ℕ} 0 1 = cc in absurd (omega arith)
   reading-below (S.full e many is same) f = let z : _≡_ {A = ℕ} 0 1 = cc in absurd (omega arith)
   reading-below (S.not-opened e below closed is same) f = below

@@ -1,3 +1,3 @@
-pub mod Left
+pub mod Stands
 pub mod Open
 pub mod Model

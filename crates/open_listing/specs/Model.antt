@@ -2,15 +2,10 @@
 use mathlib.Core.Path.{_≡_}
 use mathlib.Core.Bool.{Bool, true, false}
 use mathlib.Core.List.{List, [], _∷_, _++_}
-use Prim.Native.Nat.{ℕ, _*_, _≤_}
-use lib.Dec.{eqb}
+use Prim.Native.Nat.{ℕ, _-_, _*_, _≤_}
+use lib.Dec.{eqb, ltb}
 use lib.ListN.{length, take, drop, replicate}
 use Rattle.bits.specs.Bits.{pick}
-use Rattle.packing.specs.Meaning.{Grammar, Heard, heardEdges}
-use Rattle.packing.specs.Parse.{accepted}
-use Rattle.packing.specs.Grammar.{grammarBlock}
-use Rattle.packing.specs.Heard.{heardBlock}
-use Rattle.packing.specs.Flat.{Begins, ruleNumbers, edgeNumbers}
 use Rattle.chart_table.specs.Table.{Sized}
 use Rattle.chart_index.specs.Index.{indexNumbers}
 use Rattle.chart_index.specs.Build.{makeIndex}
@@ -18,14 +13,12 @@ use Rattle.chart_search.specs.Search.{nextOfRoot}
 use Rattle.chart.specs.Chart.{layOut, enumerate, rootFound, rootSpelled}
 use Rattle.chart_theory.proofs.Plane.{single}
 use Rattle.listing.specs.Model.{formOf, FormFor, blockAt}
-use Rattle.grammar_reader.specs.Answer.{sizes}
-use Rattle.grammar_reader.specs.declared.Sizes.{Sizes}
-use Rattle.heard_reader.specs.Answer.{heardSize}
-use Rattle.open_listing.specs.Open.{opening, openedOf, tableOpened, Called, Kept}
 use Rattle.open_listing.specs.declared.Place.{Place}
 use Rattle.open_listing.specs.declared.Plan.{Plan}
-use Rattle.open_listing.specs.declared.Blocks as read
-use Rattle.open_listing.specs.declared.Opened.{Opened}
+use Rattle.inputs.specs.Inputs.{Meant, inputsOf, rulesArray, edgesArray}
+use Rattle.inputs.specs.declared.Inputs.{Inputs}
+use Rattle.packing.specs.Meaning.{Grammar, Heard}
+use Rattle.packing.specs.Parse.{Verdict, accepted, refused}
 use Rattle.open_listing.specs.declared.Answer as A
 use Rattle.open_listing.specs.declared.Answer.the-variants.{Reading, NoMore, Full, Refused}
 
@@ -41,7 +34,7 @@ zeros [] = true
 zeros (x ∷ l) = pick (eqb x 0) (zeros l) false
 
 -- what a search goes by
-abbrev pub planOf : read.Blocks → Plan
+abbrev pub planOf : Inputs → Plan
 planOf b = record {
   form = formOf (b .heard .graph) (b .heard .last) (b .sizes .rules);
   layout = layOut (b .sizes .symbols) (b .heard .last) 256;
@@ -93,22 +86,55 @@ pub record FirstCalled (rules edges : List ℕ) (p : Plan) (work out : List ℕ)
   pub clear : zeros (take (4 * p .layout .cells) work) ≡ true → Searched (firstTable rules edges p work) rules edges p 0 work out r work′ out′
   pub altered : zeros (take (4 * p .layout .cells) work) ≡ false → Answered true work rules edges p 0 work out r work′ out′
 
--- what is promised where the edges of what was heard are in an array, and where the rules of a grammar are
-abbrev pub Promised : (grammar heard : List ℕ) → Place → (work out : List ℕ) → A.Answer → (work′ out′ : List ℕ) → Type 0
-Promised grammar heard p work out r work′ out′ = Called grammar heard p work out r work′ out′ × Kept grammar heard p work out r work′ out′
+-- what a call answers and leaves
+pub record Left : Type 0 where
+  pub answer : A.Answer
+  pub table : List ℕ
+  pub output : List ℕ
 
-abbrev pub HeardCalled : (rules edges : List ℕ) → Plan → Place → (work out : List ℕ) → A.Answer → (work′ out′ : List ℕ) → Type 0
-HeardCalled rules edges q p work out r work′ out′ =
-    (grammar heard : List ℕ) (g : Grammar) (h : Heard) → grammarBlock grammar ≡ accepted g → heardBlock (g .words) heard ≡ accepted h
-    → q ≡ planOf (record { sizes = sizes g; heard = heardSize h }) → Begins (ruleNumbers g) rules → Begins (edgeNumbers (heardEdges h)) edges
-    → Promised grammar heard p work out r work′ out′
+-- nothing is changed; a rank was looked for; the first call; a later one, for rank x
+abbrev pub unchanged : A.Answer → (work out : List ℕ) → Left
+unchanged r work out = record { answer = r; table = work; output = out }
 
-abbrev pub GrammarCalled : (rules : List ℕ) → Sizes → (heard : List ℕ) → Place → (work out : List ℕ) → A.Answer → (work′ out′ : List ℕ) → Type 0
-GrammarCalled rules z heard p work out r work′ out′ =
-    (grammar : List ℕ) (g : Grammar) → grammarBlock grammar ≡ accepted g → z ≡ sizes g → Begins (ruleNumbers g) rules
-    → Promised grammar heard p work out r work′ out′
+abbrev pub answeredBy : Bool → (table rules edges : List ℕ) → Plan → ℕ → (work out : List ℕ) → Left
+answeredBy found table rules edges p x work out =
+    let r = settled table rules edges p x found in
+    record { answer = r; table = pick (isReading r) table work; output = outputBy (isReading r) table rules p x out }
 
-abbrev pub GrammarOpened : Sizes → (heard work : List ℕ) → Opened → (work′ : List ℕ) → Type 0
-GrammarOpened z heard work r work′ =
-    (grammar : List ℕ) (g : Grammar) → grammarBlock grammar ≡ accepted g → z ≡ sizes g
-    → (r ≡ openedOf (opening grammar heard (length work))) × (work′ ≡ tableOpened (opening grammar heard (length work)) work)
+abbrev pub searchedBy : (table rules edges : List ℕ) → Plan → ℕ → (work out : List ℕ) → Left
+searchedBy table rules edges p x = answeredBy (rootFound table (p .layout) x) table rules edges p x
+
+abbrev pub firstBy : (rules edges : List ℕ) → Plan → (work out : List ℕ) → Left
+firstBy rules edges p work out =
+    pick (zeros (take (4 * p .layout .cells) work)) (searchedBy (firstTable rules edges p work) rules edges p 0 work out) (answeredBy true work rules edges p 0 work out)
+
+-- and any call, by the arrays of rules and edges and the plan
+unfoldable pub callBy : (rules edges : List ℕ) → Plan → Place → (work out : List ℕ) → Left
+callBy rules edges q p work out =
+    pick (ltb (length work) (4 * q .layout .cells * q .layout .ranks)) (unchanged (Refused 22) work out)
+    (pick (ltb (length out) (q .form .size)) (unchanged (Refused 23) work out)
+    (pick (ltb (p .handed) 256)
+    (pick (eqb (p .opened) 1)
+    (pick (eqb (p .handed) 0) (firstBy rules edges q work out) (searchedBy (nextTable rules edges q (p .handed - 1) work) rules edges q (p .handed) work out))
+    (unchanged (Refused 53) work out))
+    (unchanged Full work out)))
+
+-- the table in which a rank is looked for: the search's, or of a first call, unless the front is zeros, the table as it is
+unfoldable pub tableBy : (rules edges : List ℕ) → Plan → Place → List ℕ → List ℕ
+tableBy rules edges q p work =
+    pick (eqb (p .handed) 0) (pick (zeros (take (4 * q .layout .cells) work)) (firstTable rules edges q work) work) (nextTable rules edges q (p .handed - 1) work)
+
+-- of what both blocks mean
+abbrev pub searched : Grammar → Heard → Place → List ℕ → List ℕ
+searched g h p work = tableBy (rulesArray g) (edgesArray h) (planOf (inputsOf (record { grammar = g; heard = h }))) p work
+
+-- by the verdict on both blocks
+abbrev pub nextBy : Verdict Meant → Place → (work out : List ℕ) → Left
+nextBy (accepted m) p work out = callBy (rulesArray (m .grammar)) (edgesArray (m .heard)) (planOf (inputsOf m)) p work out
+nextBy (refused n) p work out = unchanged (Refused n) work out
+
+-- an answer and what was lent are as this says
+pub record As (l : Left) (r : A.Answer) (work′ out′ : List ℕ) : Type 0 where
+  pub answer : r ≡ l .answer
+  pub table : work′ ≡ l .table
+  pub output : out′ ≡ l .output

@@ -1,27 +1,23 @@
 -- Readings one by one: document 02, N2, with the rows grammar block, utterance block and listing of document 01's "Where each check stands".
--- Stands on packing's and derivation's definitions, on the listing's, on chart_table's entries, on chart_steps' count of the ranks that a table has found
--- and on chart_theory's page of the readings that it spells. Of the page Left a reader need believe nothing.
+-- Stands on packing's and derivation's definitions, on the listing's, and on specs/Stands: what stands in a work table.
 use mathlib.Core.Path.{_≡_}
+use mathlib.Core.Option.{none, some}
 use mathlib.Core.List.{List, _++_}
-use Prim.Native.Nat.{ℕ, suc, _+_, _-_, _*_, _≤_, _<_}
+use Prim.Native.Nat.{ℕ, zero, suc, _+_, _-_, _*_, _≤_, _<_}
 use lib.Dec.{ltb}
 use lib.ListN.{length, take, drop, replicate}
 use Rattle.bits.specs.Bits.{pick}
-use Rattle.packing.specs.Meaning.{Grammar, Heard, lastPlace}
+use Rattle.packing.specs.Meaning.{symbolOf, Grammar, Heard, lastPlace}
 use Rattle.packing.specs.Parse.{Verdict, accepted, refused, _then_}
 use Rattle.packing.specs.Grammar.{grammarBlock}
 use Rattle.packing.specs.Heard.{heardBlock}
+use Rattle.packing.specs.declared.Sym.{Sym}
 use Rattle.derivation.specs.Derivation.{Tree, Derivation}
 use Rattle.derivation.specs.Heard.{outputLength, packed}
 use Rattle.derivation.specs.Rank.{Number}
-use Rattle.chart_table.specs.declared.Layout.{Layout}
-use Rattle.chart_table.specs.Table.{root, cellNumber, priceAt, backAt, countFound}
-use Rattle.chart_steps.specs.Found.{foundRanks}
-use Rattle.chart.specs.Chart.{layOut}
-use Rattle.chart_theory.specs.Spelled.{SpelledReading}
-use Rattle.listing.specs.Listing.{tableSize}
+use Rattle.listing.specs.Conditions.{tableSize}
 use Rattle.listing.specs.Demand3.{Ranked}
-use Rattle.open_listing.specs.Left.{AsLeft}
+use Rattle.open_listing.specs.Stands.{Entry, front, entry, Found, Over, foundOver, foundRanks, SpelledReading, Standing}
 use Rattle.open_listing.specs.declared.Place.{Place}
 use Rattle.open_listing.specs.declared.Opened.{Opened}
 use Rattle.open_listing.specs.declared.Opened.the-variants as O
@@ -61,46 +57,59 @@ placeAfter NoMore p = p
 placeAfter Full p = p
 placeAfter (Refused n) p = p
 
--- the layout of the work table
-abbrev pub layout : Grammar → Heard → Layout
-layout g h = layOut (g .symbols) (lastPlace h) 256
+-- A search says which table a call makes, of a place and a work table, where it looks for one more reading: the rank of the whole, from 0, behind those that
+-- were handed out. The services name theirs (`searched`, on the page Model); of altered tables these papers fix no more of it than what is said here
+abbrev pub Search : Type 0
+Search = Grammar → Heard → Place → List ℕ → List ℕ
 
--- where the first ranks of all cells stand, a table is zeros, as opening leaves it
+-- the first ranks of all spans and heads are zeros, as opening leaves them
 abbrev pub FrontZero : Grammar → Heard → List ℕ → Type 0
-FrontZero g h work = take (4 * layout g h .cells) work ≡ replicate (4 * layout g h .cells) 0
+FrontZero g h work = take (front g h) work ≡ replicate (front g h) 0
 
--- the work table before a call, and `table`, what the call makes of it where it looks for one more reading: the rank of the whole, from 0, behind those
--- that were handed out
+-- a work table before a call, and the table that the search makes of it
 module _ (g : Grammar) (h : Heard) (p : Place) (work table : List ℕ) where
-  -- what looking for it leaves and what it adds
+  -- what looking for one more leaves and what it adds
   pub record Looked : Type 0 where
-    -- a rank that is found stays as it is: its price and its back pointer
-    pub stays : (c x : ℕ) → c < layout g h .cells → x < 256 → 0 < priceAt work (layout g h) c x
-        → (priceAt table (layout g h) c x ≡ priceAt work (layout g h) c x) × (backAt table (layout g h) c x ≡ backAt work (layout g h) c x)
+    -- a rank that is found stays as it is
+    pub stays : (A : Sym) (i k x : ℕ) → Over g h A i k → (e : Entry) → entry g h work A i k x ≡ some e → entry g h table A i k x ≡ some e
     -- "The call that gives the first reading adds at most one found rank for each span and head."
-    pub first-adds : p .handed ≡ 0 → (c : ℕ) → c < layout g h .cells → countFound table (layout g h) c ≤ countFound work (layout g h) c + 1
+    pub first-adds : p .handed ≡ 0 → (A : Sym) (i k : ℕ) → Over g h A i k → foundOver g h table A i k ≤ foundOver g h work A i k + 1
     -- "After it, a call adds at most 2n−1 found ranks (n being P−1 in a graph) over all spans and heads, counted from the table itself."
-    pub later-adds : 1 ≤ p .handed → foundRanks table (layout g h) ≤ foundRanks work (layout g h) + (2 * lastPlace h - 1)
+    pub later-adds : 1 ≤ p .handed → foundRanks g h table ≤ foundRanks g h work + (2 * lastPlace h - 1)
 
-  -- its price plus 1, 0 where it is not found
-  abbrev pub soughtPrice : ℕ
-  soughtPrice = priceAt table (layout g h) (cellNumber (layout g h) (root (layout g h))) (p .handed)
+  -- the rank that is looked for is found
+  abbrev pub SoughtFound : Type 0
+  SoughtFound = Found g h table (symbolOf 0) 0 (lastPlace h) (p .handed)
 
-  -- it spells no reading that passes. It is found, unless a first call was lent a table whose front is not zeros, where none is looked for
+  -- that rank spells no reading that passes. It is found, unless a first call was lent a table whose front is not zeros, where none is looked for
   pub record Astray : Type 0 where
     pub looked : Looked
-    pub none : (z : Tree) → Derivation g h z → SpelledReading g h (layout g h) table (p .handed) z → ⊥
-    pub later-found : 1 ≤ p .handed → 0 < soughtPrice
-    pub first-found : p .handed ≡ 0 → FrontZero g h work → 0 < soughtPrice
+    pub none-passes : (z : Tree) → Derivation g h z → SpelledReading g h table (p .handed) z → ⊥
+    pub later-found : 1 ≤ p .handed → SoughtFound
+    pub first-found : p .handed ≡ 0 → FrontZero g h work → SoughtFound
 
-  -- it is not found; of a first call, in a table whose front was zeros
+  -- that rank is not found; of a first call, in a table whose front was zeros
   pub record Missing : Type 0 where
     pub looked : Looked
-    pub missing : soughtPrice ≡ 0
-    pub front : p .handed ≡ 0 → FrontZero g h work
+    pub missing : entry g h table (symbolOf 0) 0 (lastPlace h) (p .handed) ≡ none
+    pub front-zero : p .handed ≡ 0 → FrontZero g h work
+
+-- the place after k readings, and the table of `size` numbers: zeros, and then each time what the search makes
+abbrev pub placeOf : ℕ → Place
+placeOf k = record { handed = k; opened = 1 }
+
+abbrev pub tableAfter : Search → Grammar → Heard → (size k : ℕ) → List ℕ
+tableAfter search g h size zero = replicate size 0
+tableAfter search g h size (suc k) = search g h (placeOf k) (tableAfter search g h size k)
+
+-- place and table as they were left after k readings
+pub record AsLeft (search : Search) (g : Grammar) (h : Heard) (size k : ℕ) (p : Place) (work : List ℕ) : Type 0 where
+  pub enough : tableSize (g .symbols) (lastPlace h) 256 ≤ size
+  pub place : p ≡ placeOf k
+  pub table : work ≡ tableAfter search g h size k
 
 -- what is to hold of a call with a grammar block, a block of what was heard, a place, a work table and an output that answers `answer`
-module _ (grammar heard : List ℕ) (p : Place) (work out : List ℕ) (answer : A.Answer) (work′ out′ : List ℕ) where
+module _ (search : Search) (grammar heard : List ℕ) (p : Place) (work out : List ℕ) (answer : A.Answer) (work′ out′ : List ℕ) where
   pub record Unchanged : Type 0 where
     pub table : work′ ≡ work
     pub output : out′ ≡ out
@@ -112,8 +121,10 @@ module _ (grammar heard : List ℕ) (p : Place) (work out : List ℕ) (answer : 
     pub derivation : Derivation g h tree
     pub written : out′ ≡ packed g h tree ++ drop (outputLength g h) out
     -- "what a call hands out is spelled from found ranks alone": that rank of the whole, from 0, spells it in the table
-    pub spelled : SpelledReading g h (layout g h) work′ (p .handed) tree
+    pub spelled : SpelledReading g h work′ (p .handed) tree
     pub looked : Looked g h p work work′
+    -- the table is the one that the search makes
+    pub table-is : work′ ≡ search g h p work
 
   -- whatever place and table are: "These two answers change nothing", nor does a refusal. "53 the walk that altered numbers spell is not a
   -- reading that passes, last of all". That a place which was not opened is answered by 53 too is our choice
@@ -122,24 +133,24 @@ module _ (grammar heard : List ℕ) (p : Place) (work out : List ℕ) (answer : 
     full : {b : Blocks} → calling grammar heard (length work) (length out) ≡ accepted b → 256 ≤ p .handed → answer ≡ Full → Unchanged → Called
     not-opened : {b : Blocks} → calling grammar heard (length work) (length out) ≡ accepted b → p .handed < 256 → (p .opened ≡ 1 → ⊥)
         → answer ≡ Refused 53 → Unchanged → Called
-    altered : {b : Blocks} {table : List ℕ} → calling grammar heard (length work) (length out) ≡ accepted b → p .handed < 256 → p .opened ≡ 1
-        → Astray (b .grammar) (b .heard) p work table → answer ≡ Refused 53 → Unchanged → Called
-    no-more : {b : Blocks} {table : List ℕ} → calling grammar heard (length work) (length out) ≡ accepted b → p .handed < 256 → p .opened ≡ 1
-        → Missing (b .grammar) (b .heard) p work table → answer ≡ NoMore → Unchanged → Called
+    altered : {b : Blocks} → calling grammar heard (length work) (length out) ≡ accepted b → p .handed < 256 → p .opened ≡ 1
+        → Astray (b .grammar) (b .heard) p work (search (b .grammar) (b .heard) p work) → answer ≡ Refused 53 → Unchanged → Called
+    no-more : {b : Blocks} → calling grammar heard (length work) (length out) ≡ accepted b → p .handed < 256 → p .opened ≡ 1
+        → Missing (b .grammar) (b .heard) p work (search (b .grammar) (b .heard) p work) → answer ≡ NoMore → Unchanged → Called
     one-more : {b : Blocks} → calling grammar heard (length work) (length out) ≡ accepted b → p .handed < 256 → p .opened ≡ 1 → answer ≡ Reading
         → OneMore (b .grammar) (b .heard) → Called
 
-  -- after k readings were handed out, of n that exist: one more, the one with rank k + 1, or "no more"
-  pub record After (g : Grammar) (h : Heard) (k n : ℕ) : Type 0 where
+  -- after k readings were handed out, of n that exist, in a table of `size` numbers: one more, the one with rank k + 1, or "no more"
+  pub record After (g : Grammar) (h : Heard) (size k n : ℕ) : Type 0 where
     pub gives : k < n
         → (t : Tree) × Ranked g h (suc k) t × (answer ≡ Reading) × (out′ ≡ packed g h t ++ drop (outputLength g h) out)
-        × AsLeft g h (suc k) (placeAfter answer p) work′
+        × AsLeft search g h size (suc k) (placeAfter answer p) work′ × Standing g h work′
     pub says-no-more : n ≤ k → answer ≡ NoMore
 
   -- "For k up to 256 a call that is not refused, made after k−1 readings were handed out, gives the kth of the listing, or no more exactly if
-  -- fewer than k exist .. while blocks, place and table come back as they were left." Whatever `AsLeft` says, it is so of what opening leaves
-  -- (a table of zeros and the place of no readings), and each call that hands out a reading passes it on
+  -- fewer than k exist .. while blocks, place and table come back as they were left."
   abbrev pub Kept : Type 0
   Kept =
-      (b : Blocks) → calling grammar heard (length work) (length out) ≡ accepted b → (k : ℕ) → k < 256 → AsLeft (b .grammar) (b .heard) k p work
-      → (n : ℕ) → Number (Derivation (b .grammar) (b .heard)) n → After (b .grammar) (b .heard) k n
+      (b : Blocks) → calling grammar heard (length work) (length out) ≡ accepted b → (size k : ℕ) → k < 256
+      → AsLeft search (b .grammar) (b .heard) size k p work → (n : ℕ) → Number (Derivation (b .grammar) (b .heard)) n
+      → After (b .grammar) (b .heard) size k n

@@ -7,11 +7,9 @@ use chart_table::MOST_RANKS;
 use chart_table::journal::JOURNAL_NUMBERS;
 use chart_table::zero;
 use chart_trace::checked::Scope;
-use grammar_reader::GrammarRead;
-use grammar_reader::Sizes;
-use heard_reader::HeardRead;
-use heard_reader::HeardSize;
-use heard_reader::read_heard;
+use inputs::Inputs;
+use inputs::InputsRead;
+use inputs::read_inputs;
 use listing::Form;
 use listing::TracedRank;
 use listing::form_of;
@@ -25,9 +23,10 @@ ghost use mathlib.Core.Bool.{true};
 ghost use Prim.Native.Nat.{_-_, _*_, _≤_, _<_};
 ghost use lib.ListN.{length};
 ghost use Rattle.chart.specs.Chart.{rootFound};
-ghost use Rattle.grammar_reader.specs.Answer.{Bounded};
+ghost use Rattle.packing.specs.Heard.{heardBlock};
+ghost use Rattle.inputs.specs.Inputs.{Bounds, meantBy};
 ghost use Rattle.open_listing.specs.Open.{opening, openedOf, tableOpened, Called, Kept};
-ghost use Rattle.open_listing.specs.Model.{zeros, Planned, planOf, handsOut, settled, isReading, outputBy, nextTable, Searched, FirstCalled, HeardCalled, GrammarOpened, GrammarCalled};
+ghost use Rattle.open_listing.specs.Model.{zeros, Planned, planOf, handsOut, settled, isReading, outputBy, nextTable, Searched, FirstCalled, As, callBy, nextBy, searched};
 
 // An open listing's place: how many readings were handed out, and whether it was opened.
 #[repr(C)]
@@ -58,12 +57,6 @@ struct Plan {
     form: Form,
     layout: Layout,
     edges: usize,
-}
-
-// What was read of both blocks.
-struct Blocks {
-    sizes: Sizes,
-    heard: HeardSize,
 }
 
 // Whether a call hands out a reading.
@@ -217,21 +210,21 @@ fn later(
     answer
 }
 
-// What a search of these blocks goes by, with a table for all ranks that can be listed.
-fn plan_of(blocks: Blocks) -> Plan
-    requires { ⌜ (Bounded (blocks .sizes)) × (1 ≤ blocks .heard .last) × (blocks .heard .last ≤ 24) × (blocks .heard .edges ≤ 168) ⌝ }
-    ensures { λ p. ⌜ (p ≡ planOf blocks) × Planned p ⌝ }
+// What a search of these inputs goes by, with a table for all ranks that can be listed.
+fn plan_of(inputs: Inputs) -> Plan
+    requires { ⌜ Bounds inputs ⌝ }
+    ensures { λ p. ⌜ (p ≡ planOf inputs) × Planned p ⌝ }
 {
-    let last = blocks.heard.last;
+    let last = inputs.heard.last;
     Plan {
-        form: form_of(blocks.heard.graph, last, blocks.sizes.rules as usize),
-        layout: chart::lay_out(blocks.sizes.symbols as usize, last, MOST_RANKS),
-        edges: blocks.heard.edges,
+        form: form_of(inputs.heard.graph, last, inputs.sizes.rules as usize),
+        layout: chart::lay_out(inputs.sizes.symbols as usize, last, MOST_RANKS),
+        edges: inputs.heard.edges,
     }
 }
 
-// One more reading of what was heard, its edges in an array, under an accepted grammar.
-fn next_heard(
+// One more reading of inputs that were read, their rules and edges in arrays.
+fn next_read(
     rules: &[u32],
     edges: &[u32],
     plan: Plan,
@@ -240,7 +233,7 @@ fn next_heard(
     out: &mut [u8],
 ) -> Answer
     requires { ⌜ Planned plan ⌝ }
-    ensures { λ r. ⌜ HeardCalled (now (rules .entry)) (now (edges .entry)) plan place (now (work .entry)) (now (out .entry)) r (now (work .exit)) (now (out .exit)) ⌝ }
+    ensures { λ r. ⌜ As (callBy (now (rules .entry)) (now (edges .entry)) plan place (now (work .entry)) (now (out .entry))) r (now (work .exit)) (now (out .exit)) ⌝ }
 {
     if work.len() < chart::table_numbers(plan.layout) {
         return Answer::Refused(refused::LISTING_WORK);
@@ -261,56 +254,17 @@ fn next_heard(
     later(work, rules, edges, plan, handed, out)
 }
 
-// One more reading of a block of slots or of a graph under an accepted grammar.
-fn next_grammar(
-    rules: &[u32],
-    sizes: Sizes,
-    heard: &[u8],
-    place: Place,
-    work: &mut [u32],
-    out: &mut [u8],
-) -> Answer
-    requires { ⌜ Bounded sizes ⌝ }
-    ensures { λ r. ⌜ GrammarCalled (now (rules .entry)) sizes (now (heard .entry)) place (now (work .entry)) (now (out .entry)) r (now (work .exit)) (now (out .exit)) ⌝ }
-{
-    let mut edges = [0u32; EDGES_LENGTH];
-    match read_heard(heard, sizes.words, &mut edges) {
-        HeardRead::Refused(n) => Answer::Refused(n),
-        HeardRead::Heard(size) => {
-            let plan = plan_of(Blocks { sizes, heard: size });
-            next_heard(rules, &edges, plan, place, work, out)
-        }
-    }
-}
-
 // One more reading of what was heard, slots or a graph, under the grammar, to the front of `out`, for a place and a work table as they were left.
 pub fn next(grammar: &[u8], heard: &[u8], place: Place, work: &mut [u32], out: &mut [u8]) -> Answer
-    ensures { λ r. ⌜ Called (now (grammar .entry)) (now (heard .entry)) place (now (work .entry)) (now (out .entry)) r (now (work .exit)) (now (out .exit)) ⌝ }
-    ensures { λ r. ⌜ Kept (now (grammar .entry)) (now (heard .entry)) place (now (work .entry)) (now (out .entry)) r (now (work .exit)) (now (out .exit)) ⌝ }
+    ensures { λ r. ⌜ Called searched (now (grammar .entry)) (now (heard .entry)) place (now (work .entry)) (now (out .entry)) r (now (work .exit)) (now (out .exit)) ⌝ }
+    ensures { λ r. ⌜ Kept searched (now (grammar .entry)) (now (heard .entry)) place (now (work .entry)) (now (out .entry)) r (now (work .exit)) (now (out .exit)) ⌝ }
+    ensures { λ r. ⌜ As (nextBy (meantBy heardBlock (now (grammar .entry)) (now (heard .entry))) place (now (work .entry)) (now (out .entry))) r (now (work .exit)) (now (out .exit)) ⌝ }
 {
     let mut rules = [0u32; RULES_LENGTH];
-    match grammar_reader::read_block(grammar, &mut rules) {
-        GrammarRead::Refused(n) => Answer::Refused(n),
-        GrammarRead::Grammar(sizes) => next_grammar(&rules, sizes, heard, place, work, out),
-    }
-}
-
-// Opens a listing of a block of slots or of a graph under an accepted grammar.
-fn open_grammar(sizes: Sizes, heard: &[u8], work: &mut [u32]) -> Opened
-    requires { ⌜ Bounded sizes ⌝ }
-    ensures { λ r. ⌜ GrammarOpened sizes (now (heard .entry)) (now (work .entry)) r (now (work .exit)) ⌝ }
-{
     let mut edges = [0u32; EDGES_LENGTH];
-    match read_heard(heard, sizes.words, &mut edges) {
-        HeardRead::Refused(n) => Opened::Refused(n),
-        HeardRead::Heard(size) => {
-            let plan = plan_of(Blocks { sizes, heard: size });
-            if work.len() < chart::table_numbers(plan.layout) {
-                return Opened::Refused(refused::LISTING_WORK);
-            }
-            zero(work);
-            Opened::Opened
-        }
+    match read_inputs(grammar, heard, &mut rules, &mut edges) {
+        InputsRead::Refused(n) => Answer::Refused(n),
+        InputsRead::Read(inputs) => { next_read(&rules, &edges, plan_of(inputs), place, work, out) }
     }
 }
 
@@ -320,8 +274,16 @@ pub fn open(grammar: &[u8], heard: &[u8], work: &mut [u32]) -> Opened
     ensures { λ r. ⌜ now (work .exit) ≡ tableOpened (opening (now (grammar .entry)) (now (heard .entry)) (length (now (work .entry)))) (now (work .entry)) ⌝ }
 {
     let mut rules = [0u32; RULES_LENGTH];
-    match grammar_reader::read_block(grammar, &mut rules) {
-        GrammarRead::Refused(n) => Opened::Refused(n),
-        GrammarRead::Grammar(sizes) => open_grammar(sizes, heard, work),
+    let mut edges = [0u32; EDGES_LENGTH];
+    match read_inputs(grammar, heard, &mut rules, &mut edges) {
+        InputsRead::Refused(n) => Opened::Refused(n),
+        InputsRead::Read(inputs) => {
+            let plan = plan_of(inputs);
+            if work.len() < chart::table_numbers(plan.layout) {
+                return Opened::Refused(refused::LISTING_WORK);
+            }
+            zero(work);
+            Opened::Opened
+        }
     }
 }

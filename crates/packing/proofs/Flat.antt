@@ -13,7 +13,7 @@ use Rattle.packing.specs.Meaning.{word, Grammar, MarkedRule, marked, rul
 use Rattle.packing.specs.Source.{values, valueOf}
 use Rattle.packing.specs.Grammar.{rulesEntries}
 use Rattle.packing.specs.Utterance.{candidatesEntries, slotsEntries}
-use Rattle.packing.specs.Flat.{Begins, ruleNumbers, ruleAt, rulesAt, rulesOf, markNumbers, markedRulesAt, slotNumbers, candidatesOf, slotsBy, slotsOf, edgeNumbers, nodeBy, nodeRule}
+use Rattle.packing.specs.Flat.{Begins, Overlaid, ruleNumbers, ruleAt, rulesAt, rulesOf, markNumbers, markedRulesAt, slotNumbers, candidatesOf, slotsBy, slotsOf, edgeNumbers, nodeBy, nodeRule}
 use Rattle.packing.specs.Store.{storeAll}
 use Rattle.packing.specs.declared.Rule as R
 use Rattle.packing.specs.declared.Rule.the-variants.{Pair, Word}
@@ -24,10 +24,16 @@ use Rattle.packing.proofs.Store.{store-at}
 pub begins-at : (l array : List ℕ) (i : ℕ) → Begins l array → i < length l → getD array i 0 ≡ getD l i 0
 begins-at l array i b h = sym (getD-take (length l) array i 0 h) ∙ ap (λ (t : List ℕ). getD t i 0) b
 
--- an array begins with what is stored at its front
+-- an array begins with what is laid over its front
+pub overlaid-begins : (l before array : List ℕ) → Overlaid l before array → Begins l array
+overlaid-begins l before array e = rw e (take-append-seam l (drop (length l) before))
+
+-- to store at the front is to lay over it
+pub stored-overlaid : (array ns : List ℕ) → length ns ≤ length array → Overlaid ns array (storeAll array 0 ns)
+stored-overlaid array ns h = rw (store-at array 0 ns (omega arith), zero-add)
+
 pub stored-begins : (array ns : List ℕ) → length ns ≤ length array → Begins ns (storeAll array 0 ns)
-stored-begins array ns h =
-    rw (store-at array 0 ns (omega arith), zero-add) (take-append-seam ns (drop (length ns) array))
+stored-begins array ns h = overlaid-begins ns array (storeAll array 0 ns) (stored-overlaid array ns h)
 
 -- five numbers further on, in a list behind five numbers
 skip-five : (a b c d e : ℕ) (l : List ℕ) (r : ℕ) → ruleAt (a ∷ b ∷ c ∷ d ∷ e ∷ l) (suc r) ≡ ruleAt l r

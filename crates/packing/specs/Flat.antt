@@ -1,9 +1,9 @@
 -- Accepted meanings in flat arrays of numbers, for the contracts of the layers above: document 01, "The listing stands on the meaning
 -- of an accepted block, never on its bytes". Nobody need believe this page: no service's promise names it. Assumes nothing.
 use mathlib.Core.Path.{_≡_}
-use mathlib.Core.List.{List, [], _∷_, map}
+use mathlib.Core.List.{List, [], _∷_, _++_, map}
 use Prim.Native.Nat.{ℕ, zero, suc, _+_, _*_}
-use lib.ListN.{length, getD, take}
+use lib.ListN.{length, getD, take, drop}
 use Rattle.packing.specs.Meaning.{Grammar, MarkedRule, marked, markIn, Marked, grammarOf, Candidate, candidate, Utterance, Edge, edge, word, Node, byPair, byWord}
 use Rattle.packing.specs.Parse.{Verdict, accepted, refused}
 use Rattle.packing.specs.Source.{values}
@@ -15,6 +15,10 @@ use Rattle.packing.specs.declared.Rule.the-variants.{Pair, Word}
 -- the array begins with the numbers l
 abbrev pub Begins : List ℕ → List ℕ → Type 0
 Begins l array = take (length l) array ≡ l
+
+-- the array is what stood there before, with the numbers l laid over its front
+abbrev pub Overlaid : List ℕ → List ℕ → List ℕ → Type 0
+Overlaid l before array = array ≡ l ++ drop (length l) before
 
 -- five numbers for each rule, as in a sheet: kind, head, weight, first, second
 abbrev pub ruleNumbers : Grammar → List ℕ

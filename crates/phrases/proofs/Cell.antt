@@ -1,6 +1,5 @@
--- Going through all rules, and for a pair rule through all lengths of the left part, finds all that a symbol derives of a length and
--- that has a further property X, whatever is found of it (`Is`, such as the least string): a derived string is a word, or joined of two
--- parts that are derived.
+-- Going through all rules, and for a pair rule through all lengths of the left part, finds all that a symbol derives of a length, whatever
+-- is found of it (`Is`, such as the least string): a derived string is a word, or joined of two parts that are derived.
 -- Assumes nothing.
 use mathlib.Core.Path.{_≡_, refl, sym, _∙_}
 use mathlib.Core.Logic.{_⊎_, inl, inr, ⊎-elim}
@@ -23,7 +22,7 @@ use Rattle.derivation.specs.Derivation.{At}
 use Rattle.derivation.proofs.Lists.{at-length}
 use Rattle.derivation.proofs.Ranges.{Within, all-at, valid-within}
 use Rattle.derivation.proofs.Trees.{same-sym}
-use Rattle.phrases.specs.Recursion.{byRule, byRules}
+use Rattle.phrases.specs.Recursion.{headOf, made, byRule, byRules}
 use Rattle.phrases.proofs.Yields.{Yields, one, two, yields-derives}
 use Rattle.phrases.proofs.Least.{Property, Joined}
 use Rattle.phrases.proofs.Enumeration.{true≢false}
@@ -42,11 +41,11 @@ Adds {O} Is Q f = (P : Property) (o : O) → Is P o → Is (λ t. P t ⊎ Q t) (
 
 module _ {O : Type 0} (Is : Property → O → Type 0)
     (same : (P Q : Property) (o : O) → ((t : List ℕ) → P t → Q t) → ((t : List ℕ) → Q t → P t) → Is P o → Is Q o) where
-  pub adds-same : {Q Q′ : Property} {f : O → O} → ((t : List ℕ) → Q t → Q′ t) → ((t : List ℕ) → Q′ t → Q t) → Adds Is Q f → Adds Is Q′ f
+  adds-same : {Q Q′ : Property} {f : O → O} → ((t : List ℕ) → Q t → Q′ t) → ((t : List ℕ) → Q′ t → Q t) → Adds Is Q f → Adds Is Q′ f
   adds-same to from a P o h = same _ _ _ (λ t. ⊎-elim inl (λ q. inr (to t q))) (λ t. ⊎-elim inl (λ q. inr (from t q))) (a P o h)
 
   -- where a test passes
-  pub adds-test : {Q : Property} {f : O → O} (b : Bool) → (b ≡ true → Adds Is Q f) → Adds Is (λ t. (b ≡ true) × Q t) (λ o. pick b (f o) o)
+  adds-test : {Q : Property} {f : O → O} (b : Bool) → (b ≡ true → Adds Is Q f) → Adds Is (λ t. (b ≡ true) × Q t) (λ o. pick b (f o) o)
   adds-test true a P o h = same _ _ _ (λ t. ⊎-elim inl (λ q. inr (refl, q))) (λ t. ⊎-elim inl (λ q. inr (q .1))) (a refl P o h)
   adds-test false a P o h = same _ _ _ (λ t. inl) (λ t. ⊎-elim (λ p. p) (λ q. absurd (true≢false (sym (q .0))))) h
 
@@ -68,46 +67,54 @@ module _ {O : Type 0} (Is : Property → O → Type 0)
       last t y l q (yes e) = inr (rw e at q)
       last t y l q (no e) = inl (inr (y, omega arith, q))
 
-  module _ (g : Grammar) (v : ValidGrammar g) (rule : ℕ → Rule) (stored : Stored g rule)
-      (addSplit : Sym → Sym → ℕ → O → O) (addWord : ℕ → O → O) (A : Sym) (m : ℕ) (X : Property)
-      (splits : (B C : Sym) (j : ℕ) → B .0 < g .symbols → C .0 < g .symbols → 0 < j → j < m
-      → Adds Is (λ t. Joined (Of g B j) (Of g C (m - j)) t × X t) (addSplit B C j))
-      (words : (x : ℕ) → x < g .words → m ≡ 1 → Adds Is (λ t. (t ≡ x ∷ []) × X t) (addWord x)) where
-    -- what a rule makes of words and of derived parts
-    abbrev By : Rule → Property
-    By (Pair H B C w) t = (H .0 ≡ A .0) × ((y : ℕ) × (y < m - 1) × (Joined (Of g B (y + 1)) (Of g C (m - (y + 1))) t × X t))
-    By (Word H x w) t = (H .0 ≡ A .0) × ((m ≡ 1) × ((t ≡ x .0 ∷ []) × X t))
+-- what a rule makes of words and of derived parts, m words long, and what one with head A makes
+module _ (g : Grammar) (m : ℕ) where
+  abbrev pub Made : Rule → Property
+  Made (Pair H B C w) t = (y : ℕ) × (y < m - 1) × Joined (Of g B (y + 1)) (Of g C (m - (y + 1))) t
+  Made (Word H x w) t = (m ≡ 1) × (t ≡ x .0 ∷ [])
 
-    adds-rule : (r : Rule) → Within (g .symbols) (g .words) r → Adds Is (By r) (λ o. byRule addSplit addWord A m o r)
-    unfolding byRule
-    adds-rule (Pair H B C w) (a, b, c) =
-        adds-equal (H .0) (A .0) (λ e. adds-iter (λ y t. Joined (Of g B (y + 1)) (Of g C (m - (y + 1))) t × X t) (λ x y. addSplit B C (y + 1) x) (m - 1)
-        (λ y l. splits B C (y + 1) b c (omega arith) (omega arith)))
-    adds-rule (Word H x w) (a, b) = adds-equal (H .0) (A .0) (λ e. adds-equal m 1 (words (x .0) b))
+  module _ (A : Sym) where
+    abbrev pub By : Rule → Property
+    By rule t = (headOf rule .0 ≡ A .0) × Made rule t
 
-    by-yields : (r : ℕ) (rl : Rule) → At (g .rules) r rl → (t : List ℕ) → By rl t → Of g A m t × X t
-    by-yields r (Pair H B C w) h t (e, (y, l, ((us, vs, (lu, yu), (lv, yv), j), x))) =
-        (rw j (simp length-append (omega arith), two r w (rw (same-sym H A e) at h) yu yv), x)
-    by-yields r (Word H x w) h t (e, (em, (et, q))) = (rw et (sym em, one r w (rw (same-sym H A e) at h)), q)
+    pub by-yields : (r : ℕ) (rl : Rule) → At (g .rules) r rl → (t : List ℕ) → By rl t → Of g A m t
+    by-yields r (Pair H B C w) h t (e, (y, l, (us, vs, (lu, yu), (lv, yv), j))) =
+        rw j (simp length-append (omega arith), two r w (rw (same-sym H A e) at h) yu yv)
+    by-yields r (Word H x w) h t (e, (em, et)) = rw et (sym em, one r w (rw (same-sym H A e) at h))
 
-    yields-by : (t : List ℕ) → Of g A m t × X t → (r : ℕ) × (r < length (g .rules)) × By (rule r) t
-    yields-by t ((l, one {x = x} r w h), q) =
-        let b = at-length (g .rules) r h in
-        let is : rule r ≡ Word A (word x) w = cc (stored r b) in
-        (r, b, rw is (refl, (sym l, (refl, q))))
-    yields-by t ((l, two {B = B} {C = C} {us = us} {vs = vs} r w h left right), q) =
-        let b = at-length (g .rules) r h in
-        let is : rule r ≡ Pair A B C w = cc (stored r b) in
-        let (p₁, _) = yields-derives g left [] [] in
-        let (p₂, _) = yields-derives g right [] [] in
-        let n : length us + length vs ≡ m = sym (length-append us vs) ∙ l in
-        (r, b, rw is (refl, (length us - 1, omega arith, ((us, vs, (omega arith, left), (omega arith, right), refl), q))))
+    module _ (rule : ℕ → Rule) (stored : Stored g rule) where
+      pub yields-by : (t : List ℕ) → Of g A m t → (r : ℕ) × (r < length (g .rules)) × By (rule r) t
+      yields-by t (l, one {x = x} r w h) =
+          let b = at-length (g .rules) r h in
+          let is : rule r ≡ Word A (word x) w = cc (stored r b) in
+          (r, b, rw is (refl, (sym l, refl)))
+      yields-by t (l, two {B = B} {C = C} {us = us} {vs = vs} r w h left right) =
+          let b = at-length (g .rules) r h in
+          let is : rule r ≡ Pair A B C w = cc (stored r b) in
+          let (p₁, _) = yields-derives g left [] [] in
+          let (p₂, _) = yields-derives g right [] [] in
+          let n : length us + length vs ≡ m = sym (length-append us vs) ∙ l in
+          (r, b, rw is (refl, (length us - 1, omega arith, (us, vs, (omega arith, left), (omega arith, right), refl))))
 
-    pub byRules-is : (o : O) → Is (λ t. ⊥) o → Is (λ t. Of g A m t × X t) (byRules addSplit addWord rule (length (g .rules)) A m o)
-    unfolding byRules
+module _ {O : Type 0} (Is : Property → O → Type 0)
+    (same : (P Q : Property) (o : O) → ((t : List ℕ) → P t → Q t) → ((t : List ℕ) → Q t → P t) → Is P o → Is Q o)
+    (g : Grammar) (addSplit : Sym → Sym → ℕ → O → O) (addWord : ℕ → O → O) (m : ℕ)
+    (splits : (B C : Sym) (j : ℕ) → B .0 < g .symbols → C .0 < g .symbols → 0 < j → j < m → Adds Is (Joined (Of g B j) (Of g C (m - j))) (addSplit B C j))
+    (words : (x : ℕ) → x < g .words → m ≡ 1 → Adds Is (λ t. t ≡ x ∷ []) (addWord x)) where
+  pub adds-made : (r : Rule) → Within (g .symbols) (g .words) r → Adds Is (Made g m r) (λ o. made addSplit addWord m o r)
+  unfolding made
+  adds-made (Pair H B C w) (a, b, c) =
+      adds-iter Is same (λ y. Joined (Of g B (y + 1)) (Of g C (m - (y + 1)))) (λ x y. addSplit B C (y + 1) x) (m - 1)
+      (λ y l. splits B C (y + 1) b c (omega arith) (omega arith))
+  adds-made (Word H x w) (a, b) = adds-equal Is same m 1 (words (x .0) b)
+
+  module _ (v : ValidGrammar g) (rule : ℕ → Rule) (stored : Stored g rule) (A : Sym) where
+    pub byRules-is : (o : O) → Is (λ t. ⊥) o → Is (Of g A m) (byRules addSplit addWord rule (length (g .rules)) A m o)
+    unfolding byRules byRule
     byRules-is o h =
         same _ _ _
-        (λ t. ⊎-elim (λ z. absurd z) (λ q. by-yields (q .0) (rule (q .0)) (stored (q .0) (q .1)) t (q .2)))
-        (λ t q. inr (yields-by t q))
-        (adds-iter (λ r. By (rule r)) (λ x r. byRule addSplit addWord A m x (rule r)) (length (g .rules))
-        (λ r l. adds-rule (rule r) (all-at (Within (g .symbols) (g .words)) (g .rules) r (valid-within g v) (stored r l))) (λ t. ⊥) o h)
+        (λ t. ⊎-elim (λ z. absurd z) (λ q. by-yields g m A (q .0) (rule (q .0)) (stored (q .0) (q .1)) t (q .2)))
+        (λ t q. inr (yields-by g m A rule stored t q))
+        (adds-iter Is same (λ r. By g m A (rule r)) (λ x r. byRule addSplit addWord A m x (rule r)) (length (g .rules))
+        (λ r l. adds-equal Is same (headOf (rule r) .0) (A .0) (λ e. adds-made (rule r) (all-at (Within (g .symbols) (g .words)) (g .rules) r (valid-within g v) (stored r l))))
+        (λ t. ⊥) o h)

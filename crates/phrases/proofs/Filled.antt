@@ -25,7 +25,7 @@ pub record Table {T K : Type 0} (size : ℕ) (Room : T → Type 0) (Fit : K → 
 
 module _ {T K : Type 0} {size : ℕ} {Room : T → Type 0} {Fit : K → Type 0} {read : T → ℕ → K} {store : T → ℕ → K → T}
     (law : Table size Room Fit read store) where
-  pub filled : (Right : ℕ → K → Type 0) → (cell : T → ℕ → K) (n : ℕ) → n ≤ size → ((c : ℕ) (x : K) → c < n → Right c x → Fit x)
+  filled : (Right : ℕ → K → Type 0) → (cell : T → ℕ → K) (n : ℕ) → n ≤ size → ((c : ℕ) (x : K) → c < n → Right c x → Fit x)
       → ((t : T) (c : ℕ) → c < n → ((d : ℕ) → d < c → Right d (read t d)) → Right c (cell t c))
       → (t : T) → Room t → Room (fill store cell t n) × ((c : ℕ) → c < n → Right c (read (fill store cell t n) c))
   unfolding fill

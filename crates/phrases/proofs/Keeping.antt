@@ -1,26 +1,23 @@
--- Ways of keeping the least string found: what makes one right, and that by it the recursion finds the least string of a symbol over some
--- places, or of a length. Assumes nothing.
+-- Ways of keeping the least string found: what makes one right, and that by it the recursion finds the least string of a symbol and a
+-- length. Assumes nothing.
 use mathlib.Core.Path.{_≡_, refl}
 use mathlib.Core.Logic.{inl, ⊎-elim}
-use mathlib.Core.Bool.{Bool, true}
 use mathlib.Core.Option.{Option, none, some}
 use mathlib.Core.List.{List, [], _∷_}
 use Prim.Native.Nat.{ℕ, _+_, _-_, _≤_, _<_}
 use native.Mathlib.Omega.{arith}
 use lib.ListN.{length, length-append}
-use Rattle.bits.specs.Bits.{pick}
 use Rattle.packing.specs.Meaning.{Grammar, symbolOf}
 use Rattle.packing.specs.Valid.{ValidGrammar}
 use Rattle.packing.specs.declared.Sym.{Sym}
 use Rattle.packing.specs.declared.Rule.{Rule}
 use Rattle.phrases.specs.Enumeration.{firstPhrase}
-use Rattle.phrases.specs.Recursion.{lesserOf, joinOf, Keeping, leastOver, leastOf}
+use Rattle.phrases.specs.Recursion.{lesserOf, joinOf, Keeping, leastOf}
 use Rattle.phrases.proofs.Yields.{says-yields, yields-says}
 use Rattle.phrases.proofs.Least.{Property, LeastOrNone, nothing, first, least-same, least-unique, lesser-least, Joined, join-least}
 use Rattle.phrases.proofs.Enumeration.{Below}
 use Rattle.phrases.proofs.Theorems.{below-append, yields-below, firstPhrase-least}
-use Rattle.phrases.proofs.Cell.{Of, Stored, Adds, adds-same, adds-test, byRules-is}
-use Rattle.phrases.proofs.Fits.{Fits, fits-one, one-fits, fits-join, fits-left, fits-right}
+use Rattle.phrases.proofs.Cell.{Of, Stored, Adds, byRules-is}
 
 -- a string of m words below W
 abbrev pub Sized : ℕ → ℕ → Property
@@ -46,7 +43,7 @@ pub record Keeps {K : Type 0} (W most : ℕ) (keeping : Keeping K) (Codes : Code
 abbrev pub Finds : {K : Type 0} → Code K → ℕ → Property → K → Type 0
 Finds Codes m P c = (o : Option (List ℕ)) × LeastOrNone P o × Codes m o c
 
-pub finds-same : {K : Type 0} (Codes : Code K) (m : ℕ) {P Q : Property} {c : K} → ((t : List ℕ) → P t → Q t) → ((t : List ℕ) → Q t → P t) → Finds Codes m P c
+finds-same : {K : Type 0} (Codes : Code K) (m : ℕ) {P Q : Property} {c : K} → ((t : List ℕ) → P t → Q t) → ((t : List ℕ) → Q t → P t) → Finds Codes m P c
     → Finds Codes m Q c
 finds-same Codes m f h (o, l, k) = (o, least-same f h l, k)
 
@@ -93,59 +90,30 @@ module _ {K : Type 0} {W most : ℕ} {keeping : Keeping K} {Codes : Code K} (law
             below-append W us vs (sized us z .1) (sized′ vs z′ .1),
           )
 
--- what A derives of length m and may stand from place i on
-abbrev pub Over : Grammar → (ℕ → ℕ → Bool) → Sym → ℕ → ℕ → Property
-Over g allow A i m t = Of g A m t × Fits allow i t
-
 module _ (g : Grammar) (v : ValidGrammar g) where
   pub sized-of : (A : Sym) (m : ℕ) (t : List ℕ) → Of g A m t → Sized (g .words) m t
   sized-of A m t o = (o .0, yields-below g v (o .1))
 
+  -- the least string of a symbol and a length, from those of shorter lengths
   module _ (rule : ℕ → Rule) (stored : Stored g rule) {K : Type 0} {most : ℕ} {keeping : Keeping K} {Codes : Code K}
       (law : Keeps (g .words) most keeping Codes) where
-    -- the least string of a symbol over some places, from those over fewer places
-    pub leastOver-is : (allow : ℕ → ℕ → Bool) (A : Sym) (i m : ℕ) → 0 < m → m ≤ most → (l : Sym → ℕ → ℕ → K)
-        → ((B : Sym) (q j : ℕ) → B .0 < g .symbols → 0 < j → j < m → q + j ≤ i + m → Finds Codes j (Over g allow B q j) (l B q j))
-        → Finds Codes m (Over g allow A i m) (leastOver keeping rule (length (g .rules)) allow l A i m)
-    unfolding leastOver
-    leastOver-is allow A i m p h l least =
-        byRules-is (Held law m) (held-same law m) g v rule stored _ _ A m (Fits allow i) splits words (keeping .missing)
-        ((λ t z. absurd z), (none, nothing (λ t z. z), law .of-none m)) .1
-      where
-        to-whole : (B C : Sym) (j : ℕ) (t : List ℕ) → Joined (Over g allow B i j) (Over g allow C (i + j) (m - j)) t
-            → Joined (Of g B j) (Of g C (m - j)) t × Fits allow i t
-        to-whole B C j t (us, vs, (a, f), (b, k), e) = ((us, vs, a, b, e), rw e (fits-join allow i j us vs (a .0) f k))
-
-        to-parts : (B C : Sym) (j : ℕ) (t : List ℕ) → Joined (Of g B j) (Of g C (m - j)) t × Fits allow i t
-            → Joined (Over g allow B i j) (Over g allow C (i + j) (m - j)) t
-        to-parts B C j t ((us, vs, a, b, e), f) =
-            let k = rw e at f in (us, vs, (a, fits-left allow i j us vs (a .0) k), (b, fits-right allow i j us vs (a .0) k), e)
-
-        splits : (B C : Sym) (j : ℕ) → B .0 < g .symbols → C .0 < g .symbols → 0 < j → j < m
-            → Adds (Held law m) (λ t. Joined (Of g B j) (Of g C (m - j)) t × Fits allow i t) (keeping .addJoin j (m - j) (l B i j) (l C (i + j) (m - j)))
-        splits B C j b c q r =
-            let n : j + (m - j) ≡ m = omega arith in
-            adds-same (Held law m) (held-same law m) (to-whole B C j) (to-parts B C j)
-            (rw n at (join-held law j (m - j) q (omega arith) (omega arith)
-            ((λ t o. sized-of B j t (o .0)), least B i j b q r (omega arith))
-            ((λ t o. sized-of C (m - j) t (o .0)), least C (i + j) (m - j) c (omega arith) (omega arith) (omega arith))))
-
-        words : (x : ℕ) → x < g .words → m ≡ 1
-            → Adds (Held law m) (λ t. (t ≡ x ∷ []) × Fits allow i t) (λ best. pick (allow i x) (keeping .addWord x best) best)
-        words x b e =
-            adds-same (Held law m) (held-same law m)
-            (λ t z. (z .1, rw (z .1) (fits-one allow i x (z .0)))) (λ t z. (one-fits allow i x (rw (z .0) at (z .1)), z .0))
-            (adds-test (Held law m) (held-same law m) (allow i x) (λ y. rw e (word-held law x b)))
-
-    -- the least string of a symbol and a length, from those of shorter lengths
     pub leastOf-is : (A : Sym) (m : ℕ) → 0 < m → m ≤ most → (l : Sym → ℕ → K)
         → ((B : Sym) (j : ℕ) → B .0 < g .symbols → 0 < j → j < m → Finds Codes j (Of g B j) (l B j))
         → Finds Codes m (Of g A m) (leastOf keeping rule (length (g .rules)) l A m)
     unfolding leastOf
     leastOf-is A m p h l least =
-        finds-same Codes m (λ t z. z .0) (λ t z. (z, λ q k. refl))
-        (leastOver-is (λ q x. true) A 0 m p h (λ B q j. l B j)
-        (λ B q j b r s z. finds-same Codes j (λ t z. (z, λ q k. refl)) (λ t z. z .0) (least B j b r s)))
+        byRules-is (Held law m) (held-same law m) g _ _ m splits words v rule stored A (keeping .missing)
+        ((λ t z. absurd z), (none, nothing (λ t z. z), law .of-none m)) .1
+      where
+        splits : (B C : Sym) (j : ℕ) → B .0 < g .symbols → C .0 < g .symbols → 0 < j → j < m
+            → Adds (Held law m) (Joined (Of g B j) (Of g C (m - j))) (keeping .addJoin j (m - j) (l B j) (l C (m - j)))
+        splits B C j b c q r =
+            let n : j + (m - j) ≡ m = omega arith in
+            rw n at (join-held law j (m - j) q (omega arith) (omega arith) (sized-of B j, least B j b q r)
+            (sized-of C (m - j), least C (m - j) c (omega arith) (omega arith)))
+
+        words : (x : ℕ) → x < g .words → m ≡ 1 → Adds (Held law m) (λ t. t ≡ x ∷ []) (λ best. keeping .addWord x best)
+        words x b e = rw e (word-held law x b)
 
   -- what is found of the start is the first phrase
   pub firstPhrase-found : {K : Type 0} (Codes : Code K) (n : ℕ) (c : K) → Finds Codes n (Of g (symbolOf 0) n) c → Codes n (firstPhrase g n) c

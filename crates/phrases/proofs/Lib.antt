@@ -1,11 +1,10 @@
 pub mod Yields
 pub mod Order
 pub mod Least
+pub mod Numbers
 pub mod Enumeration
 pub mod Theorems
 pub mod Cell
-pub mod Fits
-pub mod Above
 pub mod Keeping
 pub mod Filled
 pub mod Padded

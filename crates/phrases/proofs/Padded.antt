@@ -122,11 +122,11 @@ module _ (W : ℕ) (w : W ≤ 200) where
       both : Sized W (i + j) (us ++ vs)
       both = (length-append us vs ∙ (let l = sa .0 in let m = sb .0 in omega arith), below-append W us vs (sa .1) (sb .1))
 
-  pub padded-keeps : Keeps W 24 padded Pads
+  padded-keeps : Keeps W 24 padded Pads
   padded-keeps = record { of-none = λ m. refl; of-word = lesser-word; of-join = lesser-join }
 
 -- padded strings in a table of bytes, one after another
-pub string-fits : (W m : ℕ) (o : Option (List ℕ)) (c : List ℕ) → m ≤ 24 → Each (Sized W m) o → Pads m o c → length c ≡ 24
+string-fits : (W m : ℕ) (o : Option (List ℕ)) (c : List ℕ) → m ≤ 24 → Each (Sized W m) o → Pads m o c → length c ≡ 24
 string-fits W m none c h s e = ap length e
 string-fits W m (some s) c h (string (l, b)) e = rw e (simp (length-append, length-replicate) (omega arith))
 
@@ -158,7 +158,7 @@ module _ (t : List ℕ) (c : ℕ) (x : List ℕ) (room : 24 * c + 24 ≤ length 
   put-other d e (yes h) = put-before d h
   put-other d e (no h) = put-behind d (omega arith)
 
-pub strings-table : (size : ℕ) → Table {T = List ℕ} {K = List ℕ} size (λ t. 24 * size ≤ length t) (λ x. length x ≡ 24) stringAt putString
+strings-table : (size : ℕ) → Table {T = List ℕ} {K = List ℕ} size (λ t. 24 * size ≤ length t) (λ x. length x ≡ 24) stringAt putString
 strings-table size = record {
   stays = λ t c x r l u. rw (length-paste t (24 * c) x 24 (omega arith) (omega arith)) r;
   same = λ t c x r l u. put-same t c x (omega arith) u;

@@ -1,11 +1,9 @@
--- The least string of a symbol over some places, from those over fewer places, and a table filled with them. Nobody need believe this
+-- The least string of a symbol and a length, from those of shorter lengths, and a table filled with them. Nobody need believe this
 -- page: proofs/ says that what is found so is what Phrases defines. Assumes nothing.
-use mathlib.Core.Bool.{Bool, true}
 use mathlib.Core.Option.{Option, none, some}
 use mathlib.Core.List.{List, _++_}
 use Prim.Native.Nat.{ℕ, _+_, _-_, _*_, _/_, _%_}
-use lib.Dec.{eqb, ltb}
-use lib.ListN.{getD}
+use lib.Dec.{eqb}
 use Rattle.bits.specs.Bits.{pick}
 use Rattle.packing.specs.Loop.{iter}
 use Rattle.packing.specs.Meaning.{symbolOf}
@@ -33,33 +31,31 @@ pub record Keeping (K : Type 0) : Type 0 where
   pub addWord : ℕ → K → K
   pub addJoin : ℕ → ℕ → K → K → K → K
 
--- what is found so far goes through all rules with head A, and for a pair rule through all lengths of the left part
+abbrev pub headOf : Rule → Sym
+headOf (Pair H B C w) = H
+headOf (Word H x w) = H
+
+-- what is found so far goes through what a rule makes of m words, for a pair rule through all lengths of the left part; and so through all
+-- rules with head A
 module _ {O : Type 0} (addSplit : Sym → Sym → ℕ → O → O) (addWord : ℕ → O → O) where
-  unfoldable pub byRule : Sym → ℕ → O → Rule → O
+  unfoldable pub made : ℕ → O → Rule → O
   unfolding iter
-  byRule A m o (Pair H B C w) = pick (eqb (H .0) (A .0)) (iter (λ x y. addSplit B C (y + 1) x) o (m - 1)) o
-  byRule A m o (Word H x w) = pick (eqb (H .0) (A .0)) (pick (eqb m 1) (addWord (x .0) o) o) o
+  made m o (Pair H B C w) = iter (λ x y. addSplit B C (y + 1) x) o (m - 1)
+  made m o (Word H x w) = pick (eqb m 1) (addWord (x .0) o) o
+
+  unfoldable pub byRule : Sym → ℕ → O → Rule → O
+  unfolding made
+  byRule A m o rule = pick (eqb (headOf rule .0) (A .0)) (made m o rule) o
 
   unfoldable pub byRules : (ℕ → Rule) → ℕ → Sym → ℕ → O → O
   unfolding iter byRule
   byRules rule R A m o = iter (λ x r. byRule A m x (rule r)) o R
 
--- the least string of symbol A for m places from place i on, where `allow q x` says whether word x may stand at place q, and `l B q j` is
--- that of B for j places from place q on
-unfoldable pub leastOver : {K : Type 0} → Keeping K → (ℕ → Rule) → ℕ → (ℕ → ℕ → Bool) → (Sym → ℕ → ℕ → K) → Sym → ℕ → ℕ → K
-unfolding byRules
-leastOver keeping rule R allow l A i m =
-    byRules (λ B C j best. keeping .addJoin j (m - j) (l B i j) (l C (i + j) (m - j)) best)
-    (λ x best. pick (allow i x) (keeping .addWord x best) best) rule R A m (keeping .missing)
-
--- where any word may stand anywhere, places do not matter: the least string of symbol A and length m
+-- the least string of symbol A and length m, where `l B j` is that of B and length j
 unfoldable pub leastOf : {K : Type 0} → Keeping K → (ℕ → Rule) → ℕ → (Sym → ℕ → K) → Sym → ℕ → K
-unfolding leastOver
-leastOf keeping rule R l A m = leastOver keeping rule R (λ q x. true) (λ B q j. l B j) A 0 m
-
--- the words of a string above s that first differs from it at place p: before that place those of s, there a greater one, and any behind
-unfoldable pub allows : List ℕ → ℕ → ℕ → ℕ → Bool
-allows s p q x = pick (ltb q p) (eqb (getD s q 0) x) (pick (eqb q p) (ltb (getD s q 0) x) true)
+unfolding byRules
+leastOf keeping rule R l A m =
+    byRules (λ B C j best. keeping .addJoin j (m - j) (l B j) (l C (m - j)) best) (λ x best. keeping .addWord x best) rule R A m (keeping .missing)
 
 -- a table filled cell after cell, each computed from those before it
 unfoldable pub fill : {T K : Type 0} → (T → ℕ → K → T) → (T → ℕ → K) → T → ℕ → T

@@ -13,8 +13,10 @@ use Rattle.packing.specs.Alike.{anyLike, unlikeFrom}
 use Rattle.derivation.specs.Derivation.{weight, walk, reading}
 use Rattle.derivation.specs.Order.{costSum}
 use Rattle.derivation.specs.List.{trees, ranked}
-use Rattle.listing.specs.Listing.{tableSize, listed, list, joined}
-use Rattle.checker.specs.Check.{fieldsFrom, firstWith, derivationOf, check}
+use Rattle.listing.specs.Conditions.{tableSize, conditions}
+use Rattle.listing.specs.Listing.{listed, list, joined}
+use Rattle.checker.specs.Judgement.{fieldsFrom}
+use Rattle.checker.specs.Check.{firstWith, derivationOf, check}
 use Rattle.phrases.specs.Phrases.{wordOrder}
 use Rattle.phrases.specs.Enumeration.{firstPhrase, nextPhrase}
 use Rattle.specimen.specs.Specimen.{specimen}
@@ -23,26 +25,28 @@ use Rattle.cost_changes.specs.Costs.{edgesOf}
 use Rattle.cost_changes.specs.Ranges.{slotRises, rises}
 use Rattle.cost_changes.specs.Passes.{raised, answerOf, answer}
 use Rattle.cost_changes.specs.Listed.{marginsOf}
+use Rattle.cost_ranges.specs.Conditions.{rangesConditions}
 use Rattle.cost_ranges.specs.CostRanges.{ranged, ranges}
+use Rattle.word_margins.specs.Conditions.{marginsConditions}
 use Rattle.word_margins.specs.WordMargins as WordMargins
 use Rattle.proved_cases.specs.Table.{AllHold, N6-cases, N8-cases, N11-cases, N12-cases, P-cases}
 
 pub ties-hold : AllHold N6-cases
-unfolding slotEdges edgesFrom num bitsOf pack ended widthOf widthFrom bitsOfAll inRange fieldAt ruleFrom markedRuleFrom anyLike unlikeFrom grammarFrom blockBy markedBlock grammarBlock markedRulesEntries markedEntries blockOfMarked candidatesFrom slotFrom slotsFrom utteranceFrom utteranceBlock heardBlock candidatesEntries slotsEntries utteranceEntries blockOfUtterance walkFrom readingFrom walkEntries readingEntries blockOfReading weight costSum walk reading trees ranked tableSize readingLength listed list joined fieldsFrom firstWith derivationOf check firstPhrase specimen
+unfolding slotEdges edgesFrom num bitsOf pack ended widthOf widthFrom bitsOfAll inRange fieldAt ruleFrom markedRuleFrom anyLike unlikeFrom grammarFrom blockBy markedBlock grammarBlock markedRulesEntries markedEntries blockOfMarked candidatesFrom slotFrom slotsFrom utteranceFrom utteranceBlock heardBlock candidatesEntries slotsEntries utteranceEntries blockOfUtterance walkFrom readingFrom walkEntries readingEntries blockOfReading weight costSum walk reading trees ranked tableSize readingLength conditions listed list joined fieldsFrom firstWith derivationOf check firstPhrase specimen
 ties-hold = (refl, (refl, tt))
 
 pub panel-holds : AllHold N8-cases
-unfolding slotEdges edgesFrom num bitsOf pack ended widthOf widthFrom bitsOfAll inRange fieldAt ruleFrom markedRuleFrom anyLike unlikeFrom grammarFrom blockBy markedBlock grammarBlock markedRulesEntries markedEntries blockOfMarked candidatesFrom slotFrom slotsFrom utteranceFrom utteranceBlock heardBlock candidatesEntries slotsEntries utteranceEntries blockOfUtterance walkFrom readingFrom walkEntries readingEntries blockOfReading weight costSum walk reading trees ranked tableSize readingLength listed list joined
+unfolding slotEdges edgesFrom num bitsOf pack ended widthOf widthFrom bitsOfAll inRange fieldAt ruleFrom markedRuleFrom anyLike unlikeFrom grammarFrom blockBy markedBlock grammarBlock markedRulesEntries markedEntries blockOfMarked candidatesFrom slotFrom slotsFrom utteranceFrom utteranceBlock heardBlock candidatesEntries slotsEntries utteranceEntries blockOfUtterance walkFrom readingFrom walkEntries readingEntries blockOfReading weight costSum walk reading trees ranked tableSize readingLength conditions listed list joined
 panel-holds = (refl, (refl, (refl, (refl, (refl, (refl, (refl, (refl, (refl, (refl, tt))))))))))
 
 pub ranges-hold : AllHold N11-cases
-unfolding slotEdges edgesFrom num bitsOf pack ended widthOf widthFrom bitsOfAll inRange fieldAt ruleFrom markedRuleFrom anyLike unlikeFrom grammarFrom blockBy markedBlock grammarBlock markedRulesEntries markedEntries blockOfMarked candidatesFrom slotFrom slotsFrom utteranceFrom utteranceBlock candidatesEntries slotsEntries utteranceEntries blockOfUtterance weight costSum trees ranked tableSize slotRises rises edgesOf raised answerOf answer ranged ranges
+unfolding slotEdges edgesFrom num bitsOf pack ended widthOf widthFrom bitsOfAll inRange fieldAt ruleFrom markedRuleFrom anyLike unlikeFrom grammarFrom blockBy markedBlock grammarBlock markedRulesEntries markedEntries blockOfMarked candidatesFrom slotFrom slotsFrom utteranceFrom utteranceBlock candidatesEntries slotsEntries utteranceEntries blockOfUtterance weight costSum trees ranked tableSize slotRises rises edgesOf raised answerOf answer rangesConditions ranged ranges
 ranges-hold = (refl, (refl, (refl, (refl, (refl, (refl, (refl, tt)))))))
 
 pub margins-hold : AllHold N12-cases
-unfolding slotEdges edgesFrom num bitsOf pack ended widthOf widthFrom bitsOfAll inRange fieldAt ruleFrom markedRuleFrom anyLike unlikeFrom grammarFrom blockBy markedBlock grammarBlock markedRulesEntries markedEntries blockOfMarked candidatesFrom slotFrom slotsFrom utteranceFrom utteranceBlock candidatesEntries slotsEntries utteranceEntries blockOfUtterance tableSize marginsOf WordMargins.listed WordMargins.margins
+unfolding slotEdges edgesFrom num bitsOf pack ended widthOf widthFrom bitsOfAll inRange fieldAt ruleFrom markedRuleFrom anyLike unlikeFrom grammarFrom blockBy markedBlock grammarBlock markedRulesEntries markedEntries blockOfMarked candidatesFrom slotFrom slotsFrom utteranceFrom utteranceBlock candidatesEntries slotsEntries utteranceEntries blockOfUtterance tableSize marginsOf marginsConditions WordMargins.listed WordMargins.margins
 margins-hold = (refl, (refl, (refl, (refl, (refl, (refl, (refl, (refl, (refl, (refl, (refl, tt)))))))))))
 
 pub cases-hold : AllHold P-cases
-unfolding slotEdges edgesFrom num bitsOf pack ended widthOf widthFrom bitsOfAll inRange fieldAt ruleFrom markedRuleFrom anyLike unlikeFrom grammarFrom blockBy markedBlock grammarBlock markedRulesEntries markedEntries blockOfMarked candidatesFrom slotFrom slotsFrom utteranceFrom utteranceBlock heardBlock candidatesEntries slotsEntries utteranceEntries blockOfUtterance walkFrom readingFrom walkEntries readingEntries blockOfReading weight costSum walk reading trees ranked tableSize readingLength listed list joined fieldsFrom firstWith derivationOf check firstPhrase specimen wordOrder nextPhrase next
+unfolding slotEdges edgesFrom num bitsOf pack ended widthOf widthFrom bitsOfAll inRange fieldAt ruleFrom markedRuleFrom anyLike unlikeFrom grammarFrom blockBy markedBlock grammarBlock markedRulesEntries markedEntries blockOfMarked candidatesFrom slotFrom slotsFrom utteranceFrom utteranceBlock heardBlock candidatesEntries slotsEntries utteranceEntries blockOfUtterance walkFrom readingFrom walkEntries readingEntries blockOfReading weight costSum walk reading trees ranked tableSize readingLength conditions listed list joined fieldsFrom firstWith derivationOf check firstPhrase specimen wordOrder nextPhrase next
 cases-hold = (refl, (refl, (refl, ((refl, λ out. refl), (refl, (refl, (refl, (refl, ((refl, refl), (refl, (refl, (refl, ((refl, refl), ((refl, refl), (refl, ((refl, refl), (refl, ((refl, refl), ((refl, refl), ((refl, refl), (refl, ((refl, refl), ((refl, refl), ((refl, refl), ((refl, refl), ((refl, refl), ((refl, refl), ((refl, refl), tt))))))))))))))))))))))))))))

@@ -11,8 +11,9 @@ use Rattle.packing.specs.Parse.{Verdict, accepted, refused}
 use Rattle.packing.specs.Grammar.{blockOfGrammar}
 use Rattle.packing.specs.Utterance.{blockOfUtterance}
 use Rattle.packing.specs.Reading.{blockOfReading}
-use Rattle.listing.specs.Listing.{library, list, listedOf, outputAfter}
-use Rattle.listing.specs.Listing as Listing
+use Rattle.listing.specs.Conditions as Conditions
+use Rattle.listing.specs.Conditions.{library}
+use Rattle.listing.specs.Listing.{list, listedOf, outputAfter}
 use Rattle.listing.specs.declared.Listed.{Listed}
 use Rattle.listing.specs.declared.Listed.the-variants as L
 use Rattle.listing.specs.declared.Listed.the-variants.{Found}
@@ -68,7 +69,7 @@ Holds (specimen g n out answer after) =
     (answeredOf (Specimen.specimen (blockOfGrammar g) n (length out)) ≡ answer) × (outputOf (Specimen.specimen (blockOfGrammar g) n (length out)) out ≡ after)
 Holds (next g n call out answer after) =
     (answeredOf (NextPhrase.next (blockOfGrammar g) n call out) ≡ answer) × (outputOf (NextPhrase.next (blockOfGrammar g) n call out) out ≡ after)
-Holds (panel g u wanted work out answer) = listedOf (list Listing.panel (blockOfGrammar g) (blockOfUtterance (g .words) u) wanted work out) ≡ answer
+Holds (panel g u wanted work out answer) = listedOf (list Conditions.panel (blockOfGrammar g) (blockOfUtterance (g .words) u) wanted work out) ≡ answer
 Holds (ranges g low high work answer) =
     rangedOf (CostRanges.ranges (blockOfGrammar g) (blockOfUtterance (g .words) low) (blockOfUtterance (g .words) high) work) ≡ answer
 Holds (margins g u work out answer) = WordMargins.margins (blockOfGrammar g) (blockOfUtterance (g .words) u) work out ≡ answer

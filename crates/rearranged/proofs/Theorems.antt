@@ -19,7 +19,8 @@ use Rattle.derivation.proofs.Order.{order-lawful}
 use Rattle.derivation.proofs.Sorted.{ascending-distinct}
 use Rattle.derivation.proofs.Cell.{ranked-derives, ranked-ascending, ranked-order}
 use Rattle.derivation.proofs.Rows.{Price, price, weightIn, costsIn, priceOf}
-use Rattle.rearranged.specs.Rearranged.{Rearranged, renumber, SameRenumbered, RearrangedLists}
+use Rattle.rearranged.specs.Lists.{RearrangedLists}
+use Rattle.rearranged.specs.Rearranged.{Rearranged, renumber, SameRenumbered}
 use Rattle.rearranged.proofs.Ranks.{Climbs, Into, same-length, same-keys}
 use Rattle.rearranged.proofs.Renumber.{derives-below, renumber-injective, renumber-derives, derives-renumbered, derives-both, renumber-weight, renumber-costs}
 

@@ -1,1 +1,2 @@
 pub mod Rearranged
+pub mod Lists

@@ -12,7 +12,7 @@ use Rattle.packing.specs.Source.{Source, values}
 use Rattle.packing.specs.Read.{readOf}
 use Rattle.packing.specs.Alike.{anyLike}
 use Rattle.packing.specs.Grammar.{ruleOf, rulesFrom, rulesEntries}
-use Rattle.packing.specs.Flat.{Begins}
+use Rattle.packing.specs.Flat.{Begins, Overlaid}
 use Rattle.packing.specs.declared.Rule as rules
 use Rattle.packing.specs.declared.Read.{Read}
 use Rattle.packing.specs.declared.Read.the-variants.{Number}
@@ -72,16 +72,17 @@ abbrev pub counted : Parse (List MarkedRule) → Parse ℕ
 counted (parsed rs at) = parsed (length rs) at
 counted (failed n) = failed n
 
-abbrev pub RowsIn : ℕ → ℕ → Parse (List MarkedRule) → List ℕ → List ℕ → Type 0
-RowsIn S W (parsed rs at) rules marks = Begins (values (rulesEntries S W (map ruleIn rs))) rules × Begins (map markIn rs) marks
-RowsIn S W (failed n) rules marks = Unit {0}
+-- the rules' numbers laid over the front of the one array, and their marks at the front of the other
+abbrev pub RowsIn : ℕ → ℕ → Parse (List MarkedRule) → List ℕ → List ℕ → List ℕ → Type 0
+RowsIn S W (parsed rs at) before rules marks = Overlaid (values (rulesEntries S W (map ruleIn rs))) before rules × Begins (map markIn rs) marks
+RowsIn S W (failed n) before rules marks = Unit {0}
 
 abbrev pub CountNear : ℕ → ℕ → Read → Type 0
 CountNear count most (Number v c) = (v ≡ count) × (c .at ≤ most)
 CountNear count most (read.the-variants.Refused n) = Unit {0}
 
 -- what reading the rules from a place promises of its answer and of the arrays
-pub record RulesTold (marking : Bool) (src : Source) (S W R at : ℕ) (r : Read) (rules marks : List ℕ) : Type 0 where
+pub record RulesTold (marking : Bool) (src : Source) (S W R at : ℕ) (r : Read) (before rules marks : List ℕ) : Type 0 where
   pub answer : r ≡ readOf (counted (rulesFrom marking src S W R at []))
-  pub rows : RowsIn S W (rulesFrom marking src S W R at []) rules marks
+  pub rows : RowsIn S W (rulesFrom marking src S W R at []) before rules marks
   pub near : CountNear R (at + 42 * 256) r

@@ -15,13 +15,13 @@ use packing::format::PAIR_RULE;
 use packing::format::RULES_LENGTH;
 use packing::refused;
 ghost use mathlib.Core.Path.{_≡_};
-ghost use mathlib.Core.List.{_++_};
 ghost use Prim.Native.Nat.{_+_, _-_, _*_, _^_, _≤_, _<_};
 ghost use lib.ListN.{length, take};
 ghost use Rattle.packing.specs.Source.{within};
 ghost use Rattle.packing.specs.Read.{readOf, sourceOf};
 ghost use Rattle.bits.specs.Width.{widthOf};
 ghost use Rattle.packing.specs.Ranges.{Ranges};
+ghost use Rattle.packing.specs.Store.{storeAll};
 ghost use Rattle.packing.specs.Grammar.{symbol, firstOf, secondOf, ruleFrom, markFrom, markedRuleFrom};
 ghost use Rattle.rules_reader.specs.Rules.{ruleRead, RuleNear, markedRead, MarkedNear, Sound, row, keyOf, among, filterPlace, Filtered, RulesTold};
 
@@ -234,7 +234,7 @@ fn repeated(filter: &[u8], keys: &[u32], n: usize, key: u32) -> bool
 // The five numbers of rule i into the array.
 fn store_rule(rules: &mut [u32], i: usize, numbers: RuleNumbers)
     requires { ⌜ 5 * i + 5 ≤ length (now rules) ⌝ }
-    ensures { λ _. ⌜ take (5 * i + 5) (now (rules .exit)) ≡ take (5 * i) (now (rules .entry)) ++ row numbers ⌝ }
+    ensures { λ _. ⌜ now (rules .exit) ≡ storeAll (now (rules .entry)) (5 * i) (row numbers) ⌝ }
 {
     let at = NUMBERS_PER_RULE * i;
     rules[at] = numbers.kind;
@@ -257,7 +257,7 @@ pub fn read_rules(
     requires { do
       ⌜ (start < 2 ^ 8) × Ranges (form .symbols) (form .words) × (form .count ≤ (← ⟦MAX_RULES⟧))
           × ((← ⟦RULES_LENGTH⟧) ≤ length (now rules)) × ((← ⟦MAX_RULES⟧) ≤ length (now marks)) ⌝ }
-    ensures { λ r. ⌜ RulesTold (form .marked) (sourceOf src (now (block .entry)) (now (sheet .entry))) (form .symbols) (form .words) (form .count) start r (now (rules .exit)) (now (marks .exit)) ⌝ }
+    ensures { λ r. ⌜ RulesTold (form .marked) (sourceOf src (now (block .entry)) (now (sheet .entry))) (form .symbols) (form .words) (form .count) start r (now (rules .entry)) (now (rules .exit)) (now (marks .exit)) ⌝ }
 {
     let v = Vocabulary {
         symbols: form.symbols,

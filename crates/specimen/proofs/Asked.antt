@@ -13,7 +13,8 @@ use Rattle.packing.specs.Rows.{_∪_, GrammarBlockRow, SpecimenRow}
 use Rattle.packing.proofs.Parse as P
 use Rattle.packing.proofs.Refusals.{Refuses, granted, denied, choose-row, then-rows, grammar-block-row}
 use Rattle.phrases.specs.Enumeration.{firstPhrase}
-use Rattle.specimen.specs.Specimen.{asked, specimen, answeredOf, outputOf}
+use Rattle.specimen.specs.Conditions.{asked}
+use Rattle.specimen.specs.Specimen.{specimen, answeredOf, outputOf}
 use Rattle.specimen.specs.declared.Answered.the-variants.{Refused}
 
 module _ (most : ℕ) (s : List ℕ) (n out : ℕ) where

@@ -50,7 +50,7 @@ module _ {O : Type 0} (addSplit : Sym → Sym → ℕ → O → O) (addWord : �
   other-rule true H B C x w w′ h = rw (ne-eqb (H .0) (A .0) h)
   other-rule false H B C x w w′ h = rw (ne-eqb (H .0) (A .0) h)
 
-  pub other-head : (rules : List ℕ) (r : ℕ) → (getD rules (5 * r + 1) 0 ≡ A .0 → ⊥) → byRule addSplit addWord A m o (fittedAt rules r) ≡ o
+  other-head : (rules : List ℕ) (r : ℕ) → (getD rules (5 * r + 1) 0 ≡ A .0 → ⊥) → byRule addSplit addWord A m o (fittedAt rules r) ≡ o
   other-head rules r h = other-rule (eqb (getD rules (5 * r) 0) 0) (symbolOf (getD rules (5 * r + 1) 0)) _ _ _ _ _ h
 
 pub passed-over : (t : List ℕ) (a : Sym) (m : ℕ) (best rules : List ℕ) (r : ℕ) → (getD rules (5 * r + 1) 0 ≡ a .0 → ⊥) → best ≡ lesserRule t a m best (fittedAt rules r)

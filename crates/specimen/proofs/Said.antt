@@ -37,7 +37,7 @@ module _ (W n : ℕ) (w : W ≤ 200) (pos : 0 < n) where
       let z : getD (t ++ replicate (24 - n) 0) 0 0 ≡ 255 = rw e at h in
       absurd (omega arith)
 
-  pub written-told : (o : Option (List ℕ)) (c out : List ℕ) → Each (Sized W n) o → Pads n o c → (getD c 0 0 ≡ 255 → ⊥)
+  written-told : (o : Option (List ℕ)) (c out : List ℕ) → Each (Sized W n) o → Pads n o c → (getD c 0 0 ≡ 255 → ⊥)
       → (Written ≡ answeredOf (accepted o)) × (paste out 0 c n ≡ outputOf (accepted o) out)
   written-told none c out s e h = absurd (h (ap (λ (l : List ℕ). getD l 0 0) e))
   written-told (some t) c out (string s) e h = (refl, rw (e, take-at t (replicate (24 - n) 0) n (s .0), zero-add n, s .0))

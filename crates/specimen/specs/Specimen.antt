@@ -1,25 +1,16 @@
--- The specimen: document 01, "The services", the row specimen of "Where each check stands" and the paragraph under it; document 02, N7.
--- Stands on packing's and phrases' definitions.
+-- The specimen as a function that can be run: what is asked for (Conditions), and then the first of the enumeration of phrases. Nobody need believe
+-- this page: phrases' theorems say that this is the least phrase of its length.
 use mathlib.Core.Option.{Option, none, some}
 use mathlib.Core.List.{List, _++_}
 use Prim.Native.Nat.{ℕ}
-use lib.Dec.{ltb}
 use lib.ListN.{length, drop}
-use Rattle.bits.specs.Bits.{pick}
-use Rattle.packing.specs.Meaning.{Grammar}
 use Rattle.packing.specs.Parse.{Verdict, accepted, refused, _then_}
-use Rattle.packing.specs.Grammar.{grammarBlock}
 use Rattle.phrases.specs.Enumeration.{firstPhrase}
+use Rattle.specimen.specs.Conditions.{asked}
 use Rattle.specimen.specs.declared.Answered as A
 use Rattle.specimen.specs.declared.Answered.the-variants.{Written, Nothing, Refused}
 
--- the grammar, or the refusal: the length is from 1 to `most`, and the output not shorter
-unfoldable pub asked : (most : ℕ) → List ℕ → ℕ → ℕ → Verdict Grammar
-asked most grammar n out =
-    grammarBlock grammar then λ g.
-    pick (ltb n 1) (refused 25) (pick (ltb most n) (refused 25) (pick (ltb out n) (refused 26) (accepted g)))
-
--- its first string of n words, or that there is none
+-- the first string of n words, or that there is none
 unfoldable pub specimen : List ℕ → ℕ → ℕ → Verdict (Option (List ℕ))
 unfolding asked
 specimen grammar n out = asked 24 grammar n out then λ g. accepted (firstPhrase g n)

@@ -149,7 +149,7 @@ fn fill_table(table: &mut [u8], rules: &[u32], count: usize, n: usize)
 }
 
 // The answer for a grammar that was accepted and a length that there is room for.
-pub fn answer(rules: &[u32], sizes: Sizes, n: usize, out: &mut [u8]) -> Answered
+fn answer(rules: &[u32], sizes: Sizes, n: usize, out: &mut [u8]) -> Answered
     requires { do ⌜ Bounded sizes × (0 < n) × (n ≤ (← ⟦MAX_SLOTS⟧)) × (n ≤ length (now out)) ⌝ }
     ensures { λ r. ⌜ ((g : Grammar) → sizes ≡ sizesOf g → ValidGrammar g → Begins (ruleNumbers g) (now (rules .entry)) → (r ≡ answeredOf (accepted (firstPhrase g n))) × (now (out .exit) ≡ outputOf (accepted (firstPhrase g n)) (now (out .entry)))) ⌝ }
 {

@@ -19,7 +19,8 @@ use Rattle.derivation.proofs.Sorted.{at-order}
 use Rattle.phrases.specs.Enumeration.{phrases, nextPhrase}
 use Rattle.phrases.proofs.Order.{order-lawful}
 use Rattle.phrases.proofs.Theorems.{phrases-exactly, phrases-ascending, first-at, next-at, next-none}
-use Rattle.specimen.specs.Specimen.{asked, outputOf}
+use Rattle.specimen.specs.Conditions.{asked}
+use Rattle.specimen.specs.Specimen.{outputOf}
 use Rattle.specimen.proofs.Asked.{asked-out}
 use Rattle.spireyerba.specs.Code.{stringLength}
 use Rattle.spireyerba.specs.Demands.{Calls, HandedOut, EveryPhrase}

@@ -16,7 +16,7 @@ use Rattle.packing.specs.declared.Written as W
 use Rattle.derivation.specs.Derivation.{Tree}
 use Rattle.checker.specs.Check as Check
 use Rattle.checker.specs.declared.Checked as C
-use Rattle.chance.specs.Chance as Chance
+use Rattle.chance.specs.Answer as Chance
 use Rattle.chance.specs.declared.Outcome as P
 use Rattle.listing.specs.Listing as Listing
 use Rattle.listing.specs.declared.Listed as L

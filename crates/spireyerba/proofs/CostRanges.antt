@@ -10,14 +10,18 @@ use mir.Val.{toZ, ofZ}
 use Rattle.packing.specs.Parse.{Verdict, accepted, refused}
 use Rattle.packing.proofs.Refusals.{Refuses, granted, denied, Low, wider, low-both}
 use Rattle.cost_changes.specs.Ranges.{Answer, nothing, outweighed, stands}
-use Rattle.cost_ranges.specs.CostRanges.{answered, ranges, rangedOf, tableAfter, Meant}
+use Rattle.cost_changes.specs.Passes.{answer}
+use Rattle.cost_ranges.specs.Conditions.{askedRanges}
+use Rattle.cost_ranges.specs.CostRanges.{answered, ranges, rangedOf, tableAfter}
 use Rattle.cost_ranges.specs.declared.Ranged.{Ranged}
 use Rattle.cost_ranges.specs.declared.Ranged.the-variants.{Nothing, Outweighed, Stands, Refused}
-use Rattle.cost_ranges.proofs.Refused.{ranges-row}
-use Rattle.spireyerba.specs.Code.{codeOf, rangesNumber, rangesCode, leastOf, greatestOf, leastAfter, greatestAfter}
+use Rattle.cost_ranges.proofs.Refused.{ranges-asked, ranges-row}
+use Rattle.cost_ranges.proofs.Outcome.{answers-asked}
+use Rattle.spireyerba.specs.Code.{codeOf, rangesCode, leastAfter, greatestAfter}
 use Rattle.spireyerba.specs.Demands as D
+use Rattle.spireyerba.specs.Demands.{rangesNumber, leastOf, greatestOf}
 use Rattle.spireyerba.proofs.Codes.{Small, small-size, small-refusal, told-code, told-number}
-use Rattle.spireyerba.proofs.Demands.{first}
+use Rattle.spireyerba.proofs.Demands.{asked-first}
 
 -- the code of an answer, and what is written
 abbrev pub rangedCode : Ranged → ℤ
@@ -118,11 +122,10 @@ module _ (grammar low high work : List ℕ) where
 
       -- of every way out
       pub ranges-told : {code : ℤ} {work′ : List ℕ} → code ≡ rangesCode due → work′ ≡ tableAfter due work
-          → Meant grammar low high work (λ a. r ≡ answered a) work′
           → (code ≡ rangesCode due) × ((work′ ≡ tableAfter due work) × ((leastBy s least ≡ leastAfter due least)
           × ((greatestBy s greatest ≡ greatestAfter due greatest)
           × D.CostRanges grammar low high work least greatest code work′ (leastBy s least) (greatestBy s greatest))))
-      ranges-told ec ew meant =
+      ranges-told ec ew =
           let l = least-told in
           let h = greatest-told in (
             ec,
@@ -133,21 +136,10 @@ module _ (grammar low high work : List ℕ) where
                 (
                   h,
                   record {
-                    demand-1 = first rangesNumber (ranges-row grammar low high (length work)) ec
-                        (λ a p. (refl, l ∙ ap (λ (v : Verdict Answer). leastAfter v least) p, h ∙ ap (λ (v : Verdict Answer). greatestAfter v greatest) p, ew ∙ ap (λ (v : Verdict Answer). tableAfter v work) p))
+                    demand-1 = asked-first rangesNumber (askedRanges grammar low high (length work)) (λ b. answer (b .0) (b .1) (b .2))
+                        (ranges-asked grammar low high (length work)) (ranges-row grammar low high (length work)) ec
+                        (λ b p q. (answer (b .0) (b .1) (b .2), answers-asked grammar low high work (length work) p, refl, l ∙ ap (λ (v : Verdict Answer). leastAfter v least) q, h ∙ ap (λ (v : Verdict Answer). greatestAfter v greatest) q, ew ∙ ap (λ (v : Verdict Answer). tableAfter v work) q))
                         (λ n p. (ew ∙ ap (λ (v : Verdict Answer). tableAfter v work) p, l ∙ ap (λ (v : Verdict Answer). leastAfter v least) p, h ∙ ap (λ (v : Verdict Answer). greatestAfter v greatest) p));
-                    meant = λ g eg u eu v ev risen room.
-                        let (a, is, answers, zeros) = meant g eg u eu v ev risen room in
-                        let same : s ≡ answered a = sym told ∙ is in (
-                          a,
-                          (
-                            ec ∙ sym ranged-code ∙ ap rangedCode same ∙ answer-code a,
-                            ap (λ (x : Ranged). leastBy x least) same ∙ answer-least a least,
-                            ap (λ (x : Ranged). greatestBy x greatest) same ∙ answer-greatest a greatest,
-                          ),
-                          answers,
-                          zeros,
-                        );
                   },
                 ),
               ),

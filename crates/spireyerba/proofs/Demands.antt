@@ -1,16 +1,19 @@
 -- The demands (specs/Demands), from what the services promise. A refusal's number is not 0, so a code tells an answer from a refusal.
-use mathlib.Core.Path.{_≡_, refl, sym, ap, _∙_}
+use mathlib.Core.Path.{_≡_, refl, sym, subst, ap, _∙_}
 use mathlib.Core.Logic.{_↔_, Iff·trans, ⊎-elim}
 use mathlib.Core.List.{List, _++_}
-use Prim.Native.Nat.{ℕ, zero, suc, _≤_}
+use Prim.Native.Nat.{ℕ, zero, suc, _+_, _-_, _*_, _≤_}
+use native.Mathlib.Nat.{zero-mul, suc-mul}
 use native.Mathlib.Omega.{arith}
 use borrow.Author.Tests.{le-ltb}
 use lib.Ieee.{Float}
 use lib.IntN.{ℤ, pos, negℤ}
 use lib.Dec.{ltb}
-use lib.ListN.{length, take, drop, replicate}
-use lib.Seq.{take-at}
-use Rattle.packing.specs.Parse.{Verdict, accepted, refused}
+use lib.ListN.{length, take, drop, take-append-drop}
+use lib.Seq.{take-at, drop-drop}
+use Rattle.packing.specs.Meaning.{Grammar, Heard}
+use Rattle.packing.specs.Parse.{Verdict, accepted, refused, _then_}
+use Rattle.packing.specs.Valid.{Bytes}
 use Rattle.packing.specs.Conversion.{grammarToBlock, grammarToSheet, utteranceToBlock, utteranceToSheet, fitting, written, TurnsBack}
 use Rattle.packing.specs.Grammar.{markedBlock, grammarBlock, blockOfMarked}
 use Rattle.packing.specs.Rows.{Between, _∪_, GrammarBlockRow, HeardBlockRow, ListingRow, PanelRow}
@@ -23,28 +26,37 @@ use Rattle.office.specs.Office.{Office}
 use Rattle.office.specs.Sheet.{officeSheet}
 use Rattle.office.specs.Conversion.{convertMarked}
 use Rattle.office.proofs.Marked.{marked-grammar}
-use Rattle.office_conversion.specs.Answer.{officeGrammar}
+use Rattle.office_conversion.specs.Limits.{officeGrammar}
 use Rattle.office_conversion.proofs.Limits.{limited}
 use Rattle.office_block.specs.Block.{officeToBlock}
 use Rattle.office_block.proofs.Refused.{office-to-block-row}
 use Rattle.office_theory.proofs.Theorems.{derivations-match, result-accepted}
-use Rattle.derivation.specs.Derivation.{Tree}
-use Rattle.checker.specs.Check.{check, checkedOf, OfDerivation}
+use Rattle.derivation.specs.Derivation.{Tree, walk}
+use Rattle.derivation.specs.Heard.{outputLength, packed}
+use Rattle.derivation.specs.HeardList.{leastDerivations}
+use Rattle.derivation.proofs.HeardTheorems.{least-length}
+use Rattle.checker.specs.Judgement.{OfDerivation}
+use Rattle.checker.specs.Check.{check, checkedOf}
 use Rattle.checker.specs.declared.Checked as C
 use Rattle.checker.proofs.Refused.{check-row, refused-34, refused-35, refused-36}
-use Rattle.chance.specs.Chance.{chance, chanceOf, Shown}
+use Rattle.checker.proofs.Theorems.{judged-so}
+use Rattle.chance.specs.Answer.{chance, chanceOf}
+use Rattle.chance.specs.Chance.{sharesOf, one, productOf, askedChance, Shown}
 use Rattle.chance.specs.declared.Outcome as Chance
-use Rattle.chance.proofs.Shown.{chance-row}
-use Rattle.listing.specs.Listing.{library, panel, Within, tableSize, list, joined, outputAfter, workAfter}
+use Rattle.chance.proofs.Shown.{chance-row, chance-asked}
+use Rattle.listing.specs.Conditions.{library, panel, Within, tableSize, askedListing}
+use Rattle.listing.specs.Listing.{readingsOf, list, outputAfter, workAfter}
 use Rattle.listing.specs.declared.Limits.{Limits}
-use Rattle.listing.specs.Demand3.{Demand3}
-use Rattle.listing.proofs.Demand3.{demand-3, in-library}
+use Rattle.listing.specs.Demand3.{kthBytes, RankedList, Demand3}
+use Rattle.listing.proofs.Due.{asked-row}
+use Rattle.listing.proofs.Accepted.{asked-out, list-asked}
+use Rattle.listing.proofs.Demand3.{ranked-list, demand-3, in-library}
 use Rattle.listing.proofs.Refused.{library-row, panel-row, enough-row}
-use Rattle.listing.proofs.Within.{list-alike}
+use Rattle.listing.proofs.Within.{asked-alike}
 use Rattle.spireyerba.specs.Code.{codeOf, chanceAfter}
 use Rattle.spireyerba.specs.Demands as D
 use Rattle.spireyerba.specs.Demands.{Demand1, answers, refuses, Converts, Result, RoundTrip, Demand2, EqualWithinPanel, PanelRoom}
-use Rattle.spireyerba.proofs.Small.{low-grammar-to-block, low-grammar-to-sheet, low-office-to-block, low-utterance-to-block, low-utterance-to-sheet, low-check, low-chance}
+use Rattle.spireyerba.proofs.Small.{low-grammar-to-block, low-grammar-to-sheet, low-office-to-block, low-utterance-to-block, low-utterance-to-sheet, low-check}
 
 -- the code of an answer is not a refusal's, and the other way round
 pub low-code : (m n : ℕ) → 1 ≤ m → negℤ (pos m) ≡ pos n → ⊥
@@ -70,10 +82,21 @@ module _ {A : Type 0} (size : A → ℕ) {code : ℤ} where
   )
 
   -- demand 1, from the code and what it says of the slices
-  pub first : {v : Verdict A} {Row : ℕ → Type 0} {Answer : A → ℕ → Type 0} {Unchanged : Type 0} → Refuses Row v → code ≡ codeOf size v
+  first : {v : Verdict A} {Row : ℕ → Type 0} {Answer : A → ℕ → Type 0} {Unchanged : Type 0} → Refuses Row v → code ≡ codeOf size v
       → ((a : A) → v ≡ accepted a → Answer a (size a)) → ((n : ℕ) → v ≡ refused n → Unchanged) → Demand1 v Answer Row Unchanged code
   first (granted {a}) e f h = rw e (answers refl (f a refl))
   first (denied {n} r) e f h = rw e (refuses refl r (h n refl))
+
+-- the same where what is due is made of what was asked
+module _ {A B : Type 0} (size : B → ℕ) {code : ℤ} (v : Verdict A) (f : A → B) where
+  pub asked-first : {w : Verdict B} {Row : ℕ → Type 0} {Answer : A → ℕ → Type 0} {Unchanged : Type 0} → w ≡ (v then λ a. accepted (f a)) → Refuses Row w
+      → code ≡ codeOf size w → ((a : A) → v ≡ accepted a → w ≡ accepted (f a) → Answer a (size (f a))) → ((n : ℕ) → w ≡ refused n → Unchanged)
+      → Demand1 v Answer Row Unchanged code
+  asked-first {w} {Row} {Answer} {Unchanged} made rows e told unchanged = go v refl made
+    where
+      go : (u : Verdict A) → v ≡ u → w ≡ (u then λ a. accepted (f a)) → Demand1 u Answer Row Unchanged code
+      go (accepted a) p q = rw (e ∙ ap (codeOf size) q) (answers {a = a} refl (told a p q))
+      go (refused n) p q = rw (e ∙ ap (codeOf size) q) (refuses {n = n} refl (refusal-number rows q) (unchanged n q))
 
 -- the conversions
 converts : (turn : List ℕ → Verdict (List ℕ)) {back : List ℕ → Verdict (List ℕ)} {Row : ℕ → Type 0} (given out : List ℕ) {out′ : List ℕ} {code : ℤ} {r : W.Written}
@@ -142,8 +165,13 @@ module _ (l : Limits) (grammar utterance : List ℕ) (N : ℕ) (work out : List 
 
   lists-row : (Row : ℕ → Type 0) {code : ℤ} {work′ out′ : List ℕ} → Refuses (GrammarBlockRow ∪ HeardBlockRow ∪ Row) due → code ≡ codeOf length due
       → work′ ≡ workAfter due work → out′ ≡ outputAfter due out → D.Lists l Row grammar utterance N work out code work′ out′
-  lists-row Row rows e works writes =
-      first length rows e (λ ls p. (refl, rw p at writes, rw p at works)) (λ n p. (rw p at works, rw p at writes))
+  lists-row Row {work′ = work′} {out′} rows e works writes =
+      asked-first length (askedListing l grammar utterance N (length work) (length out)) (readingsOf N)
+      (list-asked l grammar utterance N (length work) (length out)) rows e
+      (λ b p q.
+      let (is-g, is-h, _) = asked-out l grammar utterance N (length work) (length out) {g = b .0} {h = b .1} p in
+      ranked-list l grammar utterance N work out (λ n. n ≡ length (readingsOf N b)) work′ out′ works writes is-g is-h q refl)
+      (λ n p. (rw p at works, rw p at writes))
 
   lists-least : {code : ℤ} {work′ out′ : List ℕ} → code ≡ codeOf length due → work′ ≡ workAfter due work → out′ ≡ outputAfter due out
       → Within l grammar utterance N → Demand3 grammar utterance N work out (λ m. code ≡ pos m) work′ out′
@@ -168,26 +196,55 @@ module _ (grammar utterance : List ℕ) (N : ℕ) (work out : List ℕ) where
     demand-3 = lists-least panel grammar utterance N work out e works writes;
   }
 
--- what is due decides what a call answers and leaves behind
-abbrev Outcome : Verdict (List (List ℕ)) → (work out : List ℕ) (Row : ℕ → Type 0) (work′ out′ : List ℕ) → ℤ → Type 0
-Outcome v work out Row work′ out′ =
-    Demand1 v (λ ls m. (m ≡ length ls) × (out′ ≡ joined ls ++ drop (length (joined ls)) out) × (work′ ≡ replicate (length work) 0)) Row
-    ((work′ ≡ work) × (out′ ≡ out))
+-- a list by ranks is one: it has as many readings as the enumeration, each that of its rank, and the rest of the output stays as it was
+pub found : {g : Grammar} {h : Heard} {N : ℕ} {work out : List ℕ} {AnswerIs : ℕ → Type 0} {work′ out′ : List ℕ}
+    (call : RankedList g h N work out AnswerIs work′ out′) → length (leastDerivations g h N) ≡ call .m
+found {g} {h} {N} call = least-length g h N (call .derivations) (call .finitely-many) ∙ sym (call .m-is)
 
+same-output : (L m : ℕ) (a b : List ℕ) → ((k : ℕ) → 1 ≤ k → k ≤ m → kthBytes L k a ≡ kthBytes L k b) → drop (m * L) a ≡ drop (m * L) b → a ≡ b
+same-output L zero a b each rest = rw (zero-mul L) at rest
+same-output L (suc m) a b each rest = same-output L m a b (λ k l h. each k l (omega arith)) (front a ∙ rw (kth, rest) (sym (front b)))
+  where
+    front : (x : List ℕ) → drop (m * L) x ≡ take L (drop (m * L) x) ++ drop (suc m * L) x
+    front x =
+        let more : suc m * L ≡ m * L + L = rw suc-mul (omega arith) in
+        sym (take-append-drop L (drop (m * L) x)) ∙ ap (λ (l : List ℕ). take L (drop (m * L) x) ++ l) (drop-drop L (m * L) x ∙ rw more)
+
+    kth : take L (drop (m * L) a) ≡ take L (drop (m * L) b)
+    kth = let less : suc m - 1 ≡ m = omega arith in rw less at (each (suc m) (omega arith) (omega arith))
+
+pub one-list : {g : Grammar} {h : Heard} {N m m′ : ℕ} {work out after written after′ written′ : List ℕ}
+    → RankedList g h N work out (λ n. n ≡ m) after written → RankedList g h N work out (λ n. n ≡ m′) after′ written′
+    → (m′ ≡ m) × (after′ ≡ after) × (written′ ≡ written)
+one-list {g} {h} {after = after} {written} {after′} {written′} there here =
+    let same : here .m ≡ there .m = sym (found here) ∙ found there in
+    (sym (here .accepts) ∙ same ∙ there .accepts, here .zeros ∙ sym (there .zeros), same-output (outputLength g h) (there .m) written′ written (each same) (rest same))
+  where
+    each : here .m ≡ there .m → (k : ℕ) → 1 ≤ k → k ≤ there .m → kthBytes (outputLength g h) k written′ ≡ kthBytes (outputLength g h) k written
+    each same k l n =
+        let (s, ranked, holds) = there .readings k l n in
+        let (t, ranked′, holds′) = here .readings k l (rw same n) in
+        holds′ ∙ ap (packed g h) (ranked .no-other t (ranked′ .derivation) (ranked′ .rank)) ∙ sym holds
+
+    rest : here .m ≡ there .m → drop (there .m * outputLength g h) written′ ≡ drop (there .m * outputLength g h) written
+    rest same = (rw same at (here .beyond)) ∙ sym (there .beyond)
+
+-- two calls for which the same is due answer the same, and leave the same behind where what an answer means is once
 refused-is : {A : Type 0} {m n : ℕ} → _≡_ {A = Verdict A} (refused m) (refused n) → m ≡ n
 refused-is e = cc
 
-one-outcome : {v v′ : Verdict (List (List ℕ))} {work out : List ℕ} {Row Row′ : ℕ → Type 0} {code code′ : ℤ} {after written after′ written′ : List ℕ}
-    → v′ ≡ v → Outcome v work out Row after written code → Outcome v′ work out Row′ after′ written′ code′
-    → (code′ ≡ code) × (after′ ≡ after) × (written′ ≡ written)
-one-outcome {out = out} e (answers {a} p (m, w, z)) (answers {a = b} q (m′, w′, z′)) =
+pub once : {A : Type 0} {v v′ : Verdict A} {Answer Answer′ : A → ℕ → Type 0} {Row Row′ : ℕ → Type 0} {Unchanged Unchanged′ Same : Type 0} {code code′ : ℤ}
+    → v′ ≡ v → Demand1 v Answer Row Unchanged code → Demand1 v′ Answer′ Row′ Unchanged′ code′
+    → ((a : A) (m n : ℕ) → v ≡ accepted a → Answer a m → Answer′ a n → (n ≡ m) × Same) → (Unchanged → Unchanged′ → Same) → (code′ ≡ code) × Same
+once {Answer′ = Answer′} e (answers {a} {n = m} p x) (answers {a = b} {n} q y) f g =
     let same : b ≡ a = accepted-is (sym q ∙ e ∙ p) in
-    (ap pos (m′ ∙ ap length same ∙ sym m), z′ ∙ sym z, w′ ∙ ap (λ (ls : List (List ℕ)). joined ls ++ drop (length (joined ls)) out) same ∙ sym w)
-one-outcome e (answers p t) (refuses q r u) = absurd (refused≢accepted (sym q ∙ e ∙ p))
-one-outcome e (refuses p r u) (answers q t) = absurd (refused≢accepted (sym p ∙ sym e ∙ q))
-one-outcome e (refuses {n} p r (z, w)) (refuses {n = k} q r′ (z′, w′)) =
+    let (number, rest) = f a m n p x (subst (λ z. Answer′ z n) same y) in
+    (ap pos number, rest)
+once e (answers p x) (refuses q r u) f g = absurd (refused≢accepted (sym q ∙ e ∙ p))
+once e (refuses p r u) (answers q y) f g = absurd (refused≢accepted (sym p ∙ sym e ∙ q))
+once e (refuses {n} p r u) (refuses {n = k} q r′ u′) f g =
     let same : k ≡ n = refused-is (sym q ∙ e ∙ p) in
-    (ap (λ (x : ℕ). negℤ (pos x)) same, z′ ∙ sym z, w′ ∙ sym w)
+    (ap (λ (x : ℕ). negℤ (pos x)) same, g u u′)
 
 -- N8, of a call of each listing.
 pub equal-within-panel : EqualWithinPanel
@@ -196,11 +253,13 @@ equal-within-panel grammar heard N within work out code code′ after written af
       slots = λ g h p q. omega (arith, within .slots g h p q);
       readings = omega (arith, within .readings);
     } in
-    let alike = list-alike panel library grammar heard N (length work) (length out) within within-library in
-    one-outcome alike (there .demand-1) (here .demand-1)
+    let alike = asked-alike panel library grammar heard N (length work) (length out) within within-library in
+    let (c, s) = once {Same = (after′ ≡ after) × (written′ ≡ written)} alike (there .demand-1) (here .demand-1)
+    (λ g m n p x y. let (k, z, w) = one-list x y in (k, (z, w))) (λ u u′. (u′ .0 ∙ sym (u .0), u′ .1 ∙ sym (u .1))) in
+    (c, s .0, s .1)
 
 -- A panel that lends what its limits need is not refused for it.
-no-room : {v : Verdict (List (List ℕ))} {Answer : List (List ℕ) → ℕ → Type 0} {Row Row′ : ℕ → Type 0} {Unchanged : Type 0} {code : ℤ}
+no-room : {A : Type 0} {v : Verdict A} {Answer : A → ℕ → Type 0} {Row Row′ : ℕ → Type 0} {Unchanged : Type 0} {code : ℤ}
     → Demand1 v Answer Row Unchanged code → Refuses Row′ v → (n : ℕ) → 1 ≤ n → (Row′ n → ⊥) → code ≡ negℤ (pos n) → ⊥
 no-room (answers {n = k} p t) rows n l never e = low-code n k l (sym e)
 no-room (refuses {n = k} p r u) rows n l never e = never (refusal-number rows (p ∙ ap refused (same-refusal k n e)))
@@ -208,7 +267,8 @@ no-room (refuses {n = k} p r u) rows n l never e = never (refusal-number rows (p
 pub panel-room : PanelRoom
 unfolding tableSize
 panel-room grammar heard N work out code work′ out′ call numbers bytes =
-    let rows = enough-row grammar heard N (length work) (length out) panel numbers bytes in
+    let rows = asked-row (askedListing panel grammar heard N (length work) (length out)) (readingsOf N) (list-asked panel grammar heard N (length work) (length out))
+    (enough-row grammar heard N (length work) (length out) panel numbers bytes) in
     (no-room (call .demand-1) rows 22 (omega arith) (short 22 (omega arith) (omega arith)), no-room (call .demand-1) rows 23 (omega arith) (short 23 (omega arith) (omega arith)))
   where
     short : (n : ℕ) → 22 ≤ n → n ≤ 23 → (GrammarBlockRow ∪ HeardBlockRow ∪ (Between 21 21 ∪ Between 57 58)) n → ⊥
@@ -222,11 +282,13 @@ passed (accepted d) e = refl
 passed (refused n) e = let z : _≡_ {A = ℕ} 0 1 = cc in absurd (omega arith)
 
 module _ (grammar utterance reading : List ℕ) where
-  pub checks : {code : ℤ} {r : C.Checked} → code ≡ codeOf (λ d. 0) (check grammar utterance reading)
+  pub checks : {code : ℤ} {r : C.Checked} → Bytes reading → code ≡ codeOf (λ d. 0) (check grammar utterance reading)
       → r ≡ checkedOf (check grammar utterance reading) → (r ≡ C.the-variants.Passes) ↔ OfDerivation grammar utterance reading
       → D.Check grammar utterance reading code
-  checks {code} {r} e told passes =
+  checks {code} {r} bytes e told passes =
       let low = low-check grammar utterance reading in record {
+        due = check grammar utterance reading;
+        judgement = judged-so grammar utterance reading bytes;
         demand-1 = first (λ d. 0) (check-row grammar utterance reading) e (λ d p. refl) (λ n p. tt);
         demand-2 = (
           λ h. let (d, p, m) = accepted-code (λ d. 0) low e h in passes .0 (told ∙ ap checkedOf p),
@@ -237,18 +299,19 @@ module _ (grammar utterance reading : List ℕ) where
         surplus = Iff·trans (refused-code (λ d. 0) low e (omega arith)) (refused-36 grammar utterance reading);
       }
 
--- the chance: a code of 0 is no refusal's, so the chance was written
+-- the chance: what is accepted was written
 module _ (grammar heard reading shares : List ℕ) where
-  pub chances : {code : ℤ} {float float′ : Float} {r : Chance.Outcome} → code ≡ codeOf (λ x. 0) (chance grammar heard reading shares)
+  pub chances : {code : ℤ} {float float′ : Float} {r : Chance.Outcome} → Bytes reading → code ≡ codeOf (λ x. 0) (chance grammar heard reading shares)
       → float′ ≡ chanceAfter (chance grammar heard reading shares) float → r ≡ chanceOf (chance grammar heard reading shares)
       → ((x : Float) → r ≡ Chance.the-variants.Product x → Shown grammar heard reading shares x)
       → D.Chance grammar heard reading shares float code float′
-  chances {float = float} e w told shown = record {
-    demand-1 = first (λ x. 0) (chance-row grammar heard reading shares) e (λ x p. (refl, w ∙ rw p)) (λ n p. w ∙ rw p);
-    near = λ h.
-        let (x, p, m) = accepted-code (λ x. 0) (low-chance grammar heard reading shares) e h in
-        let is = w ∙ ap (λ v. chanceAfter v float) p in
-        rw is (shown x (told ∙ ap chanceOf p));
+  chances {float = float} bytes e w told shown = record {
+    due = check grammar heard reading;
+    judgement = judged-so grammar heard reading bytes;
+    demand-1 = asked-first (λ x. 0) (askedChance grammar shares (check grammar heard reading)) (λ t. productOf one (sharesOf shares (walk t)))
+        (chance-asked grammar heard reading shares) (chance-row grammar heard reading shares) e
+        (λ t p q. (refl, (let is = w ∙ ap (λ v. chanceAfter v float) q in rw is (shown _ (told ∙ ap chanceOf q)))))
+        (λ n p. w ∙ rw p);
   }
 
 -- two calls: what the first wrote turns back, and there is room for it

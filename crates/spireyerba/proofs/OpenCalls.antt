@@ -65,8 +65,8 @@ module _ (grammar heard work : List ℕ) where
         (refuses v (refusal-number (opening-row grammar heard (length work)) v) (refl, left ∙ ap (λ (v : Verdict S.Blocks). S.tableOpened v work) v))
 
 -- a call
-module _ (grammar heard : List ℕ) (p : Place) (work out : List ℕ) {a : A.Answer} {work′ out′ : List ℕ}
-    (called : S.Called grammar heard p work out a work′ out′) (kept : S.Kept grammar heard p work out a work′ out′) (size : length work′ ≡ length work) where
+module _ {search : S.Search} (grammar heard : List ℕ) (p : Place) (work out : List ℕ) {a : A.Answer} {work′ out′ : List ℕ}
+    (called : S.Called search grammar heard p work out a work′ out′) (kept : S.Kept search grammar heard p work out a work′ out′) (size : length work′ ≡ length work) where
   pub call-refusal : {n : ℕ} → a ≡ Refused n → n < 2147483648
   call-refusal {n} f = low-call n (refused-row called n f)
 
@@ -74,7 +74,7 @@ module _ (grammar heard : List ℕ) (p : Place) (work out : List ℕ) {a : A.Ans
   call-reading = reading-below called
 
   -- an answer that is none of a refusal, and a refusal
-  pub answered : (b : A.Answer) → a ≡ b → Next grammar heard p work out (nextCode b) (S.placeAfter b p) work′ out′
+  pub answered : (b : A.Answer) → a ≡ b → Next search grammar heard p work out (nextCode b) (S.placeAfter b p) work′ out′
   answered b is = record {
     answer = a;
     code-is = ap nextCode (sym is);
@@ -85,5 +85,5 @@ module _ (grammar heard : List ℕ) (p : Place) (work out : List ℕ) {a : A.Ans
     size = size;
   }
 
-  pub turned-away : {n : ℕ} {z : ℤ} → a ≡ Refused n → z ≡ negℤ (pos n) → Next grammar heard p work out (toZ w32 (ofZ w32 z)) p work′ out′
+  pub turned-away : {n : ℕ} {z : ℤ} → a ≡ Refused n → z ≡ negℤ (pos n) → Next search grammar heard p work out (toZ w32 (ofZ w32 z)) p work′ out′
   turned-away {n} f is = rw (back (negℤ (pos n)) (fits-neg n (call-refusal f)) is) (answered (Refused n) f)

@@ -22,34 +22,34 @@ use Rattle.derivation.specs.Heard.{outputLength, packed}
 use Rattle.derivation.specs.HeardList.{derivations, leastDerivations}
 use Rattle.derivation.proofs.Lists.{at-length, at-take}
 use Rattle.derivation.proofs.Cell.{derives-place}
-use Rattle.derivation.proofs.HeardTheorems.{least-length, least-element}
+use Rattle.derivation.proofs.HeardTheorems.{least-element}
 use Rattle.rearranged.specs.Rearranged.{Rearranged, renumber, SameRenumbered}
 use Rattle.rearranged.proofs.Theorems.{same-derivations, rearranged-lists}
 use Rattle.rearranged.proofs.Held.{weight-held}
-use Rattle.listing.specs.Listing.{library, tableSize, listed, list}
-use Rattle.listing.proofs.Accepted.{Asks, accepted-asks}
+use Rattle.listing.specs.Conditions.{library, tableSize, conditions, askedListing}
+use Rattle.listing.proofs.Accepted.{Asks, conditions-asks}
 use Rattle.listing.specs.Demand3.{kthBytes, Ranked, RankedList}
 use Rattle.spireyerba.specs.Demands as D
 use Rattle.spireyerba.specs.Demands.{Demand1, answers, refuses}
 use Rattle.spireyerba.specs.RearrangedCalls.{weightHeld, Among, SameReadings, RearrangedCalls}
 use Rattle.spireyerba.proofs.Small.{low-listing}
-use Rattle.spireyerba.proofs.Demands.{low-code}
+use Rattle.spireyerba.proofs.Demands.{low-code, found}
 
 module _ (grammar heard : List ℕ) {g : Grammar} {h : Heard} (p : grammarBlock grammar ≡ accepted g) (q : heardBlock (g .words) heard ≡ accepted h)
     (N : ℕ) where
   -- a listing that answers was asked for from 1 to 256 readings and lent enough
-  accepted-enough : (work out : ℕ) {ls : List (List ℕ)} → list library grammar heard N work out ≡ accepted ls → Asks g h N work out
-  unfolding list
+  accepted-enough : (work out : ℕ) {b : Grammar × Heard} → askedListing library grammar heard N work out ≡ accepted b → Asks g h N work out
+  unfolding askedListing
   accepted-enough work out e =
-      let e₀ : listed library g h N work out ≡ accepted _ = rw (p, q) at e in
-      accepted-asks library g h N work out e₀ .0
+      let e₀ : conditions library g h N work out ≡ accepted _ = rw (p, q) at e in
+      conditions-asks library g h N work out e₀ .0
 
   answered-enough : {work out after written : List ℕ} {m : ℕ} → D.Listing grammar heard N work out (pos m) after written
       → Asks g h N (length work) (length out)
   answered-enough {work} {out} {after} {written} {m} call = go (call .demand-1) refl
     where
-      go : {Answer : List (List ℕ) → ℕ → Type 0} {Unchanged : Type 0} {z : ℤ}
-          → Demand1 (list library grammar heard N (length work) (length out)) Answer (GrammarBlockRow ∪ HeardBlockRow ∪ ListingRow) Unchanged z → z ≡ pos m
+      go : {Answer : Grammar × Heard → ℕ → Type 0} {Unchanged : Type 0} {z : ℤ}
+          → Demand1 (askedListing library grammar heard N (length work) (length out)) Answer (GrammarBlockRow ∪ HeardBlockRow ∪ ListingRow) Unchanged z → z ≡ pos m
           → Asks g h N (length work) (length out)
       go (answers due a) e = accepted-enough (length work) (length out) due
       go (refuses {n} due row u) e = absurd (low-code n m (low-listing n row .0) e)
@@ -74,14 +74,11 @@ at-rank g h N k {t} l m r =
 
 module _ {g : Grammar} {h : Heard} {N : ℕ} {work out : List ℕ} {AnswerIs : ℕ → Type 0} {work′ out′ : List ℕ}
     (call : RankedList g h N work out AnswerIs work′ out′) where
-  found : length (leastDerivations g h N) ≡ call .m
-  found = least-length g h N (call .derivations) (call .finitely-many) ∙ sym (call .m-is)
-
   -- where fewer are found than wanted, the reading of every derivation is written
   every : call .m < N → (t : Tree) → Derivation g h t → Among g h (call .m) out′ t
   every short t d =
       let (x, e) = derives-place g (heardEdges h) (symbolOf 0) 0 (lastPlace h) d in
-      let below : x < call .m = omega (arith, at-length (derivations g h) x e, length-take N (derivations g h), found) in
+      let below : x < call .m = omega (arith, at-length (derivations g h) x e, length-take N (derivations g h), found call) in
       let (_, rank, _) = least-element g h N x t .0 (at-take N (derivations g h) x t .1 (e, omega arith)) in
       let (s, ranked, holds) = call .readings (1 + x) (omega arith) (omega arith) in
       (d, 1 + x, omega arith, omega arith, holds ∙ ap (packed g h) (sym (ranked .no-other t d rank)))

@@ -1,29 +1,36 @@
 -- Calls of an open listing one after another hand out every reading once, in the order of the listing, and then say "no more" or "full": after k calls
 -- place and table are as they were left after k readings, or after all that there are, or after 256.
-use mathlib.Core.Path.{_≡_, refl, ap, _∙_}
+use mathlib.Core.Path.{_≡_, refl, sym, ap, _∙_}
 use mathlib.Core.Logic.{inl, inr}
 use mathlib.Core.List.{List, _++_}
 use Prim.Native.Nat.{ℕ, zero, suc, _≤_, _<_, min}
 use native.Mathlib.Decide.{decLt}
 use native.Mathlib.Omega.{arith}
-use borrow.Author.Tests.{le-ltb}
+use borrow.Author.Tests.{le-ltb, ltb-false}
+use lib.Dec.{ltb}
 use lib.IntN.{ℤ, pos, negℤ}
 use lib.ListN.{length, drop, replicate, length-replicate}
-use Rattle.packing.specs.Meaning.{Grammar, Heard}
-use Rattle.packing.specs.Parse.{accepted}
+use Rattle.bits.specs.Bits.{pick}
+use Rattle.packing.specs.Meaning.{Grammar, Heard, lastPlace}
+use Rattle.packing.specs.Parse.{Verdict, accepted, refused, _then_}
+use Rattle.packing.specs.Grammar.{grammarBlock}
+use Rattle.packing.specs.Heard.{heardBlock}
+use Rattle.packing.proofs.Parse.{refused≢accepted, accepted-else, accepted-is}
 use Rattle.packing.specs.Rows.{_∪_, GrammarBlockRow, HeardBlockRow, OpenRow}
 use Rattle.derivation.specs.Derivation.{Tree}
 use Rattle.derivation.specs.Heard.{outputLength, packed}
 use Rattle.derivation.specs.HeardList as list
 use Rattle.derivation.proofs.HeardTheorems.{finitely-many}
 use Rattle.listing.specs.Demand3.{Ranked}
-use Rattle.open_listing.specs.Left.{AsLeft}
+use Rattle.listing.specs.Conditions.{tableSize}
+use Rattle.open_listing.specs.Stands.{Standing}
 use Rattle.open_listing.specs.Open as S
+use Rattle.open_listing.proofs.Decided.{answer-decided, table-decided, output-decided}
 use Rattle.open_listing.specs.declared.Place.{Place}
 use Rattle.open_listing.specs.declared.Answer as A
 use Rattle.open_listing.specs.declared.Answer.the-variants.{Reading, NoMore, Full, Refused}
 use Rattle.spireyerba.specs.Demands.{answers, refuses}
-use Rattle.spireyerba.specs.OneByOne.{placeAt, nextCode, Open, Next, Calls, OneByOne, EveryReading}
+use Rattle.spireyerba.specs.OneByOne.{placeAt, nextCode, Open, Next, Calls, OneByOne, EveryReading, EveryCall}
 
 -- no refusal has the code 0
 not-zero : (n : ℕ) → (GrammarBlockRow ∪ HeardBlockRow ∪ OpenRow) n → negℤ (pos n) ≡ pos 0 → ⊥
@@ -50,10 +57,30 @@ calls-accept : (grammar heard : List ℕ) (b : S.Blocks) (work out : ℕ) → S.
 unfolding S.calling
 calls-accept grammar heard b work out e room = rw (e, le-ltb out (outputLength (b .grammar) (b .heard)) room)
 
+-- a table that opening accepts has room for 256 readings
+room-then : (v : Verdict Grammar) (w : Grammar → Verdict Heard) (work : ℕ) (b : S.Blocks)
+    → (v then λ g. w g then λ h. pick (ltb work (tableSize (g .symbols) (lastPlace h) 256)) (refused 22) (accepted (record { grammar = g; heard = h }))) ≡ accepted b
+    → tableSize (b .grammar .symbols) (lastPlace (b .heard)) 256 ≤ work
+room-then (refused n) w work b e = absurd (refused≢accepted e)
+room-then (accepted g) w work b e = go (w g) e
+  where
+    go : (v : Verdict Heard)
+        → (v then λ h. pick (ltb work (tableSize (g .symbols) (lastPlace h) 256)) (refused 22) (accepted (record { grammar = g; heard = h }))) ≡ accepted b
+        → tableSize (b .grammar .symbols) (lastPlace (b .heard)) 256 ≤ work
+    go (refused n) e = absurd (refused≢accepted e)
+    go (accepted h) e =
+        let (t, is) = accepted-else (ltb work (tableSize (g .symbols) (lastPlace h) 256)) 22 _ e in
+        rw (← accepted-is is) (ltb-false _ _ t)
+
+opening-room : (grammar heard : List ℕ) (b : S.Blocks) (work : ℕ) → S.opening grammar heard work ≡ accepted b
+    → tableSize (b .grammar .symbols) (lastPlace (b .heard)) 256 ≤ work
+unfolding S.opening
+opening-room grammar heard b work = room-then (grammarBlock grammar) (λ g. heardBlock (g .words) heard) work b
+
 -- an answer that hands out nothing, and changes nothing
-module _ {grammar heard : List ℕ} {p : Place} {work out : List ℕ} {a : A.Answer} {work′ out′ : List ℕ} {b : S.Blocks}
+module _ {search : S.Search} {grammar heard : List ℕ} {p : Place} {work out : List ℕ} {a : A.Answer} {work′ out′ : List ℕ} {b : S.Blocks}
     (accepts : S.calling grammar heard (length work) (length out) ≡ accepted b) where
-  idle-changes : S.Called grammar heard p work out a work′ out′ → (a ≡ Reading → ⊥) → S.Unchanged grammar heard p work out a work′ out′
+  idle-changes : S.Called search grammar heard p work out a work′ out′ → (a ≡ Reading → ⊥) → S.Unchanged search grammar heard p work out a work′ out′
   idle-changes (S.turned-away e is same) other = same
   idle-changes (S.full e many is same) other = same
   idle-changes (S.not-opened e below closed is same) other = same
@@ -61,7 +88,7 @@ module _ {grammar heard : List ℕ} {p : Place} {work out : List ℕ} {a : A.Ans
   idle-changes (S.no-more e below opened missing is same) other = same
   idle-changes (S.one-more e below opened is more) other = absurd (other is)
 
-  full-said : S.Called grammar heard p work out a work′ out′ → 256 ≤ p .handed → a ≡ Full
+  full-said : S.Called search grammar heard p work out a work′ out′ → 256 ≤ p .handed → a ≡ Full
   full-said (S.turned-away e is same) many = let z : _≡_ {A = ℕ} 0 1 = cc in absurd (omega arith)
   full-said (S.full e enough is same) many = is
   full-said (S.not-opened e below closed is same) many = absurd (omega arith)
@@ -69,8 +96,8 @@ module _ {grammar heard : List ℕ} {p : Place} {work out : List ℕ} {a : A.Ans
   full-said (S.no-more e below opened missing is same) many = absurd (omega arith)
   full-said (S.one-more e below opened is more) many = absurd (omega arith)
 
-module _ (grammar heard : List ℕ) (K : ℕ) (place : ℕ → Place) (work : ℕ → List ℕ) (code : ℕ → ℤ) (out written : ℕ → List ℕ)
-    (calls : Calls grammar heard K place work code out written)
+module _ (search : S.Search) (grammar heard : List ℕ) (K : ℕ) (place : ℕ → Place) (work : ℕ → List ℕ) (code : ℕ → ℤ) (out written : ℕ → List ℕ)
+    (calls : Calls search grammar heard K place work code out written)
     (opened : Opens grammar heard (calls .work-before) (place 0) (work 0))
     (room : (k : ℕ) → k < K → outputLength (opened .blocks .grammar) (opened .blocks .heard) ≤ length (out k)) where
   abbrev g : Grammar
@@ -88,7 +115,7 @@ module _ (grammar heard : List ℕ) (K : ℕ) (place : ℕ → Place) (work : �
 
   -- before call k
   record Before (k : ℕ) : Type 0 where
-    left : AsLeft g h (min k most) (place k) (work k)
+    left : S.AsLeft search g h (length (calls .work-before)) (min k most) (place k) (work k)
     size : length (work k) ≡ length (calls .work-before)
 
   -- nothing is changed by call k
@@ -98,7 +125,7 @@ module _ (grammar heard : List ℕ) (K : ℕ) (place : ℕ → Place) (work : �
     output-same : written k ≡ out k
 
   module _ (k : ℕ) (l : k < K) (before : Before k) where
-    abbrev next : Next grammar heard (place k) (work k) (out k) (code k) (place (suc k)) (work (suc k)) (written k)
+    abbrev next : Next search grammar heard (place k) (work k) (out k) (code k) (place (suc k)) (work (suc k)) (written k)
     next = calls .call k l
 
     accepts : S.calling grammar heard (length (work k)) (length (out k)) ≡ accepted (opened .blocks)
@@ -110,21 +137,23 @@ module _ (grammar heard : List ℕ) (K : ℕ) (place : ℕ → Place) (work : �
       ranked : Ranked g h (suc k) tree
       code-is : code k ≡ pos 1
       written-is : written k ≡ packed g h tree ++ drop (outputLength g h) (out k)
+      stands : Standing g h (work (suc k))
       after : Before (suc k)
 
     handed : k < most → Handed
     handed below =
         let now : min k most ≡ k = omega arith in
-        let then : min (suc k) most ≡ suc k = omega arith in
+        let next-is : min (suc k) most ≡ suc k = omega arith in
         let left = rw now at (before .left) in
-        let after = next .kept (opened .blocks) accepts k (omega arith) left all (finitely-many g h) in
-        let (t, ranked, reads, output, kept) = after .gives (omega arith) in
+        let after = next .kept (opened .blocks) accepts (length (calls .work-before)) k (omega arith) left all (finitely-many g h) in
+        let (t, ranked, reads, output, kept, stands) = after .gives (omega arith) in
         record {
           tree = t;
           ranked = ranked;
           code-is = next .code-is ∙ ap nextCode reads;
           written-is = output;
-          after = record { left = rw (then, next .place-is) kept; size = next .size ∙ before .size };
+          stands = stands;
+          after = record { left = rw (next-is, next .place-is) kept; size = next .size ∙ before .size };
         }
 
     -- or none
@@ -147,10 +176,10 @@ module _ (grammar heard : List ℕ) (K : ℕ) (place : ℕ → Place) (work : �
     no-more few beyond =
         let now : min k most ≡ all = omega arith in
         let left = rw now at (before .left) in
-        next .kept (opened .blocks) accepts all (omega arith) left all (finitely-many g h) .says-no-more (omega arith)
+        next .kept (opened .blocks) accepts (length (calls .work-before)) all (omega arith) left all (finitely-many g h) .says-no-more (omega arith)
 
     full : 256 ≤ all → 256 ≤ k → next .answer ≡ Full
-    full many beyond = full-said accepts (next .called) (omega (arith, before .left .handed))
+    full many beyond = full-said accepts (next .called) (omega (arith, ap (λ (p : Place). p .handed) (before .left .place)))
 
     not-reading : most ≤ k → next .answer ≡ Reading → ⊥
     not-reading beyond e = go (decLt all 256)
@@ -170,7 +199,7 @@ module _ (grammar heard : List ℕ) (K : ℕ) (place : ℕ → Place) (work : �
   before-call zero l =
       let none : min 0 most ≡ 0 = omega arith in
       record {
-        left = rw (none, opened .place, opened .table) (record { handed = refl; opened = refl; table = rw length-replicate refl });
+        left = rw none (record { enough = opening-room grammar heard (opened .blocks) (length (calls .work-before)) (opened .accepts); place = opened .place; table = opened .table });
         size = rw (opened .table, length-replicate) refl;
       }
   before-call (suc k) l = after-call k l (before-call k (omega arith))
@@ -181,7 +210,7 @@ module _ (grammar heard : List ℕ) (K : ℕ) (place : ℕ → Place) (work : �
     finitely-many = finitely-many g h;
     gives = λ k l few more.
         let one = handed k l (before-call k (omega arith)) (omega arith) in
-        (one .tree, one .ranked, one .code-is, one .written-is);
+        (one .tree, one .ranked, one .code-is, one .written-is, one .stands);
     no-more = λ k l few beyond.
         let before = before-call k (omega arith) in
         let same = idle k l before (omega arith) (not-reading k l before (omega arith)) .0 in
@@ -193,6 +222,15 @@ module _ (grammar heard : List ℕ) (K : ℕ) (place : ℕ → Place) (work : �
   }
 
 pub every-reading : EveryReading
-every-reading grammar heard K place work code out written calls =
+every-reading search grammar heard K place work code out written calls =
     let opened = opens (calls .opens) refl in
-    (opened .blocks, (length (calls .work-before), opened .accepts), λ room. one-by-one grammar heard K place work code out written calls opened room)
+    (opened .blocks, (length (calls .work-before), opened .accepts), λ room. one-by-one search grammar heard K place work code out written calls opened room)
+
+pub every-call : EveryCall
+every-call search grammar heard p work out code₁ code₂ p₁ p₂ work₁ work₂ out₁ out₂ c₁ c₂ =
+    let answer = answer-decided search grammar heard p work out (c₁ .called) (c₂ .called) in (
+      c₁ .code-is ∙ ap nextCode answer ∙ sym (c₂ .code-is),
+      c₁ .place-is ∙ ap (λ (a : A.Answer). S.placeAfter a p) answer ∙ sym (c₂ .place-is),
+      table-decided search grammar heard p work out (c₁ .called) (c₂ .called),
+      output-decided search grammar heard p work out (c₁ .called) (c₂ .called),
+    )

@@ -21,25 +21,26 @@ use Rattle.packing.proofs.Widths.{grammar-length, utterance-length, valid-words
 use Rattle.packing.proofs.Whole.{grammar-block-out, marked-block-out, marked-sheet-out, sheet-length, utterance-block-out, utterance-sheet-out}
 use Rattle.packing.proofs.Refusals.{Refuses, granted, denied, Low, wider, low-both, grammar-to-block-row, grammar-to-sheet-row, utterance-to-block-row, utterance-to-sheet-row}
 use Rattle.office.specs.Conversion.{convertMarked}
-use Rattle.office_conversion.specs.Answer.{officeGrammar}
+use Rattle.office_conversion.specs.Limits.{officeGrammar}
 use Rattle.office_conversion.proofs.Limits.{limited}
 use Rattle.office_block.specs.Block.{officeToBlock}
 use Rattle.office_block.proofs.Refused.{office-to-block-row}
 use Rattle.office_theory.proofs.Accepted.{marked-valid}
 use Rattle.checker.specs.Check.{check}
 use Rattle.checker.proofs.Refused.{check-row}
-use Rattle.chance.specs.Chance.{chance}
+use Rattle.chance.specs.Answer.{chance}
 use Rattle.chance.proofs.Shown.{chance-row}
-use Rattle.listing.specs.Listing.{library, panel, tableSize, list}
+use Rattle.listing.specs.Conditions.{library, panel, tableSize}
+use Rattle.listing.specs.Listing.{list}
 use Rattle.listing.specs.declared.Limits.{Limits}
 use Rattle.listing.proofs.Accepted.{accepted-few}
 use Rattle.listing.proofs.Refused.{library-row, panel-row}
-use Rattle.cost_changes.specs.Margins.{Entry}
 use Rattle.cost_changes.specs.Listed.{marginsOf}
+use Rattle.word_margins.specs.Conditions.{marginsConditions}
 use Rattle.word_margins.specs.WordMargins as Again
 use Rattle.word_margins.proofs.Refused.{margins-row, few-margins}
 use Rattle.phrases.proofs.Least.{Property, LeastOrNone, nothing, first}
-use Rattle.specimen.specs.Specimen.{asked}
+use Rattle.specimen.specs.Conditions.{asked}
 use Rattle.specimen.proofs.Asked.{asked-out, asked-row}
 use Rattle.spireyerba.proofs.Searches.{Search}
 use Rattle.spireyerba.proofs.Codes.{Small, small-size, small-refusal, Wanted, as-long, no-string, refusal}
@@ -179,7 +180,7 @@ pub check-small : (grammar heard reading : List ℕ) → Small (λ d. 0) (check 
 check-small grammar heard reading = answers-low (low-check grammar heard reading)
 
 -- the chance
-pub low-chance : (grammar heard reading shares : List ℕ) → Refuses Low (chance grammar heard reading shares)
+low-chance : (grammar heard reading shares : List ℕ) → Refuses Low (chance grammar heard reading shares)
 low-chance grammar heard reading shares =
     wider (low-both (low-three low-heard (λ n r. omega (arith, r))) (λ n r. omega (arith, r))) (chance-row grammar heard reading shares)
 
@@ -204,14 +205,15 @@ module _ (grammar heard : List ℕ) (N work out : ℕ) where
 
 -- the words to listen to again: at most 168
 pub margins-small : (grammar utterance : List ℕ) (work out : ℕ) → Small length (Again.margins grammar utterance work out)
-unfolding Again.margins Again.listed
+unfolding Again.margins Again.listed marginsConditions
 margins-small grammar utterance work out =
     small
     (then-short (grammarBlock grammar) _ (λ g e. then-short (utteranceBlock (g .words) utterance) _ (λ u f.
-    go (ltb work (tableSize (g .symbols) (length u) 1)) (ltb out (4 * length (edges u))) (marginsOf g u) (few-margins (g .words) g u (utterance-block-out (g .words) utterance u f .0)))))
+    go (ltb work (tableSize (g .symbols) (length u) 1)) (ltb out (4 * length (edges u))) (g, u) (few-margins (g .words) g u (utterance-block-out (g .words) utterance u f .0)))))
     (wider (low-three (λ n r. omega (arith, r)) (low-both (λ n r. omega (arith, r)) (λ n r. omega (arith, r)))) (margins-row grammar utterance work out))
   where
-    go : (b c : Bool) (l : List Entry) → length l ≤ 168 → Short (pick b (refused 22) (pick c (refused 43) (accepted l)))
-    go true c l h = none
-    go false true l h = none
-    go false false l h = short {l = l} (omega arith)
+    go : (b c : Bool) (x : Grammar × Utterance) → length (marginsOf (x .0) (x .1)) ≤ 168
+        → Short (pick b (refused 22) (pick c (refused 43) (accepted x)) then λ x. accepted (marginsOf (x .0) (x .1)))
+    go true c x h = none
+    go false true x h = none
+    go false false x h = short {l = marginsOf (x .0) (x .1)} (omega arith)

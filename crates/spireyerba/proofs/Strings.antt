@@ -14,7 +14,8 @@ use Rattle.packing.proofs.Parse.{refused≢accepted, accepted-is}
 use Rattle.packing.proofs.Refusals.{Refuses, granted, denied}
 use Rattle.packing.proofs.Whole.{grammar-block-out}
 use Rattle.phrases.proofs.Least.{LeastOrNone, nothing, first, least-unique}
-use Rattle.specimen.specs.Specimen.{asked, specimen, outputOf}
+use Rattle.specimen.specs.Conditions.{asked}
+use Rattle.specimen.specs.Specimen.{specimen, outputOf}
 use Rattle.specimen.proofs.Asked.{asked-out, asked-row}
 use Rattle.next_phrase.specs.NextPhrase.{next}
 use Rattle.spireyerba.specs.Code.{codeOf, stringLength}

@@ -1,35 +1,30 @@
 -- What the exported function for words to listen to again answers and leaves behind is the verdict's; so the demands are met.
-use mathlib.Core.Path.{_≡_, refl, sym, ap, _∙_}
+use mathlib.Core.Path.{_≡_, refl, ap, _∙_}
 use mathlib.Core.List.{List}
 use lib.IntN.{ℤ}
 use lib.ListN.{length}
 use Prim.Native.Nat.{ℕ}
-use Rattle.packing.specs.Parse.{Verdict, accepted, refused}
+use Rattle.packing.specs.Parse.{Verdict}
 use Rattle.cost_changes.specs.Margins.{Entry}
-use Rattle.listing.specs.Listing.{listedOf, workAfter}
-use Rattle.listing.specs.declared.Listed.{Listed}
-use Rattle.word_margins.specs.WordMargins.{margins, outputAfter, Meant}
-use Rattle.word_margins.proofs.Refused.{margins-row}
+use Rattle.cost_changes.specs.Listed.{marginsOf}
+use Rattle.listing.specs.Listing.{workAfter}
+use Rattle.word_margins.specs.Conditions.{askedMargins}
+use Rattle.word_margins.specs.WordMargins.{margins, outputAfter}
+use Rattle.word_margins.proofs.Refused.{margins-asked, margins-row}
+use Rattle.word_margins.proofs.Outcome.{margins-listed}
 use Rattle.spireyerba.specs.Code.{marginsCode}
-use Rattle.spireyerba.specs.Model.{listedCode}
 use Rattle.spireyerba.specs.Demands as D
-use Rattle.spireyerba.proofs.Demands.{first}
+use Rattle.spireyerba.proofs.Demands.{asked-first}
 
 module _ (grammar utterance work out : List ℕ) where
   abbrev due : Verdict (List Entry)
   due = margins grammar utterance (length work) (length out)
 
-  pub margins-told : {r : Listed} {code : ℤ} {work′ out′ : List ℕ} → r ≡ listedOf due → code ≡ marginsCode due → work′ ≡ workAfter due work → out′ ≡ outputAfter due out
-      → Meant grammar utterance work out (λ l. r ≡ listedOf (accepted l)) work′ out′ → D.WordMargins grammar utterance work out code work′ out′
-  margins-told er ec ew eo meant = record {
-    demand-1 = first length (margins-row grammar utterance (length work) (length out)) ec
-        (λ l p. (refl, eo ∙ ap (λ (v : Verdict (List Entry)). outputAfter v out) p, ew ∙ ap (λ (v : Verdict (List Entry)). workAfter v work) p))
+  pub margins-told : {code : ℤ} {work′ out′ : List ℕ} → code ≡ marginsCode due → work′ ≡ workAfter due work → out′ ≡ outputAfter due out
+      → D.WordMargins grammar utterance work out code work′ out′
+  margins-told ec ew eo = record {
+    demand-1 = asked-first length (askedMargins grammar utterance (length work) (length out)) (λ b. marginsOf (b .0) (b .1))
+        (margins-asked grammar utterance (length work) (length out)) (margins-row grammar utterance (length work) (length out)) ec
+        (λ b p q. (marginsOf (b .0) (b .1), margins-listed grammar utterance work out (length work) (length out) p, refl, eo ∙ ap (λ (v : Verdict (List Entry)). outputAfter v out) q, ew ∙ ap (λ (v : Verdict (List Entry)). workAfter v work) q))
         (λ n p. (ew ∙ ap (λ (v : Verdict (List Entry)). workAfter v work) p, eo ∙ ap (λ (v : Verdict (List Entry)). outputAfter v out) p));
-    meant = λ g eg u eu room wide.
-        let (l, is, lists, writes, zeros) = meant g eg u eu room wide in
-        (l, ec ∙ sym (same due) ∙ ap listedCode (sym er ∙ is), lists, writes, zeros);
   }
-    where
-      same : (v : Verdict (List Entry)) → listedCode (listedOf v) ≡ marginsCode v
-      same (accepted l) = refl
-      same (refused n) = refl

@@ -1,5 +1,5 @@
--- The answers of the services as C numbers: 0 or more is the answer, less than 0 is minus the refusal's number.
--- Assumes nothing.
+-- The answers of the services, as functions that can be run, as C numbers: 0 or more is the answer, less than 0 is minus the refusal's number. Nobody
+-- need believe this page: the exported functions' contracts have the equations with what is computed beside the records of Demands, which say what it means.
 use mathlib.Core.List.{List}
 use mathlib.Core.Option.{Option, none, some}
 use Prim.Native.Nat.{ℕ}
@@ -8,8 +8,9 @@ use lib.IntN.{ℤ, pos, negℤ}
 use lib.ListN.{length}
 use Rattle.packing.specs.Parse.{Verdict, accepted, refused}
 use Rattle.derivation.specs.Derivation.{Tree}
-use Rattle.cost_changes.specs.Ranges.{Answer, nothing, outweighed, stands}
+use Rattle.cost_changes.specs.Ranges.{Answer}
 use Rattle.cost_changes.specs.Margins.{Entry}
+use Rattle.spireyerba.specs.Demands.{rangesNumber, leastOf, greatestOf}
 
 -- of a verdict, whose answer is told by its size
 abbrev pub codeOf : {A : Type 0} → (A → ℕ) → Verdict A → ℤ
@@ -48,24 +49,9 @@ stringLength (some s) = length s
 abbrev pub stringCode : Verdict (Option (List ℕ)) → ℤ
 stringCode v = codeOf stringLength v
 
--- costs known within ranges: 0 none, 1 outweighed under some choice, 2 under none. "Both numbers" are written on 1 and 2, and unchanged otherwise
-abbrev pub rangesNumber : Answer → ℕ
-rangesNumber nothing = 0
-rangesNumber (outweighed least greatest) = 1
-rangesNumber (stands least greatest) = 2
-
+-- costs known within ranges
 abbrev pub rangesCode : Verdict Answer → ℤ
 rangesCode v = codeOf rangesNumber v
-
-abbrev pub leastOf : Answer → ℕ → ℕ
-leastOf nothing before = before
-leastOf (outweighed least greatest) before = least
-leastOf (stands least greatest) before = least
-
-abbrev pub greatestOf : Answer → ℕ → ℕ
-greatestOf nothing before = before
-greatestOf (outweighed least greatest) before = greatest
-greatestOf (stands least greatest) before = greatest
 
 abbrev pub leastAfter : Verdict Answer → ℕ → ℕ
 leastAfter (accepted a) before = leastOf a before

@@ -2,7 +2,8 @@
 -- `grammar`, `sheet`, `out` .. are the numbers of a slice before the call, `work′` and `out′` those afterwards. Each exported function's
 -- contract, in src/lib.rt, promises of every call the record of this page with the function's name; proofs/Demands has the theorems
 -- about two calls, proofs/Calls that about many. RearrangedCalls is about two calls of the listing. Every other name is defined on the page
--- that its `use` line names.
+-- that its `use` line names. What is answered is said by its meaning, in the terms of the documents; the equations with what is computed, which
+-- every contract has beside its record, are Code's, and nobody need believe them.
 use mathlib.Core.Path.{_≡_}
 use mathlib.Core.Logic.{_⊎_, _↔_}
 use mathlib.Core.List.{List, _++_}
@@ -20,24 +21,24 @@ use Rattle.office.specs.Sheet.{officeSheet}
 use Rattle.office.specs.Conversion.{convert, convertMarked}
 use Rattle.office_block.specs.Block.{officeToBlock}
 use Rattle.office_theory.specs.Matching.{Match}
-use Rattle.derivation.specs.Derivation.{At}
+use Rattle.derivation.specs.Derivation.{At, Tree}
 use Rattle.derivation.specs.Rank.{_∈_}
-use Rattle.checker.specs.Check.{check, OfDerivation, NoWalk, OtherWeight, Surplus}
-use Rattle.chance.specs.Chance.{chance, Shown}
-use Rattle.listing.specs.Listing.{library, panel, Within, list, joined}
+use Rattle.checker.specs.Judgement.{OfDerivation, NoWalk, OtherWeight, Surplus, Judgement}
+use Rattle.chance.specs.Chance.{askedChance, Shown}
+use Rattle.listing.specs.Conditions.{library, panel, Within, askedListing}
 use Rattle.listing.specs.declared.Limits.{Limits}
-use Rattle.listing.specs.Demand3.{Demand3}
-use Rattle.cost_changes.specs.Margins.{listNumbers}
-use Rattle.cost_ranges.specs.CostRanges.{ranges, Meant}
-use Rattle.word_margins.specs.WordMargins as margins-page
-use Rattle.word_margins.specs.WordMargins.{margins, MarginsRow}
+use Rattle.listing.specs.Demand3.{RankedList, Demand3}
+use Rattle.cost_changes.specs.Ranges as ranges
+use Rattle.cost_changes.specs.Ranges.{nothing, outweighed, stands, Answers}
+use Rattle.cost_changes.specs.Margins.{Entry, listNumbers, Margins}
+use Rattle.cost_ranges.specs.Conditions.{askedRanges}
+use Rattle.word_margins.specs.Conditions.{MarginsRow, askedMargins}
 use Rattle.phrases.specs.Phrases.{Phrase, Precedes, Least}
-use Rattle.specimen.specs.Specimen.{asked}
-use Rattle.spireyerba.specs.Code.{rangesNumber, leastOf, greatestOf}
+use Rattle.specimen.specs.Conditions.{asked}
 
 -- Demand 1: "Whatever arrives, every service returns its stated answer or one refusal by number, and a refusal changes nothing lent."
--- What is due for what arrived is a definition's, an answer or a refusal. The code of an answer is 0 or more, and `Answer` says what
--- it tells and what was written. The code of a refusal is minus its number, which is of the service's rows and so not 0.
+-- What is due for what arrived is a definition's: a refusal, or what the service is asked about. The code of an answer is 0 or more, and `Answer`
+-- says what it tells and what was written. The code of a refusal is minus its number, which is of the service's rows and so not 0.
 pub data Demand1 {A : Type 0} (due : Verdict A) (Answer : A → ℕ → Type 0) (Row : ℕ → Type 0) (Unchanged : Type 0) : ℤ → Type 0 where
   answers : {a : A} {n : ℕ} → due ≡ accepted a → Answer a n → Demand1 due Answer Row Unchanged (pos n)
   refuses : {n : ℕ} → due ≡ refused n → Row n → Unchanged → Demand1 due Answer Row Unchanged (negℤ (pos n))
@@ -76,12 +77,11 @@ abbrev pub UtteranceToSheet : (grammar block out : List ℕ) (code : ℤ) (out�
 UtteranceToSheet grammar block out code out′ =
     Converts (utteranceToSheet grammar) (utteranceToBlock grammar) (GrammarBlockRow ∪ UtteranceBlockRow ∪ OutputRow) block out code out′
 
--- The listing, of slots or of a graph, "answers m, the number found, and writes the m readings one after another", and "the work table is
--- all zeros". Demand 3: they are the least, in their order, and none is left out.
+-- The listing, of slots or of a graph, "answers m, the number found, and writes the m readings one after another": `RankedList` has demand 3's
+-- list of a grammar and of what was heard. They are the least, in their order, and none is left out; "the work table is all zeros".
 abbrev pub Lists : Limits → (Row : ℕ → Type 0) (grammar heard : List ℕ) (N : ℕ) (work out : List ℕ) (code : ℤ) (work′ out′ : List ℕ) → Type 0
 Lists l Row grammar heard N work out code work′ out′ =
-    Demand1 (list l grammar heard N (length work) (length out))
-    (λ ls m. (m ≡ length ls) × (out′ ≡ joined ls ++ drop (length (joined ls)) out) × (work′ ≡ replicate (length work) 0))
+    Demand1 (askedListing l grammar heard N (length work) (length out)) (λ b m. RankedList (b .0) (b .1) N work out (λ n. n ≡ m) work′ out′)
     (GrammarBlockRow ∪ HeardBlockRow ∪ Row) ((work′ ≡ work) × (out′ ≡ out)) code
 
 pub record Listing (grammar heard : List ℕ) (N : ℕ) (work out : List ℕ) (code : ℤ) (work′ out′ : List ℕ) : Type 0 where
@@ -108,11 +108,13 @@ PanelRoom =
     (grammar heard : List ℕ) (N : ℕ) (work out : List ℕ) (code : ℤ) (work′ out′ : List ℕ) → PanelListing grammar heard N work out code work′ out′
     → 159744 ≤ length work → 608 ≤ length out → ¬ (code ≡ negℤ (pos 22)) × ¬ (code ≡ negℤ (pos 23))
 
--- The check is lent nothing to write to, and "answers passes", with the code 0, "or a refusal". Demand 2: "a reading passes exactly if it
--- is the packing of a derivation with its true weight"; and 34, 35 and 36 are answered exactly if the table says so.
+-- The check is lent nothing to write to, and "answers passes", with the code 0, "or a refusal": what is due is the first that holds in the order of
+-- the table (Judgement). Demand 2: "a reading passes exactly if it is the packing of a derivation with its true weight"; and 34, 35 and 36 are
+-- answered exactly if the table says so.
 pub record Check (grammar heard reading : List ℕ) (code : ℤ) : Type 0 where
-  pub demand-1 : Demand1 (check grammar heard reading) (λ t n. n ≡ 0) (GrammarBlockRow ∪ HeardBlockRow ∪ ReadingBlockRow) (Unit {0})
-      code
+  pub due : Verdict Tree
+  pub judgement : Judgement grammar heard reading due
+  pub demand-1 : Demand1 due (λ t n. n ≡ 0) (GrammarBlockRow ∪ HeardBlockRow ∪ ReadingBlockRow) (Unit {0}) code
   pub demand-2 : (code ≡ pos 0) ↔ OfDerivation grammar heard reading
   pub no-walk : (code ≡ negℤ (pos 34)) ↔ NoWalk grammar heard reading
   pub other-weight : (code ≡ negℤ (pos 35)) ↔ OtherWeight grammar heard reading
@@ -122,26 +124,43 @@ pub record Check (grammar heard reading : List ℕ) (code : ℤ) : Type 0 where
 -- the exact product of its nodes' shares: `Shown` has "differs from P by at most m × P divided by 2 to the power 52" and "A reading of one node
 -- is exact".
 pub record Chance (grammar heard reading shares : List ℕ) (float : Float) (code : ℤ) (float′ : Float) : Type 0 where
-  pub demand-1 : Demand1 (chance grammar heard reading shares) (λ x n. (n ≡ 0) × (float′ ≡ x))
+  pub due : Verdict Tree
+  pub judgement : Judgement grammar heard reading due
+  pub demand-1 : Demand1 (askedChance grammar shares due) (λ t n. (n ≡ 0) × Shown grammar heard reading shares float′)
       (GrammarBlockRow ∪ HeardBlockRow ∪ ReadingBlockRow ∪ SharesRow) (float′ ≡ float) code
-  pub near : code ≡ pos 0 → Shown grammar heard reading shares float′
 
--- Document 02, N11: with the code 0 there is no derivation, with 1 and 2 the least and the greatest first weight over all choices of costs between
--- low and high are written. `Meant` has "over all choices", "both of them reached" and "outweighed under no choice".
+-- Document 02, N11, as C numbers: 0 none, 1 outweighed under some choice, 2 under none. "Both numbers" are written on 1 and 2, and unchanged otherwise
+abbrev pub rangesNumber : ranges.Answer → ℕ
+rangesNumber nothing = 0
+rangesNumber (outweighed least greatest) = 1
+rangesNumber (stands least greatest) = 2
+
+abbrev pub leastOf : ranges.Answer → ℕ → ℕ
+leastOf nothing before = before
+leastOf (outweighed least greatest) before = least
+leastOf (stands least greatest) before = least
+
+abbrev pub greatestOf : ranges.Answer → ℕ → ℕ
+greatestOf nothing before = before
+greatestOf (outweighed least greatest) before = greatest
+greatestOf (stands least greatest) before = greatest
+
+-- What is answered is the answer over all choices of costs between low and high: `Answers` has "over all choices", "both of them reached" and
+-- "outweighed under no choice".
 pub record CostRanges (grammar low high work : List ℕ) (least greatest : ℕ) (code : ℤ) (work′ : List ℕ) (least′ greatest′ : ℕ) : Type 0 where
-  pub demand-1 : Demand1 (ranges grammar low high (length work))
-      (λ a n. (n ≡ rangesNumber a) × (least′ ≡ leastOf a least) × (greatest′ ≡ greatestOf a greatest) × (work′ ≡ replicate (length work) 0))
+  pub demand-1 : Demand1 (askedRanges grammar low high (length work))
+      (λ b n. (a : ranges.Answer) × Answers (b .0) (b .1) (b .2) a × (n ≡ rangesNumber a) × (least′ ≡ leastOf a least) × (greatest′ ≡ greatestOf a greatest)
+      × (work′ ≡ replicate (length work) 0))
       (GrammarBlockRow ∪ UtteranceBlockRow ∪ RangesRow) ((work′ ≡ work) × (least′ ≡ least) × (greatest′ ≡ greatest)) code
-  pub meant : Meant grammar low high work (λ a. (code ≡ pos (rangesNumber a)) × (least′ ≡ leastOf a least) × (greatest′ ≡ greatestOf a greatest)) work′
 
--- Document 02, N12: the code is the number of entries, which stand at the front of the output, four numbers each. Its `Meant` has that
+-- Document 02, N12: the code is the number of entries, which stand at the front of the output, four numbers each. `Margins` has that
 -- they are the list: "the least whole amount", "by amount, then slot, then word", "each entry must hold when the cost is changed and the listing run
 -- afresh, and a fall smaller by one must bring none".
 pub record WordMargins (grammar utterance work out : List ℕ) (code : ℤ) (work′ out′ : List ℕ) : Type 0 where
-  pub demand-1 : Demand1 (margins grammar utterance (length work) (length out))
-      (λ l n. (n ≡ length l) × (out′ ≡ listNumbers l ++ drop (length (listNumbers l)) out) × (work′ ≡ replicate (length work) 0))
+  pub demand-1 : Demand1 (askedMargins grammar utterance (length work) (length out))
+      (λ b n. (l : List Entry) × Margins (b .0) (b .1) l × (n ≡ length l) × (out′ ≡ listNumbers l ++ drop (length (listNumbers l)) out)
+      × (work′ ≡ replicate (length work) 0))
       (GrammarBlockRow ∪ UtteranceBlockRow ∪ MarginsRow) ((work′ ≡ work) × (out′ ≡ out)) code
-  pub meant : margins-page.Meant grammar utterance work out (λ l. code ≡ pos (length l)) work′ out′
 
 -- The least string with a property, whose length n is answered, stands at the front of the output; or there is none, 0 is answered and
 -- nothing was written.

@@ -19,14 +19,16 @@ ghost use lib.ListN.{length};
 ghost use Rattle.packing.specs.Conversion.{grammarToBlock, grammarToSheet, utteranceToBlock, utteranceToSheet, fitting, written};
 ghost use Rattle.office_block.specs.Block.{officeToBlock};
 ghost use Rattle.checker.specs.Check.{check};
-ghost use Rattle.chance.specs.Chance as definition;
-ghost use Rattle.listing.specs.Listing.{library, panel, list, outputAfter, workAfter};
+ghost use Rattle.chance.specs.Answer as definition;
+ghost use Rattle.listing.specs.Conditions.{library, panel};
+ghost use Rattle.listing.specs.Listing.{list, outputAfter, workAfter};
 ghost use Rattle.cost_ranges.specs.CostRanges.{ranges, tableAfter};
 ghost use Rattle.word_margins.specs.WordMargins as again;
 ghost use Rattle.specimen.specs.Specimen.{specimen, outputOf};
 ghost use Rattle.next_phrase.specs.NextPhrase.{next};
 ghost use Rattle.spireyerba.specs.Code.{checkCode, chanceCode, chanceAfter, listCode, marginsCode, lengthCode, stringCode, rangesCode, leastAfter, greatestAfter};
 ghost use Rattle.spireyerba.specs.Demands as demands;
+ghost use Rattle.open_listing.specs.Model.{searched};
 ghost use Rattle.spireyerba.specs.OneByOne as onebyone;
 ghost use Rattle.spireyerba.specs.OneByOne.{placeAt};
 ghost use Rattle.spireyerba.specs.Model.{writtenCode, SmallWritten, listedCode, SmallListed};
@@ -323,7 +325,7 @@ fn next_call(
     handed: u32,
     opened: u32,
 ) -> Moved
-    ensures { λ r. ⌜ onebyone.Next (now (grammar .entry)) (now (utterance .entry)) (placeAt handed opened) (now (work .entry)) (now (out .entry)) (r .code) (placeAt (r .handed) (r .opened)) (now (work .exit)) (now (out .exit)) ⌝ }
+    ensures { λ r. ⌜ onebyone.Next searched (now (grammar .entry)) (now (utterance .entry)) (placeAt handed opened) (now (work .entry)) (now (out .entry)) (r .code) (placeAt (r .handed) (r .opened)) (now (work .exit)) (now (out .exit)) ⌝ }
 {
     let answer = open_listing::next(grammar, utterance, Place { handed, opened }, work, out);
     match answer {
@@ -378,7 +380,7 @@ pub extern "C" fn spireyerba_next(
     work: &mut [u32],
     out: &mut [u8],
 ) -> i32
-    ensures { λ r. ⌜ onebyone.Next (now (grammar .entry)) (now (utterance .entry)) (now (place .entry)) (now (work .entry)) (now (out .entry)) r (now (place .exit)) (now (work .exit)) (now (out .exit)) ⌝ }
+    ensures { λ r. ⌜ onebyone.Next searched (now (grammar .entry)) (now (utterance .entry)) (now (place .entry)) (now (work .entry)) (now (out .entry)) r (now (place .exit)) (now (work .exit)) (now (out .exit)) ⌝ }
 {
     let handed = place.handed;
     let opened = place.opened;

@@ -11,7 +11,7 @@ ghost use mathlib.Core.Path.{_≡_};
 ghost use mathlib.Core.List.{[], _∷_};
 ghost use Prim.Native.Nat.{_+_, _*_, _^_, _≤_, _<_};
 ghost use lib.ListN.{length};
-ghost use Rattle.packing.specs.Flat.{Begins, edgeNumbers};
+ghost use Rattle.packing.specs.Flat.{Begins, Overlaid, edgeNumbers};
 ghost use Rattle.packing.specs.Store.{storeAll};
 ghost use Rattle.utterance_edges.specs.Edges.{candidateEdges, candidatesAt, edgesIn};
 
@@ -55,7 +55,8 @@ fn slot_edges(slots: &[u32], slot: u32, count: usize, p: usize, edges: &mut [u32
 // number.
 pub fn edges_of(slots: &[u32], count: usize, edges: &mut [u32]) -> usize
     requires { do ⌜ (count ≤ (← ⟦MAX_SLOTS⟧)) × ((← ⟦EDGES_LENGTH⟧) ≤ length (now edges)) ⌝ }
-    ensures { λ r. ⌜ (r ≡ length (edgesIn (now (slots .entry)) count)) × Begins (edgeNumbers (edgesIn (now (slots .entry)) count)) (now (edges .exit)) ⌝ }
+    ensures { λ r. ⌜ (r ≡ length (edgesIn (now (slots .entry)) count)) × Begins (edgeNumbers (edgesIn (now (slots .entry)) count)) (now (edges .exit))
+        × Overlaid (edgeNumbers (edgesIn (now (slots .entry)) count)) (now (edges .entry)) (now (edges .exit)) ⌝ }
 {
     let mut found: usize = 0;
     let mut p: usize = 0;

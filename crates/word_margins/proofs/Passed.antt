@@ -29,7 +29,7 @@ use Rattle.cost_changes.proofs.Inside.{inside-first}
 use Rattle.chart_table.specs.Table.{cell, cellNumber}
 use Rattle.chart.specs.Chart.{layOut, rootsFound, rootWeight}
 use Rattle.chart_theory.proofs.Accepted.{layout, chart-firsts}
-use Rattle.listing.specs.Listing.{tableSize}
+use Rattle.listing.specs.Conditions.{tableSize}
 use Rattle.cost_ranges.specs.Model.{tableBy}
 use Rattle.cost_ranges.proofs.ThreePasses.{passOf, pass-none, pass-some}
 use Rattle.word_margins.specs.Model.{plain, fill, useNode, useNodes, firstUsed, tableList, passList}

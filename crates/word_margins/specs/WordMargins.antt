@@ -1,12 +1,9 @@
--- Which word to listen to again: document 02, N12, with the rows grammar block and utterance block of document 01's "Where each check stands".
--- Stands on packing's definitions, on cost_changes' Margins and on the listing's size of a table.
+-- Which word to listen to again as a function that can be run: what is asked for (Conditions), and then the list of cost_changes' Listed. Nobody need
+-- believe this page: cost_changes' Margins says what the list is, and proofs/Outcome that this is it (Meant).
 use mathlib.Core.Path.{_≡_}
-use mathlib.Core.Logic.{_⊎_}
 use mathlib.Core.List.{List, _++_}
 use Prim.Native.Nat.{ℕ, _*_, _≤_}
-use lib.Dec.{ltb}
 use lib.ListN.{length, drop, replicate}
-use Rattle.bits.specs.Bits.{pick}
 use Rattle.packing.specs.Meaning.{Grammar, Utterance, edges}
 use Rattle.packing.specs.Parse.{Verdict, accepted, refused, _then_}
 use Rattle.packing.specs.Grammar.{grammarBlock}
@@ -14,20 +11,14 @@ use Rattle.packing.specs.Utterance.{utteranceBlock}
 use Rattle.cost_changes.specs.Margins as M
 use Rattle.cost_changes.specs.Margins.{listNumbers}
 use Rattle.cost_changes.specs.Listed.{marginsOf}
-use Rattle.listing.specs.Listing.{tableSize}
+use Rattle.listing.specs.Conditions.{tableSize}
+use Rattle.word_margins.specs.Conditions.{marginsConditions}
 
--- "The work table is as for one reading (22); next, an output shorter than four numbers for each candidate in the utterance block gives 43", for
--- a work table and an output of these lengths; then the list. An utterance has an edge for each candidate, whether it was heard or not
+-- of a grammar and an utterance, both accepted
 unfoldable pub listed : Grammar → Utterance → ℕ → ℕ → Verdict (List M.Entry)
-listed g u work out =
-    pick (ltb work (tableSize (g .symbols) (length u) 1)) (refused 22)
-    (pick (ltb out (4 * length (edges u))) (refused 43) (accepted (marginsOf g u)))
+listed g u work out = marginsConditions g u work out then λ b. accepted (marginsOf (b .0) (b .1))
 
--- what is refused beyond the rows of both blocks
-abbrev pub MarginsRow : ℕ → Type 0
-MarginsRow n = (n ≡ 22) ⊎ (n ≡ 43)
-
--- "This is for slots only": of another kind the block is refused with 12
+-- the list, or the refusal, for a work table and an output of these lengths
 unfoldable pub margins : List ℕ → List ℕ → ℕ → ℕ → Verdict (List M.Entry)
 margins grammar utterance work out = grammarBlock grammar then λ g. utteranceBlock (g .words) utterance then λ u. listed g u work out
 

@@ -11,11 +11,9 @@ use chart_table::zero;
 use cost_ranges::Pass;
 use entries::NUMBERS_PER_ENTRY;
 use entries::put_entries;
-use grammar_reader::GrammarRead;
-use grammar_reader::Sizes;
-use heard_reader::HeardRead;
-use heard_reader::HeardSize;
-use heard_reader::read_slots;
+use inputs::Inputs;
+use inputs::InputsRead;
+use inputs::read_slot_inputs;
 use listing::Listed;
 use outside::fill;
 use packing::Rule;
@@ -31,14 +29,14 @@ ghost use Prim.Native.Nat.{_+_, _*_, _≤_, _<_};
 ghost use lib.ListN.{length, take, replicate};
 ghost use Rattle.packing.specs.Parse.{accepted};
 ghost use Rattle.packing.specs.Flat.{ruleAt, nodeBy, nodesIn};
-ghost use Rattle.grammar_reader.specs.Answer.{Bounded};
+ghost use Rattle.inputs.specs.Inputs.{Bounds};
 ghost use Rattle.packing.specs.Store.{storeAll};
 ghost use Rattle.chart_table.specs.Table.{Sized};
 ghost use Rattle.cost_changes.specs.Margins.{listNumbers};
 ghost use Rattle.listing.specs.Listing.{listedOf, workAfter};
 ghost use Rattle.cost_ranges.specs.Model.{Passable, tableBy};
 ghost use Rattle.word_margins.specs.WordMargins.{margins, outputAfter, Meant};
-ghost use Rattle.word_margins.specs.Model.{useNode, useNodes, firstUsed, passList, EdgesMargins, GrammarMargins};
+ghost use Rattle.word_margins.specs.Model.{useNode, useNodes, firstUsed, passList, ReadMargins};
 
 // An entry of the list.
 pub struct Entry {
@@ -119,49 +117,30 @@ fn pass_margins(
     m
 }
 
-// The answer for an utterance whose edges are in an array, under an accepted grammar.
-fn margins_edges(
+// The answer for inputs that were read, their rules and edges in arrays.
+fn margins_read(
     rules: &[u32],
-    sizes: Sizes,
     edges: &[u32],
-    heard: HeardSize,
+    inputs: Inputs,
     work: &mut [u32],
     out: &mut [u32],
 ) -> Listed
-    requires { ⌜ (Bounded sizes) × (1 ≤ heard .last) × (heard .last ≤ 24) × (heard .edges ≤ 168) ⌝ }
-    ensures { λ r. ⌜ EdgesMargins (now (rules .entry)) sizes (now (edges .entry)) heard (now (work .entry)) (now (out .entry)) r (now (work .exit)) (now (out .exit)) ⌝ }
+    requires { ⌜ Bounds inputs ⌝ }
+    ensures { λ r. ⌜ ReadMargins (now (rules .entry)) (now (edges .entry)) inputs (now (work .entry)) (now (out .entry)) r (now (work .exit)) (now (out .exit)) ⌝ }
 {
-    let table = chart::lay_out(sizes.symbols as usize, heard.last, ONE);
+    let table = chart::lay_out(inputs.sizes.symbols as usize, inputs.heard.last, ONE);
     if work.len() < chart::table_numbers(table) {
         return Listed::Refused(refused::LISTING_WORK);
     }
-    if out.len() < NUMBERS_PER_ENTRY * heard.edges {
+    if out.len() < NUMBERS_PER_ENTRY * inputs.heard.edges {
         return Listed::Refused(refused::OUTPUT_SHORT);
     }
     let pass = Pass {
-        rules: sizes.rules as usize,
-        edges: heard.edges,
+        rules: inputs.sizes.rules as usize,
+        edges: inputs.heard.edges,
         table,
     };
     Listed::Found(pass_margins(rules, edges, pass, work, out))
-}
-
-// The answer for a block under an accepted grammar.
-fn margins_grammar(
-    rules: &[u32],
-    sizes: Sizes,
-    utterance: &[u8],
-    work: &mut [u32],
-    out: &mut [u32],
-) -> Listed
-    requires { ⌜ Bounded sizes ⌝ }
-    ensures { λ r. ⌜ GrammarMargins (now (rules .entry)) sizes (now (utterance .entry)) (now (work .entry)) (now (out .entry)) r (now (work .exit)) (now (out .exit)) ⌝ }
-{
-    let mut edges = [0u32; EDGES_LENGTH];
-    match read_slots(utterance, sizes.words, &mut edges) {
-        HeardRead::Refused(n) => Listed::Refused(n),
-        HeardRead::Heard(heard) => { margins_edges(rules, sizes, &edges, heard, work, out) }
-    }
 }
 
 // The list of words to listen to again, of four numbers each, at the front of the output, and their number. The work table is all zeros
@@ -173,8 +152,9 @@ pub fn word_margins(grammar: &[u8], utterance: &[u8], work: &mut [u32], out: &mu
     ensures { λ r. ⌜ Meant (now (grammar .entry)) (now (utterance .entry)) (now (work .entry)) (now (out .entry)) (λ l. r ≡ listedOf (accepted l)) (now (work .exit)) (now (out .exit)) ⌝ }
 {
     let mut rules = [0u32; RULES_LENGTH];
-    match grammar_reader::read_block(grammar, &mut rules) {
-        GrammarRead::Refused(n) => Listed::Refused(n),
-        GrammarRead::Grammar(sizes) => { margins_grammar(&rules, sizes, utterance, work, out) }
+    let mut edges = [0u32; EDGES_LENGTH];
+    match read_slot_inputs(grammar, utterance, &mut rules, &mut edges) {
+        InputsRead::Refused(n) => Listed::Refused(n),
+        InputsRead::Read(inputs) => margins_read(&rules, &edges, inputs, work, out),
     }
 }

@@ -8,7 +8,7 @@ use Rattle.packing.specs.Flat.{rulesOf}
 use Rattle.packing.proofs.Flat.{rules-of}
 use Rattle.grammar_reader.proofs.Outcome.{accepted-told, refused-told}
 use Rattle.checker.specs.Run.{underRules}
-use Rattle.chance.specs.Chance.{chanceOf}
+use Rattle.chance.specs.Answer.{chanceOf}
 use Rattle.chance.proofs.Shares.{held}
 use Rattle.chance.proofs.Shown.{promised, by-walk, grammar-refused}
 use Rattle.chance.proofs.chance.Statement.{statement}

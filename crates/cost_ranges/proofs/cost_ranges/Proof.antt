@@ -1,57 +1,64 @@
--- What the grammar's reader says of the block decides between its refusal and the answer. Both are what is due, and that is what is meant.
+-- What the readers say of the grammar and the low block decides between their refusal and the answer. Both are what is due, and that is what
+-- is meant.
+use Rattle.cost_ranges.proofs.Outcome.{not-read, read, meant}
 use borrow.Author.Needs.{needs}
-use Rattle.packing.specs.Grammar.{grammarBlock}
-use Rattle.grammar_reader.proofs.Outcome.{accepted-told, refused-told}
-use Rattle.cost_ranges.proofs.Outcome.{block-refused, block-read, meant}
 use Rattle.cost_ranges.proofs.cost_ranges.Statement.{statement}
 use Rattle.cost_ranges.proofs.cost_ranges.Tie as tie
 
-slice-aggregate-read-block : tie.Need-slice-aggregate-read-block
-slice-aggregate-read-block c = search needs
+slice-aggregate-read-slot-inputs : tie.Need-slice-aggregate-read-slot-inputs
+slice-aggregate-read-slot-inputs c = search needs
 
-read-block-requires : tie.Need-read-block-requires
-read-block-requires c κs = search needs
+slice-aggregate-read-slot-inputs-2 : tie.Need-slice-aggregate-read-slot-inputs-2
+slice-aggregate-read-slot-inputs-2 c = search needs
+
+read-slot-inputs-requires : tie.Need-read-slot-inputs-requires
+read-slot-inputs-requires c κs = search needs
 
 enum-known-n : tie.Need-enum-known-n
 enum-known-n c = search needs
 
-enum-known-sizes : tie.Need-enum-known-sizes
-enum-known-sizes c = search needs
+enum-known-inputs : tie.Need-enum-known-inputs
+enum-known-inputs c = search needs
 
-slice-aggregate-ranges-grammar : tie.Need-slice-aggregate-ranges-grammar
-slice-aggregate-ranges-grammar c = search needs
+slice-aggregate-ranges-high : tie.Need-slice-aggregate-ranges-high
+slice-aggregate-ranges-high c = search needs
 
-ranges-grammar-requires : tie.Need-ranges-grammar-requires
-ranges-grammar-requires c κs = rw (c .before .before .before .sizes .given .1) at (c .before .before .before .before .before .before .read-block .ensures .2)
+slice-aggregate-ranges-high-2 : tie.Need-slice-aggregate-ranges-high-2
+slice-aggregate-ranges-high-2 c = search needs
+
+ranges-high-requires : tie.Need-ranges-high-requires
+ranges-high-requires c κs =
+    let k = rw (c .before .before .before .before .inputs .given .1) at (c .before .before .before .before .before .before .before .before .read-slot-inputs .ensures) in
+    (k .bounds .sizes, k .bounds .some-place, k .bounds .places, k .bounds .edges)
 
 returns : tie.Need-returns
 returns c =
-    let a = c .before .before .before .before .before .before .before .before .before .before .args in
+    let a = c .before .before .before .before .before .before .before .before .before .before .before .before .args in
     meant (a .grammar .now) (a .low .now) (a .high .now) (a .work .now)
-    (block-refused (a .grammar .now) (a .low .now) (a .high .now) (a .work .now)
-    (refused-told (grammarBlock (a .grammar .now)) (c .before .before .before .before .read-block .ensures .0) (c .before .n .given .1)))
+    (not-read (a .grammar .now) (a .low .now) (a .high .now) (a .work .now) (rw (c .before .n .given .1) at (c .before .before .before .before .before .read-slot-inputs .ensures)))
 
 same-length : tie.Need-same-length
 same-length c = search needs
 
 returns-2 : tie.Need-returns-2
 returns-2 c =
-    let a = c .before .before .before .before .before .before .before .before .before .before .before .before .before .before .before .args in
-    let (g, v, z) = accepted-told (grammarBlock (a .grammar .now)) (c .before .before .before .before .before .before .before .before .before .read-block .ensures .0) (c .before .before .before .before .before .before .sizes .given .1) in
+    let a = c .before .before .before .before .before .before .before .before .before .before .before .before .before .before .before .before .before .before .before .args in
+    let k = rw (c .before .before .before .before .before .before .before .before .inputs .given .1) at (c .before .before .before .before .before .before .before .before .before .before .before .before .read-slot-inputs .ensures) in
     meant (a .grammar .now) (a .low .now) (a .high .now) (a .work .now)
-    (block-read (a .grammar .now) (a .low .now) (a .high .now) (a .work .now) (c .before .before .before .before .before .before .before .before .before .read-block .last .1 .0) g v z (rw v at (c .before .before .before .before .before .before .before .before .before .read-block .ensures .1))
-    (c .before .before .ranges-grammar .ensures))
+    (read (a .grammar .now) (a .low .now) (a .high .now) (a .work .now) k (c .before .before .before .ranges-high .ensures))
 
 pub cost-ranges-spec : {M : Type 1} → statement M
 cost-ranges-spec =
     tie.close
     (tie.spec
-    slice-aggregate-read-block
-    read-block-requires
+    slice-aggregate-read-slot-inputs
+    slice-aggregate-read-slot-inputs-2
+    read-slot-inputs-requires
     enum-known-n
-    enum-known-sizes
-    slice-aggregate-ranges-grammar
-    ranges-grammar-requires
+    enum-known-inputs
+    slice-aggregate-ranges-high
+    slice-aggregate-ranges-high-2
+    ranges-high-requires
     returns
     same-length
     returns-2)

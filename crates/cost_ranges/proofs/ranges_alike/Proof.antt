@@ -3,7 +3,7 @@ use Prim.Native.Nat.{_≤_, _<_}
 use native.Mathlib.Omega.{arith}
 use borrow.Author.Needs.{needs}
 use lib.ListN.{length}
-use Rattle.listing.specs.Listing.{tableSize}
+use Rattle.listing.specs.Conditions.{tableSize}
 use Rattle.listing.proofs.Sizes.{table-is, layout-is}
 use Rattle.cost_ranges.proofs.Outcome.{alike-short, alike-passed}
 use Rattle.cost_ranges.proofs.ranges_alike.Statement.{statement}

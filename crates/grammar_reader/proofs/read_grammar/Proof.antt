@@ -19,7 +19,7 @@ enum-told : tie.Need-enum-told
 enum-told c = search needs
 
 returns : tie.Need-returns
-returns c = sizes-refused _ _ _ (c .before .before .read-sizes .ensures .0) _ _ (c .enum-told .given .1)
+returns c = sizes-refused _ _ _ (c .before .before .read-sizes .ensures .0) _ _ _ (c .enum-told .given .1)
 
 -- the sizes that were read are in their ranges
 near : (c : tie.After-known-told) → Bounded (c .before .head .given .0 .0) × (c .before .head .given .0 .1 .0 .at ≤ c .before .before .before .before .before .before .before .before .args .at + 23)
@@ -29,7 +29,7 @@ unfit-requires : tie.Need-unfit-requires
 unfit-requires c κs = omega (arith, near c)
 
 returns-2 : tie.Need-returns-2
-returns-2 c = sheet-unfit _ _ _ (c .before .before .before .before .before .read-sizes .ensures .0) _ _ (c .before .before .before .head .given .1) (sym (c .before .unfit .ensures _) ∙ c .if1 .taken)
+returns-2 c = sheet-unfit _ _ _ (c .before .before .before .before .before .read-sizes .ensures .0) _ _ _ (c .before .before .before .head .given .1) (sym (c .before .unfit .ensures _) ∙ c .if1 .taken)
 
 read-rules-requires : tie.Need-read-rules-requires
 read-rules-requires c κs =
@@ -59,7 +59,7 @@ same-length-2 c = search needs
 
 returns-3 : tie.Need-returns-3
 returns-3 c =
-    rules-refused _ _ _ (c .before .before .before .before .before .before .before .before .before .before .before .before .before .before .before .read-sizes .ensures .0) _ _ (c .before .before .before .before .before .before .before .before .before .before .before .before .before .head .given .1) (sym (c .before .before .before .before .before .before .before .before .before .before .before .unfit .ensures _) ∙ c .before .before .before .before .before .before .before .before .before .before .if1 .left) (c .before .before .before .before .before .before .before .read-rules .ensures) (c .before .enum-told2 .given .1)
+    rules-refused _ _ _ (c .before .before .before .before .before .before .before .before .before .before .before .before .before .before .before .read-sizes .ensures .0) _ _ _ (c .before .before .before .before .before .before .before .before .before .before .before .before .before .head .given .1) (sym (c .before .before .before .before .before .before .before .before .before .before .before .unfit .ensures _) ∙ c .before .before .before .before .before .before .before .before .before .before .if1 .left) (c .before .before .before .before .before .before .before .read-rules .ensures) (c .before .enum-told2 .given .1)
     (c .refusal .ensures)
 
 same-length-3 : tie.Need-same-length-3
@@ -70,7 +70,7 @@ same-length-4 c = search needs
 
 returns-4 : tie.Need-returns-4
 returns-4 c =
-    rules-read _ _ _ (c .before .before .before .before .before .before .before .before .before .before .before .before .before .before .before .read-sizes .ensures .0) _ _ (c .before .before .before .before .before .before .before .before .before .before .before .before .before .head .given .1) (sym (c .before .before .before .before .before .before .before .before .before .before .before .unfit .ensures _) ∙ c .before .before .before .before .before .before .before .before .before .before .if1 .left) (c .before .before .before .before .before .before .before .read-rules .ensures) (c .before .body .given .1)
+    rules-read _ _ _ (c .before .before .before .before .before .before .before .before .before .before .before .before .before .before .before .read-sizes .ensures .0) _ _ _ (c .before .before .before .before .before .before .before .before .before .before .before .before .before .head .given .1) (sym (c .before .before .before .before .before .before .before .before .before .before .before .unfit .ensures _) ∙ c .before .before .before .before .before .before .before .before .before .before .if1 .left) (c .before .before .before .before .before .before .before .read-rules .ensures) (c .before .body .given .1)
     (near (c .before .before .before .before .before .before .before .before .before .before .before .before) .0) (near (c .before .before .before .before .before .before .before .before .before .before .before .before) .1)
 
 pub read-grammar-spec : {M : Type 1} → statement M

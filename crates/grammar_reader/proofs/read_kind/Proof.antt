@@ -24,12 +24,12 @@ module _ (s : List ℕ) (b : Bool) where
   abbrev kind : Field
   kind = blockKind (kindNumber b) 2
 
-  no-kind : {n : ℕ} {rules marks : List ℕ} → fieldAt (bytes 1 s) 0 kind ≡ failed n → MarkedTold (blockBy b s) (Refused n) rules marks
+  no-kind : {n : ℕ} {before rules marks : List ℕ} → fieldAt (bytes 1 s) 0 kind ≡ failed n → MarkedTold (blockBy b s) (Refused n) before rules marks
   unfolding blockBy
-  no-kind e = rw e (record { answer = refl; stands = tt; bounds = tt })
+  no-kind e = rw e (record { answer = refl; stands = tt; laid = tt; bounds = tt })
 
-  after-kind : {v at : ℕ} {r : MarkedRead} {rules marks : List ℕ} → fieldAt (bytes 1 s) 0 kind ≡ parsed v at
-      → MarkedTold (finish (ended s) 7 (grammarFrom b (bytes 1 s) at)) r rules marks → MarkedTold (blockBy b s) r rules marks
+  after-kind : {v at : ℕ} {r : MarkedRead} {before rules marks : List ℕ} → fieldAt (bytes 1 s) 0 kind ≡ parsed v at
+      → MarkedTold (finish (ended s) 7 (grammarFrom b (bytes 1 s) at)) r before rules marks → MarkedTold (blockBy b s) r before rules marks
   unfolding blockBy
   after-kind e t = rw e t
 

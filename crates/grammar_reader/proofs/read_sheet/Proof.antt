@@ -20,7 +20,7 @@ use Rattle.grammar_reader.proofs.read_sheet.Tie as tie
 
 returns : tie.Need-returns
 unfolding markedSheet sheetBy
-returns c = rw (lt-ltb (length (c .before .before .before .before .args .sheet .now)) 3 (omega arith)) (record { answer = refl; stands = tt; bounds = tt })
+returns c = rw (lt-ltb (length (c .before .before .before .before .args .sheet .now)) 3 (omega arith)) (record { answer = refl; stands = tt; laid = tt; bounds = tt })
 
 is-marked-sheet-requires : tie.Need-is-marked-sheet-requires
 is-marked-sheet-requires c κs = omega (arith, c .if1 .left)
@@ -44,9 +44,9 @@ same-length-2 : tie.Need-same-length-2
 same-length-2 c = search needs
 
 -- a sheet that was read has its three numbers
-module _ (s : List ℕ) (b : Bool) {r : MarkedRead} {rules marks : List ℕ} where
-  long : 3 ≤ length s → b ≡ markingOf (numbers s) → MarkedTold (finish (λ (at : ℕ). true) 41 (grammarFrom b (numbers s) 0)) r rules marks
-      → MarkedTold (markedSheet s) r rules marks
+module _ (s : List ℕ) (b : Bool) {r : MarkedRead} {before rules marks : List ℕ} where
+  long : 3 ≤ length s → b ≡ markingOf (numbers s) → MarkedTold (finish (λ (at : ℕ). true) 41 (grammarFrom b (numbers s) 0)) r before rules marks
+      → MarkedTold (markedSheet s) r before rules marks
   unfolding markedSheet sheetBy
   long l k t =
       rw (le-ltb (length s) 3 l, ← k, ← finish-always 41 (grammarFrom b (numbers s) 0)) t

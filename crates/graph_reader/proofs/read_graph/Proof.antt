@@ -27,7 +27,7 @@ refusal-requires : tie.Need-refusal-requires
 refusal-requires c κs = search needs
 
 returns : tie.Need-returns
-returns c = promised-refusal _ (no-kind _ _ (refusal-told _ (c .before .before .before .block-field .ensures) (c .before .enum-told .given .1) (c .refusal .ensures)))
+returns c = promised-refusal _ _ (no-kind _ _ (refusal-told _ (c .before .before .before .block-field .ensures) (c .before .enum-told .given .1) (c .refusal .ensures)))
 
 -- the kind that was read, and where it ends
 abbrev start : tie.After-known-told → tie.Start
@@ -64,14 +64,14 @@ returns-2 : tie.Need-returns-2
 returns-2 c = let k = c .before .before .before .before .before .before .before .before .before in
     let r = body-told (c .before .before .before .before .before .before .before .read-body .ensures) (c .before .before .before .found .given .1) in
     let v = block-ends _ _ (kind k) (r .1) (sym (c .before .zero-from .ensures) ∙ c .if1 .taken) in
-    promised-graph _ _ (v .0) (v .1) (r .2) (r .3)
+    promised-graph _ _ _ (v .0) (v .1) (r .2) (r .3)
 
 same-length-2 : tie.Need-same-length-2
 same-length-2 c = search needs
 
 returns-3 : tie.Need-returns-3
 returns-3 c = let k = c .before .before .before .before .before .before .before in
-    promised-refusal _ (block-stops _ _ (kind k) (no-body-told (c .before .before .before .before .before .read-body .ensures) (c .before .n .given .1)))
+    promised-refusal _ _ (block-stops _ _ (kind k) (no-body-told (c .before .before .before .before .before .read-body .ensures) (c .before .n .given .1)))
 
 same-length-3 : tie.Need-same-length-3
 same-length-3 c = search needs
@@ -79,7 +79,7 @@ same-length-3 c = search needs
 returns-4 : tie.Need-returns-4
 returns-4 c = let k = c .before .before .before .before .before .before .before .before .before in
     let r = body-told (c .before .before .before .before .before .before .before .read-body .ensures) (c .before .before .before .found .given .1) in
-    promised-refusal _ (block-goes-on _ _ (kind k) (r .1) (sym (c .before .zero-from .ensures) ∙ c .if1 .left))
+    promised-refusal _ _ (block-goes-on _ _ (kind k) (r .1) (sym (c .before .zero-from .ensures) ∙ c .if1 .left))
 
 pub read-graph-spec : {M : Type 1} → statement M
 read-graph-spec =

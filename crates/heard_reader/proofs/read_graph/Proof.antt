@@ -23,14 +23,14 @@ same-length : tie.Need-same-length
 same-length c = search needs
 
 returns : tie.Need-returns
-returns c = graph-refused _ _ _ (c .before .before .before .before .before .read-graph .ensures .0) (c .before .n .given .1)
+returns c = graph-refused _ _ _ _ (c .before .before .before .before .before .read-graph .ensures .0) (c .before .n .given .1)
 
 same-length-2 : tie.Need-same-length-2
 same-length-2 c = search needs
 
 returns-2 : tie.Need-returns-2
 returns-2 c = let e = c .before .before .before .before .before .before .read-graph .ensures in
-    graph-accepted _ _ _ (e .0) (e .1) (e .2) (c .before .before .size .given .1)
+    graph-accepted _ _ _ _ (e .0) (e .3) (e .2) (c .before .before .size .given .1)
 
 pub read-graph-spec : {M : Type 1} → statement M
 read-graph-spec =

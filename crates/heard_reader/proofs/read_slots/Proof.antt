@@ -26,7 +26,7 @@ edges-of-requires : tie.Need-edges-of-requires
 edges-of-requires c κs = omega (arith, subst Sized (c .before .before .before .size .given .1) (c .before .before .before .before .before .before .read-block .ensures .2), c .before .before .before .before .before .before .before .before .before .before .pre)
 
 returns : tie.Need-returns
-returns c = slots-refused _ _ (c .before .before .before .before .read-block .ensures .0) _ (c .before .n .given .1)
+returns c = slots-refused _ _ (c .before .before .before .before .read-block .ensures .0) _ _ (c .before .n .given .1)
 
 same-length : tie.Need-same-length
 same-length c = search needs
@@ -34,7 +34,7 @@ same-length c = search needs
 returns-2 : tie.Need-returns-2
 returns-2 c = let e = c .before .before .before .before .before .before .before .before .before .read-block .ensures in
     let f = c .before .before .edges-of .ensures in
-    slots-accepted _ _ (e .0) _ _ (e .1) (c .before .before .before .before .before .before .size .given .1) (f .0) (f .1)
+    slots-accepted _ _ (e .0) _ _ _ (e .1) (c .before .before .before .before .before .before .size .given .1) (f .0) (f .2)
 
 pub read-slots-spec : {M : Type 1} → statement M
 read-slots-spec =

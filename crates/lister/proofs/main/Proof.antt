@@ -1,11 +1,6 @@
--- At most eight readings are found, and a reading has at most 73 bytes.
-use Prim.Native.Nat.{_*_, _≤_}
-use native.Mathlib.Nat.{mul-le-mul}
-use native.Mathlib.Omega.{arith}
-use Rattle.listing.specs.Listing.{library}
+-- At most eight readings are found.
+use Rattle.listing.specs.Conditions.{library}
 use Rattle.listing.proofs.Accepted.{found-few}
-use Rattle.lister.specs.Lines.{sizeOf}
-use Rattle.lister.proofs.Shapes.{size-small}
 use borrow.Author.Needs.{needs}
 use Rattle.lister.proofs.main.Statement.{statement}
 use Rattle.lister.proofs.main.Tie as tie
@@ -31,44 +26,26 @@ read-file-requires-2 c κs = search needs
 array-share-prefix-grammar : tie.Need-array-share-prefix-grammar
 array-share-prefix-grammar c = search needs
 
-slice-aggregate-shape-of : tie.Need-slice-aggregate-shape-of
-slice-aggregate-shape-of c = search needs
+slice-aggregate-lines : tie.Need-slice-aggregate-lines
+slice-aggregate-lines c = search needs
 
 array-share-prefix-utterance : tie.Need-array-share-prefix-utterance
 array-share-prefix-utterance c = search needs
 
-slice-aggregate-shape-of-2 : tie.Need-slice-aggregate-shape-of-2
-slice-aggregate-shape-of-2 c = search needs
+slice-aggregate-lines-2 : tie.Need-slice-aggregate-lines-2
+slice-aggregate-lines-2 c = search needs
 
-slice-aggregate-shape-of-3 : tie.Need-slice-aggregate-shape-of-3
-slice-aggregate-shape-of-3 c = search needs
+slice-aggregate-lines-3 : tie.Need-slice-aggregate-lines-3
+slice-aggregate-lines-3 c = search needs
 
-slice-aggregate-shape-of-4 : tie.Need-slice-aggregate-shape-of-4
-slice-aggregate-shape-of-4 c = search needs
+slice-aggregate-lines-4 : tie.Need-slice-aggregate-lines-4
+slice-aggregate-lines-4 c = search needs
 
-shape-of-requires : tie.Need-shape-of-requires
-shape-of-requires c κs = search needs
+slice-aggregate-lines-5 : tie.Need-slice-aggregate-lines-5
+slice-aggregate-lines-5 c = search needs
 
-array-share-prefix-grammar-2 : tie.Need-array-share-prefix-grammar-2
-array-share-prefix-grammar-2 c = search needs
-
-slice-aggregate-listing : tie.Need-slice-aggregate-listing
-slice-aggregate-listing c = search needs
-
-array-share-prefix-utterance-2 : tie.Need-array-share-prefix-utterance-2
-array-share-prefix-utterance-2 c = search needs
-
-slice-aggregate-listing-2 : tie.Need-slice-aggregate-listing-2
-slice-aggregate-listing-2 c = search needs
-
-slice-aggregate-listing-3 : tie.Need-slice-aggregate-listing-3
-slice-aggregate-listing-3 c = search needs
-
-slice-aggregate-listing-4 : tie.Need-slice-aggregate-listing-4
-slice-aggregate-listing-4 c = search needs
-
-listing-requires : tie.Need-listing-requires
-listing-requires c κs = search needs
+lines-requires : tie.Need-lines-requires
+lines-requires c κs = search needs
 
 enum-known-m : tie.Need-enum-known-m
 enum-known-m c = search needs
@@ -85,21 +62,11 @@ print-further-requires c κs = search needs
 print-end-requires : tie.Need-print-end-requires
 print-end-requires c κs = search needs
 
-slice-aggregate-print-lines : tie.Need-slice-aggregate-print-lines
-slice-aggregate-print-lines c = search needs
+slice-aggregate-print-rows : tie.Need-slice-aggregate-print-rows
+slice-aggregate-print-rows c = search needs
 
-slice-aggregate-print-lines-2 : tie.Need-slice-aggregate-print-lines-2
-slice-aggregate-print-lines-2 c = search needs
-
-slice-aggregate-print-lines-3 : tie.Need-slice-aggregate-print-lines-3
-slice-aggregate-print-lines-3 c = search needs
-
-print-lines-requires : tie.Need-print-lines-requires
-print-lines-requires c κs =
-    let bounded = c .before .before .before .before .before .before .before .before .before .before .before .before .before .before .before .before .before .before .before .shape-of .ensures .bounded in
-    let few : c .before .before .before .before .before .before .before .before .m .given .0 .0 ≤ 8 = found-few library _ _ 8 _ _ (c .before .before .before .before .before .before .before .before .before .before .before .before .listing .ensures .0) (c .before .before .before .before .before .before .before .before .m .given .1) in
-    let all : c .before .before .before .before .before .before .before .before .m .given .0 .0 * sizeOf (c .before .before .before .before .before .before .before .before .before .before .before .before .before .before .before .before .before .before .before .shape-of .result) ≤ 8 * 73 = mul-le-mul {n₂ = 8} {m₂ = 73} few (size-small (c .before .before .before .before .before .before .before .before .before .before .before .before .before .before .before .before .before .before .before .shape-of .result) bounded) in
-    (bounded, omega (arith, c .before .before .before .before .before .before .before .before .before .before .before .before .listing .kept))
+print-rows-requires : tie.Need-print-rows-requires
+print-rows-requires c κs = found-few library _ _ 8 _ _ (c .before .before .before .before .before .before .before .before .before .before .before .lines .ensures .0) (c .before .before .before .before .before .before .m .given .1)
 
 enum-known-n : tie.Need-enum-known-n
 enum-known-n c = search needs
@@ -136,28 +103,20 @@ main-spec =
     slice-aggregate-read-file-4
     read-file-requires-2
     array-share-prefix-grammar
-    slice-aggregate-shape-of
+    slice-aggregate-lines
     array-share-prefix-utterance
-    slice-aggregate-shape-of-2
-    slice-aggregate-shape-of-3
-    slice-aggregate-shape-of-4
-    shape-of-requires
-    array-share-prefix-grammar-2
-    slice-aggregate-listing
-    array-share-prefix-utterance-2
-    slice-aggregate-listing-2
-    slice-aggregate-listing-3
-    slice-aggregate-listing-4
-    listing-requires
+    slice-aggregate-lines-2
+    slice-aggregate-lines-3
+    slice-aggregate-lines-4
+    slice-aggregate-lines-5
+    lines-requires
     enum-known-m
     slice-aggregate-print
     print-requires
     print-further-requires
     print-end-requires
-    slice-aggregate-print-lines
-    slice-aggregate-print-lines-2
-    slice-aggregate-print-lines-3
-    print-lines-requires
+    slice-aggregate-print-rows
+    print-rows-requires
     enum-known-n
     slice-aggregate-print-2
     print-requires-2

@@ -1,16 +1,14 @@
 -- Each way out is one of the definition's conditions; what is left is the answer for an accepted grammar. Assumes nothing.
 use mathlib.Core.Path.{subst}
-use native.Mathlib.Omega.{arith}
 use Rattle.packing.specs.Grammar.{grammarBlock}
 use Rattle.packing.proofs.Whole.{grammar-block-out}
 use Rattle.grammar_reader.specs.Answer.{InBounds}
 use Rattle.grammar_reader.proofs.Outcome.{accepted-told, refused-told}
 use Rattle.specimen.proofs.Asked.{asked-block, asked-none, asked-many, asked-short, asked-well}
-use Rattle.next_phrase.proofs.Told.{next-refused, next-later, next-first}
+use Rattle.next_phrase.proofs.Told.{next-refused, next-told}
 use borrow.Author.Needs.{needs}
 use Rattle.next_phrase.proofs.next_phrase.Statement.{statement}
 use Rattle.next_phrase.proofs.next_phrase.Tie as tie
-use Rattle.specimen.proofs.answer.Reads as answer-reads′
 
 slice-aggregate-read-block : tie.Need-slice-aggregate-read-block
 slice-aggregate-read-block c = search needs
@@ -54,62 +52,33 @@ slice-aggregate-answer c = search needs
 
 answer-requires : tie.Need-answer-requires
 answer-requires c κs =
-    let at-if3 = c .before .before .before in
+    let at-if3 = c .before .before in
     let at-if2 = at-if3 .before in
     let at-if1 = at-if2 .before in
     let at-read2 = at-if1 .before .before in
     let at-read-block = at-read2 .before .before .before in
     (subst InBounds (at-read2 .read2 .given .1) (at-read-block .read-block .ensures .2), at-if1 .if1 .left, at-if2 .if2 .left, at-if3 .if3 .left)
 
-same-length : tie.Need-same-length
-same-length c = search needs
-
 returns-4 : tie.Need-returns-4
 returns-4 c =
-    let at-answer = c .before .before in
-    let at-if4 = at-answer .before .before .before in
-    let at-if3 = at-if4 .before in
-    let at-if2 = at-if3 .before in
-    let at-if1 = at-if2 .before in
-    let at-read2 = at-if1 .before .before in
-    let at-read-block = at-read2 .before .before .before in
-    let at-start = at-read-block .before .before .before .before in
-    let (g, e, z) = accepted-told (grammarBlock (at-start .args .grammar .now)) (at-read-block .read-block .ensures .0) (at-read2 .read2 .given .1) in
-    rw (next-later _ _ _ _ (asked-well 6 _ _ _ e (at-if1 .if1 .left) (at-if2 .if2 .left) (at-if3 .if3 .left)) (at-if4 .if4 .taken)) (at-answer .answer .ensures g z (grammar-block-out _ g e .0) (rw e at (at-read-block .read-block .ensures .1)))
-
-slice-aggregate-answer-2 : tie.Need-slice-aggregate-answer-2
-slice-aggregate-answer-2 c = search needs
-
-answer-requires-2 : tie.Need-answer-requires-2
-answer-requires-2 c κs =
-    let at-if3 = c .before .before .before in
-    let at-if2 = at-if3 .before in
-    let at-if1 = at-if2 .before in
-    let at-read2 = at-if1 .before .before in
-    let at-read-block = at-read2 .before .before .before in
-    (subst InBounds (at-read2 .read2 .given .1) (at-read-block .read-block .ensures .2), at-if1 .if1 .left, omega (arith, at-if2 .if2 .left), at-if3 .if3 .left)
-
-returns-5 : tie.Need-returns-5
-returns-5 c =
     let at-read-block = c .before .before .before .before in
     let at-start = at-read-block .before .before .before .before in
     next-refused _ _ _ _ (asked-block 6 _ _ _ (refused-told (grammarBlock (at-start .args .grammar .now)) (at-read-block .read-block .ensures .0) (c .before .read .given .1)))
 
-same-length-2 : tie.Need-same-length-2
-same-length-2 c = search needs
+same-length : tie.Need-same-length
+same-length c = search needs
 
-returns-6 : tie.Need-returns-6
-returns-6 c =
-    let at-answer2 = c .before .before in
-    let at-if4 = at-answer2 .before .before .before in
-    let at-if3 = at-if4 .before in
+returns-5 : tie.Need-returns-5
+returns-5 c =
+    let at-answer = c .before .before in
+    let at-if3 = at-answer .before .before .before in
     let at-if2 = at-if3 .before in
     let at-if1 = at-if2 .before in
     let at-read2 = at-if1 .before .before in
     let at-read-block = at-read2 .before .before .before in
     let at-start = at-read-block .before .before .before .before in
     let (g, e, z) = accepted-told (grammarBlock (at-start .args .grammar .now)) (at-read-block .read-block .ensures .0) (at-read2 .read2 .given .1) in
-    rw (next-first _ _ _ _ (asked-well 6 _ _ _ e (at-if1 .if1 .left) (at-if2 .if2 .left) (at-if3 .if3 .left)) (at-if4 .if4 .left)) (at-answer2 .answer2 .ensures g z (grammar-block-out _ g e .0) (rw e at (at-read-block .read-block .ensures .1)))
+    rw (next-told _ _ _ _ (asked-well 6 _ _ _ e (at-if1 .if1 .left) (at-if2 .if2 .left) (at-if3 .if3 .left))) (at-answer .answer .ensures g z (grammar-block-out _ g e .0) (rw e at (at-read-block .read-block .ensures .1)))
 
 pub next-phrase-spec : {M : Type 1} → statement M
 next-phrase-spec =
@@ -124,10 +93,6 @@ next-phrase-spec =
     returns-3
     slice-aggregate-answer
     answer-requires
-    same-length
     returns-4
-    slice-aggregate-answer-2
-    answer-requires-2
-    returns-5
-    same-length-2
-    returns-6)
+    same-length
+    returns-5)

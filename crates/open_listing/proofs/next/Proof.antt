@@ -1,34 +1,41 @@
--- What the grammar's reader says decides between its refusal and the call.
-use Rattle.packing.specs.Grammar.{grammarBlock}
-use Rattle.grammar_reader.proofs.Outcome.{accepted-told, refused-told}
-use Rattle.open_listing.proofs.Outcome.{grammar-refused}
+-- What the readers say decides between their refusal and the call.
+use Rattle.open_listing.proofs.Outcome.{inputs-not-called, read-called, read-next, refused-next}
 use borrow.Author.Needs.{needs}
 use Rattle.open_listing.proofs.next.Statement.{statement}
 use Rattle.open_listing.proofs.next.Tie as tie
 
-slice-aggregate-read-block : tie.Need-slice-aggregate-read-block
-slice-aggregate-read-block c = search needs
+slice-aggregate-read-inputs : tie.Need-slice-aggregate-read-inputs
+slice-aggregate-read-inputs c = search needs
 
-read-block-requires : tie.Need-read-block-requires
-read-block-requires c κs = search needs
+slice-aggregate-read-inputs-2 : tie.Need-slice-aggregate-read-inputs-2
+slice-aggregate-read-inputs-2 c = search needs
+
+read-inputs-requires : tie.Need-read-inputs-requires
+read-inputs-requires c κs = search needs
 
 enum-known-n : tie.Need-enum-known-n
 enum-known-n c = search needs
 
-enum-known-sizes : tie.Need-enum-known-sizes
-enum-known-sizes c = search needs
+enum-known-inputs : tie.Need-enum-known-inputs
+enum-known-inputs c = search needs
 
-slice-aggregate-next-grammar : tie.Need-slice-aggregate-next-grammar
-slice-aggregate-next-grammar c = search needs
+slice-aggregate-next-read : tie.Need-slice-aggregate-next-read
+slice-aggregate-next-read c = search needs
 
-next-grammar-requires : tie.Need-next-grammar-requires
-next-grammar-requires c κs = rw (c .before .before .before .before .sizes .given .1) at (c .before .before .before .before .before .before .before .read-block .ensures .2)
+slice-aggregate-next-read-2 : tie.Need-slice-aggregate-next-read-2
+slice-aggregate-next-read-2 c = search needs
+
+plan-of-requires : tie.Need-plan-of-requires
+plan-of-requires c κs = let k = rw (c .before .before .before .inputs .given .1) at (c .before .before .before .before .before .before .before .read-inputs .ensures) in k .bounds
+
+next-read-requires : tie.Need-next-read-requires
+next-read-requires c κs = search needs
 
 returns : tie.Need-returns
 returns c =
-    let a = c .before .before .before .before .before .before .before .before .before .before .args in
-    grammar-refused (a .grammar .now) (a .heard .now) (a .place) (a .work .now) (a .out .now)
-    (refused-told (grammarBlock (a .grammar .now)) (c .before .before .before .before .read-block .ensures .0) (c .before .n .given .1))
+    let e = rw (c .before .n .given .1) at (c .before .before .before .before .before .read-inputs .ensures) in
+    let p = inputs-not-called _ _ _ _ _ e in
+    (p .0, (p .1, refused-next _ _ _ _ _ e))
 
 same-length : tie.Need-same-length
 same-length c = search needs
@@ -38,20 +45,23 @@ same-length-2 c = search needs
 
 returns-2 : tie.Need-returns-2
 returns-2 c =
-    let a = c .before .before .before .before .before .before .before .before .before .before .before .before .before .before .before .before .before .before .args in
-    let (g, e, ez) = accepted-told (grammarBlock (a .grammar .now)) (c .before .before .before .before .before .before .before .before .before .before .before .before .read-block .ensures .0) (c .before .before .before .before .before .before .before .before .before .sizes .given .1) in
-    c .before .before .before .before .next-grammar .ensures (a .grammar .now) g e ez (rw e at (c .before .before .before .before .before .before .before .before .before .before .before .before .read-block .ensures .1))
+    let k = rw (c .before .before .before .before .before .before .before .before .before .before .before .inputs .given .1) at (c .before .before .before .before .before .before .before .before .before .before .before .before .before .before .before .read-inputs .ensures) in
+    let p = read-called k _ (c .before .before .before .before .before .before .before .plan-of .ensures .0) (c .before .before .before .before .before .before .before .plan-of .ensures .1) _ _ _ (c .before .before .before .before .next-read .ensures) in
+    (p .0, (p .1, read-next k _ (c .before .before .before .before .before .before .before .plan-of .ensures .0) _ _ _ (c .before .before .before .before .next-read .ensures)))
 
 pub next-spec : {M : Type 1} → statement M
 next-spec =
     tie.close
     (tie.spec
-    slice-aggregate-read-block
-    read-block-requires
+    slice-aggregate-read-inputs
+    slice-aggregate-read-inputs-2
+    read-inputs-requires
     enum-known-n
-    enum-known-sizes
-    slice-aggregate-next-grammar
-    next-grammar-requires
+    enum-known-inputs
+    slice-aggregate-next-read
+    slice-aggregate-next-read-2
+    plan-of-requires
+    next-read-requires
     returns
     same-length
     same-length-2

@@ -1,49 +1,63 @@
--- What the grammar's reader says decides between its refusal and opening.
-use Rattle.packing.specs.Grammar.{grammarBlock}
-use Rattle.grammar_reader.proofs.Outcome.{accepted-told, refused-told}
-use Rattle.open_listing.proofs.Outcome.{grammar-not-opened}
+-- Both blocks are read, the table's length tested, and the table made zeros.
+use native.Mathlib.Omega.{arith}
+use Rattle.open_listing.proofs.Outcome.{inputs-not-opened, not-opened-short, opened-zeros}
 use borrow.Author.Needs.{needs}
 use Rattle.open_listing.proofs.open.Statement.{statement}
 use Rattle.open_listing.proofs.open.Tie as tie
 
-slice-aggregate-read-block : tie.Need-slice-aggregate-read-block
-slice-aggregate-read-block c = search needs
+slice-aggregate-read-inputs : tie.Need-slice-aggregate-read-inputs
+slice-aggregate-read-inputs c = search needs
 
-read-block-requires : tie.Need-read-block-requires
-read-block-requires c κs = search needs
+slice-aggregate-read-inputs-2 : tie.Need-slice-aggregate-read-inputs-2
+slice-aggregate-read-inputs-2 c = search needs
+
+read-inputs-requires : tie.Need-read-inputs-requires
+read-inputs-requires c κs = search needs
 
 enum-known-n : tie.Need-enum-known-n
 enum-known-n c = search needs
 
-enum-known-sizes : tie.Need-enum-known-sizes
-enum-known-sizes c = search needs
+enum-known-inputs : tie.Need-enum-known-inputs
+enum-known-inputs c = search needs
 
-open-grammar-requires : tie.Need-open-grammar-requires
-open-grammar-requires c κs = rw (c .before .before .sizes .given .1) at (c .before .before .before .before .before .read-block .ensures .2)
+plan-of-requires : tie.Need-plan-of-requires
+plan-of-requires c κs = let k = rw (c .before .inputs .given .1) at (c .before .before .before .before .before .read-inputs .ensures) in k .bounds
+
+table-numbers-requires : tie.Need-table-numbers-requires
+table-numbers-requires c κs = search needs
 
 returns : tie.Need-returns
 returns c =
-    let a = c .before .before .before .before .before .before .before .before .before .args in
-    grammar-not-opened (a .grammar .now) (a .heard .now) (a .work .now) (refused-told (grammarBlock (a .grammar .now)) (c .before .before .before .before .read-block .ensures .0) (c .before .n .given .1))
+    let k = rw (c .before .before .before .before .inputs .given .1) at (c .before .before .before .before .before .before .before .before .read-inputs .ensures) in
+    not-opened-short k (c .before .before .plan-of .ensures .0) (c .before .table-numbers .ensures .0) _ (c .if1 .taken)
+
+zero-requires : tie.Need-zero-requires
+zero-requires c κs = search needs
+
+returns-2 : tie.Need-returns-2
+returns-2 c = inputs-not-opened _ _ _ (rw (c .before .n .given .1) at (c .before .before .before .before .before .read-inputs .ensures))
 
 same-length : tie.Need-same-length
 same-length c = search needs
 
-returns-2 : tie.Need-returns-2
-returns-2 c =
-    let a = c .before .before .before .before .before .before .before .before .before .before .before .before .before .args in
-    let (g, e, ez) = accepted-told (grammarBlock (a .grammar .now)) (c .before .before .before .before .before .before .before .before .read-block .ensures .0) (c .before .before .before .before .before .sizes .given .1) in
-    c .before .before .open-grammar .ensures (a .grammar .now) g e ez
+returns-3 : tie.Need-returns-3
+returns-3 c =
+    let k = rw (c .before .before .before .before .before .before .before .before .inputs .given .1) at (c .before .before .before .before .before .before .before .before .before .before .before .before .read-inputs .ensures) in
+    opened-zeros k (c .before .before .before .before .before .before .plan-of .ensures .0) (c .before .before .before .before .before .table-numbers .ensures .0) (c .before .before .before .before .before .before .before .before .before .before .before .before .before .before .before .before .before .before .args .work .now) (omega (arith, c .before .before .before .before .if1 .left)) (c .before .before .zero .ensures)
 
 pub open-spec : {M : Type 1} → statement M
 open-spec =
     tie.close
     (tie.spec
-    slice-aggregate-read-block
-    read-block-requires
+    slice-aggregate-read-inputs
+    slice-aggregate-read-inputs-2
+    read-inputs-requires
     enum-known-n
-    enum-known-sizes
-    open-grammar-requires
+    enum-known-inputs
+    plan-of-requires
+    table-numbers-requires
     returns
+    zero-requires
+    returns-2
     same-length
-    returns-2)
+    returns-3)

@@ -18,10 +18,10 @@ lay-out-requires c κs = search needs
 
 returns : tie.Need-returns
 returns c =
-    let b = c .before .before .before .before .args .blocks in
+    let b = c .before .before .before .before .args .inputs in
     let pre = c .before .before .before .before .pre in (
-      plan-is b (pre .0) (pre .1) (pre .2) (pre .3) (c .before .before .form-of .ensures .0) (c .lay-out .ensures .0),
-      plan-planned b (pre .0) (pre .1) (pre .2) (pre .3) (c .before .before .form-of .ensures .0) (c .lay-out .ensures .0) (c .lay-out .ensures .1) (c .before .before .form-of .ensures .1),
+      plan-is b pre (c .before .before .form-of .ensures .0) (c .lay-out .ensures .0),
+      plan-planned b pre (c .before .before .form-of .ensures .0) (c .lay-out .ensures .0) (c .lay-out .ensures .1) (c .before .before .form-of .ensures .1),
     )
 
 pub plan-of-spec : {M : Type 1} → statement M

@@ -1,5 +1,5 @@
--- `rules_reader::read_rules` meets its contract: after each turn the rules read so far are those of the definition, and the arrays
--- begin with their numbers and marks. Assumes nothing.
+-- `rules_reader::read_rules` meets its contract: after each turn the rules read so far are those of the definition, and their
+-- numbers and marks stand at the arrays' fronts. Assumes nothing.
 use mathlib.Core.Path.{_≡_, refl, sym, subst, _∙_}
 use Prim.Native.Nat.{_+_, _-_, _*_, _≤_, _<_}
 use native.Mathlib.Omega.{arith}
@@ -15,7 +15,7 @@ use Rattle.rules_reader.proofs.read_rules.Tie as tie
 abbrev Inv-loop : tie.InvT-loop
 Inv-loop src block sheet start rules₀ marks₀ v marked count end keys₀ filter₀ at₀ i₀ rules marks keys filter at i =
     (i ≤ end) × (at ≤ start + 42 * i) × (length keys ≡ 256) × (length rules ≡ length rules₀) × (length marks ≡ length marks₀)
-    × Passed marked (sourceOf src block sheet) (v .symbols) (v .words) count start i at keys rules marks
+    × Passed marked (sourceOf src block sheet) (v .symbols) (v .words) count start i at keys rules₀ rules marks
     × (length filter ≡ 1021) × Filtered (take i keys) filter
 
 abbrev μ-loop : tie.MeasureT-loop

@@ -1,10 +1,9 @@
--- `rules_reader::store_rule` meets its contract: its stores put the row behind what was there. Assumes nothing.
-use Prim.Native.Nat.{_*_}
-use native.Mathlib.Numerals.{towards-suc}
+-- `rules_reader::store_rule` meets its contract: five numbers stored in a row. Assumes nothing.
+use mathlib.Core.Path.{_≡_}
+use Prim.Native.Nat.{_+_, _*_}
 use native.Mathlib.Omega.{arith}
 use lib.ListN.{length-set}
-use Rattle.rules_reader.specs.Rules.{row}
-use Rattle.rules_reader.proofs.Rows.{stored}
+use Rattle.packing.specs.Store.{storeAll}
 use borrow.Author.Needs.{needs}
 use Rattle.rules_reader.proofs.store_rule.Statement.{statement}
 use Rattle.rules_reader.proofs.store_rule.Tie as tie
@@ -58,7 +57,13 @@ same-length : tie.Need-same-length
 same-length c = search needs
 
 returns : tie.Need-returns
-returns c = simp towards-suc (simp towards-suc at (stored (row (c .args .numbers)) (c .args .rules .now) (5 * c .args .i) (c .pre)))
+unfolding storeAll
+returns c =
+    let p = 5 * c .args .i in
+    let two : p + 1 + 1 ≡ p + 2 = omega arith in
+    let three : p + 2 + 1 ≡ p + 3 = omega arith in
+    let four : p + 3 + 1 ≡ p + 4 = omega arith in
+    rw (two, three, four)
 
 pub store-rule-spec : {M : Type 1} → statement M
 store-rule-spec =

@@ -5,7 +5,7 @@ use Rattle.packing.specs.Loop.{iter}
 use Rattle.packing.specs.Meaning.{symbolOf}
 use Rattle.packing.proofs.Loop.{iter-more, iter-end}
 use Rattle.phrases.specs.Padded.{noString}
-use Rattle.phrases.specs.Recursion.{byRules, leastOver, leastOf, leastAt}
+use Rattle.phrases.specs.Recursion.{byRules, leastOf, leastAt}
 use Rattle.specimen.specs.Table.{fittedAt, lesserSplit, lesserRule}
 use Rattle.specimen.proofs.Parts.{passed-over}
 use borrow.Author.Needs.{needs}
@@ -66,7 +66,7 @@ loop-again-2 : tie.Need-loop-again-2 Inv-loop μ-loop
 loop-again-2 c = (search needs, rw (iter-more, ← c .before .before .before .before .loop .inv .1) (c .lesser-rule .ensures))
 
 returns : tie.Need-returns Inv-loop μ-loop
-unfolding leastAt leastOf leastOver byRules lesserRule lesserSplit
+unfolding leastAt leastOf byRules lesserRule lesserSplit
 returns c = c .before .loop .inv .1 ∙ iter-end _ _ _ _ (c .before .loop .inv .0) (search needs)
 
 pub least-of-cell-spec : {M : Type 1} → statement M

@@ -19,7 +19,7 @@ add-t15 c =
     let p = placeAt (a .handed) (a .opened) in
     let e = c .before .before .before .before .before .before .next .ensures in
     let size = c .before .before .before .before .before .before .next .kept .1 .1 .1 .0 in
-    omega (arith, call-reading (a .grammar .now) (a .utterance .now) p (a .work .now) (a .out .now) (e .0) (e .1) size (c .enum-told .given .1))
+    omega (arith, call-reading (a .grammar .now) (a .utterance .now) p (a .work .now) (a .out .now) (e .0) (e .1 .0) size (c .enum-told .given .1))
 
 enum-told-2 : tie.Need-enum-told-2
 enum-told-2 c = search needs
@@ -36,7 +36,7 @@ refusal-requires c κs =
     let p = placeAt (a .handed) (a .opened) in
     let e = c .before .before .before .before .before .before .before .next .ensures in
     let size = c .before .before .before .before .before .before .before .next .kept .1 .1 .1 .0 in
-    call-refusal (a .grammar .now) (a .utterance .now) p (a .work .now) (a .out .now) (e .0) (e .1) size (c .before .answer .given .1)
+    call-refusal (a .grammar .now) (a .utterance .now) p (a .work .now) (a .out .now) (e .0) (e .1 .0) size (c .before .answer .given .1)
 
 same-length : tie.Need-same-length
 same-length c = search needs
@@ -50,7 +50,7 @@ returns c =
     let p = placeAt (a .handed) (a .opened) in
     let e = c .before .before .before .before .before .before .next .ensures in
     let size = c .before .before .before .before .before .before .next .kept .1 .1 .1 .0 in
-    answered (a .grammar .now) (a .utterance .now) p (a .work .now) (a .out .now) (e .0) (e .1) size Reading (c .enum-told .given .1)
+    answered (a .grammar .now) (a .utterance .now) p (a .work .now) (a .out .now) (e .0) (e .1 .0) size Reading (c .enum-told .given .1)
 
 same-length-3 : tie.Need-same-length-3
 same-length-3 c = search needs
@@ -64,7 +64,7 @@ returns-2 c =
     let p = placeAt (a .handed) (a .opened) in
     let e = c .before .before .before .before .before .before .next .ensures in
     let size = c .before .before .before .before .before .before .next .kept .1 .1 .1 .0 in
-    answered (a .grammar .now) (a .utterance .now) p (a .work .now) (a .out .now) (e .0) (e .1) size NoMore (c .enum-told2 .given .1)
+    answered (a .grammar .now) (a .utterance .now) p (a .work .now) (a .out .now) (e .0) (e .1 .0) size NoMore (c .enum-told2 .given .1)
 
 same-length-5 : tie.Need-same-length-5
 same-length-5 c = search needs
@@ -78,7 +78,7 @@ returns-3 c =
     let p = placeAt (a .handed) (a .opened) in
     let e = c .before .before .before .before .before .before .next .ensures in
     let size = c .before .before .before .before .before .before .next .kept .1 .1 .1 .0 in
-    answered (a .grammar .now) (a .utterance .now) p (a .work .now) (a .out .now) (e .0) (e .1) size Full (c .enum-told3 .given .1)
+    answered (a .grammar .now) (a .utterance .now) p (a .work .now) (a .out .now) (e .0) (e .1 .0) size Full (c .enum-told3 .given .1)
 
 same-length-7 : tie.Need-same-length-7
 same-length-7 c = search needs
@@ -92,7 +92,7 @@ returns-4 c =
     let p = placeAt (a .handed) (a .opened) in
     let e = c .before .before .before .before .before .before .before .before .next .ensures in
     let size = c .before .before .before .before .before .before .before .before .next .kept .1 .1 .1 .0 in
-    turned-away (a .grammar .now) (a .utterance .now) p (a .work .now) (a .out .now) (e .0) (e .1) size (c .before .before .answer .given .1) (c .refusal .ensures)
+    turned-away (a .grammar .now) (a .utterance .now) p (a .work .now) (a .out .now) (e .0) (e .1 .0) size (c .before .before .answer .given .1) (c .refusal .ensures)
 
 pub next-call-spec : {M : Type 1} → statement M
 next-call-spec =

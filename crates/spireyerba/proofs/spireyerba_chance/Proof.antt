@@ -1,6 +1,6 @@
 -- Each arm is the definition's code of that answer, and what it writes; so the demands are met. Assumes nothing.
 use borrow.Author.Needs.{needs}
-use Rattle.chance.specs.Chance.{chance}
+use Rattle.chance.specs.Answer.{chance}
 use Rattle.spireyerba.proofs.Small.{chance-small}
 use Rattle.spireyerba.proofs.Codes.{shown-small, shown-code, shown-number, written-float, kept-float}
 use Rattle.spireyerba.proofs.Demands.{chances}
@@ -24,16 +24,28 @@ returns c =
     let a = c .before .before .before .before .before .before .before .before .args in
     let answered = c .before .before .before .chance .ensures in
     let code = shown-code (chance-small (a .grammar .now) (a .utterance .now) (a .reading .now) (a .shares .now)) (answered .0) (c .before .answer .given .1) in
-    let float = written-float (chance (a .grammar .now) (a .utterance .now) (a .reading .now) (a .shares .now)) (a .chance .now) (answered .0) (c .before .answer .given .1) in
-    (code, (float, chances (a .grammar .now) (a .utterance .now) (a .reading .now) (a .shares .now) code float (answered .0) (answered .1)))
+    let float = written-float (chance (a .grammar .now) (a .utterance .now) (a .reading .now) (a .shares .now)) (a .chance .now) (answered .0) (c .before .answer .given .1) in (
+      code,
+      (
+        float,
+        chances (a .grammar .now) (a .utterance .now) (a .reading .now) (a .shares .now)
+            (λ i. c .before .before .before .before .before .shared-slice-known3 .given i .fits) code float (answered .0) (answered .1),
+      ),
+    )
 
 returns-2 : tie.Need-returns-2
 returns-2 c =
     let a = c .before .before .before .before .before .before .before .before .before .args in
     let answered = c .before .before .before .before .chance .ensures in
     let code = shown-number (chance-small (a .grammar .now) (a .utterance .now) (a .reading .now) (a .shares .now)) (answered .0) (c .before .before .answer2 .given .1) (c .refusal .ensures) in
-    let float = kept-float (chance (a .grammar .now) (a .utterance .now) (a .reading .now) (a .shares .now)) (a .chance .now) (answered .0) (c .before .before .answer2 .given .1) in
-    (code, (float, chances (a .grammar .now) (a .utterance .now) (a .reading .now) (a .shares .now) code float (answered .0) (answered .1)))
+    let float = kept-float (chance (a .grammar .now) (a .utterance .now) (a .reading .now) (a .shares .now)) (a .chance .now) (answered .0) (c .before .before .answer2 .given .1) in (
+      code,
+      (
+        float,
+        chances (a .grammar .now) (a .utterance .now) (a .reading .now) (a .shares .now)
+            (λ i. c .before .before .before .before .before .before .shared-slice-known3 .given i .fits) code float (answered .0) (answered .1),
+      ),
+    )
 
 pub spireyerba-chance-spec : {M : Type 1} → statement M
 spireyerba-chance-spec =

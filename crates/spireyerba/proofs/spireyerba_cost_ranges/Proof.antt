@@ -33,7 +33,7 @@ returns c =
     let e = c .before .before .before .before .cost-ranges .ensures in
     let told = c .enum-told .given .1 in
     let code = ranged-code (a .grammar .now) (a .low .now) (a .high .now) (a .work .now) (e .0) told in
-    ranges-told (a .grammar .now) (a .low .now) (a .high .now) (a .work .now) (e .0) told (a .least .now) (a .greatest .now) code (e .1 .0) (e .1 .1)
+    ranges-told (a .grammar .now) (a .low .now) (a .high .now) (a .work .now) (e .0) told (a .least .now) (a .greatest .now) code (e .1 .0)
 
 same-length-2 : tie.Need-same-length-2
 same-length-2 c = search needs
@@ -44,7 +44,7 @@ returns-2 c =
     let e = c .before .before .before .before .before .cost-ranges .ensures in
     let told = c .before .answer .given .1 in
     let code = ranged-code (a .grammar .now) (a .low .now) (a .high .now) (a .work .now) (e .0) told in
-    ranges-told (a .grammar .now) (a .low .now) (a .high .now) (a .work .now) (e .0) told (a .least .now) (a .greatest .now) code (e .1 .0) (e .1 .1)
+    ranges-told (a .grammar .now) (a .low .now) (a .high .now) (a .work .now) (e .0) told (a .least .now) (a .greatest .now) code (e .1 .0)
 
 same-length-3 : tie.Need-same-length-3
 same-length-3 c = search needs
@@ -55,7 +55,7 @@ returns-3 c =
     let e = c .before .before .before .before .before .cost-ranges .ensures in
     let told = c .before .answer2 .given .1 in
     let code = ranged-code (a .grammar .now) (a .low .now) (a .high .now) (a .work .now) (e .0) told in
-    ranges-told (a .grammar .now) (a .low .now) (a .high .now) (a .work .now) (e .0) told (a .least .now) (a .greatest .now) code (e .1 .0) (e .1 .1)
+    ranges-told (a .grammar .now) (a .low .now) (a .high .now) (a .work .now) (e .0) told (a .least .now) (a .greatest .now) code (e .1 .0)
 
 same-length-4 : tie.Need-same-length-4
 same-length-4 c = search needs
@@ -66,7 +66,7 @@ returns-4 c =
     let e = c .before .before .before .before .before .before .cost-ranges .ensures in
     let told = c .before .before .answer3 .given .1 in
     let code = ranged-number (a .grammar .now) (a .low .now) (a .high .now) (a .work .now) (e .0) told (c .refusal .ensures) in
-    ranges-told (a .grammar .now) (a .low .now) (a .high .now) (a .work .now) (e .0) told (a .least .now) (a .greatest .now) code (e .1 .0) (e .1 .1)
+    ranges-told (a .grammar .now) (a .low .now) (a .high .now) (a .work .now) (e .0) told (a .least .now) (a .greatest .now) code (e .1 .0)
 
 pub spireyerba-cost-ranges-spec : {M : Type 1} → statement M
 spireyerba-cost-ranges-spec =

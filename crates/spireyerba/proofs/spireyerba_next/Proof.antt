@@ -43,6 +43,7 @@ use denote.Triple.Table.{entered, cited}
 use denote.Triple.Walked.{says, Stays, stay-none-slice, stay-ref, gave-slice, walkOf, goes-none-slice, goes-ref, goes-gave-slice, Walks, ends-at, walked, walk-meets}
 use denote.Exit.{yes}
 use denote.Signature.{Slot, plain}
+use Rattle.open_listing.specs.Model.{searched}
 use Rattle.spireyerba.specs.OneByOne.{placeAt, Next}
 use Rattle.open_listing.specs.declared.Place.{Place}
 use Rattle.spireyerba.specs.declared.Moved.{Moved}
@@ -94,7 +95,7 @@ module _ {M : Type 1} (𝓤 : URA M) (H : Heap 𝓤) (A : Atoms 𝓤) (W : Given
 
   -- what `next_call` ensures of its result and the last lists, and the place that is left
   abbrev Said : Moved → List ℕ → List ℕ → Type 0
-  Said r xs ys = Next (g .now) (u .now) (placeAt (h .handed) (h .opened)) (t .now) (w .now) (r .code) (placeAt (r .handed) (r .opened)) xs ys
+  Said r xs ys = Next searched (g .now) (u .now) (placeAt (h .handed) (h .opened)) (t .now) (w .now) (r .code) (placeAt (r .handed) (r .opened)) xs ys
 
   -- what `next_call` is passed, and what its triple binds outside: the slices' own borrows
   abbrev passed : RefT (List ℕ) × (RefT (List ℕ) × (RefT (List ℕ) × (RefT (List ℕ) × (ℕ × (ℕ × Unit {0})))))

@@ -20,7 +20,7 @@ same-length-2 : tie.Need-same-length-2
 same-length-2 c = search needs
 
 returns : tie.Need-returns
-returns c = let e = c .before .before .before .before .before .word-margins .ensures in let code = listed-number (margins-small (c .before .before .before .before .before .before .before .before .before .before .before .before .args .grammar .now) (c .before .before .before .before .before .before .before .before .before .before .before .before .args .utterance .now) (length (c .before .before .before .before .before .before .before .before .before .before .before .before .args .work .now)) (length (c .before .before .before .before .before .before .before .before .before .before .before .before .args .out .now))) (e .0) (c .listed-code .ensures) in (code, (e .1 .0, (e .1 .1 .0, margins-told (c .before .before .before .before .before .before .before .before .before .before .before .before .args .grammar .now) (c .before .before .before .before .before .before .before .before .before .before .before .before .args .utterance .now) (c .before .before .before .before .before .before .before .before .before .before .before .before .args .work .now) (c .before .before .before .before .before .before .before .before .before .before .before .before .args .out .now) (e .0) code (e .1 .0) (e .1 .1 .0) (e .1 .1 .1))))
+returns c = let e = c .before .before .before .before .before .word-margins .ensures in let code = listed-number (margins-small (c .before .before .before .before .before .before .before .before .before .before .before .before .args .grammar .now) (c .before .before .before .before .before .before .before .before .before .before .before .before .args .utterance .now) (length (c .before .before .before .before .before .before .before .before .before .before .before .before .args .work .now)) (length (c .before .before .before .before .before .before .before .before .before .before .before .before .args .out .now))) (e .0) (c .listed-code .ensures) in (code, (e .1 .0, (e .1 .1 .0, margins-told (c .before .before .before .before .before .before .before .before .before .before .before .before .args .grammar .now) (c .before .before .before .before .before .before .before .before .before .before .before .before .args .utterance .now) (c .before .before .before .before .before .before .before .before .before .before .before .before .args .work .now) (c .before .before .before .before .before .before .before .before .before .before .before .before .args .out .now) code (e .1 .0) (e .1 .1 .0))))
 
 pub spireyerba-word-margins-spec : {M : Type 1} → statement M
 spireyerba-word-margins-spec =

@@ -9,7 +9,7 @@ use lib.ListN.{length, length-append}
 use Rattle.packing.specs.Meaning.{Edge}
 use Rattle.packing.specs.Flat.{edgeNumbers}
 use Rattle.packing.specs.Store.{storeAll}
-use Rattle.packing.proofs.Flat.{length-edges, stored-begins}
+use Rattle.packing.proofs.Flat.{length-edges, overlaid-begins, stored-overlaid}
 use Rattle.utterance_edges.specs.Edges.{candidateEdges, slotsEdges}
 use Rattle.utterance_edges.proofs.Edges.{edges-stored, length-candidate-edges, slot-edges-more, slot-edges-end}
 use Rattle.utterance_edges.proofs.edges_of.Statement.{statement}
@@ -92,9 +92,9 @@ returns c =
     let l = c .before .loop in
     let a = c .before .before .before .before .args in
     let es = l .inv .4 .0 in
-    let room = stored-begins (a .edges .now) (edgeNumbers es) (omega (arith, length-edges es)) in
+    let laid = l .inv .4 .2 ∙ stored-overlaid (a .edges .now) (edgeNumbers es) (omega (arith, length-edges es)) in
     rw (sym (l .inv .4 .3) ∙ slot-edges-end (a .slots .now) (a .count) (l .i) (l .p) es (omega arith))
-    (sym (l .inv .4 .1), rw (l .inv .4 .2) room)
+    (sym (l .inv .4 .1), overlaid-begins (edgeNumbers es) (a .edges .now) (l .edges) laid, laid)
 
 pub edges-of-spec : {M : Type 1} → statement M
 edges-of-spec =

@@ -1,0 +1,7 @@
+pub mod Says
+pub mod Unmarked
+pub mod Shapes
+pub mod Walks
+pub mod Rows
+pub mod Outcome
+pub mod Theorems

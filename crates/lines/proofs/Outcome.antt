@@ -1,0 +1,98 @@
+-- Where readings were found, both blocks mean something, and what the listing promises of the output says of each row which derivation's it is.
+use mathlib.Core.Path.{_≡_, refl, sym, ap, _∙_}
+use mathlib.Core.List.{List}
+use Prim.Native.Nat.{ℕ, _+_, _-_, _*_, _≤_}
+use native.Mathlib.Nat.{mul-le-mul-right}
+use native.Mathlib.Omega.{arith}
+use lib.ListN.{length}
+use Rattle.packing.specs.Meaning.{Grammar, Marked, grammarOf, Heard, slots, graph}
+use Rattle.packing.specs.Parse.{Verdict, accepted, refused}
+use Rattle.packing.specs.Grammar.{markedBlock, grammarBlock}
+use Rattle.packing.specs.Heard.{heardBlock}
+use Rattle.packing.proofs.Parse.{granted, accepted-is}
+use Rattle.packing.proofs.Whole.{marked-block-out}
+use Rattle.packing.proofs.Heard.{heard-block-out}
+use Rattle.derivation.specs.Heard.{outputLength}
+use Rattle.listing.specs.Conditions.{library, askedListing}
+use Rattle.listing.specs.Listing.{list, listedOf}
+use Rattle.listing.specs.Demand3.{Demand3}
+use Rattle.listing.specs.declared.Listed.{Listed}
+use Rattle.listing.specs.declared.Listed.the-variants.{Found}
+use Rattle.listing.proofs.Accepted.{Asks, asked-out, list-asked}
+use Rattle.lines.specs.Rows.{Rows}
+use Rattle.lines.specs.Model.{shapeOf, sizeOf, ShapeOf, RowsSay}
+use Rattle.lines.specs.declared.Shape.{Shape}
+
+size-is : (g : Grammar) (h : Heard) → sizeOf (shapeOf g h) ≡ outputLength g h
+size-is g (slots u) = refl
+size-is g (graph h) = refl
+
+-- where readings were found, what both blocks mean
+record Meant (grammar heard : List ℕ) (work out : ℕ) : Type 0 where
+  pub m : Marked
+  pub h : Heard
+  pub grammar-means : markedBlock grammar ≡ accepted m
+  pub heard-means : heardBlock (m .words) heard ≡ accepted h
+  pub asks : Asks (grammarOf m) h 8 work out
+
+module _ (grammar heard rules marks : List ℕ) (s : Shape) (shape : ShapeOf grammar heard rules marks s) (work out : List ℕ) (found : ℕ) (r : Listed)
+    (answered : r ≡ listedOf (list library grammar heard 8 (length work) (length out))) (is : r ≡ Found found) where
+  meant : Meant grammar heard (length work) (length out)
+  unfolding grammarBlock
+  meant = go (list library grammar heard 8 (length work) (length out)) refl (sym answered ∙ is)
+    where
+      go : (v : Verdict (List (List ℕ))) → list library grammar heard 8 (length work) (length out) ≡ v → listedOf v ≡ Found found
+          → Meant grammar heard (length work) (length out)
+      go (refused n) e a = let z : _≡_ {A = ℕ} 0 1 = cc in absurd (omega arith)
+      go (accepted ls) e a =
+          granted (askedListing library grammar heard 8 (length work) (length out)) _
+          (sym (list-asked library grammar heard 8 (length work) (length out)) ∙ e) λ (g, h) both _.
+          let (p, q, asks) = asked-out library grammar heard 8 (length work) (length out) both in
+          granted (markedBlock grammar) _ p λ m p′ same.
+          let is : grammarOf m ≡ g = accepted-is same in
+          record {
+            m = m;
+            h = h;
+            grammar-means = p′;
+            heard-means = rw (← is) at q;
+            asks = rw is asks;
+          }
+
+  sized : sizeOf s ≡ outputLength (grammarOf (meant .m)) (meant .h)
+  sized =
+      let (shaped, _, _) = shape .right (meant .m) (meant .h) (meant .grammar-means) (meant .heard-means) in
+      ap sizeOf shaped ∙ size-is (grammarOf (meant .m)) (meant .h)
+
+  -- the readings lie in the output
+  pub room-for : found ≤ 8 → found * sizeOf s ≤ length out
+  room-for few = omega (arith, mul-le-mul-right (sizeOf s) few, ap (λ (n : ℕ). 8 * n) sized, meant .asks .room)
+
+  module _ (work′ out′ shown shown′ : List ℕ) (demand : Demand3 grammar heard 8 work out (λ m. r ≡ Found m) work′ out′)
+      (said : RowsSay rules marks s out′ found shown shown′) where
+    pub rows-told : Rows grammar heard found shown shown′
+    unfolding grammarBlock
+    rows-told =
+        let m = meant .m in
+        let h = meant .h in
+        let p = meant .grammar-means in
+        let q = meant .heard-means in
+        let asks = meant .asks in
+        let list = demand (grammarOf m) (rw p) h q (asks .positive) (asks .few) (asks .table) (asks .room) in
+        let same : list .m ≡ found = cc in
+        let (shaped, stand, marked) = shape .right m h p q in
+        let okm = marked-block-out grammar m p .0 in
+        let okh = heard-block-out (m .words) heard h q .0 in
+        record {
+          m = m;
+          h = h;
+          grammar-means = p;
+          heard-means = q;
+          derivations = list .derivations;
+          finitely-many = list .finitely-many;
+          found-is = sym same ∙ list .m-is;
+          rows = λ k l u.
+              let (t, ranked, block) = list .readings k l (omega (arith, same)) in
+              let first : k - 1 + 1 ≡ k = omega arith in
+              (t, ranked, rw first at (said .each (k - 1) (omega arith) m h t okm okh stand marked shaped (ranked .derivation) (rw sized block)));
+          beyond = said .beyond;
+        }

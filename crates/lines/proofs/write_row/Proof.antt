@@ -1,0 +1,83 @@
+-- What the whole line says, without the marked rules, in an array of zeros.
+use mathlib.Core.Path.{ap, _∙_}
+use Prim.Native.Nat.{ℕ}
+use native.Mathlib.Omega.{arith}
+use lib.ListN.{take}
+use borrow.Author.Needs.{needs}
+use Rattle.packing.specs.Meaning.{grammarOf, heardEdges}
+use Rattle.derivation.specs.Derivation.{weight}
+use Rattle.office_theory.specs.Matching.{withoutMarked}
+use Rattle.lines.specs.Rows.{row}
+use Rattle.lines.proofs.Unmarked.{shown-of}
+use Rattle.lines.proofs.Rows.{row-written}
+use Rattle.lines.proofs.write_row.Statement.{statement}
+use Rattle.lines.proofs.write_row.Tie as tie
+
+slice-aggregate-line-of : tie.Need-slice-aggregate-line-of
+slice-aggregate-line-of c = search needs
+
+line-of-requires : tie.Need-line-of-requires
+line-of-requires c κs = search needs
+
+zero-requires : tie.Need-zero-requires
+zero-requires c κs = search needs
+
+slice-aggregate-leave-out : tie.Need-slice-aggregate-leave-out
+slice-aggregate-leave-out c = search needs
+
+sub-leave-out : tie.Need-sub-leave-out
+sub-leave-out c = search needs
+
+part-leave-out-start : tie.Need-part-leave-out-start
+part-leave-out-start c = search needs
+
+part-leave-out-end : tie.Need-part-leave-out-end
+part-leave-out-end c = search needs
+
+leave-out-requires : tie.Need-leave-out-requires
+leave-out-requires c κs = search needs
+
+store-requires : tie.Need-store-requires
+store-requires c κs = search needs
+
+store-requires-2 : tie.Need-store-requires-2
+store-requires-2 c κs = search needs
+
+cast-store : tie.Need-cast-store
+cast-store c = search needs
+
+store-requires-3 : tie.Need-store-requires-3
+store-requires-3 c κs = search needs
+
+same-length : tie.Need-same-length
+same-length c = search needs
+
+returns : tie.Need-returns
+returns c =
+    let a = c .before .before .before .before .before .before .before .before .before .before .before .before .before .before .before .before .before .before .before .before .before .before .before .before .before .before .before .before .args in
+    let line = c .before .before .before .before .before .before .before .before .before .before .before .before .before .before .before .before .before .before .before .before .before .before .line-of .result in
+    let walked = c .before .before .before .before .before .before .before .before .before .before .before .before .before .before .before .before .before .before .before .before .before .before .line-of .last .1 .1 .1 .0 in
+    let n = c .before .before .before .before .before .before .before .before .before .before .before .before .before .before .leave-out .result in
+    let written = row-written (a .rank) (line .weight) n (a .row .now) (withoutMarked (a .marks .now) (take (line .nodes) walked)) (c .before .before .before .before .before .before .before .before .before .before .before .before .before .before .before .before .before .before .before .zero .last .0) (c .before .before .before .before .before .before .before .before .before .before .before .before .before .before .leave-out .last .1 .1 .1 .0) (c .before .before .before .before .before .before .before .before .before .before .store .last .0) (c .before .before .before .before .before .before .store2 .last .0) (c .before .before .store3 .last .0) (c .before .before .before .before .before .before .before .before .before .before .before .before .before .before .before .before .before .before .before .before .before .before .before .before .before .before .before .before .pre .1) (c .before .before .before .before .before .before .before .before .before .before .before .before .before .before .before .before .before .before .before .zero .ensures) (c .before .before .before .before .before .before .before .before .before .before .before .before .before .before .leave-out .ensures .1 .0) (omega (arith, c .before .before .before .before .before .before .before .before .before .before .before .before .before .before .leave-out .ensures .0, c .before .before .before .before .before .before .before .before .before .before .before .before .before .before .before .before .before .before .before .before .before .before .line-of .ensures .0)) (c .before .before .before .before .before .before .before .before .before .before .before .before .before .before .leave-out .ensures .1 .1) (c .before .before .before .before .before .before .before .before .before .before .store .ensures) (c .before .before .before .before .before .before .store2 .ensures) (c .before .before .store3 .ensures) in
+    λ m h t ok valid stand marked shape d is.
+    let (weighs, shows) = shown-of (a .rules .now) (a .marks .now) (a .s) (a .block .now) line walked (c .before .before .before .before .before .before .before .before .before .before .before .before .before .before .before .before .before .before .before .before .before .before .line-of .ensures .1) m h t ok valid stand marked shape d is in
+    written ∙ ap (λ (w : ℕ). row (a .rank) w (withoutMarked (a .marks .now) (take (line .nodes) walked))) weighs ∙ ap (row (a .rank) (weight (grammarOf m) (heardEdges h) t)) shows
+
+pub write-row-spec : {M : Type 1} → statement M
+write-row-spec =
+    tie.close
+    (tie.spec
+    slice-aggregate-line-of
+    line-of-requires
+    zero-requires
+    slice-aggregate-leave-out
+    sub-leave-out
+    part-leave-out-start
+    part-leave-out-end
+    leave-out-requires
+    store-requires
+    store-requires-2
+    cast-store
+    store-requires-3
+    same-length
+    returns)

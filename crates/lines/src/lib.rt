@@ -1,0 +1,241 @@
+// What the lister prints, as rows of numbers: the eight least readings of what was heard, slots or a word graph, under a grammar. Nodes whose
+// rule is marked, as helpers' rules are, are left out.
+use grammar_reader::MarkedRead;
+use graph_reading_reader::HeadRead;
+use graph_reading_reader::NodeRead;
+use graph_reading_reader::read_head;
+use graph_reading_reader::read_node;
+use graph_reading_writer::graph_reading_length;
+use heard_reader::HeardRead;
+use listing::Listed;
+use packing::format::EDGES_LENGTH;
+use packing::format::GRAPH_READING_HEAD;
+use packing::format::MAX_RULES;
+use packing::format::RULES_LENGTH;
+use packing::format::UNMARKED;
+use packing::format::WALK_LENGTH;
+use reading_reader::ReadingRead;
+use reading_writer::reading_length;
+ghost use mathlib.Core.Path.{_≡_};
+ghost use mathlib.Core.List.{[], _∷_, _++_};
+ghost use Prim.Native.Nat.{_+_, _-_, _*_, _≤_, _<_};
+ghost use lib.ListN.{length, take, drop};
+ghost use Rattle.listing.specs.Conditions.{library};
+ghost use Rattle.listing.specs.Listing.{list, listedOf, outputAfter, workAfter};
+ghost use Rattle.office_theory.specs.Matching.{withoutMarked};
+ghost use Rattle.lines.specs.Rows.{Told};
+ghost use Rattle.lines.specs.Model.{Bounded, ShapeOf, sizeOf, Few, Says, SlotsSay, GraphSays, WalkRead, Shown, RowSays, RowsSay};
+
+// The number of readings that document 01 has the lister ask for.
+const WANTED: u32 = 8;
+
+// A row: rank, weight, how many rule numbers, these, and zeros; and the numbers of all rows.
+pub const RANK_AT: usize = 0;
+
+pub const WEIGHT_AT: usize = 1;
+
+pub const COUNT_AT: usize = 2;
+
+pub const RULES_AT: usize = 3;
+
+pub const ROW_NUMBERS: usize = 50;
+
+pub const SHOWN_NUMBERS: usize = 400;
+
+// Whether readings are of a graph, the last place (n, or P - 1), and R: on these the length of a reading depends.
+struct Shape {
+    graph: bool,
+    last: usize,
+    rules: usize,
+}
+
+// What a row has beside its rank and its rule numbers: the weight, and how many numbers there are.
+struct Line {
+    weight: u32,
+    nodes: usize,
+}
+
+// The shape of what the blocks mean, with the rules and their marks in the arrays; slots, 1 and 1 where a block is refused.
+fn shape_of(grammar: &[u8], utterance: &[u8], rules: &mut [u32], marks: &mut [u32]) -> Shape
+    requires { do ⌜ ((← ⟦RULES_LENGTH⟧) ≤ length (now rules)) × ((← ⟦MAX_RULES⟧) ≤ length (now marks)) ⌝ }
+    ensures { λ s. ⌜ ShapeOf (now (grammar .entry)) (now (utterance .entry)) (now (rules .exit)) (now (marks .exit)) s ⌝ }
+{
+    let none = Shape {
+        graph: false,
+        last: 1,
+        rules: 1,
+    };
+    let read = grammar_reader::read_marked_block(grammar, rules, marks);
+    let MarkedRead::Grammar(sizes, _) = read else {
+        return none;
+    };
+    let mut edges = [0u32; EDGES_LENGTH];
+    let heard = heard_reader::read_heard(utterance, sizes.words, &mut edges);
+    let HeardRead::Heard(found) = heard else {
+        return none;
+    };
+    Shape {
+        graph: found.graph,
+        last: found.last,
+        rules: sizes.rules as usize,
+    }
+}
+
+// The length of a reading in the output.
+fn size_of(s: Shape) -> usize
+    requires { ⌜ Bounded s ⌝ }
+    ensures { λ r. ⌜ r ≡ sizeOf s ⌝ }
+{
+    if s.graph {
+        return graph_reading_length(s.last, s.rules);
+    }
+    reading_length(s.last, s.rules)
+}
+
+// The line of a reading of slots, with its rule numbers at the front of `walk`.
+fn slots_line(block: &[u8], s: Shape, walk: &mut [u32]) -> Line
+    requires { do ⌜ (Bounded s) × ((← ⟦WALK_LENGTH⟧) ≤ length (now walk)) ⌝ }
+    ensures { λ r. ⌜ (Few r) × SlotsSay s (now (block .entry)) r (now (walk .exit)) ⌝ }
+{
+    let n = s.last;
+    let read = reading_reader::read_reading(block, n, s.rules, walk);
+    let nodes = 2 * n - 1;
+    let ReadingRead::Reading(weight, _) = read else {
+        return Line { weight: 0, nodes };
+    };
+    Line { weight, nodes }
+}
+
+// The rule numbers of the nodes of a graph's reading, at the front of `walk`.
+fn read_walk(block: &[u8], rules: &[u32], count: usize, nodes: usize, walk: &mut [u32])
+    requires { ⌜ (1 ≤ count) × (count ≤ 256) × (nodes ≤ 47) × (47 ≤ length (now walk)) ⌝ }
+    ensures { λ _. ⌜ WalkRead (now (rules .entry)) count nodes (now (block .entry)) (now (walk .exit)) ⌝ }
+{
+    let mut at = GRAPH_READING_HEAD;
+    for i in 0..nodes {
+        let NodeRead::Node(x, c) = read_node(rules, count, block, at) else {
+            return;
+        };
+        walk[i] = x.rule as u32;
+        at = c.at;
+    }
+}
+
+// The line of a reading of a graph, which has zeros behind it.
+fn graph_line(block: &[u8], rules: &[u32], s: Shape, walk: &mut [u32]) -> Line
+    requires { do ⌜ (Bounded s) × ((← ⟦WALK_LENGTH⟧) ≤ length (now walk)) ⌝ }
+    ensures { λ r. ⌜ (Few r) × GraphSays (now (rules .entry)) s (now (block .entry)) r (now (walk .exit)) ⌝ }
+{
+    let HeadRead::Head(head, _) = read_head(block, s.last, s.rules) else {
+        return Line {
+            weight: 0,
+            nodes: 0,
+        };
+    };
+    let nodes = 2 * head.edges - 1;
+    read_walk(block, rules, s.rules, nodes, walk);
+    Line {
+        weight: head.weight,
+        nodes,
+    }
+}
+
+// The line of a reading with all its nodes.
+fn line_of(block: &[u8], rules: &[u32], s: Shape, walk: &mut [u32]) -> Line
+    requires { do ⌜ (Bounded s) × ((← ⟦WALK_LENGTH⟧) ≤ length (now walk)) ⌝ }
+    ensures { λ r. ⌜ (Few r) × Says (now (rules .entry)) s (now (block .entry)) r (now (walk .exit)) ⌝ }
+{
+    if s.graph {
+        return graph_line(block, rules, s, walk);
+    }
+    slots_line(block, s, walk)
+}
+
+// A rule's number behind the first k numbers, unless the rule is marked: how many there are then.
+fn show_rule(rule: u32, marks: &[u32], shown: &mut [u32], k: usize) -> usize
+    requires { ⌜ k < length (now shown) ⌝ }
+    ensures { λ n. ⌜ (k ≤ n) × (n ≤ k + 1) × (take n (now (shown .exit)) ≡ take k (now (shown .entry)) ++ withoutMarked (now (marks .entry)) (rule ∷ []))
+        × (drop n (now (shown .exit)) ≡ drop n (now (shown .entry))) ⌝ }
+{
+    if arrays::narrow_at(marks, arrays::wide(rule)) == UNMARKED {
+        shown[k] = rule;
+        return k + 1;
+    }
+    k
+}
+
+// The numbers of a walk whose rules are not marked, in their order at the front of `shown`: how many.
+fn leave_out(walk: &[u32], nodes: usize, marks: &[u32], shown: &mut [u32]) -> usize
+    requires { ⌜ (nodes ≤ length (now walk)) × (nodes ≤ length (now shown)) ⌝ }
+    ensures { λ n. ⌜ (n ≤ nodes) × Shown (now (marks .entry)) (take nodes (now (walk .entry))) n (now (shown .entry)) (now (shown .exit)) ⌝ }
+{
+    let mut k: usize = 0;
+    let mut i: usize = 0;
+    while i < nodes {
+        k = show_rule(walk[i], marks, shown, k);
+        i += 1;
+    }
+    k
+}
+
+// The row of a reading, whatever stood in it.
+fn write_row(block: &[u8], rules: &[u32], marks: &[u32], s: Shape, rank: u32, row: &mut [u32])
+    requires { ⌜ (Bounded s) × (length (now row) ≡ 50) ⌝ }
+    ensures { λ _. ⌜ RowSays (now (rules .entry)) (now (marks .entry)) s (now (block .entry)) rank (now (row .exit)) ⌝ }
+{
+    let mut walk = [0u32; WALK_LENGTH];
+    let line = line_of(block, rules, s, &mut walk);
+    chart_table::zero(row);
+    let count = leave_out(&walk, line.nodes, marks, &mut row[RULES_AT..]);
+    arrays::store(row, RANK_AT, rank);
+    arrays::store(row, WEIGHT_AT, line.weight);
+    arrays::store(row, COUNT_AT, count as u32);
+}
+
+// A row for each of the first m readings of the output.
+fn write_rows(out: &[u8], m: usize, rules: &[u32], marks: &[u32], s: Shape, shown: &mut [u32])
+    requires { ⌜ (Bounded s) × (m ≤ 8) × (m * sizeOf s ≤ length (now out)) × (400 ≤ length (now shown)) ⌝ }
+    ensures { λ _. ⌜ RowsSay (now (rules .entry)) (now (marks .entry)) s (now (out .entry)) m (now (shown .entry)) (now (shown .exit)) ⌝ }
+{
+    let size = size_of(s);
+    for k in 0..m {
+        let from = k * size;
+        let upto = from + size;
+        let at = k * ROW_NUMBERS;
+        let end = at + ROW_NUMBERS;
+        write_row(
+            &out[from..upto],
+            rules,
+            marks,
+            s,
+            (k + 1) as u32,
+            &mut shown[at..end],
+        );
+    }
+}
+
+// The listing of eight readings, with a row for each that is found in `shown`.
+pub fn lines(
+    grammar: &[u8],
+    heard: &[u8],
+    work: &mut [u32],
+    out: &mut [u8],
+    shown: &mut [u32],
+) -> Listed
+    requires { ⌜ 400 ≤ length (now shown) ⌝ }
+    ensures { λ r. ⌜ r ≡ listedOf (list library (now (grammar .entry)) (now (heard .entry)) 8 (length (now (work .entry))) (length (now (out .entry)))) ⌝ }
+    ensures { λ r. ⌜ now (work .exit) ≡ workAfter (list library (now (grammar .entry)) (now (heard .entry)) 8 (length (now (work .entry))) (length (now (out .entry)))) (now (work .entry)) ⌝ }
+    ensures { λ r. ⌜ now (out .exit) ≡ outputAfter (list library (now (grammar .entry)) (now (heard .entry)) 8 (length (now (work .entry))) (length (now (out .entry)))) (now (out .entry)) ⌝ }
+    ensures { λ r. ⌜ Told (now (grammar .entry)) (now (heard .entry)) r (now (shown .entry)) (now (shown .exit)) ⌝ }
+{
+    let mut rules = [0u32; RULES_LENGTH];
+    let mut marks = [0u32; MAX_RULES];
+    let s = shape_of(grammar, heard, &mut rules, &mut marks);
+    match listing::listing(grammar, heard, WANTED, work, out) {
+        Listed::Refused(n) => Listed::Refused(n),
+        Listed::Found(m) => {
+            write_rows(&out[..], m, &rules, &marks, s, shown);
+            Listed::Found(m)
+        }
+    }
+}

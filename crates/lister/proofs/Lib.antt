@@ -1,4 +1,0 @@
-pub mod Lines
-pub mod Unmarked
-pub mod Shapes
-pub mod Walks
