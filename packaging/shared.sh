@@ -26,7 +26,7 @@ rm -f libspireyerba_util.a
 ar rcs libspireyerba_util.a spireyerba_util.o
 # shellcheck disable=SC2046,SC2086 # a word for each name, and the flags are words
 "$cc" ${LDFLAGS:-} -shared spireyerba_util.o $(for name in $declared; do echo "-Wl,-u,$name"; done) "../../$archive" \
-    -Wl,-soname,"$library" -Wl,--version-script=exports.map -Wl,--gc-sections -Wl,-z,defs -Wl,-z,relro -Wl,-z,now -s -o "$library"
+    -Wl,-soname,"$library" -Wl,--version-script=exports.map -Wl,-Bsymbolic -Wl,--gc-sections -Wl,-z,defs -Wl,-z,relro -Wl,-z,now -s -o "$library"
 ln -sf "$library" libspireyerba.so
 
 shown=$(nm -D --defined-only "$library" | awk '{ print $3 }' | sort)
