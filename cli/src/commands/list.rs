@@ -7,10 +7,12 @@ use crate::failure::Failure;
 use crate::files::{self, GrammarFile};
 use crate::heard::{HeardWords, Taken};
 use crate::json;
-use crate::options::{Arguments, DROP_DELETES, DROP_UNKNOWN, EMPTY, JSON, RULES, SAID, SCALE, SKIP, TREE, WANTED};
+use crate::options::{
+    Arguments, DROP_DELETES, DROP_UNKNOWN, EMPTY, EXACT, FORMAT, JSON, PATHS, RULES, SAID, SCALE, SKIP, TREE, WANTED,
+};
 use crate::output::{Output, Style};
 use crate::skip;
-use spireyerba::text::print_list;
+use spireyerba::text::{print_list, Lattice};
 use spireyerba::{Error, Heard, Reading, Tree};
 use std::ops::RangeInclusive;
 
@@ -18,7 +20,7 @@ pub const COMMAND: Command = Command {
     name: "list",
     operands: &["GRAMMAR", "UTTERANCE"],
     needed: 2,
-    options: &[WANTED, TREE, RULES, JSON, SAID, SKIP, SCALE, DROP_UNKNOWN, DROP_DELETES, EMPTY],
+    options: &[WANTED, TREE, RULES, JSON, SAID, SKIP, SCALE, DROP_UNKNOWN, DROP_DELETES, EMPTY, FORMAT, PATHS, EXACT],
     summary: "list the readings of least weight, the least first",
     details: "\
 A line has rank, weight and words. Fewer readings than were asked for are all that there are.
@@ -35,6 +37,8 @@ const TREE_MARGIN: &str = "   ";
 pub struct Listed {
     pub grammar: GrammarFile,
     pub heard: Heard,
+    /// The weight up to which every reading is there, if what was heard had to be pruned.
+    pub complete_up_to: Option<i64>,
     pub readings: Vec<Reading>,
     /// The slot of each edge, if the graph was drawn so that slots may be passed over.
     pub slots: Option<Vec<u32>>,
@@ -51,8 +55,9 @@ impl Listed {
     /// What a list is of, and no reading yet.
     pub fn none_yet(arguments: &Arguments) -> Result<Self, Failure> {
         let grammar = files::grammar(arguments.operands[0])?;
-        let (heard, slots) = heard(arguments, &grammar)?;
-        Ok(Self { grammar, heard, readings: Vec::new(), slots })
+        let (lattice, slots) = heard(arguments, &grammar)?;
+        let complete_up_to = lattice.complete_up_to();
+        Ok(Self { grammar, heard: lattice.heard, complete_up_to, readings: Vec::new(), slots })
     }
 
     /// Lists readings up to the one with a rank, which there has to be.
@@ -92,11 +97,11 @@ pub fn say_no_reading() {
 }
 
 /// What was heard, as the command line asks for it, and the slot of each edge, if slots may be passed over.
-pub fn heard(arguments: &Arguments, grammar: &GrammarFile) -> Result<(Heard, Option<Vec<u32>>), Failure> {
-    let mut heard = files::heard(arguments, grammar, arguments.operands[1])?;
-    let known = anchor::apply(arguments, &grammar.named, &mut heard)?;
-    let slots = skip::apply(arguments, &known, &mut heard)?;
-    Ok((heard, slots))
+pub fn heard(arguments: &Arguments, grammar: &GrammarFile) -> Result<(Lattice, Option<Vec<u32>>), Failure> {
+    let mut lattice = files::heard(arguments, grammar, arguments.operands[1])?;
+    let known = anchor::apply(arguments, &grammar.named, &mut lattice.heard)?;
+    let slots = skip::apply(arguments, &known, &mut lattice.heard)?;
+    Ok((lattice, slots))
 }
 
 fn run(arguments: &Arguments, output: &mut Output) -> Result<(), Failure> {
@@ -136,6 +141,10 @@ pub fn json_of(listed: &Listed, ranks: RangeInclusive<usize>) -> Vec<u8> {
         json::end_reading(&mut line);
     }
     json::end_list(&mut line);
+    if let Some(weight) = listed.complete_up_to {
+        json::push_key(&mut line, "complete_up_to");
+        line.extend(weight.to_string().bytes());
+    }
     line.extend(b"}\n");
     line
 }

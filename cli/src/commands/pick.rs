@@ -3,7 +3,9 @@
 use super::list::{drawn, json_of, line, Listed};
 use super::Command;
 use crate::failure::Failure;
-use crate::options::{Arguments, DROP_DELETES, DROP_UNKNOWN, EMPTY, JSON, SAID, SCALE, SKIP, TREE};
+use crate::options::{
+    Arguments, DROP_DELETES, DROP_UNKNOWN, EMPTY, EXACT, FORMAT, JSON, PATHS, SAID, SCALE, SKIP, TREE,
+};
 use crate::output::Output;
 use spireyerba::limits::MAX_READINGS;
 use spireyerba::Error;
@@ -13,7 +15,7 @@ pub const COMMAND: Command = Command {
     name: "pick",
     operands: &["GRAMMAR", "UTTERANCE"],
     needed: 2,
-    options: &[TREE, JSON, SAID, SKIP, SCALE, DROP_UNKNOWN, DROP_DELETES, EMPTY],
+    options: &[TREE, JSON, SAID, SKIP, SCALE, DROP_UNKNOWN, DROP_DELETES, EMPTY, FORMAT, PATHS, EXACT],
     summary: "show one reading after another until one is taken",
     details: "\
 Shows the readings on standard error, the least first and at most 256. Enter shows the next one, y takes the one

@@ -1,10 +1,13 @@
 //! JSON, read into values that know where they stand.
 
+use super::MAX_LINKS;
 use crate::text::Fault;
 use crate::{Error, Position};
 
 /// Values within values go so deep at most.
 const MAX_DEPTH: usize = 64;
+/// A text has at most so many values: some for each link that a lattice may have.
+const MAX_VALUES: usize = 4 * MAX_LINKS;
 
 /// A value, and where it begins.
 #[derive(Debug, PartialEq)]
@@ -16,8 +19,8 @@ pub(super) struct Value {
 /// What a value is.
 #[derive(Debug, PartialEq)]
 pub(super) enum Kind {
-    Nothing,
-    Truth,
+    /// `null`, `true` or `false`.
+    Word,
     Number(f64),
     Text(String),
     List(Vec<Value>),
@@ -28,7 +31,9 @@ impl Value {
     /// The value of a key of an object, whatever the case of its letters.
     pub(super) fn get(&self, key: &str) -> Option<&Value> {
         match &self.kind {
-            Kind::Object(fields) => fields.iter().find(|(known, _)| known.eq_ignore_ascii_case(key)).map(|(_, value)| value),
+            Kind::Object(fields) => {
+                fields.iter().find(|(known, _)| known.eq_ignore_ascii_case(key)).map(|(_, value)| value)
+            }
             _ => None,
         }
     }
@@ -68,7 +73,7 @@ pub(super) fn is_json(text: &str) -> bool {
 
 /// Reads the one value of a text.
 pub(super) fn parse(text: &str) -> Result<Value, Error> {
-    let mut reader = Reader { text, at: 0, line: 1, counted: 0, column: 1 };
+    let mut reader = Reader { text, at: 0, line: 1, counted: 0, column: 1, values: 0 };
     let value = reader.value(0)?;
     match reader.peek() {
         None => Ok(value),
@@ -84,6 +89,8 @@ struct Reader<'a> {
     /// Up to where the columns of the line are counted, and how many there are.
     counted: usize,
     column: usize,
+    /// How many values there are so far.
+    values: usize,
 }
 
 impl Reader<'_> {
@@ -124,8 +131,10 @@ impl Reader<'_> {
     fn value(&mut self, depth: usize) -> Result<Value, Error> {
         let first = self.peek();
         let position = self.position();
-        if depth > MAX_DEPTH {
-            return Err(Error::at(position, Fault::JsonDepth));
+        self.values += 1;
+        if depth > MAX_DEPTH || self.values > MAX_VALUES {
+            let fault = if depth > MAX_DEPTH { Fault::JsonDepth } else { Fault::Links };
+            return Err(Error::at(position, fault));
         }
         let kind = match first {
             Some('{') => Kind::Object(self.object(depth)?),
@@ -188,15 +197,13 @@ impl Reader<'_> {
 
     /// `null`, `true` or `false`.
     fn word(&mut self) -> Result<Kind, Error> {
-        const WORDS: [(&str, fn() -> Kind); 3] =
-            [("null", || Kind::Nothing), ("true", || Kind::Truth), ("false", || Kind::Truth)];
         let rest = &self.text[self.at..];
-        let Some((word, kind)) = WORDS.iter().find(|(word, _)| rest.starts_with(word)) else {
+        let Some(word) = ["null", "true", "false"].into_iter().find(|word| rest.starts_with(word)) else {
             let found = self.peek();
             return Err(self.expected("a value", found));
         };
         self.at += word.len();
-        Ok(kind())
+        Ok(Kind::Word)
     }
 
     /// A text in quotes.
@@ -230,7 +237,8 @@ impl Reader<'_> {
             Some('u') => return self.code(),
             _ => None,
         };
-        let found = plain.ok_or_else(|| Error::at(self.position(), Fault::Escape(format!("\\{}", letter.unwrap_or(' ')))))?;
+        let found =
+            plain.ok_or_else(|| Error::at(self.position(), Fault::Escape(format!("\\{}", letter.unwrap_or(' ')))))?;
         self.at += 1;
         Ok(found)
     }

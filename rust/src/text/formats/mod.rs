@@ -42,6 +42,9 @@ pub enum Format {
     Json,
 }
 
+/// Whether a text is in a format.
+type Test = fn(&str) -> bool;
+
 /// The formats by name.
 const NAMES: [(&str, Format); 9] = [
     ("slots", Format::Slots),
@@ -76,8 +79,8 @@ impl Format {
 
     /// The format of a text, by what stands in it. What is nothing else is slots.
     pub fn of(text: &str) -> Self {
-        let text = without_mark(text);
-        let is_of: [(fn(&str) -> bool, Self); 7] = [
+        let text = front(without_mark(text));
+        let is_of: [(Test, Self); 7] = [
             (json::is_json, Self::Json),
             (is_lattice, Self::Slf),
             (is_network, Self::Network),
@@ -92,6 +95,15 @@ impl Format {
     }
 }
 
+/// The first lines of a text, by which its format is told.
+fn front(text: &str) -> &str {
+    let end = text.match_indices('\n').nth(FRONT_LINES).map_or(text.len(), |(at, _)| at);
+    &text[..end]
+}
+
+/// A format is told by so many lines.
+const FRONT_LINES: usize = 2_000;
+
 /// What bytes are that are no text, and how they are printed as one, if they are of a known kind.
 ///
 /// ```
@@ -103,7 +115,10 @@ impl Format {
 pub fn binary_kind(bytes: &[u8]) -> Option<&'static str> {
     const KINDS: [(&[u8], &str); 7] = [
         (&[0x1f, 0x8b], "a gzip file; `gzip -dc FILE` prints what is in it"),
-        (&[0xd6, 0xfd, 0xb2, 0x7e], "a binary FST of OpenFst; `fstprint --isymbols=words.txt --acceptor FILE` prints it as text"),
+        (
+            &[0xd6, 0xfd, 0xb2, 0x7e],
+            "a binary FST of OpenFst; `fstprint --isymbols=words.txt --acceptor FILE` prints it as text",
+        ),
         (b"BZh", "a bzip2 file; `bzip2 -dc FILE` prints what is in it"),
         (&[0xfd, b'7', b'z', b'X', b'Z'], "an xz file; `xz -dc FILE` prints what is in it"),
         (&[0x28, 0xb5, 0x2f, 0xfd], "a zstd file; `zstd -dc FILE` prints what is in it"),
@@ -146,7 +161,7 @@ impl UtteranceReader<'_> {
     /// Reads all that a text has, of which only some formats have several.
     pub fn read_all_heard(&self, text: &str) -> Result<Vec<Lattice>, Error> {
         match self.plain(without_mark(text)) {
-            Some(plain) => Ok(vec![Lattice::plain(plain?)]),
+            Some(plain) => Ok(vec![Lattice::from(plain?)]),
             None => self.recognised(text)?.iter().map(|recognised| recognised.reduce(self.keep, self.exact)).collect(),
         }
     }
