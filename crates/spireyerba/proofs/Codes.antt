@@ -19,7 +19,7 @@ use Rattle.checker.specs.declared.Checked as C
 use Rattle.chance.specs.Answer as Chance
 use Rattle.chance.specs.declared.Outcome as P
 use Rattle.listing.specs.Listing as Listing
-use Rattle.listing.specs.declared.Listed as L
+use Rattle.inputs.specs.declared.Listed as L
 use Rattle.specimen.specs.Specimen as Specimen
 use Rattle.specimen.specs.declared.Answered as A
 use Rattle.spireyerba.specs.Code.{codeOf, chanceAfter, stringLength}
