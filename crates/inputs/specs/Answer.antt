@@ -1,4 +1,5 @@
--- What a service answers that lists something: how many there are, or the first refusal. Assumes nothing.
+-- What a service answers that lists something: how many there are, or the first refusal. Nobody need believe this page: the closing pages say it of the
+-- exported functions. Assumes nothing.
 use mathlib.Core.List.{List}
 use lib.ListN.{length}
 use Rattle.packing.specs.Parse.{Verdict, accepted, refused}
