@@ -7,9 +7,11 @@
 //! | `files` | texts and blocks, read and written |
 //! | `heard` | slots or a word graph, whichever it is |
 //! | `anchor`, `skip` | words that are known for certain, and words too many |
+//! | `alignment` | which words of two sentences differ |
 //! | `drawing`, `page`, `json` | readings drawn in a terminal, on a page, and for programs |
 //! | `output`, `failure` | where answers and messages go |
 
+mod alignment;
 mod anchor;
 mod commands;
 mod drawing;

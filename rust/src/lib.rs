@@ -21,6 +21,7 @@
 //! | [`Grammar::cost_ranges`], [`CostRanges`] | the first reading where costs are known within ranges |
 //! | [`Grammar::word_margins`], [`WordMargin`] | which word to listen to again |
 //! | [`OpenListing`] | readings one by one, each found when it is asked for; [`Grammar::open`], [`Grammar::open_graph`] |
+//! | [`Distinct`], [`Sentence`] | each sentence once: of readings with the same words the first |
 //! | [`Lister`] | many listings under one grammar, in memory that is kept, the library's or a desk panel's |
 //! | [`Grammar::chance`], [`Grammar::chance_graph`] | the product of the shares of a reading's rules |
 //! | [`Tree`] | a reading as a tree |
@@ -54,6 +55,7 @@ pub mod limits;
 pub mod services;
 pub mod text;
 
+mod distinct;
 mod error;
 mod fields;
 mod grammar;
@@ -70,6 +72,7 @@ mod refusal;
 mod tree;
 mod utterance;
 
+pub use distinct::{Distinct, Sentence};
 pub use error::{Error, Position};
 pub use grammar::{Body, Grammar, Rule};
 pub use graph::{Edge, Graph};

@@ -4,10 +4,11 @@ use super::Command;
 use crate::failure::Failure;
 use crate::files;
 use crate::json;
-use crate::options::{Arguments, DROP_UNKNOWN, JOBS, WANTED};
+use crate::options::{Arguments, DISTINCT, DROP_UNKNOWN, JOBS, WANTED};
 use crate::output::Output;
+use spireyerba::limits::MAX_READINGS;
 use spireyerba::text::{is_graph, UtteranceReader};
-use spireyerba::{Error, GraphReading, Lister};
+use spireyerba::{Distinct, Error, Grammar, GraphReading, Lister};
 use std::borrow::Cow;
 use std::collections::BTreeMap;
 use std::io::{stderr, ErrorKind, IsTerminal, Read};
@@ -18,13 +19,14 @@ pub const COMMAND: Command = Command {
     name: "batch",
     operands: &["GRAMMAR", "FILE"],
     needed: 2,
-    options: &[WANTED, JOBS, DROP_UNKNOWN],
+    options: &[WANTED, DISTINCT, JOBS, DROP_UNKNOWN],
     summary: "list the readings of many utterances or word graphs, one a line, on all cores",
     details: "\
 A line of the file has an utterance, with semicolons between its slots: `door 4 | four 61 ; twenty 12`, or a word graph,
 with semicolons between its edges: `0 1 door 4 ; 1 3 twenty 12 ; 3`. Empty lines and comments are passed over. The
 answers are lines of JSON in the same order, with the number of the line; what is refused has \"error\" in place of
-\"readings\", and a message on standard error.",
+\"readings\", and a message on standard error. With --distinct \"others\" counts the readings with the same words among the
+first 256, and \"used_up\" says that these do not have N sentences, though there may be more.",
     example: "spireyerba batch grammar.txt utterances.txt -n 1 > readings.jsonl",
     run,
 };
@@ -43,6 +45,8 @@ fn run(arguments: &Arguments, output: &mut Output) -> Result<(), Failure> {
     let batch = Batch {
         name: files::name_of(arguments.operands[1]),
         wanted: arguments.wanted()?,
+        distinct: arguments.has(&DISTINCT),
+        grammar: &grammar.named.grammar,
         reader: files::utterance_reader(arguments, &grammar.named)?,
         lister: Lister::new(&grammar.named.grammar).map_err(Error::from)?,
         names: json::Names::new(&grammar.named),
@@ -125,9 +129,12 @@ struct Answers {
 struct Batch<'a> {
     name: &'a str,
     names: json::Names,
+    grammar: &'a Grammar,
     reader: UtteranceReader<'a>,
     lister: Lister,
     wanted: u32,
+    /// Whether each sentence stands once.
+    distinct: bool,
 }
 
 impl Batch<'_> {
@@ -158,12 +165,15 @@ struct Worker<'a> {
     sheet: Vec<u32>,
     block: Vec<u8>,
     reading: GraphReading,
+    /// The sentences of the line at hand, if each stands once.
+    sentences: Option<Distinct>,
 }
 
 impl<'a> Worker<'a> {
     fn new(batch: &'a Batch) -> Self {
         let lister = batch.lister.clone();
-        Self { batch, lister, sheet: Vec::new(), block: Vec::new(), reading: GraphReading::default() }
+        let sentences = batch.distinct.then(|| Distinct::new(batch.wanted as usize));
+        Self { batch, lister, sheet: Vec::new(), block: Vec::new(), reading: GraphReading::default(), sentences }
     }
 
     /// The answers of some lines, in memory of others.
@@ -187,29 +197,46 @@ impl<'a> Worker<'a> {
 
     /// Adds the answer of a line with so many before it, or nothing if it is refused.
     fn answer(&mut self, line: &str, before: usize, json: &mut Vec<u8>) -> Result<(), Error> {
-        let Batch { name, names, reader, wanted, .. } = self.batch;
+        let Batch { name, names, grammar, reader, wanted, .. } = self.batch;
         let in_file = |error: Error| error.in_file(name).after_lines(before);
+        let asked = self.sentences.as_ref().filter(|_| *wanted <= MAX_READINGS).map_or(*wanted, |_| MAX_READINGS);
         let is_graph = line.trim_start().starts_with(|first: char| first.is_ascii_digit()) && is_graph(line);
         let found = if is_graph {
             let graph = reader.read_graph(line).map_err(in_file)?;
-            self.lister.find_in_graph(&graph, *wanted)
+            self.lister.find_in_graph(&graph, asked)
         } else {
             reader.read_block(line, &mut self.sheet, &mut self.block).map_err(in_file)?;
-            self.lister.find_in_block(&self.block, *wanted)
+            self.lister.find_in_block(&self.block, asked)
         };
         let found = found.map_err(|refusal| in_file(refusal.into()))?;
         begin_line(json, before + 1);
         json.extend_from_slice(b",\"readings\":[");
-        for number in 0..found.len() {
-            found.read(number, &mut self.reading);
-            names.begin_reading(json, Some(number as u32 + 1), &self.reading.reading);
+        let mut push = |number: usize, found: &GraphReading, others: Option<u32>| {
+            names.begin_reading(json, Some(number as u32 + 1), &found.reading);
             if is_graph {
-                json::push_numbers(json, "edges", self.reading.path.iter().copied());
+                json::push_numbers(json, "edges", found.path.iter().copied());
+            }
+            if let Some(others) = others {
+                json::push_key(json, "others");
+                json::push_number(json, others);
             }
             json::end_reading(json);
+        };
+        let mut used_up = false;
+        if let Some(sentences) = &mut self.sentences {
+            sentences.clear();
+            sentences.walk(grammar, found.readings());
+            let kept = sentences.found();
+            kept.iter().enumerate().for_each(|(number, kept)| push(number, &kept.first, Some(kept.others)));
+            used_up = found.len() == MAX_READINGS as usize && kept.len() < *wanted as usize;
+        } else {
+            for number in 0..found.len() {
+                found.read(number, &mut self.reading);
+                push(number, &self.reading, None);
+            }
         }
         json::end_list(json);
-        json.extend_from_slice(b"}\n");
+        json.extend_from_slice(if used_up { b",\"used_up\":true}\n" } else { b"}\n" });
         Ok(())
     }
 }

@@ -1,27 +1,32 @@
 //! `list`: the least readings of an utterance.
 
 use super::Command;
+use crate::alignment::differing;
 use crate::anchor;
 use crate::drawing::Drawing;
 use crate::failure::Failure;
 use crate::files::{self, GrammarFile};
 use crate::heard::{Heard, Taken};
 use crate::json;
-use crate::options::{Arguments, DROP_DELETES, DROP_UNKNOWN, EMPTY, JSON, RULES, SAID, SCALE, SKIP, TREE, WANTED};
+use crate::options::{
+    Arguments, DISTINCT, DROP_DELETES, DROP_UNKNOWN, EMPTY, JSON, RULES, SAID, SCALE, SKIP, TREE, WANTED,
+};
 use crate::output::{Output, Style};
 use crate::skip;
+use spireyerba::limits::MAX_READINGS;
 use spireyerba::text::print_list;
-use spireyerba::{Error, GraphReading, Reading, Tree};
+use spireyerba::{Distinct, Error, GraphReading, Reading, Refusal, Tree};
 use std::ops::RangeInclusive;
 
 pub const COMMAND: Command = Command {
     name: "list",
     operands: &["GRAMMAR", "UTTERANCE"],
     needed: 2,
-    options: &[WANTED, TREE, RULES, JSON, SAID, SKIP, SCALE, DROP_UNKNOWN, DROP_DELETES, EMPTY],
+    options: &[WANTED, DISTINCT, TREE, RULES, JSON, SAID, SKIP, SCALE, DROP_UNKNOWN, DROP_DELETES, EMPTY],
     summary: "list the readings of least weight, the least first",
     details: "\
-A line has rank, weight and words. Fewer readings than were asked for are all that there are.
+A line has rank, weight and words. Fewer readings than were asked for are all that there are. With --distinct no words stand
+twice: (+2 trees) says that 2 more of the first 256 readings have these, and a message if there may be more sentences.
 In a tree [5] is a rule's weight, and 12 behind a word its cost. With --skip some slots may have been words too many: as
 many in a row as 96 edges of a word graph have room for, and a message says how many that is.",
     example: "spireyerba list grammar.txt utterance.txt -n 3 --tree --said 0=door",
@@ -38,16 +43,19 @@ pub struct Listed {
     pub readings: Vec<Reading>,
     /// The path of each reading of a word graph.
     pub paths: Vec<Vec<u32>>,
+    /// How many more readings have the words of each, if each sentence stands once.
+    pub others: Option<Vec<u32>>,
+    /// Whether there may be more sentences than were found, since no listing has more than 256 readings.
+    pub used_up: bool,
     /// The slot of each edge, if the graph was drawn so that slots may be passed over.
     pub slots: Option<Vec<u32>>,
 }
 
 impl Listed {
-    /// Lists so many readings of the utterance that the first two operands name.
+    /// Lists so many readings of the utterance that the first two operands name, each sentence once if it is said so.
     pub fn new(arguments: &Arguments, wanted: u32) -> Result<Self, Failure> {
         let mut listed = Self::none_yet(arguments)?;
-        let list = listed.heard.list(&listed.grammar.named.grammar, wanted).map_err(Error::from)?;
-        list.into_iter().for_each(|found| listed.push(found));
+        listed.find(wanted, arguments.has(&DISTINCT))?;
         Ok(listed)
     }
 
@@ -55,7 +63,36 @@ impl Listed {
     pub fn none_yet(arguments: &Arguments) -> Result<Self, Failure> {
         let grammar = files::grammar(arguments.operands[0])?;
         let (heard, slots) = heard(arguments, &grammar)?;
-        Ok(Self { grammar, heard, readings: Vec::new(), paths: Vec::new(), slots })
+        Ok(Self { grammar, heard, readings: Vec::new(), paths: Vec::new(), others: None, used_up: false, slots })
+    }
+
+    /// Finds so many readings, or the first ones of so many sentences.
+    pub fn find(&mut self, wanted: u32, distinct: bool) -> Result<(), Failure> {
+        let grammar = &self.grammar.named.grammar;
+        if !distinct {
+            let list = self.heard.list(grammar, wanted).map_err(Error::from)?;
+            list.into_iter().for_each(|found| self.push(found));
+            return Ok(());
+        }
+        if !(1..=MAX_READINGS).contains(&wanted) {
+            return Err(Error::from(Refusal::ListingWanted).into());
+        }
+        let mut sentences = Distinct::new(wanted as usize);
+        let mut open = self.heard.open(grammar).map_err(Error::from)?;
+        sentences.walk(grammar, open.by_ref());
+        self.used_up = open.is_full() && sentences.found().len() < wanted as usize;
+        self.take(&sentences);
+        Ok(())
+    }
+
+    /// Takes sentences in the place of what was listed.
+    pub fn take(&mut self, sentences: &Distinct) {
+        let (readings, others) =
+            sentences.found().iter().map(|sentence| (sentence.first.clone(), sentence.others)).unzip();
+        self.readings.clear();
+        self.paths.clear();
+        Vec::into_iter(readings).for_each(|found| self.push(found));
+        self.others = Some(others);
     }
 
     /// Adds the reading that is next in the list.
@@ -69,7 +106,12 @@ impl Listed {
         let listed = Self::new(arguments, rank)?;
         match listed.readings.len() {
             found if found < rank as usize => {
-                Err(Failure::Refused(format!("there is no reading {rank}: the utterance has {found} in all")))
+                let why = match (listed.used_up, &listed.others) {
+                    (true, _) => format!("no sentence {rank} found: {}", used_up(found)),
+                    (false, Some(_)) => format!("there is no sentence {rank}: the utterance has {found} in all"),
+                    (false, None) => format!("there is no reading {rank}: the utterance has {found} in all"),
+                };
+                Err(Failure::Refused(why))
             }
             _ => Ok(listed),
         }
@@ -80,10 +122,18 @@ impl Listed {
         GraphReading { reading: self.readings[rank - 1].clone(), path: self.paths[rank - 1].clone() }
     }
 
-    /// Says on standard error that there is no reading, if it is so.
-    pub fn say_if_none(&self) {
+    /// Says on standard error that there is no reading, or that there may be more sentences, if it is so.
+    pub fn say_what_is_missing(&self) {
         if self.readings.is_empty() {
             say_no_reading();
+        }
+        self.say_if_used_up();
+    }
+
+    /// Says on standard error that there may be more sentences, if it is so.
+    pub fn say_if_used_up(&self) {
+        if self.used_up {
+            eprintln!("{}", used_up(self.readings.len()));
         }
     }
 
@@ -95,9 +145,29 @@ impl Listed {
         }
     }
 
+    /// The words of the reading with a rank; none if there is no such reading.
+    pub fn words(&self, rank: usize) -> Vec<&str> {
+        self.taken(rank).iter().map(|taken| self.grammar.named.word(taken.candidate.word)).collect()
+    }
+
+    /// For each word of the reading with a rank whether the first reading does not have it there: in its slot, or by an alignment
+    /// of both sentences.
+    pub fn differing(&self, rank: usize) -> Vec<bool> {
+        match self.heard {
+            Heard::Slots(_) => self.words(1).iter().zip(self.words(rank)).map(|(usual, word)| *usual != word).collect(),
+            Heard::Graph(_) => differing(&self.words(1), &self.words(rank)),
+        }
+    }
+
     pub fn tree(&self, reading: &Reading) -> Tree {
         self.grammar.named.tree(reading).expect("the library lists walks of derivations")
     }
+}
+
+/// That there may be more sentences than these.
+pub fn used_up(found: usize) -> String {
+    let sentences = if found == 1 { "is 1 sentence" } else { &format!("are {found} sentences") };
+    format!("among {MAX_READINGS} readings, the most that a listing has, there {sentences}; there may be more")
 }
 
 /// Says on standard error that there is no reading.
@@ -121,10 +191,14 @@ fn run(arguments: &Arguments, output: &mut Output) -> Result<(), Failure> {
     let listed = Listed::new(arguments, arguments.wanted()?)?;
     match forms {
         [_, true, _] => {
+            listed.say_if_used_up();
             let shown = listed.readings.iter().map(|reading| listed.grammar.named.shown(reading));
             output.text(&print_list(&shown.collect::<Vec<_>>()))
         }
-        [_, _, true] => output.bytes(&json_of(&listed, 1..=listed.readings.len())),
+        [_, _, true] => {
+            listed.say_if_used_up();
+            output.bytes(&json_of(&listed, 1..=listed.readings.len()))
+        }
         [with_trees, ..] => print(&listed, with_trees, output),
     }
 }
@@ -145,17 +219,24 @@ pub fn json_of(listed: &Listed, ranks: RangeInclusive<usize>) -> Vec<u8> {
             (None, Heard::Graph(_)) => json::push_numbers(&mut line, "edges", path.iter().copied()),
             (None, Heard::Slots(_)) => {}
         }
+        if let Some(others) = &listed.others {
+            json::push_key(&mut line, "others");
+            json::push_number(&mut line, others[rank - 1]);
+        }
         json::push_key(&mut line, "tree");
         json::push_tree(&mut line, named, &listed.tree(reading));
         json::end_reading(&mut line);
     }
     json::end_list(&mut line);
+    if listed.used_up {
+        line.extend(b",\"used_up\":true");
+    }
     line.extend(b"}\n");
     line
 }
 
 pub fn print(listed: &Listed, with_trees: bool, output: &mut Output) -> Result<(), Failure> {
-    listed.say_if_none();
+    listed.say_what_is_missing();
     for rank in 1..=listed.readings.len() {
         let mut text = line(listed, rank, output) + "\n";
         if with_trees {
@@ -175,7 +256,18 @@ pub fn drawn(listed: &Listed, rank: usize, output: &Output) -> String {
 
 /// The reading with a rank in one line; words that the first reading does not have in their place are marked.
 pub fn line(listed: &Listed, rank: usize, output: &Output) -> String {
-    format!("{}  {}", line_begin(listed, rank, output), marked_words(listed, rank, output))
+    let others = other_trees(listed, rank).map_or(String::new(), |others| format!("  ({others})"));
+    let others = output.paint(Style::Faint, &others);
+    format!("{}  {}{others}", line_begin(listed, rank, output), marked_words(listed, rank, output))
+}
+
+/// How many more readings have the words of the one with a rank, if some have and sentences stand once.
+pub fn other_trees(listed: &Listed, rank: usize) -> Option<String> {
+    match listed.others.as_ref()?[rank - 1] {
+        0 => None,
+        1 => Some("+1 tree".into()),
+        others => Some(format!("+{others} trees")),
+    }
 }
 
 /// Rank and weight, as the line of the reading begins.
@@ -188,16 +280,10 @@ pub fn line_begin(listed: &Listed, rank: usize, output: &Output) -> String {
     format!("{rank:>rank_width$}  {}", output.paint(Style::Strong, &weight))
 }
 
-/// The words of the reading with a rank; those that the first reading does not have in their place are marked.
+/// The words of the reading with a rank; those that the first reading does not have there are marked.
 pub fn marked_words(listed: &Listed, rank: usize, output: &Output) -> String {
-    let usual = listed.taken(1);
-    let words = listed.taken(rank).into_iter().map(|taken| {
-        let word = listed.grammar.named.word(taken.candidate.word);
-        if usual.contains(&taken) {
-            word.to_owned()
-        } else {
-            output.paint(Style::Marked, word)
-        }
-    });
-    words.collect::<Vec<_>>().join(" ")
+    let words = listed.words(rank).into_iter().zip(listed.differing(rank));
+    let painted =
+        words.map(|(word, differs)| if differs { output.paint(Style::Marked, word) } else { word.to_owned() });
+    painted.collect::<Vec<_>>().join(" ")
 }

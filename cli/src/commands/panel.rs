@@ -32,5 +32,6 @@ fn run(arguments: &Arguments, output: &mut Output) -> Result<(), Failure> {
     };
     let list = found.map_err(Error::from)?.readings();
     let (readings, paths) = list.map(|GraphReading { reading, path }| (reading, path)).unzip();
-    print(&Listed { grammar, heard, readings, paths, slots: None }, arguments.has(&TREE), output)
+    let listed = Listed { grammar, heard, readings, paths, others: None, used_up: false, slots: None };
+    print(&listed, arguments.has(&TREE), output)
 }

@@ -5,7 +5,7 @@ mod tree;
 
 pub use changes::{CostChanges, Ranges};
 
-use crate::commands::list::Listed;
+use crate::commands::list::{other_trees, used_up, Listed};
 use crate::heard::{Heard, Taken};
 use std::fmt::Write;
 
@@ -61,11 +61,12 @@ fn header(listed: &Listed, source: &Source) -> String {
         counted(named.words.len(), "word"),
         counted(named.own_rules() as usize, "rule"),
     ];
-    let found = listed.readings.len();
+    let (found, what) = (listed.readings.len(), listed.others.as_ref().map_or("reading", |_| "sentence"));
     let number = match found {
         0 => "It has no reading: the grammar derives nothing of what was heard.".into(),
-        _ if found < source.wanted as usize => format!("It has {} in all.", counted(found, "reading")),
-        _ => format!("Its {} of least weight.", counted(found, "reading")),
+        _ if listed.used_up => format!("Its {} of least weight: {}.", counted(found, what), used_up(found)),
+        _ if found < source.wanted as usize => format!("It has {} in all.", counted(found, what)),
+        _ => format!("Its {} of least weight.", counted(found, what)),
     };
     let best = listed.readings.first().map_or(String::new(), |reading| {
         let sentence = escaped(&listed.grammar.named.sentence(reading));
@@ -156,29 +157,27 @@ fn overview(listed: &Listed) -> String {
         let more = reading.weight - first.weight;
         let more = if rank == 1 { String::new() } else { format!("+{more}") };
         let words = marked_words(listed, rank);
+        let others = other_trees(listed, rank).map_or(String::new(), |others| format!(" <small>{others}</small>"));
         writeln!(
             html,
             "<tr><td class=\"number\"><a href=\"#reading-{rank}\">{rank}</a></td><td class=\"number\">{}</td>\
-             <td class=\"number more\">{more}</td><td>{words}</td></tr>",
+             <td class=\"number more\">{more}</td><td>{words}{others}</td></tr>",
             reading.weight
         )
         .expect("a string takes all");
     }
-    html + "</table>\n<p class=\"note\">A weight is the sum of a reading's rules and words. In a tree the number beside a \
+    html += "</table>\n<p class=\"note\">A weight is the sum of a reading's rules and words. In a tree the number beside a \
             symbol is the weight of its rule, and that below a word its cost. Marked: words that the first reading does not \
-            have there.</p>\n</section>\n"
+            have there.";
+    if listed.others.is_some() {
+        html += " Each sentence stands once, by its first reading; so many more of the first 256 readings have the same words.";
+    }
+    html + "</p>\n</section>\n"
 }
 
 fn marked_words(listed: &Listed, rank: usize) -> String {
-    let usual = listed.taken(1);
-    let words = listed.taken(rank).into_iter().map(|taken| {
-        let text = escaped(listed.grammar.named.word(taken.candidate.word));
-        if usual.contains(&taken) {
-            text
-        } else {
-            format!("<mark>{text}</mark>")
-        }
-    });
+    let words = listed.words(rank).into_iter().map(escaped).zip(listed.differing(rank));
+    let words = words.map(|(word, differs)| if differs { format!("<mark>{word}</mark>") } else { word });
     words.collect::<Vec<_>>().join(" ")
 }
 

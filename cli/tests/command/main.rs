@@ -4,6 +4,7 @@ mod answers;
 mod batch;
 mod chances;
 mod common;
+mod distinct;
 mod graphs;
 mod lattices;
 mod offices;
