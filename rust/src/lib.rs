@@ -18,6 +18,7 @@
 //! | [`Office`], [`MarkedGrammar`] | rules as offices write them, and what they become; [`Office::to_grammar`], [`MarkedGrammar::to_office`] |
 //! | [`Graph`], [`GraphReading`] | word graphs, which have blocks and no sheets; [`Grammar::list_graph`], [`Grammar::check_graph`] |
 //! | [`Grammar::specimen`], [`Phrases`] | what can be said in a grammar |
+//! | [`Grammar::prefix`], [`Prefix`] | how far what was heard goes along with a grammar |
 //! | [`Grammar::cost_ranges`], [`CostRanges`] | the first reading where costs are known within ranges |
 //! | [`Grammar::word_margins`], [`WordMargin`] | which word to listen to again |
 //! | [`OpenListing`] | readings one by one, each found when it is asked for; [`Grammar::open`], [`Grammar::open_graph`] |
@@ -66,6 +67,7 @@ mod marked;
 mod office;
 mod open_listing;
 mod phrases;
+mod prefix;
 mod ranges;
 mod reading;
 mod refusal;
@@ -82,6 +84,7 @@ pub use marked::MarkedGrammar;
 pub use office::{Item, Office, OfficeRule};
 pub use open_listing::OpenListing;
 pub use phrases::Phrases;
+pub use prefix::Prefix;
 pub use ranges::CostRanges;
 pub use reading::{GraphReading, Reading};
 pub use refusal::Refusal;
