@@ -1,6 +1,6 @@
 //! Each sentence once: of readings with the same words the first.
 
-use crate::{Grammar, GraphReading, Reading};
+use crate::{Grammar, Reading};
 use std::collections::HashMap;
 
 /// Keeps the first reading of each string of words, in the order in which readings are handed in, and counts the others: those
@@ -13,7 +13,7 @@ use std::collections::HashMap;
 /// let heard = spireyerba::Utterance { slots: vec![vec![spireyerba::Candidate { word: 0, cost: 2 }]; 4] };
 /// let mut sentences = Distinct::new(8);
 /// sentences.walk(&grammar, grammar.open(&heard)?);
-/// let in_short: Vec<_> = sentences.found().iter().map(|found| (found.first.reading.weight, found.others)).collect();
+/// let in_short: Vec<_> = sentences.found().iter().map(|found| (found.first.weight, found.others)).collect();
 /// // four words, grouped in five ways
 /// assert_eq!(in_short, [(11, 4)]);
 /// # Ok::<(), spireyerba::Error>(())
@@ -30,7 +30,7 @@ pub struct Distinct {
 #[derive(Clone, Debug, PartialEq, Eq)]
 pub struct Sentence {
     /// Its first reading.
-    pub first: GraphReading,
+    pub first: Reading,
     /// How many more readings have the same words.
     pub others: u32,
 }
@@ -43,8 +43,8 @@ impl Distinct {
 
     /// Takes the next reading under a grammar. Answers whether it is kept: no reading before it has the same words, and there is
     /// room.
-    pub fn take(&mut self, grammar: &Grammar, next: GraphReading) -> bool {
-        let words: Vec<u32> = grammar.words_of(&next.reading).collect();
+    pub fn take(&mut self, grammar: &Grammar, next: Reading) -> bool {
+        let words: Vec<u32> = grammar.words_of(&next).collect();
         match self.numbers.get(&words) {
             Some(number) => self.found[*number].others += 1,
             None if self.found.len() < self.most => {
@@ -58,7 +58,7 @@ impl Distinct {
     }
 
     /// Takes all readings that are left of a list.
-    pub fn walk(&mut self, grammar: &Grammar, readings: impl IntoIterator<Item = GraphReading>) {
+    pub fn walk(&mut self, grammar: &Grammar, readings: impl IntoIterator<Item = Reading>) {
         readings.into_iter().for_each(|next| {
             self.take(grammar, next);
         });

@@ -80,7 +80,7 @@ fn as_the_listings_have_it() {
         assert_eq!((prefix.place, Some(&cost)), (furthest, reached.get(&furthest)), "{grammar:?}\n{graph:?}");
         let words: Vec<u32> = edges.iter().map(|edge| edge.word).collect();
         follows(&grammar, &words, &prefix);
-        let has_reading = !grammar.list_graph(&graph, 1).expect("a list").is_empty();
+        let has_reading = !grammar.list(&graph, 1).expect("a list").is_empty();
         assert!(!has_reading || prefix.place == graph.places - 1);
         kinds[usize::from(has_reading)] += 1;
         kinds[2] += usize::from(!words.is_empty() && prefix.place < graph.places - 1);

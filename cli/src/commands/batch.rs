@@ -8,7 +8,7 @@ use crate::options::{Arguments, DISTINCT, DROP_UNKNOWN, JOBS, WANTED};
 use crate::output::Output;
 use spireyerba::limits::MAX_READINGS;
 use spireyerba::text::{is_graph, UtteranceReader};
-use spireyerba::{Distinct, Error, Grammar, GraphReading, Lister};
+use spireyerba::{Distinct, Error, Grammar, Lister, Reading};
 use std::borrow::Cow;
 use std::collections::BTreeMap;
 use std::io::{stderr, ErrorKind, IsTerminal, Read};
@@ -48,7 +48,7 @@ fn run(arguments: &Arguments, output: &mut Output) -> Result<(), Failure> {
         distinct: arguments.has(&DISTINCT),
         grammar: &grammar.named.grammar,
         reader: files::utterance_reader(arguments, &grammar.named)?,
-        lister: Lister::new(&grammar.named.grammar).map_err(Error::from)?,
+        lister: Lister::of(grammar.packed.clone()),
         names: json::Names::new(&grammar.named),
     };
     let source = Mutex::new(Source::new(files::open(arguments.operands[1])?));
@@ -164,7 +164,7 @@ struct Worker<'a> {
     /// What is heard in the line at hand.
     sheet: Vec<u32>,
     block: Vec<u8>,
-    reading: GraphReading,
+    reading: Reading,
     /// The sentences of the line at hand, if each stands once.
     sentences: Option<Distinct>,
 }
@@ -173,7 +173,7 @@ impl<'a> Worker<'a> {
     fn new(batch: &'a Batch) -> Self {
         let lister = batch.lister.clone();
         let sentences = batch.distinct.then(|| Distinct::new(batch.wanted as usize));
-        Self { batch, lister, sheet: Vec::new(), block: Vec::new(), reading: GraphReading::default(), sentences }
+        Self { batch, lister, sheet: Vec::new(), block: Vec::new(), reading: Reading::default(), sentences }
     }
 
     /// The answers of some lines, in memory of others.
@@ -203,7 +203,7 @@ impl<'a> Worker<'a> {
         let is_graph = line.trim_start().starts_with(|first: char| first.is_ascii_digit()) && is_graph(line);
         let found = if is_graph {
             let graph = reader.read_graph(line).map_err(in_file)?;
-            self.lister.find_in_graph(&graph, asked)
+            self.lister.find(&graph, asked)
         } else {
             reader.read_block(line, &mut self.sheet, &mut self.block).map_err(in_file)?;
             self.lister.find_in_block(&self.block, asked)
@@ -211,10 +211,10 @@ impl<'a> Worker<'a> {
         let found = found.map_err(|refusal| in_file(refusal.into()))?;
         begin_line(json, before + 1);
         json.extend_from_slice(b",\"readings\":[");
-        let mut push = |number: usize, found: &GraphReading, others: Option<u32>| {
-            names.begin_reading(json, Some(number as u32 + 1), &found.reading);
-            if is_graph {
-                json::push_numbers(json, "edges", found.path.iter().copied());
+        let mut push = |number: usize, found: &Reading, others: Option<u32>| {
+            names.begin_reading(json, Some(number as u32 + 1), found);
+            if let Some(path) = &found.path {
+                json::push_numbers(json, "edges", path.iter().copied());
             }
             if let Some(others) = others {
                 json::push_key(json, "others");

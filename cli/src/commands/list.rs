@@ -6,7 +6,7 @@ use crate::anchor;
 use crate::drawing::Drawing;
 use crate::failure::Failure;
 use crate::files::{self, GrammarFile};
-use crate::heard::{Heard, Taken};
+use crate::heard::{HeardWords, Taken};
 use crate::json;
 use crate::options::{
     Arguments, DISTINCT, DROP_DELETES, DROP_UNKNOWN, EMPTY, JSON, RULES, SAID, SCALE, SKIP, TREE, WANTED,
@@ -15,7 +15,7 @@ use crate::output::{Output, Style};
 use crate::skip;
 use spireyerba::limits::MAX_READINGS;
 use spireyerba::text::print_list;
-use spireyerba::{Distinct, Error, GraphReading, Reading, Refusal, Tree};
+use spireyerba::{Distinct, Error, Heard, Reading, Refusal, Tree};
 use std::ops::RangeInclusive;
 
 pub const COMMAND: Command = Command {
@@ -41,8 +41,6 @@ pub struct Listed {
     pub grammar: GrammarFile,
     pub heard: Heard,
     pub readings: Vec<Reading>,
-    /// The path of each reading of a word graph.
-    pub paths: Vec<Vec<u32>>,
     /// How many more readings have the words of each, if each sentence stands once.
     pub others: Option<Vec<u32>>,
     /// Whether there may be more sentences than were found, since no listing has more than 256 readings.
@@ -63,42 +61,26 @@ impl Listed {
     pub fn none_yet(arguments: &Arguments) -> Result<Self, Failure> {
         let grammar = files::grammar(arguments.operands[0])?;
         let (heard, slots) = heard(arguments, &grammar)?;
-        Ok(Self { grammar, heard, readings: Vec::new(), paths: Vec::new(), others: None, used_up: false, slots })
+        Ok(Self { grammar, heard, readings: Vec::new(), others: None, used_up: false, slots })
     }
 
     /// Finds so many readings, or the first ones of so many sentences.
     pub fn find(&mut self, wanted: u32, distinct: bool) -> Result<(), Failure> {
-        let grammar = &self.grammar.named.grammar;
+        let grammar = &self.grammar.packed;
         if !distinct {
-            let list = self.heard.list(grammar, wanted).map_err(Error::from)?;
-            list.into_iter().for_each(|found| self.push(found));
+            self.readings = grammar.list(&self.heard, wanted).map_err(Error::from)?;
             return Ok(());
         }
         if !(1..=MAX_READINGS).contains(&wanted) {
             return Err(Error::from(Refusal::ListingWanted).into());
         }
         let mut sentences = Distinct::new(wanted as usize);
-        let mut open = self.heard.open(grammar).map_err(Error::from)?;
-        sentences.walk(grammar, open.by_ref());
+        let mut open = grammar.open(&self.heard).map_err(Error::from)?;
+        sentences.walk(grammar.grammar(), open.by_ref());
         self.used_up = open.is_full() && sentences.found().len() < wanted as usize;
-        self.take(&sentences);
+        self.readings = sentences.found().iter().map(|sentence| sentence.first.clone()).collect();
+        self.others = Some(sentences.found().iter().map(|sentence| sentence.others).collect());
         Ok(())
-    }
-
-    /// Takes sentences in the place of what was listed.
-    pub fn take(&mut self, sentences: &Distinct) {
-        let (readings, others) =
-            sentences.found().iter().map(|sentence| (sentence.first.clone(), sentence.others)).unzip();
-        self.readings.clear();
-        self.paths.clear();
-        Vec::into_iter(readings).for_each(|found| self.push(found));
-        self.others = Some(others);
-    }
-
-    /// Adds the reading that is next in the list.
-    pub fn push(&mut self, found: GraphReading) {
-        self.readings.push(found.reading);
-        self.paths.push(found.path);
     }
 
     /// Lists readings up to the one with a rank, which there has to be.
@@ -115,11 +97,6 @@ impl Listed {
             }
             _ => Ok(listed),
         }
-    }
-
-    /// The reading with a rank, and its path.
-    pub fn found(&self, rank: usize) -> GraphReading {
-        GraphReading { reading: self.readings[rank - 1].clone(), path: self.paths[rank - 1].clone() }
     }
 
     /// Says on standard error that there is no reading, or that there may be more sentences, if it is so.
@@ -140,7 +117,7 @@ impl Listed {
     /// The words of the reading with a rank, each where it was heard; none if there is no such reading.
     pub fn taken(&self, rank: usize) -> Vec<Taken> {
         match self.readings.get(rank - 1) {
-            Some(reading) => self.heard.taken(&self.grammar.named, reading, &self.paths[rank - 1]),
+            Some(reading) => self.heard.taken(&self.grammar.named, reading),
             None => Vec::new(),
         }
     }
@@ -209,15 +186,15 @@ pub fn json_of(listed: &Listed, ranks: RangeInclusive<usize>) -> Vec<u8> {
     let named = &listed.grammar.named;
     let (names, mut line) = (json::Names::new(named), b"{\"readings\":[".to_vec());
     for rank in ranks {
-        let (reading, path) = (&listed.readings[rank - 1], &listed.paths[rank - 1]);
+        let reading = &listed.readings[rank - 1];
         names.begin_reading(&mut line, Some(rank as u32), reading);
-        match (&listed.slots, &listed.heard) {
+        match (&listed.slots, &reading.path) {
             (Some(slots), _) => {
-                let slots = path.iter().map(|edge| slots[*edge as usize]);
+                let slots = reading.edges().iter().map(|edge| slots[*edge as usize]);
                 json::push_numbers(&mut line, "slots", slots);
             }
-            (None, Heard::Graph(_)) => json::push_numbers(&mut line, "edges", path.iter().copied()),
-            (None, Heard::Slots(_)) => {}
+            (None, Some(path)) => json::push_numbers(&mut line, "edges", path.iter().copied()),
+            (None, None) => {}
         }
         if let Some(others) = &listed.others {
             json::push_key(&mut line, "others");

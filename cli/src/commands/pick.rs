@@ -8,7 +8,7 @@ use crate::options::{
 };
 use crate::output::Output;
 use spireyerba::limits::MAX_READINGS;
-use spireyerba::{Distinct, Error, GraphReading, OpenListing};
+use spireyerba::{Distinct, Error, OpenListing, Reading};
 use std::io::BufRead;
 
 pub const COMMAND: Command = Command {
@@ -67,7 +67,7 @@ struct Picker {
 impl Picker {
     fn new(arguments: &Arguments) -> Result<Self, Failure> {
         let listed = Listed::none_yet(arguments)?;
-        let open = listed.heard.open(&listed.grammar.named.grammar).map_err(Error::from)?;
+        let open = listed.grammar.packed.open(&listed.heard).map_err(Error::from)?;
         let once = arguments.has(&DISTINCT) || !arguments.has(&EVERY_TREE);
         Ok(Self { listed, open, sentences: once.then(|| Distinct::new(MAX_READINGS as usize)) })
     }
@@ -76,9 +76,9 @@ impl Picker {
     fn next(&mut self) -> bool {
         let Self { listed, open, sentences } = self;
         let grammar = &listed.grammar.named.grammar;
-        let is_new = |found: &GraphReading| sentences.as_mut().is_none_or(|known| known.take(grammar, found.clone()));
+        let is_new = |found: &Reading| sentences.as_mut().is_none_or(|known| known.take(grammar, found.clone()));
         let next = open.find(is_new);
-        next.map(|found| listed.push(found)).is_some()
+        next.map(|found| listed.readings.push(found)).is_some()
     }
 
     /// The list with the trees of each sentence counted, as `list` has it.
