@@ -7,7 +7,7 @@
 //! | `files` | texts and blocks, read and written |
 //! | `heard` | slots or a word graph, whichever it is |
 //! | `anchor`, `skip` | words that are known for certain, and words too many |
-//! | `alignment` | which words of two sentences differ |
+//! | `alignment`, `no_reading` | which words of two sentences differ; why there is no reading |
 //! | `drawing`, `page`, `json` | readings drawn in a terminal, on a page, and for programs |
 //! | `output`, `failure` | where answers and messages go |
 
@@ -20,6 +20,7 @@ mod files;
 mod heard;
 mod help;
 mod json;
+mod no_reading;
 mod options;
 mod output;
 mod page;

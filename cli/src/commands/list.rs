@@ -8,6 +8,7 @@ use crate::failure::Failure;
 use crate::files::{self, GrammarFile};
 use crate::heard::{HeardWords, Taken};
 use crate::json;
+use crate::no_reading::NoReading;
 use crate::options::{
     Arguments, DISTINCT, DROP_DELETES, DROP_UNKNOWN, EMPTY, JSON, RULES, SAID, SCALE, SKIP, TREE, WANTED,
 };
@@ -25,7 +26,8 @@ pub const COMMAND: Command = Command {
     options: &[WANTED, DISTINCT, TREE, RULES, JSON, SAID, SKIP, SCALE, DROP_UNKNOWN, DROP_DELETES, EMPTY],
     summary: "list the readings of least weight, the least first",
     details: "\
-A line has rank, weight and words. Fewer readings than were asked for are all that there are. With --distinct no words stand
+A line has rank, weight and words. Fewer readings than were asked for are all that there are; where there is none, a message
+says how far what was heard goes along with the grammar, and what could follow there (\"prefix\" in JSON). With --distinct no words stand
 twice: (+2 trees) says that 2 more of the first 256 readings have these, and a message if there may be more sentences.
 In a tree [5] is a rule's weight, and 12 behind a word its cost. With --skip some slots may have been words too many: as
 many in a row as 96 edges of a word graph have room for, and a message says how many that is.",
@@ -101,10 +103,16 @@ impl Listed {
 
     /// Says on standard error that there is no reading, or that there may be more sentences, if it is so.
     pub fn say_what_is_missing(&self) {
-        if self.readings.is_empty() {
-            say_no_reading();
+        if let Some(none) = self.no_reading() {
+            eprintln!("{}", none.message());
         }
         self.say_if_used_up();
+    }
+
+    /// Why there is no reading, if there is none.
+    pub fn no_reading(&self) -> Option<NoReading<'_>> {
+        let why = || NoReading::new(&self.grammar.named, &self.heard).expect("the library took the grammar");
+        self.readings.is_empty().then(why)
     }
 
     /// Says on standard error that there may be more sentences, if it is so.
@@ -145,11 +153,6 @@ impl Listed {
 pub fn used_up(found: usize) -> String {
     let sentences = if found == 1 { "is 1 sentence" } else { &format!("are {found} sentences") };
     format!("among {MAX_READINGS} readings, the most that a listing has, there {sentences}; there may be more")
-}
-
-/// Says on standard error that there is no reading.
-pub fn say_no_reading() {
-    eprintln!("no reading: the grammar derives nothing of what was heard");
 }
 
 /// What was heard, as the command line asks for it, and the slot of each edge, if slots may be passed over.
@@ -207,6 +210,9 @@ pub fn json_of(listed: &Listed, ranks: RangeInclusive<usize>) -> Vec<u8> {
     json::end_list(&mut line);
     if listed.used_up {
         line.extend(b",\"used_up\":true");
+    }
+    if let Some(none) = listed.no_reading() {
+        none.push_json(&mut line);
     }
     line.extend(b"}\n");
     line

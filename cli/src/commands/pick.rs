@@ -1,6 +1,6 @@
 //! `pick`: readings found and shown one by one until one is taken.
 
-use super::list::{drawn, json_of, line, say_no_reading, used_up, Listed};
+use super::list::{drawn, json_of, line, used_up, Listed};
 use super::Command;
 use crate::failure::Failure;
 use crate::options::{
@@ -50,9 +50,7 @@ fn run(arguments: &Arguments, output: &mut Output) -> Result<(), Failure> {
             Answer::Quit => return Err(Failure::Refused("none taken".into())),
         }
     }
-    if picker.listed.readings.is_empty() {
-        say_no_reading();
-    }
+    picker.listed.say_what_is_missing();
     Err(Failure::Refused(format!("none taken, and {}", picker.why_no_more())))
 }
 

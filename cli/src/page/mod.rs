@@ -7,6 +7,7 @@ pub use changes::{CostChanges, Ranges};
 
 use crate::commands::list::{other_trees, used_up, Listed};
 use crate::heard::{HeardWords, Taken};
+use crate::no_reading::Lines;
 use spireyerba::Heard;
 use std::fmt::Write;
 
@@ -32,6 +33,7 @@ pub fn page(listed: &Listed, source: &Source, changes: Option<&CostChanges>) -> 
     html += &header(listed, source);
     html += &heard(listed, changes);
     html += &overview(listed);
+    html += &no_reading(listed);
     html += &changes.map_or(String::new(), |changes| changes.sections(listed));
     html += &trees(listed);
     let version = env!("CARGO_PKG_VERSION");
@@ -91,6 +93,15 @@ fn size(heard: &Heard) -> String {
             format!("A word graph of {places} and {}", counted(graph.edges.len(), "edge"))
         }
     }
+}
+
+/// Why there is no reading, if there is none.
+fn no_reading(listed: &Listed) -> String {
+    let Some(none) = listed.no_reading() else { return String::new() };
+    let Lines { goes_along, could_follow, heard: (there, heard) } = none.lines();
+    let rows = [("goes along with the grammar", goes_along), ("could follow there", could_follow), (&there, heard)];
+    let rows = rows.map(|(title, text)| format!("<dt>{title}</dt><dd>{}</dd>\n", escaped(&text))).concat();
+    format!("<section>\n<h2>Why there is no reading</h2>\n<dl>\n{rows}</dl>\n</section>\n")
 }
 
 fn counted(count: usize, what: &str) -> String {

@@ -7,6 +7,7 @@ mod common;
 mod distinct;
 mod graphs;
 mod lattices;
+mod no_readings;
 mod offices;
 mod picks;
 mod random_skips;

@@ -31,8 +31,13 @@ fn none_is_taken() {
     assert_eq!(all.matches("[Enter, y, q]").count(), 16);
     let folder = folder("pick_nothing", &[("g", b"A -> \"x\""), ("u", b"x 1; x 2")]);
     let nothing = refused(run_with(&folder, "pick g u", b"y\n"), 1);
-    let expected =
-        "no reading: the grammar derives nothing of what was heard\nnone taken, and there are no more sentences\n";
+    let expected = "\
+no reading: the grammar derives nothing of what was heard
+  goes along with it: x
+  could follow there: the end
+  heard in slot 1: x 2
+none taken, and there are no more sentences
+";
     assert_eq!(nothing, expected);
 }
 
