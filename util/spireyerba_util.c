@@ -67,7 +67,7 @@ static const struct {
     {SPIREYERBA_OFFICE_SIZE, "the grammar that an office sheet becomes passes 32 symbols or 256 rules"},
     {SPIREYERBA_PANEL_SLOTS, "the panel takes at most 12 slots, or 13 places of a word graph"},
     {SPIREYERBA_PANEL_WANTED, "the panel lists at most 16 readings"},
-    {SPIREYERBA_COST_RANGES, "the utterances differ elsewhere than in costs, a cost falls, or 65,535 stands in one only"},
+    {SPIREYERBA_RANGES_DISAGREE, "the utterances differ elsewhere than in costs, a cost falls, or 65,535 stands in one only"},
     {SPIREYERBA_SHARES_COUNT, "there is not one share for each rule of the grammar"},
     {SPIREYERBA_SHARE_RANGE, "a share is not 1 to 1,024"},
 };
