@@ -49,6 +49,10 @@ pub struct Listed {
     pub used_up: bool,
     /// The slot of each edge, if the graph was drawn so that slots may be passed over.
     pub slots: Option<Vec<u32>>,
+    /// When each place of a word graph was reached, if that is known.
+    pub times: Option<Vec<f64>>,
+    /// What was heard and left out, a sentence without its end each.
+    pub left_out: Vec<String>,
 }
 
 impl Listed {
@@ -63,7 +67,16 @@ impl Listed {
     pub fn none_yet(arguments: &Arguments) -> Result<Self, Failure> {
         let grammar = files::grammar(arguments.operands[0])?;
         let (heard, slots) = heard(arguments, &grammar)?;
-        Ok(Self { grammar, heard, readings: Vec::new(), others: None, used_up: false, slots })
+        Ok(Self {
+            grammar,
+            heard,
+            readings: Vec::new(),
+            others: None,
+            used_up: false,
+            slots,
+            times: None,
+            left_out: Vec::new(),
+        })
     }
 
     /// Finds so many readings, or the first ones of so many sentences.

@@ -27,9 +27,8 @@ const LEAST_ROW: f64 = 0.6 * ROW_WIDTH;
 const OVERHANG: f64 = 30.0;
 const MARGIN: f64 = 44.0;
 const RADIUS: f64 = 11.0;
-/// From the line down to the times, and what a row takes below its line.
+/// From the line down to the times.
 const TIME_LINE: f64 = 28.0;
-const FOOT: f64 = 36.0;
 /// Between words in a lane.
 const GAP: f64 = 4.0;
 /// From the middle of a label to its baseline.
@@ -48,7 +47,7 @@ pub fn svg(listed: &Listed, graph: &Graph) -> String {
         let lanes = segments.iter().map(|segment| segment.lane + 1).max().unwrap_or(1);
         let line = top + FIRST_LANE + lanes as f64 * LANE;
         drawing.draw(&mut svg, &segments, (row, &xs), line);
-        top = line + FOOT;
+        top = line + if drawing.times.is_some() { TIME_LINE + RADIUS } else { 2.0 * RADIUS };
         width = width.max(xs[row.1] - xs[row.0] + 2.0 * MARGIN);
     }
     format!(
@@ -145,7 +144,8 @@ impl Drawing<'_> {
         let mut lanes: Vec<Vec<[f64; 2]>> = Vec::new();
         for segment in &mut segments {
             let needed = segment.extent(self.label_width(segment.edge));
-            let is_free = |lane: &Vec<[f64; 2]>| lane.iter().all(|taken| needed[1] <= taken[0] || taken[1] <= needed[0]);
+            let is_free =
+                |lane: &Vec<[f64; 2]>| lane.iter().all(|taken| needed[1] <= taken[0] || taken[1] <= needed[0]);
             segment.lane = lanes.iter().position(is_free).unwrap_or(lanes.len());
             match lanes.get_mut(segment.lane) {
                 Some(lane) => lane.push(needed),
@@ -162,14 +162,18 @@ impl Drawing<'_> {
         let has_room = ends[1] - ends[0] >= self.label_width(edge);
         let is_longest = (ends[1] - ends[0]) * 2.0 >= xs[to] - xs[from];
         let half = self.label_width(edge) / 2.0;
-        let middle = ((ends[0] + ends[1]) / 2.0).clamp(xs[row.0] - MARGIN + half, (xs[row.1] + MARGIN - half).max(xs[row.0]));
+        let middle =
+            ((ends[0] + ends[1]) / 2.0).clamp(xs[row.0] - MARGIN + half, (xs[row.1] + MARGIN - half).max(xs[row.0]));
         Segment { number, edge, ends, label: (has_room || is_longest).then_some(middle), lane: 0 }
     }
 
     fn draw(&self, svg: &mut String, segments: &[Segment], (row, xs): (Row, &[f64]), line: f64) {
         let x = |at: f64| at - xs[row.0] + MARGIN;
         let [begin, end] = [row.0, row.1].map(|place| x(xs[place]));
-        put(svg, format_args!("<line x1=\"{begin:.1}\" y1=\"{line:.1}\" x2=\"{end:.1}\" y2=\"{line:.1}\" class=\"leaf\"/>"));
+        put(
+            svg,
+            format_args!("<line x1=\"{begin:.1}\" y1=\"{line:.1}\" x2=\"{end:.1}\" y2=\"{line:.1}\" class=\"leaf\"/>"),
+        );
         // what is marked stands over the rest
         for segment in segments.iter().rev() {
             let y = line - FIRST_LANE - segment.lane as f64 * LANE;
@@ -202,6 +206,9 @@ impl Drawing<'_> {
             true => format!("<tspan class=\"small\" dx=\"4\">{cost}</tspan>"),
             false => String::new(),
         };
+        let (width, top) = (self.label_width(segment.edge), y - LANE / 2.0);
+        let left = x - width / 2.0;
+        put(svg, format_args!("<rect x=\"{left:.1}\" y=\"{top:.1}\" width=\"{width:.1}\" height=\"{LANE}\"/>"));
         let (y, number) = (y + BASELINE, segment.number);
         let title = format!("edge {number}: {from} to {to}");
         put(svg, format_args!("<text{class} x=\"{x:.1}\" y=\"{y:.1}\"><title>{title}</title>{name}{cost}</text>"));

@@ -1,6 +1,7 @@
 //! The page that `report` writes: HTML with its style and its drawings inside, and no script.
 
 mod changes;
+mod lattice;
 mod tree;
 
 pub use changes::{CostChanges, Ranges};
@@ -108,12 +109,26 @@ fn counted(count: usize, what: &str) -> String {
     format!("{count} {what}{}", if count == 1 { "" } else { "s" })
 }
 
-/// The slots, each with its words, the cheapest first; or what starts at each place of a word graph.
+/// What was heard, and what of it is not on the page.
 fn heard(listed: &Listed, changes: Option<&CostChanges>) -> String {
+    let drawn = match &listed.heard {
+        Heard::Slots(_) => slots(listed, changes),
+        Heard::Graph(graph) => format!(
+            "<figure>\n{}</figure>\n<p class=\"note\">Time goes from left to right, from place to place. A number is a cost: how \
+             badly the word fits what was heard. Marked: the path of the first reading. Struck out: not heard.</p>\n",
+            lattice::svg(listed, graph)
+        ),
+    };
+    let left_out = listed.left_out.iter().map(|note| format!("<p class=\"left-out\">{}.</p>\n", escaped(note)));
+    format!("<section>\n<h2>What was heard</h2>\n{}{drawn}</section>\n", left_out.collect::<String>())
+}
+
+/// The slots, each with its words, the cheapest first.
+fn slots(listed: &Listed, changes: Option<&CostChanges>) -> String {
     let (best, mut groups) = (listed.taken(1), listed.heard.groups());
     let heard = groups.iter().flatten().map(|taken| taken.candidate).filter(|candidate| candidate.is_offered());
     let greatest = heard.map(|candidate| candidate.cost).max().unwrap_or(0).max(1);
-    let mut html = String::from("<section>\n<h2>What was heard</h2>\n<ol class=\"slots\" start=\"0\">\n");
+    let mut html = String::from("<ol class=\"slots\" start=\"0\">\n");
     for group in &mut groups {
         group.sort_by_key(|taken| taken.candidate.cost);
         let words: String = group
@@ -123,14 +138,11 @@ fn heard(listed: &Listed, changes: Option<&CostChanges>) -> String {
                 word(listed, taken, best.contains(taken), Costs { greatest, highest })
             })
             .collect();
-        let title = match listed.heard {
-            Heard::Slots(_) => listed.heard.place(group[0].span),
-            Heard::Graph(_) => format!("from place {}", group[0].span[0]),
-        };
+        let title = listed.heard.place(group[0].span);
         write!(html, "<li><h3>{title}</h3>\n{words}</li>\n").expect("a string takes all");
     }
     html + "</ol>\n<p class=\"note\">A number is a cost: how badly the word fits what was heard. Marked: the words of the \
-            first reading. Struck out: not heard.</p>\n</section>\n"
+            first reading. Struck out: not heard.</p>\n"
 }
 
 /// The costs beside which that of a word is shown: the greatest of all, and the greatest that the word may have, if it is more.
@@ -140,11 +152,8 @@ struct Costs {
 }
 
 /// A word that was heard, with a bar as long as its cost is great.
-fn word(listed: &Listed, Taken { span, candidate }: &Taken, is_best: bool, costs: Costs) -> String {
-    let mut word = escaped(listed.grammar.named.word(candidate.word));
-    if let Heard::Graph(_) = listed.heard {
-        word += &format!(" <small>to&nbsp;{}</small>", span[1]);
-    }
+fn word(listed: &Listed, Taken { candidate, .. }: &Taken, is_best: bool, costs: Costs) -> String {
+    let word = escaped(listed.grammar.named.word(candidate.word));
     if !candidate.is_offered() {
         return format!("<div class=\"candidate unheard\"><span>{word}</span></div>\n");
     }
@@ -182,7 +191,7 @@ fn overview(listed: &Listed) -> String {
             symbol is the weight of its rule, and that below a word its cost. Marked: words that the first reading does not \
             have there.";
     if listed.others.is_some() {
-        html += " Each sentence stands once, by its first reading; so many more of the first 256 readings have the same words.";
+        html += " Each sentence stands once, by its first reading; +2 trees says that 2 more of the first 256 readings have its words.";
     }
     html + "</p>\n</section>\n"
 }
