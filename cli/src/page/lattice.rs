@@ -186,9 +186,7 @@ impl Drawing<'_> {
                 self.draw_label(svg, segment, x(label), line - FIRST_LANE - segment.lane as f64 * LANE);
             }
         }
-        for place in row.0..=row.1 {
-            self.draw_place(svg, place, x(xs[place]), line);
-        }
+        (row.0..=row.1).for_each(|place| self.draw_place(svg, place, x(xs[place]), line));
     }
 
     fn class(&self, segment: &Segment) -> &'static str {
