@@ -6,6 +6,7 @@
 //! | `options`, `help` | the command line and what is said about it |
 //! | `files` | texts and blocks, read and written |
 //! | `heard` | slots or a word graph, whichever it is |
+//! | `reach` | which symbols of a grammar are of use |
 //! | `anchor`, `skip` | words that are known for certain, and words too many |
 //! | `drawing`, `page`, `json` | readings drawn in a terminal, on a page, and for programs |
 //! | `output`, `failure` | where answers and messages go |
@@ -21,6 +22,7 @@ mod json;
 mod options;
 mod output;
 mod page;
+mod reach;
 mod skip;
 
 use failure::Failure;

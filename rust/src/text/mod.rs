@@ -110,24 +110,35 @@
 //! # Ok::<(), spireyerba::Error>(())
 //! ```
 
+mod expansion;
 mod fault;
+mod finish;
 mod grammar;
 mod graph;
 mod lattice;
 mod names;
+mod nearest;
 mod network;
+mod notation;
 mod plain;
 mod reading;
+mod room;
+mod rule_fault;
 mod scan;
 mod score;
 mod shares;
+mod source;
+mod translation;
 mod utterance;
 
 pub use fault::Fault;
 pub use grammar::Places;
 pub use graph::is_graph;
 pub use names::NamedGrammar;
+pub use nearest::nearest;
 pub use reading::{graph_reading_text, parse_graph_reading, parse_reading, parse_sheet, print_list, reading_text};
+pub use room::Room;
+pub use rule_fault::RuleFault;
 pub use utterance::UtteranceReader;
 
 /// The mark that some editors write before a text.
