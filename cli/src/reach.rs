@@ -19,8 +19,8 @@ pub fn unused(named: &NamedGrammar) -> Vec<Unused> {
     let mut known = reached(&mentioned, 0, &BTreeSet::new());
     let mut list = Vec::new();
     // first those that no rule has, then one of each circle
-    let [first, rest]: [Vec<u32>; 2] =
-        [true, false].map(|wanted| (0..named.own_symbols()).filter(|symbol| is_in_no_rule(*symbol) == wanted).collect());
+    let [first, rest]: [Vec<u32>; 2] = [true, false]
+        .map(|wanted| (0..named.own_symbols()).filter(|symbol| is_in_no_rule(*symbol) == wanted).collect());
     for symbol in first.into_iter().chain(rest) {
         if !known.contains(&symbol) {
             list.push(Unused { symbol, is_in_no_rule: is_in_no_rule(symbol) });

@@ -89,7 +89,7 @@ fn an_office_whose_grammar_is_too_large() {
     let eight = NamedGrammar::parse(&(text(8) + "A -> \"x\"")).unwrap();
     assert_eq!((eight.grammar.symbols, eight.own_symbols(), eight.own_rules()), (10, 1, 9));
     let message = "1:6: refused 56: the grammar needs 62 symbols and 32 fit: 1 yours, 1 for words in bodies of several items, \
-                   60 joints; most is added for line 1 (4), line 2 (4), line 3 (4). One symbol for all words that may stand in \
+                   60 joints; most is added for line 1 (4), line 17 (4), line 33 (4). One symbol for all words that may stand in \
                    a place, as in Metal -> \"steel\" | \"zinc\", takes one in place of one for each, and shorter bodies take \
                    fewer joints";
     expect(NamedGrammar::parse(&(text(64) + "A -> \"x\"")), "many symbols", message);
@@ -291,7 +291,7 @@ fn mistakes_in_graphs() {
 fn mistakes_in_readings() {
     expect(parse_reading(""), "nothing", "1:1: the line ends where a weight should stand");
     expect(parse_reading("72 0\n 2 x"), "a letter", "2:4: `x` is not a whole number");
-    assert_eq!(parse_reading("3 0 # the root\n1 1"), Ok(Reading { weight: 3, walk: vec![0, 1, 1] }));
+    assert_eq!(parse_reading("3 0 # the root\n1 1"), Ok(Reading::of_slots(3, vec![0, 1, 1])));
     expect(parse_sheet("1 2\n3 four"), "a word", "2:3: `four` is not a whole number");
 }
 

@@ -71,7 +71,7 @@ fn strings(rng: &mut Rng, named: &NamedGrammar) -> Vec<Vec<u32>> {
 
 #[test]
 fn derivations_are_those_of_the_notation() {
-    let (mut trees, mut refused) = (0, BTreeMap::<Option<u32>, u32>::new());
+    let (mut trees, mut read, mut refused) = (0, 0, BTreeMap::<Option<u32>, u32>::new());
     over_seeds(0..3_000, |rng| {
         let rules = rules(rng);
         let text = text(&rules);
@@ -83,6 +83,7 @@ fn derivations_are_those_of_the_notation() {
             }
         };
         assert_eq!(NamedGrammar::parse(&named.to_text()).as_ref(), Ok(&named), "{text}");
+        read += 1;
         for words in strings(rng, &named) {
             let Some(numbers) = words_of(&named, &words) else { continue };
             let Some(listed) = listed(&named, &numbers) else { continue };
@@ -98,26 +99,37 @@ fn derivations_are_those_of_the_notation() {
             trees += found.len();
         }
     });
-    assert!(trees > 10_000, "{trees} trees");
+    assert!(trees > 10_000 && read > 600, "{trees} trees by {read} texts");
     // a circle or a part that may be empty has no number; two alike have 6, and what is too large has 56
     let known = [None, Some(Refusal::GrammarRepeat.number()), Some(Refusal::OfficeSize.number())];
     assert!(refused.keys().all(|number| known.contains(number)), "{refused:?}");
-    assert!(refused.values().sum::<u32>() < 2_000, "{refused:?}");
 }
 
 /// Texts with notation, and the same written out by hand: a rule for each way to take a body, and symbols for what is repeated.
 const BY_HAND: [(&str, &str); 8] = [
     ("A -> \"a\" B? [3]\nB -> \"b\" [1]", "A -> \"a\" [3] | \"a\" B [3]\nB -> \"b\" [1]"),
-    ("A -> B \"fire\"?120 C [2]\nB -> \"b\"\nC -> \"c\" [4]", "A -> B \"fire\" C [2] | B C [122]\nB -> \"b\"\nC -> \"c\" [4]"),
-    ("A -> B [3]\nB -> C [4] | \"b\" B\nC -> \"c\" [5]", "A -> \"c\" [12] | \"b\" B [3]\nB -> \"c\" [9] | \"b\" B\nC -> \"c\" [5]"),
+    (
+        "A -> B \"fire\"?120 C [2]\nB -> \"b\"\nC -> \"c\" [4]",
+        "A -> B \"fire\" C [2] | B C [122]\nB -> \"b\"\nC -> \"c\" [4]",
+    ),
+    (
+        "A -> B [3]\nB -> C [4] | \"b\" B\nC -> \"c\" [5]",
+        "A -> \"c\" [12] | \"b\" B [3]\nB -> \"c\" [9] | \"b\" B\nC -> \"c\" [5]",
+    ),
     ("A -> \"x\" ( \"a\" | \"b\" \"c\" [2] ) [1]", "A -> \"x\" \"a\" [1] | \"x\" \"b\" \"c\" [3]"),
-    ("A -> D+ [1]\nD -> \"a\" | \"b\" [7]", "A -> \"a\" [1] | \"b\" [8] | D M [1]\nM -> \"a\" | \"b\" [7] | D M\nD -> \"a\" | \"b\" [7]"),
+    (
+        "A -> D+ [1]\nD -> \"a\" | \"b\" [7]",
+        "A -> \"a\" [1] | \"b\" [8] | D M [1]\nM -> \"a\" | \"b\" [7] | D M\nD -> \"a\" | \"b\" [7]",
+    ),
     ("A -> \"x\" D*\nD -> \"a\" [2]", "A -> \"x\" | \"x\" M\nM -> \"a\" [2] | D M\nD -> \"a\" [2]"),
     (
         "A -> (B \"a\")+ (B | \"c\")? [1]\nB -> \"b\"",
         "A -> M [1] | M B [1] | M \"c\" [1]\nM -> B \"a\" | B \"a\" M\nB -> \"b\"",
     ),
-    ("A -> \"a\" \"b\" \"a\" \"b\" \"a\" \"b\" \"a\"?1", "A -> \"a\" \"b\" \"a\" \"b\" R [1] | \"a\" \"b\" \"a\" \"b\" S\nR -> \"a\" \"b\"\nS -> \"a\" \"b\" \"a\""),
+    (
+        "A -> \"a\" \"b\" \"a\" \"b\" \"a\" \"b\" \"a\"?1",
+        "A -> \"a\" \"b\" \"a\" \"b\" R [1] | \"a\" \"b\" \"a\" \"b\" S\nR -> \"a\" \"b\"\nS -> \"a\" \"b\" \"a\"",
+    ),
 ];
 
 /// Every string of a length with the weights of its derivations.

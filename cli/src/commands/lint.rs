@@ -63,9 +63,12 @@ fn warnings(file: &GrammarFile, shortest: &[Option<u32>], output: &mut Output) -
     Ok(())
 }
 
-/// The rules of the text that the start could use if an utterance had more room.
+/// The rules of the text that the start could use if an utterance had more room. Where a symbol derives nothing that comes first.
 fn too_long(file: &GrammarFile, shortest: &[Option<u32>]) -> Vec<u32> {
     let (named, grammar) = (&file.named, &file.named.grammar);
+    if shortest.contains(&None) {
+        return Vec::new();
+    }
     let beside = words_beside(grammar, shortest);
     let is_explained = |rule: &Rule| beside[rule.head as usize].is_none() || body_length(rule, shortest).is_none();
     let [used, explained] = [used_rules(grammar, shortest), grammar.rules.iter().map(is_explained).collect()]

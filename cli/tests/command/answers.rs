@@ -1,7 +1,8 @@
 //! Every subcommand over the door schedule.
 
 use crate::common::{
-    answer, answer_in, answer_with, answered, doors, expect_refused_readings, folder, refused, run, run_with, Run,
+    answer, answer_in, answer_with, answered, doors, expect_refused_readings, folder, refused, run, run_in, run_with,
+    Run,
 };
 use spireyerba::Refusal;
 

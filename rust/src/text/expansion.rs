@@ -256,8 +256,7 @@ impl<'a> Alone<'a> {
     /// What the rules become, with their heads, in their order.
     fn rules(mut self) -> Result<Vec<(u32, Finished)>, Error> {
         (0..self.of_head.len()).try_for_each(|head| self.finish(head as u32))?;
-        let mut lists: Vec<_> =
-            self.finished.into_iter().map(|lists| lists.unwrap_or_default().into_iter()).collect();
+        let mut lists: Vec<_> = self.finished.into_iter().map(|lists| lists.unwrap_or_default().into_iter()).collect();
         let next = |rule: &Simple| {
             let list = lists[rule.head as usize].next().unwrap_or_default();
             list.into_iter().map(|finished| (rule.head, finished)).collect::<Vec<_>>()

@@ -338,9 +338,7 @@ fn times(tokens: &mut Tokens) -> Result<Times, Error> {
         Some(STAR) => Times::Star,
         Some(_) => match tokens.touching_digits() {
             None => Times::Optional { absence: 0 },
-            Some(digits) => {
-                Times::Optional { absence: weight(digits, "cost").map_err(|fault| tokens.fault(fault))? }
-            }
+            Some(digits) => Times::Optional { absence: weight(digits, "cost").map_err(|fault| tokens.fault(fault))? },
         },
     };
     match tokens.is_apart(BEHIND_A_PART) {

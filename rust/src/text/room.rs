@@ -85,7 +85,8 @@ fn dearest(added: impl Iterator<Item = Added>) -> Vec<(usize, u32)> {
 
 /// So much of each kind.
 fn parts(counts: [u32; 4]) -> String {
-    let kinds = ["yours", "for groups, repetitions and parts left out", "for words in bodies of several items", "joints"];
+    let kinds =
+        ["yours", "for groups, repetitions and parts left out", "for words in bodies of several items", "joints"];
     let parts = counts.iter().zip(kinds).filter(|(count, _)| **count > 0);
     parts.map(|(count, kind)| format!("{count} {kind}")).collect::<Vec<_>>().join(", ")
 }
@@ -99,7 +100,8 @@ impl Display for Room {
         };
         write!(formatter, "the grammar needs {need} {what} and {limit} fit: {}", parts(counts))?;
         if !self.dearest.is_empty() {
-            let lines: Vec<String> = self.dearest.iter().map(|(line, count)| format!("line {line} ({count})")).collect();
+            let lines: Vec<String> =
+                self.dearest.iter().map(|(line, count)| format!("line {line} ({count})")).collect();
             write!(formatter, "; most is added for {}", lines.join(", "))?;
         }
         match symbols > MAX_SYMBOLS {

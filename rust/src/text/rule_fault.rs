@@ -1,7 +1,7 @@
 //! What can be wrong in the rules of a grammar's text.
 
 use super::room::Room;
-use crate::limits::{MAX_RULES, MAX_WEIGHT};
+use crate::limits::{MAX_RULES, MAX_SHARE, MAX_WEIGHT};
 use crate::{Position, Refusal};
 use std::fmt::{Display, Formatter};
 
@@ -61,6 +61,11 @@ pub enum RuleFault {
         /// How many parts the body has.
         parts: usize,
     },
+    /// Shares whose product is that of one rule, and is no whole number of 1,024.
+    SharesOfOne {
+        /// The rules of the text that become one.
+        rules: Vec<String>,
+    },
     /// A grammar that passes the limits of a block.
     Room(Box<Room>),
 }
@@ -112,6 +117,12 @@ impl RuleFault {
             Self::Deep { limit } => {
                 write!(formatter, "groups stand within groups up to {limit} deep: give this one a head of its own")
             }
+            Self::SharesOfOne { rules } => write!(
+                formatter,
+                "{} become one rule, and the product of their shares is no whole number of {MAX_SHARE}: give one of them \
+                 {MAX_SHARE}, or shares that divide it",
+                rules.iter().map(|rule| format!("`{rule}`")).collect::<Vec<_>>().join(" and ")
+            ),
             Self::Reference { found, parts } => write!(
                 formatter,
                 "`{found}` in a translation: $1 to ${parts} are the parts of this body, and $$ is a dollar sign"

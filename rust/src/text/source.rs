@@ -132,7 +132,8 @@ impl Source {
     fn translation(&self, named: &NamedGrammar, tree: &Tree) -> String {
         let parts: Vec<String> = tree.parts.iter().map(|part| self.part_translation(named, part)).collect();
         let joined = |wanted: &dyn Fn(u32) -> bool| {
-            let parts = parts.iter().zip(&tree.elements).filter(|(part, element)| !part.is_empty() && wanted(**element));
+            let parts =
+                parts.iter().zip(&tree.elements).filter(|(part, element)| !part.is_empty() && wanted(**element));
             parts.map(|(part, _)| part.as_str()).collect::<Vec<_>>().join(" ")
         };
         match &self.rules[tree.rule as usize].translation {
