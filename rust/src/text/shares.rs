@@ -53,7 +53,7 @@ impl NamedGrammar {
         let rules = self.rules_shown(rule);
         let share = rules.iter().try_fold(MAX_SHARE, |product, rule| {
             let product = product * shares[*rule as usize];
-            (product % MAX_SHARE == 0).then_some(product / MAX_SHARE)
+            product.is_multiple_of(MAX_SHARE).then_some(product / MAX_SHARE)
         });
         share.ok_or_else(|| {
             let rules = rules.iter().map(|rule| self.rule_text(*rule)).collect();
