@@ -50,6 +50,7 @@
 
 #![warn(missing_docs)]
 
+pub mod lattice;
 pub mod limits;
 pub mod services;
 pub mod text;
