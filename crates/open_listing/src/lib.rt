@@ -23,10 +23,9 @@ ghost use mathlib.Core.Bool.{true};
 ghost use Prim.Native.Nat.{_-_, _*_, _≤_, _<_};
 ghost use lib.ListN.{length};
 ghost use Rattle.chart.specs.Chart.{rootFound};
-ghost use Rattle.packing.specs.Heard.{heardBlock};
-ghost use Rattle.inputs.specs.Inputs.{Bounds, meantBy};
-ghost use Rattle.open_listing.specs.Open.{opening, openedOf, tableOpened, Called, Kept};
-ghost use Rattle.open_listing.specs.Model.{zeros, Planned, planOf, handsOut, settled, isReading, outputBy, nextTable, Searched, FirstCalled, As, callBy, nextBy, searched};
+ghost use Rattle.inputs.specs.Inputs.{Bounds};
+ghost use Rattle.open_listing.specs.Open.{opening, openedOf, tableOpened, lent, left, Called, Kept};
+ghost use Rattle.open_listing.specs.Model.{zeros, Planned, planOf, handsOut, settled, isReading, outputBy, nextTable, Searched, FirstCalled, As, callBy, nextOf, searched};
 
 // An open listing's place: how many readings were handed out, and whether it was opened.
 #[repr(C)]
@@ -256,9 +255,9 @@ fn next_read(
 
 // One more reading of what was heard, slots or a graph, under the grammar, to the front of `out`, for a place and a work table as they were left.
 pub fn next(grammar: &[u8], heard: &[u8], place: Place, work: &mut [u32], out: &mut [u8]) -> Answer
-    ensures { λ r. ⌜ Called searched (now (grammar .entry)) (now (heard .entry)) place (now (work .entry)) (now (out .entry)) r (now (work .exit)) (now (out .exit)) ⌝ }
-    ensures { λ r. ⌜ Kept searched (now (grammar .entry)) (now (heard .entry)) place (now (work .entry)) (now (out .entry)) r (now (work .exit)) (now (out .exit)) ⌝ }
-    ensures { λ r. ⌜ As (nextBy (meantBy heardBlock (now (grammar .entry)) (now (heard .entry))) place (now (work .entry)) (now (out .entry))) r (now (work .exit)) (now (out .exit)) ⌝ }
+    ensures { λ r. ⌜ Called searched (lent (now (grammar .entry)) (now (heard .entry)) place (now (work .entry)) (now (out .entry))) (left r (now (work .exit)) (now (out .exit))) ⌝ }
+    ensures { λ r. ⌜ Kept searched (lent (now (grammar .entry)) (now (heard .entry)) place (now (work .entry)) (now (out .entry))) (left r (now (work .exit)) (now (out .exit))) ⌝ }
+    ensures { λ r. ⌜ As (nextOf (now (grammar .entry)) (now (heard .entry)) place (now (work .entry)) (now (out .entry))) r (now (work .exit)) (now (out .exit)) ⌝ }
 {
     let mut rules = [0u32; RULES_LENGTH];
     let mut edges = [0u32; EDGES_LENGTH];

@@ -44,7 +44,8 @@ use denote.Triple.Walked.{says, Stays, stay-none-slice, stay-ref, gave-slice, wa
 use denote.Exit.{yes}
 use denote.Signature.{Slot, plain}
 use Rattle.open_listing.specs.Model.{searched}
-use Rattle.spireyerba.specs.OneByOne.{placeAt, Next}
+use Rattle.spireyerba.specs.OneByOne.{placeAt, returned}
+use Rattle.spireyerba.proofs.OpenCalls.{NextTold}
 use Rattle.open_listing.specs.declared.Place.{Place}
 use Rattle.spireyerba.specs.declared.Moved.{Moved}
 use Rattle.open_listing.proofs.Place as T
@@ -95,7 +96,8 @@ module _ {M : Type 1} (𝓤 : URA M) (H : Heap 𝓤) (A : Atoms 𝓤) (W : Given
 
   -- what `next_call` ensures of its result and the last lists, and the place that is left
   abbrev Said : Moved → List ℕ → List ℕ → Type 0
-  Said r xs ys = Next searched (g .now) (u .now) (placeAt (h .handed) (h .opened)) (t .now) (w .now) (r .code) (placeAt (r .handed) (r .opened)) xs ys
+  Said r xs ys =
+      NextTold (g .now) (u .now) (placeAt (h .handed) (h .opened)) (t .now) (w .now) searched (returned (r .code) (placeAt (r .handed) (r .opened)) xs) ys
 
   -- what `next_call` is passed, and what its triple binds outside: the slices' own borrows
   abbrev passed : RefT (List ℕ) × (RefT (List ℕ) × (RefT (List ℕ) × (RefT (List ℕ) × (ℕ × (ℕ × Unit {0})))))

@@ -42,7 +42,8 @@ use denote.Triple.Table.{entered, cited}
 use denote.Triple.Walked.{says, Stays, stay-none-slice, stay-ref, gave-slice, walkOf, goes-none-slice, goes-ref, goes-gave-slice, Walks, ends-at, walked, walk-meets}
 use denote.Exit.{yes}
 use denote.Signature.{Slot, plain}
-use Rattle.spireyerba.specs.OneByOne.{placeAt, Open}
+use Rattle.spireyerba.specs.OneByOne.{placeAt, returned}
+use Rattle.spireyerba.proofs.OpenCalls.{OpenTold}
 use Rattle.open_listing.specs.declared.Place.{Place}
 use Rattle.spireyerba.specs.declared.Moved.{Moved}
 use Rattle.open_listing.proofs.Place as T
@@ -93,7 +94,7 @@ module _ {M : Type 1} (𝓤 : URA M) (H : Heap 𝓤) (A : Atoms 𝓤) (W : Given
 
   -- what `open_call` ensures of its result and the last list, and the place that is left
   abbrev Said : Moved → List ℕ → Type 0
-  Said r xs = Open (g .now) (u .now) (placeAt (h .handed) (h .opened)) (t .now) (r .code) (placeAt (r .handed) (r .opened)) xs
+  Said r xs = OpenTold (g .now) (u .now) (t .now) (placeAt (h .handed) (h .opened)) (returned (r .code) (placeAt (r .handed) (r .opened)) xs)
 
   -- what `open_call` is passed, and what its triple binds outside: the slices' own borrows
   abbrev passed : RefT (List ℕ) × (RefT (List ℕ) × (RefT (List ℕ) × (ℕ × (ℕ × Unit {0}))))
