@@ -224,7 +224,7 @@ fn altered_marks() {
     let mut met = Met::default();
     over_seeds(46_000..47_000, |rng| {
         let (grammar, heard) = heard_case(rng, &[&TINY, &AMBIGUOUS, &SPARSE]);
-        let blocks = [grammar::pack(&grammar), heard.pack(&grammar)];
+        let blocks = [grammar::pack(&grammar), heard::pack(&grammar, &heard)];
         let blocks = [&blocks[0][..], &blocks[1]];
         let listed = Listed::new(blocks[0], blocks[1]).expect("accepted");
         let calls = rng.below(4);
