@@ -5,29 +5,32 @@ use super::Command;
 use crate::anchor;
 use crate::failure::Failure;
 use crate::files;
-use crate::heard::Heard;
-use crate::options::{Arguments, DROP_DELETES, DROP_UNKNOWN, EMPTY, FILE, HIGH, SAID, SCALE, SKIP, WANTED};
+use crate::options::{
+    Arguments, DISTINCT, DROP_DELETES, DROP_UNKNOWN, EMPTY, EVERY_TREE, FILE, HIGH, SAID, SCALE, SKIP, WANTED,
+};
 use crate::output::Output;
 use crate::page::{page, CostChanges, Ranges, Source};
-use spireyerba::{Error, Utterance};
+use spireyerba::{Error, Heard, Utterance};
 
 pub const COMMAND: Command = Command {
     name: "report",
     operands: &["GRAMMAR", "UTTERANCE"],
     needed: 2,
-    options: &[FILE, WANTED, HIGH, SAID, SKIP, SCALE, DROP_UNKNOWN, DROP_DELETES, EMPTY],
+    options: &[FILE, WANTED, DISTINCT, EVERY_TREE, HIGH, SAID, SKIP, SCALE, DROP_UNKNOWN, DROP_DELETES, EMPTY],
     summary: "write a page with what was heard, the readings as drawn trees, and which words to listen to again",
     details: "\
 The page is one file of HTML that needs no other, to be looked at in a browser or printed. Of slots it says which words to
 listen to again, as `margins` does; with --high, where the costs of UTTERANCE are the least ones, also how the first weight
-varies, as `ranges` does.",
+varies, as `ranges` does. Of a word graph each sentence stands once, unless --every-tree is given.",
     example: "spireyerba report grammar.txt utterance.txt -o page.html",
     run,
 };
 
 fn run(arguments: &Arguments, output: &mut Output) -> Result<(), Failure> {
     let wanted = arguments.wanted()?;
-    let listed = Listed::new(arguments, wanted)?;
+    let mut listed = Listed::none_yet(arguments)?;
+    let is_graph = matches!(listed.heard, Heard::Graph(_));
+    listed.find(wanted, arguments.has(&DISTINCT) || is_graph && !arguments.has(&EVERY_TREE))?;
     let changes = match &listed.heard {
         Heard::Slots(utterance) => Some(cost_changes(arguments, &listed, utterance)?),
         Heard::Graph(_) if arguments.has(&HIGH) => {
@@ -43,7 +46,7 @@ fn run(arguments: &Arguments, output: &mut Output) -> Result<(), Failure> {
 /// What other costs would do to the first reading.
 fn cost_changes(arguments: &Arguments, listed: &Listed, utterance: &Utterance) -> Result<CostChanges, Failure> {
     let named = &listed.grammar.named;
-    let margins = named.grammar.word_margins(utterance).map_err(Error::from)?;
+    let margins = listed.grammar.packed.word_margins(utterance).map_err(Error::from)?;
     let Some(operand) = arguments.value(&HIGH) else {
         return Ok(CostChanges { margins, ranges: None });
     };
@@ -52,7 +55,7 @@ fn cost_changes(arguments: &Arguments, listed: &Listed, utterance: &Utterance) -
     let Heard::Slots(high) = heard else {
         return Err(arguments.wrong("ranges of costs are for slots, not for word graphs"));
     };
-    let found = named.grammar.cost_ranges(utterance, &high);
+    let found = listed.grammar.packed.cost_ranges(utterance, &high);
     let first = found.map_err(|refusal| Error::from(refusal).in_file(files::name_of(operand)))?;
     Ok(CostChanges { margins, ranges: Some(Ranges { high, first }) })
 }

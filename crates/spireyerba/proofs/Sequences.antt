@@ -25,7 +25,7 @@ use Rattle.derivation.specs.Heard.{outputLength, ownBlock, packed}
 use Rattle.derivation.specs.HeardList as list
 use Rattle.derivation.proofs.HeardReadings.{packed-length}
 use Rattle.derivation.proofs.HeardTheorems.{finitely-many}
-use Rattle.listing.specs.Conditions.{tableSize}
+use Rattle.chart.specs.WorkTable.{tableSize}
 use Rattle.listing.specs.Demand3.{kthBytes, RankedList}
 use Rattle.open_listing.specs.Open as S
 use Rattle.open_listing.proofs.Decided.{answer-decided, table-decided, output-decided, opening-blocks, calling-blocks}
