@@ -30,7 +30,8 @@ use Rattle.inputs.specs.Inputs.{meantBy, ReadOf, rulesArray, edgesArray}
 use Rattle.inputs.specs.declared.Inputs.{Inputs}
 use Rattle.inputs.proofs.Outcome.{rules-begin, edges-begin, both-accepted, meant-first}
 use Rattle.open_listing.specs.Open as S
-use Rattle.open_listing.specs.Model.{Planned, planOf, zeros, Answered, Searched, unchanged, seeks, tableBy, soughtBy, callBy, nextBy, nextOf, searched, As}
+use Rattle.open_listing.specs.Model.{Planned, planOf, zeros, Answered, Searched, unchanged, seeks}
+use Rattle.open_listing.specs.Model.{tableBy, soughtBy, callBy, nextBy, nextOf, searched, As}
 use Rattle.open_listing.specs.declared.Place.{Place}
 use Rattle.open_listing.specs.declared.Plan.{Plan}
 use Rattle.open_listing.specs.declared.Opened.{Opened}
@@ -234,10 +235,12 @@ module _ {grammar heard : List ℕ} {z : Inputs} {rules edges : List ℕ} (k : R
       let makes : Makes searched (m .grammar) (m .heard) rules edges (plan (m .grammar) (m .heard)) =
       λ x t. made x t ∙ ap (λ (y : Plan). tableBy rules edges y x t) same in
       rw (s .answer, s .table, s .output, same)
-      (due grammar heard (m .grammar) (m .heard) (k .grammar-is) (k .heard-is) rules edges (rules-begin k) (edges-begin k) (rw same at planned) searched makes p work out)
+      (due grammar heard (m .grammar) (m .heard) (k .grammar-is) (k .heard-is) rules edges (rules-begin k) (edges-begin k) (rw same at planned) searched makes p
+      work out)
 
 -- and where zeros were lent, the call is a function of what was handed in
-pub read-next : {grammar heard : List ℕ} {z : Inputs} {rules edges : List ℕ} (k : ReadOf heardBlock grammar heard (replicate 1280 0) (replicate 672 0) z rules edges)
+pub read-next : {grammar heard : List ℕ} {z : Inputs} {rules edges : List ℕ}
+    (k : ReadOf heardBlock grammar heard (replicate 1280 0) (replicate 672 0) z rules edges)
     (q : Plan) → q ≡ planOf z → (p : Place) (work out : List ℕ) {a : A.Answer} {work′ out′ : List ℕ}
     → As (callBy rules edges q p work out) a work′ out′ → As (nextOf grammar heard p work out) a work′ out′
 read-next {rules = rules} {edges} k q is p work out {a} {work′} {out′} s =
@@ -277,8 +280,10 @@ module _ {grammar heard rules₀ edges₀ : List ℕ} {z : Inputs} {rules edges 
 
   pub not-opened-short : length work < r → OpenedAs grammar heard work (O.Refused 22) work
   not-opened-short short =
-      rw (opening-short grammar heard (k .meant .grammar) (k .meant .heard) (k .grammar-is) (k .heard-is) (length work) (omega (arith, size, short))) (refl, refl)
+      rw (opening-short grammar heard (k .meant .grammar) (k .meant .heard) (k .grammar-is) (k .heard-is) (length work) (omega (arith, size, short)))
+      (refl, refl)
 
   pub opened-zeros : r ≤ length work → {work′ : List ℕ} → work′ ≡ replicate (length work) 0 → OpenedAs grammar heard work O.Opened work′
   opened-zeros room is-zeros =
-      rw (opening-accepts grammar heard (k .meant .grammar) (k .meant .heard) (k .grammar-is) (k .heard-is) (length work) (omega (arith, size, room))) (refl, is-zeros)
+      rw (opening-accepts grammar heard (k .meant .grammar) (k .meant .heard) (k .grammar-is) (k .heard-is) (length work) (omega (arith, size, room)))
+      (refl, is-zeros)

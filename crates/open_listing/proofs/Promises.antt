@@ -71,8 +71,10 @@ module _ (grammar heard : List ℕ) (g : Grammar) (h : Heard) (eg : grammarBlock
     calling-accepts room enough = rw (opening-accepts work room, le-ltb out (outputLength g h) enough)
 
 -- where nothing is short
-module _ (search : S.Search) (grammar heard : List ℕ) (g : Grammar) (h : Heard) (eg : grammarBlock grammar ≡ accepted g) (eh : heardBlock (g .words) heard ≡ accepted h)
-    (rules edges : List ℕ) (begun : Begins (ruleNumbers g) rules) (begun′ : Begins (edgeNumbers (heardEdges h)) edges) (planned : Planned (plan g h)) (p : Place)
+module _ (search : S.Search) (grammar heard : List ℕ) (g : Grammar) (h : Heard) (eg : grammarBlock grammar ≡ accepted g)
+    (eh : heardBlock (g .words) heard ≡ accepted h)
+    (rules edges : List ℕ) (begun : Begins (ruleNumbers g) rules) (begun′ : Begins (edgeNumbers (heardEdges h)) edges) (planned : Planned (plan g h))
+    (p : Place)
     (work out : List ℕ)
     (calls : S.calling grammar heard (length work) (length out) ≡ accepted (blocks grammar heard g h eg eh)) where
   okg : ValidGrammar g
@@ -100,7 +102,14 @@ module _ (search : S.Search) (grammar heard : List ℕ) (g : Grammar) (h : Heard
     one-more e made looked hands =
         let (z, derived, has, spelled) = passed-spelled g h 256 okg okh (omega arith) (omega arith) rules edges begun begun′ table (p .handed) hands in
         let left : work′ ≡ table = rw e at (answered .left) in
-        rw left (record { tree = z; derivation = derived; written = written z derived has e; spelled = reading-from g h table spelled derived; looked = looked; table-is = sym made })
+        rw left (record {
+          tree = z;
+          derivation = derived;
+          written = written z derived has e;
+          spelled = reading-from g h table spelled derived;
+          looked = looked;
+          table-is = sym made;
+        })
 
     answer-is : r ≡ pick found (pick (handsOut table rules edges (plan g h) (p .handed)) Reading (Refused 53)) NoMore
     unfolding settled
@@ -117,7 +126,8 @@ module _ (search : S.Search) (grammar heard : List ℕ) (g : Grammar) (h : Heard
       where
         none-passes : handsOut table rules edges (plan g h) (p .handed) ≡ false → NonePasses
         none-passes f z derived spelled =
-            false≢true (sym f ∙ spelled-passed g h 256 okg okh (omega arith) (omega arith) rules edges begun begun′ table (p .handed) z derived (reading-to g h table spelled))
+            false≢true (sym f ∙ spelled-passed g h 256 okg okh (omega arith) (omega arith) rules edges begun begun′ table (p .handed) z derived
+            (reading-to g h table spelled))
 
         go : (a b : Bool) → found ≡ a → handsOut table rules edges (plan g h) (p .handed) ≡ b → r ≡ pick a (pick b Reading (Refused 53)) NoMore
             → S.Called search (S.lent grammar heard p work out) (S.left r work′ out′)
@@ -126,35 +136,37 @@ module _ (search : S.Search) (grammar heard : List ℕ) (g : Grammar) (h : Heard
         go true true is hands e = S.one-more calls below e (one-more e made looked hands)
 
   -- where the rank was looked for or not, as the test says: whatever the table held
-  module _ (below : p .handed < 256) (table : List ℕ) (sought : Bool) (is-sought : sought ≡ true → S.Sought g h p work) (tests : S.Sought g h p work → sought ≡ true)
+  module _ (below : p .handed < 256) (table : List ℕ) (sought : Bool) (is-sought : sought ≡ true → S.Sought g h p work)
+      (tests : S.Sought g h p work → sought ≡ true)
       {r : A.Answer} {work′ out′ : List ℕ}
-      (answered : Answered (pick sought (rootFound table (layout g h 256) (p .handed)) true) table rules edges (plan g h) (p .handed) work out r work′ out′) where
-    abbrev price : ℕ
-    price = priceAt table (layout g h 256) (cellNumber (layout g h 256) (root (layout g h 256))) (p .handed)
+      (answered : Answered (pick sought (rootFound table (layout g h 256) (p .handed)) true) table rules edges (plan g h) (p .handed) work out r work′ out′)
+    where
+      abbrev price : ℕ
+      price = priceAt table (layout g h 256) (cellNumber (layout g h 256) (root (layout g h 256))) (p .handed)
 
-    asked-found : rootFound table (layout g h 256) (p .handed) ≡ true → S.AskedFound g h p work table
-    unfolding rootFound layOut
-    asked-found is =
-        let some : 0 < price = omega (arith, eqb-false price 0 (not-true (eqb price 0) is)) in
-        (_, found-entry g h table (symbolOf 0) 0 (lastPlace h) (p .handed) some)
+      asked-found : rootFound table (layout g h 256) (p .handed) ≡ true → S.AskedFound g h p work table
+      unfolding rootFound layOut
+      asked-found is =
+          let some : 0 < price = omega (arith, eqb-false price 0 (not-true (eqb price 0) is)) in
+          (_, found-entry g h table (symbolOf 0) 0 (lastPlace h) (p .handed) some)
 
-    asked-missing : rootFound table (layout g h 256) (p .handed) ≡ false → entry g h table (symbolOf 0) 0 (lastPlace h) (p .handed) ≡ none
-    unfolding rootFound layOut
-    asked-missing is = no-entry g h table (symbolOf 0) 0 (lastPlace h) (p .handed) (eqb-true price 0 (not-false (eqb price 0) is))
+      asked-missing : rootFound table (layout g h 256) (p .handed) ≡ false → entry g h table (symbolOf 0) 0 (lastPlace h) (p .handed) ≡ none
+      unfolding rootFound layOut
+      asked-missing is = no-entry g h table (symbolOf 0) 0 (lastPlace h) (p .handed) (eqb-true price 0 (not-false (eqb price 0) is))
 
-    pub called : search g h p work ≡ table → S.Looked g h p work table → S.Called search (S.lent grammar heard p work out) (S.left r work′ out′)
-    called made looked =
-        called-by below table answered made looked
-        (λ is astray. record { looked = looked; none-passes = astray; found = λ s. asked-found (tested sought (tests s) is) })
-        (λ is. let (s, missing) = untested sought is in record { looked = looked; sought = is-sought s; missing = asked-missing missing })
-      where
-        tested : (b : Bool) → b ≡ true → {c : Bool} → pick b c true ≡ true → c ≡ true
-        tested true sure e = e
-        tested false sure e = absurd (false≢true sure)
+      pub called : search g h p work ≡ table → S.Looked g h p work table → S.Called search (S.lent grammar heard p work out) (S.left r work′ out′)
+      called made looked =
+          called-by below table answered made looked
+          (λ is astray. record { looked = looked; none-passes = astray; found = λ s. asked-found (tested sought (tests s) is) })
+          (λ is. let (s, missing) = untested sought is in record { looked = looked; sought = is-sought s; missing = asked-missing missing })
+        where
+          tested : (b : Bool) → b ≡ true → {c : Bool} → pick b c true ≡ true → c ≡ true
+          tested true sure e = e
+          tested false sure e = absurd (false≢true sure)
 
-        untested : (b : Bool) {c : Bool} → pick b c true ≡ false → (b ≡ true) × (c ≡ false)
-        untested true e = (refl, e)
-        untested false e = absurd (false≢true (sym e))
+          untested : (b : Bool) {c : Bool} → pick b c true ≡ false → (b ≡ true) × (c ≡ false)
+          untested true e = (refl, e)
+          untested false e = absurd (false≢true (sym e))
 
   -- of a table in which the rank was looked for
   module _ (below : p .handed < 256) (table : List ℕ) {r : A.Answer} {work′ out′ : List ℕ}

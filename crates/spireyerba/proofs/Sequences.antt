@@ -114,122 +114,126 @@ module _ {search : S.Search} {l : S.Lent} {r : S.Left} where
   handed-out (S.no-more e below missing is same) f = let z : _≡_ {A = ℕ} 0 1 = cc in absurd (omega arith)
   handed-out (S.one-more {b = b} e below is more) f = (b, e, more)
 
-module _ (search : S.Search) (s : Sequence) (calls : Calls search s) (opened : Opens (s .grammar) (s .heard) (calls .work-before) (s .place 0) (s .work 0)) where
-  abbrev b : S.Blocks
-  b = opened .blocks
+module _ (search : S.Search) (s : Sequence) (calls : Calls search s) (opened : Opens (s .grammar) (s .heard) (calls .work-before) (s .place 0) (s .work 0))
+  where
+    abbrev b : S.Blocks
+    b = opened .blocks
 
-  -- how many derivations there are
-  abbrev all : ℕ
-  all = length (list.derivations (b .grammar) (b .heard))
+    -- how many derivations there are
+    abbrev all : ℕ
+    all = length (list.derivations (b .grammar) (b .heard))
 
-  -- before call k
-  record Before (k : ℕ) : Type 0 where
-    left : S.AsLeft search b (s .place k .handed) (s .place k) (s .work k)
-    size : length (s .work k) ≡ length (calls .work-before)
+    -- before call k
+    record Before (k : ℕ) : Type 0 where
+      left : S.AsLeft search b (s .place k .handed) (s .place k) (s .work k)
+      size : length (s .work k) ≡ length (calls .work-before)
 
-  module _ (k : ℕ) (l : k < s .calls) (before : Before k) where
-    abbrev lent : S.Lent
-    lent = S.lent (s .grammar) (s .heard) (s .place k) (s .work k) (s .out k)
+    module _ (k : ℕ) (l : k < s .calls) (before : Before k) where
+      abbrev lent : S.Lent
+      lent = S.lent (s .grammar) (s .heard) (s .place k) (s .work k) (s .out k)
 
-    next : Next search lent (returned (s .code k) (s .place (suc k)) (s .work (suc k))) (s .written k)
-    next = calls .call k l
+      next : Next search lent (returned (s .code k) (s .place (suc k)) (s .work (suc k))) (s .written k)
+      next = calls .call k l
 
-    accepts : Room b s k → S.asked lent ≡ accepted b
-    accepts room = rw (before .size) (calls-accept (s .grammar) (s .heard) b (length (calls .work-before)) (length (s .out k)) (opened .accepts) room)
+      accepts : Room b s k → S.asked lent ≡ accepted b
+      accepts room = rw (before .size) (calls-accept (s .grammar) (s .heard) b (length (calls .work-before)) (length (s .out k)) (opened .accepts) room)
 
-    refuses-it : ¬ Room b s k → S.asked lent ≡ refused 23
-    refuses-it short =
-        rw (before .size)
-        (calls-short (s .grammar) (s .heard) b (length (calls .work-before)) (length (s .out k)) (opened .accepts) (omega (arith, short)))
+      refuses-it : ¬ Room b s k → S.asked lent ≡ refused 23
+      refuses-it short =
+          rw (before .size)
+          (calls-short (s .grammar) (s .heard) b (length (calls .work-before)) (length (s .out k)) (opened .accepts) (omega (arith, short)))
 
-    abbrev After : Type 0
-    After = S.After search b (s .place k .handed) lent (S.left (next .answer) (s .work (suc k)) (s .written k))
+      abbrev After : Type 0
+      After = S.After search b (s .place k .handed) lent (S.left (next .answer) (s .work (suc k)) (s .written k))
 
-    after : Room b s k → s .place k .handed < 256 → After
-    after room few = next .kept b (accepts room) (s .place k .handed) few (before .left)
+      after : Room b s k → s .place k .handed < 256 → After
+      after room few = next .kept b (accepts room) (s .place k .handed) few (before .left)
 
-    -- a reading
-    gives : Room b s k → s .place k .handed < 256 → s .place k .handed < all → HandsOut b s k (suc (s .place k .handed)) × Before (suc k)
-    gives room few more =
-        let given = after room few .gives all (finitely-many (b .grammar) (b .heard)) more in
-        let left : S.AsLeft search b (suc (s .place k .handed)) (s .place (suc k)) (s .work (suc k)) = rw (next .place-is) (given .as-left) in
-        let handed : s .place (suc k) .handed ≡ suc (s .place k .handed) = ap (λ (p : Place). p .handed) (left .place) in (
-          record {
-            tree = given .tree;
-            ranked = given .ranked;
-            answers = next .code-is ∙ ap nextCode (given .reads);
-            place = left .place;
-            written = given .written;
-            stands = given .stands;
-          },
-          record { left = subst (λ (n : ℕ). S.AsLeft search b n (s .place (suc k)) (s .work (suc k))) (sym handed) left; size = next .size ∙ before .size },
-        )
+      -- a reading
+      gives : Room b s k → s .place k .handed < 256 → s .place k .handed < all → HandsOut b s k (suc (s .place k .handed)) × Before (suc k)
+      gives room few more =
+          let given = after room few .gives all (finitely-many (b .grammar) (b .heard)) more in
+          let left : S.AsLeft search b (suc (s .place k .handed)) (s .place (suc k)) (s .work (suc k)) = rw (next .place-is) (given .as-left) in
+          let handed : s .place (suc k) .handed ≡ suc (s .place k .handed) = ap (λ (p : Place). p .handed) (left .place) in (
+            record {
+              tree = given .tree;
+              ranked = given .ranked;
+              answers = next .code-is ∙ ap nextCode (given .reads);
+              place = left .place;
+              written = given .written;
+              stands = given .stands;
+            },
+            record {
+              left = subst (λ (n : ℕ). S.AsLeft search b n (s .place (suc k)) (s .work (suc k))) (sym handed) left;
+              size = next .size ∙ before .size;
+            },
+          )
 
-    -- or none
-    idle : (a : A.Answer) → next .answer ≡ a → (a ≡ Reading → ⊥) → Idle s k (nextCode a) × Before (suc k)
-    idle a is other =
-        let same = idle-changes (next .called) (λ e. other (sym is ∙ e)) in
-        let stays : s .place (suc k) ≡ s .place k = next .place-is ∙ unmoved (next .answer) (λ e. other (sym is ∙ e)) in (
-          record { answers = next .code-is ∙ ap nextCode is; place = stays; work = same .table; output = same .output },
-          record { left = rw (stays, same .table) (before .left); size = next .size ∙ before .size },
-        )
-      where
-        unmoved : (a : A.Answer) → (a ≡ Reading → ⊥) → S.placeAfter a (s .place k) ≡ s .place k
-        unmoved Reading other = absurd (other refl)
-        unmoved NoMore other = refl
-        unmoved Full other = refl
-        unmoved (Refused n) other = refl
+      -- or none
+      idle : (a : A.Answer) → next .answer ≡ a → (a ≡ Reading → ⊥) → Idle s k (nextCode a) × Before (suc k)
+      idle a is other =
+          let same = idle-changes (next .called) (λ e. other (sym is ∙ e)) in
+          let stays : s .place (suc k) ≡ s .place k = next .place-is ∙ unmoved (next .answer) (λ e. other (sym is ∙ e)) in (
+            record { answers = next .code-is ∙ ap nextCode is; place = stays; work = same .table; output = same .output },
+            record { left = rw (stays, same .table) (before .left); size = next .size ∙ before .size },
+          )
+        where
+          unmoved : (a : A.Answer) → (a ≡ Reading → ⊥) → S.placeAfter a (s .place k) ≡ s .place k
+          unmoved Reading other = absurd (other refl)
+          unmoved NoMore other = refl
+          unmoved Full other = refl
+          unmoved (Refused n) other = refl
 
-    no-more : Room b s k → s .place k .handed < 256 → all ≤ s .place k .handed → Idle s k (pos 0) × Before (suc k)
-    no-more room few beyond =
-        idle NoMore (after room few .says-no-more all (finitely-many (b .grammar) (b .heard)) beyond) (λ e. let z : _≡_ {A = ℕ} 0 1 = cc in omega arith)
+      no-more : Room b s k → s .place k .handed < 256 → all ≤ s .place k .handed → Idle s k (pos 0) × Before (suc k)
+      no-more room few beyond =
+          idle NoMore (after room few .says-no-more all (finitely-many (b .grammar) (b .heard)) beyond) (λ e. let z : _≡_ {A = ℕ} 0 1 = cc in omega arith)
 
-    full : Room b s k → 256 ≤ s .place k .handed → Idle s k (pos 2) × Before (suc k)
-    full room many = idle Full (full-said (accepts room) (next .called) many) (λ e. let z : _≡_ {A = ℕ} 0 1 = cc in omega arith)
+      full : Room b s k → 256 ≤ s .place k .handed → Idle s k (pos 2) × Before (suc k)
+      full room many = idle Full (full-said (accepts room) (next .called) many) (λ e. let z : _≡_ {A = ℕ} 0 1 = cc in omega arith)
 
-    no-room : ¬ Room b s k → Idle s k (negℤ (pos 23)) × Before (suc k)
-    no-room short = idle (Refused 23) (turned-said (refuses-it short) (next .called)) (λ e. let z : _≡_ {A = ℕ} 0 1 = cc in omega arith)
+      no-room : ¬ Room b s k → Idle s k (negℤ (pos 23)) × Before (suc k)
+      no-room short = idle (Refused 23) (turned-said (refuses-it short) (next .called)) (λ e. let z : _≡_ {A = ℕ} 0 1 = cc in omega arith)
 
-    -- what call k does, whichever it is
-    data Does : Type 0 where
-      hands : HandsOut b s k (suc (s .place k .handed)) → Does
-      rests : (z : ℤ) → Idle s k z → (z ≡ pos 1 → ⊥) → Does
+      -- what call k does, whichever it is
+      data Does : Type 0 where
+        hands : HandsOut b s k (suc (s .place k .handed)) → Does
+        rests : (z : ℤ) → Idle s k z → (z ≡ pos 1 → ⊥) → Does
 
-    does : Does × Before (suc k)
-    does = go (decLe (outputLength (b .grammar) (b .heard)) (length (s .out k))) (decLt (s .place k .handed) 256) (decLt (s .place k .handed) all)
-      where
-        go : Dec (Room b s k) → Dec (s .place k .handed < 256) → Dec (s .place k .handed < all) → Does × Before (suc k)
-        go (no short) d e = let (i, n) = no-room short in (rests _ i (λ f. let z : _≡_ {A = ℕ} 0 1 = cc in omega arith), n)
-        go (yes room) (no many) e = let (i, n) = full room (omega (arith, many)) in (rests _ i (λ f. let z : _≡_ {A = ℕ} 0 1 = cc in omega arith), n)
-        go (yes room) (yes few) (yes more) = let (i, n) = gives room few more in (hands i, n)
-        go (yes room) (yes few) (no beyond) =
-            let (i, n) = no-more room few (omega (arith, beyond)) in (rests _ i (λ f. let z : _≡_ {A = ℕ} 0 1 = cc in omega arith), n)
+      does : Does × Before (suc k)
+      does = go (decLe (outputLength (b .grammar) (b .heard)) (length (s .out k))) (decLt (s .place k .handed) 256) (decLt (s .place k .handed) all)
+        where
+          go : Dec (Room b s k) → Dec (s .place k .handed < 256) → Dec (s .place k .handed < all) → Does × Before (suc k)
+          go (no short) d e = let (i, n) = no-room short in (rests _ i (λ f. let z : _≡_ {A = ℕ} 0 1 = cc in omega arith), n)
+          go (yes room) (no many) e = let (i, n) = full room (omega (arith, many)) in (rests _ i (λ f. let z : _≡_ {A = ℕ} 0 1 = cc in omega arith), n)
+          go (yes room) (yes few) (yes more) = let (i, n) = gives room few more in (hands i, n)
+          go (yes room) (yes few) (no beyond) =
+              let (i, n) = no-more room few (omega (arith, beyond)) in (rests _ i (λ f. let z : _≡_ {A = ℕ} 0 1 = cc in omega arith), n)
 
-  before-call : (k : ℕ) → k ≤ s .calls → Before k
-  before-call zero l =
-      let none-handed : s .place 0 .handed ≡ 0 = ap (λ (p : Place). p .handed) (opened .place) in
-      let size = length (calls .work-before) in
-      let fits = opening-room (s .grammar) (s .heard) b size (opened .accepts) in
-      let first : S.AsLeft search b 0 (s .place 0) (s .work 0) = record { size = size; enough = fits; place = opened .place; table = opened .table } in
-      record {
-        left = subst (λ (n : ℕ). S.AsLeft search b n (s .place 0) (s .work 0)) (sym none-handed) first;
-        size = rw (opened .table, length-replicate) refl;
-      }
-  before-call (suc k) l = does k l (before-call k (omega arith)) .1
+    before-call : (k : ℕ) → k ≤ s .calls → Before k
+    before-call zero l =
+        let none-handed : s .place 0 .handed ≡ 0 = ap (λ (p : Place). p .handed) (opened .place) in
+        let size = length (calls .work-before) in
+        let fits = opening-room (s .grammar) (s .heard) b size (opened .accepts) in
+        let first : S.AsLeft search b 0 (s .place 0) (s .work 0) = record { size = size; enough = fits; place = opened .place; table = opened .table } in
+        record {
+          left = subst (λ (n : ℕ). S.AsLeft search b n (s .place 0) (s .work 0)) (sym none-handed) first;
+          size = rw (opened .table, length-replicate) refl;
+        }
+    before-call (suc k) l = does k l (before-call k (omega arith)) .1
 
-  one-by-one : OneByOne b s
-  one-by-one = record {
-    derivations = all;
-    finitely-many = finitely-many (b .grammar) (b .heard);
-    none-before = opened .place;
-    gives = λ k l room few more. gives k l (before-call k (omega arith)) room few more .0;
-    no-more = λ k l room few beyond. no-more k l (before-call k (omega arith)) room few beyond .0;
-    full = λ k l room many. full k l (before-call k (omega arith)) room many .0;
-    no-room = λ k l short. no-room k l (before-call k (omega arith)) short .0;
-  }
+    one-by-one : OneByOne b s
+    one-by-one = record {
+      derivations = all;
+      finitely-many = finitely-many (b .grammar) (b .heard);
+      none-before = opened .place;
+      gives = λ k l room few more. gives k l (before-call k (omega arith)) room few more .0;
+      no-more = λ k l room few beyond. no-more k l (before-call k (omega arith)) room few beyond .0;
+      full = λ k l room many. full k l (before-call k (omega arith)) room many .0;
+      no-room = λ k l short. no-room k l (before-call k (omega arith)) short .0;
+    }
 
-  first-accepts : S.opening (s .grammar) (s .heard) (length (s .work 0)) ≡ accepted b
-  first-accepts = rw (before-call 0 (omega arith) .size) (opened .accepts)
+    first-accepts : S.opening (s .grammar) (s .heard) (length (s .work 0)) ≡ accepted b
+    first-accepts = rw (before-call 0 (omega arith) .size) (opened .accepts)
 
 pub every-reading : EveryReading
 every-reading search s calls =

@@ -72,7 +72,8 @@ pub record Calls (search : Search) (s : Sequence) : Type 0 where
   pub work-before : List ℕ
   pub opens : Open (s .grammar) (s .heard) place-before work-before (returned (pos 0) (s .place 0) (s .work 0))
   pub call : (k : ℕ) → k < s .calls
-      → Next search (lent (s .grammar) (s .heard) (s .place k) (s .work k) (s .out k)) (returned (s .code k) (s .place (suc k)) (s .work (suc k))) (s .written k)
+      → Next search (lent (s .grammar) (s .heard) (s .place k) (s .work k) (s .out k)) (returned (s .code k) (s .place (suc k)) (s .work (suc k)))
+      (s .written k)
 
 -- call k hands out the reading with rank n
 pub record HandsOut (b : Blocks) (s : Sequence) (k n : ℕ) : Type 0 where
@@ -94,8 +95,8 @@ pub record Idle (s : Sequence) (k : ℕ) (code : ℤ) : Type 0 where
 abbrev pub Room : Blocks → Sequence → ℕ → Type 0
 Room b s k = outputLength (b .grammar) (b .heard) ≤ length (s .out k)
 
--- The calls hand out the readings of the listing, each at its place: "For k up to 256 a call that is not refused, made after k−1 readings were handed out, gives
--- the kth of the listing, or no more exactly if fewer than k exist; after 256 readings every call not refused says full." `place k .handed` readings
+-- The calls hand out the readings of the listing, each at its place: "For k up to 256 a call that is not refused, made after k−1 readings were handed out,
+-- gives the kth of the listing, or no more exactly if fewer than k exist; after 256 readings every call not refused says full." `place k .handed` readings
 -- were handed out before call k. A call without room is refused with 23, and the next goes on as if there had been none.
 pub record OneByOne (b : Blocks) (s : Sequence) : Type 0 where
   pub derivations : ℕ

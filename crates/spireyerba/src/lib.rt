@@ -302,8 +302,10 @@ pub extern "C" fn spireyerba_word_margins(
 
 // Opens a listing whose place was this.
 fn open_call(grammar: &[u8], utterance: &[u8], work: &mut [u32], handed: u32, opened: u32) -> Moved
-    ensures { λ r. ⌜ OpenedAs (opening (now (grammar .entry)) (now (utterance .entry)) (length (now (work .entry)))) (placeAt handed opened) (now (work .entry)) (returned (r .code) (placeAt (r .handed) (r .opened)) (now (work .exit)))
-        × onebyone.Open (now (grammar .entry)) (now (utterance .entry)) (placeAt handed opened) (now (work .entry)) (returned (r .code) (placeAt (r .handed) (r .opened)) (now (work .exit))) ⌝ }
+    ensures { λ r. ⌜ OpenedAs (opening (now (grammar .entry)) (now (utterance .entry)) (length (now (work .entry)))) (placeAt handed opened) (now (work .entry))
+        (returned (r .code) (placeAt (r .handed) (r .opened)) (now (work .exit)))
+        × onebyone.Open (now (grammar .entry)) (now (utterance .entry)) (placeAt handed opened) (now (work .entry))
+        (returned (r .code) (placeAt (r .handed) (r .opened)) (now (work .exit))) ⌝ }
 {
     let answer = open_listing::open(grammar, utterance, work);
     match answer {
@@ -367,8 +369,10 @@ pub extern "C" fn spireyerba_open(
     place: &mut Place,
     work: &mut [u32],
 ) -> i32
-    ensures { λ r. ⌜ OpenedAs (opening (now (grammar .entry)) (now (utterance .entry)) (length (now (work .entry)))) (now (place .entry)) (now (work .entry)) (returned r (now (place .exit)) (now (work .exit)))
-        × onebyone.Open (now (grammar .entry)) (now (utterance .entry)) (now (place .entry)) (now (work .entry)) (returned r (now (place .exit)) (now (work .exit))) ⌝ }
+    ensures { λ r. ⌜ OpenedAs (opening (now (grammar .entry)) (now (utterance .entry)) (length (now (work .entry)))) (now (place .entry)) (now (work .entry))
+        (returned r (now (place .exit)) (now (work .exit)))
+        × onebyone.Open (now (grammar .entry)) (now (utterance .entry)) (now (place .entry)) (now (work .entry))
+        (returned r (now (place .exit)) (now (work .exit))) ⌝ }
 {
     let handed = place.handed;
     let opened = place.opened;

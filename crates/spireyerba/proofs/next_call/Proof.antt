@@ -22,8 +22,11 @@ add-t15 c =
     let t = c .before .before .before .before .before .before in
     let a = start t .args in
     let e = t .next .ensures in
-    omega (arith, call-reading (a .grammar .now) (a .utterance .now) (placeAt (a .handed) (a .opened)) (a .work .now) (a .out .now)
-    (e .0) (e .1 .0) (e .1 .1) (t .next .kept .1 .1 .1 .0) (c .enum-told .given .1))
+    omega (
+      arith,
+      call-reading (a .grammar .now) (a .utterance .now) (placeAt (a .handed) (a .opened)) (a .work .now) (a .out .now)
+          (e .0) (e .1 .0) (e .1 .1) (t .next .kept .1 .1 .1 .0) (c .enum-told .given .1),
+    )
 
 enum-told-2 : tie.Need-enum-told-2
 enum-told-2 c = search needs
