@@ -82,7 +82,8 @@ class WordMargin(NamedTuple):
 class Grammar:
     """A weighted grammar with the names of its symbols and words, packed once.
 
-    From rules, numbered as they stand; the first head is the start:
+    From rules. Symbols and words are numbered as they are met, so the first head is the start, unless lists of some of them give
+    them other numbers:
 
     >>> doors = Grammar([
     ...     Rule("Entry", [Word("door"), "Number"], 1),
@@ -99,16 +100,16 @@ class Grammar:
 
     __slots__ = ("block", "symbols", "words", "rules", "is_marked", "unpacked", "_numbers", "_bodies", "_helpers")
 
-    def __init__(self, rules: "Iterable[Rule]") -> None:
+    def __init__(self, rules: "Iterable[Rule]", symbols: "Iterable[str]" = (), words: "Iterable[str]" = ()) -> None:
         rules = [Rule(*rule) for rule in rules]
-        symbols: "dict[str, int]" = {}
-        words: "dict[str, int]" = {}
+        symbol_numbers = {name: number for number, name in enumerate(symbols)}
+        word_numbers = {name: number for number, name in enumerate(words)}
         for rule in rules:
-            symbols.setdefault(rule.head, len(symbols))
+            symbol_numbers.setdefault(rule.head, len(symbol_numbers))
             for item in rule.body:
-                names = words if isinstance(item, Word) else symbols
+                names = word_numbers if isinstance(item, Word) else symbol_numbers
                 names.setdefault(str(item), len(names))
-        self._set(_packed_rules(rules, symbols, words), list(symbols), list(words))
+        self._set(_packed_rules(rules, symbol_numbers, word_numbers), list(symbol_numbers), list(word_numbers))
 
     @classmethod
     def from_text(cls, text: str) -> "Grammar":
