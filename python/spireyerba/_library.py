@@ -1,7 +1,7 @@
 """The shared libraries: where they are, and their functions.
 
 ``libspireyerba.so`` has the proved functions and, beside them, the conveniences of ``spireyerba_util.h``.
-``libspireyerba_text.so`` reads texts, and is looked for when the first text is read.
+``libspireyerba_text.so`` has names: it reads texts and draws trees.
 """
 
 from __future__ import annotations
@@ -241,11 +241,10 @@ class Lent(threading.local):
 LENT = Lent()
 
 
-@lru_cache(maxsize=1)
+@lru_cache(maxsize=None)
 def _text_library() -> ctypes.CDLL:
     library = load(f"libspireyerba_text.so.{TEXT_INTERFACE}")
-    library.spireyerba_text_grammar.argtypes = (c_void_p,) * 2
-    library.spireyerba_text_heard.argtypes = (c_void_p,) * 5
+    library.spireyerba_text_free.argtypes, library.spireyerba_text_free.restype = (c_void_p,), None
     return library
 
 
@@ -259,19 +258,31 @@ TEXT_ROOM = 1 << 14
 TEXT_FAULT, TEXT_SHORT = 1, 2
 
 
-def read_text(name: str, *arguments: Structure) -> "list[str]":
+def read_text(name: str, *arguments: object) -> "list[str]":
     """The lines that a function about texts answers, or its fault."""
     call = getattr(_text_library(), f"spireyerba_text_{name}")
     room = TEXT_ROOM
     while True:
         memory = ctypes.create_string_buffer(room)
         out = TextOut(ctypes.addressof(memory), room, 0)
-        status = call(*map(byref, arguments), byref(out))
+        status = call(*arguments, byref(out))
         if status != TEXT_SHORT:
             break
         room = out.length
     lines = memory.raw[: out.length].decode().split("\n")[:-1]
     if status == TEXT_FAULT:
         number, line, column = map(int, lines[0].split())
-        raise TextFault(number, line, column, lines[1])
+        raise TextFault(number, line, column, lines[1]) if line else refused(-number)
     return lines
+
+
+def read_grammar(name: str, *texts: bytes) -> "tuple[c_void_p, list[str]]":
+    """A grammar with its names, which is to be given back, and the lines about it."""
+    grammar = c_void_p()
+    lines = read_text(name, *(byref(lent_text(text)) for text in texts), byref(grammar))
+    return grammar, lines
+
+
+def free_grammar(grammar: c_void_p) -> None:
+    """Gives a grammar back."""
+    _text_library().spireyerba_text_free(grammar)

@@ -2,17 +2,20 @@
 
 from __future__ import annotations
 
-from ctypes import byref, c_double, c_uint8, c_uint32, string_at
+import json
+from ctypes import Array, byref, c_double, c_size_t, c_uint8, c_uint32, c_void_p, string_at
+from itertools import chain, islice
 from os import PathLike
-from typing import Iterable, Iterator, List, NamedTuple, Sequence, Union
+from typing import Any, Iterable, Iterator, List, NamedTuple, Sequence, Union
+from weakref import finalize
 
 from . import _library as lib
+from .errors import Refused, TextFault
 from .heard import Graph, Heard, Utterance
 from .reading import Found, Leaf, Reading, Tree
 
 _grammar_to_block = lib.function("grammar_to_block")
 _office_to_block = lib.function("office_to_block")
-_grammar_to_sheet = lib.function("grammar_to_sheet")
 _read_grammar = lib.function("util_read_grammar")
 _listing = lib.function("listing")
 _read_readings = lib.function("util_read_readings")
@@ -26,10 +29,8 @@ _next_phrase = lib.function("next_phrase")
 _cost_ranges = lib.function("cost_ranges")
 _word_margins = lib.function("word_margins")
 
-#: The numbers at the front of a grammar's sheet, and those of a rule without its mark.
-SHEET_FRONT, SHEET_RULE = 3, 5
-#: The most items of an office's body.
-MAX_ITEMS = 6
+#: The numbers of a word in a tree.
+LEAF_NUMBERS = 2
 #: Few readings are looked for first, since most utterances have no more.
 FEW = 16
 
@@ -98,7 +99,7 @@ class Grammar:
     changed by anything, and any threads may use it at once.
     """
 
-    __slots__ = ("block", "symbols", "words", "rules", "is_marked", "unpacked", "_numbers", "_bodies", "_helpers")
+    __slots__ = ("block", "symbols", "words", "rules", "unpacked", "_numbers", "_named", "__weakref__")
 
     def __init__(self, rules: "Iterable[Rule]", symbols: "Iterable[str]" = (), words: "Iterable[str]" = ()) -> None:
         rules = [Rule(*rule) for rule in rules]
@@ -109,19 +110,19 @@ class Grammar:
             for item in rule.body:
                 names = word_numbers if isinstance(item, Word) else symbol_numbers
                 names.setdefault(str(item), len(names))
-        self._set(_packed_rules(rules, symbol_numbers, word_numbers), list(symbol_numbers), list(word_numbers))
+        block = _packed_rules(rules, symbol_numbers, word_numbers)
+        self._set(*_named(block, symbol_numbers, word_numbers))
 
     @classmethod
     def from_text(cls, text: str) -> "Grammar":
         """Reads the notation that ``spireyerba help texts`` describes, by the reader of the command.
 
-        >>> Grammar.from_text('Entry -> "door" Number [1]\\nNumber -> "four" | "five" [2]').rules[2].weight
-        2
+        >>> Grammar.from_text('Entry -> "door" Number [1]\\nNumber -> "four" | "five" [2]').rules
+        ('Entry -> "door" Number [1]', 'Number -> "four"', 'Number -> "five" [2]')
         """
-        lines = lib.read_text("grammar", lib.lent_text(text.encode()))
-        symbols, words, _ = map(int, lines[1].split())
-        names = lines[2:]
-        return cls.from_block(bytes.fromhex(lines[0]), names[:symbols], names[symbols : symbols + words])
+        grammar = cls.__new__(cls)
+        grammar._set(*lib.read_grammar("read_grammar", text.encode()))
+        return grammar
 
     @classmethod
     def from_file(cls, path: "Union[str, PathLike[str]]") -> "Grammar":
@@ -133,37 +134,28 @@ class Grammar:
     def from_block(
         cls, block: bytes, symbols: "Sequence[str] | None" = None, words: "Sequence[str] | None" = None
     ) -> "Grammar":
-        """Takes a block. Symbols without names are called S0, S1 and so on, words w0, w1 and so on."""
+        """Takes a block. Symbols without names are called S0, S1 and so on, words w0, w1 and so on.
+
+        >>> Grammar.from_block(bytes.fromhex("104040400009000000")).rules
+        ('S0 -> S0 S0 [1]', 'S0 -> "w0"')
+        """
         grammar = cls.__new__(cls)
-        grammar._set(bytes(block), list(symbols or ()), list(words or ()))
+        grammar._set(*_named(bytes(block), symbols or (), words or ()))
         return grammar
 
-    def _set(self, block: bytes, symbols: "list[str]", words: "list[str]") -> None:
+    def _set(self, named: c_void_p, lines: "Sequence[str]") -> None:
+        """Takes a grammar with its names, and the lines about it."""
+        self._named = named
+        finalize(self, lib.free_grammar, named)
+        self.block = bytes.fromhex(lines[0])
+        symbols, words, rules = map(int, lines[1].split())
+        names = iter(lines[2:])
+        self.symbols = tuple(islice(names, symbols))
+        self.words = tuple(islice(names, words))
+        self.rules = tuple(islice(names, rules))
+        self._numbers = {word: number for number, word in enumerate(self.words)}
         self.unpacked = lib.UtilGrammar()
-        lib.answered(_read_grammar(block, len(block), byref(self.unpacked)))
-        self.block = block
-        symbols += [f"S{number}" for number in range(len(symbols), self.unpacked.symbols)]
-        words += [f"w{number}" for number in range(len(words), self.unpacked.words)]
-        self.symbols = tuple(symbols)
-        self.words = tuple(words)
-        self._numbers = {word: number for number, word in enumerate(words)}
-        self.is_marked = tuple(map(bool, self.unpacked.is_marked[: self.unpacked.rules]))
-        self._bodies = _bodies(block)
-        self._helpers = _helpers(self._bodies, self.is_marked)
-        self.rules = tuple(
-            Rule(symbols[head], self._written(body), weight) for head, weight, body in self._bodies
-        )
-
-    def _written(self, body: "tuple[int, ...]", depth: int = 0) -> "tuple[Union[str, Word], ...]":
-        """A body in names, in which the bodies of helpers stand in the place of these. Those of an office's body are not deeper
-        than it has items; where marks are others a symbol may come back to itself, and stands there as it is."""
-        if len(body) == 1:
-            return (Word(self.words[body[0]]),)
-        items: List[Union[str, Word]] = []
-        for symbol in body:
-            helper = self._helpers.get(symbol) if depth < MAX_ITEMS else None
-            items += self._written(helper, depth + 1) if helper else [self.symbols[symbol]]
-        return tuple(items)
+        lib.answered(_read_grammar(self.block, len(self.block), byref(self.unpacked)))
 
     def word_number(self, word: str) -> int:
         """The number of a word. One that the grammar does not have is a ``KeyError``."""
@@ -174,7 +166,7 @@ class Grammar:
 
     def reading_length(self, leaves: int, of_graph: bool) -> int:
         """The bytes of a reading's block."""
-        return lib.reading_length(leaves, len(self.is_marked), of_graph)
+        return lib.reading_length(leaves, self.unpacked.rules, of_graph)
 
     def read(
         self,
@@ -192,12 +184,10 @@ class Grammar:
         >>> doors.read("door 3; four 9 | five 5")
         Utterance([{'door': 3}, {'four': 9, 'five': 5}])
         """
-        words = [" ".join(word.split("\n")) + "\n" for word in self.words]
-        lent = [self.block, "".join(words).encode(), text.encode(), "\n".join(empty_words).encode()]
-        grammar, known, heard, empty = map(lib.lent_text, lent)
-        options = lib.TextOptions(scale or 0.0, drop_unknown, drop_deletes, empty)
-        block = bytes.fromhex(lib.read_text("heard", grammar, known, heard, options)[0])
-        return self.heard(block)
+        lent, empty = text.encode(), "\n".join(empty_words).encode()
+        options = lib.TextOptions(scale or 0.0, drop_unknown, drop_deletes, lib.lent_text(empty))
+        [line] = lib.read_text("heard", self._named, byref(lib.lent_text(lent)), byref(options))
+        return self.heard(bytes.fromhex(line))
 
     def heard(self, block: bytes) -> Heard:
         """Unpacks the block of slots or of a word graph."""
@@ -257,14 +247,21 @@ class Grammar:
         lib.answered(_check(self.block, len(self.block), packed.block, packed.length, block, len(block)))
 
     def chance(self, heard: Heard, reading: "Union[Reading, bytes]", shares: "Sequence[int]") -> float:
-        """The product of the shares of a reading's rules, of 1024 each. There is a share for each rule as it is written; those
-        of helpers are whole."""
+        """The product of the shares of a reading's rules, of 1024 each. There is a share for each rule as it is written."""
         packed, block, chance = heard.packed(self), _block(reading), c_double()
-        helpers = sum(self.is_marked) if len(shares) < len(self.is_marked) else 0
-        numbers = lib.table([*shares, *[lib.MAX_SHARE] * helpers])
+        numbers = self._shares(shares)
         blocks = (self.block, len(self.block), packed.block, packed.length, block, len(block))
         lib.answered(_chance(*blocks, numbers, len(numbers), chance))
         return chance.value
+
+    def _shares(self, shares: "Sequence[int]") -> "Array[c_uint32]":
+        """The shares of the block's rules."""
+        lent = " ".join(map(str, shares)).encode()
+        try:
+            [line] = lib.read_text("shares", self._named, byref(lib.lent_text(lent)))
+        except TextFault as fault:
+            raise Refused(fault.number, fault.message) from fault
+        return lib.table(list(map(int, line.split())))
 
     def specimen(self, length: int) -> "tuple[str, ...] | None":
         """The first string of so many words, 1 to 24, that the grammar derives, by word numbers; ``None`` if there is none.
@@ -323,22 +320,24 @@ class Grammar:
         return lib.LENT.work, work_len
 
     def tree(self, walk: "Sequence[int]", places: "Sequence[int]") -> Tree:
-        """The tree of a reading's rule numbers, without the nodes of helpers."""
-        rules, leaves = iter(walk), iter(places)
+        """The tree of a reading's rule numbers in the rules as they are written, with where each word was heard."""
 
-        def parts() -> "tuple[int, List[Union[Tree, Leaf]]]":
-            rule = next(rules)
-            body = self._bodies[rule][2]
-            if len(body) == 1:
-                return rule, [Leaf(self.words[body[0]], next(leaves))]
-            children: List[Union[Tree, Leaf]] = []
-            for _ in body:
-                part, below = parts()
-                children += below if self.is_marked[part] else [Tree(self.rules[part], tuple(below))]
-            return rule, children
+        def part(numbers: "Sequence[Any]") -> "Union[Tree, Leaf]":
+            if len(numbers) == LEAF_NUMBERS:
+                return Leaf(self.words[numbers[0]], places[numbers[1]])
+            rule, symbol, weight, below = numbers
+            return Tree(self.symbols[symbol], rule, weight, tuple(map(part, below)))
 
-        root, children = parts()
-        return Tree(self.rules[root], tuple(children))
+        tree = part(json.loads(self._drawn(walk)[0]))
+        assert isinstance(tree, Tree)
+        return tree
+
+    def translation(self, walk: "Sequence[int]") -> str:
+        """What the tree of a reading's rule numbers becomes by the translations of the text's rules, or its words."""
+        return self._drawn(walk)[1]
+
+    def _drawn(self, walk: "Sequence[int]") -> "Sequence[str]":
+        return lib.read_text("tree", self._named, lib.table(walk), c_size_t(len(walk)))
 
     def __repr__(self) -> str:
         return f"<Grammar of {len(self.rules)} rules>"
@@ -352,21 +351,13 @@ def _block(reading: "Union[Reading, bytes]") -> bytes:
     return reading.block if isinstance(reading, Reading) else reading
 
 
-def _bodies(block: bytes) -> "list[tuple[int, int, tuple[int, ...]]]":
-    """Of each rule of a block that was accepted its head, its weight, and its word or its two symbols."""
-    sheet = (c_uint32 * lib.GRAMMAR_SHEET_MAX)()
-    length = lib.answered(_grammar_to_sheet(block, len(block), sheet, len(sheet)))
-    step = (length - SHEET_FRONT) // sheet[2]
-    rules = (sheet[at : at + SHEET_RULE] for at in range(SHEET_FRONT, length, step))
-    return [(head, weight, (first,) if kind else (first, second)) for kind, head, weight, first, second in rules]
-
-
-def _helpers(
-    bodies: "list[tuple[int, int, tuple[int, ...]]]", is_marked: "Sequence[bool]"
-) -> "dict[int, tuple[int, ...]]":
-    """The bodies of the symbols that have one rule, and that a marked one."""
-    heads = [head for head, _, _ in bodies]
-    return {head: body for (head, _, body), mark in zip(bodies, is_marked) if mark and heads.count(head) == 1}
+def _named(block: bytes, symbols: "Iterable[str]", words: "Iterable[str]") -> "tuple[c_void_p, Sequence[str]]":
+    """A block with names, none of which is longer than a line."""
+    names = [list(symbols), list(words)]
+    for name in chain(*names):
+        if len(name.splitlines()) != 1:
+            raise ValueError(f"{name!r} is no name: it is empty or has more than one line")
+    return lib.read_grammar("name_grammar", block, *("\n".join(each).encode() for each in names))
 
 
 def _packed_rules(rules: "Sequence[Rule]", symbols: "dict[str, int]", words: "dict[str, int]") -> bytes:

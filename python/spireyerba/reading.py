@@ -8,7 +8,7 @@ if TYPE_CHECKING:
     from ctypes import Array
 
     from ._library import UtilReading
-    from .grammar import Grammar, Rule
+    from .grammar import Grammar
 
 
 class Leaf(NamedTuple):
@@ -22,18 +22,22 @@ class Leaf(NamedTuple):
 
 
 class Tree(NamedTuple):
-    """A node of a derivation: the rule that made it, and what its body became.
+    """A node of a derivation: a symbol, the number of the rule that made it, what that costs here, and what stands below it.
 
     ``str`` writes it in brackets, as NLTK and other tools read trees.
     """
 
-    rule: "Rule"
+    symbol: str
+    rule: int
+    weight: int
     children: "tuple[Union[Tree, Leaf], ...]"
 
-    @property
-    def symbol(self) -> str:
-        """The rule's head."""
-        return self.rule.head
+    def nodes(self) -> "Iterator[Tree]":
+        """All nodes: a node before those below it, from the left."""
+        yield self
+        for child in self.children:
+            if isinstance(child, Tree):
+                yield from child.nodes()
 
     def leaves(self) -> "Iterator[Leaf]":
         """The words from left to right."""
@@ -44,12 +48,8 @@ class Tree(NamedTuple):
                 yield from child.leaves()
 
     def find(self, symbol: str) -> "Iterator[Tree]":
-        """The nodes of a symbol, from the left and from above."""
-        if self.symbol == symbol:
-            yield self
-        for child in self.children:
-            if isinstance(child, Tree):
-                yield from child.find(symbol)
+        """The nodes of a symbol, in the same order."""
+        return (node for node in self.nodes() if node.symbol == symbol)
 
     @property
     def sentence(self) -> str:
@@ -109,9 +109,8 @@ class Reading:
 
     @property
     def rules(self) -> "tuple[int, ...]":
-        """The same without the rules of helpers: the numbers of the rules as they are written."""
-        is_marked = self.grammar.is_marked
-        return tuple(rule for rule in self.walk if not is_marked[rule])
+        """The numbers of the rules as they are written, in the order of the tree's nodes."""
+        return tuple(node.rule for node in self.tree.nodes())
 
     @property
     def words(self) -> "tuple[str, ...]":
@@ -142,6 +141,11 @@ class Reading:
         """The derivation as a tree, in the rules as they are written."""
         fields = self._fields
         return self.grammar.tree(fields.rule[: fields.nodes], fields.edge[: fields.leaves])
+
+    @property
+    def translation(self) -> str:
+        """What the tree becomes by the translations of the grammar's rules; without any, the sentence."""
+        return self.grammar.translation(self.walk)
 
     def __eq__(self, other: object) -> bool:
         return isinstance(other, Reading) and self.block == other.block and self.grammar.block == other.grammar.block

@@ -60,7 +60,7 @@ class Cases(unittest.TestCase):
 
     def assert_is_whole(self, grammar: Grammar, heard: "Utterance | Graph", reading: Reading) -> None:
         """Words, costs, rules and tree of a reading agree with each other and with what was heard."""
-        tree, rules = reading.tree, grammar.rules
+        tree = reading.tree
         self.assertEqual(tuple(leaf.word for leaf in tree.leaves()), reading.words)
         self.assertEqual(len(reading.walk), 2 * len(reading.words) - 1)
         if isinstance(heard, Graph):
@@ -71,7 +71,7 @@ class Cases(unittest.TestCase):
         else:
             self.assertIsNone(reading.path)
             costs = [slot[word] for slot, word in zip(heard.slots, reading.words)]
-        self.assertEqual(reading.weight, sum(costs) + sum(rules[rule].weight for rule in reading.walk))
+        self.assertEqual(reading.weight, sum(costs) + sum(node.weight for node in tree.nodes()))
 
     def test_check(self) -> None:
         for case, grammar, heard in self.each():

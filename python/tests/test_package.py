@@ -50,16 +50,30 @@ class Doors(unittest.TestCase):
             self.assertLess(len(reading.rules), len(reading.walk))
             self.assertEqual(reading.tree.sentence, reading.sentence)
             self.assertTrue(all(leaf.place == number for number, leaf in enumerate(reading.tree.leaves())))
-            self.assertNotIn("S1", str(reading.tree).split())
+            self.assertEqual({node.symbol for node in reading.tree.nodes()} - set(office.symbols), set())
 
     def test_rules_there_and_back(self) -> None:
         for folder in ("doors", "doors_office"):
             grammar = Grammar.from_file(EXAMPLES / folder / "grammar.txt")
-            own = [rule for rule, mark in zip(grammar.rules, grammar.is_marked) if not mark]
-            symbols = grammar.symbols[: len(grammar.symbols) - sum(grammar.is_marked)]
-            again = Grammar(own, symbols, grammar.words)
-            self.assertEqual((again.block, again.rules), (grammar.block, grammar.rules))
-            self.assertEqual(Grammar.from_text("\n".join(map(str, own))).block, Grammar(own).block)
+            lists = ["symbols " + " ".join(grammar.symbols), "words " + " ".join(f'"{word}"' for word in grammar.words)]
+            self.assertEqual(Grammar.from_text("\n".join([*lists, *grammar.rules])).block, grammar.block)
+            again = Grammar.from_block(grammar.block, grammar.symbols, grammar.words)
+            self.assertEqual((again.rules, again.words), (grammar.rules, grammar.words))
+
+    def test_rules_as_values_are_those_of_the_text(self) -> None:
+        rules = [Rule("S", [Word("a"), "B", Word('"')], 3), Rule("B", [Word("b\\")]), Rule("B", ["B", "B"], 1)]
+        read = Grammar.from_text("\n".join(map(str, rules)))
+        self.assertEqual((Grammar(rules).block, Grammar(rules).rules), (read.block, tuple(map(str, rules))))
+        other = Grammar(rules, words=["b\\", "a"])
+        self.assertEqual(other.words, ("b\\", "a", '"'))
+
+    def test_parts_left_out_and_translations(self) -> None:
+        grammar = Grammar.from_text('Number -> Tens Units? => "$1$2"\nTens -> "twenty" => "2"\nUnits -> "four" => "4"')
+        [reading] = grammar.list(grammar.read("twenty 3; four 1"))
+        self.assertEqual((reading.sentence, reading.translation), ("twenty four", "24"))
+        self.assertEqual(str(reading.tree), "(Number (Tens twenty) (Units four))")
+        [short] = grammar.list(grammar.read("twenty 3"))
+        self.assertEqual((str(short.tree), short.rules), ("(Number (Tens twenty))", (0, 1)))
 
     def test_a_lattice_is_read(self) -> None:
         grammar = Grammar.from_file(EXAMPLES / "doors_graph" / "grammar.txt")
@@ -123,6 +137,11 @@ class Refusals(unittest.TestCase):
         self.assertEqual(raised.exception.line, 2)
         self.assertIn("six", str(raised.exception))
         self.assertEqual(self.grammar.read("door 3 ; four 9"), Utterance([{"door": 3}, {"four": 9}]))
+
+    def test_a_name_is_one_line(self) -> None:
+        for name in ("", "a\nb"):
+            with self.assertRaisesRegex(ValueError, "no name"):
+                Grammar([Rule("S", [Word(name)])])
 
     def test_no_reading(self) -> None:
         self.assertEqual(self.grammar.list(Utterance([{"door": 3}])), [])
