@@ -4,6 +4,9 @@ from __future__ import annotations
 
 import doctest
 import importlib
+import os
+import subprocess
+import sys
 import unittest
 from concurrent.futures import ThreadPoolExecutor
 from pathlib import Path
@@ -92,6 +95,17 @@ class Doors(unittest.TestCase):
         before = [(reading.weight, reading.words, reading.block) for reading in first]
         self.grammar.list(Utterance([{self.grammar.words[0]: 1}]), 8)
         self.assertEqual([(reading.weight, reading.words, reading.block) for reading in first], before)
+
+
+class Examples(unittest.TestCase):
+    def test_a_lattice_becomes_a_line_of_a_schedule(self) -> None:
+        words = ["door_schedule.py", "doors/grammar.txt", "100", "doors_graph/lattice.slf", "doors/grammar.txt"]
+        path = {"PYTHONPATH": str(Path(spireyerba.__file__).parents[1])}
+        command = [sys.executable, "-B", *words]
+        done = subprocess.run(command, cwd=EXAMPLES, env={**os.environ, **path}, capture_output=True, text=True)
+        lines = ["Number\tLeaf\tRating\tSide\tmargin", "twenty four\toak\tfire thirty\t\t8"]
+        self.assertEqual(done.stdout.splitlines(), lines)
+        self.assertRegex(done.stderr, "^doors/grammar.txt: ")
 
 
 class Refusals(unittest.TestCase):
