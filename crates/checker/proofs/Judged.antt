@@ -135,7 +135,8 @@ unfolding fieldsFrom
 slots-fields g u block P e f = through (readingFrom (length u) (length (g .rules)) block) _ e λ r at p k. same-parsed P k (f r at p)
 
 pub graph-fields : (g : Grammar) (h : Graph) (block : List ℕ) (P : Fields → ℕ → Type 0) {d : Fields} {at : ℕ} → fieldsFrom g (graph h) block ≡ parsed d at
-    → ((r : GraphHead) (at : ℕ) → graphHeadFrom (h .places - 1) (length (g .rules)) block ≡ parsed r at → P (headed r) (graphReadingBits (r .edges) (length (g .rules)))) → P d at
+    → ((r : GraphHead) (at : ℕ) → graphHeadFrom (h .places - 1) (length (g .rules)) block
+    ≡ parsed r at → P (headed r) (graphReadingBits (r .edges) (length (g .rules)))) → P d at
 unfolding fieldsFrom
 graph-fields g h block P e f = through (graphHeadFrom (h .places - 1) (length (g .rules)) block) _ e λ r at p k. same-parsed P k (f r at p)
 
@@ -149,5 +150,6 @@ has-one g (graph h) block okg ok e =
     graph-fields g h block (λ d at. (s t : Tree) → Has block g (graph h) d s → Has block g (graph h) d t → s ≡ t) e
     (λ r at p s t (c, (n, m)) (c′, (n′, m′)).
     let room = head-read (h .places - 1) (length (g .rules)) block p in
-    stands-one g (h .edges) (heard-forward (g .words) (graph h) ok) (omega (arith, valid-edge-count (g .words) h ok)) (valid-rules g okg) (h .places - 1) (r .edges) block
+    stands-one g (h .edges) (heard-forward (g .words) (graph h) ok) (omega (arith, valid-edge-count (g .words) h ok)) (valid-rules g okg) (h .places - 1)
+    (r .edges) block
     (omega (arith, room .3)) s t (record { derives = c; edges = n; nodes = m }) (record { derives = c′; edges = n′; nodes = m′ }))
