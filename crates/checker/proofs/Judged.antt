@@ -1,7 +1,7 @@
 -- A derivation with the nodes that were read is found exactly if there is one, and there is one at most: the enumeration has all
 -- derivations, and a walk over slots or the bits of the nodes decide it.
 use mathlib.Core.Path.{_≡_, refl, sym, ap, _∙_}
-use mathlib.Core.Bool.{Bool, true, false}
+use mathlib.Core.Bool.{Bool, true, false, false≢true}
 use mathlib.Core.List.{List, [], _∷_, List·Memᴰ·head, List·Memᴰ·tail, List·Memᴰ·cases-cons, List·Memᴰ·not-nil}
 use mathlib.Core.Logic.{⊎-elim}
 use mathlib.Core.Option.{Option, none, some}
@@ -36,9 +36,6 @@ use Rattle.derivation.proofs.HeardReadings.{heard-forward}
 use Rattle.derivation.proofs.Path.{stands-one}
 use Rattle.checker.specs.Judgement.{Fields, walked, headed, fieldsFrom, HasNodes, Has}
 use Rattle.checker.specs.Check.{same, hasBits, fits, firstWith, derivationOf}
-
-false≢true : false ≡ true → ⊥
-false≢true e = let z : _≡_ {A = ℕ} 0 1 = cc in omega arith
 
 -- the tests say what they are to say
 same-out : (a b : List ℕ) → same a b ≡ true → a ≡ b
