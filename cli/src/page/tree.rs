@@ -30,9 +30,9 @@ struct Layout<'a> {
     columns: Vec<f64>,
     /// The words' baseline.
     baseline: f64,
-    /// The words as they were heard, and those of the first reading: others are marked.
+    /// The words as they were heard, and which of them are marked.
     taken: Vec<Taken>,
-    usual: Vec<Taken>,
+    marked: Vec<bool>,
     svg: String,
 }
 
@@ -49,10 +49,10 @@ pub fn svg(listed: &Listed, rank: usize) -> String {
     }
     let baseline = MARGIN + LEVEL * tree.height() as f64;
     let (width, height) = (edge + MARGIN, baseline + FOOT);
-    let [usual, taken] = [1, rank].map(|rank| listed.taken(rank));
-    let mut layout = Layout { listed, named, columns, baseline, taken, usual, svg: String::new() };
+    let (taken, marked) = (listed.taken(rank), listed.differing(rank));
+    let mut layout = Layout { listed, named, columns, baseline, taken, marked, svg: String::new() };
     layout.node(tree, MARGIN);
-    let label = escaped(&format!("tree of {}", named.symbol(named.grammar.rules[tree.rule as usize].head)));
+    let label = escaped(&format!("tree of {}", named.symbol(tree.head)));
     format!(
         "<svg viewBox=\"0 0 {width:.0} {height:.0}\" width=\"{width:.0}\" height=\"{height:.0}\" role=\"img\" \
          aria-label=\"{label}\">\n{}</svg>\n",
@@ -71,7 +71,7 @@ fn word_widths(named: &NamedGrammar, tree: &Tree, widths: &mut Vec<f64>) {
         }
     }
     let below = &mut widths[first..];
-    let missing = width(named.symbol(named.grammar.rules[tree.rule as usize].head)) - below.iter().sum::<f64>();
+    let missing = width(named.symbol(tree.head)) - below.iter().sum::<f64>();
     let share = missing.max(0.0) / below.len() as f64;
     below.iter_mut().for_each(|width| *width += share);
 }
@@ -98,12 +98,11 @@ impl Layout<'_> {
                 }
             }
         }
-        let rule = &self.named.grammar.rules[tree.rule as usize];
-        let weight = match rule.weight {
+        let weight = match tree.weight {
             0 => String::new(),
             weight => format!("<tspan class=\"small\" dx=\"3\">{weight}</tspan>"),
         };
-        let (symbol, text) = (escaped(self.named.symbol(rule.head)), escaped(&self.named.rule_text(tree.rule)));
+        let (symbol, text) = (escaped(self.named.symbol(tree.head)), escaped(&self.named.rule_text(tree.rule)));
         self.put(format_args!(
             "<text class=\"symbol\" x=\"{x:.1}\" y=\"{baseline:.1}\"><title>rule {}: {text}</title>{symbol}{weight}</text>",
             tree.rule
@@ -123,7 +122,7 @@ impl Layout<'_> {
     fn word(&mut self, word: u32, number: usize) -> f64 {
         let (x, y) = (self.columns[number], self.baseline);
         let taken = self.taken[number];
-        if !self.usual.contains(&taken) {
+        if self.marked[number] {
             let width = self.named.word(word).chars().count() as f64 * CHARACTER + MARK_PADDING;
             let (left, top, height) = (x - width / 2.0, y - ABOVE, ABOVE + BELOW);
             self.put(format_args!(
