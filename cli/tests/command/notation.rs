@@ -68,9 +68,9 @@ rule 10                                  Leaf -> ( \"oak\" | \"glass\" [5] | \"s
 rule 11  Rating -> \"fire\"?120 Minutes => \"FD$2\", at 0  the same, at 120    +120
 ";
     let third = answer_with(&door_schedule(), "why grammar.txt - 3", heard);
-    assert!(why.contains("slot 1  four 2  five 4     +2\n"), "{why}");
-    let rows: Vec<&str> = rows.split_whitespace().collect();
-    assert!(third.split_whitespace().collect::<Vec<_>>().windows(rows.len()).any(|part| part == rows), "{third}");
+    let columns = |text: &str| text.split_whitespace().collect::<Vec<_>>().join(" ");
+    assert!(columns(&why).contains("slot 1 four 2 five 4 +2"), "{why}");
+    assert!(columns(&third).contains(&columns(rows)), "{third}");
     let folder = folder(
         "notation_shares",
         &[
