@@ -321,12 +321,13 @@ class Grammar:
 
     def tree(self, walk: "Sequence[int]", places: "Sequence[int]") -> Tree:
         """The tree of a reading's rule numbers in the rules as they are written, with where each word was heard."""
+        words, symbols = self.words, self.symbols
 
         def part(numbers: "Sequence[Any]") -> "Union[Tree, Leaf]":
             if len(numbers) == LEAF_NUMBERS:
-                return Leaf(self.words[numbers[0]], places[numbers[1]])
+                return Leaf(words[numbers[0]], places[numbers[1]])
             rule, symbol, weight, below = numbers
-            return Tree(self.symbols[symbol], rule, weight, tuple(map(part, below)))
+            return Tree(symbols[symbol], rule, weight, tuple([part(each) for each in below]))
 
         tree = part(json.loads(self._drawn(walk)[0]))
         assert isinstance(tree, Tree)
