@@ -47,11 +47,7 @@ module _ (search : S.Search) (grammar heard : List ℕ) (p : Place) (work out : 
         → ((S.Astray g h p work (search g h p work)) → ⊥) → Case g h Reading
 
   stray-found : {g : Grammar} {h : Heard} → S.Astray g h p work (search g h p work) → S.Missing g h p work (search g h p work) → ⊥
-  stray-found {g} {h} a m = go (p .handed) refl
-    where
-      go : (n : ℕ) → p .handed ≡ n → ⊥
-      go zero e = none≢some (sym (m .missing) ∙ a .first-found e (m .front-zero e) .1)
-      go (suc n) e = none≢some (sym (m .missing) ∙ a .later-found (omega arith) .1)
+  stray-found a m = none≢some (sym (m .missing) ∙ a .found (m .sought) .1)
 
   same-case : {g : Grammar} {h : Heard} {a b : A.Answer} → Case g h a → Case g h b → a ≡ b
   same-case (strays x) (strays y) = refl
@@ -68,8 +64,7 @@ module _ (search : S.Search) (grammar heard : List ℕ) (p : Place) (work out : 
   data Which : A.Answer → Type 0 where
     turned : {n : ℕ} → S.calling grammar heard (length work) (length out) ≡ refused n → Which (Refused n)
     fulls : {b : S.Blocks} → S.calling grammar heard (length work) (length out) ≡ accepted b → 256 ≤ p .handed → Which Full
-    closed : {b : S.Blocks} → S.calling grammar heard (length work) (length out) ≡ accepted b → p .handed < 256 → (p .opened ≡ 1 → ⊥) → Which (Refused 53)
-    seeks : {b : S.Blocks} {a : A.Answer} → S.calling grammar heard (length work) (length out) ≡ accepted b → p .handed < 256 → p .opened ≡ 1
+    seeks : {b : S.Blocks} {a : A.Answer} → S.calling grammar heard (length work) (length out) ≡ accepted b → p .handed < 256
         → Case (b .grammar) (b .heard) a → Which a
 
   one-more-case : {g : Grammar} {h : Heard} {a : A.Answer} {work′ out′ : List ℕ} → S.OneMore search grammar heard p work out a work′ out′ g h → Case g h Reading
@@ -81,10 +76,9 @@ module _ (search : S.Search) (grammar heard : List ℕ) (p : Place) (work out : 
   which : {a : A.Answer} {work′ out′ : List ℕ} → S.Called search grammar heard p work out a work′ out′ → Which a
   which (S.turned-away e is same) = rw is (turned e)
   which (S.full e many is same) = rw is (fulls e many)
-  which (S.not-opened e below other is same) = rw is (closed e below other)
-  which (S.altered e below opened astray is same) = rw is (seeks e below opened (strays astray))
-  which (S.no-more e below opened missing is same) = rw is (seeks e below opened (misses missing))
-  which (S.one-more e below opened is more) = rw is (seeks e below opened (one-more-case more))
+  which (S.altered e below astray is same) = rw is (seeks e below (strays astray))
+  which (S.no-more e below missing is same) = rw is (seeks e below (misses missing))
+  which (S.one-more e below is more) = rw is (seeks e below (one-more-case more))
 
   clash : {n : ℕ} {b : S.Blocks} → S.calling grammar heard (length work) (length out) ≡ refused n → S.calling grammar heard (length work) (length out) ≡ accepted b → ⊥
   clash e f = refused≢accepted (sym e ∙ f)
@@ -92,20 +86,13 @@ module _ (search : S.Search) (grammar heard : List ℕ) (p : Place) (work out : 
   decides : {a b : A.Answer} → Which a → Which b → a ≡ b
   decides (turned e) (turned f) = let same : _ = sym e ∙ f in cc
   decides (turned e) (fulls f m) = absurd (clash e f)
-  decides (turned e) (closed f l o) = absurd (clash e f)
-  decides (turned e) (seeks f l o c) = absurd (clash e f)
+  decides (turned e) (seeks f l c) = absurd (clash e f)
   decides (fulls e m) (turned f) = absurd (clash f e)
   decides (fulls e m) (fulls f n) = refl
-  decides (fulls e m) (closed f l o) = absurd (omega (arith, m, l))
-  decides (fulls e m) (seeks f l o c) = absurd (omega (arith, m, l))
-  decides (closed e l o) (turned f) = absurd (clash f e)
-  decides (closed e l o) (fulls f m) = absurd (omega (arith, m, l))
-  decides (closed e l o) (closed f m q) = refl
-  decides (closed e l o) (seeks f m q c) = absurd (o q)
-  decides (seeks e l o c) (turned f) = absurd (clash f e)
-  decides (seeks e l o c) (fulls f m) = absurd (omega (arith, m, l))
-  decides (seeks e l o c) (closed f m q) = absurd (q o)
-  decides (seeks {b = b} e l o c) (seeks {b = b′} {a = a′} f m q c′) =
+  decides (fulls e m) (seeks f l c) = absurd (omega (arith, m, l))
+  decides (seeks e l c) (turned f) = absurd (clash f e)
+  decides (seeks e l c) (fulls f m) = absurd (omega (arith, m, l))
+  decides (seeks {b = b} e l c) (seeks {b = b′} {a = a′} f m c′) =
       let same : b′ ≡ b = accepted-is (sym f ∙ e) in
       same-case c (subst (λ (x : S.Blocks). Case (x .grammar) (x .heard) a′) same c′)
 
@@ -121,10 +108,9 @@ module _ (search : S.Search) (grammar heard : List ℕ) (p : Place) (work out : 
   left : {a : A.Answer} {work′ out′ : List ℕ} → S.Called search grammar heard p work out a work′ out′ → Left a work′
   left (S.turned-away {n = n} e is same) = as-before (λ r. refusal-reads n (sym is ∙ r)) (same .table)
   left (S.full e many is same) = as-before (λ r. full-reads (sym is ∙ r)) (same .table)
-  left (S.not-opened e below other is same) = as-before (λ r. refusal-reads 53 (sym is ∙ r)) (same .table)
-  left (S.altered e below opened astray is same) = as-before (λ r. refusal-reads 53 (sym is ∙ r)) (same .table)
-  left (S.no-more e below opened missing is same) = as-before (λ r. nothing-reads (sym is ∙ r)) (same .table)
-  left (S.one-more e below opened is more) = rw is (by-search e (more .table-is))
+  left (S.altered e below astray is same) = as-before (λ r. refusal-reads 53 (sym is ∙ r)) (same .table)
+  left (S.no-more e below missing is same) = as-before (λ r. nothing-reads (sym is ∙ r)) (same .table)
+  left (S.one-more e below is more) = rw is (by-search e (more .table-is))
 
   -- the table: the search's where a reading is handed out, and else as it was
   pub table-decided : {a b : A.Answer} {work₁ out₁ work₂ out₂ : List ℕ} → S.Called search grammar heard p work out a work₁ out₁
@@ -206,10 +192,9 @@ module _ (search : S.Search) (grammar heard : List ℕ) (p : Place) (work out : 
   wrote : {a : A.Answer} {work′ out′ : List ℕ} → S.Called search grammar heard p work out a work′ out′ → Wrote a out′
   wrote (S.turned-away {n = n} e is same) = nothing (λ r. refusal-reads n (sym is ∙ r)) (same .output)
   wrote (S.full e many is same) = nothing (λ r. full-reads (sym is ∙ r)) (same .output)
-  wrote (S.not-opened e below other is same) = nothing (λ r. refusal-reads 53 (sym is ∙ r)) (same .output)
-  wrote (S.altered e below opened astray is same) = nothing (λ r. refusal-reads 53 (sym is ∙ r)) (same .output)
-  wrote (S.no-more e below opened missing is same) = nothing (λ r. nothing-reads (sym is ∙ r)) (same .output)
-  wrote (S.one-more {b = b} e below opened is more) =
+  wrote (S.altered e below astray is same) = nothing (λ r. refusal-reads 53 (sym is ∙ r)) (same .output)
+  wrote (S.no-more e below missing is same) = nothing (λ r. nothing-reads (sym is ∙ r)) (same .output)
+  wrote (S.one-more {b = b} e below is more) =
       let spelled : SpelledReading (b .grammar) (b .heard) (search (b .grammar) (b .heard) p work) (p .handed) (more .tree) =
       subst (λ (t : List ℕ). SpelledReading (b .grammar) (b .heard) t (p .handed) (more .tree)) (more .table-is) (more .spelled) in
       rw is (reading e (more .derivation) spelled (more .written))

@@ -66,6 +66,12 @@ Search = Grammar → Heard → Place → List ℕ → List ℕ
 abbrev pub FrontZero : Grammar → Heard → List ℕ → Type 0
 FrontZero g h work = take (front g h) work ≡ replicate (front g h) 0
 
+-- That rank is looked for at an opened place, by a first call if the table's front is zeros. Elsewhere the table is taken as it stands: a mark other than 1
+-- and a front that is not zeros are altered numbers like others
+pub record Sought (g : Grammar) (h : Heard) (p : Place) (work : List ℕ) : Type 0 where
+  pub opened : p .opened ≡ 1
+  pub front-zero : p .handed ≡ 0 → FrontZero g h work
+
 -- a work table before a call, and the table that the search makes of it
 module _ (g : Grammar) (h : Heard) (p : Place) (work table : List ℕ) where
   -- what looking for one more leaves and what it adds
@@ -76,23 +82,23 @@ module _ (g : Grammar) (h : Heard) (p : Place) (work table : List ℕ) where
     pub first-adds : p .handed ≡ 0 → (A : Sym) (i k : ℕ) → Over g h A i k → foundOver g h table A i k ≤ foundOver g h work A i k + 1
     -- "After it, a call adds at most 2n−1 found ranks (n being P−1 in a graph) over all spans and heads, counted from the table itself."
     pub later-adds : 1 ≤ p .handed → foundRanks g h table ≤ foundRanks g h work + (2 * lastPlace h - 1)
+    pub as-it-stands : (Sought g h p work → ⊥) → table ≡ work
 
-  -- the rank that is looked for is found
-  abbrev pub SoughtFound : Type 0
-  SoughtFound = Found g h table (symbolOf 0) 0 (lastPlace h) (p .handed)
+  -- the rank that is asked for is found
+  abbrev pub AskedFound : Type 0
+  AskedFound = Found g h table (symbolOf 0) 0 (lastPlace h) (p .handed)
 
-  -- that rank spells no reading that passes. It is found, unless a first call was lent a table whose front is not zeros, where none is looked for
+  -- that rank spells no reading that passes; where it was looked for, it is found
   pub record Astray : Type 0 where
     pub looked : Looked
     pub none-passes : (z : Tree) → Derivation g h z → SpelledReading g h table (p .handed) z → ⊥
-    pub later-found : 1 ≤ p .handed → SoughtFound
-    pub first-found : p .handed ≡ 0 → FrontZero g h work → SoughtFound
+    pub found : Sought g h p work → AskedFound
 
-  -- that rank is not found; of a first call, in a table whose front was zeros
+  -- that rank was looked for and is not found
   pub record Missing : Type 0 where
     pub looked : Looked
+    pub sought : Sought g h p work
     pub missing : entry g h table (symbolOf 0) 0 (lastPlace h) (p .handed) ≡ none
-    pub front-zero : p .handed ≡ 0 → FrontZero g h work
 
 -- the place after k readings, and the table of `size` numbers: zeros, and then each time what the search makes
 abbrev pub placeOf : ℕ → Place
@@ -127,17 +133,15 @@ module _ (search : Search) (grammar heard : List ℕ) (p : Place) (work out : Li
     pub table-is : work′ ≡ search g h p work
 
   -- whatever place and table are: "These two answers change nothing", nor does a refusal. "53 the walk that altered numbers spell is not a
-  -- reading that passes, last of all". That a place which was not opened is answered by 53 too is our choice
+  -- reading that passes, last of all"
   pub data Called : Type 0 where
     turned-away : {n : ℕ} → calling grammar heard (length work) (length out) ≡ refused n → answer ≡ Refused n → Unchanged → Called
     full : {b : Blocks} → calling grammar heard (length work) (length out) ≡ accepted b → 256 ≤ p .handed → answer ≡ Full → Unchanged → Called
-    not-opened : {b : Blocks} → calling grammar heard (length work) (length out) ≡ accepted b → p .handed < 256 → (p .opened ≡ 1 → ⊥)
-        → answer ≡ Refused 53 → Unchanged → Called
-    altered : {b : Blocks} → calling grammar heard (length work) (length out) ≡ accepted b → p .handed < 256 → p .opened ≡ 1
+    altered : {b : Blocks} → calling grammar heard (length work) (length out) ≡ accepted b → p .handed < 256
         → Astray (b .grammar) (b .heard) p work (search (b .grammar) (b .heard) p work) → answer ≡ Refused 53 → Unchanged → Called
-    no-more : {b : Blocks} → calling grammar heard (length work) (length out) ≡ accepted b → p .handed < 256 → p .opened ≡ 1
+    no-more : {b : Blocks} → calling grammar heard (length work) (length out) ≡ accepted b → p .handed < 256
         → Missing (b .grammar) (b .heard) p work (search (b .grammar) (b .heard) p work) → answer ≡ NoMore → Unchanged → Called
-    one-more : {b : Blocks} → calling grammar heard (length work) (length out) ≡ accepted b → p .handed < 256 → p .opened ≡ 1 → answer ≡ Reading
+    one-more : {b : Blocks} → calling grammar heard (length work) (length out) ≡ accepted b → p .handed < 256 → answer ≡ Reading
         → OneMore (b .grammar) (b .heard) → Called
 
   -- after k readings were handed out, of n that exist, in a table of `size` numbers: one more, the one with rank k + 1, or "no more"

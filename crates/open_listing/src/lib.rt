@@ -49,7 +49,7 @@ pub enum Answer {
     Refused(u32),
 }
 
-// The mark of a place that was opened.
+// The mark of a place that was opened. At a place with another, nothing is looked for: the table is taken as it stands.
 pub const OPENED: u32 = 1;
 
 // What a search goes by: the form of readings, the table's layout and the number of edges.
@@ -246,7 +246,7 @@ fn next_read(
         return Answer::Full;
     }
     if place.opened != OPENED {
-        return Answer::Refused(refused::OPEN_ALTERED);
+        return as_spelled(&work[..], rules, edges, plan, handed, out);
     }
     if handed == 0 {
         return first(work, rules, edges, plan, out);

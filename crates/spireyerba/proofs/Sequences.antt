@@ -83,18 +83,16 @@ module _ {search : S.Search} {grammar heard : List ℕ} {p : Place} {work out : 
   idle-changes : S.Called search grammar heard p work out a work′ out′ → (a ≡ Reading → ⊥) → S.Unchanged search grammar heard p work out a work′ out′
   idle-changes (S.turned-away e is same) other = same
   idle-changes (S.full e many is same) other = same
-  idle-changes (S.not-opened e below closed is same) other = same
-  idle-changes (S.altered e below opened astray is same) other = same
-  idle-changes (S.no-more e below opened missing is same) other = same
-  idle-changes (S.one-more e below opened is more) other = absurd (other is)
+  idle-changes (S.altered e below astray is same) other = same
+  idle-changes (S.no-more e below missing is same) other = same
+  idle-changes (S.one-more e below is more) other = absurd (other is)
 
   full-said : S.Called search grammar heard p work out a work′ out′ → 256 ≤ p .handed → a ≡ Full
   full-said (S.turned-away e is same) many = let z : _≡_ {A = ℕ} 0 1 = cc in absurd (omega arith)
   full-said (S.full e enough is same) many = is
-  full-said (S.not-opened e below closed is same) many = absurd (omega arith)
-  full-said (S.altered e below opened astray is same) many = absurd (omega arith)
-  full-said (S.no-more e below opened missing is same) many = absurd (omega arith)
-  full-said (S.one-more e below opened is more) many = absurd (omega arith)
+  full-said (S.altered e below astray is same) many = absurd (omega arith)
+  full-said (S.no-more e below missing is same) many = absurd (omega arith)
+  full-said (S.one-more e below is more) many = absurd (omega arith)
 
 module _ (search : S.Search) (grammar heard : List ℕ) (K : ℕ) (place : ℕ → Place) (work : ℕ → List ℕ) (code : ℕ → ℤ) (out written : ℕ → List ℕ)
     (calls : Calls search grammar heard K place work code out written)
