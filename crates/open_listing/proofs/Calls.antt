@@ -9,7 +9,8 @@ use lib.Dec.{ltb}
 use lib.ListN.{length, take}
 use Rattle.bits.specs.Bits.{pick}
 use Rattle.chart.specs.Chart.{rootFound}
-use Rattle.open_listing.specs.Model.{zeros, firstTable, nextTable, Answered, Searched, FirstCalled, Left, answeredBy, seeks, tableBy, soughtBy, callBy, As}
+use Rattle.open_listing.specs.Model.{zeros, firstTable, nextTable, Answered, Searched, FirstCalled, answeredBy, seeks, tableBy, soughtBy, callBy, As}
+use Rattle.open_listing.specs.Open.{Left}
 use Rattle.open_listing.specs.declared.Place.{Place}
 use Rattle.open_listing.specs.declared.Plan.{Plan}
 use Rattle.open_listing.specs.declared.Answer as A

@@ -30,7 +30,8 @@ use Rattle.inputs.specs.Inputs.{meantBy, ReadOf, rulesArray, edgesArray}
 use Rattle.inputs.specs.declared.Inputs.{Inputs}
 use Rattle.inputs.proofs.Outcome.{rules-begin, edges-begin, both-accepted, meant-first}
 use Rattle.open_listing.specs.Open as S
-use Rattle.open_listing.specs.Model.{Planned, planOf, zeros, Answered, Searched, Left, unchanged, seeks, tableBy, soughtBy, callBy, nextBy, searched, As}
+use Rattle.open_listing.specs.Model.{Planned, planOf, zeros, Answered, Searched, unchanged, seeks}
+use Rattle.open_listing.specs.Model.{tableBy, soughtBy, callBy, nextBy, nextOf, searched, As}
 use Rattle.open_listing.specs.declared.Place.{Place}
 use Rattle.open_listing.specs.declared.Plan.{Plan}
 use Rattle.open_listing.specs.declared.Opened.{Opened}
@@ -46,9 +47,8 @@ different : {X : Type 0} {v : Verdict S.Blocks} {n : ℕ} {b : S.Blocks} → v �
 different e f = let z : _≡_ {A = ℕ} 0 1 = cc in absurd (omega arith)
 
 -- what is promised of a call
-abbrev Promised : S.Search → (grammar heard : List ℕ) → Place → (work out : List ℕ) → A.Answer → (work′ out′ : List ℕ) → Type 0
-Promised search grammar heard p work out r work′ out′ =
-    S.Called search grammar heard p work out r work′ out′ × S.Kept search grammar heard p work out r work′ out′
+abbrev Promised : S.Search → S.Lent → S.Left → Type 0
+Promised search l r = S.Called search l r × S.Kept search l r
 
 -- the search is that of the models
 abbrev Makes : S.Search → Grammar → Heard → (rules edges : List ℕ) → Plan → Type 0
@@ -60,10 +60,8 @@ by-test P true x y t f = t refl
 by-test P false x y t f = f refl
 
 -- a refusal before the search
-refused-promised : (search : S.Search) (grammar heard : List ℕ) (p : Place) (work out : List ℕ) {n : ℕ}
-    → S.calling grammar heard (length work) (length out) ≡ refused n → Promised search grammar heard p work out (Refused n) work out
-refused-promised search grammar heard p work out e =
-    (S.turned-away e refl (record { table = refl; output = refl }), λ b f. different e f)
+refused-promised : (search : S.Search) (l : S.Lent) {n : ℕ} → S.asked l ≡ refused n → Promised search l (unchanged (Refused n) (l .work) (l .out))
+refused-promised search l e = (S.turned-away e refl (record { table = refl; output = refl }), λ b f. different e f)
 
 -- a call whose arrays begin with the rules of a grammar and the edges of what was heard
 module _ (grammar heard : List ℕ) (g : Grammar) (h : Heard) (eg : grammarBlock grammar ≡ accepted g) (eh : heardBlock (g .words) heard ≡ accepted h)
@@ -87,17 +85,23 @@ module _ (grammar heard : List ℕ) (g : Grammar) (h : Heard) (eg : grammarBlock
   okh : ValidHeard (g .words) h
   okh = heard-block-out (g .words) heard h eh .0
 
-  abbrev PromisedOf : Left → Type 0
-  PromisedOf l = Promised search grammar heard p work out (l .answer) (l .table) (l .output)
+  abbrev lent : S.Lent
+  lent = S.lent grammar heard p work out
+
+  abbrev PromisedOf : S.Left → Type 0
+  PromisedOf r = Promised search lent r
+
+  abbrev read : S.Blocks
+  read = blocks grammar heard g h eg eh
 
   short-table : length work < numbers → PromisedOf (unchanged (Refused 22) work out)
   short-table short =
-      refused-promised search grammar heard p work out
+      refused-promised search lent
       (calling-short grammar heard g h eg eh (length work) (length out) (omega (arith, numbers-is, short)))
 
   short-output : numbers ≤ length work → length out < plan g h .form .size → PromisedOf (unchanged (Refused 23) work out)
   short-output room short =
-      refused-promised search grammar heard p work out
+      refused-promised search lent
       (calling-output grammar heard g h eg eh (length work) (length out) (omega (arith, numbers-is, room)) (omega (arith, bytes-is, short)))
 
   -- where nothing is short
@@ -105,13 +109,13 @@ module _ (grammar heard : List ℕ) (g : Grammar) (h : Heard) (eg : grammarBlock
     fits : tableSize (g .symbols) (lastPlace h) 256 ≤ length work
     fits = omega (arith, numbers-is, room)
 
-    calls : S.calling grammar heard (length work) (length out) ≡ accepted (blocks grammar heard g h eg eh)
+    calls : S.asked lent ≡ accepted read
     calls = calling-accepts grammar heard g h eg eh (length work) (length out) fits (omega (arith, bytes-is, enough))
 
     full : 256 ≤ p .handed → PromisedOf (unchanged Full work out)
     full many = (
       S.full calls many refl (record { table = refl; output = refl }),
-      λ b f size k few left n all. absurd (omega (arith, ap (λ (x : Place). x .handed) (left .place))),
+      λ b f k few left. absurd (omega (arith, ap (λ (x : Place). x .handed) (left .place))),
     )
 
     -- the test says whether a rank is looked for
@@ -161,17 +165,17 @@ module _ (grammar heard : List ℕ) (g : Grammar) (h : Heard) (eg : grammarBlock
         some other = omega (arith, other)
 
     -- a place and a table as they were left are looked into
-    left-sought : {size : ℕ} → S.AsLeft search g h size (p .handed) p work → S.Sought g h p work
-    left-sought {size} left = record {
+    left-sought : S.AsLeft search read (p .handed) p work → S.Sought g h p work
+    left-sought left = record {
       opened = ap (λ (x : Place). x .opened) (left .place);
       front-zero = λ first.
-          let zeros-left : work ≡ replicate size 0 = left .table ∙ ap (S.tableAfter search g h size) first in
-          let long : length work ≡ size = ap length zeros-left ∙ length-replicate size 0 in
+          let zeros-left : work ≡ replicate (left .size) 0 = left .table ∙ ap (S.tableAfter search g h (left .size)) first in
+          let long : length work ≡ left .size = ap length zeros-left ∙ length-replicate (left .size) 0 in
           steps.front-zero g h okg okh rules edges begun begun′ work fits (zeros-left ∙ ap (λ (x : ℕ). replicate x 0) (sym long));
     }
 
     module _ (below : p .handed < 256) where
-      abbrev left : Left
+      abbrev left : S.Left
       left = soughtBy rules edges (plan g h) p work out
 
       answered : Answered (pick (seeks (plan g h) p work) (rootFound table d (p .handed)) true) table rules edges (plan g h) (p .handed) work out
@@ -179,21 +183,23 @@ module _ (grammar heard : List ℕ) (g : Grammar) (h : Heard) (eg : grammarBlock
       unfolding soughtBy
       answered = record { answer = refl; left = refl; output = refl }
 
-      kept : S.Kept search grammar heard p work out (left .answer) (left .table) (left .output)
-      kept b f size k few was n all =
-          let same : blocks grammar heard g h eg eh ≡ b = accepted-is (sym calls ∙ f) in
-          let was₁ : S.AsLeft search g h size k p work = rw (← same) at was in
-          let handed : p .handed ≡ k = ap (λ (x : Place). x .handed) (was₁ .place) in
-          let was₂ : S.AsLeft search g h size (p .handed) p work = rw (← handed) at was₁ in
-          let all′ : Number (Derivation g h) n = rw (← same) at all in
+      kept-after : S.AsLeft search read (p .handed) p work → S.After search read (p .handed) lent left
+      kept-after was =
           let searched : Searched table rules edges (plan g h) (p .handed) work out (left .answer) (left .table) (left .output) =
-          rw (tests (left-sought was₂)) at answered in
-          let again : S.tableAfter search g h size (suc (p .handed)) ≡ table =
-          sym (ap (λ (x : Place). search g h x work) (was₂ .place) ∙ ap (search g h (S.placeOf (p .handed))) (was₂ .table)) ∙ makes p work in
-          let listed = steps.left-listed g h okg okh rules edges begun begun′ search makes size (was₂ .enough) (p .handed) below in
+          rw (tests (left-sought was)) at answered in
+          let again : S.tableAfter search g h (was .size) (suc (p .handed)) ≡ table =
+          sym (ap (λ (x : Place). search g h x work) (was .place) ∙ ap (search g h (S.placeOf (p .handed))) (was .table)) ∙ makes p work in
+          let listed = steps.left-listed g h okg okh rules edges begun begun′ search makes (was .size) (was .enough) (p .handed) below in
           let known : Listed g (heardEdges h) d (p .handed) table = subst (Listed g (heardEdges h) d (p .handed)) again listed in
-          rw (← same, ← handed)
-          (after search grammar heard g h eg eh rules edges begun begun′ planned p work out calls below table searched known size was₂ (makes p work) n all′)
+          after search grammar heard g h eg eh rules edges begun begun′ planned p work out calls below table searched known was (makes p work)
+
+      kept : S.Kept search lent left
+      kept b f k few was =
+          let same : read ≡ b = accepted-is (sym calls ∙ f) in
+          let was₁ : S.AsLeft search read k p work = rw (← same) at was in
+          let handed : p .handed ≡ k = ap (λ (x : Place). x .handed) (was₁ .place) in
+          let was₂ : S.AsLeft search read (p .handed) p work = rw (← handed) at was₁ in
+          subst (λ (x : S.Blocks). S.After search x k lent left) same (subst (λ (x : ℕ). S.After search read x lent left) handed (kept-after was₂))
 
       sought : PromisedOf left
       sought = (
@@ -222,28 +228,30 @@ module _ {grammar heard : List ℕ} {z : Inputs} {rules edges : List ℕ} (k : R
       ∙ ap (λ (x : Plan). tableBy (rulesArray (m .grammar)) (edgesArray (m .heard)) x p work) (is ∙ ap planOf (k .sizes)))
 
   pub read-called : Planned q → (p : Place) (work out : List ℕ) {a : A.Answer} {work′ out′ : List ℕ} → As (callBy rules edges q p work out) a work′ out′
-      → Promised searched grammar heard p work out a work′ out′
+      → Promised searched (S.lent grammar heard p work out) (S.left a work′ out′)
   read-called planned p work out s =
       let m = k .meant in
       let same : q ≡ plan (m .grammar) (m .heard) = is ∙ ap planOf (k .sizes) in
       let makes : Makes searched (m .grammar) (m .heard) rules edges (plan (m .grammar) (m .heard)) =
       λ x t. made x t ∙ ap (λ (y : Plan). tableBy rules edges y x t) same in
       rw (s .answer, s .table, s .output, same)
-      (due grammar heard (m .grammar) (m .heard) (k .grammar-is) (k .heard-is) rules edges (rules-begin k) (edges-begin k) (rw same at planned) searched makes p work out)
+      (due grammar heard (m .grammar) (m .heard) (k .grammar-is) (k .heard-is) rules edges (rules-begin k) (edges-begin k) (rw same at planned) searched makes p
+      work out)
 
 -- and where zeros were lent, the call is a function of what was handed in
-pub read-next : {grammar heard : List ℕ} {z : Inputs} {rules edges : List ℕ} (k : ReadOf heardBlock grammar heard (replicate 1280 0) (replicate 672 0) z rules edges)
+pub read-next : {grammar heard : List ℕ} {z : Inputs} {rules edges : List ℕ}
+    (k : ReadOf heardBlock grammar heard (replicate 1280 0) (replicate 672 0) z rules edges)
     (q : Plan) → q ≡ planOf z → (p : Place) (work out : List ℕ) {a : A.Answer} {work′ out′ : List ℕ}
-    → As (callBy rules edges q p work out) a work′ out′ → As (nextBy (meantBy heardBlock grammar heard) p work out) a work′ out′
+    → As (callBy rules edges q p work out) a work′ out′ → As (nextOf grammar heard p work out) a work′ out′
 read-next {rules = rules} {edges} k q is p work out {a} {work′} {out′} s =
     let m = k .meant in
     let same : callBy rules edges q p work out ≡ nextBy (accepted m) p work out =
     ap (λ (x : List ℕ). callBy x edges q p work out) (k .rules-laid) ∙ ap (λ (x : List ℕ). callBy (rulesArray (m .grammar)) x q p work out) (k .edges-laid)
     ∙ ap (λ (x : Plan). callBy (rulesArray (m .grammar)) (edgesArray (m .heard)) x p work out) (is ∙ ap planOf (k .sizes)) in
-    rw (both-accepted k) (subst (λ (l : Left). As l a work′ out′) same s)
+    rw (both-accepted k) (subst (λ (l : S.Left). As l a work′ out′) same s)
 
 pub refused-next : (grammar heard : List ℕ) (p : Place) (work out : List ℕ) {n : ℕ} → meantBy heardBlock grammar heard ≡ refused n
-    → As (nextBy (meantBy heardBlock grammar heard) p work out) (Refused n) work out
+    → As (nextOf grammar heard p work out) (Refused n) work out
 refused-next grammar heard p work out e = rw e (record { answer = refl; table = refl; output = refl })
 
 -- a refusal of the blocks
@@ -252,9 +260,10 @@ unfolding S.opening
 inputs-refused grammar heard work e = meant-first heardBlock grammar heard _ ∙ rw e
 
 pub inputs-not-called : (grammar heard : List ℕ) (p : Place) (work out : List ℕ) {n : ℕ} → meantBy heardBlock grammar heard ≡ refused n
-    → Promised searched grammar heard p work out (Refused n) work out
+    → Promised searched (S.lent grammar heard p work out) (unchanged (Refused n) work out)
 unfolding S.calling
-inputs-not-called grammar heard p work out e = refused-promised searched grammar heard p work out (rw (inputs-refused grammar heard (length work) e))
+inputs-not-called grammar heard p work out e =
+    refused-promised searched (S.lent grammar heard p work out) (rw (inputs-refused grammar heard (length work) e))
 
 -- opening
 abbrev OpenedAs : (grammar heard work : List ℕ) → Opened → (work′ : List ℕ) → Type 0
@@ -271,8 +280,10 @@ module _ {grammar heard rules₀ edges₀ : List ℕ} {z : Inputs} {rules edges 
 
   pub not-opened-short : length work < r → OpenedAs grammar heard work (O.Refused 22) work
   not-opened-short short =
-      rw (opening-short grammar heard (k .meant .grammar) (k .meant .heard) (k .grammar-is) (k .heard-is) (length work) (omega (arith, size, short))) (refl, refl)
+      rw (opening-short grammar heard (k .meant .grammar) (k .meant .heard) (k .grammar-is) (k .heard-is) (length work) (omega (arith, size, short)))
+      (refl, refl)
 
   pub opened-zeros : r ≤ length work → {work′ : List ℕ} → work′ ≡ replicate (length work) 0 → OpenedAs grammar heard work O.Opened work′
   opened-zeros room is-zeros =
-      rw (opening-accepts grammar heard (k .meant .grammar) (k .meant .heard) (k .grammar-is) (k .heard-is) (length work) (omega (arith, size, room))) (refl, is-zeros)
+      rw (opening-accepts grammar heard (k .meant .grammar) (k .meant .heard) (k .grammar-is) (k .heard-is) (length work) (omega (arith, size, room)))
+      (refl, is-zeros)

@@ -90,7 +90,8 @@ module _ (g : Grammar) (h : Heard) (okg : ValidGrammar g) (okh : ValidHeard (g .
     pub first-known : Listed g (heardEdges h) d 0 (firstTable rules edges (plan g h) work)
     unfolding firstTable tableSize layOut
     first-known =
-        let rest : drop (4 * d .cells) work ≡ replicate (length work - 4 * d .cells) 0 = ap (drop (4 * d .cells)) is ∙ drop-zeros (length work) (4 * d .cells) in
+        let rest : drop (4 * d .cells) work ≡ replicate (length work - 4 * d .cells) 0 = ap (drop (4 * d .cells)) is
+        ∙ drop-zeros (length work) (4 * d .cells) in
         rw rest (first-reached g h 256 okg okh (omega arith) (omega arith) rules edges begun begun′ (length work - 4 * d .cells) (omega (arith, room)))
 
   pub later-known : (x : ℕ) → x + 1 < 256 → Listed g (heardEdges h) d x work → Listed g (heardEdges h) d (suc x) (nextTable rules edges (plan g h) x work)

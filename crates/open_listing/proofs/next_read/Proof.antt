@@ -52,18 +52,26 @@ same-length-2 c = search needs
 
 returns-4 : tie.Need-returns-4
 returns-4 c =
-    let e = c .before .before .before .before .before .before .before in
+    let at-if4 = c .before .before .before .before .before in
+    let at-before = at-if4 .before in
+    let e = at-before .before in
     let a = start e .args in
     let told = c .before .before .as-spelled .ensures in
     unopened-call (a .rules .now) (a .edges .now) (a .plan) (a .place) (a .work .now) (a .out .now) (short e .table-numbers .ensures .0)
-    (omega (arith, e .before .before .before .before .if1 .left)) (omega (arith, e .before .before .if2 .left)) (omega (arith, e .if3 .left)) (c .before .before .before .before .before .if4 .taken)
+    (omega (arith, e .before .before .before .before .if1 .left)) (omega (arith, e .before .before .if2 .left)) (omega (arith, e .if3 .left))
+    (at-if4 .if4 .taken)
     (as-it-stands (a .rules .now) (a .edges .now) (a .plan) (a .work .now) (a .out .now) (a .place .handed) (told .0) (told .1))
 
 first-requires : tie.Need-first-requires
 first-requires c κs =
-    let e = c .before .before .before .before .before in
-    let s = start e in
-    (s .pre, omega (arith, e .before .before .if2 .left), front-fits (s .args .plan) (s .pre) (short e .table-numbers .ensures .0) (omega (arith, e .before .before .before .before .if1 .left)))
+    let at-before = c .before .before .before .before in
+    let e = at-before .before in
+    let s = start e in (
+      s .pre,
+      omega (arith, e .before .before .if2 .left),
+      front-fits (s .args .plan) (s .pre) (short e .table-numbers .ensures .0)
+          (omega (arith, e .before .before .before .before .if1 .left)),
+    )
 
 same-length-3 : tie.Need-same-length-3
 same-length-3 c = search needs
@@ -73,11 +81,15 @@ same-length-4 c = search needs
 
 returns-5 : tie.Need-returns-5
 returns-5 c =
-    let e = c .before .before .before .before .before .before .before .before .before .before in
+    let at-first = c .before .before .before .before in
+    let at-if5 = at-first .before .before .before in
+    let at-if4 = at-if5 .before in
+    let at-before = at-if4 .before in
+    let e = at-before .before in
     let a = start e .args in
     first-call (a .rules .now) (a .edges .now) (a .plan) (a .place) (a .work .now) (a .out .now) (short e .table-numbers .ensures .0)
     (omega (arith, e .before .before .before .before .if1 .left)) (omega (arith, e .before .before .if2 .left)) (omega (arith, e .if3 .left))
-    (c .before .before .before .before .before .before .before .before .if4 .left) (c .before .before .before .before .before .before .before .if5 .taken) (c .before .before .before .before .first .ensures)
+    (at-if4 .if4 .left) (at-if5 .if5 .taken) (at-first .first .ensures)
 
 later-requires : tie.Need-later-requires
 later-requires c κs =
@@ -93,11 +105,15 @@ same-length-6 c = search needs
 
 returns-6 : tie.Need-returns-6
 returns-6 c =
-    let e = c .before .before .before .before .before .before .before .before .before .before in
+    let at-later = c .before .before .before .before in
+    let at-if5 = at-later .before .before .before in
+    let at-if4 = at-if5 .before in
+    let at-before = at-if4 .before in
+    let e = at-before .before in
     let a = start e .args in
     later-call (a .rules .now) (a .edges .now) (a .plan) (a .place) (a .work .now) (a .out .now) (short e .table-numbers .ensures .0)
     (omega (arith, e .before .before .before .before .if1 .left)) (omega (arith, e .before .before .if2 .left)) (omega (arith, e .if3 .left))
-    (c .before .before .before .before .before .before .before .before .if4 .left) (omega (arith, c .before .before .before .before .before .before .before .if5 .left)) (c .before .before .before .before .later .ensures)
+    (at-if4 .if4 .left) (omega (arith, at-if5 .if5 .left)) (at-later .later .ensures)
 
 pub next-read-spec : {M : Type 1} → statement M
 next-read-spec =
