@@ -178,7 +178,7 @@ class Grammar:
         empty_words: "Iterable[str]" = (),
     ) -> Heard:
         """Reads the text of an utterance, a confusion network, a word graph or a lattice, as the command does with the options
-        of these names.
+        of these names. What the command would tell of it stands in the answer's ``notes``.
 
         >>> doors = Grammar.from_text('Entry -> "door" Number\\nNumber -> "four" | "five"')
         >>> doors.read("door 3; four 9 | five 5")
@@ -186,8 +186,10 @@ class Grammar:
         """
         lent, empty = text.encode(), "\n".join(empty_words).encode()
         options = lib.TextOptions(scale or 0.0, drop_unknown, drop_deletes, lib.lent_text(empty))
-        [line] = lib.read_text("heard", self._named, byref(lib.lent_text(lent)), byref(options))
-        return self.heard(bytes.fromhex(line))
+        block, *notes = lib.read_text("heard", self._named, byref(lib.lent_text(lent)), byref(options))
+        heard = self.heard(bytes.fromhex(block))
+        heard.notes = tuple(notes)
+        return heard
 
     def heard(self, block: bytes) -> Heard:
         """Unpacks the block of slots or of a word graph."""
