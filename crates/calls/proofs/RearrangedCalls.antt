@@ -12,7 +12,6 @@ use Rattle.packing.specs.Grammar.{grammarBlock}
 use Rattle.packing.specs.Heard.{heardBlock}
 use Rattle.packing.specs.Reading.{readingLength}
 use Rattle.packing.specs.GraphReading.{graphReadingLength}
-use Rattle.packing.specs.Rows.{_∪_, GrammarBlockRow, HeardBlockRow, ListingRow}
 use Rattle.packing.specs.Valid.{ValidGrammar, ValidHeard}
 use Rattle.packing.proofs.Whole.{grammar-block-out}
 use Rattle.packing.proofs.Heard.{heard-block-out}
@@ -29,11 +28,11 @@ use Rattle.rearranged.proofs.Held.{weight-held}
 use Rattle.listing.specs.Conditions.{library, tableSize, conditions, askedListing}
 use Rattle.listing.proofs.Accepted.{Asks, conditions-asks}
 use Rattle.listing.specs.Demand3.{kthBytes, Ranked, RankedList}
 use Rattle.spireyerba.specs.Demands as D
-use Rattle.spireyerba.specs.Demands.{Demand1, answers, refuses}
-use Rattle.spireyerba.specs.RearrangedCalls.{weightHeld, Among, SameReadings, RearrangedCalls}
+use Rattle.calls.specs.RearrangedCalls.{weightHeld, Among, SameReadings, RearrangedCalls}
 use Rattle.spireyerba.proofs.Small.{low-listing}
-use Rattle.spireyerba.proofs.Demands.{low-code, found}
+use Rattle.spireyerba.proofs.Demands.{found}
+use Rattle.calls.proofs.Answered.{answered}
 
 module _ (grammar heard : List ℕ) {g : Grammar} {h : Heard} (p : grammarBlock grammar ≡ accepted g) (q : heardBlock (g .words) heard ≡ accepted h)
     (N : ℕ) where
@@ -46,13 +45,9 @@ module _ (grammar heard : List ℕ) {g : Grammar} {h : Heard} (p : grammarBlock 
 
   answered-enough : {work out after written : List ℕ} {m : ℕ} → D.Listing grammar heard N work out (pos m) after written
       → Asks g h N (length work) (length out)
-  answered-enough {work} {out} {after} {written} {m} call = go (call .demand-1) refl
-    where
-      go : {Answer : Grammar × Heard → ℕ → Type 0} {Unchanged : Type 0} {z : ℤ}
-          → Demand1 (askedListing library grammar heard N (length work) (length out)) Answer (GrammarBlockRow ∪ HeardBlockRow ∪ ListingRow) Unchanged z → z ≡ pos m
-          → Asks g h N (length work) (length out)
-      go (answers due a) e = accepted-enough (length work) (length out) due
-      go (refuses {n} due row u) e = absurd (low-code n m (low-listing n row .0) e)
+  answered-enough {work} {out} call =
+      let (b, due, _) = answered (λ n row. low-listing n row .0) (call .demand-1) in
+      accepted-enough (length work) (length out) due
 
 -- readings of rearranged rules are as long, and need as much
 same-output : {f : ℕ → ℕ} {g g′ : Grammar} → Rearranged f g g′ → (h : Heard) → outputLength g h ≡ outputLength g′ h

@@ -1,0 +1,2 @@
+pub mod RearrangedCalls
+pub mod ChangedCalls
