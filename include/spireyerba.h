@@ -502,7 +502,14 @@ int32_t spireyerba_panel_listing(
 
 /* Refusal of ranges of costs. */
 enum {
-    SPIREYERBA_COST_RANGES = 59      /* other than costs differs, a cost falls, or NOT_HEARD is in one only */
+    SPIREYERBA_RANGES_DISAGREE = 59  /* other than costs differs, a cost falls, or NOT_HEARD is in one only */
+};
+
+/* The answers of spireyerba_cost_ranges, about the first reading for the low costs. */
+enum {
+    SPIREYERBA_FIRST_NOTHING = 0,    /* there is none, under no choice of costs   */
+    SPIREYERBA_FIRST_OUTWEIGHED = 1, /* under some choice another is lighter      */
+    SPIREYERBA_FIRST_STANDS = 2      /* under every choice it has least weight    */
 };
 
 /*
@@ -511,18 +518,19 @@ enum {
 ** for their costs, none of which falls from low to high; NOT_HEARD stands in both
 ** or in neither. A choice gives each word a cost from its low to its high one.
 **
-** Answers 0 if there is no derivation; then there is none under any choice. Else
-** *least and *greatest are the least and the greatest weight that a first reading
-** has over all choices, both of them reached, and the answer is about the first
-** reading for the low costs, by the order of the listing: 1 if under some choice
-** some derivation is strictly lighter, 2 if under none. A tie does not outweigh.
+** Answers FIRST_NOTHING if there is no derivation; then there is none under any
+** choice. Else *least and *greatest are the least and the greatest weight that a
+** first reading has over all choices, both of them reached, and the answer is about
+** the first reading for the low costs, by the order of the listing:
+** FIRST_OUTWEIGHED if under some choice some derivation is strictly lighter,
+** FIRST_STANDS if under none. A tie does not outweigh.
 **
 ** work is as for a listing of one reading, spireyerba_work_length(S, n, 1)
-** numbers; after an answer, also 0, all of it is zero. With the answer 0, and with
-** a refusal, *least and *greatest are as they were.
+** numbers; after an answer, also FIRST_NOTHING, all of it is zero. With that one,
+** and with a refusal, *least and *greatest are as they were.
 **
 ** Refuses for the blocks, low before high (a graph is UTTERANCE_KIND), then with
-** COST_RANGES, LISTING_WORK.
+** RANGES_DISAGREE, LISTING_WORK.
 */
 int32_t spireyerba_cost_ranges(
     const uint8_t *grammar, size_t grammar_len,

@@ -67,7 +67,7 @@ static const struct {
     {SPIREYERBA_OFFICE_SIZE, "the grammar that an office sheet becomes passes 32 symbols or 256 rules"},
     {SPIREYERBA_PANEL_SLOTS, "the panel takes at most 12 slots, or 13 places of a word graph"},
     {SPIREYERBA_PANEL_WANTED, "the panel lists at most 16 readings"},
-    {SPIREYERBA_COST_RANGES, "the utterances differ elsewhere than in costs, a cost falls, or 65,535 stands in one only"},
+    {SPIREYERBA_RANGES_DISAGREE, "the utterances differ elsewhere than in costs, a cost falls, or 65,535 stands in one only"},
     {SPIREYERBA_SHARES_COUNT, "there is not one share for each rule of the grammar"},
     {SPIREYERBA_SHARE_RANGE, "a share is not 1 to 1,024"},
 };
@@ -222,6 +222,17 @@ int32_t spireyerba_util_read_reading(const spireyerba_util_grammar *grammar, con
         return -SPIREYERBA_READING_WALK;
     *reading = read;
     return (int32_t)read.leaves;
+}
+
+int32_t spireyerba_util_read_readings(const spireyerba_util_grammar *grammar, const uint8_t *blocks, size_t length,
+                                      uint32_t count, spireyerba_util_reading *readings) {
+    uint32_t k;
+    for (k = 0; k < count; k++) {
+        int32_t answer = spireyerba_util_read_reading(grammar, blocks + k * length, length, &readings[k]);
+        if (answer < 0)
+            return answer;
+    }
+    return (int32_t)count;
 }
 
 /* Writes the next field; the block's bits are zero there. */

@@ -5,12 +5,11 @@ use crate::inputs::{graphs, greatest, Input};
 use crate::measure::{medians, micros, ratio, Plan};
 use crate::table::{print_head, print_row};
 use spireyerba::limits::{work_length, MAX_SHARE};
-use spireyerba::{services, Item, Office, OfficeRule, Refusal};
+use spireyerba::{services, Heard, Item, Office, OfficeRule, Refusal};
 use spireyerba_tests::chance::chance;
 use spireyerba_tests::check::check;
 use spireyerba_tests::cost_ranges::cost_ranges;
-use spireyerba_tests::heard::Heard;
-use spireyerba_tests::{conversions, grammar, utterance};
+use spireyerba_tests::{conversions, grammar, heard, utterance};
 use std::cell::RefCell;
 use std::hint::black_box;
 
@@ -86,8 +85,8 @@ fn office() -> Office {
 
 /// The check of the least reading.
 fn print_check(name: &str, Input { grammar, heard, .. }: &Input) {
-    let (grammar_block, block) = (grammar::pack(grammar), heard.pack(grammar));
-    let (_, reading) = &heard.least(grammar, 1)[0];
+    let (grammar_block, block) = (grammar::pack(grammar), heard::pack(grammar, heard));
+    let (_, reading) = &heard::least(grammar, heard, 1)[0];
     print_call::<u8>(
         name,
         &[],
@@ -98,8 +97,8 @@ fn print_check(name: &str, Input { grammar, heard, .. }: &Input) {
 
 /// The chance of the least reading, by shares from the greatest down.
 fn print_chance(name: &str, Input { grammar, heard, .. }: &Input) {
-    let (grammar_block, block) = (grammar::pack(grammar), heard.pack(grammar));
-    let (_, reading) = &heard.least(grammar, 1)[0];
+    let (grammar_block, block) = (grammar::pack(grammar), heard::pack(grammar, heard));
+    let (_, reading) = &heard::least(grammar, heard, 1)[0];
     let shares: Vec<u32> = (1..=MAX_SHARE).rev().take(grammar.rules.len()).collect();
     let mut product = 0.0;
     chance(&grammar_block, &block, reading, &shares, &mut product).expect("a reading that passes the check");

@@ -1,9 +1,8 @@
 //! The listing written freely, with heaps and vectors: the first tree of every cell bottom up, further trees of a cell
 //! only when they are asked for (Jiménez and Marzal 2000; Huang and Chiang 2005, algorithm 3).
 
-use spireyerba::{Body, Grammar, Graph, GraphReading, Reading, Refusal};
-use spireyerba_tests::heard::Heard;
-use spireyerba_tests::{grammar, graph_reading, reading};
+use spireyerba::{Body, Grammar, Graph, Heard, Reading, Refusal};
+use spireyerba_tests::{grammar, graph_reading, heard, reading};
 use std::borrow::Cow;
 use std::cmp::Reverse;
 use std::collections::BinaryHeap;
@@ -11,11 +10,11 @@ use std::collections::BinaryHeap;
 /// Writes the readings one after another and answers their number.
 pub fn listing(grammar: &[u8], heard: &[u8], wanted: usize, out: &mut [u8]) -> Result<usize, Refusal> {
     let grammar = grammar::from_block(grammar)?;
-    let heard = Heard::from_block(&grammar, heard)?;
+    let heard = heard::from_block(&grammar, heard)?;
     let readings = least(&grammar, &heard, wanted);
-    for (place, found) in out.chunks_exact_mut(heard.reading_length(&grammar)).zip(&readings) {
+    for (place, found) in out.chunks_exact_mut(heard::reading_length(&grammar, &heard)).zip(&readings) {
         let block = match heard {
-            Heard::Slots(_) => reading::pack(&grammar, &found.reading),
+            Heard::Slots(_) => reading::pack(&grammar, found),
             Heard::Graph(_) => graph_reading::pack(&grammar, found),
         };
         let (own, behind) = place.split_at_mut(block.len());
@@ -27,7 +26,7 @@ pub fn listing(grammar: &[u8], heard: &[u8], wanted: usize, out: &mut [u8]) -> R
 
 /// The readings of the `wanted` least derivations, in the order; of slots with their words numbered as in the graph that they
 /// can be redrawn as.
-pub fn least(grammar: &Grammar, heard: &Heard, wanted: usize) -> Vec<GraphReading> {
+pub fn least(grammar: &Grammar, heard: &Heard, wanted: usize) -> Vec<Reading> {
     let graph = match heard {
         Heard::Slots(utterance) => Cow::Owned(Graph::from(utterance)),
         Heard::Graph(graph) => Cow::Borrowed(graph),
@@ -38,10 +37,9 @@ pub fn least(grammar: &Grammar, heard: &Heard, wanted: usize) -> Vec<GraphReadin
     let mut readings = Vec::new();
     while readings.len() < wanted && chart.find(root, readings.len()) {
         let weight = chart.cell(root).found[readings.len()].weight;
-        let reading = Reading { weight, walk: Vec::with_capacity(2 * chart.last) };
-        let mut found = GraphReading { reading, path: Vec::with_capacity(chart.last) };
-        chart.spell(root, readings.len(), &mut found);
-        readings.push(found);
+        let (mut walk, mut path) = (Vec::with_capacity(2 * chart.last), Vec::with_capacity(chart.last));
+        chart.spell(root, readings.len(), (&mut walk, &mut path));
+        readings.push(Reading::of_path(weight, walk, path));
     }
     readings
 }
@@ -248,16 +246,16 @@ impl Chart {
     }
 
     /// Appends the walk and the path of a found tree.
-    fn spell(&self, span: Span, rank: usize, found: &mut GraphReading) {
+    fn spell(&self, span: Span, rank: usize, (walk, path): (&mut Vec<u32>, &mut Vec<u32>)) {
         let candidate = self.cell(span).found[rank];
-        found.reading.walk.push(u32::from(candidate.rule));
+        walk.push(u32::from(candidate.rule));
         if candidate.split == 0 {
-            found.path.push(u32::from(candidate.left));
+            path.push(u32::from(candidate.left));
             return;
         }
         let (left, right) = self.parts(span, candidate);
-        self.spell(left, candidate.left as usize, found);
-        self.spell(right, candidate.right as usize, found);
+        self.spell(left, candidate.left as usize, (walk, path));
+        self.spell(right, candidate.right as usize, (walk, path));
     }
 }
 
@@ -286,7 +284,7 @@ mod tests {
             let wanted = rng.pick(&[1, 2, 5, 30, 256]);
             let expected = nbest::least(&grammar, &utterance, wanted);
             let readings = least(&grammar, &Heard::Slots(utterance.clone()), wanted);
-            assert!(readings.iter().map(|found| &found.reading).eq(&expected), "{grammar:?} {utterance:?}");
+            assert!(readings.iter().cloned().map(reading::without_path).eq(expected), "{grammar:?} {utterance:?}");
             found += readings.len();
         });
         assert!(found > 10_000, "{found} readings");

@@ -1,9 +1,8 @@
 //! The grammars, utterances and word graphs that the listing is measured on, and the grammars that the specimen is.
 
 use spireyerba::limits::{MAX_EDGES, MAX_PLACES};
-use spireyerba::{Body, Candidate, Edge, Grammar, Graph, Rule, Utterance};
+use spireyerba::{Body, Candidate, Edge, Grammar, Graph, Heard, Rule, Utterance};
 use spireyerba_tests::grammar::words_of_rules;
-use spireyerba_tests::heard::Heard;
 use spireyerba_tests::seeded::grammars::{with_weights, Weights};
 use spireyerba_tests::seeded::rng::Rng;
 use std::collections::HashSet;
@@ -169,21 +168,18 @@ pub fn utterance(rng: &mut Rng, grammar: &Grammar, slots: usize, candidates: usi
 mod tests {
     use super::*;
     use crate::free;
-    use spireyerba_tests::{grammar, specimen};
+    use spireyerba_tests::{grammar, heard, specimen};
 
     #[test]
     fn each_shape_is_accepted_and_has_256_readings() {
         let of_slots = [6, 12, 24].map(greatest).into_iter().chain(shapes());
         for Input { name, grammar, heard } in of_slots.chain(graphs()).chain(redrawn().into_iter().flatten()) {
             let grammar_block = grammar.to_block().expect(name);
-            let block = match &heard {
-                Heard::Slots(utterance) => utterance.to_block(&grammar_block),
-                Heard::Graph(graph) => graph.to_block(&grammar_block),
-            };
-            assert_eq!(Heard::from_block(&grammar, &block.expect(name)).as_ref(), Ok(&heard), "{name}");
-            let length = heard.reading_length(&grammar);
+            let block = heard.to_block(&grammar_block).expect(name);
+            assert_eq!(heard::from_block(&grammar, &block).as_ref(), Ok(&heard), "{name}");
+            let length = heard::reading_length(&grammar, &heard);
             let (mut work, mut out, mut from_free) = (vec![0; 9_830_400], vec![1; 256 * length], vec![2; 256 * length]);
-            let blocks = (grammar::pack(&grammar), heard.pack(&grammar));
+            let blocks = (grammar::pack(&grammar), heard::pack(&grammar, &heard));
             let found = spireyerba_tests::listing::listing(&blocks.0, &blocks.1, 256, &mut work, &mut out);
             assert_eq!(found, Ok(256), "{name}");
             assert_eq!(free::listing(&blocks.0, &blocks.1, 256, &mut from_free), Ok(256), "{name}");

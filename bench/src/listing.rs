@@ -7,8 +7,8 @@ use crate::office;
 use crate::table::{print_head, print_row};
 use spireyerba::limits::{work_length, PANEL_MAX_READINGS};
 use spireyerba::services;
-use spireyerba_tests::grammar;
 use spireyerba_tests::listing::listing;
+use spireyerba_tests::{grammar, heard};
 use std::hint::black_box;
 use std::time::{Duration, Instant};
 
@@ -135,10 +135,10 @@ impl Lent {
         let Input { grammar, heard, .. } = input;
         Self {
             grammar: grammar::pack(grammar),
-            heard: heard.pack(grammar),
+            heard: heard::pack(grammar, heard),
             wanted,
             work: vec![1; work_length(grammar.symbols as usize, heard.longest(), wanted)],
-            out: vec![0; wanted * heard.reading_length(grammar)],
+            out: vec![0; wanted * heard::reading_length(grammar, heard)],
         }
     }
 

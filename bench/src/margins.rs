@@ -6,8 +6,8 @@ use crate::office;
 use crate::table::{print_head, print_row};
 use spireyerba::limits::{work_length, MARGINS_MAX};
 use spireyerba::services::{listing, word_margins};
-use spireyerba_tests::grammar;
-use spireyerba_tests::heard::Heard;
+use spireyerba::Heard;
+use spireyerba_tests::{grammar, heard};
 use std::cell::RefCell;
 use std::hint::black_box;
 
@@ -19,9 +19,10 @@ pub fn print_table() {
     let inputs = [greatest(6), greatest(12), greatest(24)].into_iter().chain(shapes()).chain(offices);
     for input in inputs.chain(office::doors()).filter(|input| matches!(input.heard, Heard::Slots(_))) {
         let Input { grammar, heard, name } = &input;
-        let (block, heard_block) = (grammar::pack(grammar), heard.pack(grammar));
+        let (block, heard_block) = (grammar::pack(grammar), heard::pack(grammar, heard));
         let work = RefCell::new(vec![1; work_length(grammar.symbols as usize, heard.longest(), 1)]);
-        let (mut reading, mut entries, mut count) = (vec![0; heard.reading_length(grammar)], [0; MARGINS_MAX], 0);
+        let (mut reading, mut entries, mut count) =
+            (vec![0; heard::reading_length(grammar, heard)], [0; MARGINS_MAX], 0);
         let mut list = || {
             listing(&block, &heard_block, 1, &mut work.borrow_mut(), black_box(&mut reading)).expect("a list");
         };

@@ -2,10 +2,9 @@
 //! one symbol, and an utterance that the grammar says, with confusions added.
 
 use crate::inputs::Input;
-use spireyerba::{Body, Candidate, Edge, Grammar, Graph, Rule, Utterance};
-use spireyerba_tests::grammar;
-use spireyerba_tests::heard::Heard;
+use spireyerba::{Body, Candidate, Edge, Grammar, Graph, Heard, Rule, Utterance};
 use spireyerba_tests::seeded::rng::Rng;
+use spireyerba_tests::{grammar, heard};
 use std::collections::HashSet;
 use std::ops::RangeInclusive;
 
@@ -39,7 +38,7 @@ pub fn of_graphs(steps: usize) -> Vec<Input> {
 pub fn doors() -> [Input; 2] {
     let input = |name, grammar_block: &[u8], block: &[u8]| {
         let grammar = grammar::from_block(grammar_block).expect("the example");
-        let heard = Heard::from_block(&grammar, block).expect("the example");
+        let heard = heard::from_block(&grammar, block).expect("the example");
         Input { name, grammar, heard }
     };
     [
@@ -183,9 +182,9 @@ mod tests {
     fn what_was_said_has_a_reading() {
         let inputs = [6, 12, 24].into_iter().flat_map(|length| of_slots(length).into_iter().chain(of_graphs(length)));
         for Input { name, grammar, heard } in inputs.chain(doors()) {
-            let length = heard.reading_length(&grammar);
+            let length = heard::reading_length(&grammar, &heard);
             let (mut work, mut out, mut from_free) = (vec![0; 9_830_400], vec![0; 16 * length], vec![0; 16 * length]);
-            let blocks = (grammar::pack(&grammar), heard.pack(&grammar));
+            let blocks = (grammar::pack(&grammar), heard::pack(&grammar, &heard));
             let found = spireyerba_tests::listing::listing(&blocks.0, &blocks.1, 16, &mut work, &mut out);
             assert!(found.expect(name) > 0, "{name}: no reading");
             assert_eq!(free::listing(&blocks.0, &blocks.1, 16, &mut from_free), found, "{name}");

@@ -7,7 +7,7 @@ use crate::table::{print_head, print_row};
 use spireyerba::limits::{work_length, MAX_READINGS};
 use spireyerba::services::{listing, next, open, Next, Place};
 use spireyerba::Refusal;
-use spireyerba_tests::grammar;
+use spireyerba_tests::{grammar, heard};
 use std::cell::RefCell;
 use std::hint::black_box;
 
@@ -60,10 +60,10 @@ struct Lent {
 
 impl Lent {
     fn new(Input { grammar, heard, .. }: &Input) -> Self {
-        let length = heard.reading_length(grammar);
+        let length = heard::reading_length(grammar, heard);
         Self {
             grammar: grammar::pack(grammar),
-            heard: heard.pack(grammar),
+            heard: heard::pack(grammar, heard),
             work: vec![1; work_length(grammar.symbols as usize, heard.longest(), READINGS)],
             length,
             out: vec![0; READINGS * length],

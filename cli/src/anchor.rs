@@ -1,11 +1,10 @@
 //! Anchors: words that are known for certain.
 
 use crate::failure::Failure;
-use crate::heard::Heard;
 use crate::options::{Arguments, SAID};
 use spireyerba::limits::NOT_HEARD;
 use spireyerba::text::NamedGrammar;
-use spireyerba::Candidate;
+use spireyerba::{Candidate, Heard};
 
 /// Strikes out, slot by slot, what stands beside the words that the command line says were said: they were not heard. Answers
 /// the slots of those words.

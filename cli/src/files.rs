@@ -5,12 +5,11 @@
 //! do blocks of utterances and readings.
 
 use crate::failure::Failure;
-use crate::heard::Heard;
 use crate::options::{Arguments, DROP_DELETES, DROP_UNKNOWN, EMPTY, FILE, SCALE};
 use crate::output::Output;
 use spireyerba::services::check;
-use spireyerba::text::{is_graph, parse_graph_reading, parse_reading, NamedGrammar, Places, UtteranceReader};
-use spireyerba::{Error, GraphReading, Reading, Refusal};
+use spireyerba::text::{is_graph, parse_reading, parse_sheet, NamedGrammar, Places, UtteranceReader};
+use spireyerba::{Error, Heard, PackedGrammar, Reading, Refusal};
 use std::io::Read;
 
 /// The operand that means standard input, and its name in messages.
@@ -94,12 +93,12 @@ fn text_of(bytes: &[u8]) -> Result<&str, usize> {
     text.find(is_foreign).map_or(Ok(text), Err)
 }
 
-/// A grammar that was read, and its block.
+/// A grammar that was read, and packed once.
 pub struct GrammarFile {
     /// The file's name in messages.
     pub name: String,
     pub named: NamedGrammar,
-    pub block: Vec<u8>,
+    pub packed: PackedGrammar,
     /// Where in the text things stand, if it was a text.
     pub places: Option<Places>,
 }
@@ -111,8 +110,8 @@ pub fn grammar(operand: &str) -> Result<GrammarFile, Failure> {
     let (named, places) = file.block_or_text(NamedGrammar::from_block(&file.bytes).map(without_places), |text| {
         NamedGrammar::parse_with_places(text).map(|(named, places)| (named, Some(places)))
     })?;
-    let block = named.to_block().map_err(|refusal| Error::from(refusal).in_file(&file.name))?;
-    Ok(GrammarFile { name: file.name, named, block, places })
+    let packed = named.packed().map_err(|refusal| Error::from(refusal).in_file(&file.name))?;
+    Ok(GrammarFile { name: file.name, named, packed, places })
 }
 
 /// A reader of utterances that does as the command line says.
@@ -137,7 +136,7 @@ pub fn scale(arguments: &Arguments) -> Result<Option<f64>, Failure> {
 pub fn heard(arguments: &Arguments, grammar: &GrammarFile, operand: &str) -> Result<Heard, Failure> {
     let reader = utterance_reader(arguments, &grammar.named)?;
     let file = File::read(operand)?;
-    file.block_or_text(Heard::from_block(&grammar.block, &file.bytes), |text| {
+    file.block_or_text(Heard::from_block(grammar.packed.block(), &file.bytes), |text| {
         if is_graph(text) {
             reader.read_graph(text).map(Heard::Graph)
         } else {
@@ -146,9 +145,9 @@ pub fn heard(arguments: &Arguments, grammar: &GrammarFile, operand: &str) -> Res
     })
 }
 
-/// A reading that the library passes, with the path that it has in a word graph, and its block.
+/// A reading that the library passes, and its block.
 pub struct ReadingFile {
-    pub found: GraphReading,
+    pub reading: Reading,
     pub block: Vec<u8>,
 }
 
@@ -157,30 +156,26 @@ pub struct ReadingFile {
 pub fn reading(grammar: &GrammarFile, heard: &Heard, operand: &str) -> Result<ReadingFile, Failure> {
     let file = File::read(operand)?;
     let in_file = |refusal: Refusal| Error::from(refusal).in_file(&file.name);
-    let heard_block = heard.to_block(&grammar.block).map_err(Error::from)?;
-    let (named, blocks) = (&grammar.named, (&grammar.block, &heard_block));
-    let (found, block) = match heard {
-        Heard::Slots(_) => {
-            let accepted = Reading::from_block(blocks.0, blocks.1, &file.bytes);
-            let parse = |text: &str| parse_reading(text).map(|written| named.whole_reading(&written));
-            let reading = file.block_or_text(accepted, parse)?;
-            let block = reading.to_block(named.grammar.rules.len());
-            (GraphReading { reading, path: Vec::new() }, block)
-        }
-        Heard::Graph(_) => {
-            let accepted = GraphReading::from_block(blocks.0, blocks.1, &file.bytes);
-            let parse = |text: &str| {
-                let GraphReading { reading, path } = parse_graph_reading(text)?;
-                Ok(GraphReading { reading: named.whole_reading(&reading), path })
-            };
-            let found = file.block_or_text(accepted, parse)?;
-            let block = found.to_block(&named.grammar);
-            (found, block)
-        }
-    };
-    let block = block.map_err(in_file)?;
-    check(blocks.0, blocks.1, &block).map_err(in_file)?;
-    Ok(ReadingFile { found, block })
+    let under = grammar.packed.block();
+    let heard_block = heard.to_block(under).map_err(Error::from)?;
+    let accepted = Reading::from_block(under, &heard_block, &file.bytes);
+    let reading = file.block_or_text(accepted, |text| parse_reading_of(grammar, heard, text))?;
+    let block = reading.to_block(grammar.packed.grammar()).map_err(in_file)?;
+    check(under, &heard_block, &block).map_err(in_file)?;
+    Ok(ReadingFile { reading, block })
+}
+
+/// The reading of slots or of a word graph that a text has.
+fn parse_reading_of(grammar: &GrammarFile, heard: &Heard, text: &str) -> Result<Reading, Error> {
+    if let Heard::Slots(_) = heard {
+        // there a bar is a fault, for no edges can follow it
+        parse_sheet(text)?;
+    }
+    let mut written = parse_reading(text)?;
+    if let Heard::Graph(_) = heard {
+        written.path.get_or_insert_default();
+    }
+    Ok(grammar.named.whole_reading(&written))
 }
 
 /// Reads the shares of a grammar's rules.

@@ -75,6 +75,9 @@ pub const JOBS: Opt = Opt {
     help: "use so many threads; one for each core unless given",
 };
 
+/// What every command has beside its own.
+pub const HELP: Opt = Opt { long: "help", short: Some('h'), value: None, help: "print this" };
+
 /// The readings of a list that is not told how many to have.
 pub const WANTED_UNLESS_GIVEN: u32 = 8;
 

@@ -4,10 +4,9 @@
 //! and that of a first word may start before the slots in front of it.
 
 use crate::failure::Failure;
-use crate::heard::Heard;
 use crate::options::{Arguments, SKIP};
 use spireyerba::limits::{MAX_EDGES, NOT_HEARD};
-use spireyerba::{Candidate, Edge, Graph, Utterance};
+use spireyerba::{Candidate, Edge, Graph, Heard, Utterance};
 
 /// Redraws slots so that they may be passed over, if the command line asks for it, and says on standard error how many in a
 /// row; those that are known for certain are not passed over. Answers the slot of each edge.

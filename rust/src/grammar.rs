@@ -1,8 +1,8 @@
 //! Grammars as values.
 
 use crate::limits::GRAMMAR_BLOCK_MAX;
-use crate::services::{chance, check, grammar_to_block};
-use crate::{Graph, GraphReading, Lister, MarkedGrammar, Reading, Refusal, Utterance};
+use crate::services::grammar_to_block;
+use crate::{HeardRef, Lister, MarkedGrammar, PackedGrammar, Reading, Refusal};
 
 /// What a rule puts in the place of its head.
 #[derive(Clone, Copy, Debug, PartialEq, Eq, Hash)]
@@ -87,25 +87,18 @@ impl Grammar {
         Ok(block)
     }
 
-    /// The `wanted` least readings of an utterance, the least first; fewer if there are no more. Refuses as
-    /// [`grammar_to_block`] and [`utterance_to_block`](crate::services::utterance_to_block) do, then with
-    /// [`Refusal::ListingWanted`].
+    /// The `wanted` least readings of what was heard, the least first; fewer if there are no more. Refuses as
+    /// [`grammar_to_block`] and [`Utterance::to_block`](crate::Utterance::to_block) or
+    /// [`Graph::to_block`](crate::Graph::to_block) do, then with [`Refusal::ListingWanted`].
     ///
     /// A call has a work table of its own; a [`Lister`] keeps one between calls.
-    pub fn list(&self, utterance: &Utterance, wanted: u32) -> Result<Vec<Reading>, Refusal> {
-        Lister::new(self)?.list(utterance, wanted)
+    pub fn list<'a>(&self, heard: impl Into<HeardRef<'a>>, wanted: u32) -> Result<Vec<Reading>, Refusal> {
+        Lister::new(self)?.list(heard, wanted)
     }
 
-    /// The `wanted` least readings of a word graph, the least first; fewer if there are no more. Refuses as
-    /// [`grammar_to_block`] and [`Graph::to_block`] do, then with [`Refusal::ListingWanted`].
-    ///
-    /// A call has a work table of its own; a [`Lister`] keeps one between calls.
-    pub fn list_graph(&self, graph: &Graph, wanted: u32) -> Result<Vec<GraphReading>, Refusal> {
-        Lister::new(self)?.list_graph(graph, wanted)
-    }
-
-    /// Passes a reading of an utterance exactly if it is that of a derivation, with its true weight. Refuses the grammar and
-    /// the utterance as they are when packed, then the reading as [`Reading::to_block`] and [`check`] do.
+    /// Passes a reading of what was heard exactly if it is that of a derivation, with its true weight. Refuses the grammar and
+    /// what was heard as they are when packed, then the reading as [`Reading::to_block`] and
+    /// [`check`](crate::services::check) do.
     ///
     /// ```
     /// use spireyerba::{text::NamedGrammar, Refusal};
@@ -118,21 +111,13 @@ impl Grammar {
     /// assert_eq!(named.grammar.check(&utterance, &reading), Err(Refusal::ReadingWeight));
     /// # Ok::<(), spireyerba::Error>(())
     /// ```
-    pub fn check(&self, utterance: &Utterance, reading: &Reading) -> Result<(), Refusal> {
-        let grammar = self.to_block()?;
-        check(&grammar, &utterance.to_block(&grammar)?, &reading.to_block(self.rules.len())?)
+    pub fn check<'a>(&self, heard: impl Into<HeardRef<'a>>, reading: &Reading) -> Result<(), Refusal> {
+        PackedGrammar::new(self)?.check(heard, reading)
     }
 
-    /// Passes a reading of a word graph exactly if it is that of a derivation, with its true weight. Refuses the grammar and
-    /// the graph as they are when packed, then the reading as [`GraphReading::to_block`] and [`check`] do.
-    pub fn check_graph(&self, graph: &Graph, reading: &GraphReading) -> Result<(), Refusal> {
-        let grammar = self.to_block()?;
-        check(&grammar, &graph.to_block(&grammar)?, &reading.to_block(self)?)
-    }
-
-    /// The chance of a reading of an utterance: the product of the shares of its rules, each of 1,024, as
-    /// [`chance`] has it. Refuses as [`Self::check`] does, then with [`Refusal::SharesCount`] where there is not one share for
-    /// each rule, then with [`Refusal::ShareRange`].
+    /// The chance of a reading of what was heard: the product of the shares of its rules, each of 1,024, as
+    /// [`chance`](crate::services::chance) has it. Refuses as [`Self::check`] does, then with [`Refusal::SharesCount`] where
+    /// there is not one share for each rule, then with [`Refusal::ShareRange`].
     ///
     /// ```
     /// use spireyerba::{text::NamedGrammar, Refusal};
@@ -144,19 +129,12 @@ impl Grammar {
     /// assert_eq!(named.grammar.chance(&utterance, &reading, &[512]), Err(Refusal::SharesCount));
     /// # Ok::<(), spireyerba::Error>(())
     /// ```
-    pub fn chance(&self, utterance: &Utterance, reading: &Reading, shares: &[u32]) -> Result<f64, Refusal> {
-        let (grammar, mut product) = (self.to_block()?, 0.0);
-        let utterance = utterance.to_block(&grammar)?;
-        chance(&grammar, &utterance, &reading.to_block(self.rules.len())?, shares, &mut product)?;
-        Ok(product)
-    }
-
-    /// The chance of a reading of a word graph, as [`Self::chance`] has it. Refuses as [`Self::check_graph`] does, then as
-    /// that.
-    pub fn chance_graph(&self, graph: &Graph, reading: &GraphReading, shares: &[u32]) -> Result<f64, Refusal> {
-        let (grammar, mut product) = (self.to_block()?, 0.0);
-        let graph = graph.to_block(&grammar)?;
-        chance(&grammar, &graph, &reading.to_block(self)?, shares, &mut product)?;
-        Ok(product)
+    pub fn chance<'a>(
+        &self,
+        heard: impl Into<HeardRef<'a>>,
+        reading: &Reading,
+        shares: &[u32],
+    ) -> Result<f64, Refusal> {
+        PackedGrammar::new(self)?.chance(heard, reading, shares)
     }
 }

@@ -37,7 +37,7 @@ impl Edge {
 
 /// What newer recognisers deliver in place of slots: places, and words on edges between them, as plain numbers. Nothing is
 /// checked until it is packed. A reading takes the words of a path from place 0 to the last place, of as many edges as that
-/// path has ([`GraphReading`](crate::GraphReading)).
+/// path has, with the numbers of the edges ([`Reading`](crate::Reading)).
 ///
 /// A graph has no sheet, so it is packed here and not by the library.
 ///
@@ -54,8 +54,8 @@ impl Edge {
 /// let edge = |from, to, cost| Edge { from, to, word: 0, cost };
 /// let graph = Graph { places: 4, edges: vec![edge(0, 1, 0), edge(1, 2, 0), edge(0, 2, 3), edge(2, 3, 0)] };
 ///
-/// let list = grammar.list_graph(&graph, 8)?;
-/// let in_short = list.iter().map(|found| (found.reading.weight, &found.reading.walk[..], &found.path[..]));
+/// let list = grammar.list(&graph, 8)?;
+/// let in_short = list.iter().map(|found| (found.weight, &found.walk[..], found.edges()));
 /// assert!(in_short.eq([
 ///     (2, &[0, 1, 0, 1, 1][..], &[0, 1, 3][..]),
 ///     (2, &[0, 0, 1, 1, 1], &[0, 1, 3]),

@@ -14,15 +14,18 @@
 //! |---|---|
 //! | [`services`] | the library's functions over lent slices, with no allocation |
 //! | [`Refusal`] | why one of them refused, by number and in words |
-//! | [`Grammar`], [`Utterance`], [`Reading`] | values that turn into blocks and sheets and back; [`Grammar::list`], [`Grammar::check`] |
+//! | [`Grammar`], [`Utterance`] | values that turn into blocks and sheets and back |
+//! | [`Graph`] | word graphs, which have blocks and no sheets |
+//! | [`Heard`], [`HeardRef`] | slots or a word graph, whichever it is; every service takes either |
+//! | [`Reading`] | a derivation written down; [`Grammar::list`], [`Grammar::check`] |
+//! | [`PackedGrammar`] | a grammar that is packed once for many calls |
 //! | [`Office`], [`MarkedGrammar`] | rules as offices write them, and what they become; [`Office::to_grammar`], [`MarkedGrammar::to_office`] |
-//! | [`Graph`], [`GraphReading`] | word graphs, which have blocks and no sheets; [`Grammar::list_graph`], [`Grammar::check_graph`] |
 //! | [`Grammar::specimen`], [`Phrases`] | what can be said in a grammar |
 //! | [`Grammar::cost_ranges`], [`CostRanges`] | the first reading where costs are known within ranges |
 //! | [`Grammar::word_margins`], [`WordMargin`] | which word to listen to again |
-//! | [`OpenListing`] | readings one by one, each found when it is asked for; [`Grammar::open`], [`Grammar::open_graph`] |
+//! | [`OpenListing`] | readings one by one, each found when it is asked for; [`Grammar::open`] |
 //! | [`Lister`] | many listings under one grammar, in memory that is kept, the library's or a desk panel's |
-//! | [`Grammar::chance`], [`Grammar::chance_graph`] | the product of the shares of a reading's rules |
+//! | [`Grammar::chance`] | the product of the shares of a reading's rules |
 //! | [`Tree`] | a reading as a tree |
 //! | [`limits`] | how large things may be, and how much is to be lent |
 //! | [`text`] | grammars, utterances, word graphs, confusion networks and lattices with names |
@@ -50,6 +53,7 @@
 
 #![warn(missing_docs)]
 
+pub mod lattice;
 pub mod limits;
 pub mod services;
 pub mod text;
@@ -58,11 +62,13 @@ mod error;
 mod fields;
 mod grammar;
 mod graph;
+mod heard;
 mod lister;
 mod margins;
 mod marked;
 mod office;
 mod open_listing;
+mod packed;
 mod phrases;
 mod ranges;
 mod reading;
@@ -73,14 +79,16 @@ mod utterance;
 pub use error::{Error, Position};
 pub use grammar::{Body, Grammar, Rule};
 pub use graph::{Edge, Graph};
+pub use heard::{Heard, HeardRef};
 pub use lister::{Found, Lister};
 pub use margins::WordMargin;
 pub use marked::MarkedGrammar;
 pub use office::{Item, Office, OfficeRule};
 pub use open_listing::OpenListing;
+pub use packed::PackedGrammar;
 pub use phrases::Phrases;
 pub use ranges::CostRanges;
-pub use reading::{GraphReading, Reading};
+pub use reading::Reading;
 pub use refusal::Refusal;
 pub use tree::{Part, Tree};
 pub use utterance::{Candidate, Utterance};

@@ -2,10 +2,10 @@
 
 use crate::fields::Fields;
 use crate::graph::KIND as GRAPH_KIND;
-use crate::limits::{graph_reading_length, reading_length, work_length, MAX_READINGS, UTTERANCE_BLOCK_MAX};
+use crate::limits::{graph_reading_length, reading_length, work_length, MAX_READINGS};
 use crate::limits::{KIND_WIDTH, MAX_SLOTS, PLACES_WIDTH, SLOTS_WIDTH};
-use crate::services::{listing, panel_listing, utterance_to_block};
-use crate::{Grammar, Graph, GraphReading, Reading, Refusal, Utterance};
+use crate::services::{listing, panel_listing};
+use crate::{Grammar, HeardRef, PackedGrammar, Reading, Refusal};
 
 /// A grammar that was packed once, and the memory that its listings need, which is kept from one to the next.
 ///
@@ -23,8 +23,7 @@ use crate::{Grammar, Graph, GraphReading, Reading, Refusal, Utterance};
 /// ```
 #[derive(Clone, Debug)]
 pub struct Lister {
-    grammar: Grammar,
-    block: Vec<u8>,
+    grammar: PackedGrammar,
     work: Vec<u32>,
     out: Vec<u8>,
     service: Service,
@@ -36,10 +35,15 @@ type Service = fn(&[u8], &[u8], u32, &mut [u32], &mut [u8]) -> Result<usize, Ref
 impl Lister {
     /// Packs the grammar, or refuses it as [`Grammar::to_block`] does.
     pub fn new(grammar: &Grammar) -> Result<Self, Refusal> {
-        Self::with(grammar, listing)
+        PackedGrammar::new(grammar).map(Self::of)
     }
 
-    /// The same for listings within the limits of a desk panel, those of [`panel_listing`].
+    /// Lists under a grammar that is packed already.
+    pub fn of(grammar: PackedGrammar) -> Self {
+        Self { grammar, work: Vec::new(), out: Vec::new(), service: listing }
+    }
+
+    /// Lists within the limits of a desk panel from now on, those of [`panel_listing`].
     ///
     /// ```
     /// use spireyerba::text::NamedGrammar;
@@ -47,46 +51,29 @@ impl Lister {
     ///
     /// let doors = NamedGrammar::parse("Entry -> Door Number\nDoor -> \"door\"\nNumber -> \"four\" | \"five\" [2]")?;
     /// let heard = doors.parse_utterance("door 3; four 9 | five 5")?;
-    /// let (mut panel, mut library) = (Lister::panel(&doors.grammar)?, Lister::new(&doors.grammar)?);
+    /// let mut library = Lister::new(&doors.grammar)?;
+    /// let mut panel = library.clone().panel();
     /// assert_eq!(panel.list(&heard, 16), library.list(&heard, 16));
     /// assert_eq!(panel.list(&heard, 17), Err(Refusal::PanelWanted));
     /// # Ok::<(), spireyerba::Error>(())
     /// ```
-    pub fn panel(grammar: &Grammar) -> Result<Self, Refusal> {
-        Self::with(grammar, panel_listing)
+    pub fn panel(self) -> Self {
+        Self { service: panel_listing, ..self }
     }
 
-    fn with(grammar: &Grammar, service: Service) -> Result<Self, Refusal> {
-        let block = grammar.to_block()?;
-        Ok(Self { grammar: grammar.clone(), block, work: Vec::new(), out: Vec::new(), service })
+    /// The grammar.
+    pub fn grammar(&self) -> &PackedGrammar {
+        &self.grammar
     }
 
-    /// The grammar's block.
-    pub fn grammar_block(&self) -> &[u8] {
-        &self.block
+    /// The `wanted` least readings of what was heard, as [`Grammar::list`] has them.
+    pub fn list<'a>(&mut self, heard: impl Into<HeardRef<'a>>, wanted: u32) -> Result<Vec<Reading>, Refusal> {
+        Ok(self.find(heard, wanted)?.readings().collect())
     }
 
-    /// The `wanted` least readings of an utterance, as [`Grammar::list`] has them.
-    pub fn list(&mut self, utterance: &Utterance, wanted: u32) -> Result<Vec<Reading>, Refusal> {
-        let found = self.find(&utterance.to_sheet(), wanted)?;
-        Ok(found.readings().map(|found| found.reading).collect())
-    }
-
-    /// The `wanted` least readings of a word graph, as [`Grammar::list_graph`] has them.
-    pub fn list_graph(&mut self, graph: &Graph, wanted: u32) -> Result<Vec<GraphReading>, Refusal> {
-        Ok(self.find_in_graph(graph, wanted)?.readings().collect())
-    }
-
-    /// The `wanted` least readings of an utterance, given as its sheet, left packed.
-    pub fn find(&mut self, sheet: &[u32], wanted: u32) -> Result<Found<'_>, Refusal> {
-        let mut block = [0; UTTERANCE_BLOCK_MAX];
-        let bytes = utterance_to_block(&self.block, sheet, &mut block)?;
-        self.find_in_block(&block[..bytes], wanted)
-    }
-
-    /// The `wanted` least readings of a word graph, left packed.
-    pub fn find_in_graph(&mut self, graph: &Graph, wanted: u32) -> Result<Found<'_>, Refusal> {
-        let block = graph.pack(self.grammar.words)?;
+    /// The `wanted` least readings of what was heard, left packed.
+    pub fn find<'a>(&mut self, heard: impl Into<HeardRef<'a>>, wanted: u32) -> Result<Found<'_>, Refusal> {
+        let block = heard.into().pack(&self.grammar)?;
         self.find_in_block(&block, wanted)
     }
 
@@ -95,11 +82,11 @@ impl Lister {
     ///
     /// ```
     /// use spireyerba::text::{NamedGrammar, UtteranceReader};
-    /// use spireyerba::{GraphReading, Lister};
+    /// use spireyerba::{Lister, Reading};
     ///
     /// let doors = NamedGrammar::parse("Entry -> Door Number\nDoor -> \"door\"\nNumber -> \"four\" | \"five\" [2]")?;
     /// let reader = UtteranceReader::new(&doors);
-    /// let (mut lister, mut kept) = (Lister::new(&doors.grammar)?, GraphReading::default());
+    /// let (mut lister, mut kept) = (Lister::new(&doors.grammar)?, Reading::default());
     /// let (mut sheet, mut block) = (Vec::new(), Vec::new());
     /// for (heard, weights) in [("door 3; four 9 | five 5", &[10, 12][..]), ("door 7; four 1", &[8])] {
     ///     reader.read_block(heard, &mut sheet, &mut block)?;
@@ -107,19 +94,20 @@ impl Lister {
     ///     assert_eq!(found.len(), weights.len());
     ///     for (number, weight) in weights.iter().enumerate() {
     ///         found.read(number, &mut kept);
-    ///         assert_eq!(kept.reading.weight, *weight);
+    ///         assert_eq!(kept.weight, *weight);
     ///     }
     /// }
     /// # Ok::<(), spireyerba::Error>(())
     /// ```
     pub fn find_in_block(&mut self, block: &[u8], wanted: u32) -> Result<Found<'_>, Refusal> {
-        let (words, length) = longest(block, self.grammar.rules.len());
+        let grammar = self.grammar.grammar();
+        let (words, length) = longest(block, grammar.rules.len());
         let most = wanted.min(MAX_READINGS) as usize;
-        let work = lent(&mut self.work, work_length(self.grammar.symbols as usize, words, most));
+        let work = lent(&mut self.work, work_length(grammar.symbols as usize, words, most));
         // room to look a few bytes past the last reading
         lent(&mut self.out, most * length + size_of::<u64>());
-        let count = (self.service)(&self.block, block, wanted, work, &mut self.out[..most * length])?;
-        Ok(Found { grammar: &self.grammar, blocks: &self.out, length, count })
+        let count = (self.service)(self.grammar.block(), block, wanted, work, &mut self.out[..most * length])?;
+        Ok(Found { grammar, blocks: &self.out, length, count })
     }
 }
 
@@ -172,19 +160,18 @@ impl<'a> Found<'a> {
         self.count == 0
     }
 
-    /// Puts the reading with a number, from 0 on, in the place of another, in the memory that it has. Of slots its path is
-    /// empty.
-    pub fn read(&self, number: usize, into: &mut GraphReading) {
+    /// Puts the reading with a number, from 0 on, in the place of another, in the memory that it has.
+    pub fn read(&self, number: usize, into: &mut Reading) {
         assert!(number < self.count, "there are {} readings", self.count);
         into.unpack(&self.blocks[number * self.length..], self.grammar);
     }
 
-    /// The readings. Those of slots have empty paths.
-    pub fn readings(self) -> impl Iterator<Item = GraphReading> + 'a {
+    /// The readings.
+    pub fn readings(self) -> impl Iterator<Item = Reading> + 'a {
         (0..self.count).map(move |number| {
-            let mut found = GraphReading::default();
-            self.read(number, &mut found);
-            found
+            let mut reading = Reading::default();
+            self.read(number, &mut reading);
+            reading
         })
     }
 }

@@ -2,7 +2,7 @@
 
 use crate::limits::{margins_length, work_length, MARGIN_NUMBERS};
 use crate::services::word_margins;
-use crate::{Grammar, Refusal, Utterance};
+use crate::{Grammar, PackedGrammar, Refusal, Utterance};
 
 /// A word that is not in the first reading, and how little is missing.
 #[derive(Clone, Copy, Debug, PartialEq, Eq, Hash)]
@@ -39,11 +39,17 @@ impl Grammar {
     /// # Ok::<(), spireyerba::Error>(())
     /// ```
     pub fn word_margins(&self, utterance: &Utterance) -> Result<Vec<WordMargin>, Refusal> {
-        let grammar = self.to_block()?;
-        let block = utterance.to_block(&grammar)?;
-        let mut work = vec![0; work_length(self.symbols as usize, utterance.slots.len(), 1)];
+        PackedGrammar::new(self)?.word_margins(utterance)
+    }
+}
+
+impl PackedGrammar {
+    /// Which words of an utterance are worth listening to again, as [`Grammar::word_margins`] says it.
+    pub fn word_margins(&self, utterance: &Utterance) -> Result<Vec<WordMargin>, Refusal> {
+        let block = utterance.to_block(self.block())?;
+        let mut work = vec![0; work_length(self.grammar().symbols as usize, utterance.slots.len(), 1)];
         let mut out = vec![0; margins_length(utterance.slots.iter().map(Vec::len).sum())];
-        let count = word_margins(&grammar, &block, &mut work, &mut out)?;
+        let count = word_margins(self.block(), &block, &mut work, &mut out)?;
         let (entries, _) = out.as_chunks();
         Ok(entries[..count].iter().copied().map(WordMargin::from).collect())
     }

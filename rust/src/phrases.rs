@@ -2,7 +2,7 @@
 
 use crate::limits::{MAX_PHRASE, MAX_SLOTS};
 use crate::services::{next_phrase, specimen};
-use crate::{Grammar, Refusal};
+use crate::{Grammar, PackedGrammar, Refusal};
 
 impl Grammar {
     /// The least string of so many words that the grammar derives, as word numbers; nothing if it derives none. Refuses the
@@ -18,9 +18,7 @@ impl Grammar {
     /// # Ok::<(), spireyerba::Error>(())
     /// ```
     pub fn specimen(&self, length: u32) -> Result<Option<Vec<u32>>, Refusal> {
-        let mut string = [0; MAX_SLOTS as usize];
-        let is_there = specimen(&self.to_block()?, length, &mut string)?;
-        Ok(is_there.then(|| words(&string, length)))
+        PackedGrammar::new(self)?.specimen(length)
     }
 
     /// Every string of so many words that the grammar derives, the least first and each once. Refuses the grammar as
@@ -35,7 +33,21 @@ impl Grammar {
     /// # Ok::<(), spireyerba::Error>(())
     /// ```
     pub fn phrases(&self, length: u32) -> Result<Phrases, Refusal> {
-        let (grammar, mut string) = (self.to_block()?, [0; MAX_PHRASE as usize]);
+        PackedGrammar::new(self)?.phrases(length)
+    }
+}
+
+impl PackedGrammar {
+    /// The least string of so many words, as [`Grammar::specimen`] has it.
+    pub fn specimen(&self, length: u32) -> Result<Option<Vec<u32>>, Refusal> {
+        let mut string = [0; MAX_SLOTS as usize];
+        let is_there = specimen(self.block(), length, &mut string)?;
+        Ok(is_there.then(|| words(&string, length)))
+    }
+
+    /// Every string of so many words, as [`Grammar::phrases`] has them.
+    pub fn phrases(&self, length: u32) -> Result<Phrases, Refusal> {
+        let (grammar, mut string) = (self.block().to_vec(), [0; MAX_PHRASE as usize]);
         let is_there = next_phrase(&grammar, length, true, &mut string)?;
         Ok(Phrases { grammar, length, string, is_there, is_first: true })
     }

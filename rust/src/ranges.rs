@@ -2,7 +2,7 @@
 
 use crate::limits::work_length;
 use crate::services::{cost_ranges, FirstReading};
-use crate::{Grammar, Refusal, Utterance};
+use crate::{Grammar, PackedGrammar, Refusal, Utterance};
 
 /// How the first weight of an utterance varies with costs that are known within ranges.
 #[derive(Clone, Copy, Debug, PartialEq, Eq, Hash)]
@@ -17,7 +17,7 @@ pub struct CostRanges {
 
 impl Grammar {
     /// What can be said of the first reading where each word costs from what `low` says to what `high` says; nothing if there is
-    /// no derivation. Refuses the grammar and the utterances as they are when packed, then with [`Refusal::CostRanges`].
+    /// no derivation. Refuses the grammar and the utterances as they are when packed, then with [`Refusal::RangesDisagree`].
     ///
     /// ```
     /// use spireyerba::text::NamedGrammar;
@@ -31,11 +31,17 @@ impl Grammar {
     /// # Ok::<(), spireyerba::Error>(())
     /// ```
     pub fn cost_ranges(&self, low: &Utterance, high: &Utterance) -> Result<Option<CostRanges>, Refusal> {
-        let block = self.to_block()?;
-        let blocks = [low.to_block(&block)?, high.to_block(&block)?];
-        let mut work = vec![0; work_length(self.symbols as usize, low.slots.len(), 1)];
+        PackedGrammar::new(self)?.cost_ranges(low, high)
+    }
+}
+
+impl PackedGrammar {
+    /// What can be said of the first reading where costs are known within ranges, as [`Grammar::cost_ranges`] says it.
+    pub fn cost_ranges(&self, low: &Utterance, high: &Utterance) -> Result<Option<CostRanges>, Refusal> {
+        let blocks = [low.to_block(self.block())?, high.to_block(self.block())?];
+        let mut work = vec![0; work_length(self.grammar().symbols as usize, low.slots.len(), 1)];
         let (mut least, mut greatest) = (0, 0);
-        let first = cost_ranges(&block, &blocks[0], &blocks[1], &mut work, &mut least, &mut greatest)?;
+        let first = cost_ranges(self.block(), &blocks[0], &blocks[1], &mut work, &mut least, &mut greatest)?;
         let stands = first == FirstReading::Stands;
         Ok((first != FirstReading::Nothing).then_some(CostRanges { least, greatest, stands }))
     }

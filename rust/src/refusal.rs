@@ -75,7 +75,7 @@ refusals! {
     56 OfficeSize "the grammar that an office sheet becomes passes 32 symbols or 256 rules",
     57 PanelSlots "the panel takes at most 12 slots, or 13 places of a word graph",
     58 PanelWanted "the panel lists at most 16 readings",
-    59 CostRanges "the utterances differ elsewhere than in costs, a cost falls, or 65,535 stands in one only",
+    59 RangesDisagree "the utterances differ elsewhere than in costs, a cost falls, or 65,535 stands in one only",
     60 SharesCount "there is not one share for each rule of the grammar",
     61 ShareRange "a share is not 1 to 1,024",
 }

@@ -598,11 +598,11 @@ pub fn next(
 #[derive(Clone, Copy, Debug, PartialEq, Eq, Hash)]
 pub enum FirstReading {
     /// There is none, under no choice of costs.
-    Nothing,
+    Nothing = 0,
     /// Under some choice of costs another reading is strictly lighter.
-    Outweighed,
+    Outweighed = 1,
     /// Under every choice of costs it has least weight.
-    Stands,
+    Stands = 2,
 }
 
 /// Says how the first weight can vary where costs are known within ranges, and whether the first reading can be outweighed.
@@ -613,7 +613,7 @@ pub enum FirstReading {
 /// `least` and `greatest`, unless there is no derivation: then both are as they were. The table `work`, which may hold anything,
 /// has at least [`work_length`](crate::limits::work_length) numbers for one reading, and is all zeros afterwards.
 ///
-/// Refuses for the blocks, `low` before `high`, then with [`CostRanges`](Refusal::CostRanges), then with
+/// Refuses for the blocks, `low` before `high`, then with [`RangesDisagree`](Refusal::RangesDisagree), then with
 /// [`ListingWork`](Refusal::ListingWork).
 ///
 /// ```

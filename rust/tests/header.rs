@@ -1,7 +1,7 @@
 //! The refusals and sizes of this crate are those of include/spireyerba.h.
 
 use spireyerba::limits::*;
-use spireyerba::services::Next;
+use spireyerba::services::{FirstReading, Next};
 use spireyerba::Refusal;
 use std::collections::BTreeMap;
 use std::fmt::Debug;
@@ -9,8 +9,9 @@ use std::fmt::Debug;
 const HEADER: &str = include_str!("../../include/spireyerba.h");
 const PREFIX: &str = "SPIREYERBA_";
 
-/// The beginning of the names of answers, which are numbered as refusals are.
-const ANSWER: &str = "NEXT_";
+/// The beginnings of the names of answers, which are numbered as refusals are.
+const OF_NEXT: &str = "NEXT_";
+const OF_FIRST: &str = "FIRST_";
 
 /// The names that the header gives a number: `PREFIX_NAME = NUMBER` to refusals and answers, `#define PREFIX_NAME NUMBER` to
 /// sizes.
@@ -42,11 +43,14 @@ fn name_in_c(value: impl Debug) -> String {
 #[test]
 fn refusals() {
     let refusals = Refusal::ALL.iter().map(|&refusal| (name_in_c(refusal), refusal.number() as usize));
-    let (answers, numbered) = numbers(true).into_iter().partition(|(name, _)| name.starts_with(ANSWER));
+    let is_answer = |name: &str| [OF_NEXT, OF_FIRST].iter().any(|begin| name.starts_with(begin));
+    let (answers, numbered) = numbers(true).into_iter().partition(|(name, _)| is_answer(name));
     assert_eq!(refusals.collect::<BTreeMap<_, _>>(), numbered);
     let of_next = [Next::NoMore, Next::Reading, Next::Full];
-    let of_next = of_next.map(|next| (ANSWER.to_owned() + &name_in_c(next), next as usize));
-    assert_eq!(BTreeMap::from(of_next), answers);
+    let of_next = of_next.map(|next| (OF_NEXT.to_owned() + &name_in_c(next), next as usize));
+    let of_first = [FirstReading::Nothing, FirstReading::Outweighed, FirstReading::Stands];
+    let of_first = of_first.map(|first| (OF_FIRST.to_owned() + &name_in_c(first), first as usize));
+    assert_eq!(of_next.into_iter().chain(of_first).collect::<BTreeMap<_, _>>(), answers);
     assert!(Refusal::ALL.is_sorted());
     for &refusal in Refusal::ALL {
         assert_eq!(Refusal::from_number(refusal.number()), Some(refusal));

@@ -288,7 +288,7 @@ fn mistakes_in_graphs() {
 fn mistakes_in_readings() {
     expect(parse_reading(""), "nothing", "1:1: the line ends where a weight should stand");
     expect(parse_reading("72 0\n 2 x"), "a letter", "2:4: `x` is not a whole number");
-    assert_eq!(parse_reading("3 0 # the root\n1 1"), Ok(Reading { weight: 3, walk: vec![0, 1, 1] }));
+    assert_eq!(parse_reading("3 0 # the root\n1 1"), Ok(Reading::of_slots(3, vec![0, 1, 1])));
     expect(parse_sheet("1 2\n3 four"), "a word", "2:3: `four` is not a whole number");
 }
 

@@ -235,11 +235,11 @@ int main(void) {
     least_weight = greatest_weight = 0xa5a5a5a5;
     answer = spireyerba_cost_ranges(fifth_block, LENGTH(fifth_block), high_block, LENGTH(high_block), low_block, LENGTH(low_block),
                                     work, LENGTH(work), &least_weight, &greatest_weight);
-    expect(answer == -SPIREYERBA_COST_RANGES && least_weight == 0xa5a5a5a5 && greatest_weight == 0xa5a5a5a5 && work[0] == 0xa5a5a5a5,
+    expect(answer == -SPIREYERBA_RANGES_DISAGREE && least_weight == 0xa5a5a5a5 && greatest_weight == 0xa5a5a5a5 && work[0] == 0xa5a5a5a5,
            "a cost that falls is refused, and nothing is written");
     answer = spireyerba_cost_ranges(fifth_block, LENGTH(fifth_block), low_block, LENGTH(low_block), high_block, LENGTH(high_block),
                                     work, spireyerba_work_length(3, 2, 1), &least_weight, &greatest_weight);
-    expect(answer == 1 && least_weight == 4 && greatest_weight == 9, "the first weight is from 4 to 9, and the first reading is outweighed");
+    expect(answer == SPIREYERBA_FIRST_OUTWEIGHED && least_weight == 4 && greatest_weight == 9, "the first weight is from 4 to 9, and the first reading is outweighed");
     expect(work[0] == 0 && work[35] == 0 && work[36] == 0xa5a5a5a5, "the work table is zero, and nothing behind it is touched");
 
     fill_outputs();

@@ -1,8 +1,7 @@
 //! What tests need that hold the library and the second implementation to the same examples.
 
 use crate::compare::conversions::Service;
-use crate::grammar;
-use crate::heard::Heard;
+use crate::{grammar, heard};
 use spireyerba::Refusal;
 
 pub type Listing = fn(&[u8], &[u8], u32, &mut [u32], &mut [u8]) -> Result<usize, Refusal>;
@@ -47,8 +46,8 @@ macro_rules! tests_of_both {
 /// The readings of a listing in which everything is exact. What both slices hold afterwards is as for any listing.
 pub fn list(listing: Listing, grammar: &[u8], heard: &[u8], wanted: u32) -> Vec<Vec<u8>> {
     let under = grammar::from_block(grammar).expect("an accepted grammar");
-    let heard_value = Heard::from_block(&under, heard).expect("an accepted utterance or graph");
-    let (work_len, out_len) = heard_value.listing_lengths(&under, wanted);
+    let heard_value = heard::from_block(&under, heard).expect("an accepted utterance or graph");
+    let (work_len, out_len) = heard::listing_lengths(&under, &heard_value, wanted);
     let (mut work, mut out) = (vec![7; work_len], vec![0xa5; out_len]);
     let found = listing(grammar, heard, wanted, &mut work, &mut out).expect("an accepted listing");
     assert!(work.iter().all(|&number| number == 0), "the work table is zero afterwards");

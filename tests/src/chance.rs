@@ -1,10 +1,9 @@
 //! The chance of a reading (document 02, N14), with whole numbers alone: a float is 53 bits and a power of 2.
 
 use crate::check::check;
-use crate::heard::Heard;
-use crate::{grammar, graph_reading, reading};
+use crate::{grammar, graph_reading, heard, reading};
 use spireyerba::limits::MAX_SHARE;
-use spireyerba::{Grammar, Refusal};
+use spireyerba::{Grammar, Heard, Refusal};
 
 /// The bits of a float's significand, the leading one counted.
 pub const PRECISION: u32 = 53;
@@ -17,7 +16,7 @@ const SHARE_BITS: i32 = 10;
 pub fn chance(grammar: &[u8], heard: &[u8], reading: &[u8], shares: &[u32], chance: &mut f64) -> Result<(), Refusal> {
     check(grammar, heard, reading)?;
     let grammar = grammar::from_block(grammar)?;
-    let walk = walk(&grammar, &Heard::from_block(&grammar, heard)?, reading)?;
+    let walk = walk(&grammar, &heard::from_block(&grammar, heard)?, reading)?;
     if shares.len() != grammar.rules.len() {
         return Err(Refusal::SharesCount);
     }

@@ -1,14 +1,13 @@
 //! The check of a reading (document 01, "Where each check stands"; document 02, N1 and N3).
 
 use crate::graph::slots_of_path;
-use crate::heard::Heard;
-use crate::{grammar, graph_reading, reading, utterance};
-use spireyerba::{Body, Grammar, Graph, Refusal, Utterance};
+use crate::{grammar, graph_reading, heard, reading, utterance};
+use spireyerba::{Body, Grammar, Graph, Heard, Refusal, Utterance};
 
 /// Answers that the reading passes.
 pub fn check(grammar: &[u8], heard: &[u8], reading: &[u8]) -> Result<(), Refusal> {
     let grammar = grammar::from_block(grammar)?;
-    let (given, weight, only_fill_left) = match Heard::from_block(&grammar, heard)? {
+    let (given, weight, only_fill_left) = match heard::from_block(&grammar, heard)? {
         Heard::Slots(utterance) => {
             let (reading, only_fill_left) = reading::from_block(&grammar, utterance.slots.len(), reading)?;
             (reading.weight, weight_of_walk(&grammar, &utterance, &reading.walk), only_fill_left)

@@ -21,7 +21,7 @@ pub fn cost_ranges(
     let grammar = grammar::from_block(grammar)?;
     let low = utterance::from_block(&grammar, low)?;
     let high = utterance::from_block(&grammar, high)?;
-    let ranges = Ranges::between(&low, &high).ok_or(Refusal::CostRanges)?;
+    let ranges = Ranges::between(&low, &high).ok_or(Refusal::RangesDisagree)?;
     if work.len() < work_length(grammar.symbols as usize, low.slots.len(), 1) {
         return Err(Refusal::ListingWork);
     }

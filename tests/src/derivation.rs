@@ -1,7 +1,7 @@
 //! Derivations, their weight, their order, and all of them (document 01, "Grammars and derivations"; document 02, N1, N3 and N6).
 
 use crate::heard::Offers;
-use spireyerba::{Body, Grammar, Graph, GraphReading, Reading, Utterance};
+use spireyerba::{Body, Grammar, Graph, Reading, Utterance};
 use std::cmp::Ordering;
 use std::collections::HashMap;
 use std::rc::Rc;
@@ -46,11 +46,11 @@ impl Tree {
     }
 
     pub fn reading(&self) -> Reading {
-        Reading { weight: self.weight, walk: self.walk() }
+        Reading::of_slots(self.weight, self.walk())
     }
 
-    pub fn graph_reading(&self) -> GraphReading {
-        GraphReading { reading: self.reading(), path: self.path() }
+    pub fn graph_reading(&self) -> Reading {
+        Reading::of_path(self.weight, self.walk(), self.path())
     }
 }
 

@@ -3,7 +3,7 @@
 use crate::bits::{BitReader, BitWriter};
 use crate::grammar::rule_width;
 use spireyerba::limits::nodes;
-use spireyerba::{Body, Grammar, Graph, GraphReading, Reading, Refusal};
+use spireyerba::{Body, Grammar, Graph, Reading, Refusal};
 
 pub const KIND: u32 = 6;
 const WEIGHT_WIDTH: usize = 24;
@@ -13,15 +13,15 @@ const EDGE_NUMBER_WIDTH: usize = 7;
 pub type Node = (u32, Option<u32>);
 
 /// The nodes of a reading. Nothing is checked: where edges are missing none is written.
-pub fn nodes_of(grammar: &Grammar, reading: &GraphReading) -> Vec<Node> {
-    let mut path = reading.path.iter().copied();
+pub fn nodes_of(grammar: &Grammar, reading: &Reading) -> Vec<Node> {
+    let mut path = reading.edges().iter().copied();
     let node = |&rule: &u32| (rule, if is_word_rule(grammar, rule) { path.next() } else { None });
-    reading.reading.walk.iter().map(node).collect()
+    reading.walk.iter().map(node).collect()
 }
 
 /// Packs a reading, of its own length. Nothing is checked: numbers out of range are cut to their width.
-pub fn pack(grammar: &Grammar, reading: &GraphReading) -> Vec<u8> {
-    pack_nodes(grammar, reading.path.len() as u32, reading.reading.weight, &nodes_of(grammar, reading))
+pub fn pack(grammar: &Grammar, reading: &Reading) -> Vec<u8> {
+    pack_nodes(grammar, reading.edges().len() as u32, reading.weight, &nodes_of(grammar, reading))
 }
 
 /// Packs any numbers as a reading.
@@ -82,10 +82,10 @@ fn numbers(grammar: &Grammar, edges: usize, reader: &mut BitReader) -> Option<(V
 }
 
 /// The reading of a block of a derivation, with or without zeros behind it.
-pub fn of_listed(grammar: &Grammar, graph: &Graph, block: &[u8]) -> GraphReading {
+pub fn of_listed(grammar: &Grammar, graph: &Graph, block: &[u8]) -> Reading {
     let fields = from_block(grammar, graph, block).expect("a reading");
     let (walk, path, _) = fields.numbers.expect("a walk with its edges");
-    GraphReading { reading: Reading { weight: fields.weight, walk }, path }
+    Reading::of_path(fields.weight, walk, path)
 }
 
 fn is_word_rule(grammar: &Grammar, number: u32) -> bool {

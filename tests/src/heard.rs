@@ -2,69 +2,54 @@
 
 use crate::bits::BitReader;
 use crate::{graph, graph_reading, nbest, reading, utterance};
-use spireyerba::limits::{graph_reading_length, reading_length, work_length};
-use spireyerba::{Grammar, Graph, Refusal, Utterance};
+use spireyerba::limits::{graph_reading_length, work_length};
+use spireyerba::{Grammar, Graph, Heard, Refusal, Utterance};
 use std::collections::HashMap;
 
-/// A block of either kind, as a value.
-#[derive(Clone, Debug, PartialEq, Eq)]
-pub enum Heard {
-    Slots(Utterance),
-    Graph(Graph),
+/// Reads a block of either kind under a grammar, or refuses it with 11 to 16, 51 or 52. Kind 2 is of slots, kind 5 of a graph.
+pub fn from_block(grammar: &Grammar, block: &[u8]) -> Result<Heard, Refusal> {
+    if BitReader::new(block).field(4) == Some(graph::KIND) {
+        graph::from_block(grammar, block).map(Heard::Graph)
+    } else {
+        utterance::from_block(grammar, block).map(Heard::Slots)
+    }
 }
 
-impl Heard {
-    /// Reads a block under a grammar, or refuses it with 11 to 16, 51 or 52. Kind 2 is of slots, kind 5 of a graph.
-    pub fn from_block(grammar: &Grammar, block: &[u8]) -> Result<Self, Refusal> {
-        if BitReader::new(block).field(4) == Some(graph::KIND) {
-            graph::from_block(grammar, block).map(Self::Graph)
-        } else {
-            utterance::from_block(grammar, block).map(Self::Slots)
-        }
+/// Packs what was heard. Nothing is checked: numbers out of range make a block that is refused.
+pub fn pack(grammar: &Grammar, heard: &Heard) -> Vec<u8> {
+    match heard {
+        Heard::Slots(utterance) => utterance::pack(grammar, utterance),
+        Heard::Graph(graph) => graph::pack(grammar, graph),
     }
+}
 
-    /// Packs it. Nothing is checked: numbers out of range make a block that is refused.
-    pub fn pack(&self, grammar: &Grammar) -> Vec<u8> {
-        match self {
-            Self::Slots(utterance) => utterance::pack(grammar, utterance),
-            Self::Graph(graph) => graph::pack(grammar, graph),
-        }
-    }
+/// The bytes that each reading takes in the output of a listing.
+pub fn reading_length(grammar: &Grammar, heard: &Heard) -> usize {
+    let length = match heard {
+        Heard::Slots(_) => spireyerba::limits::reading_length,
+        Heard::Graph(_) => graph_reading_length,
+    };
+    length(heard.longest(), grammar.rules.len())
+}
 
-    /// The words of its longest reading: as many as there are slots, or one fewer than places.
-    pub fn longest(&self) -> usize {
-        match self {
-            Self::Slots(utterance) => utterance.slots.len(),
-            Self::Graph(graph) => graph.places as usize - 1,
-        }
-    }
+/// The numbers of the work table and the bytes of the output that a listing of so many readings needs.
+pub fn listing_lengths(grammar: &Grammar, heard: &Heard, wanted: u32) -> (usize, usize) {
+    let wanted = wanted as usize;
+    let work = work_length(grammar.symbols as usize, heard.longest(), wanted);
+    (work, wanted * reading_length(grammar, heard))
+}
 
-    /// The bytes that each reading takes in the output of a listing.
-    pub fn reading_length(&self, grammar: &Grammar) -> usize {
-        let length = if matches!(self, Self::Slots(_)) { reading_length } else { graph_reading_length };
-        length(self.longest(), grammar.rules.len())
-    }
-
-    /// The numbers of the work table and the bytes of the output that a listing of so many readings needs.
-    pub fn listing_lengths(&self, grammar: &Grammar, wanted: u32) -> (usize, usize) {
-        let wanted = wanted as usize;
-        let work = work_length(grammar.symbols as usize, self.longest(), wanted);
-        (work, wanted * self.reading_length(grammar))
-    }
-
-    /// The weights and the blocks of the `wanted` least readings, each of its own length.
-    pub fn least(&self, grammar: &Grammar, wanted: usize) -> Vec<(u32, Vec<u8>)> {
-        match self {
-            Self::Slots(utterance) => {
-                let readings = nbest::least(grammar, utterance, wanted).into_iter();
-                readings.map(|found| (found.weight, reading::pack(grammar, &found))).collect()
-            }
-            Self::Graph(graph) => {
-                let readings = nbest::least_of_graph(grammar, graph, wanted).into_iter();
-                readings.map(|found| (found.reading.weight, graph_reading::pack(grammar, &found))).collect()
-            }
-        }
-    }
+/// The weights and the blocks of the `wanted` least readings, each of its own length.
+pub fn least(grammar: &Grammar, heard: &Heard, wanted: usize) -> Vec<(u32, Vec<u8>)> {
+    let readings = match heard {
+        Heard::Slots(utterance) => nbest::least(grammar, utterance, wanted),
+        Heard::Graph(graph) => nbest::least_of_graph(grammar, graph, wanted),
+    };
+    let pack = match heard {
+        Heard::Slots(_) => reading::pack,
+        Heard::Graph(_) => graph_reading::pack,
+    };
+    readings.into_iter().map(|found| (found.weight, pack(grammar, &found))).collect()
 }
 
 /// A word that is offered between two places.

@@ -1,9 +1,8 @@
 //! The listing of the N least readings (document 01, "Tables", "Where each check stands"; document 02, N1), and the panel's (N8).
 
-use crate::grammar;
-use crate::heard::Heard;
+use crate::{grammar, heard};
 use spireyerba::limits::{work_length, MAX_READINGS, PANEL_MAX_READINGS, PANEL_MAX_SLOTS};
-use spireyerba::{Grammar, Refusal};
+use spireyerba::{Grammar, Heard, Refusal};
 
 /// Answers the number of readings found.
 pub fn listing(grammar: &[u8], heard: &[u8], wanted: u32, work: &mut [u32], out: &mut [u8]) -> Result<usize, Refusal> {
@@ -33,7 +32,7 @@ pub fn panel_listing(
 
 fn both(grammar: &[u8], heard: &[u8]) -> Result<(Grammar, Heard), Refusal> {
     let grammar = grammar::from_block(grammar)?;
-    let heard = Heard::from_block(&grammar, heard)?;
+    let heard = heard::from_block(&grammar, heard)?;
     Ok((grammar, heard))
 }
 
@@ -49,11 +48,11 @@ fn list(grammar: &Grammar, heard: &Heard, wanted: usize, work: &mut [u32], out: 
     if work.len() < work_length(grammar.symbols as usize, heard.longest(), wanted) {
         return Err(Refusal::ListingWork);
     }
-    let length = heard.reading_length(grammar);
+    let length = heard::reading_length(grammar, heard);
     if out.len() < wanted * length {
         return Err(Refusal::ListingOutput);
     }
-    let readings = heard.least(grammar, wanted);
+    let readings = heard::least(grammar, heard, wanted);
     for (place, (_, reading)) in out.chunks_exact_mut(length).zip(&readings) {
         let (own, behind) = place.split_at_mut(reading.len());
         own.copy_from_slice(reading);

@@ -4,29 +4,29 @@
 //! cells, which hold at least as many ranks as any tree among the N best can need.
 
 use crate::heard::Offers;
-use spireyerba::{Body, Grammar, Graph, GraphReading, Reading, Utterance};
+use crate::reading;
+use spireyerba::{Body, Grammar, Graph, Reading, Utterance};
 use std::collections::BinaryHeap;
 
 /// The readings of the `wanted` least derivations, in the order.
 pub fn least(grammar: &Grammar, utterance: &Utterance, wanted: usize) -> Vec<Reading> {
-    least_of(grammar, &Offers::of_slots(utterance), wanted).into_iter().map(|found| found.reading).collect()
+    least_of(grammar, &Offers::of_slots(utterance), wanted).into_iter().map(reading::without_path).collect()
 }
 
 /// The readings of the `wanted` least derivations of a word graph, in the order.
-pub fn least_of_graph(grammar: &Grammar, graph: &Graph, wanted: usize) -> Vec<GraphReading> {
+pub fn least_of_graph(grammar: &Grammar, graph: &Graph, wanted: usize) -> Vec<Reading> {
     least_of(grammar, &Offers::of_graph(graph), wanted)
 }
 
-fn least_of(grammar: &Grammar, offers: &Offers, wanted: usize) -> Vec<GraphReading> {
+fn least_of(grammar: &Grammar, offers: &Offers, wanted: usize) -> Vec<Reading> {
     let chart = Chart::fill(grammar, offers, wanted);
     let cell = chart.cell(0, 0, offers.last);
-    let reading = |(rank, entry): (usize, &Entry)| {
-        let reading = Reading { weight: entry.weight, walk: Vec::new() };
-        let mut found = GraphReading { reading, path: Vec::new() };
-        chart.spell(0, 0, offers.last, rank, &mut found);
-        found
+    let spelled = |(rank, entry): (usize, &Entry)| {
+        let (mut walk, mut path) = (Vec::new(), Vec::new());
+        chart.spell(0, 0, offers.last, rank, (&mut walk, &mut path));
+        Reading::of_path(entry.weight, walk, path)
     };
-    cell.iter().enumerate().map(reading).collect()
+    cell.iter().enumerate().map(spelled).collect()
 }
 
 /// A tree of a cell; the derived order, field by field, is that of document 02, N6. A leaf has split, left and right 0.
@@ -97,14 +97,14 @@ impl<'a> Chart<'a> {
     }
 
     /// Appends the walk and the path of the tree of a rank.
-    fn spell(&self, head: u32, from: usize, to: usize, rank: usize, found: &mut GraphReading) {
+    fn spell(&self, head: u32, from: usize, to: usize, rank: usize, (walk, path): (&mut Vec<u32>, &mut Vec<u32>)) {
         let entry = self.cell(head, from, to)[rank];
-        found.reading.walk.push(entry.rule as u32);
+        walk.push(entry.rule as u32);
         match self.grammar.rules[entry.rule].body {
-            Body::Word(word) => found.path.extend(self.offers.get(from, to, word).map(|offer| offer.number)),
+            Body::Word(word) => path.extend(self.offers.get(from, to, word).map(|offer| offer.number)),
             Body::Pair(first, second) => {
-                self.spell(first, from, entry.split, entry.left, found);
-                self.spell(second, entry.split, to, entry.right, found);
+                self.spell(first, from, entry.split, entry.left, (walk, path));
+                self.spell(second, entry.split, to, entry.right, (walk, path));
             }
         }
     }

@@ -3,11 +3,10 @@
 //! And which ranks a work table shows to be found, and what they spell, as docs/ARCHITECTURE.md draws it.
 
 use crate::graph_reading::{self, Node};
-use crate::heard::Heard;
-use crate::{grammar, reading};
+use crate::{grammar, heard, reading};
 use spireyerba::limits::{work_length, MAX_READINGS};
 use spireyerba::services::{Next, Place};
-use spireyerba::{Body, Grammar, Reading, Refusal};
+use spireyerba::{Body, Grammar, Heard, Reading, Refusal};
 
 const RANKS: usize = MAX_READINGS as usize;
 
@@ -23,9 +22,10 @@ impl Listed {
     /// Refuses with 1 to 7 for the grammar, then with 11 to 16, 51 or 52.
     pub fn new(grammar: &[u8], heard: &[u8]) -> Result<Self, Refusal> {
         let grammar = grammar::from_block(grammar)?;
-        let heard = Heard::from_block(&grammar, heard)?;
-        let length = heard.reading_length(&grammar);
-        let mut readings: Vec<Vec<u8>> = heard.least(&grammar, RANKS).into_iter().map(|(_, reading)| reading).collect();
+        let heard = heard::from_block(&grammar, heard)?;
+        let length = heard::reading_length(&grammar, &heard);
+        let mut readings: Vec<Vec<u8>> =
+            heard::least(&grammar, &heard, RANKS).into_iter().map(|(_, reading)| reading).collect();
         readings.iter_mut().for_each(|reading| reading.resize(length, 0));
         Ok(Self { grammar, heard, readings })
     }
@@ -36,7 +36,7 @@ impl Listed {
     }
 
     pub fn reading_length(&self) -> usize {
-        self.heard.reading_length(&self.grammar)
+        heard::reading_length(&self.grammar, &self.heard)
     }
 
     /// "Opening refuses for the blocks, then with 22."
@@ -121,7 +121,7 @@ impl Listed {
         Some(self.trace(work, whole, &mut nodes).map(|()| match &self.heard {
             Heard::Slots(_) => {
                 let walk = nodes.iter().map(|(rule, _)| *rule).collect();
-                reading::pack(&self.grammar, &Reading { weight, walk })
+                reading::pack(&self.grammar, &Reading::of_slots(weight, walk))
             }
             Heard::Graph(_) => {
                 let edges = nodes.iter().filter(|(_, edge)| edge.is_some()).count() as u32;

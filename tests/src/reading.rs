@@ -17,6 +17,11 @@ pub fn words(grammar: &Grammar, walk: &[u32]) -> Vec<u32> {
     walk.iter().filter_map(word).collect()
 }
 
+/// The reading of slots that is that of a path through the graph that they can be redrawn as.
+pub fn without_path(reading: Reading) -> Reading {
+    Reading { path: None, ..reading }
+}
+
 /// How many words of a walk their slots have, but did not hear.
 pub fn count_not_heard(grammar: &Grammar, utterance: &Utterance, walk: &[u32]) -> usize {
     let words = words(grammar, walk);
@@ -48,5 +53,5 @@ pub fn from_block(grammar: &Grammar, slots: usize, block: &[u8]) -> Result<(Read
     }
     let weight = field(WEIGHT_WIDTH)?;
     let walk = (0..nodes(slots)).map(|_| field(rule_width(grammar))).collect::<Result<_, _>>()?;
-    Ok((Reading { weight, walk }, reader.only_fill_left()))
+    Ok((Reading::of_slots(weight, walk), reader.only_fill_left()))
 }

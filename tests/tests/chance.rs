@@ -2,18 +2,17 @@
 
 use spireyerba::limits::{nodes, MAX_SHARE, MAX_SLOTS};
 use spireyerba::Refusal::*;
-use spireyerba::{services, Refusal};
+use spireyerba::{services, Heard, Refusal};
 use spireyerba_tests::chance::{chance, PRECISION};
 use spireyerba_tests::compare::chance::compare;
 use spireyerba_tests::compare::{over_seeds, Tally};
 use spireyerba_tests::documents::{block_of_slots, g, slots_of_g, G, U};
-use spireyerba_tests::heard::Heard;
 use spireyerba_tests::nbest::least;
 use spireyerba_tests::refusal::{GRAMMAR_BLOCK, GRAPH_BLOCK, READING_BLOCK, UTTERANCE_BLOCK};
 use spireyerba_tests::seeded::damage::{blocks, graph_blocks, some_grammar_blocks, some_utterance_blocks};
 use spireyerba_tests::seeded::parsable::{heard_case, AMBIGUOUS, LONG, MANY_SYMBOLS, SPARSE, TINY};
 use spireyerba_tests::seeded::rng::Rng;
-use spireyerba_tests::{grammar, reading, tests_of_both};
+use spireyerba_tests::{grammar, heard, reading, tests_of_both};
 use std::cmp::Ordering;
 
 type Chance = fn(&[u8], &[u8], &[u8], &[u32], &mut f64) -> Result<(), Refusal>;
@@ -160,8 +159,8 @@ fn readings_of_derivations_damaged_ones_and_noise() {
     let mut tally = Tally::default();
     over_seeds(0..600, |rng| {
         let (grammar, heard) = heard_case(rng, &[&TINY, &AMBIGUOUS, &SPARSE, &LONG, &MANY_SYMBOLS]);
-        let (grammar_block, heard_block) = (grammar::pack(&grammar), heard.pack(&grammar));
-        let readings: Vec<Vec<u8>> = heard.least(&grammar, 4).into_iter().map(|(_, block)| block).collect();
+        let (grammar_block, heard_block) = (grammar::pack(&grammar), heard::pack(&grammar, &heard));
+        let readings: Vec<Vec<u8>> = heard::least(&grammar, &heard, 4).into_iter().map(|(_, block)| block).collect();
         for reading in &readings {
             for _ in 0..8 {
                 let shares = any_shares(rng, grammar.rules.len());

@@ -37,7 +37,7 @@ fn early_and_late(rng: &mut Rng, grammar: &Grammar, utterance: &Utterance) -> Ve
     let fewer = Utterance { slots: utterance.slots[..rng.below(slots)].to_vec() };
     let mut more = Utterance { slots: [utterance.slots.as_slice(), &utterance.slots].concat() };
     more.slots.truncate((slots + 1 + rng.below(slots)).min(24));
-    let mut all = vec![Reading { weight: 0, walk: Vec::new() }];
+    let mut all = vec![Reading::default()];
     for other in [fewer, more].iter().filter(|other| !other.slots.is_empty()) {
         all.extend(least(grammar, other, 2));
     }

@@ -45,7 +45,7 @@ fn expect_list(grammar: &[u32], utterance: &[u32], wanted: usize, expected: &[(u
     let grammar = grammar::from_sheet(grammar).unwrap();
     let utterance = utterance::from_sheet(&grammar, utterance).unwrap();
     let expected: Vec<Reading> =
-        expected.iter().map(|&(weight, walk)| Reading { weight, walk: walk.to_vec() }).collect();
+        expected.iter().map(|&(weight, walk)| Reading::of_slots(weight, walk.to_vec())).collect();
     assert_eq!(least(&grammar, &utterance, wanted), expected);
     let all = ranked(&grammar, &utterance, 1_000).unwrap();
     assert_eq!(all.iter().take(wanted).map(|tree| tree.reading()).collect::<Vec<_>>(), expected);
@@ -87,7 +87,7 @@ fn the_listing_of_g_and_u_as_bytes() {
     assert_eq!(listing(&G, &U, 8, &mut work, &mut out), Ok(5));
     assert_eq!(work, [0; 321]);
     let grammar = grammar::from_block(&G).unwrap();
-    let blocks = WALKS.map(|walk| reading::pack(&grammar, &Reading { weight: 3, walk: walk.to_vec() })).concat();
+    let blocks = WALKS.map(|walk| reading::pack(&grammar, &Reading::of_slots(3, walk.to_vec()))).concat();
     assert_eq!(out[..30], blocks);
     assert_eq!(out[30..], [0xff; 19]);
 }

@@ -68,10 +68,10 @@ fn document_02s_refusals(service: CostRanges) {
         assert_eq!(answer(service, blocks, work_len), (Err(refusal), [UNWRITTEN; 2]), "{blocks:02x?}");
     };
     let one = slots([[1, 1], [1, 1]]);
-    expect([&FIFTH, &one, &slots([[1, 1], [1, 0]])], 36, CostRanges);
-    expect([&FIFTH, &slots([[0, 65_534], [0, 0]]), &slots([[0, NOT_HEARD], [0, 0]])], 36, CostRanges);
+    expect([&FIFTH, &one, &slots([[1, 1], [1, 0]])], 36, RangesDisagree);
+    expect([&FIFTH, &slots([[0, 65_534], [0, 0]]), &slots([[0, NOT_HEARD], [0, 0]])], 36, RangesDisagree);
     // 59 comes before 22, and 36 numbers suffice
-    expect([&FIFTH, &one, &FIFTH_AT_0], 0, CostRanges);
+    expect([&FIFTH, &one, &FIFTH_AT_0], 0, RangesDisagree);
     expect([&FIFTH, &FIFTH_AT_0, &one], 35, ListingWork);
     // the blocks' own checks, the low block's first
     let graph = [0x52, 0x84, 0x00, 0x40, 0x00, 0x10, 0x89, 0x00, 0x01, 0x10, 0xe0, 0x00, 0x11, 0x93, 0x00, 0x01];
@@ -202,7 +202,7 @@ fn wide_ranges_damaged_blocks_and_unlike_ones() {
         expect(rng, [&block, &graph, &low_block]);
         expect(rng, [&block, &low_block, &graph]);
     });
-    tally.demand(3_000, &[&GRAMMAR_BLOCK[..], &UTTERANCE_BLOCK, &[ListingWork, CostRanges]].concat());
+    tally.demand(3_000, &[&GRAMMAR_BLOCK[..], &UTTERANCE_BLOCK, &[ListingWork, RangesDisagree]].concat());
     assert!(tally.accepted() > 300, "{} accepted", tally.accepted());
 }
 

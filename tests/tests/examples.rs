@@ -2,12 +2,11 @@
 
 use spireyerba::limits::{PANEL_OUTPUT_MAX, PANEL_WORK_MAX};
 use spireyerba::text::{parse_sheet, print_list, NamedGrammar, UtteranceReader};
-use spireyerba::{services, Grammar, Graph, Reading, Utterance, WordMargin};
+use spireyerba::{services, Grammar, Graph, Heard, Reading, Utterance, WordMargin};
 use spireyerba_tests::chance::chance;
-use spireyerba_tests::heard::Heard;
 use spireyerba_tests::nbest::{least, least_of_graph};
 use spireyerba_tests::word_margins::entries;
-use spireyerba_tests::{grammar, graph, office, utterance};
+use spireyerba_tests::{grammar, graph, heard, office, utterance};
 use std::path::PathBuf;
 
 fn path(folder: &str, name: &str) -> PathBuf {
@@ -49,10 +48,11 @@ fn expect_chances(folder: &str, grammar: &Grammar, heard: &Heard) {
     let shares: Vec<u32> = text("doors", "shares.txt").split_whitespace().map(|share| share.parse().unwrap()).collect();
     let named = NamedGrammar::numbered(grammar.clone());
     assert_eq!(named.parse_shares(&text("doors", "shares.txt")).as_ref(), Ok(&shares));
-    let (grammar_block, block, chances) = (grammar::pack(grammar), heard.pack(grammar), text(folder, "chances.txt"));
+    let (grammar_block, block, chances) =
+        (grammar::pack(grammar), heard::pack(grammar, heard), text(folder, "chances.txt"));
     for service in [services::chance, chance] {
         let mut printed = String::new();
-        for (rank, (_, reading)) in (1..).zip(heard.least(grammar, 8)) {
+        for (rank, (_, reading)) in (1..).zip(heard::least(grammar, heard, 8)) {
             let mut float = f64::NAN;
             service(&grammar_block, &block, &reading, &shares, &mut float).expect("a chance");
             printed += &format!("{rank} {float:?}\n");
@@ -97,9 +97,9 @@ fn the_door_schedule_as_a_graph() {
     assert_eq!(graph.to_block(&grammar_block).as_ref(), Ok(&block));
     let readings = text(FOLDER, "readings.txt");
     let list = least_of_graph(&named.grammar, &graph, 8);
-    assert_eq!(print_list(list.iter().map(|found| &found.reading)), readings);
+    assert_eq!(print_list(&list), readings);
     assert_eq!(Graph::from_block(&grammar_block, &block).as_ref(), Ok(&graph));
-    assert_eq!(named.grammar.list_graph(&graph, 8), Ok(list));
+    assert_eq!(named.grammar.list(&graph, 8), Ok(list));
     expect_panel(&grammar_block, &block);
     let mut reader = UtteranceReader::new(&named);
     reader.scale = Some(100.0);
@@ -123,7 +123,7 @@ fn the_door_schedule_of_an_office() {
     assert_eq!((named.office(), named.to_block()), (Some(&office), Ok(block.clone())));
     let utterance = Utterance::from_block(&block, &heard).unwrap();
     assert_eq!(named.parse_utterance(&text(FOLDER, "utterance.txt")).as_ref(), Ok(&utterance));
-    let shown = |reading: &Reading| Reading { weight: reading.weight, walk: marked.shown(&reading.walk) };
+    let shown = |reading: &Reading| Reading::of_slots(reading.weight, marked.shown(&reading.walk));
     let print = |list: Vec<Reading>| print_list(&list.iter().map(shown).collect::<Vec<_>>());
     let readings = text(FOLDER, "readings.txt");
     assert_eq!(print(least(&marked.grammar, &utterance, 8)), readings);

@@ -4,7 +4,7 @@
 use spireyerba::limits::{GRAPH_BLOCK_MAX, GRAPH_READING_BLOCK_MAX};
 use spireyerba::text::print_list;
 use spireyerba::Refusal::*;
-use spireyerba::{Edge, Graph, GraphReading, Reading, Refusal};
+use spireyerba::{Edge, Graph, Reading, Refusal};
 use spireyerba_tests::bits::BitWriter;
 use spireyerba_tests::both::{self, Services, LIBRARY, SECOND};
 use spireyerba_tests::documents::{g, G, TWO_LENGTHS, U};
@@ -64,7 +64,7 @@ fn list(services: &Services, grammar: &[u8], graph: &[u8]) -> Vec<Vec<u8>> {
 fn printed(grammar: &[u8], graph: &[u8], readings: &[Vec<u8>]) -> String {
     let grammar = grammar::from_block(grammar).expect("an accepted grammar");
     let graph = graph::from_block(&grammar, graph).expect("an accepted graph");
-    let reading = |block: &Vec<u8>| of_listed(&grammar, &graph, block).reading;
+    let reading = |block: &Vec<u8>| of_listed(&grammar, &graph, block);
     print_list(&readings.iter().map(reading).collect::<Vec<Reading>>())
 }
 
@@ -141,7 +141,7 @@ fn the_greatest_sizes(services: &Services) {
         assert_eq!(block.len(), GRAPH_READING_BLOCK_MAX);
         assert_eq!((services.check)(&grammar_block, &graph_block, block), Ok(()));
         let reading = of_listed(&grammar, &graph, block);
-        assert_eq!(reading.path.len(), 24);
+        assert_eq!(reading.edges().len(), 24);
         assert_eq!(graph_reading::pack(&grammar, &reading), *block);
     }
 }
@@ -338,8 +338,8 @@ fn numbers_that_are_no_walk(services: &Services) {
         assert_eq!(check(path, walk), Err(ReadingWalk), "{why}");
     }
     // an edge that was not heard, on a path of three
-    let reading = Reading { weight: 2, walk: vec![0, 2, 0, 1, 1] };
-    let reading = graph_reading::pack(&under, &GraphReading { reading, path: vec![4, 1, 3] });
+    let reading = Reading::of_path(2, vec![0, 2, 0, 1, 1], vec![4, 1, 3]);
+    let reading = graph_reading::pack(&under, &reading);
     assert_eq!((services.check)(&grammar_block, &graph_block, &reading), Err(ReadingWalk));
 }
 

@@ -2,13 +2,12 @@
 
 use spireyerba::limits::{nodes, GRAPH_READING_BLOCK_MAX, MAX_EDGES};
 use spireyerba::Refusal::*;
-use spireyerba::{services, Grammar, Graph, GraphReading};
+use spireyerba::{services, Grammar, Graph, Heard, Reading};
 use spireyerba_tests::both::list;
 use spireyerba_tests::compare::listing::{compare, Call, Lists};
 use spireyerba_tests::compare::listing::{compare_accepted, compare_damaged, compare_short_and_out_of_range};
 use spireyerba_tests::compare::{check, over_seeds, Tally};
 use spireyerba_tests::graph_reading::{nodes_of, pack_nodes, Node};
-use spireyerba_tests::heard::Heard;
 use spireyerba_tests::nbest::{least, least_of_graph};
 use spireyerba_tests::refusal::{GRAMMAR_BLOCK, GRAPH_BLOCK, READING_BLOCK, UTTERANCE_BLOCK};
 use spireyerba_tests::seeded::damage::{
@@ -20,7 +19,7 @@ use spireyerba_tests::seeded::parsable::{any_shape, case, graph_case, graph_of, 
 use spireyerba_tests::seeded::parsable::{AMBIGUOUS, GREATEST, LONG, MANY_SYMBOLS, SPARSE, TINY};
 use spireyerba_tests::seeded::rng::Rng;
 use spireyerba_tests::seeded::{grammars, graphs};
-use spireyerba_tests::{grammar, graph, graph_reading, reading, utterance};
+use spireyerba_tests::{grammar, graph, graph_reading, heard, reading, utterance};
 use std::ops::Range;
 
 /// More bits than a reading has: each is turned.
@@ -38,7 +37,7 @@ impl Graphs {
     fn record(&mut self, grammar: &Grammar, graph: &Graph) {
         self.no_path += usize::from(graph::paths(graph, 1_000).is_some_and(|paths| paths.is_empty()));
         self.not_heard += usize::from(graph.edges.iter().any(|edge| !edge.is_offered()));
-        let shorter = |reading: &GraphReading| reading.path.len() + 1 < graph.places as usize;
+        let shorter = |reading: &Reading| reading.edges().len() + 1 < graph.places as usize;
         self.zeros += usize::from(least_of_graph(grammar, graph, 1).first().is_some_and(shorter));
     }
 }
@@ -109,16 +108,16 @@ fn slots_redrawn_as_a_graph() {
         if redrawn.edges.len() > MAX_EDGES as usize {
             return;
         }
-        let (of_slots, of_graph) = (grammar.list(&utterance, 60).unwrap(), grammar.list_graph(&redrawn, 60).unwrap());
-        assert!(of_graph.iter().map(|found| &found.reading).eq(&of_slots), "{grammar:?} {utterance:?}");
+        let (of_slots, of_graph) = (grammar.list(&utterance, 60).unwrap(), grammar.list(&redrawn, 60).unwrap());
+        assert!(of_graph.iter().cloned().map(reading::without_path).eq(of_slots.clone()), "{grammar:?} {utterance:?}");
         assert_eq!(of_slots, least(&grammar, &utterance, 60), "{grammar:?} {utterance:?}");
-        for GraphReading { reading, path } in &of_graph {
-            let places = path.iter().map(|&edge| redrawn.edges[edge as usize].from);
-            assert!(places.eq(0..utterance.slots.len() as u32), "{reading:?} {path:?}");
+        for reading in &of_graph {
+            let places = reading.edges().iter().map(|&edge| redrawn.edges[edge as usize].from);
+            assert!(places.eq(0..utterance.slots.len() as u32), "{reading:?}");
         }
         readings += of_slots.len();
         let block = graph::pack(&grammar, &redrawn);
-        let (work_len, out_len) = Heard::Graph(redrawn).listing_lengths(&grammar, 60);
+        let (work_len, out_len) = heard::listing_lengths(&grammar, &Heard::Graph(redrawn), 60);
         let call = Call { grammar: &grammar::pack(&grammar), utterance: &block, wanted: 60, work_len, out_len };
         assert_eq!(compare(rng, &mut tally, &call), Some(of_slots.len()));
     });
@@ -135,8 +134,8 @@ fn node(rng: &mut Rng, grammar: &Grammar, graph: &Graph) -> Node {
 
 /// The reading with another weight; with another number of edges; with one node replaced, one left out, one more, and two
 /// exchanged; with one edge replaced.
-fn altered(rng: &mut Rng, grammar: &Grammar, graph: &Graph, reading: &GraphReading) -> Vec<Vec<u8>> {
-    let (edges, weight, nodes) = (reading.path.len() as u32, reading.reading.weight, nodes_of(grammar, reading));
+fn altered(rng: &mut Rng, grammar: &Grammar, graph: &Graph, reading: &Reading) -> Vec<Vec<u8>> {
+    let (edges, weight, nodes) = (reading.edges().len() as u32, reading.weight, nodes_of(grammar, reading));
     let weights = [weight + 1, weight.wrapping_sub(1), 0, (1 << 24) - 1];
     let mut all: Vec<Vec<u8>> = weights.map(|weight| pack_nodes(grammar, edges, weight, &nodes)).into();
     for other in [0, 1, edges - 1, edges + 1, graph.places - 1, graph.places, 63] {
@@ -167,8 +166,8 @@ fn any_walks(rng: &mut Rng, grammar: &Grammar, graph: &Graph) -> Vec<Vec<u8>> {
 }
 
 /// Readings of derivations but that they use words which were not heard.
-fn of_words_not_heard(grammar: &Grammar, graph: &Graph) -> Vec<GraphReading> {
-    let uses_one = |reading: &GraphReading| reading.path.iter().any(|&edge| !graph.edges[edge as usize].is_offered());
+fn of_words_not_heard(grammar: &Grammar, graph: &Graph) -> Vec<Reading> {
+    let uses_one = |reading: &Reading| reading.edges().iter().any(|&edge| !graph.edges[edge as usize].is_offered());
     least_of_graph(grammar, &heard_at(0, graph), 3).into_iter().filter(uses_one).collect()
 }
 
@@ -179,7 +178,7 @@ fn readings_of_derivations_damaged_ones_and_noise() {
         let shape = any_shape(rng);
         let (grammar, graph) = graph_case(rng, shape);
         let (grammar_block, graph_block) = (grammar::pack(&grammar), graph::pack(&grammar, &graph));
-        let pack = |reading: &GraphReading| graph_reading::pack(&grammar, reading);
+        let pack = |reading: &Reading| graph_reading::pack(&grammar, reading);
         let mut inputs = any_walks(rng, &grammar, &graph);
         let not_heard = of_words_not_heard(&grammar, &graph);
         for reading in least_of_graph(&grammar, &graph, 3).iter().chain(not_heard.first()) {
@@ -222,10 +221,10 @@ fn readings_that_use_an_edge_not_heard_are_no_walks() {
     over_seeds(70_000..73_000, |rng| {
         let shape = rng.pick(&[&TINY, &AMBIGUOUS, &SPARSE]);
         let (grammar, graph) = graph_case(rng, shape);
-        let mut inputs: Vec<(Graph, GraphReading)> =
+        let mut inputs: Vec<(Graph, Reading)> =
             of_words_not_heard(&grammar, &graph).into_iter().map(|reading| (graph.clone(), reading)).collect();
         for reading in least_of_graph(&grammar, &graph, 3) {
-            let edge = rng.pick(&reading.path);
+            let edge = rng.pick(reading.edges());
             inputs.push((unheard(&graph, edge as usize), reading));
         }
         let grammar_block = grammar::pack(&grammar);
@@ -289,10 +288,10 @@ fn lists_of_values() {
         let shape = rng.pick(&[&AMBIGUOUS, &MANY_SYMBOLS, &SPARSE]);
         let (grammar, graph) = graph_case(rng, shape);
         let wanted = rng.pick(&[1, 2, 30, 256]);
-        let list = grammar.list_graph(&graph, wanted);
+        let list = grammar.list(&graph, wanted);
         assert_eq!(list, Ok(least_of_graph(&grammar, &graph, wanted as usize)), "{grammar:?} {graph:?}");
         for wanted in [0, 257, u32::MAX] {
-            assert_eq!(grammar.list_graph(&graph, wanted), Err(ListingWanted));
+            assert_eq!(grammar.list(&graph, wanted), Err(ListingWanted));
         }
     });
 }

@@ -1,10 +1,9 @@
 //! The library's listing beside the second implementation.
 
 use spireyerba::Refusal::*;
-use spireyerba::Utterance;
+use spireyerba::{Heard, Utterance};
 use spireyerba_tests::compare::listing::{compare_accepted, compare_damaged, compare_short_and_out_of_range, Lists};
 use spireyerba_tests::compare::{over_seeds, Tally};
-use spireyerba_tests::heard::Heard;
 use spireyerba_tests::refusal::{GRAMMAR_BLOCK, UTTERANCE_BLOCK};
 use spireyerba_tests::seeded::damage::{some_grammar_blocks, some_utterance_blocks, with_one_damaged};
 use spireyerba_tests::seeded::parsable::{case, wanted, Shape};

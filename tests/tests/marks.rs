@@ -3,16 +3,15 @@
 
 use spireyerba::limits::{work_length, GRAMMAR_BLOCK_MAX, GRAMMAR_SHEET_MAX};
 use spireyerba::Refusal::*;
-use spireyerba::{services, Body, Grammar, MarkedGrammar, Refusal, Rule};
+use spireyerba::{services, Body, Grammar, Heard, MarkedGrammar, Refusal, Rule};
 use spireyerba_tests::compare::conversions::{GRAMMAR_TO_BLOCK, GRAMMAR_TO_SHEET};
 use spireyerba_tests::compare::{over_seeds, Tally};
-use spireyerba_tests::grammar;
-use spireyerba_tests::heard::Heard;
 use spireyerba_tests::refusal::{GRAMMAR_BLOCK, GRAMMAR_SHEET};
 use spireyerba_tests::seeded::damage::{blocks, repeated_rule, sheets};
 use spireyerba_tests::seeded::grammars::{grammar, Size};
 use spireyerba_tests::seeded::offices::marked;
 use spireyerba_tests::seeded::parsable::{heard_case, AMBIGUOUS, SPARSE};
+use spireyerba_tests::{grammar, heard};
 
 /// G with marks 0 and 1.
 const SHEET: [u32; 15] = [1, 1, 2, 0, 0, 1, 0, 0, 0, 1, 0, 0, 0, 0, 1];
@@ -148,7 +147,7 @@ fn every_service_takes_either_kind() {
     let mut passed = 0;
     over_seeds(2_000..2_400, |rng| {
         let (grammar, heard) = heard_case(rng, &[&AMBIGUOUS, &SPARSE]);
-        let block = heard.pack(&grammar);
+        let block = heard::pack(&grammar, &heard);
         let plain = answers(&grammar::pack(&grammar), grammar.symbols, &heard, &block);
         let with_marks = grammar::pack_marked(&marked(rng, &grammar));
         assert_eq!(answers(&with_marks, grammar.symbols, &heard, &block), plain, "{grammar:?} {heard:?}");

@@ -135,7 +135,7 @@ fn a_slot_of_only_such_words(services: &Services) {
 
 /// As the weight of a rule the number is like any other.
 fn rules_of_that_weight(services: &Services) {
-    let reading = |weight, walk: &[u32]| Reading { weight, walk: walk.into() };
+    let reading = |weight, walk: &[u32]| Reading::of_slots(weight, walk.into());
     assert_eq!(readings(services, 65_535, &[[0, NOT_HEARD]]), [reading(65_535, &[1])]);
     assert_eq!(
         readings(services, 65_535, &[[NOT_HEARD, 4], [7, 65_534]]),

@@ -222,9 +222,9 @@ fn derivations_of_graphs_match_one_to_one() {
         let marked = office.to_grammar().expect("a result within the limits");
         let graph = seeded::graphs::graph(rng, Size::Small, office.words);
         let own = derivations(&office, &Offers::of_graph(&graph));
-        let readings = marked.grammar.list_graph(&graph, 256).expect("a listing");
+        let readings = marked.grammar.list(&graph, 256).expect("a listing");
         if readings.len() < 256 {
-            let shown = readings.iter().map(|found| (found.reading.weight, marked.shown(&found.reading.walk)));
+            let shown = readings.iter().map(|found| (found.weight, marked.shown(&found.walk)));
             let mut shown: Vec<_> = shown.collect();
             shown.sort();
             assert_eq!(shown, own, "{office:?} {graph:?}");

@@ -3,18 +3,18 @@
 
 use spireyerba::limits::MAX_READINGS;
 use spireyerba::services::{self, Next, Place};
+use spireyerba::Heard;
 use spireyerba::Refusal::{self, *};
 use spireyerba_tests::compare::open_listing::{compare_next, compare_open, expect_sound, State};
 use spireyerba_tests::compare::{over_seeds, Tally};
 use spireyerba_tests::documents::{block_of_slots, FIFTH, FIFTH_AT_0, G, TWO_LENGTHS, U};
-use spireyerba_tests::heard::Heard;
 use spireyerba_tests::open_listing::Listed;
 use spireyerba_tests::refusal::{GRAMMAR_BLOCK, GRAPH_BLOCK, UTTERANCE_BLOCK};
 use spireyerba_tests::seeded::damage::{graph_blocks, some_grammar_blocks, some_utterance_blocks, with_one_damaged};
 use spireyerba_tests::seeded::parsable::{case, graph_case, graph_of, heard_case, utterance_of, Shape};
 use spireyerba_tests::seeded::parsable::{AMBIGUOUS, GREATEST, LONG, MANY_SYMBOLS, SPARSE, TINY};
 use spireyerba_tests::seeded::rng::Rng;
-use spireyerba_tests::{grammar, utterance};
+use spireyerba_tests::{grammar, heard, utterance};
 
 /// Opens a listing and takes all of it; answers how many ranks each call found, of slices with just the room that they need.
 fn found_by_calls(grammar: &[u8], heard: &[u8], work_len: usize, out_len: usize) -> Vec<usize> {
@@ -89,7 +89,7 @@ fn expect_sequences(seeds: std::ops::Range<u64>, shapes: &[&Shape], most: usize)
     let (mut tally, mut met) = (Tally::default(), [0; 3]);
     over_seeds(seeds, |rng| {
         let (grammar, heard) = heard_case(rng, shapes);
-        let blocks = [grammar::pack(&grammar), heard.pack(&grammar)];
+        let blocks = [grammar::pack(&grammar), heard::pack(&grammar, &heard)];
         let blocks = [&blocks[0][..], &blocks[1]];
         let listed = Listed::new(blocks[0], blocks[1]);
         let (work_len, out_len) =
@@ -202,7 +202,7 @@ fn altered_places_and_tables() {
     let mut met = Met::default();
     over_seeds(40_000..46_000, |rng| {
         let (grammar, heard) = heard_case(rng, &[&TINY, &TINY, &AMBIGUOUS, &SPARSE]);
-        let blocks = [grammar::pack(&grammar), heard.pack(&grammar)];
+        let blocks = [grammar::pack(&grammar), heard::pack(&grammar, &heard)];
         let blocks = [&blocks[0][..], &blocks[1]];
         let listed = Listed::new(blocks[0], blocks[1]).expect("accepted");
         let calls = rng.below(10);
@@ -225,7 +225,7 @@ fn altered_edges() {
     let (mut of_slots, mut of_graphs) = (Met::default(), Met::default());
     over_seeds(47_000..49_000, |rng| {
         let (grammar, heard) = heard_case(rng, &[&TINY, &AMBIGUOUS, &SPARSE]);
-        let blocks = [grammar::pack(&grammar), heard.pack(&grammar)];
+        let blocks = [grammar::pack(&grammar), heard::pack(&grammar, &heard)];
         let blocks = [&blocks[0][..], &blocks[1]];
         let listed = Listed::new(blocks[0], blocks[1]).expect("accepted");
         let calls = 1 + rng.below(4);
@@ -269,7 +269,7 @@ fn other_blocks() {
             _ => (grammar.clone(), Heard::Graph(graph_of(rng, &grammar, shape))),
         };
         let [first, other] =
-            [&(grammar, first), &other].map(|(grammar, heard)| [grammar::pack(grammar), heard.pack(grammar)]);
+            [&(grammar, first), &other].map(|(grammar, heard)| [grammar::pack(grammar), heard::pack(grammar, heard)]);
         let [first, other] = [&first, &other].map(|blocks| [&blocks[0][..], &blocks[1]]);
         let [listed, of_other] = [first, other].map(|blocks| Listed::new(blocks[0], blocks[1]).expect("accepted"));
         let calls = rng.below(12);
@@ -304,7 +304,7 @@ fn lengths_of_all_kinds() {
     let mut tally = Tally::default();
     over_seeds(60_000..62_000, |rng| {
         let (grammar, heard) = heard_case(rng, &[&TINY, &AMBIGUOUS, &SPARSE]);
-        let blocks = [grammar::pack(&grammar), heard.pack(&grammar)];
+        let blocks = [grammar::pack(&grammar), heard::pack(&grammar, &heard)];
         let blocks = [&blocks[0][..], &blocks[1]];
         let listed = Listed::new(blocks[0], blocks[1]);
         let (work_len, out_len) = lengths(rng, listed.as_ref().expect("accepted"));

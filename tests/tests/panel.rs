@@ -2,18 +2,17 @@
 
 use spireyerba::limits::{PANEL_MAX_READINGS, PANEL_MAX_SLOTS, PANEL_OUTPUT_MAX, PANEL_WORK_MAX};
 use spireyerba::Refusal::{self, *};
-use spireyerba::{services, Edge, Grammar, Graph};
+use spireyerba::{services, Edge, Grammar, Graph, Heard};
 use spireyerba_tests::compare::listing::{compare_panel, compare_services, Call};
 use spireyerba_tests::compare::{over_seeds, Tally};
 use spireyerba_tests::documents::{block_of_slots, g, G};
-use spireyerba_tests::heard::Heard;
 use spireyerba_tests::listing::panel_listing;
 use spireyerba_tests::refusal::{GRAMMAR_BLOCK, GRAPH_BLOCK, UTTERANCE_BLOCK};
 use spireyerba_tests::seeded::damage::{graph_blocks, some_grammar_blocks, some_utterance_blocks, with_one_damaged};
 use spireyerba_tests::seeded::parsable::{case, graph_case, heard_case, Shape};
 use spireyerba_tests::seeded::parsable::{AMBIGUOUS, GREATEST, LONG, MANY_SYMBOLS, SPARSE, TINY};
 use spireyerba_tests::seeded::rng::Rng;
-use spireyerba_tests::{grammar, graph, utterance};
+use spireyerba_tests::{grammar, graph, heard, utterance};
 
 /// So many places, with word 0 at cost 0 over each step.
 fn places(count: u32) -> Vec<u8> {
@@ -73,7 +72,7 @@ fn wanted(rng: &mut Rng) -> u32 {
 
 /// The lengths of work table and output that a listing needs, or one less of either.
 fn lengths(rng: &mut Rng, grammar: &Grammar, heard: &Heard, wanted: u32) -> (usize, usize) {
-    let (work, out) = heard.listing_lengths(grammar, wanted.min(PANEL_MAX_READINGS));
+    let (work, out) = heard::listing_lengths(grammar, heard, wanted.min(PANEL_MAX_READINGS));
     match rng.below(6) {
         0 => (work.saturating_sub(1), out),
         1 => (work, out.saturating_sub(1)),
@@ -89,8 +88,13 @@ fn beside_the_second_implementation() {
         let (grammar, heard) = heard_case(rng, &[&TINY, &AMBIGUOUS, &AMBIGUOUS, &SPARSE, &LONG, &MANY_SYMBOLS]);
         let wanted = wanted(rng);
         let (work_len, out_len) = lengths(rng, &grammar, &heard, wanted);
-        let call =
-            Call { grammar: &grammar::pack(&grammar), utterance: &heard.pack(&grammar), wanted, work_len, out_len };
+        let call = Call {
+            grammar: &grammar::pack(&grammar),
+            utterance: &heard::pack(&grammar, &heard),
+            wanted,
+            work_len,
+            out_len,
+        };
         compare_panel(rng, &mut tally, &call);
     });
     assert!(tally.accepted() > 2_000);
@@ -126,8 +130,13 @@ fn beside_the_library() {
         let (grammar, heard) = heard_case(rng, &[&TINY, &AMBIGUOUS, &AMBIGUOUS, &SPARSE, &MANY_SYMBOLS]);
         let wanted = rng.within(0..=PANEL_MAX_READINGS);
         let (work_len, out_len) = lengths(rng, &grammar, &heard, wanted);
-        let call =
-            Call { grammar: &grammar::pack(&grammar), utterance: &heard.pack(&grammar), wanted, work_len, out_len };
+        let call = Call {
+            grammar: &grammar::pack(&grammar),
+            utterance: &heard::pack(&grammar, &heard),
+            wanted,
+            work_len,
+            out_len,
+        };
         compare_services(rng, &mut tally, &call, [services::panel_listing, services::listing]);
     });
     over_seeds(30_000..30_020, |rng| {
@@ -135,7 +144,7 @@ fn beside_the_library() {
         assert_eq!(heard.longest(), PANEL_MAX_SLOTS as usize);
         let call = Call {
             grammar: &grammar::pack(&grammar),
-            utterance: &heard.pack(&grammar),
+            utterance: &heard::pack(&grammar, &heard),
             wanted: PANEL_MAX_READINGS,
             work_len: PANEL_WORK_MAX,
             out_len: PANEL_OUTPUT_MAX,

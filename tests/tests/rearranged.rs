@@ -2,13 +2,12 @@
 //! every rank; one that is shorter than the number wanted holds the same derivations (document 02, N13). Each test runs on the
 //! library and on the second implementation.
 
-use spireyerba::{services, Body, Candidate, Edge, Grammar, Graph, GraphReading, Rule, Utterance};
+use spireyerba::{services, Body, Candidate, Edge, Grammar, Graph, Heard, Reading, Rule, Utterance};
 use spireyerba_tests::both::{self, Listing};
 use spireyerba_tests::compare::over_seeds;
-use spireyerba_tests::heard::Heard;
 use spireyerba_tests::seeded::parsable::{case, graph_case, AMBIGUOUS, LONG, MANY_SYMBOLS, SPARSE, TINY};
 use spireyerba_tests::seeded::rng::Rng;
-use spireyerba_tests::{grammar, graph_reading, listing, reading, tests_of_both, utterance};
+use spireyerba_tests::{grammar, graph_reading, heard, listing, reading, tests_of_both, utterance};
 use std::ops::Range;
 
 tests_of_both! {
@@ -42,9 +41,10 @@ impl Listed {
     }
 
     fn of_graph(grammar: &Grammar, graph: &Graph, block: &[u8]) -> Self {
-        let GraphReading { reading, path } = graph_reading::of_listed(grammar, graph, block);
+        let Reading { weight, walk, path } = graph_reading::of_listed(grammar, graph, block);
+        let path = path.unwrap_or_default();
         let costs = path.iter().map(|&edge| graph.edges[edge as usize].cost).sum();
-        Self { weight: reading.weight, costs, walk: reading.walk, path }
+        Self { weight, costs, walk, path }
     }
 
     /// The same derivation under rules of which number `r` is now `to[r]`.
@@ -55,7 +55,7 @@ impl Listed {
 
 /// What a listing finds, in its order.
 fn list(listing: Listing, grammar: &Grammar, heard: &Heard, wanted: u32) -> Vec<Listed> {
-    let readings = both::list(listing, &grammar::pack(grammar), &heard.pack(grammar), wanted);
+    let readings = both::list(listing, &grammar::pack(grammar), &heard::pack(grammar, heard), wanted);
     let listed = |block: &Vec<u8>| match heard {
         Heard::Slots(utterance) => Listed::of_slots(grammar, utterance, block),
         Heard::Graph(graph) => Listed::of_graph(grammar, graph, block),

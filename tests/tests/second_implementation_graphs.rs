@@ -2,7 +2,7 @@
 //! cases.
 
 use spireyerba::limits::{nodes, NOT_HEARD};
-use spireyerba::{Body, Grammar, Graph, GraphReading, Refusal};
+use spireyerba::{Body, Grammar, Graph, Reading, Refusal};
 use spireyerba_tests::bits::BitWriter;
 use spireyerba_tests::check::{check, weight_on_path};
 use spireyerba_tests::compare::over_seeds;
@@ -11,6 +11,7 @@ use spireyerba_tests::grammar::rule_width;
 use spireyerba_tests::graph::{paths, slots_of_path};
 use spireyerba_tests::graph_reading::nodes_of;
 use spireyerba_tests::nbest::{least, least_of_graph};
+use spireyerba_tests::reading::without_path;
 use spireyerba_tests::seeded::graphs::heard_at;
 use spireyerba_tests::seeded::parsable::{case, graph_case, Shape, AMBIGUOUS, MANY_SYMBOLS, SPARSE, TINY};
 use spireyerba_tests::{grammar, graph};
@@ -27,11 +28,11 @@ fn the_n_best_are_the_first_of_all_derivations_sorted() {
         let (grammar, graph) = graph_case(rng, shape);
         let Some(all) = ranked_of_graph(&grammar, &graph, 2_000) else { return };
         let wanted = rng.pick(&[1, 2, 3, 7, 20, 256]);
-        let first: Vec<GraphReading> = all.iter().take(wanted).map(|tree| tree.graph_reading()).collect();
+        let first: Vec<Reading> = all.iter().take(wanted).map(|tree| tree.graph_reading()).collect();
         assert_eq!(least_of_graph(&grammar, &graph, wanted), first, "{grammar:?} {graph:?}");
         compared += usize::from(!all.is_empty());
         cut += usize::from(all.len() > wanted);
-        uneven += usize::from(first.iter().any(|reading| reading.path.len() != first[0].path.len()));
+        uneven += usize::from(first.iter().any(|reading| reading.edges().len() != first[0].edges().len()));
     });
     assert!(
         compared > 2_000 && cut > 500 && uneven > 300,
@@ -113,8 +114,7 @@ fn the_derivations_are_those_over_all_words_without_those_that_use_one_not_heard
         let (grammar, graph) = graph_case(rng, shape);
         let all_heard = heard_at(rng.pick(&[0, NOT_HEARD - 1]), &graph);
         let Some(all) = ranked_of_graph(&grammar, &all_heard, 2_000) else { return };
-        let uses_one =
-            |reading: &GraphReading| reading.path.iter().any(|&edge| !graph.edges[edge as usize].is_offered());
+        let uses_one = |reading: &Reading| reading.edges().iter().any(|&edge| !graph.edges[edge as usize].is_offered());
         let (out, expected): (Vec<_>, Vec<_>) = all.iter().map(|tree| tree.graph_reading()).partition(uses_one);
         assert_eq!(least_of_graph(&grammar, &graph, all.len().max(1)), expected, "{grammar:?} {graph:?}");
         some += usize::from(!out.is_empty() && !expected.is_empty());
@@ -136,14 +136,14 @@ fn slots_redrawn_as_a_graph() {
         }
         assert_eq!(graph::from_block(&grammar, &graph::pack(&grammar, &redrawn)).as_ref(), Ok(&redrawn));
         let (of_slots, of_graph) = (least(&grammar, &utterance, 60), least_of_graph(&grammar, &redrawn, 60));
-        assert!(of_graph.iter().map(|found| &found.reading).eq(&of_slots), "{grammar:?} {utterance:?}");
+        assert!(of_graph.into_iter().map(without_path).eq(of_slots.iter().cloned()), "{grammar:?} {utterance:?}");
         readings += of_slots.len();
     });
     assert!(readings > 10_000, "{readings} readings");
 }
 
 /// The bits of the nodes of a derivation, behind the weight, as one number.
-fn bits_of_nodes(grammar: &Grammar, reading: &GraphReading) -> u32 {
+fn bits_of_nodes(grammar: &Grammar, reading: &Reading) -> u32 {
     nodes_of(grammar, reading).into_iter().fold(0, |bits, (rule, edge)| {
         let bits = bits << rule_width(grammar) | rule;
         edge.map_or(bits, |edge| bits << 7 | edge)
@@ -154,9 +154,9 @@ fn bits_of_nodes(grammar: &Grammar, reading: &GraphReading) -> u32 {
 /// packed bits of its nodes".
 fn expect_all_bits(grammar: &Grammar, graph: &Graph, edges: usize, width: usize) -> usize {
     let all = ranked_of_graph(grammar, graph, 100_000).expect("few derivations");
-    let of_edges = all.iter().map(|tree| tree.graph_reading()).filter(|reading| reading.path.len() == edges);
+    let of_edges = all.iter().map(|tree| tree.graph_reading()).filter(|reading| reading.edges().len() == edges);
     let weights: HashMap<u32, u32> =
-        of_edges.map(|reading| (bits_of_nodes(grammar, &reading), reading.reading.weight)).collect();
+        of_edges.map(|reading| (bits_of_nodes(grammar, &reading), reading.weight)).collect();
     let (grammar_block, graph_block) = (grammar::pack(grammar), graph::pack(grammar, graph));
     let a_weight = weights.values().next().copied().unwrap_or(0);
     for bits in 0..1 << width {
@@ -203,8 +203,8 @@ fn the_weight_on_a_path_is_that_of_the_derivation() {
     over_seeds(50_000..52_000, |rng| {
         let shape = rng.pick(&[&AMBIGUOUS, &SPARSE, &MANY_SYMBOLS]);
         let (grammar, graph) = graph_case(rng, shape);
-        for GraphReading { reading, path } in least_of_graph(&grammar, &graph, 20) {
-            assert_eq!(weight_on_path(&grammar, &graph, &reading.walk, &path), Some(reading.weight));
+        for reading in least_of_graph(&grammar, &graph, 20) {
+            assert_eq!(weight_on_path(&grammar, &graph, &reading.walk, reading.edges()), Some(reading.weight));
             found += 1;
         }
     });

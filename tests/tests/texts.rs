@@ -1,9 +1,8 @@
 //! The texts of the crate `spireyerba`, on random grammars, utterances and word graphs: what is written is read again, and
 //! packed to the same block.
 
-use spireyerba::text::{graph_reading_text, is_graph, parse_graph_reading, parse_reading, reading_text};
-use spireyerba::text::{NamedGrammar, UtteranceReader};
-use spireyerba::{Body, Error, Grammar, Graph, GraphReading, Lister, Rule};
+use spireyerba::text::{is_graph, parse_reading, reading_text, NamedGrammar, UtteranceReader};
+use spireyerba::{Body, Error, Grammar, Graph, Lister, Reading, Rule};
 use spireyerba_tests::compare::over_seeds;
 use spireyerba_tests::graph_reading;
 use spireyerba_tests::seeded::grammars::{grammar, Size};
@@ -224,7 +223,7 @@ fn links_without_words_are_passed_over() {
         }
         let graph = reader.read_graph(&text).unwrap_or_else(|error| panic!("{error}\n{text}"));
         let mut found: HashMap<Vec<u32>, u32> = HashMap::new();
-        for GraphReading { reading, .. } in named.grammar.list_graph(&graph, 256).expect("a list") {
+        for reading in named.grammar.list(&graph, 256).expect("a list") {
             found.entry(named.words_of(&reading).collect()).or_insert(reading.weight);
         }
         let mut least: HashMap<Vec<u32>, u32> = HashMap::new();
@@ -264,13 +263,13 @@ fn readings_of_graphs() {
         let block = grammar.to_block().expect("an accepted grammar");
         let graph_block = graph.to_block(&block).expect("an accepted graph");
         let mut lister = Lister::new(&grammar).expect("an accepted grammar");
-        assert_eq!(lister.list_graph(&graph, 2), grammar.list_graph(&graph, 2));
-        for found in lister.list_graph(&graph, 30).expect("an accepted number") {
-            assert_eq!(grammar.check_graph(&graph, &found), Ok(()));
-            assert_eq!(parse_graph_reading(&graph_reading_text(&found)).as_ref(), Ok(&found));
+        assert_eq!(lister.list(&graph, 2), grammar.list(&graph, 2));
+        for found in lister.list(&graph, 30).expect("an accepted number") {
+            assert_eq!(grammar.check(&graph, &found), Ok(()));
+            assert_eq!(parse_reading(&reading_text(&found)).as_ref(), Ok(&found));
             let packed = found.to_block(&grammar).expect("a reading of the library's");
             assert_eq!(packed, graph_reading::pack(&grammar, &found));
-            assert_eq!(GraphReading::from_block(&block, &graph_block, &packed), Ok(found));
+            assert_eq!(Reading::from_block(&block, &graph_block, &packed), Ok(found));
             read += 1;
         }
     });

@@ -4,9 +4,9 @@
 use spireyerba::limits::{graph_reading_length, reading_length, width, work_length, GRAPH_BLOCK_MAX};
 use spireyerba::services::check;
 use spireyerba::text::NamedGrammar;
-use spireyerba::{Body, Graph, GraphReading, Lister, Refusal};
+use spireyerba::{Body, Graph, Heard, Lister, Reading, Refusal};
 use spireyerba_tests::compare::over_seeds;
-use spireyerba_tests::heard::Heard;
+use spireyerba_tests::heard;
 use spireyerba_tests::seeded::damage::{blocks, repeated_edge};
 use spireyerba_tests::seeded::grammars::{grammar, Size};
 use spireyerba_tests::seeded::graphs::graph;
@@ -142,9 +142,9 @@ fn grammars() {
 }
 
 /// What tests/c/util.c prints of a reading.
-fn of_reading(named: &NamedGrammar, found: &GraphReading, of_graph: bool) -> String {
-    let (reading, leaves) = (&found.reading, 0..found.reading.walk.len() as u32 / 2 + 1);
-    let edges = if of_graph { found.path.clone() } else { leaves.collect() };
+fn of_reading(named: &NamedGrammar, reading: &Reading) -> String {
+    let (of_graph, leaves) = (reading.path.is_some(), 0..reading.walk.len() as u32 / 2 + 1);
+    let edges = reading.path.clone().unwrap_or_else(|| leaves.collect());
     let (rules, words, edges) = (numbers(&reading.walk), numbers(named.words_of(reading)), numbers(edges));
     format!("{} {} rules{rules} words{words} edges{edges}", reading.weight, u32::from(of_graph))
 }
@@ -156,23 +156,19 @@ fn readings_and_what_is_lent() {
         let shape = any_shape(rng);
         let (under, heard) = heard_case(rng, &[shape]);
         let (block, wanted) = (under.to_block().expect("a block"), rng.within(1..=8));
-        let heard_block = heard.pack(&under);
+        let heard_block = heard::pack(&under, &heard);
         let of_graph = matches!(heard, Heard::Graph(_));
-        let (work, out) = heard.listing_lengths(&under, wanted);
-        let lengths = [heard.longest(), of_graph.into(), heard.reading_length(&under), work, out];
+        let (work, out) = heard::listing_lengths(&under, &heard, wanted);
+        let lengths = [heard.longest(), of_graph.into(), heard::reading_length(&under, &heard), work, out];
         let call = format!("measure {} {} {wanted}", hex(&block), hex(&heard_block));
         calls.push((call, numbers(lengths).trim_start().to_owned()));
         let mut lister = Lister::new(&under).expect("a lister");
         let named = NamedGrammar::numbered(under);
         let mut list = String::new();
         for found in lister.find_in_block(&heard_block, wanted).expect("a listing").readings() {
-            let packed = if of_graph {
-                found.to_block(&named.grammar)
-            } else {
-                found.reading.to_block(named.grammar.rules.len())
-            };
-            let call = format!("reading {} {}", hex(&block), hex(&packed.expect("a block")));
-            let expected = of_reading(&named, &found, of_graph);
+            let packed = found.to_block(&named.grammar).expect("a block");
+            let call = format!("reading {} {}", hex(&block), hex(&packed));
+            let expected = of_reading(&named, &found);
             list += &format!(" | {expected}");
             calls.push((call, expected));
             readings += 1;
@@ -195,9 +191,9 @@ fn damaged_readings() {
     over_seeds(0..60, |rng| {
         let shape = any_shape(rng);
         let (under, heard) = heard_case(rng, &[shape]);
-        let (block, heard_block) = (under.to_block().expect("a block"), heard.pack(&under));
+        let (block, heard_block) = (under.to_block().expect("a block"), heard::pack(&under, &heard));
         let named = NamedGrammar::numbered(under);
-        for (_, whole) in heard.least(&named.grammar, 2) {
+        for (_, whole) in heard::least(&named.grammar, &heard, 2) {
             for damaged in blocks(rng, &whole, 12) {
                 let call = format!("reading {} {}", hex(&block), hex(&damaged));
                 passed += usize::from(check(&block, &heard_block, &damaged).is_ok());
@@ -240,7 +236,7 @@ fn damaged_reading(named: &NamedGrammar, block: &[u8]) -> String {
     if path.len() != leaves as usize {
         return refused(Refusal::ReadingWalk);
     }
-    of_reading(named, &GraphReading { reading: spireyerba::Reading { weight, walk }, path }, kind == 6)
+    of_reading(named, &Reading { weight, walk, path: Some(path).filter(|_| kind == 6) })
 }
 
 /// A call that packs a graph in an output of some length.

@@ -7,7 +7,7 @@ use crate::json;
 use crate::options::{Arguments, DROP_UNKNOWN, JOBS, WANTED};
 use crate::output::Output;
 use spireyerba::text::{is_graph, UtteranceReader};
-use spireyerba::{Error, GraphReading, Lister};
+use spireyerba::{Error, Lister, Reading};
 use std::borrow::Cow;
 use std::collections::BTreeMap;
 use std::io::{stderr, ErrorKind, IsTerminal, Read};
@@ -44,7 +44,7 @@ fn run(arguments: &Arguments, output: &mut Output) -> Result<(), Failure> {
         name: files::name_of(arguments.operands[1]),
         wanted: arguments.wanted()?,
         reader: files::utterance_reader(arguments, &grammar.named)?,
-        lister: Lister::new(&grammar.named.grammar).map_err(Error::from)?,
+        lister: Lister::of(grammar.packed.clone()),
         names: json::Names::new(&grammar.named),
     };
     let source = Mutex::new(Source::new(files::open(arguments.operands[1])?));
@@ -157,13 +157,13 @@ struct Worker<'a> {
     /// What is heard in the line at hand.
     sheet: Vec<u32>,
     block: Vec<u8>,
-    reading: GraphReading,
+    reading: Reading,
 }
 
 impl<'a> Worker<'a> {
     fn new(batch: &'a Batch) -> Self {
         let lister = batch.lister.clone();
-        Self { batch, lister, sheet: Vec::new(), block: Vec::new(), reading: GraphReading::default() }
+        Self { batch, lister, sheet: Vec::new(), block: Vec::new(), reading: Reading::default() }
     }
 
     /// The answers of some lines, in memory of others.
@@ -192,7 +192,7 @@ impl<'a> Worker<'a> {
         let is_graph = line.trim_start().starts_with(|first: char| first.is_ascii_digit()) && is_graph(line);
         let found = if is_graph {
             let graph = reader.read_graph(line).map_err(in_file)?;
-            self.lister.find_in_graph(&graph, *wanted)
+            self.lister.find(&graph, *wanted)
         } else {
             reader.read_block(line, &mut self.sheet, &mut self.block).map_err(in_file)?;
             self.lister.find_in_block(&self.block, *wanted)
@@ -202,9 +202,9 @@ impl<'a> Worker<'a> {
         json.extend_from_slice(b",\"readings\":[");
         for number in 0..found.len() {
             found.read(number, &mut self.reading);
-            names.begin_reading(json, Some(number as u32 + 1), &self.reading.reading);
-            if is_graph {
-                json::push_numbers(json, "edges", self.reading.path.iter().copied());
+            names.begin_reading(json, Some(number as u32 + 1), &self.reading);
+            if let Some(path) = &self.reading.path {
+                json::push_numbers(json, "edges", path.iter().copied());
             }
             json::end_reading(json);
         }

@@ -42,7 +42,10 @@ fn of_ranks(arguments: &Arguments, listed: &Listed, first: usize, output: &mut O
     let named = &listed.grammar.named;
     let shares = files::shares(&listed.grammar, arguments.operands[2])?;
     let ranks = first..=listed.readings.len();
-    let chance = |rank| listed.heard.chance(&named.grammar, &listed.found(rank), &shares).map(written);
+    let chance = |rank| {
+        let reading: &Reading = &listed.readings[rank - 1];
+        listed.grammar.packed.chance(&listed.heard, reading, &shares).map(written)
+    };
     let chances = ranks.clone().map(chance).collect::<Result<Vec<String>, Refusal>>().map_err(Error::from)?;
     if arguments.has(&JSON) {
         let ranked = ranks.zip(&chances);
@@ -66,15 +69,14 @@ fn of_ranks(arguments: &Arguments, listed: &Listed, first: usize, output: &mut O
 fn of_file(arguments: &Arguments, file: &str, output: &mut Output) -> Result<(), Failure> {
     let grammar = files::grammar(arguments.operands[0])?;
     let (heard, _) = heard(arguments, &grammar)?;
-    let found = files::reading(&grammar, &heard, file)?.found;
+    let reading = files::reading(&grammar, &heard, file)?.reading;
     let shares = files::shares(&grammar, arguments.operands[2])?;
-    let chance = written(heard.chance(&grammar.named.grammar, &found, &shares).map_err(Error::from)?);
+    let chance = written(grammar.packed.chance(&heard, &reading, &shares).map_err(Error::from)?);
     if arguments.has(&JSON) {
-        return print_json(&grammar.named, [(None, &found.reading, &chance)].into_iter(), output);
+        return print_json(&grammar.named, [(None, &reading, &chance)].into_iter(), output);
     }
-    let [weight, chance] =
-        [found.reading.weight.to_string(), chance].map(|number| output.paint(Style::Strong, &number));
-    output.line(&format!("{weight}  {chance}  {}", grammar.named.sentence(&found.reading)))
+    let [weight, chance] = [reading.weight.to_string(), chance].map(|number| output.paint(Style::Strong, &number));
+    output.line(&format!("{weight}  {chance}  {}", grammar.named.sentence(&reading)))
 }
 
 /// The shortest digits that are read back as the same float.

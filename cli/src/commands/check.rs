@@ -23,6 +23,6 @@ A reading's text is its weight and the rule number of each node: a node, its lef
 fn run(arguments: &Arguments, output: &mut Output) -> Result<(), Failure> {
     let grammar = files::grammar(arguments.operands[0])?;
     let heard = files::heard(arguments, &grammar, arguments.operands[1])?;
-    let reading = files::reading(&grammar, &heard, arguments.operands[2])?.found.reading;
+    let reading = files::reading(&grammar, &heard, arguments.operands[2])?.reading;
     output.line(&format!("passes: {}  {}", reading.weight, grammar.named.sentence(&reading)))
 }

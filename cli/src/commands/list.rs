@@ -5,13 +5,13 @@ use crate::anchor;
 use crate::drawing::Drawing;
 use crate::failure::Failure;
 use crate::files::{self, GrammarFile};
-use crate::heard::{Heard, Taken};
+use crate::heard::{HeardWords, Taken};
 use crate::json;
 use crate::options::{Arguments, DROP_DELETES, DROP_UNKNOWN, EMPTY, JSON, RULES, SAID, SCALE, SKIP, TREE, WANTED};
 use crate::output::{Output, Style};
 use crate::skip;
 use spireyerba::text::print_list;
-use spireyerba::{Error, GraphReading, Reading, Tree};
+use spireyerba::{Error, Heard, Reading, Tree};
 use std::ops::RangeInclusive;
 
 pub const COMMAND: Command = Command {
@@ -36,8 +36,6 @@ pub struct Listed {
     pub grammar: GrammarFile,
     pub heard: Heard,
     pub readings: Vec<Reading>,
-    /// The path of each reading of a word graph.
-    pub paths: Vec<Vec<u32>>,
     /// The slot of each edge, if the graph was drawn so that slots may be passed over.
     pub slots: Option<Vec<u32>>,
 }
@@ -46,8 +44,7 @@ impl Listed {
     /// Lists so many readings of the utterance that the first two operands name.
     pub fn new(arguments: &Arguments, wanted: u32) -> Result<Self, Failure> {
         let mut listed = Self::none_yet(arguments)?;
-        let list = listed.heard.list(&listed.grammar.named.grammar, wanted).map_err(Error::from)?;
-        list.into_iter().for_each(|found| listed.push(found));
+        listed.readings = listed.grammar.packed.list(&listed.heard, wanted).map_err(Error::from)?;
         Ok(listed)
     }
 
@@ -55,13 +52,7 @@ impl Listed {
     pub fn none_yet(arguments: &Arguments) -> Result<Self, Failure> {
         let grammar = files::grammar(arguments.operands[0])?;
         let (heard, slots) = heard(arguments, &grammar)?;
-        Ok(Self { grammar, heard, readings: Vec::new(), paths: Vec::new(), slots })
-    }
-
-    /// Adds the reading that is next in the list.
-    pub fn push(&mut self, found: GraphReading) {
-        self.readings.push(found.reading);
-        self.paths.push(found.path);
+        Ok(Self { grammar, heard, readings: Vec::new(), slots })
     }
 
     /// Lists readings up to the one with a rank, which there has to be.
@@ -75,11 +66,6 @@ impl Listed {
         }
     }
 
-    /// The reading with a rank, and its path.
-    pub fn found(&self, rank: usize) -> GraphReading {
-        GraphReading { reading: self.readings[rank - 1].clone(), path: self.paths[rank - 1].clone() }
-    }
-
     /// Says on standard error that there is no reading, if it is so.
     pub fn say_if_none(&self) {
         if self.readings.is_empty() {
@@ -90,7 +76,7 @@ impl Listed {
     /// The words of the reading with a rank, each where it was heard; none if there is no such reading.
     pub fn taken(&self, rank: usize) -> Vec<Taken> {
         match self.readings.get(rank - 1) {
-            Some(reading) => self.heard.taken(&self.grammar.named, reading, &self.paths[rank - 1]),
+            Some(reading) => self.heard.taken(&self.grammar.named, reading),
             None => Vec::new(),
         }
     }
@@ -135,15 +121,15 @@ pub fn json_of(listed: &Listed, ranks: RangeInclusive<usize>) -> Vec<u8> {
     let named = &listed.grammar.named;
     let (names, mut line) = (json::Names::new(named), b"{\"readings\":[".to_vec());
     for rank in ranks {
-        let (reading, path) = (&listed.readings[rank - 1], &listed.paths[rank - 1]);
+        let reading = &listed.readings[rank - 1];
         names.begin_reading(&mut line, Some(rank as u32), reading);
-        match (&listed.slots, &listed.heard) {
+        match (&listed.slots, &reading.path) {
             (Some(slots), _) => {
-                let slots = path.iter().map(|edge| slots[*edge as usize]);
+                let slots = reading.edges().iter().map(|edge| slots[*edge as usize]);
                 json::push_numbers(&mut line, "slots", slots);
             }
-            (None, Heard::Graph(_)) => json::push_numbers(&mut line, "edges", path.iter().copied()),
-            (None, Heard::Slots(_)) => {}
+            (None, Some(path)) => json::push_numbers(&mut line, "edges", path.iter().copied()),
+            (None, None) => {}
         }
         json::push_key(&mut line, "tree");
         json::push_tree(&mut line, named, &listed.tree(reading));

@@ -4,12 +4,11 @@ use super::list::{heard, say_no_reading};
 use super::Command;
 use crate::failure::Failure;
 use crate::files;
-use crate::heard::Heard;
 use crate::json;
 use crate::options::{Arguments, DROP_DELETES, DROP_UNKNOWN, EMPTY, JSON, SAID, SCALE};
 use crate::output::{Output, Style};
 use spireyerba::text::NamedGrammar;
-use spireyerba::{Error, WordMargin};
+use spireyerba::{Error, Heard, WordMargin};
 
 pub const COMMAND: Command = Command {
     name: "margins",
@@ -31,12 +30,12 @@ fn run(arguments: &Arguments, output: &mut Output) -> Result<(), Failure> {
         return Err(arguments.wrong("margins are for slots, not for word graphs"));
     };
     let named = &grammar.named;
-    let margins = named.grammar.word_margins(&utterance).map_err(Error::from)?;
+    let margins = grammar.packed.word_margins(&utterance).map_err(Error::from)?;
     if arguments.has(&JSON) {
         return output.bytes(&json_of(named, &margins));
     }
     if margins.is_empty() {
-        match named.grammar.list(&utterance, 1).map_err(Error::from)?.is_empty() {
+        match grammar.packed.list(&utterance, 1).map_err(Error::from)?.is_empty() {
             true => say_no_reading(),
             false => eprintln!("none: no other word brings another reading, however cheap it is"),
         }

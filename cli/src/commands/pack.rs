@@ -25,8 +25,8 @@ fn run(arguments: &Arguments, output: &mut Output) -> Result<(), Failure> {
     }
     let grammar = files::grammar(arguments.operands[0])?;
     let block = match arguments.operands[1..] {
-        [] => grammar.block,
-        [heard] => files::heard(arguments, &grammar, heard)?.to_block(&grammar.block).map_err(Error::from)?,
+        [] => grammar.packed.block().to_vec(),
+        [heard] => files::heard(arguments, &grammar, heard)?.to_block(grammar.packed.block()).map_err(Error::from)?,
         [heard, reading, ..] => {
             let heard = files::heard(arguments, &grammar, heard)?;
             files::reading(&grammar, &heard, reading)?.block

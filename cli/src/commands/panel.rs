@@ -4,10 +4,9 @@ use super::list::{print, Listed};
 use super::Command;
 use crate::failure::Failure;
 use crate::files;
-use crate::heard::Heard;
 use crate::options::{Arguments, DROP_DELETES, DROP_UNKNOWN, EMPTY, SCALE, TREE, WANTED};
 use crate::output::Output;
-use spireyerba::{Error, GraphReading, Lister};
+use spireyerba::{Error, Lister};
 
 pub const COMMAND: Command = Command {
     name: "panel",
@@ -25,12 +24,7 @@ fn run(arguments: &Arguments, output: &mut Output) -> Result<(), Failure> {
     let grammar = files::grammar(arguments.operands[0])?;
     let heard = files::heard(arguments, &grammar, arguments.operands[1])?;
     let wanted = arguments.wanted()?;
-    let mut lister = Lister::panel(&grammar.named.grammar).map_err(Error::from)?;
-    let found = match &heard {
-        Heard::Slots(utterance) => lister.find(&utterance.to_sheet(), wanted),
-        Heard::Graph(graph) => lister.find_in_graph(graph, wanted),
-    };
-    let list = found.map_err(Error::from)?.readings();
-    let (readings, paths) = list.map(|GraphReading { reading, path }| (reading, path)).unzip();
-    print(&Listed { grammar, heard, readings, paths, slots: None }, arguments.has(&TREE), output)
+    let mut lister = Lister::of(grammar.packed.clone()).panel();
+    let readings = lister.list(&heard, wanted).map_err(Error::from)?;
+    print(&Listed { grammar, heard, readings, slots: None }, arguments.has(&TREE), output)
 }

@@ -22,11 +22,11 @@ printed as soon as it is found. If there is none, nothing is printed, and a mess
 
 fn run(arguments: &Arguments, output: &mut Output) -> Result<(), Failure> {
     let length = arguments.operand_number(1)?;
-    let named = files::grammar(arguments.operands[0])?.named;
+    let grammar = files::grammar(arguments.operands[0])?;
     let mut is_empty = true;
-    for phrase in named.grammar.phrases(length).map_err(Error::from)? {
+    for phrase in grammar.packed.phrases(length).map_err(Error::from)? {
         is_empty = false;
-        output.line(&named.string(&phrase))?;
+        output.line(&grammar.named.string(&phrase))?;
     }
     if is_empty {
         eprintln!("none: the grammar derives no string of {length} words");

@@ -31,10 +31,10 @@ fn run(arguments: &Arguments, output: &mut Output) -> Result<(), Failure> {
         return Err(arguments.wrong("--tree and --json: only one of them"));
     }
     let mut listed = Listed::none_yet(arguments)?;
-    let mut open = listed.heard.open(&listed.grammar.named.grammar).map_err(Error::from)?;
+    let mut open = listed.grammar.packed.open(&listed.heard).map_err(Error::from)?;
     let mut answers = std::io::stdin().lock().lines();
-    for found in open.by_ref() {
-        listed.push(found);
+    for reading in open.by_ref() {
+        listed.readings.push(reading);
         let rank = listed.readings.len();
         let tree = if with_tree { drawn(&listed, rank, output) } else { String::new() };
         let shown = line(&listed, rank, output);

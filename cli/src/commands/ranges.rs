@@ -3,10 +3,9 @@
 use super::Command;
 use crate::failure::Failure;
 use crate::files;
-use crate::heard::Heard;
 use crate::options::{Arguments, DROP_DELETES, DROP_UNKNOWN, EMPTY, SCALE};
 use crate::output::Output;
-use spireyerba::{Error, Utterance};
+use spireyerba::{Error, Heard, Utterance};
 
 pub const COMMAND: Command = Command {
     name: "ranges",
@@ -32,13 +31,13 @@ fn run(arguments: &Arguments, output: &mut Output) -> Result<(), Failure> {
         }
     };
     let (low, high) = (slots(arguments.operands[1])?, slots(arguments.operands[2])?);
-    let Some(ranges) = grammar.named.grammar.cost_ranges(&low, &high).map_err(Error::from)? else {
+    let Some(ranges) = grammar.packed.cost_ranges(&low, &high).map_err(Error::from)? else {
         eprintln!("none: the grammar does not derive the utterance");
         return Ok(());
     };
     output.line(&format!("first weight: {} to {}", ranges.least, ranges.greatest))?;
     let fate = if ranges.stands { "stands" } else { "can be outweighed" };
-    let first = grammar.named.grammar.list(&low, 1).map_err(Error::from)?;
+    let first = grammar.packed.list(&low, 1).map_err(Error::from)?;
     let sentences = first.iter().map(|reading| grammar.named.sentence(reading));
     output.line(&format!("{fate}: {}", sentences.collect::<String>()))
 }

@@ -5,11 +5,10 @@ use super::Command;
 use crate::anchor;
 use crate::failure::Failure;
 use crate::files;
-use crate::heard::Heard;
 use crate::options::{Arguments, DROP_DELETES, DROP_UNKNOWN, EMPTY, FILE, HIGH, SAID, SCALE, SKIP, WANTED};
 use crate::output::Output;
 use crate::page::{page, CostChanges, Ranges, Source};
-use spireyerba::{Error, Utterance};
+use spireyerba::{Error, Heard, Utterance};
 
 pub const COMMAND: Command = Command {
     name: "report",
@@ -43,7 +42,7 @@ fn run(arguments: &Arguments, output: &mut Output) -> Result<(), Failure> {
 /// What other costs would do to the first reading.
 fn cost_changes(arguments: &Arguments, listed: &Listed, utterance: &Utterance) -> Result<CostChanges, Failure> {
     let named = &listed.grammar.named;
-    let margins = named.grammar.word_margins(utterance).map_err(Error::from)?;
+    let margins = listed.grammar.packed.word_margins(utterance).map_err(Error::from)?;
     let Some(operand) = arguments.value(&HIGH) else {
         return Ok(CostChanges { margins, ranges: None });
     };
@@ -52,7 +51,7 @@ fn cost_changes(arguments: &Arguments, listed: &Listed, utterance: &Utterance) -
     let Heard::Slots(high) = heard else {
         return Err(arguments.wrong("ranges of costs are for slots, not for word graphs"));
     };
-    let found = named.grammar.cost_ranges(utterance, &high);
+    let found = listed.grammar.packed.cost_ranges(utterance, &high);
     let first = found.map_err(|refusal| Error::from(refusal).in_file(files::name_of(operand)))?;
     Ok(CostChanges { margins, ranges: Some(Ranges { high, first }) })
 }

@@ -22,9 +22,9 @@ grammar's text. If there is no string of that length, nothing is printed, and a 
 
 fn run(arguments: &Arguments, output: &mut Output) -> Result<(), Failure> {
     let length = arguments.operand_number(1)?;
-    let named = files::grammar(arguments.operands[0])?.named;
-    match named.grammar.specimen(length).map_err(Error::from)? {
-        Some(string) => output.line(&named.string(&string)),
+    let grammar = files::grammar(arguments.operands[0])?;
+    match grammar.packed.specimen(length).map_err(Error::from)? {
+        Some(string) => output.line(&grammar.named.string(&string)),
         None => {
             eprintln!("none: the grammar derives no string of {length} words");
             Ok(())

@@ -3,11 +3,10 @@
 use super::Command;
 use crate::failure::Failure;
 use crate::files::{self, GrammarFile};
-use crate::heard::Heard;
 use crate::options::{Arguments, DROP_DELETES, DROP_UNKNOWN, EMPTY, FILE, LATTICE, NETWORK, SCALE};
 use crate::output::Output;
-use spireyerba::text::{graph_reading_text, reading_text};
-use spireyerba::GraphReading;
+use spireyerba::text::reading_text;
+use spireyerba::Heard;
 
 pub const COMMAND: Command = Command {
     name: "unpack",
@@ -29,12 +28,8 @@ fn run(arguments: &Arguments, output: &mut Output) -> Result<(), Failure> {
         [heard] => heard_text(arguments, &grammar, &files::heard(arguments, &grammar, heard)?)?,
         [heard, reading, ..] => {
             let heard = files::heard(arguments, &grammar, heard)?;
-            let GraphReading { reading, path } = files::reading(&grammar, &heard, reading)?.found;
-            let reading = grammar.named.written_reading(&reading);
-            match heard {
-                Heard::Slots(_) => reading_text(&reading),
-                Heard::Graph(_) => graph_reading_text(&GraphReading { reading, path }),
-            }
+            let reading = files::reading(&grammar, &heard, reading)?.reading;
+            reading_text(&grammar.named.written_reading(&reading))
         }
     };
     files::write(arguments, output, text.as_bytes())

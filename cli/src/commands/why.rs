@@ -3,7 +3,7 @@
 use super::list::{line, Listed};
 use super::Command;
 use crate::failure::Failure;
-use crate::heard::Taken;
+use crate::heard::{HeardWords, Taken};
 use crate::options::{Arguments, DROP_DELETES, DROP_UNKNOWN, EMPTY, SAID, SCALE, SKIP};
 use crate::output::{Output, Style};
 use spireyerba::{Candidate, Reading};

@@ -2,8 +2,8 @@
 
 use super::escaped;
 use crate::commands::list::Listed;
-use crate::heard::{Heard, Taken};
-use spireyerba::{CostRanges, Utterance, WordMargin};
+use crate::heard::Taken;
+use spireyerba::{CostRanges, Heard, Utterance, WordMargin};
 use std::fmt::Write;
 
 pub struct CostChanges {

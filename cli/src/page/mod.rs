@@ -6,7 +6,8 @@ mod tree;
 pub use changes::{CostChanges, Ranges};
 
 use crate::commands::list::Listed;
-use crate::heard::{Heard, Taken};
+use crate::heard::{HeardWords, Taken};
+use spireyerba::Heard;
 use std::fmt::Write;
 
 const STYLE: &str = include_str!("style.css");

@@ -2,7 +2,7 @@
 
 use super::escaped;
 use crate::commands::list::Listed;
-use crate::heard::Taken;
+use crate::heard::{HeardWords, Taken};
 use spireyerba::text::NamedGrammar;
 use spireyerba::{Part, Tree};
 use std::fmt::Write;

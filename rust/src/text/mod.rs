@@ -127,7 +127,7 @@ pub use fault::Fault;
 pub use grammar::Places;
 pub use graph::is_graph;
 pub use names::NamedGrammar;
-pub use reading::{graph_reading_text, parse_graph_reading, parse_reading, parse_sheet, print_list, reading_text};
+pub use reading::{parse_reading, parse_sheet, print_list, reading_text};
 pub use utterance::UtteranceReader;
 
 /// The mark that some editors write before a text.

@@ -2,7 +2,7 @@
 
 use super::scan::{is_bare, quoted, GRAMMAR};
 use crate::marked::unpacked;
-use crate::{Body, Grammar, Item, MarkedGrammar, Office, OfficeRule, Reading, Refusal, Tree};
+use crate::{Body, Grammar, Item, MarkedGrammar, Office, OfficeRule, PackedGrammar, Reading, Refusal, Tree};
 
 /// The lines that number the symbols and the words begin so, and the line that says that all rules are an office's is so.
 pub(super) const SYMBOLS: &str = "symbols";
@@ -87,6 +87,11 @@ impl NamedGrammar {
             None => self.grammar.to_block(),
             Some(marks) => MarkedGrammar { grammar: self.grammar.clone(), marks: marks.to_vec() }.to_block(),
         }
+    }
+
+    /// The grammar packed for many calls, with its marks if it has any, or refused as [`Self::to_block`] refuses it.
+    pub fn packed(&self) -> Result<PackedGrammar, Refusal> {
+        Ok(PackedGrammar::of_accepted(self.grammar.clone(), self.to_block()?))
     }
 
     /// Of each rule whether it is marked, if the grammar has marks.
@@ -195,7 +200,7 @@ impl NamedGrammar {
     /// A reading as the lister prints it: without the nodes of marked rules.
     pub fn shown(&self, reading: &Reading) -> Reading {
         let walk = reading.walk.iter().copied().filter(|&rule| !self.is_marked(rule)).collect();
-        Reading { weight: reading.weight, walk }
+        Reading { weight: reading.weight, walk, path: reading.path.clone() }
     }
 
     /// The tree of a reading's rule numbers, without the nodes of marked rules below its root; nothing if they are not a walk

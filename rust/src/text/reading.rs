@@ -2,7 +2,7 @@
 
 use super::scan::digits;
 use super::{without_mark, Fault, NamedGrammar};
-use crate::{Body, Error, GraphReading, Position, Reading, Rule};
+use crate::{Body, Error, Position, Reading, Rule};
 
 /// What follows it in a line is a comment.
 const COMMENT: char = '#';
@@ -15,41 +15,47 @@ const BAR: &str = "|";
 /// ```
 /// use spireyerba::{text::print_list, Reading};
 ///
-/// let readings = [Reading { weight: 2, walk: vec![0, 1, 1] }, Reading { weight: 4, walk: vec![1] }];
+/// let readings = [Reading::of_slots(2, vec![0, 1, 1]), Reading::of_slots(4, vec![1])];
 /// assert_eq!(print_list(&readings), "readings 2\n1 2 0 1 1\n2 4 1\n");
 /// ```
 pub fn print_list<'a>(readings: impl IntoIterator<Item = &'a Reading>) -> String {
-    let lines: Vec<String> = readings.into_iter().map(reading_text).collect();
-    let ranked = lines.iter().enumerate().map(|(before, line)| format!("{} {line}", before + 1));
+    let lines: Vec<String> = readings.into_iter().map(rules_text).collect();
+    let ranked = lines.iter().enumerate().map(|(before, line)| format!("{} {line}\n", before + 1));
     format!("readings {}\n{}", lines.len(), ranked.collect::<String>())
 }
 
-/// The text of a reading: its weight and the rule number of each node.
+/// The text of a reading: its weight and the rule number of each node; of a word graph's also a bar and the numbers of its edges.
 pub fn reading_text(reading: &Reading) -> String {
-    let walk: Vec<String> = reading.walk.iter().map(u32::to_string).collect();
-    format!("{} {}\n", reading.weight, walk.join(" "))
+    let rules = rules_text(reading);
+    match &reading.path {
+        None => rules + "\n",
+        Some(path) => format!("{rules} {BAR} {}\n", numbers_text(path)),
+    }
 }
 
-/// The text of a word graph's reading: that of its weight and rules, a bar, and the numbers of its edges.
-pub fn graph_reading_text(GraphReading { reading, path }: &GraphReading) -> String {
-    let path: Vec<String> = path.iter().map(u32::to_string).collect();
-    format!("{} {BAR} {}\n", reading_text(reading).trim_end(), path.join(" "))
+fn rules_text(reading: &Reading) -> String {
+    format!("{} {}", reading.weight, numbers_text(&reading.walk))
 }
 
-/// Reads the text of a reading. Its numbers are as good as any others: only [`check`](crate::services::check) knows.
+fn numbers_text(numbers: &[u32]) -> String {
+    numbers.iter().map(u32::to_string).collect::<Vec<_>>().join(" ")
+}
+
+/// Reads the text of a reading, which has a path if it has a bar. Its numbers are as good as any others: only
+/// [`check`](crate::services::check) knows.
+///
+/// ```
+/// use spireyerba::{text::parse_reading, Reading};
+///
+/// assert_eq!(parse_reading("2 0 1 1")?, Reading::of_slots(2, vec![0, 1, 1]));
+/// assert_eq!(parse_reading("2 0 1 1 | 3 4")?, Reading::of_path(2, vec![0, 1, 1], vec![3, 4]));
+/// # Ok::<(), spireyerba::Error>(())
+/// ```
 pub fn parse_reading(text: &str) -> Result<Reading, Error> {
-    reading(&parse_sheet(text)?)
-}
-
-/// Reads the text of a word graph's reading.
-pub fn parse_graph_reading(text: &str) -> Result<GraphReading, Error> {
-    let [numbers, path] = parse_lists(text)?;
-    Ok(GraphReading { reading: reading(&numbers)?, path })
-}
-
-fn reading(numbers: &[u32]) -> Result<Reading, Error> {
+    let mut lists = parse_lists(text, 2)?.into_iter();
+    let numbers = lists.next().unwrap_or_default();
     match numbers.split_first() {
-        Some((&weight, walk)) => Ok(Reading { weight, walk: walk.to_vec() }),
+        Some((&weight, walk)) => Ok(Reading { weight, walk: walk.to_vec(), path: lists.next() }),
         None => {
             let fault = Fault::Expected { wanted: "a weight", found: None };
             Err(Error::at(Position { line: 1, column: 1 }, fault))
@@ -59,20 +65,19 @@ fn reading(numbers: &[u32]) -> Result<Reading, Error> {
 
 /// Reads a sheet that is written as numbers.
 pub fn parse_sheet(text: &str) -> Result<Vec<u32>, Error> {
-    let [sheet] = parse_lists(text)?;
-    Ok(sheet)
+    Ok(parse_lists(text, 1)?.remove(0))
 }
 
-/// Reads lists of numbers with bars between them; those that are missing are empty.
-fn parse_lists<const COUNT: usize>(text: &str) -> Result<[Vec<u32>; COUNT], Error> {
-    let (mut lists, mut list) = ([const { Vec::new() }; COUNT], 0);
+/// Reads lists of numbers with bars between them, at least one and at most so many.
+fn parse_lists(text: &str, most: usize) -> Result<Vec<Vec<u32>>, Error> {
+    let mut lists = vec![Vec::new()];
     for item in items(text) {
-        if item.text == BAR && list + 1 < COUNT {
-            list += 1;
+        if item.text == BAR && lists.len() < most {
+            lists.push(Vec::new());
             continue;
         }
-        let number = digits(item.text).flatten();
-        lists[list].push(number.ok_or_else(|| item.fault(Fault::Number(item.text.to_owned())))?);
+        let number = digits(item.text).flatten().ok_or_else(|| item.fault(Fault::Number(item.text.to_owned())))?;
+        lists.last_mut().expect("one list at least").push(number);
     }
     Ok(lists)
 }
@@ -139,6 +144,6 @@ impl NamedGrammar {
             }
         }
         walk.extend(numbers);
-        Reading { weight: written.weight, walk }
+        Reading { weight: written.weight, walk, path: written.path.clone() }
     }
 }

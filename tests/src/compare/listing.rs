@@ -2,13 +2,12 @@
 
 use super::{over_seeds, Lent, Tally};
 use crate::both::Listing;
-use crate::grammar;
-use crate::heard::Heard;
 use crate::listing::{listing, panel_listing};
 use crate::seeded::parsable::wanted;
 use crate::seeded::rng::Rng;
+use crate::{grammar, heard};
 use spireyerba::Refusal::{ListingOutput, ListingWanted, ListingWork};
-use spireyerba::{services, Grammar};
+use spireyerba::{services, Grammar, Heard};
 use std::ops::Range;
 
 /// What a listing is asked for and lent.
@@ -78,10 +77,10 @@ pub fn compare_accepted(
     let (mut tally, mut lists) = (Tally::default(), Lists::default());
     over_seeds(seeds, |rng| {
         let (grammar, heard, wanted) = draw(rng);
-        let (work, out) = heard.listing_lengths(&grammar, wanted);
+        let (work, out) = heard::listing_lengths(&grammar, &heard, wanted);
         let call = Call {
             grammar: &grammar::pack(&grammar),
-            utterance: &heard.pack(&grammar),
+            utterance: &heard::pack(&grammar, &heard),
             wanted,
             work_len: work + rng.pick(&[0, 0, 1, 50]),
             out_len: out + rng.pick(&[0, 0, 1, 50]),
@@ -99,9 +98,9 @@ pub fn compare_short_and_out_of_range(seeds: Range<u64>, draw: impl Fn(&mut Rng)
     let mut tally = Tally::default();
     over_seeds(seeds, |rng| {
         let (grammar, heard) = draw(rng);
-        let (grammar_block, heard_block) = (grammar::pack(&grammar), heard.pack(&grammar));
+        let (grammar_block, heard_block) = (grammar::pack(&grammar), heard::pack(&grammar, &heard));
         let wanted = wanted(rng);
-        let (work, out) = heard.listing_lengths(&grammar, wanted);
+        let (work, out) = heard::listing_lengths(&grammar, &heard, wanted);
         let sizes = [(wanted, work - 1, out), (wanted, work, out - 1), (wanted, work - 1, out - 1), (wanted, 0, 0)];
         let wild = [0, 257, 258, u32::MAX].map(|wanted| (wanted, work, rng.below(out)));
         for (wanted, work_len, out_len) in sizes.into_iter().chain(wild) {

@@ -2,12 +2,11 @@
 
 use super::{Lent, Tally};
 use crate::check;
-use crate::heard::Heard;
 use crate::open_listing::Listed;
 use crate::seeded::rng::Rng;
 use spireyerba::limits::{graph_reading_length, MAX_READINGS};
 use spireyerba::services::{self, Next, Place};
-use spireyerba::Refusal;
+use spireyerba::{Heard, Refusal};
 
 /// An open listing's place, between others that no call may touch, and its table.
 #[derive(Clone, PartialEq)]

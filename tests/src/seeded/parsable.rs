@@ -5,9 +5,8 @@ use super::graphs::with_edges;
 use super::rng::Rng;
 use super::utterances::{slot, Costs};
 use crate::grammar::words_of_rules;
-use crate::heard::Heard;
 use spireyerba::limits::{MAX_EDGES, MAX_READINGS};
-use spireyerba::{Grammar, Graph, Utterance};
+use spireyerba::{Grammar, Graph, Heard, Utterance};
 use std::ops::RangeInclusive;
 
 /// From where to where the numbers of a case are drawn.
