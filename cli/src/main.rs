@@ -8,9 +8,11 @@
 //! | `files` | texts and blocks, read and written |
 //! | `heard` | slots or a word graph, whichever it is |
 //! | `anchor`, `skip` | words that are known for certain, and words too many |
+//! | `alignment`, `no_reading` | which words of two sentences differ; why there is no reading |
 //! | `drawing`, `page`, `json` | readings drawn in a terminal, on a page, and for programs |
 //! | `output`, `failure` | where answers and messages go |
 
+mod alignment;
 mod anchor;
 mod commands;
 mod completions;
@@ -21,6 +23,7 @@ mod heard;
 mod help;
 mod json;
 mod manual;
+mod no_reading;
 mod options;
 mod output;
 mod page;

@@ -15,7 +15,7 @@ use Rattle.packing.specs.Grammar.{grammarBlock}
 use Rattle.packing.specs.Utterance.{utteranceBlock}
 use Rattle.packing.specs.Rows.{_∪_, GrammarBlockRow, UtteranceBlockRow, RangesRow}
 use Rattle.packing.proofs.Parse.{accepted-else, accepted-is, picked-first, refused≢accepted}
-use Rattle.listing.specs.Conditions.{tableSize}
+use Rattle.chart.specs.WorkTable.{tableSize}
 use Rattle.cost_changes.specs.Ranges.{rises}
 use Rattle.cost_ranges.specs.Conditions.{rangesConditions, askedRanges}
 use Rattle.word_margins.specs.Conditions.{MarginsRow, marginsConditions, askedMargins}

@@ -1,12 +1,11 @@
 -- Changed costs and redrawn slots, of several calls (specs/ChangedCalls). Demand 3 says of a listing what its first reading weighs; the records of the
 -- words to listen to again and of costs within ranges speak of first weights; and the words of slots are a graph's edges.
-use mathlib.Core.Path.{_≡_, refl, sym, ap, _∙_, subst}
+use mathlib.Core.Path.{_≡_, ap, _∙_, subst}
 use mathlib.Core.Logic.{_↔_, Iff·trans, Iff·symm}
 use mathlib.Core.Bool.{true}
-use mathlib.Core.List.{List}
 use Prim.Native.Nat.{ℕ, suc, _+_, _≤_, _<_}
 use native.Mathlib.Omega.{arith}
-use lib.IntN.{ℤ, pos}
+use lib.IntN.{pos}
 use lib.ListN.{length}
 use Rattle.packing.specs.Meaning.{word, Grammar, Utterance, edge, edges, slots, graph, redrawn}
 use Rattle.packing.specs.Valid.{ValidUtterance}
@@ -18,16 +17,16 @@ use Rattle.derivation.proofs.Lists.{mem-at}
 use Rattle.derivation.proofs.Ranges.{valid-ascending}
 use Rattle.derivation.proofs.Slots.{edges-in}
 use Rattle.derivation.proofs.HeardTheorems.{redrawn-derivation, redrawn-rank}
-use Rattle.listing.specs.Demand3.{Ranked}
+use Rattle.traced_readings.specs.Ranked.{Ranked}
 use Rattle.cost_changes.specs.Costs.{First, FirstWeight}
 use Rattle.cost_changes.specs.Ranges as ranges
-use Rattle.cost_changes.specs.Ranges.{rises, Choice, LeastFirst, GreatestFirst, nothing, outweighed, stands, Answers}
+use Rattle.cost_changes.specs.Ranges.{rises, LeastFirst, GreatestFirst, nothing, outweighed, stands, Answers}
 use Rattle.cost_changes.specs.Margins.{lowerWord, UsesWord, Overtaken}
 use Rattle.cost_changes.proofs.Theorems.{risen-derives, derives-risen, all-low, all-high}
 use Rattle.cost_changes.proofs.Listed.{margin-lightens, never-lightens}
 use Rattle.cost_changes.proofs.Margins.{derives-changed, changed-derives}
 use Rattle.spireyerba.specs.Demands.{rangesNumber, leastOf, greatestOf}
-use Rattle.calls.specs.ChangedCalls.{ListingCall, firstHeld, MarginsCall, HasEntry, Offers, AfreshCalls, RangesCall, ReachedCalls, RedrawnCalls}
+use Rattle.calls.specs.ChangedCalls.{ListingCall, firstHeld, HasEntry, Offers, AfreshCalls, ReachedCalls, RedrawnCalls}
 use Rattle.calls.proofs.Answered.{answered, low-ranges, asked-ranges}
 use Rattle.calls.proofs.Listings.{listed, some-found, same-number, first-weight, weight-once}
 use Rattle.calls.proofs.Entries.{has-entry}

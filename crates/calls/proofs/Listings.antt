@@ -15,7 +15,8 @@ use Rattle.derivation.specs.Rank.{_∈_, Number}
 use Rattle.derivation.proofs.Order.{order-lawful}
 use Rattle.derivation.proofs.Sorted.{number-one}
 use Rattle.rearranged.proofs.Held.{weight-held}
-use Rattle.listing.specs.Demand3.{Ranked, RankedList}
+use Rattle.traced_readings.specs.Ranked.{Ranked}
+use Rattle.listing.specs.Demand3.{RankedList}
 use Rattle.cost_changes.specs.Costs.{FirstWeight}
 use Rattle.cost_changes.proofs.First.{first-unique}
 use Rattle.calls.specs.RearrangedCalls.{weightHeld}

@@ -1,10 +1,10 @@
 -- Two calls with rearranged rules (specs/RearrangedCalls). That the first answers shows what it was lent to suffice; the second needs as much, so
 -- demand 3 says of both that they list the least derivations by rank, of which rearranged's theorem says that they are alike.
-use mathlib.Core.Path.{_≡_, refl, sym, ap, _∙_}
+use mathlib.Core.Path.{_≡_, sym, ap, _∙_}
 use mathlib.Core.List.{List}
 use Prim.Native.Nat.{ℕ, _+_, _-_, _*_, _≤_, _<_}
 use native.Mathlib.Omega.{arith}
-use lib.IntN.{ℤ, pos}
+use lib.IntN.{pos}
 use lib.ListN.{length, length-take}
 use Rattle.packing.specs.Meaning.{symbolOf, Grammar, Heard, slots, graph, lastPlace, heardEdges}
 use Rattle.packing.specs.Parse.{accepted}
@@ -25,9 +25,11 @@ use Rattle.derivation.proofs.HeardTheorems.{least-element}
 use Rattle.rearranged.specs.Rearranged.{Rearranged, renumber, SameRenumbered}
 use Rattle.rearranged.proofs.Theorems.{same-derivations, rearranged-lists}
 use Rattle.rearranged.proofs.Held.{weight-held}
-use Rattle.listing.specs.Conditions.{library, tableSize, conditions, askedListing}
+use Rattle.chart.specs.WorkTable.{tableSize}
+use Rattle.listing.specs.Conditions.{library, conditions, askedListing}
 use Rattle.listing.proofs.Accepted.{Asks, conditions-asks}
-use Rattle.listing.specs.Demand3.{kthBytes, Ranked, RankedList}
+use Rattle.traced_readings.specs.Ranked.{Ranked}
+use Rattle.listing.specs.Demand3.{kthBytes, RankedList}
 use Rattle.spireyerba.specs.Demands as D
 use Rattle.calls.specs.RearrangedCalls.{weightHeld, Among, SameReadings, RearrangedCalls}
 use Rattle.spireyerba.proofs.Small.{low-listing}

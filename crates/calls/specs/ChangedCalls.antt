@@ -16,8 +16,9 @@ use Rattle.packing.specs.Heard.{heardBlock}
 use Rattle.derivation.specs.Derivation.{At, Tree}
 use Rattle.derivation.specs.Heard.{outputLength, packed}
 use Rattle.derivation.specs.Rank.{_∈_}
-use Rattle.listing.specs.Conditions.{tableSize}
-use Rattle.listing.specs.Demand3.{kthBytes, Ranked}
+use Rattle.chart.specs.WorkTable.{tableSize}
+use Rattle.traced_readings.specs.Ranked.{Ranked}
+use Rattle.listing.specs.Demand3.{kthBytes}
 use Rattle.cost_changes.specs.Costs.{First}
 use Rattle.cost_changes.specs.Ranges.{Choice}
 use Rattle.cost_changes.specs.Margins.{lowerWord, UsesWord, entry, entryNumbers}
