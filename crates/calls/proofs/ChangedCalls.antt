@@ -65,19 +65,19 @@ afresh-calls g u m entries call s x c f (slot, there, offers, heard) fits u′ i
     go after =
         let same = same-number before after (lowered-derivation g u valid s x c f (slot, there, offers, heard)) in
         let less : 1 ≤ listed before .m
-            → Overtaken g u s (word x) f ↔ (firstHeld g (slots (lowerWord f s (word x) u)) out′ < firstHeld g (slots u) out) =
+        → Overtaken g u s (word x) f ↔ (firstHeld g (slots (lowerWord f s (word x) u)) out′ < firstHeld g (slots u) out) =
         λ some. overtaken-less g u s f (word x) _ _ (first-weight before some) (first-weight after (rw same some)) in (
           listed before .m,
           listed before .accepts,
           listed after .accepts ∙ ap pos same,
           (λ d e.
-          let (v, margin) = has-entry call s x d .0 e in
-          let (t, first, _) = margin .overtaken .today-is in
-          let some = some-found before (first .derivation) in
-          (some, Iff·trans (Iff·symm (less some)) (margin-lightens (g .words) g u valid s c (word x) there offers heard margin f fits))),
+              let (v, margin) = has-entry call s x d .0 e in
+              let (t, first, _) = margin .overtaken .today-is in
+              let some = some-found before (first .derivation) in
+              (some, Iff·trans (Iff·symm (less some)) (margin-lightens (g .words) g u valid s c (word x) there offers heard margin f fits))),
           (λ without unused some lighter.
-          never-lightens (g .words) g u valid s c (word x) there offers heard unused (λ d v margin. without d (has-entry call s x d .1 (v, margin))) f fits
-          (less some .1 lighter)),
+              never-lightens (g .words) g u valid s c (word x) there offers heard unused (λ d v margin. without d (has-entry call s x d .1 (v, margin))) f fits
+              (less some .1 lighter)),
         )
 
 -- N11, of two calls: what is answered are the least and the greatest
@@ -130,8 +130,8 @@ redrawn-calls g u N code code′ out out′ drawn again =
       listed drawn .accepts,
       listed again .accepts ∙ ap pos same,
       (λ k from upto.
-      let (t, ranked, holds) = listed drawn .readings k from upto in
-      let (t′, ranked′, holds′) = listed again .readings k from (rw same upto) in
-      let one = redrawn-ranked g u k ranked in
-      (t, ranked, one, holds, holds′ ∙ ap (packed g (graph (redrawn u))) (one .no-other t′ (ranked′ .derivation) (ranked′ .rank)))),
+          let (t, ranked, holds) = listed drawn .readings k from upto in
+          let (t′, ranked′, holds′) = listed again .readings k from (rw same upto) in
+          let one = redrawn-ranked g u k ranked in
+          (t, ranked, one, holds, holds′ ∙ ap (packed g (graph (redrawn u))) (one .no-other t′ (ranked′ .derivation) (ranked′ .rank)))),
     )

@@ -45,14 +45,17 @@ module _ {g : Grammar} {u : Utterance} {m : ℕ} {written : List ℕ} (call : Ma
           → HasEntry m written s x d ↔ ((v : ℕ) × Margin g u s (word x) d v)
       go l margins count holds = (
         (λ (k, v, below, stands).
-        let (a, at) = length-at l k (omega arith) in
-        let rest = drop (length (listNumbers l)) (call .out) in
-        let same : a ≡ entry d s x v =
-        entry-is a (entry d s x v) (sym (entry-stands l rest k at) ∙ ap (λ (z : List ℕ). take 4 (drop (4 * k) z)) (sym holds) ∙ stands) in
-        (v, margins .those d s x v .0 (at-mem l k (at ∙ ap some same)))),
+            let (a, at) = length-at l k (omega arith) in
+            let rest = drop (length (listNumbers l)) (call .out) in
+            let same : a ≡ entry d s x v =
+            entry-is a (entry d s x v) (sym (entry-stands l rest k at) ∙ ap (λ (z : List ℕ). take 4 (drop (4 * k) z)) (sym holds) ∙ stands) in
+            (v, margins .those d s x v .0 (at-mem l k (at ∙ ap some same)))),
         (λ (v, margin).
-        let (k, at) = mem-at (margins .those d s x v .1 margin) in
-        let rest = drop (length (listNumbers l)) (call .out) in
-        (k, v, omega (arith, at-length l k at),
-        ap (λ (z : List ℕ). take 4 (drop (4 * k) z)) holds ∙ entry-stands l rest k at)),
+            let (k, at) = mem-at (margins .those d s x v .1 margin) in
+            let rest = drop (length (listNumbers l)) (call .out) in (
+              k,
+              v,
+              omega (arith, at-length l k at),
+              ap (λ (z : List ℕ). take 4 (drop (4 * k) z)) holds ∙ entry-stands l rest k at,
+            )),
       )
