@@ -53,8 +53,8 @@ module _ {g : Grammar} {h : Heard} {N : ℕ} {code : ℤ} {out : List ℕ} (l : 
       (t, ranked, ap weightHeld holds ∙ held)
 
 -- two calls of what has the same derivations answer the same
-pub same-number : {g : Grammar} {h h′ : Heard} {N : ℕ} {code code′ : ℤ} {out out′ : List ℕ} (l : ListingCall g h N code out) (l′ : ListingCall g h′ N code′ out′)
-    → ((t : Tree) → Derivation g h t ↔ Derivation g h′ t) → listed l′ .m ≡ listed l .m
+pub same-number : {g : Grammar} {h h′ : Heard} {N : ℕ} {code code′ : ℤ} {out out′ : List ℕ} (l : ListingCall g h N code out)
+    (l′ : ListingCall g h′ N code′ out′) → ((t : Tree) → Derivation g h t ↔ Derivation g h′ t) → listed l′ .m ≡ listed l .m
 same-number {g} {h} {h′} l l′ same =
     let one = number-one (order-lawful g (heardEdges h′)) (number-same same (listed l .finitely-many)) (listed l′ .finitely-many) in
     omega (arith, listed l .m-is, listed l′ .m-is)
