@@ -1,2 +1,1 @@
-pub mod RearrangedCalls
 pub mod ChangedCalls

@@ -1,10 +1,10 @@
 -- Two calls with rearranged rules (specs/RearrangedCalls). That the first answers shows what it was lent to suffice; the second needs as much, so
 -- demand 3 says of both that they list the least derivations by rank, of which rearranged's theorem says that they are alike.
-use mathlib.Core.Path.{_≡_, sym, ap, _∙_}
+use mathlib.Core.Path.{_≡_, refl, sym, ap, _∙_}
 use mathlib.Core.List.{List}
 use Prim.Native.Nat.{ℕ, _+_, _-_, _*_, _≤_, _<_}
 use native.Mathlib.Omega.{arith}
-use lib.IntN.{pos}
+use lib.IntN.{ℤ, pos}
 use lib.ListN.{length, length-take}
 use Rattle.packing.specs.Meaning.{symbolOf, Grammar, Heard, slots, graph, lastPlace, heardEdges}
 use Rattle.packing.specs.Parse.{accepted}
@@ -12,6 +12,7 @@ use Rattle.packing.specs.Grammar.{grammarBlock}
 use Rattle.packing.specs.Heard.{heardBlock}
 use Rattle.packing.specs.Reading.{readingLength}
 use Rattle.packing.specs.GraphReading.{graphReadingLength}
+use Rattle.packing.specs.Rows.{_∪_, GrammarBlockRow, HeardBlockRow, ListingRow}
 use Rattle.packing.specs.Valid.{ValidGrammar, ValidHeard}
 use Rattle.packing.proofs.Whole.{grammar-block-out}
 use Rattle.packing.proofs.Heard.{heard-block-out}
@@ -30,11 +31,11 @@ use Rattle.listing.specs.Conditions.{library, conditions, askedListing}
 use Rattle.listing.proofs.Accepted.{Asks, conditions-asks}
 use Rattle.traced_readings.specs.Ranked.{Ranked}
 use Rattle.listing.specs.Demand3.{kthBytes, RankedList}
 use Rattle.spireyerba.specs.Demands as D
-use Rattle.calls.specs.RearrangedCalls.{weightHeld, Among, SameReadings, RearrangedCalls}
+use Rattle.spireyerba.specs.Demands.{Demand1, answers, refuses}
+use Rattle.spireyerba.specs.RearrangedCalls.{weightHeld, Among, SameReadings, RearrangedCalls}
 use Rattle.spireyerba.proofs.Small.{low-listing}
-use Rattle.spireyerba.proofs.Demands.{found}
-use Rattle.calls.proofs.Answered.{answered}
+use Rattle.spireyerba.proofs.Demands.{low-code, found}
 
 module _ (grammar heard : List ℕ) {g : Grammar} {h : Heard} (p : grammarBlock grammar ≡ accepted g) (q : heardBlock (g .words) heard ≡ accepted h)
     (N : ℕ) where
@@ -47,9 +48,13 @@ module _ (grammar heard : List ℕ) {g : Grammar} {h : Heard} (p : grammarBlock 
 
   answered-enough : {work out after written : List ℕ} {m : ℕ} → D.Listing grammar heard N work out (pos m) after written
       → Asks g h N (length work) (length out)
-  answered-enough {work} {out} call =
-      let (b, due, _) = answered (λ n row. low-listing n row .0) (call .demand-1) in
-      accepted-enough (length work) (length out) due
+  answered-enough {work} {out} {after} {written} {m} call = go (call .demand-1) refl
+    where
+      go : {Answer : Grammar × Heard → ℕ → Type 0} {Unchanged : Type 0} {z : ℤ}
+          → Demand1 (askedListing library grammar heard N (length work) (length out)) Answer (GrammarBlockRow ∪ HeardBlockRow ∪ ListingRow) Unchanged z → z ≡ pos m
+          → Asks g h N (length work) (length out)
+      go (answers due a) e = accepted-enough (length work) (length out) due
+      go (refuses {n} due row u) e = absurd (low-code n m (low-listing n row .0) e)
 
 -- readings of rearranged rules are as long, and need as much
 same-output : {f : ℕ → ℕ} {g g′ : Grammar} → Rearranged f g g′ → (h : Heard) → outputLength g h ≡ outputLength g′ h

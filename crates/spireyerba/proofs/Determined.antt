@@ -66,10 +66,10 @@ module _ (grammar heard reading : List ℕ) (bytes : Bytes reading) where
       once {Same = Unit {0}} due (a .demand-1) (b .demand-1) (λ t m n p x y. (y ∙ sym x, tt)) (λ u u′. tt) .0
 
   shown-once : {shares : List ℕ} {x y : Float} → Shown grammar heard reading shares x → Shown grammar heard reading shares y → y ≡ x
-  shown-once {shares} {x} {y} a b =
-      let passes : (z : Float) (shown : Shown grammar heard reading shares z) → check grammar heard reading ≡ accepted (shown .t) =
-      λ z s. accepts grammar heard reading bytes (s .g) (s .h) (s .grammar-accepted) (s .heard-accepted) (s .t) .1 (s .derivation, s .packing) in
-      b .product ∙ ap (λ (t : Tree). productOf one (sharesOf shares (walk t))) (accepted-is (sym (passes y b) ∙ passes x a)) ∙ sym (a .product)
+  shown-once {shares} a b =
+      let there : check grammar heard reading ≡ accepted (a .t) = accepts grammar heard reading bytes (a .g) (a .h) (a .grammar-accepted) (a .heard-accepted) (a .t) .1 (a .derivation, a .packing) in
+      let here : check grammar heard reading ≡ accepted (b .t) = accepts grammar heard reading bytes (b .g) (b .h) (b .grammar-accepted) (b .heard-accepted) (b .t) .1 (b .derivation, b .packing) in
+      b .product ∙ ap (λ (t : Tree). productOf one (sharesOf shares (walk t))) (accepted-is (sym here ∙ there)) ∙ sym (a .product)
 
   pub chance-once : {shares : List ℕ} {float after after′ : Float} {code code′ : ℤ} → D.Chance grammar heard reading shares float code after
       → D.Chance grammar heard reading shares float code′ after′ → (code′ ≡ code) × (after′ ≡ after)
