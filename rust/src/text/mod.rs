@@ -111,8 +111,10 @@
 //! ```
 
 mod fault;
+mod formats;
 mod grammar;
 mod graph;
+mod items;
 mod lattice;
 mod names;
 mod network;
@@ -124,6 +126,7 @@ mod shares;
 mod utterance;
 
 pub use fault::Fault;
+pub use formats::{binary_kind, Format, Lattice, Recognised};
 pub use grammar::Places;
 pub use graph::is_graph;
 pub use names::NamedGrammar;

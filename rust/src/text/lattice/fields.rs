@@ -42,8 +42,12 @@ pub(super) fn fields(line: &str, number: usize) -> Result<Vec<Field<'_>>, Error>
     if rest.starts_with(COMMENT) {
         return Ok(list);
     }
+    // up to where columns are counted, so that a long line is counted once
+    let (mut counted, mut column) = (0, 1);
     while !rest.is_empty() {
-        let column = line[..line.len() - rest.len()].chars().count() + 1;
+        let at = line.len() - rest.len();
+        column += line[counted..at].chars().count();
+        counted = at;
         let position = Position { line: number, column };
         let item = rest.split_whitespace().next().unwrap_or(rest);
         let Some((name, _)) = item.split_once('=') else {

@@ -8,18 +8,15 @@
 
 mod fields;
 mod parse;
-mod paths;
 
 use super::score::{scaled, shortest};
 use super::utterance::UtteranceReader;
 use super::{without_mark, NamedGrammar};
 use crate::limits::NOT_HEARD;
+use super::formats::Draft;
+use crate::lattice::Keep;
 use crate::{Edge, Error, Graph};
 use fields::written;
-use parse::Lattice;
-
-/// How HTK writes the logarithm of 0.
-const LOGARITHM_OF_ZERO: &str = "-1e10";
 
 /// Fields that a line of a lattice may begin with.
 const FIRST_FIELDS: [&str; 6] = ["VERSION", "V", "N", "NODES", "I", "J"];
@@ -35,19 +32,20 @@ pub(super) fn is_lattice(text: &str) -> bool {
 }
 
 impl UtteranceReader<'_> {
-    /// Reads a lattice.
-    pub(super) fn read_lattice(&self, text: &str) -> Result<Graph, Error> {
-        let lattice = Lattice::parse(text, &self.empty_words)?;
-        paths::graph(&lattice, self)
+    /// Reads a lattice as it is written.
+    pub(super) fn slf_draft(&self, text: &str) -> Result<Draft, Error> {
+        parse::parse(text, &self.empty_words)
     }
 }
 
 impl NamedGrammar {
-    /// The lattice of a word graph over this grammar's words, from which an [`UtteranceReader`] with the same scale reads it
-    /// again. Nothing if that is not possible: a word means something else in lattices, a place or an edge is on no path from
-    /// the first place to the last, or a cost is so great beside the scale that its score cannot be told from another's.
+    /// The lattice of a word graph over this grammar's words, from which an [`UtteranceReader`] with the same scale that keeps
+    /// all paths reads it again. Nothing if that is not possible: a word means something else in lattices or was not heard, a
+    /// place or an edge is on no path from the first place to the last, or a cost is so great beside the scale that its score
+    /// cannot be told from another's.
     ///
     /// ```
+    /// use spireyerba::lattice::Keep;
     /// use spireyerba::text::{NamedGrammar, UtteranceReader};
     ///
     /// let doors = NamedGrammar::parse("Entry -> Door Number\nDoor -> \"door\"\nNumber -> \"four\" | \"five\"")?;
@@ -55,7 +53,7 @@ impl NamedGrammar {
     /// let lattice = doors.lattice_text(&graph, 100.0).ok_or("on a path, and the costs are small")?;
     /// assert!(lattice.ends_with("J=2 S=1 E=2 W=four a=-0.09\n"));
     /// let mut reader = UtteranceReader::new(&doors);
-    /// reader.scale = Some(100.0);
+    /// (reader.scale, reader.keep) = (Some(100.0), Keep::Paths);
     /// assert_eq!(reader.read_graph(&lattice)?, graph);
     /// # Ok::<(), Box<dyn std::error::Error>>(())
     /// ```
@@ -69,7 +67,7 @@ impl NamedGrammar {
             text += &format!("J={number} S={from} E={to} W={word} a={}\n", score(cost, scale)?);
         }
         let mut reader = UtteranceReader::new(self);
-        reader.scale = Some(scale);
+        (reader.scale, reader.keep) = (Some(scale), Keep::Paths);
         (reader.read_graph(without_mark(&text)).as_ref() == Ok(graph)).then_some(text)
     }
 }
@@ -78,7 +76,7 @@ impl NamedGrammar {
 fn score(cost: u32, scale: f64) -> Option<String> {
     match cost {
         0 => Some("0".to_owned()),
-        NOT_HEARD => Some(LOGARITHM_OF_ZERO.to_owned()),
+        NOT_HEARD => None,
         _ => {
             let score = shortest(-f64::from(cost) / scale, |score| scaled(score, scale) == Ok(cost))?;
             Some(score.to_string())
