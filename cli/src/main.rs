@@ -7,7 +7,7 @@
 //! | `manual`, `completions` | the same as manual pages and for shells, when the command is installed |
 //! | `files` | texts and blocks, read and written |
 //! | `heard` | slots or a word graph, whichever it is |
-//! | `anchor`, `skip` | words that are known for certain, and words too many |
+//! | `anchor`, `words` | words that are known for certain, and words too many |
 //! | `alignment`, `no_reading` | which words of two sentences differ; why there is no reading |
 //! | `drawing`, `page`, `json` | readings drawn in a terminal, on a page, and for programs |
 //! | `output`, `failure` | where answers and messages go |
@@ -27,7 +27,7 @@ mod no_reading;
 mod options;
 mod output;
 mod page;
-mod skip;
+mod words;
 
 use failure::Failure;
 use output::Output;

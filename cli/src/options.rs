@@ -23,14 +23,14 @@ pub const JSON: Opt = Opt { long: "json", short: None, value: None, help: "print
 pub const SAID: Opt = Opt {
     long: "said",
     short: None,
-    value: Some("SLOT=WORD"),
-    help: "the word is known for certain: strike out the slot's others; slots count from 0",
+    value: Some("[SLOT=]WORD"),
+    help: "the word is known for certain: strike out the slot's others, slots count from 0; or keep the paths that have it",
 };
 pub const SKIP: Opt = Opt {
     long: "skip",
     short: None,
     value: Some("COST"),
-    help: "words too many: slots may be passed over, each at this cost",
+    help: "words too many: each may be passed over at this cost, and words that the grammar does not have are",
 };
 pub const DISTINCT: Opt = Opt {
     long: "distinct",
@@ -73,6 +73,25 @@ pub const EMPTY: Opt = Opt {
     short: None,
     value: Some("WORD"),
     help: "lattices: nobody says this word, such as one for silence; it is as !NULL",
+};
+pub const FORMAT: Opt = Opt {
+    long: "format",
+    short: None,
+    value: Some("NAME"),
+    help:
+        "what the text is: slots, graph, slf, openfst, kaldi, network, nbest, ctm or json; told by itself unless given",
+};
+pub const PATHS: Opt = Opt {
+    long: "paths",
+    short: None,
+    value: None,
+    help: "lattices: keep every alignment of a sentence that fits, not each sentence once",
+};
+pub const EXACT: Opt = Opt {
+    long: "exact",
+    short: None,
+    value: None,
+    help: "lattices: refuse what does not fit into a word graph in place of pruning it",
 };
 pub const HIGH: Opt = Opt {
     long: "high",

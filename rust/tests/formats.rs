@@ -47,8 +47,16 @@ fn of(share: f64) -> i64 {
 
 #[test]
 fn acceptors_and_transducers_of_openfst() {
-    expect("openfst.txt", Format::OpenFst, &[(225, "door twenty four"), (248, "door twenty"), (360, "door forty"), (375, "door forty four")]);
-    expect("openfst_transducer.txt", Format::OpenFst, &[(225, "door twenty four"), (235, "door twenty"), (350, "door forty four"), (360, "door forty")]);
+    expect(
+        "openfst.txt",
+        Format::OpenFst,
+        &[(225, "door twenty four"), (248, "door twenty"), (360, "door forty"), (375, "door forty four")],
+    );
+    expect(
+        "openfst_transducer.txt",
+        Format::OpenFst,
+        &[(225, "door twenty four"), (235, "door twenty"), (350, "door forty four"), (360, "door forty")],
+    );
 }
 
 #[test]
@@ -57,7 +65,10 @@ fn lattices_of_kaldi() {
     expect("kaldi.txt", Format::Kaldi, &graph_and_acoustic);
     expect("kaldi_state_level.txt", Format::Kaldi, &[(3_993, "door twenty"), (4_005, "door forty")]);
     let two = read_all(&example("kaldi.txt")).expect("two lattices");
-    assert_eq!(two.iter().map(|lattice| lattice.id.as_deref()).collect::<Vec<_>>(), [Some("house-0017"), Some("house-0018")]);
+    assert_eq!(
+        two.iter().map(|lattice| lattice.id.as_deref()).collect::<Vec<_>>(),
+        [Some("house-0017"), Some("house-0018")]
+    );
     assert_eq!(readings(&two[1]), [(2_705, "door four".to_owned())]);
     // frames are times
     let times = two[1].times.as_deref().expect("times");
@@ -95,14 +106,15 @@ fn lists_of_sentences() {
     let kept = [(183_250, "door twenty four"), (183_375, "door forty four"), (184_035, "door twenty")];
     expect("nbest.txt", Format::NBest, &kept);
     let log10 = |score: f64| (-SCALE * score * 10_f64.ln()).round() as i64;
-    let srilm = [
-        (log10(-805.0), "door twenty four"),
-        (log10(-805.6), "door forty four"),
-        (log10(-806.5) + 10, "door twenty"),
-    ];
+    let srilm =
+        [(log10(-805.0), "door twenty four"), (log10(-805.6), "door forty four"), (log10(-806.5) + 10, "door twenty")];
     expect("nbest_srilm.txt", Format::NBest, &srilm);
     let bytelog = |score: f64| (-SCALE * score * 1_024.0 / 10_000.5).round() as i64 + 10;
-    expect("nbest_decipher.txt", Format::NBest, &[(bytelog(-18_240.0), "door twenty"), (bytelog(-18_296.0), "door forty")]);
+    expect(
+        "nbest_decipher.txt",
+        Format::NBest,
+        &[(bytelog(-18_240.0), "door twenty"), (bytelog(-18_296.0), "door forty")],
+    );
     expect("nbest_kaldi.txt", Format::NBest, &[(0, "door twenty four"), (0, "door forty four"), (10, "door twenty")]);
     // the best comes first, so what rises are costs
     let costs = read_all("12.5 door four\n13.5 door twenty\n").expect("costs");
@@ -150,7 +162,8 @@ fn plain_word_graphs() {
     let Heard::Graph(graph) = &read_all(text).expect("a graph")[0].heard else { panic!("a graph") };
     assert_eq!((graph.places, graph.edges.len(), graph.edges[1].cost), (4, 4, 9));
     // any other numbering is OpenFst's
-    for other in ["7 3 door 4\n3 9 four 1\n9\n", "0 30 door 4\n30 31 four 1\n", "0 1 door 4\n0 1 door 5\n1 2 four 1\n"] {
+    for other in ["7 3 door 4\n3 9 four 1\n9\n", "0 30 door 4\n30 31 four 1\n", "0 1 door 4\n0 1 door 5\n1 2 four 1\n"]
+    {
         let lattice = &read_all(other).expect(other)[0];
         assert_eq!(readings(lattice), [(505, "door four".to_owned())], "{other}");
     }
@@ -175,7 +188,11 @@ fn slots_of_more_than_seven_words() {
     let many = format!("{slot}\n").repeat(12);
     let pruned = reader.read_heard(&many).expect("the cheapest words");
     assert_eq!(pruned.notes().len(), 1);
-    assert!(pruned.notes()[0].starts_with("kept 96 of 108 edges: every reading of weight up to 79 is in the list"), "{:?}", pruned.notes());
+    assert!(
+        pruned.notes()[0].starts_with("kept 96 of 108 edges: every reading of weight up to 79 is in the list"),
+        "{:?}",
+        pruned.notes()
+    );
     reader.exact = true;
     let message = reader.read_heard(&many).unwrap_err().to_string();
     assert!(message.contains("the lattice takes 108 edges"), "{message}");

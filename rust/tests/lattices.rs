@@ -246,7 +246,9 @@ fn what_a_graph_has_no_room_for() {
     assert_eq!(read(&chain(24)).map(|graph| (graph.places, graph.edges.len())), Ok((25, 24)));
     let advice = "a word graph has 25 places and 96 edges: cut the utterance in two, or give words different scores";
     let message = |line, places, edges| {
-        format!("{line}:1: refused 13: even what weighs the least takes {places} places and {edges} edges, and {advice}")
+        format!(
+            "{line}:1: refused 13: even what weighs the least takes {places} places and {edges} edges, and {advice}"
+        )
     };
     expect(read(&chain(25)), "26 places", &message(52, 26, 25));
     // three words over each of 24 steps, and one more

@@ -1,6 +1,7 @@
 //! The texts of the crate `spireyerba`, on random grammars, utterances and word graphs: what is written is read again, and
 //! packed to the same block.
 
+use spireyerba::lattice::Keep;
 use spireyerba::text::{is_graph, parse_reading, reading_text, NamedGrammar, UtteranceReader};
 use spireyerba::{Body, Error, Grammar, Graph, Lister, Reading, Rule};
 use spireyerba_tests::compare::over_seeds;
@@ -176,13 +177,14 @@ fn lattices() {
         let graph = graph(rng, size, named.grammar.words);
         let scale = rng.pick(&[0.5, 100.0, 1_000.0]);
         let Some(text) = named.lattice_text(&graph, scale) else {
-            assert!(!is_on_paths(&graph), "{graph:?}");
+            let is_heard = graph.edges.iter().all(|edge| edge.is_offered());
+            assert!(!is_on_paths(&graph) || !is_heard, "{graph:?}");
             dead += 1;
             return;
         };
         assert!(is_graph(&text) && is_on_paths(&graph), "{text}");
         let mut reader = UtteranceReader::new(&named);
-        reader.scale = Some(scale);
+        (reader.scale, reader.keep) = (Some(scale), Keep::Paths);
         assert_eq!(reader.read_graph(&text), Ok(graph), "{text}");
         written += 1;
     });

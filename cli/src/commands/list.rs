@@ -2,7 +2,6 @@
 
 use super::Command;
 use crate::alignment::differing;
-use crate::anchor;
 use crate::drawing::Drawing;
 use crate::failure::Failure;
 use crate::files::{self, GrammarFile};
@@ -10,12 +9,13 @@ use crate::heard::{HeardWords, Taken};
 use crate::json;
 use crate::no_reading::NoReading;
 use crate::options::{
-    Arguments, DISTINCT, DROP_DELETES, DROP_UNKNOWN, EMPTY, JSON, RULES, SAID, SCALE, SKIP, TREE, WANTED,
+    Arguments, DISTINCT, DROP_DELETES, DROP_UNKNOWN, EMPTY, EXACT, FORMAT, JSON, PATHS, RULES, SAID, SCALE, SKIP, TREE,
+    WANTED,
 };
 use crate::output::{Output, Style};
-use crate::skip;
+use crate::words;
 use spireyerba::limits::MAX_READINGS;
-use spireyerba::text::print_list;
+use spireyerba::text::{print_list, Lattice};
 use spireyerba::{Distinct, Error, Heard, Reading, Refusal, Tree};
 use std::ops::RangeInclusive;
 
@@ -23,7 +23,9 @@ pub const COMMAND: Command = Command {
     name: "list",
     operands: &["GRAMMAR", "UTTERANCE"],
     needed: 2,
-    options: &[WANTED, DISTINCT, TREE, RULES, JSON, SAID, SKIP, SCALE, DROP_UNKNOWN, DROP_DELETES, EMPTY],
+    options: &[
+        WANTED, DISTINCT, TREE, RULES, JSON, SAID, SKIP, SCALE, DROP_UNKNOWN, DROP_DELETES, EMPTY, FORMAT, PATHS, EXACT,
+    ],
     summary: "list the readings of least weight, the least first",
     details: "\
 A line has rank, weight and words. Fewer readings than were asked for are all that there are; where there is none, a message
@@ -42,6 +44,8 @@ const TREE_MARGIN: &str = "   ";
 pub struct Listed {
     pub grammar: GrammarFile,
     pub heard: Heard,
+    /// The weight up to which every reading is there, if what was heard had to be pruned.
+    pub complete_up_to: Option<i64>,
     pub readings: Vec<Reading>,
     /// How many more readings have the words of each, if each sentence stands once.
     pub others: Option<Vec<u32>>,
@@ -66,17 +70,25 @@ impl Listed {
     /// What a list is of, and no reading yet.
     pub fn none_yet(arguments: &Arguments) -> Result<Self, Failure> {
         let grammar = files::grammar(arguments.operands[0])?;
-        let (heard, slots) = heard(arguments, &grammar)?;
-        Ok(Self {
+        let (lattice, slots) = heard(arguments, &grammar)?;
+        Ok(Self::of(grammar, lattice, slots))
+    }
+
+    /// No reading yet of what was heard, with the slot of each edge if slots may be passed over.
+    pub fn of(grammar: GrammarFile, lattice: Lattice, slots: Option<Vec<u32>>) -> Self {
+        let (complete_up_to, left_out) = (lattice.complete_up_to(), lattice.notes());
+        let Lattice { heard, times, .. } = lattice;
+        Self {
             grammar,
             heard,
+            complete_up_to,
             readings: Vec::new(),
             others: None,
             used_up: false,
             slots,
-            times: None,
-            left_out: Vec::new(),
-        })
+            times,
+            left_out,
+        }
     }
 
     /// Finds so many readings, or the first ones of so many sentences.
@@ -169,11 +181,8 @@ pub fn used_up(found: usize) -> String {
 }
 
 /// What was heard, as the command line asks for it, and the slot of each edge, if slots may be passed over.
-pub fn heard(arguments: &Arguments, grammar: &GrammarFile) -> Result<(Heard, Option<Vec<u32>>), Failure> {
-    let mut heard = files::heard(arguments, grammar, arguments.operands[1])?;
-    let known = anchor::apply(arguments, &grammar.named, &mut heard)?;
-    let slots = skip::apply(arguments, &known, &mut heard)?;
-    Ok((heard, slots))
+pub fn heard(arguments: &Arguments, grammar: &GrammarFile) -> Result<(Lattice, Option<Vec<u32>>), Failure> {
+    words::heard(arguments, grammar, arguments.operands[1])
 }
 
 fn run(arguments: &Arguments, output: &mut Output) -> Result<(), Failure> {
@@ -223,6 +232,10 @@ pub fn json_of(listed: &Listed, ranks: RangeInclusive<usize>) -> Vec<u8> {
     json::end_list(&mut line);
     if listed.used_up {
         line.extend(b",\"used_up\":true");
+    }
+    if let Some(weight) = listed.complete_up_to {
+        json::push_key(&mut line, "complete_up_to");
+        line.extend(weight.to_string().bytes());
     }
     if let Some(none) = listed.no_reading() {
         none.push_json(&mut line);

@@ -5,7 +5,7 @@
 //! an arc without a word stands beside each with one.
 
 use super::{Acceptor, Arc, State, EPSILON, UNKNOWN};
-use crate::Graph;
+use crate::{Graph, Utterance};
 
 impl Acceptor {
     /// The acceptor in which words may be passed over, each at this cost, if they are not known for certain.
@@ -39,12 +39,30 @@ impl Acceptor {
     }
 }
 
-/// The words that were heard, each with the number of its edge.
+/// The words of slots, each with the number of its slot. What was not heard, and a slot without a word, is [`UNKNOWN`].
+impl From<&Utterance> for Acceptor {
+    fn from(utterance: &Utterance) -> Self {
+        let mut states = vec![State::default(); utterance.slots.len() + 1];
+        for (source, (state, slot)) in (0..).zip(states.iter_mut().zip(&utterance.slots)) {
+            let arc = |label, weight: u32| Arc { label, to: source + 1, weight: weight.into(), source };
+            let offered = slot.iter().filter(|candidate| candidate.is_offered());
+            state.arcs = offered.map(|candidate| arc(super::word_label(candidate.word), candidate.cost)).collect();
+            if state.arcs.is_empty() {
+                state.arcs.push(arc(UNKNOWN, 0));
+            }
+        }
+        states[utterance.slots.len()].final_weight = Some(0);
+        Self::acyclic(0, states)
+    }
+}
+
+/// The words of a graph, each with the number of its edge. What was not heard is [`UNKNOWN`].
 impl From<&Graph> for Acceptor {
     fn from(graph: &Graph) -> Self {
         let mut states = vec![State::default(); graph.places as usize];
-        for (source, edge) in (0..).zip(&graph.edges).filter(|(_, edge)| edge.is_offered() && edge.from < edge.to) {
-            let arc = Arc { label: super::word_label(edge.word), to: edge.to, weight: i64::from(edge.cost), source };
+        for (source, edge) in (0..).zip(&graph.edges).filter(|(_, edge)| edge.from < edge.to) {
+            let label = if edge.is_offered() { super::word_label(edge.word) } else { UNKNOWN };
+            let arc = Arc { label, to: edge.to, weight: i64::from(edge.cost), source };
             let places = states.len() as u32;
             let from = states.get_mut(edge.from as usize).filter(|_| edge.to < places);
             from.into_iter().for_each(|state| state.arcs.push(arc));

@@ -317,7 +317,8 @@ impl Fault {
                 write!(formatter, "{takes}: cut the utterance in two, or give words different scores")
             }
             Self::NotExact { edges } => {
-                let without = "without --exact the readings of least weight are kept, and it is said up to which weight";
+                let without =
+                    "without --exact the readings of least weight are kept, and it is said up to which weight";
                 write!(formatter, "the lattice takes {edges} edges, and {limits}: {without}")
             }
             Self::ManyLattices(count) => {

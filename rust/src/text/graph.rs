@@ -1,17 +1,17 @@
 //! The text of a word graph.
 
-use super::formats::Format;
+use super::lattice::is_lattice;
 use super::scan::{digits, weight, Token, Tokens, UTTERANCE};
 use super::utterance::UtteranceReader;
 use super::{without_mark, Fault, NamedGrammar};
 use crate::limits::{MAX_EDGES, MAX_PLACES};
 use crate::{Candidate, Edge, Error, Graph, Heard, Position, Refusal};
 
-/// Whether a text is a word graph: it has a line with two numbers and a word, which no text of slots can have, or it is in one
-/// of the formats of lattices.
+/// Whether a text is a word graph: it has a line with two numbers and a word, which no text of slots can have, or it is a
+/// lattice of HTK.
 pub fn is_graph(text: &str) -> bool {
     let text = without_mark(text);
-    text.lines().any(begins_with_edge) || !matches!(Format::of(text), Format::Slots | Format::Network)
+    text.lines().any(begins_with_edge) || is_lattice(text)
 }
 
 /// Whether two numbers and a word stand at the front of a line.

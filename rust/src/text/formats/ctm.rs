@@ -98,7 +98,11 @@ impl Utterance {
         let confidence = confidence.filter(|item| item.text != NO_CONFIDENCE && !item.text.starts_with(COMMENT));
         let share = confidence.map_or(Ok(1.0), |item| {
             let share = item.posterior()?;
-            if share > 1.0 { Err(item.fault(Fault::Posterior(item.text.to_owned()))) } else { Ok(share) }
+            if share > 1.0 {
+                Err(item.fault(Fault::Posterior(item.text.to_owned())))
+            } else {
+                Ok(share)
+            }
         })?;
         let times = if begin.text == NO_TIME { None } else { Some([begin.finite()?, duration.finite()?]) };
         if let Some([begin, _]) = times {

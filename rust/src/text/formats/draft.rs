@@ -1,6 +1,8 @@
 //! A lattice as it is written: what every format becomes before it is an acceptor.
 
-use crate::lattice::{reduce, word_label, Acceptor, Arc, Cycle, Keep, Misfit, Pruned, Reduced, State, EPSILON, UNKNOWN};
+use crate::lattice::{
+    reduce, word_label, Acceptor, Arc, Cycle, Keep, Misfit, Pruned, Reduced, State, EPSILON, UNKNOWN,
+};
 use crate::limits::{MAX_EDGES, MAX_PLACES};
 use crate::text::utterance::UtteranceReader;
 use crate::text::Fault;
@@ -13,8 +15,7 @@ const MAX_AMOUNT: f64 = (1_u64 << 40) as f64;
 /// Words that nobody says, however a grammar has them.
 const NEVER_SAID: [&str; 7] = ["!NULL", "<s>", "</s>", "!SENT_START", "!SENT_END", "<eps>", "<epsilon>"];
 /// Words that nobody says, unless a grammar has them, beside those in brackets.
-const SILENCES: [&str; 11] =
-    ["*DELETE*", "-pau-", "SIL", "sil", "silB", "silE", "sp", "!SIL", "!ENTER", "!EXIT", "@"];
+const SILENCES: [&str; 11] = ["*DELETE*", "-pau-", "SIL", "sil", "silB", "silE", "sp", "!SIL", "!ENTER", "!EXIT", "@"];
 /// Brackets around what is heard and is no word.
 const BRACKETS: [(&str, &str); 3] = [("<", ">"), ("[", "]"), ("++", "++")];
 /// The words in brackets that stand for a word that a recogniser does not have.
@@ -89,7 +90,9 @@ impl Draft {
         if let Some(scale) = reader.scale {
             return Ok(scale);
         }
-        let is_cost = |cost: f64| cost == f64::INFINITY || cost == 0.0 || self.scored.is_none() && cost >= 0.0 && cost.fract() == 0.0;
+        let is_cost = |cost: f64| {
+            cost == f64::INFINITY || cost == 0.0 || self.scored.is_none() && cost >= 0.0 && cost.fract() == 0.0
+        };
         let other = self.links.iter().find(|link| !is_cost(link.cost)).map(|link| link.position);
         let end = self.ends.iter().find(|(_, cost)| !is_cost(*cost)).map(|_| self.end_of_text.unwrap_or(FRONT));
         match other.or(end) {
@@ -138,12 +141,10 @@ impl Draft {
         word.to_owned()
     }
 
-    /// The link that is an arc of a cycle.
-    fn circle(&self, Cycle { state, arc }: Cycle) -> Error {
-        // arcs may be fewer than links, so the link is looked for by where it leads from
-        let leaving = self.links.iter().filter(|link| link.from == state);
-        let position = leaving.map(|link| link.position).nth(arc).or_else(|| self.links.first().map(|link| link.position));
-        Error::at(position.unwrap_or(FRONT), Fault::Circle)
+    /// That a link is an arc of a cycle.
+    fn circle(&self, cycle: Cycle) -> Error {
+        let position = self.links.get(cycle.source as usize).map_or(FRONT, |link| link.position);
+        Error::at(position, Fault::Circle)
     }
 }
 
@@ -226,12 +227,14 @@ pub struct Lattice {
 /// So many words that were left out are named in a note.
 const NAMED_WORDS: usize = 8;
 
-impl Lattice {
-    /// What stands in a text as it is.
-    pub(super) fn plain(heard: Heard) -> Self {
+/// What is there as it was written.
+impl From<Heard> for Lattice {
+    fn from(heard: Heard) -> Self {
         Self { id: None, heard, times: None, sources: Vec::new(), taken_off: 0, pruned: None, dropped: Vec::new() }
     }
+}
 
+impl Lattice {
     /// The weight up to which every reading is there, if some may be missing.
     pub fn complete_up_to(&self) -> Option<i64> {
         self.pruned.map(|pruned| pruned.complete_up_to)
@@ -241,7 +244,9 @@ impl Lattice {
     pub fn notes(&self) -> Vec<String> {
         let pruned = self.pruned.map(|Pruned { kept, of, complete_up_to }| {
             let limits = format!("a word graph has {MAX_PLACES} places and {MAX_EDGES} edges");
-            format!("kept {kept} of {of} edges: every reading of weight up to {complete_up_to} is in the list ({limits})")
+            format!(
+                "kept {kept} of {of} edges: every reading of weight up to {complete_up_to} is in the list ({limits})"
+            )
         });
         let amount = self.taken_off.unsigned_abs();
         let off = match self.taken_off {

@@ -94,7 +94,8 @@ pub(super) fn parse_kaldi(text: &str) -> Result<Vec<Draft>, Error> {
     let mut parser: Option<Parser> = None;
     for line in lines(text) {
         let first = line.items().next();
-        let is_name = line.items().nth(1).is_none() && first.is_some_and(|first| parser.is_none() || digits(first.text).is_none());
+        let is_name = line.items().nth(1).is_none()
+            && first.is_some_and(|first| parser.is_none() || digits(first.text).is_none());
         match (first, is_name) {
             (None, _) => drafts.extend(parser.take().map(|parser| parser.finish(line.position())).transpose()?),
             (Some(name), true) => {
@@ -131,7 +132,9 @@ impl Parser {
             [state] => self.end(*state, None),
             [state, weight] => self.end(*state, Some(*weight)),
             [from, to, label] => self.arc([*from, *to], *label, None),
-            [from, to, label, last] if is_weight(last.text) => self.arc([*from, *to], *label, Some(*last)),
+            [from, to, label, last] if is_weight(last.text) || last.text.contains(',') => {
+                self.arc([*from, *to], *label, Some(*last))
+            }
             [from, to, _, output] => self.arc([*from, *to], *output, None),
             [from, to, _, output, weight] => self.arc([*from, *to], *output, Some(*weight)),
             [.., extra] => {

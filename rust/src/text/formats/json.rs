@@ -16,8 +16,8 @@ pub(super) struct Value {
 /// What a value is.
 #[derive(Debug, PartialEq)]
 pub(super) enum Kind {
-    Nothing,
-    Truth,
+    /// `null`, `true` or `false`.
+    Word,
     Number(f64),
     Text(String),
     List(Vec<Value>),
@@ -28,7 +28,9 @@ impl Value {
     /// The value of a key of an object, whatever the case of its letters.
     pub(super) fn get(&self, key: &str) -> Option<&Value> {
         match &self.kind {
-            Kind::Object(fields) => fields.iter().find(|(known, _)| known.eq_ignore_ascii_case(key)).map(|(_, value)| value),
+            Kind::Object(fields) => {
+                fields.iter().find(|(known, _)| known.eq_ignore_ascii_case(key)).map(|(_, value)| value)
+            }
             _ => None,
         }
     }
@@ -188,15 +190,13 @@ impl Reader<'_> {
 
     /// `null`, `true` or `false`.
     fn word(&mut self) -> Result<Kind, Error> {
-        const WORDS: [(&str, fn() -> Kind); 3] =
-            [("null", || Kind::Nothing), ("true", || Kind::Truth), ("false", || Kind::Truth)];
         let rest = &self.text[self.at..];
-        let Some((word, kind)) = WORDS.iter().find(|(word, _)| rest.starts_with(word)) else {
+        let Some(word) = ["null", "true", "false"].into_iter().find(|word| rest.starts_with(word)) else {
             let found = self.peek();
             return Err(self.expected("a value", found));
         };
         self.at += word.len();
-        Ok(kind())
+        Ok(Kind::Word)
     }
 
     /// A text in quotes.
@@ -230,7 +230,8 @@ impl Reader<'_> {
             Some('u') => return self.code(),
             _ => None,
         };
-        let found = plain.ok_or_else(|| Error::at(self.position(), Fault::Escape(format!("\\{}", letter.unwrap_or(' ')))))?;
+        let found =
+            plain.ok_or_else(|| Error::at(self.position(), Fault::Escape(format!("\\{}", letter.unwrap_or(' ')))))?;
         self.at += 1;
         Ok(found)
     }

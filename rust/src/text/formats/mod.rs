@@ -42,6 +42,9 @@ pub enum Format {
     Json,
 }
 
+/// Whether a text is in a format.
+type Test = fn(&str) -> bool;
+
 /// The formats by name.
 const NAMES: [(&str, Format); 9] = [
     ("slots", Format::Slots),
@@ -77,7 +80,7 @@ impl Format {
     /// The format of a text, by what stands in it. What is nothing else is slots.
     pub fn of(text: &str) -> Self {
         let text = without_mark(text);
-        let is_of: [(fn(&str) -> bool, Self); 7] = [
+        let is_of: [(Test, Self); 7] = [
             (json::is_json, Self::Json),
             (is_lattice, Self::Slf),
             (is_network, Self::Network),
@@ -103,7 +106,10 @@ impl Format {
 pub fn binary_kind(bytes: &[u8]) -> Option<&'static str> {
     const KINDS: [(&[u8], &str); 7] = [
         (&[0x1f, 0x8b], "a gzip file; `gzip -dc FILE` prints what is in it"),
-        (&[0xd6, 0xfd, 0xb2, 0x7e], "a binary FST of OpenFst; `fstprint --isymbols=words.txt --acceptor FILE` prints it as text"),
+        (
+            &[0xd6, 0xfd, 0xb2, 0x7e],
+            "a binary FST of OpenFst; `fstprint --isymbols=words.txt --acceptor FILE` prints it as text",
+        ),
         (b"BZh", "a bzip2 file; `bzip2 -dc FILE` prints what is in it"),
         (&[0xfd, b'7', b'z', b'X', b'Z'], "an xz file; `xz -dc FILE` prints what is in it"),
         (&[0x28, 0xb5, 0x2f, 0xfd], "a zstd file; `zstd -dc FILE` prints what is in it"),
@@ -136,17 +142,18 @@ impl UtteranceReader<'_> {
     /// # Ok::<(), spireyerba::Error>(())
     /// ```
     pub fn read_heard(&self, text: &str) -> Result<Lattice, Error> {
-        let mut all = self.read_all_heard(text)?;
-        match (all.len(), all.pop()) {
-            (1, Some(only)) => Ok(only),
-            (count, _) => Err(Error::at(super::items::end_of(text), Fault::ManyLattices(count))),
-        }
+        alone(self.read_all_heard(text)?, text)
+    }
+
+    /// Reads the one lattice of a text as an acceptor, over the labels of the grammar's words.
+    pub fn recognised_alone(&self, text: &str) -> Result<Recognised, Error> {
+        alone(self.recognised(text)?, text)
     }
 
     /// Reads all that a text has, of which only some formats have several.
     pub fn read_all_heard(&self, text: &str) -> Result<Vec<Lattice>, Error> {
-        match self.plain(without_mark(text)) {
-            Some(plain) => Ok(vec![Lattice::plain(plain?)]),
+        match self.read_plain(text) {
+            Some(plain) => Ok(vec![Lattice::from(plain?)]),
             None => self.recognised(text)?.iter().map(|recognised| recognised.reduce(self.keep, self.exact)).collect(),
         }
     }
@@ -157,9 +164,17 @@ impl UtteranceReader<'_> {
         drafts.into_iter().map(|draft| draft.recognised(self)).collect()
     }
 
-    /// What a text in one of the formats says that take no lattice: slots, a network that is slots, or a plain word graph.
-    fn plain(&self, text: &str) -> Option<Result<Heard, Error>> {
+    /// Reads a text in one of the formats that take no lattice: slots, a network that is slots, or a plain word graph; nothing if
+    /// it is another. If words that the grammar does not have are kept, a slot of such words is empty, and a graph with one is
+    /// a lattice.
+    pub fn read_plain(&self, text: &str) -> Option<Result<Heard, Error>> {
+        let text = without_mark(text);
         let format = self.format.unwrap_or_else(|| Format::of(text));
+        if format == Format::Graph && self.keep_unknown {
+            let mut strict = self.clone();
+            (strict.keep_unknown, strict.drop_unknown) = (false, false);
+            return strict.read_plain(text).filter(|plain| !is_unknown(plain));
+        }
         let plain = match format {
             Format::Slots | Format::Network => self.read(text).map(Heard::Slots),
             Format::Graph => self.read_plain_graph(text).map(Heard::Graph),
@@ -183,5 +198,18 @@ impl UtteranceReader<'_> {
             Format::Ctm => ctm::parse(text),
             Format::Json => recogniser_json::parse(text).map(one),
         }
+    }
+}
+
+/// Whether a word is not known.
+fn is_unknown(plain: &Result<Heard, Error>) -> bool {
+    matches!(plain.as_ref().err().and_then(Error::fault), Some(Fault::UnknownWord(_)))
+}
+
+/// The only one of some that a text has.
+fn alone<T>(mut all: Vec<T>, text: &str) -> Result<T, Error> {
+    match (all.len(), all.pop()) {
+        (1, Some(only)) => Ok(only),
+        (count, _) => Err(Error::at(super::items::end_of(text), Fault::ManyLattices(count))),
     }
 }

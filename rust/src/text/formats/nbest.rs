@@ -43,9 +43,9 @@ fn is_scored(line: Line) -> bool {
 fn is_counted(text: &str) -> bool {
     let names = lines(text).filter(|line| is_sentence(line.text)).map(|line| key(line.text));
     let mut first = None;
-    let counts = names.zip(1..).all(|(name, number)| {
-        name.is_some_and(|(name, found)| found == number && *first.get_or_insert(name) == name)
-    });
+    let counts = names
+        .zip(1..)
+        .all(|(name, number)| name.is_some_and(|(name, found)| found == number && *first.get_or_insert(name) == name));
     counts && first.is_some()
 }
 
@@ -97,7 +97,8 @@ fn sentence(line: Line) -> Result<Sentence, Error> {
     }
     let score = match numbers {
         3 => {
-            let (score, count) = ((words[0].finite()? + words[1].finite()?) * std::f64::consts::LN_10, words[2].count()?);
+            let (score, count) =
+                ((words[0].finite()? + words[1].finite()?) * std::f64::consts::LN_10, words[2].count()?);
             let said = words.len() - 3;
             // marks of a sentence's ends are counted or not
             if count > said || said > count + 2 {

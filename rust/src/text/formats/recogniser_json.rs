@@ -131,7 +131,8 @@ fn sentence(alternative: &Value, draft: &mut Draft, [from, to]: [u32; 2], cost: 
     let keys = ["Lexical", "transcript", "text", "DisplayText"];
     let text = keys.iter().find_map(|key| alternative.get(key).and_then(Value::text));
     let missing = Error::at(alternative.position, Fault::Expected { wanted: "a transcript", found: None });
-    let mut words: Vec<Option<String>> = text.ok_or(missing)?.split_whitespace().map(|word| Some(word.to_owned())).collect();
+    let mut words: Vec<Option<String>> =
+        text.ok_or(missing)?.split_whitespace().map(|word| Some(word.to_owned())).collect();
     if words.is_empty() {
         words.push(None);
     }

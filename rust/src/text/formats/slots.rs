@@ -1,12 +1,12 @@
 //! Slots with more words than a slot of a block has room for: a lattice with a place between two slots.
 
 use super::{Draft, Link};
+use crate::limits::NOT_HEARD;
 use crate::text::items::{end_of, lines};
 use crate::text::network::Alignments;
 use crate::text::scan::{weight, Token, Tokens, UTTERANCE};
 use crate::text::utterance::UtteranceReader;
 use crate::text::Fault;
-use crate::limits::NOT_HEARD;
 use crate::Error;
 
 impl UtteranceReader<'_> {

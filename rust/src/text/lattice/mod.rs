@@ -9,12 +9,12 @@
 mod fields;
 mod parse;
 
+use super::formats::Draft;
 use super::score::{scaled, shortest};
 use super::utterance::UtteranceReader;
 use super::{without_mark, NamedGrammar};
-use crate::limits::NOT_HEARD;
-use super::formats::Draft;
 use crate::lattice::Keep;
+use crate::limits::NOT_HEARD;
 use crate::{Edge, Error, Graph};
 use fields::written;
 
