@@ -238,7 +238,7 @@ fn mistakes() {
         ("0 1 door 0.5\n1 2 um 1\n2\n", "2:1: refused 14: the grammar has no word `um`"),
         ("u\n0 1 door 3,4\n1 2 four 1 2 3\n2\n", "3:14: `3` where the end of the line should stand"),
         ("u\n0 1 door 3,x,\n", "2:10: `x` is not a number that can stand here"),
-        ("-1.5 door four\n-inf door\n", "2:1: `-inf` is not a number that can stand here"),
+        ("-1.5 door four\n-1e999 door\n", "2:1: `-1e999` is not a number that can stand here"),
         ("-1 -2 4 door four\n", "1:7: the sentence says 4 words and has 2"),
         ("a A 0 1 door 1.5\n", "1:14: `1.5` is not a posterior from 0 to the network's"),
         ("a A * * <ALT_BEGIN>\na A 0 1 door 1\n", "2:1: the line ends where <ALT_END> should stand"),

@@ -334,11 +334,33 @@ impl Fault {
     }
 }
 
+/// A message has at most so many characters, of which so many stand before what is left out of its middle.
+const LONGEST: usize = 400;
+const BEFORE: usize = 200;
+
 impl Display for Fault {
     fn fmt(&self, formatter: &mut Formatter) -> std::fmt::Result {
         if let Some(refusal) = self.refusal() {
             write!(formatter, "refused {}: ", refusal.number())?;
         }
-        self.words(formatter)
+        let words = Words(self).to_string();
+        let mut cuts = words.char_indices().map(|(at, _)| at);
+        match (cuts.clone().nth(BEFORE), cuts.clone().nth(LONGEST)) {
+            // a word may be as long as a file
+            (Some(before), Some(_)) => {
+                let behind = cuts.nth_back(LONGEST - BEFORE - 1).unwrap_or(before);
+                write!(formatter, "{} .. {}", &words[..before], &words[behind..])
+            }
+            _ => formatter.write_str(&words),
+        }
+    }
+}
+
+/// What is wrong, however long it is.
+struct Words<'a>(&'a Fault);
+
+impl Display for Words<'_> {
+    fn fmt(&self, formatter: &mut Formatter) -> std::fmt::Result {
+        self.0.words(formatter)
     }
 }

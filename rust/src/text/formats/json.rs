@@ -1,10 +1,13 @@
 //! JSON, read into values that know where they stand.
 
+use super::MAX_LINKS;
 use crate::text::Fault;
 use crate::{Error, Position};
 
 /// Values within values go so deep at most.
 const MAX_DEPTH: usize = 64;
+/// A text has at most so many values: some for each link that a lattice may have.
+const MAX_VALUES: usize = 4 * MAX_LINKS;
 
 /// A value, and where it begins.
 #[derive(Debug, PartialEq)]
@@ -70,7 +73,7 @@ pub(super) fn is_json(text: &str) -> bool {
 
 /// Reads the one value of a text.
 pub(super) fn parse(text: &str) -> Result<Value, Error> {
-    let mut reader = Reader { text, at: 0, line: 1, counted: 0, column: 1 };
+    let mut reader = Reader { text, at: 0, line: 1, counted: 0, column: 1, values: 0 };
     let value = reader.value(0)?;
     match reader.peek() {
         None => Ok(value),
@@ -86,6 +89,8 @@ struct Reader<'a> {
     /// Up to where the columns of the line are counted, and how many there are.
     counted: usize,
     column: usize,
+    /// How many values there are so far.
+    values: usize,
 }
 
 impl Reader<'_> {
@@ -126,8 +131,10 @@ impl Reader<'_> {
     fn value(&mut self, depth: usize) -> Result<Value, Error> {
         let first = self.peek();
         let position = self.position();
-        if depth > MAX_DEPTH {
-            return Err(Error::at(position, Fault::JsonDepth));
+        self.values += 1;
+        if depth > MAX_DEPTH || self.values > MAX_VALUES {
+            let fault = if depth > MAX_DEPTH { Fault::JsonDepth } else { Fault::Links };
+            return Err(Error::at(position, fault));
         }
         let kind = match first {
             Some('{') => Kind::Object(self.object(depth)?),

@@ -79,7 +79,7 @@ impl Format {
 
     /// The format of a text, by what stands in it. What is nothing else is slots.
     pub fn of(text: &str) -> Self {
-        let text = without_mark(text);
+        let text = front(without_mark(text));
         let is_of: [(Test, Self); 7] = [
             (json::is_json, Self::Json),
             (is_lattice, Self::Slf),
@@ -94,6 +94,15 @@ impl Format {
         found.unwrap_or_else(|| if is_graph() { Self::Graph } else { Self::Slots })
     }
 }
+
+/// The first lines of a text, by which its format is told.
+fn front(text: &str) -> &str {
+    let end = text.match_indices('\n').nth(FRONT_LINES).map_or(text.len(), |(at, _)| at);
+    &text[..end]
+}
+
+/// A format is told by so many lines.
+const FRONT_LINES: usize = 2_000;
 
 /// What bytes are that are no text, and how they are printed as one, if they are of a known kind.
 ///

@@ -52,7 +52,7 @@ fn is_counted(text: &str) -> bool {
 /// The name and the number that a line begins with, if words follow.
 fn key(line: &str) -> Option<(&str, usize)> {
     let (key, _) = line.trim().split_once(char::is_whitespace)?;
-    let (name, number) = key.rsplit_once('-')?;
+    let (name, number) = key.rsplit_once('-').filter(|(name, _)| !name.is_empty())?;
     Some((name, number.parse().ok()?))
 }
 

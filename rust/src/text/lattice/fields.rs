@@ -7,6 +7,7 @@ use crate::{Error, Position};
 /// A line that begins with it is a comment.
 const COMMENT: char = '#';
 const QUOTES: [u8; 2] = [b'"', b'\''];
+const APOSTROPHE: u8 = b'\'';
 const ESCAPE: u8 = b'\\';
 /// Behind a backslash so many octal digits are a byte.
 const OCTAL_DIGITS: usize = 3;
@@ -65,7 +66,9 @@ pub(super) fn fields(line: &str, number: usize) -> Result<Vec<Field<'_>>, Error>
 /// The value at the front of a text, quoted or not, and how many bytes it takes.
 fn value(text: &str) -> Result<(String, usize), Fault> {
     let bytes = text.as_bytes();
-    let quote = bytes.first().copied().filter(|first| QUOTES.contains(first));
+    // a word may begin with an apostrophe, and then no other one ends it
+    let is_quote = |first: &u8| QUOTES.contains(first) && (*first != APOSTROPHE || text[1..].contains('\''));
+    let quote = bytes.first().copied().filter(is_quote);
     let (mut at, mut value) = (usize::from(quote.is_some()), Vec::new());
     loop {
         match (bytes.get(at), quote) {
