@@ -7,7 +7,6 @@ use crate::options::{
     Arguments, DROP_DELETES, DROP_UNKNOWN, EMPTY, EXACT, FILE, FORMAT, LATTICE, NETWORK, PATHS, SCALE,
 };
 use crate::output::Output;
-use spireyerba::text::reading_text;
 use spireyerba::Heard;
 
 pub const COMMAND: Command = Command {
@@ -31,7 +30,7 @@ fn run(arguments: &Arguments, output: &mut Output) -> Result<(), Failure> {
         [heard, reading, ..] => {
             let heard = files::heard(arguments, &grammar, heard)?.heard;
             let reading = files::reading(&grammar, &heard, reading)?.reading;
-            reading_text(&grammar.named.written_reading(&reading))
+            grammar.named.reading_text(&reading)
         }
     };
     files::write(arguments, output, text.as_bytes())
