@@ -75,6 +75,19 @@ pub const JOBS: Opt = Opt {
     help: "use so many threads; one for each core unless given",
 };
 
+pub const LINE: Opt = Opt {
+    long: "line",
+    short: None,
+    value: None,
+    help: "answer each line before the next is waited for, as always where FILE is a pipe or a terminal",
+};
+pub const RESUME: Opt = Opt {
+    long: "resume",
+    short: None,
+    value: Some("OUT"),
+    help: "write to OUT, behind the answers that an interrupted run left in it",
+};
+
 /// The readings of a list that is not told how many to have.
 pub const WANTED_UNLESS_GIVEN: u32 = 8;
 
