@@ -53,6 +53,7 @@
 
 #![warn(missing_docs)]
 
+pub mod lattice;
 pub mod limits;
 pub mod services;
 pub mod text;

@@ -83,7 +83,8 @@ pub fn checked_root(
     trace: &mut [u32],
 ) -> usize
     requires { ⌜ (Sized d) × (0 < d .places) × (rank < d .ranks) × (scope .edges ≤ 256) ⌝ }
-    ensures { λ r. ⌜ r ≡ pick (rootSpelled (now (t .entry)) (now (rules .entry)) (now (edges .entry)) scope d rank) (length (rootTrace (now (t .entry)) (now (rules .entry)) d rank)) 0 ⌝ }
+    ensures { λ r. ⌜ r ≡ pick (rootSpelled (now (t .entry)) (now (rules .entry)) (now (edges .entry)) scope d rank)
+        (length (rootTrace (now (t .entry)) (now (rules .entry)) d rank)) 0 ⌝ }
     ensures { λ r. ⌜ (rootSpelled (now (t .entry)) (now (rules .entry)) (now (edges .entry)) scope d rank ≡ true
         → now (trace .exit) ≡ storeAll (now (trace .entry)) 0 (rootTrace (now (t .entry)) (now (rules .entry)) d rank)) ⌝ }
 {

@@ -94,7 +94,8 @@ module _ (t : List ℕ) (d : Layout) where
       where
         go : (j : ℕ) → c .from < j → j < c .to
             → (digit (getD m (endsAt (rule .first) (c .from)) 0) j ≡ 0) ⊎ (digit (getD m (startsAt (rule .second) (c .to)) 0) j ≡ 0)
-            → noKey ≤ keyOf (joinPrice (rule .weight) (priceAt t d (cellNumber d (leftPart c (rule .first) j)) 0) (priceAt t d (cellNumber d (rightPart c (rule .second) j)) 0)) (backNumber (back (rule .number) j 0 0))
+            → noKey ≤ keyOf (joinPrice (rule .weight) (priceAt t d (cellNumber d (leftPart c (rule .first) j)) 0)
+            (priceAt t d (cellNumber d (rightPart c (rule .second) j)) 0)) (backNumber (back (rule .number) j 0 0))
         go j l l′ (inl e) = rw (covered (apart .size) .ends (rule .first) (c .from) j (apart .left) l (omega arith) e) (left-missing (rule .weight) _ _)
         go j l l′ (inr e) = rw (covered (apart .size) .starts (rule .second) j (c .to) (apart .right) l′ last e) (right-missing (rule .weight) _ _)
 
@@ -104,7 +105,8 @@ module _ (t : List ℕ) (d : Layout) where
       where
         go : (s : Bool)
             → ruleSeeds t d c floor best r
-            (pick s (Pair (symbolOf (getD rules (5 * r + 1) 0)) (symbolOf (getD rules (5 * r + 3) 0)) (symbolOf (getD rules (5 * r + 4) 0)) (getD rules (5 * r + 2) 0))
+            (pick s (Pair (symbolOf (getD rules (5 * r + 1) 0)) (symbolOf (getD rules (5 * r + 3) 0)) (symbolOf (getD rules (5 * r + 4) 0))
+            (getD rules (5 * r + 2) 0))
             (Word (symbolOf (getD rules (5 * r + 1) 0)) (word (getD rules (5 * r + 3) 0)) (getD rules (5 * r + 2) 0))) ≡ best
         go true = splits-passed _ apart
         go false = refl
@@ -123,7 +125,8 @@ other-word rules edges e floor best r other = go (eqb (getD rules (5 * r) 0) 0)
   where
     go : (s : Bool)
         → wordLeaf edges e floor best r
-        (pick s (Pair (symbolOf (getD rules (5 * r + 1) 0)) (symbolOf (getD rules (5 * r + 3) 0)) (symbolOf (getD rules (5 * r + 4) 0)) (getD rules (5 * r + 2) 0))
+        (pick s (Pair (symbolOf (getD rules (5 * r + 1) 0)) (symbolOf (getD rules (5 * r + 3) 0)) (symbolOf (getD rules (5 * r + 4) 0))
+        (getD rules (5 * r + 2) 0))
         (Word (symbolOf (getD rules (5 * r + 1) 0)) (word (getD rules (5 * r + 3) 0)) (getD rules (5 * r + 2) 0))) ≡ best
     go true = refl
     go false = rw (ne-eqb (wordOf rules r) (getD edges (4 * e + 2) 0) other)

@@ -143,7 +143,8 @@ fn filtered_leaves(
     range: Range,
 ) -> Key
     requires { ⌜ (e < 4294967296) × (WordFilter (now rules) (now index) (c .head .0) filter) ⌝ }
-    ensures { λ x. ⌜ keyNumber x ≡ edgeLeaves (now (rules .entry)) (now (edges .entry)) (now (index .entry)) c (keyNumber (range .floor)) (keyNumber (range .best)) e ⌝ }
+    ensures { λ x. ⌜ keyNumber x ≡ edgeLeaves (now (rules .entry)) (now (edges .entry)) (now (index .entry)) c (keyNumber (range .floor))
+        (keyNumber (range .best)) e ⌝ }
 {
     let word = narrow_at(edges, NUMBERS_PER_EDGE * e + EDGE_WORD_AT);
     if filter & word_bit(word) == 0 {

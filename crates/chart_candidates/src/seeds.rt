@@ -88,7 +88,8 @@ fn is_small(rule: PairRule) -> bool
 // to split by sums, so that no product stands in the way of the reads, and the reads need no test.
 fn split_seeds_within(t: &[u32], d: Layout, rule: PairRule, c: Cell, floor: Key, best: Key) -> Key
     requires { ⌜ (InTable d c) × (Small rule) × (Divides floor best) ⌝ }
-    requires { ⌜ (entryOf d (cellNumber d (leftPart c (rule .first) (c .to - 1))) 0 + 1 < length (now t)) × (entryOf d (cellNumber d (rightPart c (rule .second) (c .to - 1))) 0 + 1 < length (now t)) ⌝ }
+    requires { ⌜ (entryOf d (cellNumber d (leftPart c (rule .first) (c .to - 1))) 0 + 1 < length (now t))
+        × (entryOf d (cellNumber d (rightPart c (rule .second) (c .to - 1))) 0 + 1 < length (now t)) ⌝ }
     ensures { λ x. ⌜ keyNumber x ≡ splitSeeds (now (t .entry)) d rule c (keyNumber floor) (keyNumber best) ⌝ }
 {
     let step = d.symbols * ENTRY_NUMBERS;

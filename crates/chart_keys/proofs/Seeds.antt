@@ -78,10 +78,12 @@ module _ (p r j : ℕ) (small-rule : r < rules) (small-split : j < splits) where
     pub lesser-number : (n low : ℕ) → low ≡ floorNumber floor → n ≤ ceilingNumber best
         → keyOfNumber best (lesser low n (seedNumber p r j)) ≡ lesser (keyNumber floor) (keyOfNumber best n) (keyOf p (backNumber (back r j 0 0)))
     unfolding lesser seed
-    lesser-number n low is le = rw (is, above-floor floor floor-in, below-key n) (go (ltb (floorNumber floor) (seedNumber p r j)) (ltb (seedNumber p r j) n) refl)
+    lesser-number n low is le = rw (is, above-floor floor floor-in, below-key n)
+        (go (ltb (floorNumber floor) (seedNumber p r j)) (ltb (seedNumber p r j) n) refl)
       where
         go : (b c : Bool) → ltb (seedNumber p r j) n ≡ c
-            → keyOfNumber best (pick b (pick c (seedNumber p r j) n) n) ≡ pick b (pick c (keyOf p (backNumber (back r j 0 0))) (keyOfNumber best n)) (keyOfNumber best n)
+            → keyOfNumber best (pick b (pick c (seedNumber p r j) n) n)
+            ≡ pick b (pick c (keyOf p (backNumber (back r j 0 0))) (keyOfNumber best n)) (keyOfNumber best n)
         go true true e = own-key (omega (arith, ltb-true (seedNumber p r j) n e))
         go true false e = refl
         go false c e = refl

@@ -5,7 +5,21 @@ use arrays::wide;
 ghost use mathlib.Core.Path.{_≡_};
 ghost use Prim.Native.Nat.{_+_, _*_, _<_, _≤_};
 ghost use lib.Dec.{ltb};
-ghost use Rattle.chart_keys.specs.Keys.{splits, digits, prices, withRanks, backNumber, backPointer, Digits, partPrice, leafPrice, joinPrice, keyNumber, noKey, lesser};
+ghost use Rattle.chart_keys.specs.Keys.{
+  splits,
+  digits,
+  prices,
+  withRanks,
+  backNumber,
+  backPointer,
+  Digits,
+  partPrice,
+  leafPrice,
+  joinPrice,
+  keyNumber,
+  noKey,
+  lesser,
+};
 
 // The bases of a back pointer's digits: a split is below SPLITS, and a rank or an edge below DIGITS.
 pub const SPLITS: usize = 32;

@@ -19,10 +19,52 @@ use Rattle.chart_keys.specs.Keys.{keyUnit, noKey}
 use Rattle.chart_index.specs.Index.{pairBase, classStart, classEnd}
 use Rattle.chart_table.specs.declared.Cell.{Cell}
 use Rattle.chart_table.specs.declared.Layout.{Layout}
-use Rattle.chart_table.specs.Table.{lastPlace, cell, cellNumber, entryOf, priceIn, priceAt, besideAt, putBeside, putFound, lastRank, putLastRank, putKey, InTable}
+use Rattle.chart_table.specs.Table.{
+  lastPlace,
+  cell,
+  cellNumber,
+  entryOf,
+  priceIn,
+  priceAt,
+  besideAt,
+  putBeside,
+  putFound,
+  lastRank,
+  putLastRank,
+  putKey,
+  InTable,
+}
 use Rattle.chart_table.proofs.Cells.{cell-injective, first-price}
 use Rattle.chart_masks.specs.declared.Column.{Column}
-use Rattle.chart_masks.specs.Masks.{maskNumbers, digit, endsAt, startsAt, firstsAt, secondsAt, leftAt, rightAt, slot, maskOf, wordColumn, firstColumn, secondColumn, Put, Marked, Covers, Apart, Grown, Members, MembersMore, Ruled, Unjoined, Live, EdgeHeads, HeadsBefore, HeadsOver, NoLeaf}
+use Rattle.chart_masks.specs.Masks.{
+  maskNumbers,
+  digit,
+  endsAt,
+  startsAt,
+  firstsAt,
+  secondsAt,
+  leftAt,
+  rightAt,
+  slot,
+  maskOf,
+  wordColumn,
+  firstColumn,
+  secondColumn,
+  Put,
+  Marked,
+  Covers,
+  Apart,
+  Grown,
+  Members,
+  MembersMore,
+  Ruled,
+  Unjoined,
+  Live,
+  EdgeHeads,
+  HeadsBefore,
+  HeadsOver,
+  NoLeaf,
+}
 use Rattle.chart_masks.proofs.Digits.{zero-digit, and-parts, or-lacks}
 
 -- the first rank of a cell, stored, is that of no other
@@ -40,7 +82,8 @@ last-other : (t : List ℕ) (d : Layout) (c rank c′ : ℕ) → c′ ≢ c → 
 unfolding putLastRank
 last-other t d c rank c′ other = go (ltb (lastRank t d c) rank)
   where
-    go : (s : Bool) → priceIn (pick s (putBeside t d c 0 ((besideAt t d c 0 / 262144 * 512 + rank) * 512 + besideAt t d c 0 % 512)) t) (c′ * 4) ≡ priceIn t (c′ * 4)
+    go : (s : Bool) → priceIn (pick s (putBeside t d c 0 ((besideAt t d c 0 / 262144 * 512 + rank) * 512 + besideAt t d c 0 % 512)) t) (c′ * 4)
+        ≡ priceIn t (c′ * 4)
     go true = beside-other t d c ((besideAt t d c 0 / 262144 * 512 + rank) * 512 + besideAt t d c 0 % 512) c′ other
     go false = refl
 
@@ -263,7 +306,8 @@ heads-next {m} {edges} {index} {start} {k} {y} {r} x before edge = record { has 
 
 -- the heads that may have a tree over a span
 pub live-parts : (m : List ℕ) (d : Layout) (c : Cell) (leafy : ℕ)
-    → Live m d c leafy (bitOr (bitOr (bitOr (bitAnd (getD m (leftAt (c .from)) 0) (getD m (rightAt (c .to)) 0)) (getD m (firstsAt (d .symbols)) 0)) (getD m (secondsAt (d .symbols)) 0)) leafy)
+    → Live m d c leafy (bitOr (bitOr (bitOr (bitAnd (getD m (leftAt (c .from)) 0) (getD m (rightAt (c .to)) 0)) (getD m (firstsAt (d .symbols)) 0))
+    (getD m (secondsAt (d .symbols)) 0)) leafy)
 live-parts m d c leafy = record { unjoined = λ a e. go a (or-lacks strays leafy a e .0); leafless = λ a e. or-lacks strays leafy a e .1 }
   where
     both : ℕ

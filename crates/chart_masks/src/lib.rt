@@ -27,7 +27,22 @@ ghost use Prim.Native.Nat.{ℕ, _+_, _<_, _≤_};
 ghost use lib.ListN.{length, getD};
 ghost use Rattle.chart_index.specs.Index.{indexNumbers, classEnd};
 ghost use Rattle.chart_table.specs.Table.{lastPlace};
-ghost use Rattle.chart_masks.specs.Masks.{digit, maskNumbers, slot, Disjoint, Put, Marked, Apart, Grown, Members, MembersMore, Ruled, EdgeHeads, HeadsOver, Live};
+ghost use Rattle.chart_masks.specs.Masks.{
+  digit,
+  maskNumbers,
+  slot,
+  Disjoint,
+  Put,
+  Marked,
+  Apart,
+  Grown,
+  Members,
+  MembersMore,
+  Ruled,
+  EdgeHeads,
+  HeadsOver,
+  Live,
+};
 
 // The masks of end places stand first, for each place one of each head, then those of start places, and then those of heads: by word, by
 // first part and by second part, each with one behind the last for what is none, and by place.
@@ -164,7 +179,8 @@ fn slot(x: usize, limit: usize) -> usize
 fn mark_head(masks: &mut [u32], rules: &[u32], index: &[u32], column: Column, head: usize)
     requires { ⌜ (head ≤ lastPlace) × (column .base ≤ indexNumbers) × (column .field < 5) × (2048 ≤ column .at) ⌝ }
     requires { ⌜ (column .at + column .limit < maskNumbers) × (maskNumbers ≤ length (now masks)) ⌝ }
-    ensures { λ _. ⌜ MembersMore (now (rules .entry)) (now (index .entry)) column head (classEnd (now (index .entry)) (column .base) head) (now (masks .entry)) (now (masks .exit)) ⌝ }
+    ensures { λ _. ⌜ MembersMore (now (rules .entry)) (now (index .entry)) column head (classEnd (now (index .entry)) (column .base) head) (now (masks .entry))
+        (now (masks .exit)) ⌝ }
 {
     let start = class_start(index, column.base, head);
     let end = class_end(index, column.base, head);

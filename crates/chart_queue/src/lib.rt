@@ -20,7 +20,27 @@ ghost use mathlib.Core.Path.{_≡_};
 ghost use Prim.Native.Nat.{_+_, _*_, _/_, _<_, _≤_};
 ghost use Rattle.chart_keys.specs.Keys.{prices, keyNumber};
 ghost use Rattle.chart_table.specs.Table.{mostRanks, cellBound, Sized};
-ghost use Rattle.chart_queue.specs.Queue.{tags, isInitial, codeOf, shifted, tagOf, taggedBack, numberKey, queuedKey, queueLength, keepInitial, putQueued, moveQueued, putQueueLength, leastPlace, replace, push, extractMin, keepWritten, keepMin};
+ghost use Rattle.chart_queue.specs.Queue.{
+  tags,
+  isInitial,
+  codeOf,
+  shifted,
+  tagOf,
+  taggedBack,
+  numberKey,
+  queuedKey,
+  queueLength,
+  keepInitial,
+  putQueued,
+  moveQueued,
+  putQueueLength,
+  leastPlace,
+  replace,
+  push,
+  extractMin,
+  keepWritten,
+  keepMin,
+};
 
 // Tags are below TAGS: CODES ways from each rank. Rank 255 has no next one, so no candidate has it: its tags are free, and the
 // greatest is that of the candidates that follow none.

@@ -60,9 +60,11 @@ pub fn first_rank(
     leaf: Key,
 )
     requires { ⌜ (InTable d c) × (c .head .0 < d .symbols) × (Covers (now masks) (now t) d) × (keyNumber leaf ≤ noKey) ⌝ }
-    ensures { λ _. ⌜ now (t .exit) ≡ putKey (now (t .entry)) d (cellNumber d c) 0 (seeds (now (t .entry)) d (now (rules .entry)) (now (index .entry)) c 0 (keyNumber leaf)) ⌝ }
+    ensures { λ _. ⌜ now (t .exit) ≡ putKey (now (t .entry)) d (cellNumber d c) 0
+        (seeds (now (t .entry)) d (now (rules .entry)) (now (index .entry)) c 0 (keyNumber leaf)) ⌝ }
     ensures { λ _. ⌜ Covers (now (masks .exit)) (now (t .exit)) d ⌝ }
-    ensures { λ _. ⌜ (Ruled (now (rules .entry)) (now (index .entry)) d (now (masks .entry)) → Ruled (now (rules .entry)) (now (index .entry)) d (now (masks .exit))) ⌝ }
+    ensures { λ _. ⌜ (Ruled (now (rules .entry)) (now (index .entry)) d (now (masks .entry))
+        → Ruled (now (rules .entry)) (now (index .entry)) d (now (masks .exit))) ⌝ }
 {
     let key = first_seeds(&t[..], &masks[..], d, rules, index, c, leaf);
     if PRICES <= key.price {

@@ -28,7 +28,21 @@ ghost use lib.ListN.{getD};
 ghost use Rattle.chart_keys.specs.Keys.{Digits};
 ghost use Rattle.chart_table.specs.Table.{Sized, InTable};
 ghost use Rattle.chart_masks.specs.Masks.{Covers, Ruled};
-ghost use Rattle.chart_search.specs.Search.{extend, advancePairing, nextOfSpan, firstOfHeads, firstOfLength, firstPass, nextOfRoot, search, backBefore, keepExtend, keepPairing, keepOfSpan, keepOfRoot};
+ghost use Rattle.chart_search.specs.Search.{
+  extend,
+  advancePairing,
+  nextOfSpan,
+  firstOfHeads,
+  firstOfLength,
+  firstPass,
+  nextOfRoot,
+  search,
+  backBefore,
+  keepExtend,
+  keepPairing,
+  keepOfSpan,
+  keepOfRoot,
+};
 
 // Finds a further rank of a cell, where the ranks below are found, with what it needs of the parts. What is written over is kept.
 fn next_of_span(
@@ -41,8 +55,10 @@ fn next_of_span(
     part: Part,
 )
     requires { ⌜ (InTable d (part .cell)) × (0 < part .rank) × (part .rank < d .ranks) ⌝ }
-    ensures { λ _. ⌜ ((f : ℕ) → part .cell .to - part .cell .from ≤ f → now (t .exit) ≡ nextOfSpan (now (rules .entry)) (now (edges .entry)) (now (index .entry)) d f (now (t .entry)) (part .cell) (part .rank)) ⌝ }
-    ensures { λ _. ⌜ ((f : ℕ) → part .cell .to - part .cell .from ≤ f → now (kept .exit) ≡ keepOfSpan (now (rules .entry)) (now (edges .entry)) (now (index .entry)) d f (now (t .entry)) (now (kept .entry)) (part .cell) (part .rank)) ⌝ }
+    ensures { λ _. ⌜ ((f : ℕ) → part .cell .to - part .cell .from ≤ f → now (t .exit)
+        ≡ nextOfSpan (now (rules .entry)) (now (edges .entry)) (now (index .entry)) d f (now (t .entry)) (part .cell) (part .rank)) ⌝ }
+    ensures { λ _. ⌜ ((f : ℕ) → part .cell .to - part .cell .from ≤ f → now (kept .exit)
+        ≡ keepOfSpan (now (rules .entry)) (now (edges .entry)) (now (index .entry)) d f (now (t .entry)) (now (kept .entry)) (part .cell) (part .rank)) ⌝ }
 {
     advance_pairing(t, kept, rules, edges, index, d, part);
     next_rank(t, kept, rules, edges, index, d, part);
@@ -60,8 +76,13 @@ fn advance_pairing(
     part: Part,
 )
     requires { ⌜ (InTable d (part .cell)) × (0 < part .rank) × (part .rank < d .ranks) ⌝ }
-    ensures { λ _. ⌜ ((f : ℕ) → part .cell .to - part .cell .from ≤ suc f → now (t .exit) ≡ advancePairing (now (rules .entry)) d (nextOfSpan (now (rules .entry)) (now (edges .entry)) (now (index .entry)) d f) (now (t .entry)) (part .cell) (backBefore (now (t .entry)) d (part .cell) (part .rank))) ⌝ }
-    ensures { λ _. ⌜ ((f : ℕ) → part .cell .to - part .cell .from ≤ suc f → now (kept .exit) ≡ keepPairing (now (rules .entry)) d (nextOfSpan (now (rules .entry)) (now (edges .entry)) (now (index .entry)) d f) (keepOfSpan (now (rules .entry)) (now (edges .entry)) (now (index .entry)) d f) (now (t .entry)) (now (kept .entry)) (part .cell) (backBefore (now (t .entry)) d (part .cell) (part .rank))) ⌝ }
+    ensures { λ _. ⌜ ((f : ℕ) → part .cell .to - part .cell .from ≤ suc f → now (t .exit)
+        ≡ advancePairing (now (rules .entry)) d (nextOfSpan (now (rules .entry)) (now (edges .entry)) (now (index .entry)) d f) (now (t .entry)) (part .cell)
+        (backBefore (now (t .entry)) d (part .cell) (part .rank))) ⌝ }
+    ensures { λ _. ⌜ ((f : ℕ) → part .cell .to - part .cell .from ≤ suc f → now (kept .exit)
+        ≡ keepPairing (now (rules .entry)) d (nextOfSpan (now (rules .entry)) (now (edges .entry)) (now (index .entry)) d f)
+        (keepOfSpan (now (rules .entry)) (now (edges .entry)) (now (index .entry)) d f) (now (t .entry)) (now (kept .entry)) (part .cell)
+        (backBefore (now (t .entry)) d (part .cell) (part .rank))) ⌝ }
 {
     let c = part.cell;
     let b = back_before(&t[..], d, part);
@@ -111,8 +132,11 @@ fn extend(
     part: Part,
 )
     requires { ⌜ (InTable d (part .cell)) × (0 < part .rank) ⌝ }
-    ensures { λ _. ⌜ ((f : ℕ) → part .cell .to - part .cell .from ≤ f → now (t .exit) ≡ extend d (nextOfSpan (now (rules .entry)) (now (edges .entry)) (now (index .entry)) d f) (now (t .entry)) (part .cell) (part .rank)) ⌝ }
-    ensures { λ _. ⌜ ((f : ℕ) → part .cell .to - part .cell .from ≤ f → now (kept .exit) ≡ keepExtend d (keepOfSpan (now (rules .entry)) (now (edges .entry)) (now (index .entry)) d f) (now (t .entry)) (now (kept .entry)) (part .cell) (part .rank)) ⌝ }
+    ensures { λ _. ⌜ ((f : ℕ) → part .cell .to - part .cell .from ≤ f → now (t .exit)
+        ≡ extend d (nextOfSpan (now (rules .entry)) (now (edges .entry)) (now (index .entry)) d f) (now (t .entry)) (part .cell) (part .rank)) ⌝ }
+    ensures { λ _. ⌜ ((f : ℕ) → part .cell .to - part .cell .from ≤ f → now (kept .exit)
+        ≡ keepExtend d (keepOfSpan (now (rules .entry)) (now (edges .entry)) (now (index .entry)) d f) (now (t .entry)) (now (kept .entry)) (part .cell)
+        (part .rank)) ⌝ }
 {
     let c = part.cell;
     let rank = part.rank;

@@ -14,7 +14,31 @@ ghost use mathlib.Core.Path.{_≡_};
 ghost use Prim.Native.Nat.{_+_, _<_, _≤_};
 ghost use lib.ListN.{length, replicate};
 ghost use Rattle.chart_keys.specs.Keys.{prices, keyNumber};
-ghost use Rattle.chart_table.specs.Table.{lastPlace, mostRanks, cellBound, besides, counts, cell, leftPart, rightPart, root, cellNumber, entryOf, priceOf, priceIn, priceAt, backAt, besideAt, putBeside, putFound, lastRank, putLastRank, putKey, firstMissing, Sized};
+ghost use Rattle.chart_table.specs.Table.{
+  lastPlace,
+  mostRanks,
+  cellBound,
+  besides,
+  counts,
+  cell,
+  leftPart,
+  rightPart,
+  root,
+  cellNumber,
+  entryOf,
+  priceOf,
+  priceIn,
+  priceAt,
+  backAt,
+  besideAt,
+  putBeside,
+  putFound,
+  lastRank,
+  putLastRank,
+  putKey,
+  firstMissing,
+  Sized,
+};
 
 // The most ranks that are kept of a cell.
 pub const MOST_RANKS: usize = DIGITS;

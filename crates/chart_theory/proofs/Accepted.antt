@@ -42,7 +42,19 @@ use Rattle.chart_theory.proofs.Table.Entries.{entry-four, found-kept, s
 use Rattle.chart_theory.proofs.Invariant.{Setting, Found}
 use Rattle.chart_theory.proofs.Search.Trace.{found-spelled}
 use Rattle.chart_theory.proofs.Search.Passes.{Listed, next-known}
-use Rattle.chart_theory.proofs.Chart.{RootHas, RootSpells, Lists, search-lists, FirstIs, search-firsts, root-sound, root-complete, known-step, first-listed, front-size}
+use Rattle.chart_theory.proofs.Chart.{
+  RootHas,
+  RootSpells,
+  Lists,
+  search-lists,
+  FirstIs,
+  search-firsts,
+  root-sound,
+  root-complete,
+  known-step,
+  first-listed,
+  front-size,
+}
 
 -- there is a place behind the first, and at most 7 edges for each slot, or 96
 pub heard-sizes : (W : ℕ) (h : Heard) → ValidHeard W h → (1 ≤ lastPlace h) × (length (heardEdges h) ≤ 168)

@@ -110,7 +110,18 @@ module _ (t rules : List ℕ) (d : Layout) where
       → Tracing (p .cell .from) (p .cell .to) trace (tracePart p) trace stack 0 p 0
   unfolding Joined rest
   starts trace stack p l h w r =
-      record { room = l; order = h; within = w; rank = r; joined = omega arith; few = omega arith; numbers = omega arith; counted = rw append-nil (omega arith); stored = rw append-nil }
+      record {
+        room = l;
+        order = h;
+        within = w;
+        rank = r;
+        joined = omega arith;
+        few = omega arith;
+        numbers = omega arith;
+        counted =
+            rw append-nil (omega arith);
+        stored = rw append-nil;
+      }
 
   -- a part that is pending can be taken apart
   pub top-low : {first last : ℕ} {trace₀ all trace stack : List ℕ} {n : ℕ} {p : Part} {next : ℕ} (m : ℕ)
@@ -134,7 +145,8 @@ module _ (t rules : List ℕ) (d : Layout) where
     -- a node with two parts
     pub descends : {r : Rule} {h y z : Sym} {w x : ℕ} → Digits b → last ≤ lastPlace → r ≡ Pair h y z w → r ≡ ruleWithin rules (p .cell) b
         → x ≡ partNumber z (p .cell .to) (b .right) → x < 35184372088832
-        → Tracing first last trace₀ all (set (set trace next (b .rule)) (next + 1) (b .left)) (set stack n x) (n + 1) (part (leftPart (p .cell) y (b .split)) (b .left)) (next + 2)
+        → Tracing first last trace₀ all (set (set trace next (b .rule)) (next + 1) (b .left)) (set stack n x) (n + 1)
+        (part (leftPart (p .cell) y (b .split)) (b .left)) (next + 2)
     unfolding Joined rest
     descends {y = y} {z} {x = x} digits small is by g low =
         let c = p .cell in

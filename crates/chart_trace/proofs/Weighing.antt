@@ -72,7 +72,8 @@ module _ (t rules edges : List ℕ) (k : Scope) (d : Layout) where
 
     -- a node with two parts
     pub weighs-pair : {b : BackPointer} {y : Sym} (z : Sym) {w x : ℕ} → Digits b → n < length stack → p .cell .to ≤ lastPlace
-        → spelledPart p ≡ withParts w (spelledOf t rules edges k d (leftPart (p .cell) y (b .split)) (b .left)) (spelledOf t rules edges k d (rightPart (p .cell) z (b .split)) (b .right))
+        → spelledPart p ≡ withParts w (spelledOf t rules edges k d (leftPart (p .cell) y (b .split)) (b .left))
+        (spelledOf t rules edges k d (rightPart (p .cell) z (b .split)) (b .right))
         → w < 8589934592 → x ≡ partNumber z (p .cell .to) (b .right)
         → Weighing all (set stack n x) (n + 1) (part (leftPart (p .cell) y (b .split)) (b .left)) (next + 2) (weight + w)
     unfolding pending
@@ -85,7 +86,8 @@ module _ (t rules edges : List ℕ) (k : Scope) (d : Layout) where
         ap spelledPart (rw g (part-number j z (c .to) (b .right) within (digits .right))) in
         record {
           total = rw (add-one n, top, right, end, pending-set stack n n x (c .to) (omega arith))
-              (sym (nested weight w (spelledOf t rules edges k d (leftPart c y j) (b .left)) (spelledOf t rules edges k d (rightPart c z j) (b .right)) (pending stack n (c .to)))
+              (sym (nested weight w (spelledOf t rules edges k d (leftPart c y j) (b .left)) (spelledOf t rules edges k d (rightPart c z j) (b .right))
+              (pending stack n (c .to)))
               ∙ ap (λ q. withParts weight q (pending stack n (c .to))) (sym e) ∙ s .total);
           light = heavier weight w next (s .light) low;
         }

@@ -83,7 +83,8 @@ struct EdgeNumbers {
 // The tree of a part as the table has it: its price plus 1, which is 0 where it is not found, and its back pointer as a number.
 fn tree_of(t: &[u32], d: Layout, part: Part) -> Key
     requires { ⌜ (InTable d (part .cell)) × (part .rank ≤ mostRanks) ⌝ }
-    ensures { λ r. ⌜ (r .price ≡ priceAt (now (t .entry)) d (cellNumber d (part .cell)) (part .rank)) × (r .back ≡ backAt (now (t .entry)) d (cellNumber d (part .cell)) (part .rank)) × (r .back < 4294967296) ⌝ }
+    ensures { λ r. ⌜ (r .price ≡ priceAt (now (t .entry)) d (cellNumber d (part .cell)) (part .rank))
+        × (r .back ≡ backAt (now (t .entry)) d (cellNumber d (part .cell)) (part .rank)) × (r .back < 4294967296) ⌝ }
 {
     let c = cell_number(d, part.cell);
     if part.rank < d.ranks {
@@ -261,7 +262,8 @@ pub fn trace_checked(
 ) -> Traced
     requires { ⌜ (InTable d (part .cell)) × (part .rank ≤ mostRanks) × (scope .edges ≤ digits) ⌝ }
     ensures { λ r. ⌜ ((f : ℕ) → part .cell .to - part .cell .from ≤ f
-        → (r ≡ tracedOf (spelledWeight (now (t .entry)) (now (rules .entry)) (now (edges .entry)) scope d f (part .cell) (part .rank)) (length (traceBack (now (t .entry)) (now (rules .entry)) d f (part .cell) (part .rank))))
+        → (r ≡ tracedOf (spelledWeight (now (t .entry)) (now (rules .entry)) (now (edges .entry)) scope d f (part .cell) (part .rank))
+        (length (traceBack (now (t .entry)) (now (rules .entry)) d f (part .cell) (part .rank))))
         × ((w : ℕ) → spelledWeight (now (t .entry)) (now (rules .entry)) (now (edges .entry)) scope d f (part .cell) (part .rank) ≡ some w
         → now (trace .exit) ≡ storeAll (now (trace .entry)) 0 (traceBack (now (t .entry)) (now (rules .entry)) d f (part .cell) (part .rank)))) ⌝ }
 {

@@ -35,7 +35,8 @@ ghost use Rattle.chart_trace.specs.Trace.{traceBack};
 // pointer.
 fn trace_node(t: &[u32], d: Layout, part: Part, trace: &mut [u32], at: usize) -> BackPointer
     requires { ⌜ (InTable d (part .cell)) × (part .rank ≤ mostRanks) × (at < 4294967296) ⌝ }
-    ensures { λ b. ⌜ (b ≡ backPointer (backAt (now (t .entry)) d (cellNumber d (part .cell)) (part .rank))) × (Digits b) × (now (trace .exit) ≡ set (set (now (trace .entry)) at (b .rule)) (at + 1) (b .left)) ⌝ }
+    ensures { λ b. ⌜ (b ≡ backPointer (backAt (now (t .entry)) d (cellNumber d (part .cell)) (part .rank))) × (Digits b)
+        × (now (trace .exit) ≡ set (set (now (trace .entry)) at (b .rule)) (at + 1) (b .left)) ⌝ }
 {
     let cell = part.cell;
     let back = back_pointer(back_at(t, d, cell_number(d, cell), part.rank));
@@ -48,7 +49,8 @@ fn trace_node(t: &[u32], d: Layout, part: Part, trace: &mut [u32], at: usize) ->
 // within the span, a rule that has no parts.
 fn rule_within(rules: &[u32], c: Cell, b: BackPointer) -> Rule
     requires { ⌜ Digits b ⌝ }
-    ensures { λ x. ⌜ x ≡ pick (ltb (c .from) (b .split)) (pick (ltb (b .split) (c .to)) (ruleAt (now (rules .entry)) (b .rule)) (Rule.Word (symbolOf 0) (word 0) 0)) (Rule.Word (symbolOf 0) (word 0) 0) ⌝ }
+    ensures { λ x. ⌜ x ≡ pick (ltb (c .from) (b .split))
+        (pick (ltb (b .split) (c .to)) (ruleAt (now (rules .entry)) (b .rule)) (Rule.Word (symbolOf 0) (word 0) 0)) (Rule.Word (symbolOf 0) (word 0) 0) ⌝ }
 {
     if c.from < b.split {
         if b.split < c.to {
@@ -93,7 +95,8 @@ pub fn trace_back(
 ) -> usize
     requires { ⌜ (InTable d c) × (rank ≤ mostRanks) ⌝ }
     ensures { λ r. ⌜ ((f : ℕ) → c .to - c .from ≤ f
-        → (now (trace .exit) ≡ storeAll (now (trace .entry)) 0 (traceBack (now (t .entry)) (now (rules .entry)) d f c rank)) × (r ≡ length (traceBack (now (t .entry)) (now (rules .entry)) d f c rank))) ⌝ }
+        → (now (trace .exit) ≡ storeAll (now (trace .entry)) 0 (traceBack (now (t .entry)) (now (rules .entry)) d f c rank))
+        × (r ≡ length (traceBack (now (t .entry)) (now (rules .entry)) d f c rank))) ⌝ }
 {
     let mut stack = [0usize; SPLITS];
     let mut n: usize = 0;

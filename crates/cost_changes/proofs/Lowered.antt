@@ -88,15 +88,22 @@ edges-lowered d i zero x (slot ∷ u) =
     rw (z, map-append (lowerEdge d i x) (slotEdges i slot) (edgesFrom (suc i) u), later-kept d (suc i) i x u (omega arith), slot-lowered d i x slot)
 edges-lowered d i (suc s) x (slot ∷ u) =
     let z : i + suc s ≡ suc i + s = omega arith in
-    rw (z, map-append (lowerEdge d (suc i + s) x) (slotEdges i slot) (edgesFrom (suc i) u), slot-kept d i (suc i + s) x slot (omega arith), edges-lowered d (suc i) s x u)
+    rw (
+      z,
+      map-append (lowerEdge d (suc i + s) x) (slotEdges i slot) (edgesFrom (suc i) u),
+      slot-kept d i (suc i + s) x slot (omega arith),
+      edges-lowered d (suc i) s x u,
+    )
 
 module _ (d s : ℕ) (x : W.Word) where
   -- alike, where the word was heard
   lower-alike : (es : List Edge) → ((f k c : ℕ) → At es f (edge s k x c) → c < notHeard) → Alike es (map (lowerEdge d s x) es)
   unfolding lowerEdge
   lower-alike [] h = tt
-  lower-alike (edge i k y c ∷ es) h =
-      ((refl, refl, refl, ((λ o. less (eqb i s) (eqb (y .0) (x .0)) o), (λ o. back (eqb i s) refl (eqb (y .0) (x .0)) refl o))), lower-alike es (λ f. h (suc f)))
+  lower-alike (edge i k y c ∷ es) h = (
+    (refl, refl, refl, ((λ o. less (eqb i s) (eqb (y .0) (x .0)) o), (λ o. back (eqb i s) refl (eqb (y .0) (x .0)) refl o))),
+    lower-alike es (λ f. h (suc f)),
+  )
     where
       less : (a b : Bool) → c < notHeard → pick a (pick b (c - d) c) c < notHeard
       less true true o = omega arith

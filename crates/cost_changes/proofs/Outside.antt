@@ -18,9 +18,52 @@ use Rattle.derivation.proofs.Lists.{none≢some, at-length}
 use Rattle.derivation.proofs.Ranges.{All, Light}
 use Rattle.derivation.proofs.Slots.{Short, CheapEdges}
 use Rattle.derivation.proofs.Trees.{same-sym}
-use Rattle.cost_changes.specs.Outside.{Cells, lesser, leastUpto, sum, ifThere, inside, around, asLeft, asRight, afterRules, outsideFrom, outsideWithin, outside}
-use Rattle.cost_changes.proofs.Least.{IsLeast, least-unique, Under, lesser-found, lesser-left, lesser-right, upto-found, upto-finds, sum-found, sum-finds, same-found, same-is, there-found, there-finds}
-use Rattle.cost_changes.proofs.Contexts.{Context, whole, on-left, on-right, rim, rim-left, rim-right, Surrounds, nothing, by-right, by-left, surrounds-end, rim-bound}
+use Rattle.cost_changes.specs.Outside.{
+  Cells,
+  lesser,
+  leastUpto,
+  sum,
+  ifThere,
+  inside,
+  around,
+  asLeft,
+  asRight,
+  afterRules,
+  outsideFrom,
+  outsideWithin,
+  outside,
+}
+use Rattle.cost_changes.proofs.Least.{
+  IsLeast,
+  least-unique,
+  Under,
+  lesser-found,
+  lesser-left,
+  lesser-right,
+  upto-found,
+  upto-finds,
+  sum-found,
+  sum-finds,
+  same-found,
+  same-is,
+  there-found,
+  there-finds,
+}
+use Rattle.cost_changes.proofs.Contexts.{
+  Context,
+  whole,
+  on-left,
+  on-right,
+  rim,
+  rim-left,
+  rim-right,
+  Surrounds,
+  nothing,
+  by-right,
+  by-left,
+  surrounds-end,
+  rim-bound,
+}
 use Rattle.cost_changes.proofs.Inside.{inside-least}
 
 module _ (g : Grammar) (es : List Edge) (S : Sym) (n : ℕ) where

@@ -28,7 +28,12 @@ plain-values : (S W : ℕ) (rs : List MarkedRule) → values (markedRulesEntries
 unfolding markedRulesEntries rulesEntries
 plain-values S W [] = refl
 plain-values S W (marked r m ∷ rs) =
-    rw (append-nil (ruleEntries S W r), map-append valueOf (ruleEntries S W r) (markedRulesEntries false S W rs), map-append valueOf (ruleEntries S W r) (rulesEntries S W (map ruleIn rs)), plain-values S W rs)
+    rw (
+      append-nil (ruleEntries S W r),
+      map-append valueOf (ruleEntries S W r) (markedRulesEntries false S W rs),
+      map-append valueOf (ruleEntries S W r) (rulesEntries S W (map ruleIn rs)),
+      plain-values S W rs,
+    )
 
 -- and one with marks has the rows of both arrays
 module _ (S W : ℕ) where
@@ -61,10 +66,12 @@ module _ (S W : ℕ) where
   marked-values [] l marks k f = refl
   marked-values (marked (Pair h x y w) m ∷ rs) l marks k f =
       let (row, g) = behind 0 (h .0) w (x .0) (y .0) (marked (Pair h x y w) m) rs l marks k refl f in
-      ap (λ (q : List ℕ). q ++ markedRows l marks (suc k) (length rs)) row ∙ ap (λ (q : List ℕ). (0 ∷ h .0 ∷ w ∷ x .0 ∷ y .0 ∷ m ∷ []) ++ q) (marked-values rs l marks (suc k) g)
+      ap (λ (q : List ℕ). q ++ markedRows l marks (suc k) (length rs)) row
+      ∙ ap (λ (q : List ℕ). (0 ∷ h .0 ∷ w ∷ x .0 ∷ y .0 ∷ m ∷ []) ++ q) (marked-values rs l marks (suc k) g)
   marked-values (marked (Word h x w) m ∷ rs) l marks k f =
       let (row, g) = behind 1 (h .0) w (x .0) 0 (marked (Word h x w) m) rs l marks k refl f in
-      ap (λ (q : List ℕ). q ++ markedRows l marks (suc k) (length rs)) row ∙ ap (λ (q : List ℕ). (1 ∷ h .0 ∷ w ∷ x .0 ∷ 0 ∷ m ∷ []) ++ q) (marked-values rs l marks (suc k) g)
+      ap (λ (q : List ℕ). q ++ markedRows l marks (suc k) (length rs)) row
+      ∙ ap (λ (q : List ℕ). (1 ∷ h .0 ∷ w ∷ x .0 ∷ 0 ∷ m ∷ []) ++ q) (marked-values rs l marks (suc k) g)
 
 module _ (m : meaning.Marked) (l marks : List ℕ) (b : Begins (ruleNumbers (grammarOf m)) l) (c : Begins (markNumbers m) marks) where
   size : length (map ruleIn (m .rules)) ≡ length (m .rules)
@@ -97,7 +104,8 @@ module _ (m : meaning.Marked) (l marks : List ℕ) (b : Begins (ruleNumbers (gra
   marked-is e joined after stored room =
       let rows : markedRows l marks 0 (length (map ruleIn (m .rules))) ≡ values (markedRulesEntries true (m .symbols) (m .words) (m .rules)) =
       ap (markedRows l marks 0) size ∙ marked-values (m .symbols) (m .words) (m .rules) l marks 0 from-first in
-      let n : length (values (markedRulesEntries true (m .symbols) (m .words) (m .rules))) ≡ 6 * length (m .rules) = length-marked true (m .symbols) (m .words) (m .rules) in
+      let n : length (values (markedRulesEntries true (m .symbols) (m .words) (m .rules))) ≡ 6 * length (m .rules) =
+      length-marked true (m .symbols) (m .words) (m .rules) in
       let begun : take (6 * length (m .rules)) after ≡ values (markedRulesEntries true (m .symbols) (m .words) (m .rules)) =
       rw (stored, rows, ← n) (stored-begins joined (values (markedRulesEntries true (m .symbols) (m .words) (m .rules))) (omega (arith, n, room))) in
       rw (e, size, begun)

@@ -49,7 +49,9 @@ unfolding sizesFrom grammarFrom
 sizes-first marking src at =
     let k = rest marking src in
     after-after (fieldAt src at (sizeField 6 32)) _ k
-    ∙ after-same (fieldAt src at (sizeField 6 32)) _ _ (λ S at. after-after (fieldAt src at (sizeField 8 200)) _ k ∙ after-same (fieldAt src at (sizeField 8 200)) _ _ (λ W at. after-after (fieldAt src at (sizeField 9 256)) _ k))
+    ∙ after-same (fieldAt src at (sizeField 6 32)) _ _
+    (λ S at. after-after (fieldAt src at (sizeField 8 200)) _ k
+    ∙ after-same (fieldAt src at (sizeField 8 200)) _ _ (λ W at. after-after (fieldAt src at (sizeField 9 256)) _ k))
 
 -- what a `SizesRead` says of the parse
 abbrev parseOf : SizesRead → Parse Z.Sizes
@@ -88,7 +90,8 @@ module _ (marking : Bool) (src : Source) (at : ℕ) where
       pub sheet-unfit : unfit marking src (z .rules) ≡ true → GrammarTold marking src at (Refused 41) before rules marks
       sheet-unfit u = grammar-refused 41 before rules marks (rw u at (sym after-sizes))
 
-      module _ (u : unfit marking src (z .rules) ≡ false) {body : Read} (t : RulesTold marking src (z .symbols) (z .words) (z .rules) (c .at) body before rules marks) where
+      module _ (u : unfit marking src (z .rules) ≡ false) {body : Read}
+          (t : RulesTold marking src (z .symbols) (z .words) (z .rules) (c .at) body before rules marks) where
         abbrev all : Parse (List MarkedRule)
         all = rulesFrom marking src (z .symbols) (z .words) (z .rules) (c .at) []
 
@@ -98,7 +101,8 @@ module _ (marking : Bool) (src : Source) (at : ℕ) where
             let m-is : m ≡ n = rw b at h in
             rw m-is (grammar-refused n before rules marks (rw (u, p) at (sym after-sizes)))
 
-        pub rules-read : {v : ℕ} {d : Cursor} → body ≡ read.the-variants.Number v d → Bounded z → c .at ≤ at + 23 → GrammarTold marking src at (Sizes z d) before rules marks
+        pub rules-read : {v : ℕ} {d : Cursor} → body ≡ read.the-variants.Number v d → Bounded z → c .at ≤ at + 23
+            → GrammarTold marking src at (Sizes z d) before rules marks
         rules-read {v} {d} b h near =
             let (rs, x, l) = counted-out all (number-out (counted all) (sym (t .answer) ∙ b)) in
             let (count, far) = rw b at (t .near) in
@@ -118,7 +122,8 @@ sizes-in-failed (parsed m at) e = cc
 sizes-in-failed (failed n) e = cc
 
 -- the end of a block or a sheet
-module _ {marking : Bool} {src : Source} {at : ℕ} {r : SizesRead} {before rules marks : List ℕ} (t : GrammarTold marking src at r before rules marks) (end : ℕ → Bool) (n : ℕ) where
+module _ {marking : Bool} {src : Source} {at : ℕ} {r : SizesRead} {before rules marks : List ℕ} (t : GrammarTold marking src at r before rules marks)
+    (end : ℕ → Bool) (n : ℕ) where
   -- the verdict that goes with what was read and the end
   abbrev verdict : Verdict meaning.Marked
   verdict = finish end n (grammarFrom marking src at)

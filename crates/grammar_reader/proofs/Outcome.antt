@@ -9,7 +9,8 @@ use Rattle.grammar_reader.specs.declared.Sizes.{Sizes}
 use Rattle.grammar_reader.specs.declared.GrammarRead.{GrammarRead}
 use Rattle.grammar_reader.specs.declared.GrammarRead.the-variants.{Grammar, Refused}
 
-pub accepted-told : {r : GrammarRead} (v : Verdict meaning.Grammar) {z : Sizes} → r ≡ answerOf v → r ≡ Grammar z → (g : meaning.Grammar) × (v ≡ accepted g) × (z ≡ sizes g)
+pub accepted-told : {r : GrammarRead} (v : Verdict meaning.Grammar) {z : Sizes} → r ≡ answerOf v → r ≡ Grammar z → (g : meaning.Grammar) × (v ≡ accepted g)
+    × (z ≡ sizes g)
 accepted-told (accepted g) {z} p q = (g, cc, (let e : Grammar z ≡ Grammar (sizes g) = sym q ∙ p in cc))
 accepted-told (refused n) p q = let z : _≡_ {A = ℕ} 0 1 = cc in absurd (omega arith)
 

@@ -60,6 +60,7 @@ module _ (v : Verdict meaning.Marked) {r : answer.MarkedRead} {before rules mark
   pub plain-read : {z : Sizes} {b : Bool} → r ≡ answer.the-variants.Grammar z b → Plain v before rules (Grammar z)
   plain-read {z} {b} e = go v (sym (t .answer) ∙ e) (t .stands) (t .laid) (rw e at (t .bounds))
     where
-      go : (v : Verdict meaning.Marked) → markedAnswer v ≡ answer.the-variants.Grammar z b → MarkedIn v rules marks → MarkedOver v before rules → Bounded z → Plain v before rules (Grammar z)
+      go : (v : Verdict meaning.Marked) → markedAnswer v ≡ answer.the-variants.Grammar z b → MarkedIn v rules marks → MarkedOver v before rules → Bounded z
+          → Plain v before rules (Grammar z)
       go (accepted m) e h o s = let k : z ≡ sizes (meaning.grammarOf m) = cc in (ap Grammar k, h .0, s, o)
       go (refused m) e h o s = let z : _≡_ {A = ℕ} 0 1 = cc in absurd (omega arith)

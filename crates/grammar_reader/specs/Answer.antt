@@ -1,5 +1,5 @@
--- The answers of the grammar readers: document 01, "Where an answer is an enum, a definition sets out this paper's number
--- and values for each of its cases". Assumes nothing.
+-- The answers of the grammar readers: document 01, "Where an answer is an enum, a definition sets out this paper's number and values for
+-- each of its cases". Assumes nothing. Nobody need believe this page: no service's promise names it.
 use mathlib.Core.Path.{_≡_}
 use mathlib.Core.List.{List}
 use Prim.Native.Nat.{ℕ, _≤_}

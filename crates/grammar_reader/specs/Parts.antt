@@ -1,4 +1,5 @@
--- The parts of a grammar reader, for the contracts of its functions: document 01, "Packed blocks". Assumes nothing.
+-- The parts of a grammar reader, for the contracts of its functions: document 01, "Packed blocks". Assumes nothing. Nobody need believe
+-- this page: `read_block` promises what Grammar says.
 use mathlib.Core.Path.{_≡_}
 use mathlib.Core.Bool.{Bool}
 use mathlib.Core.List.{List}

@@ -105,7 +105,8 @@ fn read_grammar(
     marks: &mut [u32],
 ) -> SizesRead
     requires { do ⌜ (at < 2 ^ 7) × ((← ⟦RULES_LENGTH⟧) ≤ length (now rules)) × ((← ⟦MAX_RULES⟧) ≤ length (now marks)) ⌝ }
-    ensures { λ r. ⌜ GrammarTold marked (sourceOf src (now (block .entry)) (now (sheet .entry))) at r (now (rules .entry)) (now (rules .exit)) (now (marks .exit)) ⌝ }
+    ensures { λ r. ⌜ GrammarTold marked (sourceOf src (now (block .entry)) (now (sheet .entry))) at r (now (rules .entry)) (now (rules .exit))
+        (now (marks .exit)) ⌝ }
 {
     let head = read_sizes(src, block, sheet, at);
     let SizesRead::Sizes(sizes, c) = head else {

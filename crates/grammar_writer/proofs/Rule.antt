@@ -26,7 +26,8 @@ unfolding puts
 start-stands out at w kind head m e₁ e₂ e₃ = rw (e₃, e₂, e₁)
 
 -- and the body behind them
-module _ (S W at : ℕ) {a w : ℕ} (h : Sym) (m kind : ℕ) {rule : Rule} (out : List ℕ) {o₁ : List ℕ} (ew : w ≡ widthOf (S - 1)) (lw : w ≤ 8) (ea : a ≡ at + 1 + w + 16)
+module _ (S W at : ℕ) {a w : ℕ} (h : Sym) (m kind : ℕ) {rule : Rule} (out : List ℕ) {o₁ : List ℕ} (ew : w ≡ widthOf (S - 1)) (lw : w ≤ 8)
+    (ea : a ≡ at + 1 + w + 16)
     (e₁ : o₁ ≡ puts out at (fld 1 kind ∷ fld w (h .0) ∷ fld 16 m ∷ [])) where
   pub pair-stands : {x y : Sym} {o₂ o₃ : List ℕ} → kind ≡ 0 → rule ≡ Pair h x y m → o₂ ≡ put o₁ a w (x .0) → o₃ ≡ put o₂ (a + w) w (y .0)
       → Stands S W rule out at o₃ (a + w + w)

@@ -30,7 +30,8 @@ module _ (b : Bool) (S W : ℕ) (l marks : List ℕ) (n i : ℕ) where
     rules-more =
         let z : n - i ≡ suc (n - (i + 1)) = omega arith in
         rw (z, add-one i)
-        (map-append fldOf (markedRuleEntries b S W (marked (ruleAt l i) (getD marks i 0))) (markedRulesEntries b S W (markedRulesAt l marks (suc i) (n - suc i))))
+        (map-append fldOf (markedRuleEntries b S W (marked (ruleAt l i) (getD marks i 0)))
+        (markedRulesEntries b S W (markedRulesAt l marks (suc i) (n - suc i))))
 
     pub widths-more : widths (rulesFields b S W l marks i (n - i)) ≡ widths ruleFields + widths (rulesFields b S W l marks (i + 1) (n - (i + 1)))
     widths-more = rw rules-more (widths-append ruleFields (rulesFields b S W l marks (i + 1) (n - (i + 1))))

@@ -143,7 +143,8 @@ fn write_rules(out: &mut [u8], start: usize, form: GrammarForm, rules: &[u32], m
     requires { do
       ⌜ (start ≤ (← ⟦GRAMMAR_HEAD⟧)) × (form .rules ≤ (← ⟦MAX_RULES⟧)) × Ranges (form .symbols) (form .words)
           × (start + widths (rulesFields (form .marked) (form .symbols) (form .words) (now rules) (now marks) 0 (form .rules)) ≤ 8 * length (now out)) ⌝ }
-    ensures { λ _. ⌜ now (out .exit) ≡ puts (now (out .entry)) start (rulesFields (form .marked) (form .symbols) (form .words) (now (rules .entry)) (now (marks .entry)) 0 (form .rules)) ⌝ }
+    ensures { λ _. ⌜ now (out .exit) ≡ puts (now (out .entry)) start
+        (rulesFields (form .marked) (form .symbols) (form .words) (now (rules .entry)) (now (marks .entry)) 0 (form .rules)) ⌝ }
 {
     let n = form.rules;
     let mut at = start;
@@ -158,7 +159,8 @@ fn write_rules(out: &mut [u8], start: usize, form: GrammarForm, rules: &[u32], m
 // The length of the block of a grammar whose rules stand in an array.
 fn grammar_length(form: GrammarForm, rules: &[u32]) -> usize
     requires { do ⌜ (form .rules ≤ (← ⟦MAX_RULES⟧)) × Ranges (form .symbols) (form .words) ⌝ }
-    ensures { λ r. ⌜ ((marks : List ℕ) → r ≡ length (blockOf (grammarFields (form .marked) (form .symbols) (form .words) (form .rules) (now (rules .entry)) marks))) ⌝ }
+    ensures { λ r. ⌜ ((marks : List ℕ) → r ≡ length
+        (blockOf (grammarFields (form .marked) (form .symbols) (form .words) (form .rules) (now (rules .entry)) marks))) ⌝ }
 {
     (GRAMMAR_HEAD + rules_bits(rules, form) + 7) / 8
 }
@@ -178,7 +180,9 @@ fn write_fields(out: &mut [u8], form: GrammarForm, rules: &[u32], marks: &[u32])
     requires { do
       ⌜ (form .rules ≤ (← ⟦MAX_RULES⟧)) × Ranges (form .symbols) (form .words)
           × (length (blockOf (grammarFields (form .marked) (form .symbols) (form .words) (form .rules) (now rules) (now marks))) ≤ length (now out)) ⌝ }
-    ensures { λ _. ⌜ now (out .exit) ≡ written (accepted (blockOf (grammarFields (form .marked) (form .symbols) (form .words) (form .rules) (now (rules .entry)) (now (marks .entry))))) (now (out .entry)) ⌝ }
+    ensures { λ _. ⌜ now (out .exit) ≡ written
+        (accepted (blockOf (grammarFields (form .marked) (form .symbols) (form .words) (form .rules) (now (rules .entry)) (now (marks .entry)))))
+        (now (out .entry)) ⌝ }
 {
     let symbols = form.symbols;
     let words = form.words;
@@ -193,7 +197,9 @@ fn write_fields(out: &mut [u8], form: GrammarForm, rules: &[u32], marks: &[u32])
 // The block of a grammar whose rules and marks stand in arrays, in front of what stands beyond it.
 pub fn write_grammar(out: &mut [u8], form: GrammarForm, rules: &[u32], marks: &[u32]) -> Written
     requires { do ⌜ (form .rules ≤ (← ⟦MAX_RULES⟧)) × Ranges (form .symbols) (form .words) ⌝ }
-    ensures { λ r. ⌜ Writes (accepted (blockOf (grammarFields (form .marked) (form .symbols) (form .words) (form .rules) (now (rules .entry)) (now (marks .entry))))) (now (out .entry)) r (now (out .exit)) ⌝ }
+    ensures { λ r. ⌜ Writes (accepted (blockOf
+        (grammarFields (form .marked) (form .symbols) (form .words) (form .rules) (now (rules .entry)) (now (marks .entry))))) (now (out .entry)) r
+        (now (out .exit)) ⌝ }
 {
     let length = grammar_length(form, rules);
     if out.len() < length {

@@ -36,12 +36,14 @@ module _ (src : Source) (W at : ℕ) where
       unfolding graphFrom
       no-edges e = rw (p, q, e)
 
-      pub all-edges : {es : List Edge} {next : ℕ} → graphEdgesFrom src W P m b [] ≡ parsed es next → graphFrom src W at ≡ parsed (record { places = P; edges = es }) next
+      pub all-edges : {es : List Edge} {next : ℕ} → graphEdgesFrom src W P m b [] ≡ parsed es next
+          → graphFrom src W at ≡ parsed (record { places = P; edges = es }) next
       unfolding graphFrom
       all-edges e = rw (p, q, e)
 
   -- edges that are stored at the front, with room for them, are the graph of the answer
-  pub graph-placed : {P v : ℕ} {c : Cursor} (before : List ℕ) {after : List ℕ} (es : List Edge) → graphFrom src W at ≡ parsed (record { places = P; edges = es }) (c .at)
+  pub graph-placed : {P v : ℕ} {c : Cursor} (before : List ℕ) {after : List ℕ} (es : List Edge)
+      → graphFrom src W at ≡ parsed (record { places = P; edges = es }) (c .at)
       → v ≡ length es → after ≡ storeAll before 0 (edgeNumbers es) → 384 ≤ length before
       → GraphAs before after (graphFrom src W at) (B.the-variants.Read (record { places = P; edges = v }) c)
   unfolding graphEntries

@@ -36,7 +36,8 @@ found-told {c = c} (found es next h) e =
     (es, ap (λ (d : Cursor). parsed es (d .at)) same, cc, h)
 found-told (not-found n) e = let z : _≡_ {A = ℕ} 0 1 = cc in absurd (omega arith)
 
-pub not-found-told : {before after : List ℕ} {x : Parse (List Edge)} {r : R.Read} {n : ℕ} → EdgesAs before after x r → r ≡ R.the-variants.Refused n → x ≡ failed n
+pub not-found-told : {before after : List ℕ} {x : Parse (List Edge)} {r : R.Read} {n : ℕ} → EdgesAs before after x r → r ≡ R.the-variants.Refused n → x
+    ≡ failed n
 not-found-told (found es next h) e = let z : _≡_ {A = ℕ} 0 1 = cc in absurd (omega arith)
 not-found-told (not-found n) e = cc
 

@@ -72,7 +72,8 @@ module _ (rules : List R.Rule) (src : Source) (at : ℕ) where
     unfolding nodeFrom nodeBy
     pair-node o = rw (p, o)
 
-    pub no-edge : {A : Sym} {x : W.Word} {w n : ℕ} → getElem? rules r ≡ some (Word A x w) → fieldAt src mid edgeNumber ≡ failed n → nodeFrom rules src at ≡ failed n
+    pub no-edge : {A : Sym} {x : W.Word} {w n : ℕ} → getElem? rules r ≡ some (Word A x w) → fieldAt src mid edgeNumber ≡ failed n
+        → nodeFrom rules src at ≡ failed n
     unfolding nodeFrom nodeBy
     no-edge o q = rw (p, o, q)
 

@@ -54,7 +54,8 @@ module _ (R : ℕ) (rules : List ℕ) where
         let x : suc (2 * i) ≡ 2 * i + 1 = omega arith in
         let a = drop-cons trace (2 * i) 0 (omega arith) in
         let b = drop-cons trace (suc (2 * i)) 0 (omega arith) in
-        rw (z, a, b, y, x, e) (map-append fldOf (nodeEntries R (nodeAt trace i)) (traceEntries R (nodesIn rules (take (2 * (n - (i + 1))) (drop (2 * (i + 1)) trace))))
+        rw (z, a, b, y, x, e) (map-append fldOf (nodeEntries R (nodeAt trace i))
+        (traceEntries R (nodesIn rules (take (2 * (n - (i + 1))) (drop (2 * (i + 1)) trace))))
         ∙ ap (λ (fs : List Fld). fs ++ rest trace n (i + 1)) (node-flds R (nodeAt trace i)))
 
     pub node-remains : {w : ℕ} → w ≡ widthOf (R - 1) → i < n → 2 * n ≤ length trace → {o out : List ℕ} {start at : ℕ} {fs : List Fld}

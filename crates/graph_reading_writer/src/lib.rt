@@ -65,7 +65,8 @@ fn write_trace(out: &mut [u8], rules: &[u32], count: usize, trace: &[u32], n: us
     requires { do
       ⌜ (1 ≤ count) × (count ≤ (← ⟦MAX_RULES⟧)) × (n ≤ (← ⟦MAX_NODES⟧)) × (2 * n ≤ length (now trace))
           × (34 + widths (flds (traceEntries count (nodesIn (now rules) (take (2 * n) (now trace))))) ≤ 8 * length (now out)) ⌝ }
-    ensures { λ _. ⌜ now (out .exit) ≡ puts (now (out .entry)) 34 (flds (traceEntries count (nodesIn (now (rules .entry)) (take (2 * n) (now (trace .entry)))))) ⌝ }
+    ensures { λ _. ⌜ now (out .exit) ≡ puts (now (out .entry)) 34 (flds (traceEntries count (nodesIn (now (rules .entry)) (take (2 * n) (now (trace .entry))))))
+        ⌝ }
 {
     let width = bits::width_below(count);
     let mut at = GRAPH_READING_HEAD;

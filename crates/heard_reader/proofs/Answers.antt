@@ -42,7 +42,13 @@ module _ (W : ℕ) (s before after : List ℕ) {r : GR.GraphRead} (told : r ≡ 
     where
       go : (g : Graph) → graphBlock W s ≡ accepted g → z ≡ G.graphSize g → Overlaid (edgeNumbers (g .edges)) before after → G.Sized (GR.the-variants.Graph z)
           → Promised (asGraph W s) before after (Heard (record { graph = true; last = z .places - 1; edges = z .edges }))
-      go g v k b size = rw v (record { answer = rw k; edges = overlaid-begins (edgeNumbers (g .edges)) before after b; laid = b; sized = (omega arith, omega arith, omega arith, omega arith) })
+      go g v k b size = rw v (record {
+        answer = rw k;
+        edges = overlaid-begins (edgeNumbers (g .edges)) before after b;
+        laid = b;
+        sized =
+            (omega arith, omega arith, omega arith, omega arith);
+      })
 
 -- of slots
 slots-few : (W : ℕ) (u : Utterance) → ValidUtterance W u → (1 ≤ length u) × (length u ≤ 24) × (1 ≤ length (edges u)) × (length (edges u) ≤ 168)
@@ -67,4 +73,10 @@ module _ (W : ℕ) (s : List ℕ) {r : UR.UtteranceRead} (told : r ≡ U.answerO
           let same : edgesIn array (z .count) ≡ edges u = rw k (edges-in W u array valid d) in
           let n : found ≡ length (edges u) = f ∙ ap length same in
           let laid : Overlaid (edgeNumbers (edges u)) before after = rw same at b in
-          rw v (record { answer = rw (k, n); edges = overlaid-begins (edgeNumbers (edges u)) before after laid; laid = laid; sized = rw (k, n) (slots-few W u valid) })
+          rw v (record {
+            answer = rw (k, n);
+            edges = overlaid-begins (edgeNumbers (edges u)) before after laid;
+            laid = laid;
+            sized =
+                rw (k, n) (slots-few W u valid);
+          })

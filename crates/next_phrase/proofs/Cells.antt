@@ -9,7 +9,22 @@ use native.Mathlib.Omega.{arith}
 use borrow.Author.Tests.{eq-eqb, ne-eqb, lt-ltb, le-ltb}
 use lib.ListN.{length}
 use Rattle.derivation.specs.Order.{_▸_}
-use Rattle.derivation.proofs.Comparison.{lt≢eq, lt≢gt, eq≢gt, compare-lt, compare-gt, compare-below, compare-same, compare-lawful, turn-gt, ▸-eq, ▸-lt, ▸-first, ▸-second, ▸-gt}
+use Rattle.derivation.proofs.Comparison.{
+  lt≢eq,
+  lt≢gt,
+  eq≢gt,
+  compare-lt,
+  compare-gt,
+  compare-below,
+  compare-same,
+  compare-lawful,
+  turn-gt,
+  ▸-eq,
+  ▸-lt,
+  ▸-first,
+  ▸-second,
+  ▸-gt,
+}
 use Rattle.phrases.specs.Phrases.{wordOrder, Precedes}
 use Rattle.phrases.specs.Numbers.{scale, noNumber, lesser}
 use Rattle.phrases.proofs.Order.{order-lawful, order-join}
@@ -116,6 +131,7 @@ module _ (r j : ℕ) (h : j ≤ r) (w w′ : List ℕ) (size : length w ≡ j) {
     kept-two a (kept-joined (λ t z. z .0) bs ca) (kept-joined (λ t z. z .0) ba cl)
         (λ t (us, vs, (p, x), (q, y), e). ((us, vs, p, q, e), rw (e, order-parts us vs p) (▸-second _ _ x y)))
         (λ t (us, vs, (p, x), q, e). ((us, vs, p, q, e), rw (e, order-parts us vs p) (▸-first _ _ x)))
-        (λ t (us, vs, p, q, e) z. ⊎-elim (λ x. inr (us, vs, (p, x), q, e)) (λ (x, y). inl (us, vs, (p, x), (q, y), e)) (▸-lt _ _ (sym (order-parts us vs p) ∙ rw e at z))),
+        (λ t (us, vs, p, q, e) z. ⊎-elim (λ x. inr (us, vs, (p, x), q, e)) (λ (x, y). inl (us, vs, (p, x), (q, y), e))
+        (▸-lt _ _ (sym (order-parts us vs p) ∙ rw e at z))),
     kept-lesser l (kept-joined (λ t z. z) bl cl),
   )

@@ -34,9 +34,11 @@ module _ (n x : ℕ) (s before : List ℕ) (size : length s ≡ n) (bytes : Byte
       → (rest % 1099511627776 * 256 ≡ placed 6 (drop (x + 1) s)) × (set out x (rest / 1099511627776 % 256) ≡ paste before 0 s (x + 1))
   digit-more l {rest} {out} e f =
       let z = drop-cons s x 0 (omega arith) in
-      let (p, q) = first-digit (getD s x 0) (drop (suc x) s) (byte-at s x (omega arith) bytes) (simp length-drop (omega arith)) (drop-bytes (suc x) s bytes) (rw z at e) in
+      let (p, q) = first-digit (getD s x 0) (drop (suc x) s) (byte-at s x (omega arith) bytes) (simp length-drop (omega arith)) (drop-bytes (suc x) s bytes)
+      (rw z at e) in
       let k = paste-suc before 0 s x 0 (omega arith) (omega arith) in
-      let at : set (paste before 0 s x) (0 + x) (getD s x 0) ≡ set (paste before 0 s x) x (getD s x 0) = ap (λ (n : ℕ). set (paste before 0 s x) n (getD s x 0)) (zero-add x) in
+      let at : set (paste before 0 s x) (0 + x) (getD s x 0) ≡ set (paste before 0 s x) x (getD s x 0) =
+      ap (λ (n : ℕ). set (paste before 0 s x) n (getD s x 0)) (zero-add x) in
       (rw (add-one x) q, rw (p, f, add-one x) (sym at ∙ k))
 
   pub digits-all : n ≤ x → x ≤ n → {out : List ℕ} → out ≡ paste before 0 s x → out ≡ s ++ drop n before

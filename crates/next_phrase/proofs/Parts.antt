@@ -22,7 +22,8 @@ pub split-is : (t : List ℕ) (i m : ℕ) (b c : Sym) (j : ℕ) (best : Cell) {x
 unfolding withSplit
 split-is t i m b c j best p q f k e = rw (f, k, p, q) at e
 
-pub rule-is : (rules s : List ℕ) (i m : ℕ) (t : List ℕ) (r : ℕ) {h x : ℕ} {u v : Cell} {t′ : List ℕ} → h ≡ getD rules (5 * r + 1) 0 → x ≡ cellOver (symbolOf (h % 32)) i m
+pub rule-is : (rules s : List ℕ) (i m : ℕ) (t : List ℕ) (r : ℕ) {h x : ℕ} {u v : Cell} {t′ : List ℕ} → h ≡ getD rules (5 * r + 1) 0 → x
+    ≡ cellOver (symbolOf (h % 32)) i m
     → u ≡ cellAt t x → v ≡ withRule t s i m u (fittedAt rules r) → t′ ≡ putCell t x v → t′ ≡ addRule rules s i m t r
 unfolding addRule
 rule-is rules s i m t r p q f k e = rw (k, f, q, p) at e
@@ -41,7 +42,8 @@ module _ (rules : List ℕ) (count : ℕ) (s t : List ℕ) (p : ℕ) where
 pub head-is : (rules : List ℕ) (r : ℕ) → headOf (fittedAt rules r) .0 ≡ getD rules (5 * r + 1) 0
 head-is rules r = go (eqb (getD rules (5 * r) 0) 0)
   where
-    go : (x : Bool) → headOf (fitted (pick x (Pair (symbolOf (getD rules (5 * r + 1) 0)) (symbolOf (getD rules (5 * r + 3) 0)) (symbolOf (getD rules (5 * r + 4) 0)) (getD rules (5 * r + 2) 0))
+    go : (x : Bool) → headOf (fitted (pick x
+        (Pair (symbolOf (getD rules (5 * r + 1) 0)) (symbolOf (getD rules (5 * r + 3) 0)) (symbolOf (getD rules (5 * r + 4) 0)) (getD rules (5 * r + 2) 0))
         (Word (symbolOf (getD rules (5 * r + 1) 0)) (word (getD rules (5 * r + 3) 0)) (getD rules (5 * r + 2) 0)))) .0 ≡ getD rules (5 * r + 1) 0
     go true = refl
     go false = refl

@@ -150,7 +150,8 @@ module _ (g : Grammar) (v : ValidGrammar g) (rules : List ℕ) (begins : Begins 
     here-head k =
         let A = symbolOf (getD rules (5 * x + 1) 0 % 32) in
         over-at i m (First (suc x) A m) own
-        (over-same i m (λ u. First x A m u ⊎ Made g m (fittedAt rules x) u) (First (suc x) A m) (withRule t s i m (cellAt t (headCell rules x i m)) (fittedAt rules x))
+        (over-same i m (λ u. First x A m u ⊎ Made g m (fittedAt rules x) u) (First (suc x) A m)
+        (withRule t s i m (cellAt t (headCell rules x i m)) (fittedAt rules x))
         (λ u. ⊎-elim (more-first x A m u) (λ z. (x, omega arith, (head, z)))) (λ u z. ⊎-elim inl (λ y. inr (y .1)) (first-more x A m u z))
         (added (cellAt t (headCell rules x i m)) (First x A m) k))
 
@@ -166,7 +167,8 @@ module _ (g : Grammar) (v : ValidGrammar g) (rules : List ℕ) (begins : Begins 
     step = (
       size,
       λ q a l b. (
-        (λ z f. over-at (q % 6) (q / 6 + 1) (First (length (g .rules)) (symbolOf a) (q / 6 + 1)) (other (q * 32 + a) (λ y. omega arith)) (inv .1 q a l b .0 z f)),
+        (λ z f. over-at (q % 6) (q / 6 + 1) (First (length (g .rules)) (symbolOf a) (q / 6 + 1)) (other (q * 32 + a) (λ y. omega arith))
+            (inv .1 q a l b .0 z f)),
         (λ e. same q a l b e),
         (λ z f. over-at (q % 6) (q / 6 + 1) (First 0 (symbolOf a) (q / 6 + 1)) (other (q * 32 + a) (λ y. omega arith)) (inv .1 q a l b .2 z f)),
       ),
@@ -198,7 +200,15 @@ module _ (g : Grammar) (v : ValidGrammar g) (rules : List ℕ) (begins : Begins 
 
   left-out : (p : ℕ) (t : List ℕ) → length s < p % 6 + (p / 6 + 1) → Inv p 0 t → Inv (suc p) 0 t
   left-out p t h inv =
-      next-part p t (inv .0, λ q a l b. (inv .1 q a l b .0, (λ e f. absurd (let k : p % 6 + (p / 6 + 1) ≤ length s = rw e at f in omega arith)), inv .1 q a l b .2))
+      next-part p t (
+        inv .0,
+        λ q a l b. (
+          inv .1 q a l b .0,
+          (λ e f. absurd (let k : p % 6 + (p / 6 + 1) ≤ length s = rw e at f in omega arith)),
+          inv .1 q a l
+              b .2,
+        ),
+      )
 
   part-kept : (p : ℕ) (t : List ℕ) → Inv p 0 t → Inv (suc p) 0 (partStep rules (length (g .rules)) s t p)
   unfolding partStep fillPart
@@ -207,7 +217,8 @@ module _ (g : Grammar) (v : ValidGrammar g) (rules : List ℕ) (begins : Begins 
       go : (x : Bool) → ltb (length s) (p % 6 + (p / 6 + 1)) ≡ x → Inv (suc p) 0 (pick x t (fillPart rules (length (g .rules)) s (p % 6) (p / 6 + 1) t))
       go true e = left-out p t (ltb-true (length s) (p % 6 + (p / 6 + 1)) e) inv
       go false e =
-          next-part p (fillPart rules (length (g .rules)) s (p % 6) (p / 6 + 1) t) (iter-keeps (Inv p) (addRule rules s (p % 6) (p / 6 + 1)) t (length (g .rules)) inv
+          next-part p (fillPart rules (length (g .rules)) s (p % 6) (p / 6 + 1) t)
+          (iter-keeps (Inv p) (addRule rules s (p % 6) (p / 6 + 1)) t (length (g .rules)) inv
           (λ x u l k. step p (p % 6) (p / 6 + 1) refl refl (ltb-false (length s) (p % 6 + (p / 6 + 1)) e) x u k l))
 
   -- a table of which each number stands for none
@@ -221,8 +232,10 @@ module _ (g : Grammar) (v : ValidGrammar g) (rules : List ℕ) (begins : Begins 
             (rw (fresh (3 * (q * 32 + a)) (omega arith)) (omega arith)) (rw (fresh (3 * (q * 32 + a) + 1) (omega arith)) (omega arith))
             (rw (fresh (3 * (q * 32 + a) + 2) (omega arith)) (omega arith))
 
-    pub start-holds : 0 < length s → Holds 6 s (Of g (symbolOf 0) (length s)) (cellAt (fillTable rules (length (g .rules)) s t) (cellOver (symbolOf 0) 0 (length s)))
+    pub start-holds : 0 < length s → Holds 6 s (Of g (symbolOf 0) (length s))
+        (cellAt (fillTable rules (length (g .rules)) s t) (cellOver (symbolOf 0) 0 (length s)))
     unfolding fillTable
     start-holds pos =
         let inv = iter-keeps (λ p u. Inv p 0 u) (partStep rules (length (g .rules)) s) t (6 * length s) empty (λ p u l k. part-kept p u k) in
-        rw (take-length s) at (shorter (6 * length s) 0 (fillTable rules (length (g .rules)) s t) inv (symbolOf 0) 0 (length s) (omega arith) pos (omega arith) (omega arith))
+        rw (take-length s) at (shorter (6 * length s) 0 (fillTable rules (length (g .rules)) s t) inv (symbolOf 0) 0 (length s) (omega arith) pos (omega arith)
+        (omega arith))

@@ -32,7 +32,20 @@ ghost use Rattle.grammar_reader.specs.Answer.{Bounded, sizes as sizesOf};
 ghost use Rattle.specimen.specs.Specimen.{answeredOf, outputOf};
 ghost use Rattle.specimen.specs.Table.{fittedAt};
 ghost use Rattle.next_phrase.specs.NextPhrase.{next};
-ghost use Rattle.next_phrase.specs.Table.{cellOver, cellAt, putCell, sum, withJoined, withWord, withSplit, withRule, addRule, fillPart, fillTable, askedOf};
+ghost use Rattle.next_phrase.specs.Table.{
+  cellOver,
+  cellAt,
+  putCell,
+  sum,
+  withJoined,
+  withWord,
+  withSplit,
+  withRule,
+  addRule,
+  fillPart,
+  fillTable,
+  askedOf,
+};
 
 // The greatest length.
 const MAX_LENGTH: usize = 6;
@@ -160,7 +173,9 @@ fn put_cell(table: &mut [u64], c: usize, x: Cell)
 
 // The cell with what two symbols make, the left part of length j.
 fn with_split(table: &[u64], b: Sym, c: Sym, part: Part, j: usize, best: Cell) -> Cell
-    requires { do ⌜ (length (now table) ≡ (← ⟦TABLE_LENGTH⟧)) × (b .0 < (← ⟦SYMBOLS⟧)) × (c .0 < (← ⟦SYMBOLS⟧)) × (0 < j) × (j < part .length) × (part .from + part .length ≤ (← ⟦MAX_LENGTH⟧)) ⌝ }
+    requires { do
+      ⌜ (length (now table) ≡ (← ⟦TABLE_LENGTH⟧)) × (b .0 < (← ⟦SYMBOLS⟧)) × (c .0 < (← ⟦SYMBOLS⟧)) × (0 < j) × (j < part .length)
+          × (part .from + part .length ≤ (← ⟦MAX_LENGTH⟧)) ⌝ }
     ensures { λ r. ⌜ r ≡ withSplit (now (table .entry)) (part .from) (part .length) b c j best ⌝ }
 {
     let left = cell_of(
@@ -182,7 +197,9 @@ fn with_split(table: &[u64], b: Sym, c: Sym, part: Part, j: usize, best: Cell) -
 
 // The same for every length of the left part: what a pair rule makes.
 fn with_pair(table: &[u64], b: Sym, c: Sym, part: Part, best: Cell) -> Cell
-    requires { do ⌜ (length (now table) ≡ (← ⟦TABLE_LENGTH⟧)) × (b .0 < (← ⟦SYMBOLS⟧)) × (c .0 < (← ⟦SYMBOLS⟧)) × (0 < part .length) × (part .from + part .length ≤ (← ⟦MAX_LENGTH⟧)) ⌝ }
+    requires { do
+      ⌜ (length (now table) ≡ (← ⟦TABLE_LENGTH⟧)) × (b .0 < (← ⟦SYMBOLS⟧)) × (c .0 < (← ⟦SYMBOLS⟧)) × (0 < part .length)
+          × (part .from + part .length ≤ (← ⟦MAX_LENGTH⟧)) ⌝ }
     ensures { λ r. ⌜ r ≡ iter (λ x y. withSplit (now (table .entry)) (part .from) (part .length) b c (y + 1) x) best (part .length - 1) ⌝ }
 {
     let mut found = best;
@@ -195,7 +212,9 @@ fn with_pair(table: &[u64], b: Sym, c: Sym, part: Part, best: Cell) -> Cell
 
 // The cell with what rule r makes of the part. The remainders change no accepted rule.
 fn with_rule(table: &[u64], rules: &[u32], r: usize, string: &[u8], part: Part, best: Cell) -> Cell
-    requires { do ⌜ (length (now table) ≡ (← ⟦TABLE_LENGTH⟧)) × (r < (← ⟦MAX_RULES⟧)) × (0 < part .length) × (part .from + part .length ≤ length (now string)) × (length (now string) ≤ (← ⟦MAX_LENGTH⟧)) ⌝ }
+    requires { do
+      ⌜ (length (now table) ≡ (← ⟦TABLE_LENGTH⟧)) × (r < (← ⟦MAX_RULES⟧)) × (0 < part .length) × (part .from + part .length ≤ length (now string))
+          × (length (now string) ≤ (← ⟦MAX_LENGTH⟧)) ⌝ }
     ensures { λ x. ⌜ x ≡ withRule (now (table .entry)) (now (string .entry)) (part .from) (part .length) best (fittedAt (now (rules .entry)) r) ⌝ }
 {
     let rule = rule_at(rules, r);
@@ -217,7 +236,9 @@ fn with_rule(table: &[u64], rules: &[u32], r: usize, string: &[u8], part: Part, 
 
 // The cell of the rule's head, with what the rule makes of the part.
 fn add_rule(table: &mut [u64], rules: &[u32], r: usize, string: &[u8], part: Part)
-    requires { do ⌜ (length (now table) ≡ (← ⟦TABLE_LENGTH⟧)) × (r < (← ⟦MAX_RULES⟧)) × (0 < part .length) × (part .from + part .length ≤ length (now string)) × (length (now string) ≤ (← ⟦MAX_LENGTH⟧)) ⌝ }
+    requires { do
+      ⌜ (length (now table) ≡ (← ⟦TABLE_LENGTH⟧)) × (r < (← ⟦MAX_RULES⟧)) × (0 < part .length) × (part .from + part .length ≤ length (now string))
+          × (length (now string) ≤ (← ⟦MAX_LENGTH⟧)) ⌝ }
     ensures { λ _. ⌜ now (table .exit) ≡ addRule (now (rules .entry)) (now (string .entry)) (part .from) (part .length) (now (table .entry)) r ⌝ }
 {
     let head = arrays::narrow_at(rules, NUMBERS_PER_RULE * r + RULE_HEAD_AT);
@@ -229,7 +250,9 @@ fn add_rule(table: &mut [u64], rules: &[u32], r: usize, string: &[u8], part: Par
 
 // All symbols' cells of a part.
 fn fill_part(table: &mut [u64], rules: &[u32], count: usize, string: &[u8], part: Part)
-    requires { do ⌜ (length (now table) ≡ (← ⟦TABLE_LENGTH⟧)) × (count ≤ (← ⟦MAX_RULES⟧)) × (0 < part .length) × (part .from + part .length ≤ length (now string)) × (length (now string) ≤ (← ⟦MAX_LENGTH⟧)) ⌝ }
+    requires { do
+      ⌜ (length (now table) ≡ (← ⟦TABLE_LENGTH⟧)) × (count ≤ (← ⟦MAX_RULES⟧)) × (0 < part .length)
+          × (part .from + part .length ≤ length (now string)) × (length (now string) ≤ (← ⟦MAX_LENGTH⟧)) ⌝ }
     ensures { λ _. ⌜ now (table .exit) ≡ fillPart (now (rules .entry)) count (now (string .entry)) (part .from) (part .length) (now (table .entry)) ⌝ }
 {
     for r in 0..count {
@@ -283,7 +306,9 @@ fn asked_of(first: u32, c: Cell) -> u64
 // The answer for a grammar that was accepted and a length that there is room for.
 fn answer(rules: &[u32], sizes: Sizes, n: usize, first: u32, out: &mut [u8]) -> Answered
     requires { do ⌜ Bounded sizes × (0 < n) × (n ≤ (← ⟦MAX_LENGTH⟧)) × (n ≤ length (now out)) ⌝ }
-    ensures { λ r. ⌜ ((g : Grammar) → sizes ≡ sizesOf g → ValidGrammar g → Begins (ruleNumbers g) (now (rules .entry)) → (r ≡ answeredOf (accepted (pick (eqb first 0) (nextPhrase g n (take n (now (out .entry)))) (firstPhrase g n)))) × (now (out .exit) ≡ outputOf (accepted (pick (eqb first 0) (nextPhrase g n (take n (now (out .entry)))) (firstPhrase g n))) (now (out .entry)))) ⌝ }
+    ensures { λ r. ⌜ ((g : Grammar) → sizes ≡ sizesOf g → ValidGrammar g → Begins (ruleNumbers g) (now (rules .entry))
+        → (r ≡ answeredOf (accepted (pick (eqb first 0) (nextPhrase g n (take n (now (out .entry)))) (firstPhrase g n))))
+        × (now (out .exit) ≡ outputOf (accepted (pick (eqb first 0) (nextPhrase g n (take n (now (out .entry)))) (firstPhrase g n))) (now (out .entry)))) ⌝ }
 {
     let mut table = [NO_STRING; TABLE_LENGTH];
     fill_table(&mut table, rules, sizes.rules as usize, &out[..n]);

@@ -93,7 +93,14 @@ meant-from s e =
     let d-there : d ≡ behindAll s 3 R = rw (plus, three) at d-is in
     let many : length rs ≡ R = rw rs-there (length-rules s 3 R) in
     same-parsed (λ o next. Valid o × (o .rules ≡ officeRulesAt s 3 (length (o .rules))) × (next ≡ behindAll s 3 (length (o .rules)))) e (
-      record { symbols = S-in; words = W-in; rules = (omega arith, omega arith); within = rs-in; unlike = unlike-read s S W R c [] t (λ q r u w A l f g. none-there q f) },
+      record {
+        symbols = S-in;
+        words = W-in;
+        rules = (omega arith, omega arith);
+        within = rs-in;
+        unlike =
+            unlike-read s S W R c [] t (λ q r u w A l f g. none-there q f);
+      },
       rw many rs-there,
       rw many d-there,
     )

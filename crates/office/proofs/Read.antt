@@ -115,7 +115,12 @@ module _ (s : List ℕ) (S W : ℕ) (some-symbol : 1 ≤ S) (some-word : 1 ≤ W
       let w-there : getD s (at + 1) 0 ≡ w = rw a-is w-is in
       let n-there : getD s (at + 2) 0 ≡ n = rw two at n-is in
       let l-there : l ≡ itemsAt s (at + 3) n = rw three at l-is in
-      same-parsed (RuleRead at) e (rw (h-is, w-there, n-there, l-there), rw n-there (omega arith), rw n-there (n-in .1), (omega arith, w-in .1, body-read n c (n-in .0) (n-in .1) t, l-in))
+      same-parsed (RuleRead at) e (
+        rw (h-is, w-there, n-there, l-there),
+        rw n-there (omega arith),
+        rw n-there (n-in .1),
+        (omega arith, w-in .1, body-read n c (n-in .0) (n-in .1) t, l-in),
+      )
 
   -- n rules behind i that stand there
   abbrev RulesRead : ℕ → ℕ → List OfficeRule → ℕ → Type 0

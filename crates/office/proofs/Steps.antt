@@ -10,7 +10,21 @@ use Rattle.bits.specs.Bits.{pick}
 use Rattle.packing.specs.declared.Sym.{Sym}
 use Rattle.packing.specs.declared.Word as W
 use Rattle.office.specs.Office.{Item, symbol, spoken, OfficeRule, Office}
-use Rattle.office.specs.Conversion.{Helper, forWord, isFor, placeOf, withWord, withWords, chain, after, rulesBehind, helpersBehind, helpers, helperRules, convert}
+use Rattle.office.specs.Conversion.{
+  Helper,
+  forWord,
+  isFor,
+  placeOf,
+  withWord,
+  withWords,
+  chain,
+  after,
+  rulesBehind,
+  helpersBehind,
+  helpers,
+  helperRules,
+  convert,
+}
 
 -- rules behind rules
 pub rules-then : (S : ℕ) (hs : List Helper) (qs rs : List OfficeRule)

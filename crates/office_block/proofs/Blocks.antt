@@ -44,7 +44,8 @@ block-made : (o : Office) (rules array : List ℕ) → Begins (ruleNumbers (conv
     → blockOfMarked (convertMarked o) ≡ blockOf (grammarFields true (convert o .symbols) (convert o .words) (length (convert o .rules)) rules array)
 unfolding convertMarked
 block-made o rules array b c =
-    subst (λ (g : meaning.Grammar). blockOfMarked (convertMarked o) ≡ blockOf (grammarFields true (g .symbols) (g .words) (length (g .rules)) rules array)) (marked-grammar o)
+    subst (λ (g : meaning.Grammar). blockOfMarked (convertMarked o) ≡ blockOf (grammarFields true (g .symbols) (g .words) (length (g .rules)) rules array))
+    (marked-grammar o)
     (block-is (convertMarked o) rules array (subst (λ (g : meaning.Grammar). Begins (ruleNumbers g) rules) (sym (marked-grammar o)) b)
     (subst (λ (l : List ℕ). Begins l array) (sym (marked-marks o)) c))
 
@@ -72,7 +73,8 @@ module _ (s : List ℕ) where
     block-told m room rules array b =
         of-office
         (λ y f. array ≡ Left (y .rules) (replicate m 0) f
-        → (officeGrammar s then λ o. accepted (blockOfMarked (convertMarked o))) ≡ accepted (blockOf (grammarFields true (y .symbols) (y .words) (y .rules) rules array)))
+        → (officeGrammar s then λ o. accepted (blockOfMarked (convertMarked o)))
+        ≡ accepted (blockOf (grammarFields true (y .symbols) (y .words) (y .rules) rules array)))
         (officeGrammar s) e
         (λ o q w.
         let l = limited s q in

@@ -21,10 +21,12 @@ desk =
 
 pub examples :
     (officeToBlock desk
-    ≡ accepted (66 ∷ 65 ∷ 1 ∷ 96 ∷ 0 ∷ 5 ∷ 36 ∷ 68 ∷ 0 ∷ 5 ∷ 4 ∷ 0 ∷ 9 ∷ 88 ∷ 0 ∷ 0 ∷ 114 ∷ 116 ∷ 128 ∷ 0 ∷ 12 ∷ 192 ∷ 0 ∷ 41 ∷ 0 ∷ 0 ∷ 4 ∷ 245 ∷ 0 ∷ 0 ∷ 246 ∷ 0
+    ≡ accepted (66 ∷ 65 ∷ 1 ∷ 96 ∷ 0 ∷ 5 ∷ 36 ∷ 68 ∷ 0 ∷ 5 ∷ 4 ∷ 0 ∷ 9 ∷ 88 ∷ 0 ∷ 0 ∷ 114 ∷ 116 ∷ 128 ∷ 0 ∷ 12 ∷ 192 ∷ 0 ∷ 41 ∷ 0 ∷ 0 ∷ 4 ∷ 245 ∷ 0 ∷ 0 ∷ 246 ∷
+    0
     ∷ 0 ∷ 103 ∷ 0 ∷ 0 ∷ 24 ∷ 160 ∷ 0 ∷ 0 ∷ 206 ∷ []))
     × (officeToBlock (1 ∷ 1 ∷ 1 ∷ 0 ∷ 0 ∷ 1 ∷ 1 ∷ 0 ∷ []) ≡ accepted (64 ∷ 64 ∷ 64 ∷ 48 ∷ 0 ∷ 0 ∷ []))
     × (fitting (officeToBlock (1 ∷ 1 ∷ 1 ∷ 0 ∷ 0 ∷ 1 ∷ 1 ∷ 0 ∷ [])) (9 ∷ 9 ∷ 9 ∷ 9 ∷ 9 ∷ []) ≡ refused 43)
     × (officeToBlock (1 ∷ 1 ∷ 1 ∷ 0 ∷ 0 ∷ 1 ∷ 1 ∷ 0 ∷ 9 ∷ []) ≡ refused 41)
-unfolding bitsOf pack widthOf widthFrom bitsOfAll fieldAt inRange anyLike unlikeFrom markedRulesEntries markedEntries blockOfMarked fitting itemFrom itemsFrom officeRuleFrom itemsAlike ruleAlike officeFrom officeSheet convert convertMarked inLimits officeGrammar officeToBlock
+unfolding bitsOf pack widthOf widthFrom bitsOfAll fieldAt inRange anyLike unlikeFrom markedRulesEntries markedEntries blockOfMarked fitting itemFrom itemsFrom
+    officeRuleFrom itemsAlike ruleAlike officeFrom officeSheet convert convertMarked inLimits officeGrammar officeToBlock
 examples = (refl, refl, refl, refl)

@@ -14,7 +14,21 @@ use Rattle.packing.specs.declared.Rule as K
 use Rattle.packing.specs.declared.Rule.the-variants.{Pair, Word}
 use Rattle.office.specs.Office.{Item, symbol, spoken, OfficeRule, rule, Body}
 use Rattle.office.specs.Flat.{itemAt, itemsAt, countAt, officeRuleAt, behind, officeRulesAt}
-use Rattle.office.specs.Conversion.{Helper, placeOf, withWords, withChain, pairRule, named, chain, chainTop, helperRules, becomes, after, rulesBehind, helpersBehind}
+use Rattle.office.specs.Conversion.{
+  Helper,
+  placeOf,
+  withWords,
+  withChain,
+  pairRule,
+  named,
+  chain,
+  chainTop,
+  helperRules,
+  becomes,
+  after,
+  rulesBehind,
+  helpersBehind,
+}
 use Rattle.office.proofs.Steps.{chain-length}
 use Rattle.office.proofs.Read.{length-items}
 use Rattle.office_conversion.specs.Pass.{rowsOf, rowOf, symbolAt, symbolsAt, tag, Holds, Converted, Passable, AllPassable}
@@ -92,7 +106,8 @@ module _ (s : List ℕ) (S R : ℕ) (a : List ℕ) (hs : List Helper) (rs : List
       m ∙ ap (λ (q : ℕ). storeAll mid (5 * (R + k)) (rowsOf (helperRules S k (chain S k (symbolsAt s t (u + 2) q))))) z
       ∙ ap (λ (Xs : List Sym). storeAll mid (5 * (R + k)) (rowsOf (helperRules S k (chain S k Xs)))) l
       ∙ ap (λ (q : ℕ). storeAll mid (5 * (R + k)) (rowsOf (helperRules S k (chain S q syms)))) (v .count) in
-      let many : length links ≡ n = chain-length S (length hs′) (named S hs′ (itemAt s (u + 2))) (map (named S hs′) (itemsAt s (u + 2 + 2) n)) ∙ length-map (itemsAt s (u + 2 + 2) n) (named S hs′) ∙ length-items s (u + 2 + 2) n in
+      let many : length links ≡ n = chain-length S (length hs′) (named S hs′ (itemAt s (u + 2))) (map (named S hs′) (itemsAt s (u + 2 + 2) n))
+      ∙ length-map (itemsAt s (u + 2 + 2) n) (named S hs′) ∙ length-items s (u + 2 + 2) n in
       record {
         few = room-more c;
         count = omega (arith, z₂, many, v .count, length-append hs′ links);
@@ -119,7 +134,14 @@ module _ (s : List ℕ) (S R : ℕ) (a : List ℕ) where
       record {
         hs = [];
         rs = [];
-        holds = record { few = omega arith; count = refl; size = length-replicate {A = ℕ} 200 0; table = λ x l. getD-replicate {A = ℕ} 200 x 0 0 l; array = refl };
+        holds = record {
+          few = omega arith;
+          count = refl;
+          size = length-replicate {A = ℕ} 200 0;
+          table = λ x l. getD-replicate {A = ℕ} 200 x 0 0 l;
+          array =
+              refl;
+        };
         size = refl;
         passable = rw z h;
         helpers-left = rw z;

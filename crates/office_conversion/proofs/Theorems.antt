@@ -62,7 +62,8 @@ module _ (o : Office) {a rules : List ℕ} {k : ℕ} (v : Converted (o .symbols)
       let one : rules ≡ storeAll a 0 (rowsOf qs ++ rowsOf gs) =
       v .array ∙ sym (store-swap a 0 (5 * length (o .rules)) (rowsOf qs) (rowsOf gs) (omega (arith, m)))
       ∙ ap (λ (q : ℕ). storeAll (storeAll a 0 (rowsOf qs)) q (rowsOf gs)) p ∙ sym (store-append a 0 (rowsOf qs) (rowsOf gs)) in
-      let whole : rules ≡ (rowsOf qs ++ rowsOf gs) ++ drop (0 + length (rowsOf qs ++ rowsOf gs)) a = one ∙ store-at a 0 (rowsOf qs ++ rowsOf gs) (omega (arith, all)) in
+      let whole : rules ≡ (rowsOf qs ++ rowsOf gs) ++ drop (0 + length (rowsOf qs ++ rowsOf gs)) a = one
+      ∙ store-at a 0 (rowsOf qs ++ rowsOf gs) (omega (arith, all)) in
       let same : values (rulesEntries (o .symbols + length hs) (o .words) (qs ++ gs)) ≡ rowsOf qs ++ rowsOf gs =
       sym (rows-values (o .symbols + length hs) (o .words) (qs ++ gs)) ∙ rows-append qs gs in
       rw (same, whole) (take-at (rowsOf qs ++ rowsOf gs) (drop (0 + length (rowsOf qs ++ rowsOf gs)) a) (length (rowsOf qs ++ rowsOf gs)) refl)

@@ -131,7 +131,8 @@ module _ (S R : ℕ) (a : List ℕ) (hs : List Helper) (rs : List K.Rule) (t rul
   unfolding withWords
   symbol-passed kind v e h = rw (eq-eqb kind 0 e) h
 
-  pub word-passed : (kind v : ℕ) → (kind ≡ 0 → ⊥) → Holds S R a (withWord (word v) hs) rs t rules k → Holds S R a (withWords (itemOf kind v ∷ []) hs) rs t rules k
+  pub word-passed : (kind v : ℕ) → (kind ≡ 0 → ⊥) → Holds S R a (withWord (word v) hs) rs t rules k
+      → Holds S R a (withWords (itemOf kind v ∷ []) hs) rs t rules k
   unfolding withWords
   word-passed kind v e h = rw (ne-eqb kind 0 e) h
 

@@ -91,7 +91,8 @@ fn top_of(sheet: &[u32], places: &[u32], p: usize, n: u32, symbols: u32, k: u32)
 // The helpers of the chain of n items from place p on, the first of which is helper k.
 fn put_chain(sheet: &[u32], places: &[u32], p: usize, n: u32, rules: &mut [u32], base: Base, k: u32)
     requires { do ⌜ (p < 2 ^ 50) × (1 ≤ n) × (n ≤ (← ⟦MAX_ITEMS⟧)) × (base .symbols ≤ (← ⟦MAX_SYMBOLS⟧)) × (base .rules ≤ (← ⟦MAX_RULES⟧)) × (k < 16384) ⌝ }
-    ensures { λ _. ⌜ now (rules .exit) ≡ storeAll (now (rules .entry)) (5 * (base .rules + k)) (rowsOf (helperRules (base .symbols) k (chain (base .symbols) k (symbolsAt (now (sheet .entry)) (now (places .entry)) p n)))) ⌝ }
+    ensures { λ _. ⌜ now (rules .exit) ≡ storeAll (now (rules .entry)) (5 * (base .rules + k))
+        (rowsOf (helperRules (base .symbols) k (chain (base .symbols) k (symbolsAt (now (sheet .entry)) (now (places .entry)) p n)))) ⌝ }
 {
     let mut j: u32 = 0;
     while j + 1 < n {
@@ -121,7 +122,9 @@ fn put_chain(sheet: &[u32], places: &[u32], p: usize, n: u32, rules: &mut [u32],
 // A word that has no helper yet gets the next: the helpers' count then.
 fn add_word(rules: &mut [u32], places: &mut [u32], base: Base, k: u32, x: u32) -> u32
     requires { do ⌜ (1 ≤ base .symbols) × (base .symbols ≤ (← ⟦MAX_SYMBOLS⟧)) × (base .rules ≤ (← ⟦MAX_RULES⟧)) × (k < 32768) × (x < (← ⟦MAX_WORDS⟧)) ⌝ }
-    ensures { λ r. ⌜ (k ≤ r) × (r ≤ k + 1) × ((a : List ℕ) (hs : List Helper) (rs : List R.Rule) → Holds (base .symbols) (base .rules) a hs rs (now (places .entry)) (now (rules .entry)) k → Holds (base .symbols) (base .rules) a (withWord (word x) hs) rs (now (places .exit)) (now (rules .exit)) r) ⌝ }
+    ensures { λ r. ⌜ (k ≤ r) × (r ≤ k + 1) × ((a : List ℕ) (hs : List Helper) (rs : List R.Rule)
+        → Holds (base .symbols) (base .rules) a hs rs (now (places .entry)) (now (rules .entry)) k
+        → Holds (base .symbols) (base .rules) a (withWord (word x) hs) rs (now (places .exit)) (now (rules .exit)) r) ⌝ }
 {
     if arrays::narrow_at(places, arrays::wide(x)) == 0 {
         put_rule(
@@ -148,8 +151,12 @@ fn add_item(
     base: Base,
     k: u32,
 ) -> u32
-    requires { do ⌜ (at < 2 ^ 60) × (1 ≤ base .symbols) × (base .symbols ≤ (← ⟦MAX_SYMBOLS⟧)) × (base .rules ≤ (← ⟦MAX_RULES⟧)) × (k < 32768) × WordsBelow (itemAt (now sheet) at ∷ []) ⌝ }
-    ensures { λ r. ⌜ (k ≤ r) × (r ≤ k + 1) × ((a : List ℕ) (hs : List Helper) (rs : List R.Rule) → Holds (base .symbols) (base .rules) a hs rs (now (places .entry)) (now (rules .entry)) k → Holds (base .symbols) (base .rules) a (withWords (itemAt (now (sheet .entry)) at ∷ []) hs) rs (now (places .exit)) (now (rules .exit)) r) ⌝ }
+    requires { do
+      ⌜ (at < 2 ^ 60) × (1 ≤ base .symbols) × (base .symbols ≤ (← ⟦MAX_SYMBOLS⟧)) × (base .rules ≤ (← ⟦MAX_RULES⟧)) × (k < 32768)
+          × WordsBelow (itemAt (now sheet) at ∷ []) ⌝ }
+    ensures { λ r. ⌜ (k ≤ r) × (r ≤ k + 1) × ((a : List ℕ) (hs : List Helper) (rs : List R.Rule)
+        → Holds (base .symbols) (base .rules) a hs rs (now (places .entry)) (now (rules .entry)) k
+        → Holds (base .symbols) (base .rules) a (withWords (itemAt (now (sheet .entry)) at ∷ []) hs) rs (now (places .exit)) (now (rules .exit)) r) ⌝ }
 {
     let kind = arrays::narrow_at(sheet, at);
     let number = arrays::narrow_at(sheet, at + 1);
@@ -169,8 +176,12 @@ fn add_words(
     base: Base,
     first: u32,
 ) -> u32
-    requires { do ⌜ (p < 2 ^ 59) × (n ≤ (← ⟦MAX_ITEMS⟧)) × (1 ≤ base .symbols) × (base .symbols ≤ (← ⟦MAX_SYMBOLS⟧)) × (base .rules ≤ (← ⟦MAX_RULES⟧)) × (first < 16000) × WordsBelow (itemsAt (now sheet) p n) ⌝ }
-    ensures { λ r. ⌜ (first ≤ r) × (r ≤ first + 6) × ((a : List ℕ) (hs : List Helper) (rs : List R.Rule) → Holds (base .symbols) (base .rules) a hs rs (now (places .entry)) (now (rules .entry)) first → Holds (base .symbols) (base .rules) a (withWords (itemsAt (now (sheet .entry)) p n) hs) rs (now (places .exit)) (now (rules .exit)) r) ⌝ }
+    requires { do
+      ⌜ (p < 2 ^ 59) × (n ≤ (← ⟦MAX_ITEMS⟧)) × (1 ≤ base .symbols) × (base .symbols ≤ (← ⟦MAX_SYMBOLS⟧)) × (base .rules ≤ (← ⟦MAX_RULES⟧))
+          × (first < 16000) × WordsBelow (itemsAt (now sheet) p n) ⌝ }
+    ensures { λ r. ⌜ (first ≤ r) × (r ≤ first + 6) × ((a : List ℕ) (hs : List Helper) (rs : List R.Rule)
+        → Holds (base .symbols) (base .rules) a hs rs (now (places .entry)) (now (rules .entry)) first
+        → Holds (base .symbols) (base .rules) a (withWords (itemsAt (now (sheet .entry)) p n) hs) rs (now (places .exit)) (now (rules .exit)) r) ⌝ }
 {
     let mut k = first;
     let mut j: u32 = 0;
@@ -192,8 +203,13 @@ fn convert_rule(
     base: Base,
     k: u32,
 ) -> u32
-    requires { do ⌜ (p < 2 ^ 49) × (i < base .rules) × (1 ≤ base .symbols) × (base .symbols ≤ (← ⟦MAX_SYMBOLS⟧)) × (base .rules ≤ (← ⟦MAX_RULES⟧)) × (k < 8192) × Passable (officeRuleAt (now sheet) p) ⌝ }
-    ensures { λ r. ⌜ (r ≤ k + 10) × ((a : List ℕ) (hs : List Helper) (rs : List R.Rule) → i ≡ length rs → Holds (base .symbols) (base .rules) a hs rs (now (places .entry)) (now (rules .entry)) k → Holds (base .symbols) (base .rules) a (after (base .symbols) hs (officeRuleAt (now (sheet .entry)) p)) (rs ++ (becomes (base .symbols) hs (officeRuleAt (now (sheet .entry)) p) ∷ [])) (now (places .exit)) (now (rules .exit)) r) ⌝ }
+    requires { do
+      ⌜ (p < 2 ^ 49) × (i < base .rules) × (1 ≤ base .symbols) × (base .symbols ≤ (← ⟦MAX_SYMBOLS⟧)) × (base .rules ≤ (← ⟦MAX_RULES⟧)) × (k < 8192)
+          × Passable (officeRuleAt (now sheet) p) ⌝ }
+    ensures { λ r. ⌜ (r ≤ k + 10) × ((a : List ℕ) (hs : List Helper) (rs : List R.Rule) → i ≡ length rs
+        → Holds (base .symbols) (base .rules) a hs rs (now (places .entry)) (now (rules .entry)) k
+        → Holds (base .symbols) (base .rules) a (after (base .symbols) hs (officeRuleAt (now (sheet .entry)) p))
+        (rs ++ (becomes (base .symbols) hs (officeRuleAt (now (sheet .entry)) p) ∷ [])) (now (places .exit)) (now (rules .exit)) r) ⌝ }
 {
     let head = arrays::narrow_at(sheet, p);
     let weight = arrays::narrow_at(sheet, p + 1);
@@ -229,7 +245,9 @@ fn convert_rule(
 // The rules of an accepted sheet: the office's under their own numbers, then the helpers' by helper number, as far as the array has
 // room; and how many helpers there are.
 fn convert(sheet: &[u32], rules: &mut [u32], base: Base) -> u32
-    requires { do ⌜ (1 ≤ base .symbols) × (base .symbols ≤ (← ⟦MAX_SYMBOLS⟧)) × (base .rules ≤ (← ⟦MAX_RULES⟧)) × AllPassable (officeRulesAt (now sheet) 3 (base .rules)) ⌝ }
+    requires { do
+      ⌜ (1 ≤ base .symbols) × (base .symbols ≤ (← ⟦MAX_SYMBOLS⟧)) × (base .rules ≤ (← ⟦MAX_RULES⟧))
+          × AllPassable (officeRulesAt (now sheet) 3 (base .rules)) ⌝ }
     ensures { λ r. ⌜ Converted (base .symbols) (base .rules) (officeRulesAt (now (sheet .entry)) 3 (base .rules)) (now (rules .entry)) (now (rules .exit)) r ⌝ }
 {
     let mut places = [0u32; MAX_WORDS];

@@ -44,8 +44,10 @@ module _ (s : List ℕ) where
       second S (parsed W at) = third S W (fieldAt (numbers s) at (sizeField 9 256))
       second S (failed n) = refl
 
-      first : (x : Parse ℕ) → (x ⟫ λ S at. fieldAt (numbers s) at (sizeField 8 200) ⟫ λ W at. fieldAt (numbers s) at (sizeField 9 256) ⟫ λ R at. rest (record { symbols = S; words = W; rules = R }) at)
-          ≡ ((x ⟫ λ S at. fieldAt (numbers s) at (sizeField 8 200) ⟫ λ W at. fieldAt (numbers s) at (sizeField 9 256) ⟫ λ R at. parsed (record { symbols = S; words = W; rules = R }) at) ⟫ rest)
+      first : (x : Parse ℕ) → (x ⟫ λ S at. fieldAt (numbers s) at (sizeField 8 200) ⟫ λ W at. fieldAt (numbers s) at (sizeField 9 256) ⟫ λ R at. rest
+          (record { symbols = S; words = W; rules = R }) at)
+          ≡ ((x ⟫ λ S at. fieldAt (numbers s) at (sizeField 8 200) ⟫ λ W at. fieldAt (numbers s) at (sizeField 9 256) ⟫ λ R at. parsed
+          (record { symbols = S; words = W; rules = R }) at) ⟫ rest)
       first (parsed S at) = second S (fieldAt (numbers s) at (sizeField 8 200))
       first (failed n) = refl
 

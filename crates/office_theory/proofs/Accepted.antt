@@ -27,7 +27,21 @@ use Rattle.office.proofs.Marked.{marked-grammar}
 use Rattle.office.proofs.Steps.{result-symbols, result-words, result-rules}
 use Rattle.office.specs.Conversion.{forWord, joins, helper, helpers, convert, rulesBehind, helperRules, convertMarked}
 use Rattle.office_theory.proofs.Spelled.{Becomes, word-rule, pair-rule, Meant, for-word, for-items, spells-below}
-use Rattle.office_theory.proofs.Facts.{headOf, Origin, of-office, of-word, of-joined, origin, ranges, helper-meant, Place, office, helping, place, spells-one}
+use Rattle.office_theory.proofs.Facts.{
+  headOf,
+  Origin,
+  of-office,
+  of-word,
+  of-joined,
+  origin,
+  ranges,
+  helper-meant,
+  Place,
+  office,
+  helping,
+  place,
+  spells-one,
+}
 
 -- no two rules are alike, said by places
 both-out : (a b : Bool) → (a && b) ≡ true → (a ≡ true) × (b ≡ true)
@@ -153,7 +167,8 @@ converted-valid o v h m = (
     all r c p = rw (result-symbols o) (fits o w r c (origin o w r p))
 
 -- and so it is with its marks
-marks-within : (x : ℕ) → x ≤ 1 → (rs : List R.Rule) (more : List MarkedRule) → All (MarkWithin true) more → All (MarkWithin true) (map (λ r. marked r x) rs ++ more)
+marks-within : (x : ℕ) → x ≤ 1 → (rs : List R.Rule) (more : List MarkedRule) → All (MarkWithin true) more
+    → All (MarkWithin true) (map (λ r. marked r x) rs ++ more)
 marks-within x h [] more w = w
 marks-within x h (r ∷ rs) more w = (h, marks-within x h rs more w)
 

@@ -12,12 +12,54 @@ use Rattle.packing.specs.Meaning.{Edge, edge}
 use Rattle.derivation.specs.Derivation.{At, Offered, Tree, leaf, node, Derives, by-word, by-pair, edgeCost, weight}
 use Rattle.derivation.proofs.Rows.{leaf-weight, node-weight}
 use Rattle.office.specs.Office.{Item, symbol, rule, Office, Within}
-use Rattle.office_theory.specs.Derivations.{OfficeTree, heard, ruled, parted, OfficeDerives, by-edge, by-rule, by-parts, officeRuleWeight, officeWeight, officeWalk}
+use Rattle.office_theory.specs.Derivations.{
+  OfficeTree,
+  heard,
+  ruled,
+  parted,
+  OfficeDerives,
+  by-edge,
+  by-rule,
+  by-parts,
+  officeRuleWeight,
+  officeWeight,
+  officeWalk,
+}
 use Rattle.office.specs.Conversion.{helper, helpers, convert, marks}
-use Rattle.office_theory.specs.Matching.{unlessMarked, reduced, leftOf, rightOf, helperNumber, expandedBy, OfficeDerivation, toGrammar, toOffice, OneToOne}
+use Rattle.office_theory.specs.Matching.{
+  unlessMarked,
+  reduced,
+  leftOf,
+  rightOf,
+  helperNumber,
+  expandedBy,
+  OfficeDerivation,
+  toGrammar,
+  toOffice,
+  OneToOne,
+}
 use Rattle.office_theory.proofs.Walks.{walk-reduced}
 use Rattle.office_theory.proofs.Spelled.{Spells, a-symbol, a-word, several, word-rule, pair-rule}
-use Rattle.office_theory.proofs.Facts.{Origin, of-office, of-word, of-joined, helper-rule, helper-number, origin, head-below, word-at, pair-at, not-one-symbol, spells-office, spells-word, Joined, joined, spells-joined, office-kept, helper-left-out}
+use Rattle.office_theory.proofs.Facts.{
+  Origin,
+  of-office,
+  of-word,
+  of-joined,
+  helper-rule,
+  helper-number,
+  origin,
+  head-below,
+  word-at,
+  pair-at,
+  not-one-symbol,
+  spells-office,
+  spells-word,
+  Joined,
+  joined,
+  spells-joined,
+  office-kept,
+  helper-left-out,
+}
 
 module _ (o : Office) (v : Within o) (es : List Edge) where
   abbrev Spell : List Item → Sym → Type 0

@@ -20,7 +20,25 @@ use Rattle.derivation.proofs.Lists.{none≢some, at-length}
 use Rattle.derivation.proofs.Trees.{same-word}
 use Rattle.office_theory.proofs.Places.{at-left, at-right, at-cases}
 use Rattle.office.specs.Office.{Item, symbol, spoken, OfficeRule, rule, ItemsWithin, RuleWithin, RulesWithin}
-use Rattle.office.specs.Conversion.{Helper, forWord, joins, helper, isFor, placeOf, withWord, withWords, named, chainTop, chain, pairRule, withChain, becomes, after, rulesBehind, helpersBehind}
+use Rattle.office.specs.Conversion.{
+  Helper,
+  forWord,
+  joins,
+  helper,
+  isFor,
+  placeOf,
+  withWord,
+  withWords,
+  named,
+  chainTop,
+  chain,
+  pairRule,
+  withChain,
+  becomes,
+  after,
+  rulesBehind,
+  helpersBehind,
+}
 
 -- what has a place keeps it
 abbrev pub Keeps : List Helper → List Helper → Type 0

@@ -13,7 +13,23 @@ use Rattle.packing.specs.Meaning.{word, Grammar, MarkedRule, marked, rul
 use Rattle.packing.specs.Source.{values, valueOf}
 use Rattle.packing.specs.Grammar.{rulesEntries}
 use Rattle.packing.specs.Utterance.{candidatesEntries, slotsEntries}
-use Rattle.packing.specs.Flat.{Begins, Overlaid, ruleNumbers, ruleAt, rulesAt, rulesOf, markNumbers, markedRulesAt, slotNumbers, candidatesOf, slotsBy, slotsOf, edgeNumbers, nodeBy, nodeRule}
+use Rattle.packing.specs.Flat.{
+  Begins,
+  Overlaid,
+  ruleNumbers,
+  ruleAt,
+  rulesAt,
+  rulesOf,
+  markNumbers,
+  markedRulesAt,
+  slotNumbers,
+  candidatesOf,
+  slotsBy,
+  slotsOf,
+  edgeNumbers,
+  nodeBy,
+  nodeRule,
+}
 use Rattle.packing.specs.Store.{storeAll}
 use Rattle.packing.specs.declared.Rule as R
 use Rattle.packing.specs.declared.Rule.the-variants.{Pair, Word}

@@ -12,7 +12,32 @@ use Rattle.packing.specs.Meaning.{MarkedRule, marked, ruleIn, Marked, gr
 use Rattle.packing.specs.Parse.{parsed}
 use Rattle.packing.specs.Source.{Source, fieldAt}
 use Rattle.packing.specs.Alike.{anyLike, NoTwo, All}
-use Rattle.packing.specs.Grammar.{ruleKind, symbol, weightField, nothing, firstOf, secondOf, ruleOf, sizeField, markField, ruleFrom, alike, markFrom, markedRuleFrom, markedAlike, rulesFrom, unfit, grammarFrom, ruleEntries, rulesEntries, grammarEntries, markEntries, markedRuleEntries, markedRulesEntries, markedEntries}
+use Rattle.packing.specs.Grammar.{
+  ruleKind,
+  symbol,
+  weightField,
+  nothing,
+  firstOf,
+  secondOf,
+  ruleOf,
+  sizeField,
+  markField,
+  ruleFrom,
+  alike,
+  markFrom,
+  markedRuleFrom,
+  markedAlike,
+  rulesFrom,
+  unfit,
+  grammarFrom,
+  ruleEntries,
+  rulesEntries,
+  grammarEntries,
+  markEntries,
+  markedRuleEntries,
+  markedRulesEntries,
+  markedEntries,
+}
 use Rattle.packing.specs.Valid.{InRange, Fits, Unlike, MarkWithin, ValidGrammar, ValidMarked}
 use Rattle.packing.specs.declared.Rule as R
 use Rattle.packing.specs.declared.Rule.the-variants.{Pair, Word}

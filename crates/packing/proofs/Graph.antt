@@ -18,7 +18,21 @@ use Rattle.packing.specs.Parse.{parsed}
 use Rattle.packing.specs.Source.{Source, fieldAt, fldOf, flds}
 use Rattle.packing.specs.Alike.{anyLike, NoTwo}
 use Rattle.packing.specs.Utterance.{cost}
-use Rattle.packing.specs.Graph.{placeCount, edgeCount, startPlace, endPlace, edgeWord, edgeFrom, edgesAlike, graphEdgesFrom, graphFrom, edgeEntries, edgesEntries, graphEntries, blockOfGraph}
+use Rattle.packing.specs.Graph.{
+  placeCount,
+  edgeCount,
+  startPlace,
+  endPlace,
+  edgeWord,
+  edgeFrom,
+  edgesAlike,
+  graphEdgesFrom,
+  graphFrom,
+  edgeEntries,
+  edgesEntries,
+  graphEntries,
+  blockOfGraph,
+}
 use Rattle.packing.specs.Valid.{InRange, InWidth, Each, Fits, ValidGraph}
 use Rattle.packing.proofs.Parse.{through, same-parsed}
 use Rattle.packing.proofs.Entries.{each-left, each-right, each-join}

@@ -20,7 +20,19 @@ use Rattle.packing.specs.Parse.{parsed}
 use Rattle.packing.specs.Source.{Source, bytes, fieldAt, Entry, flds}
 use Rattle.packing.specs.Reading.{readingWeight}
 use Rattle.packing.specs.Grammar.{blockKind}
-use Rattle.packing.specs.GraphReading.{pathEdges, traceEntries, graphReadingEntries, blockOfGraphReading, graphReadingBits, graphReadingLength, padded, wordNodes, GraphHead, graphHeadFrom, TraceIn}
+use Rattle.packing.specs.GraphReading.{
+  pathEdges,
+  traceEntries,
+  graphReadingEntries,
+  blockOfGraphReading,
+  graphReadingBits,
+  graphReadingLength,
+  padded,
+  wordNodes,
+  GraphHead,
+  graphHeadFrom,
+  TraceIn,
+}
 use Rattle.packing.specs.Valid.{Bytes, InWidth, Each, Fits, ValidGraphReading}
 use Rattle.packing.proofs.Parse.{through, same-parsed, parsed-else}
 use Rattle.packing.proofs.Bounds.{field-at-range}
@@ -108,7 +120,8 @@ module _ (isWord : ℕ → Bool) (src : Source) (R : ℕ) where
       let same : r ≡ s = cc in absurd (false≢true (sym k ∙ ap isWord same ∙ l))
   trace-decided (byWord r d ∷ xs) (byPair s ∷ ys) (k, ks) (l, ls) e (more p t) (more q u) =
       let same : s ≡ r = cc in absurd (false≢true (sym l ∙ ap isWord same ∙ k))
-  trace-decided (byWord r d ∷ xs) (byWord s f ∷ ys) {n = n} (k, ks) (l, ls) e (more {mid = a} p (more {mid = b} p′ t)) (more {mid = a′} q (more {mid = b′} q′ u)) =
+  trace-decided (byWord r d ∷ xs) (byWord s f ∷ ys) {n = n} (k, ks) (l, ls) e (more {mid = a} p (more {mid = b} p′ t))
+      (more {mid = a′} q (more {mid = b′} q′ u)) =
       let same : r ≡ s = cc in
       let mid : a ≡ a′ = cc in
       let edges : d ≡ f = cc in
@@ -126,7 +139,8 @@ module _ (R L : ℕ) where
   abbrev out : GraphReading → List ℕ
   out d = padded L (blockOfGraphReading R d)
 
-  pub padded-taken : (d : GraphReading) → ValidGraphReading R d → Taken (bytes 31 (out d)) 0 (graphReadingEntries R d) (0 + widths (flds (graphReadingEntries R d)))
+  pub padded-taken : (d : GraphReading) → ValidGraphReading R d
+      → Taken (bytes 31 (out d)) 0 (graphReadingEntries R d) (0 + widths (flds (graphReadingEntries R d)))
   unfolding padded blockOfGraphReading
   padded-taken d (f, w, l, k) =
       let es : List Entry = graphReadingEntries R d in
@@ -150,13 +164,15 @@ module _ (isWord : ℕ → Bool) (R L : ℕ) (d e : GraphReading) where
       go {n = n} (more {mid = a} p (more {mid = b} q (more {mid = c} r t))) (more {mid = a′} p′ (more {mid = b′} q′ (more {mid = c′} r′ t′))) =
           let starts : a ≡ a′ = cc in
           let x = field-at-bytes-out 31 s a (pathEdges (d .edges)) q in
-          let y = field-at-bytes-out 31 s a (pathEdges (e .edges)) (subst (λ i. fieldAt (bytes 31 s) i (pathEdges (e .edges)) ≡ parsed (e .edges) b′) (sym starts) q′) in
+          let y = field-at-bytes-out 31 s a (pathEdges (e .edges))
+          (subst (λ i. fieldAt (bytes 31 s) i (pathEdges (e .edges)) ≡ parsed (e .edges) b′) (sym starts) q′) in
           let edges : d .edges ≡ e .edges = sym (x .1) ∙ y .1 in
           let ends : b ≡ b′ = sym (x .2) ∙ y .2 in
           let weights : d .weight ≡ e .weight = cc in
           let begins : c′ ≡ c = cc in
           let m : length (d .trace) ≡ length (e .trace) = omega (arith, v .2, u .2) in
-          let traces = trace-decided isWord (bytes 31 s) R (d .trace) (e .trace) k l m t (subst (λ i. Taken (bytes 31 s) i (traceEntries R (e .trace)) n) begins t′) in
+          let traces = trace-decided isWord (bytes 31 s) R (d .trace) (e .trace) k l m t
+          (subst (λ i. Taken (bytes 31 s) i (traceEntries R (e .trace)) n) begins t′) in
           λ i. record { edges = edges i; weight = weights i; trace = traces i }
 
 -- a block for paths of at most `most` edges has the head of its reading and the bits of its nodes, and ends behind them; and what has

@@ -14,7 +14,24 @@ use Rattle.packing.specs.Graph.{edgeFrom, edgesAlike, graphFrom, graphBl
 use Rattle.packing.specs.Heard.{heardBlock}
 use Rattle.packing.specs.GraphReading.{graphReadingBits, graphHeadFrom}
 use Rattle.packing.specs.Rows.{GraphBlockRow, HeardBlockRow, ReadingFieldsRow}
-use Rattle.packing.proofs.Refusals.{Stops, going, Refuses, granted, denied, told, bind, test, unlike-row, finish-row, field-at-row, ranged, as-wide, then-row, choose-row, utterance-block-row}
+use Rattle.packing.proofs.Refusals.{
+  Stops,
+  going,
+  Refuses,
+  granted,
+  denied,
+  told,
+  bind,
+  test,
+  unlike-row,
+  finish-row,
+  field-at-row,
+  ranged,
+  as-wide,
+  then-row,
+  choose-row,
+  utterance-block-row,
+}
 
 module _ (W : ℕ) (s : List ℕ) where
   abbrev src : Source
@@ -45,7 +62,8 @@ module _ (W : ℕ) (s : List ℕ) where
   unfolding heardBlock
   heard-block-row =
       choose-row (eqb (field s 0 4) 5)
-      (then-row (wider (λ n. ⊎-elim (⊎-elim (λ r. inl (omega (arith, r), omega (arith, r))) (λ r. inl (omega (arith, r), omega (arith, r)))) inr) graph-block-row)
+      (then-row (wider (λ n. ⊎-elim (⊎-elim (λ r. inl (omega (arith, r), omega (arith, r))) (λ r. inl (omega (arith, r), omega (arith, r)))) inr)
+      graph-block-row)
       (λ g e. granted))
       (then-row (wider (λ n. inl) (utterance-block-row W s)) (λ u e. granted))
     where

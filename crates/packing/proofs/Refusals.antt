@@ -18,7 +18,28 @@ use Rattle.packing.specs.Meaning.{Candidate, candidate, Utterance, word}
 use Rattle.packing.specs.Parse.{Parse, parsed, failed, _⟫_, Verdict, accepted, refused, _then_, verdictOf, finish}
 use Rattle.packing.specs.Source.{Source, bytes, numbers, inRange, fieldAt, within}
 use Rattle.packing.specs.Alike.{anyLike, unlikeFrom}
-use Rattle.packing.specs.Grammar.{ruleKind, ruleWord, weightField, nothing, markField, symbol, firstOf, secondOf, ruleFrom, markFrom, markedRuleFrom, markedAlike, unfit, grammarFrom, markingOf, blockBy, sheetBy, markedBlock, markedSheet, grammarBlock}
+use Rattle.packing.specs.Grammar.{
+  ruleKind,
+  ruleWord,
+  weightField,
+  nothing,
+  markField,
+  symbol,
+  firstOf,
+  secondOf,
+  ruleFrom,
+  markFrom,
+  markedRuleFrom,
+  markedAlike,
+  unfit,
+  grammarFrom,
+  markingOf,
+  blockBy,
+  sheetBy,
+  markedBlock,
+  markedSheet,
+  grammarBlock,
+}
 use Rattle.packing.specs.Utterance.{cost, candidatesFrom, slotFrom, slotsFrom, utteranceFrom, utteranceBlock, utteranceSheet}
 use Rattle.packing.specs.Reading.{ruleNumber, walkFrom, readingFrom}
 use Rattle.packing.specs.Conversion.{grammarToBlock, grammarToSheet, utteranceToBlock, utteranceToSheet, fitting}

@@ -37,7 +37,8 @@ module _ (missing : ℕ) (s : List ℕ) (at : ℕ) (f : Field) where
       let (i, v, n) = in-range-out f _ _ r in
       (leb-true _ _ t, v, n, i)
 
-  pub field-at-bytes : at + f .width ≤ 8 * length s → InRange f (field s at (f .width)) → fieldAt (bytes missing s) at f ≡ parsed (field s at (f .width)) (at + f .width)
+  pub field-at-bytes : at + f .width ≤ 8 * length s → InRange f (field s at (f .width)) → fieldAt (bytes missing s) at f
+      ≡ parsed (field s at (f .width)) (at + f .width)
   unfolding fieldAt
   field-at-bytes h i = rw (le-leb _ _ h) (in-range f _ _ i)
 

@@ -20,10 +20,30 @@ use Rattle.packing.specs.Conversion.{grammarToBlock, grammarToSheet, utt
 use Rattle.packing.specs.Rows.{GrammarBlockRow, UtteranceBlockRow, ReadingFieldsRow, GrammarSheetRow, UtteranceSheetRow}
 use Rattle.packing.specs.Valid.{Bytes, ValidGrammar, ValidMarked, ValidUtterance, ValidReading}
 use Rattle.packing.proofs.Parse.{granted, accepted-is}
-use Rattle.packing.proofs.Refusals.{refusal-number, stop-number, grammar-block-row, grammar-sheet-row, utterance-block-row, utterance-sheet-row, reading-row}
+use Rattle.packing.proofs.Refusals.{
+  refusal-number,
+  stop-number,
+  grammar-block-row,
+  grammar-sheet-row,
+  utterance-block-row,
+  utterance-sheet-row,
+  reading-row,
+}
 use Rattle.packing.proofs.Grammar.{valid-unmarked}
 use Rattle.packing.proofs.Widths.{grammar-length, utterance-length, reading-length, valid-words}
-use Rattle.packing.proofs.Whole.{grammar-block-out, marked-block-out, marked-block-back, marked-sheet-out, marked-sheet-back, utterance-block-out, utterance-block-back, utterance-sheet-out, utterance-sheet-back, reading-block-out, reading-block-back}
+use Rattle.packing.proofs.Whole.{
+  grammar-block-out,
+  marked-block-out,
+  marked-block-back,
+  marked-sheet-out,
+  marked-sheet-back,
+  utterance-block-out,
+  utterance-block-back,
+  utterance-sheet-out,
+  utterance-sheet-back,
+  reading-block-out,
+  reading-block-back,
+}
 
 -- "A block is accepted if no condition of its row below holds." A block, or a sheet, is accepted with the meaning g exactly if
 -- g is valid and the block, or the sheet, is the one of g: refusals are exact, and nothing else has this meaning.
@@ -75,7 +95,8 @@ grammar-block-and-back block sheet y e =
     rw (← accepted-is q, marked-sheet-back m v, s y)
 
 -- The same of utterances under a grammar block.
-pub utterance-sheet-and-back : (grammar sheet block : List ℕ) → utteranceToBlock grammar sheet ≡ accepted block → utteranceToSheet grammar block ≡ accepted sheet
+pub utterance-sheet-and-back : (grammar sheet block : List ℕ) → utteranceToBlock grammar sheet ≡ accepted block → utteranceToSheet grammar block
+    ≡ accepted sheet
 unfolding utteranceToBlock utteranceToSheet
 utterance-sheet-and-back grammar sheet block e =
     granted (grammarBlock grammar) _ e λ g a f.
@@ -100,7 +121,8 @@ longest-grammar s m y e = let (v, p) = marked-block-out s m e in rw (p y) (gramm
 pub longest-utterance : (W : ℕ) (s : List ℕ) (u : Utterance) → 1 ≤ W → W ≤ 200 → Bytes s → utteranceBlock W s ≡ accepted u → length s ≤ 515
 longest-utterance W s u l h y e = let (v, p) = utterance-block-out W s u e in rw (p y) (utterance-length W l h u v)
 
-pub longest-reading : (n R : ℕ) (s : List ℕ) (d : Reading) (at : ℕ) → n ≤ 24 → R ≤ 256 → Bytes s → readingFrom n R s ≡ parsed d at → ended s at ≡ true → length s ≤ 52
+pub longest-reading : (n R : ℕ) (s : List ℕ) (d : Reading) (at : ℕ) → n ≤ 24 → R ≤ 256 → Bytes s → readingFrom n R s ≡ parsed d at → ended s at ≡ true
+    → length s ≤ 52
 longest-reading n R s d at h r y e end =
     let (v, m, p) = reading-block-out R n s d at e end in
     rw (p y) (reading-length R d r (rw m h) v)

@@ -7,7 +7,19 @@ use lib.ListN.{length}
 use Rattle.packing.specs.Meaning.{Candidate, candidate, Utterance, word}
 use Rattle.packing.specs.Parse.{parsed}
 use Rattle.packing.specs.Source.{Source, fieldAt, Entry, entry}
-use Rattle.packing.specs.Utterance.{slotCount, candidateCount, offered, cost, candidatesFrom, slotFrom, slotsFrom, utteranceFrom, candidatesEntries, slotsEntries, utteranceEntries}
+use Rattle.packing.specs.Utterance.{
+  slotCount,
+  candidateCount,
+  offered,
+  cost,
+  candidatesFrom,
+  slotFrom,
+  slotsFrom,
+  utteranceFrom,
+  candidatesEntries,
+  slotsEntries,
+  utteranceEntries,
+}
 use Rattle.packing.proofs.Parse.{through, same-parsed}
 use Rattle.packing.proofs.Taken.{Taken, all, more, taken-join, taken-split}
 

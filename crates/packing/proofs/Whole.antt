@@ -15,7 +15,22 @@ use Rattle.bits.proofs.Fields.{holds-block, block-ended, block-is}
 use Rattle.packing.specs.Meaning.{Grammar, Marked, grammarOf, Utterance, Reading}
 use Rattle.packing.specs.Parse.{Parse, parsed, _⟫_, accepted}
 use Rattle.packing.specs.Source.{bytes, numbers, fieldAt, Entry, entry, values, flds, valueOf}
-use Rattle.packing.specs.Grammar.{blockKind, grammarFrom, numbersPerRule, kindNumber, markingOf, blockBy, sheetBy, markedBlock, markedSheet, grammarBlock, markedEntries, kindEntry, blockOfMarked, sheetOfMarked}
+use Rattle.packing.specs.Grammar.{
+  blockKind,
+  grammarFrom,
+  numbersPerRule,
+  kindNumber,
+  markingOf,
+  blockBy,
+  sheetBy,
+  markedBlock,
+  markedSheet,
+  grammarBlock,
+  markedEntries,
+  kindEntry,
+  blockOfMarked,
+  sheetOfMarked,
+}
 use Rattle.packing.specs.Utterance.{utteranceFrom, utteranceBlock, utteranceSheet, utteranceEntries, blockOfUtterance, sheetOfUtterance}
 use Rattle.packing.specs.Reading.{readingFrom, readingEntries, blockOfReading}
 use Rattle.packing.specs.Valid.{Bytes, InRange, Each, InWidth, Fits, ValidGrammar, ValidMarked, ValidUtterance, ValidReading}
@@ -80,7 +95,8 @@ block-by-back m (f, u, w) =
     kind-fits false = ((omega arith, omega arith), omega arith)
     kind-fits true = ((omega arith, omega arith), omega arith)
 
-    go : {s : List ℕ} {next : ℕ} → Taken (bytes 1 s) 0 (kindEntry (m .marking) ∷ markedEntries m) next → ended s next ≡ true → blockBy (m .marking) s ≡ accepted m
+    go : {s : List ℕ} {next : ℕ} → Taken (bytes 1 s) 0 (kindEntry (m .marking) ∷ markedEntries m) next → ended s next ≡ true → blockBy (m .marking) s
+        ≡ accepted m
     go {s} (more k t) e = rw (k, grammar-back (bytes 1 s) m (record { taken = t; unlike = u; within = w; fit = refl }), e)
 
 -- the kind decides whether rules bear marks
@@ -179,7 +195,8 @@ module _ (W : ℕ) where
       let es : List Entry = entry (blockKind 2 12) 2 ∷ utteranceEntries W u in
       go (block-taken 11 es ((omega arith, omega arith), f) (omega arith, utterance-room W w l u f)) (block-ended (flds es))
     where
-      go : {s : List ℕ} {next : ℕ} → Taken (bytes 11 s) 0 (entry (blockKind 2 12) 2 ∷ utteranceEntries W u) next → ended s next ≡ true → utteranceBlock W s ≡ accepted u
+      go : {s : List ℕ} {next : ℕ} → Taken (bytes 11 s) 0 (entry (blockKind 2 12) 2 ∷ utteranceEntries W u) next → ended s next ≡ true → utteranceBlock W s
+          ≡ accepted u
       go {s} (more k t) e = rw (k, utterance-back (bytes 11 s) W u t, e)
 
   pub utterance-sheet-out : (s : List ℕ) (u : Utterance) → utteranceSheet W s ≡ accepted u → ValidUtterance W u × (s ≡ sheetOfUtterance W u)
@@ -206,7 +223,8 @@ module _ (R : ℕ) where
       ((taken-fits t, taken-held 31 s (omega arith) t .1, omega arith), m, λ y. taken-block 31 s _ y t end)
 
   pub reading-block-back : (d : Reading) → ValidReading R d
-      → (readingFrom (d .slots) R (blockOfReading R d) ≡ parsed d (widths (flds (readingEntries R d)))) × (ended (blockOfReading R d) (widths (flds (readingEntries R d))) ≡ true)
+      → (readingFrom (d .slots) R (blockOfReading R d) ≡ parsed d (widths (flds (readingEntries R d))))
+      × (ended (blockOfReading R d) (widths (flds (readingEntries R d))) ≡ true)
   unfolding blockOfReading
   reading-block-back d (f, w, l) =
       let es : List Entry = readingEntries R d in

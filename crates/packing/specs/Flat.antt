@@ -4,7 +4,23 @@ use mathlib.Core.Path.{_≡_}
 use mathlib.Core.List.{List, [], _∷_, _++_, map}
 use Prim.Native.Nat.{ℕ, zero, suc, _+_, _*_}
 use lib.ListN.{length, getD, take, drop}
-use Rattle.packing.specs.Meaning.{Grammar, MarkedRule, marked, markIn, Marked, grammarOf, Candidate, candidate, Utterance, Edge, edge, word, Node, byPair, byWord}
+use Rattle.packing.specs.Meaning.{
+  Grammar,
+  MarkedRule,
+  marked,
+  markIn,
+  Marked,
+  grammarOf,
+  Candidate,
+  candidate,
+  Utterance,
+  Edge,
+  edge,
+  word,
+  Node,
+  byPair,
+  byWord,
+}
 use Rattle.packing.specs.Parse.{Verdict, accepted, refused}
 use Rattle.packing.specs.Source.{values}
 use Rattle.packing.specs.Grammar.{ruleOf, rulesEntries}

@@ -11,7 +11,8 @@ use Rattle.phrases.specs.Padded.{join}
 module _ (a b : List ℕ) (i : ℕ) (la : length a ≡ 24) (lb : length b ≡ 24) (h : i ≤ 24) where
   pub two-copies : (z : List ℕ) → length z ≡ 24 → paste (paste z 0 a i) i b (24 - i) ≡ join a b i
   two-copies z lz =
-      let front : take i (paste z 0 a i) ≡ take i a = ap (λ (n : ℕ). take n (paste z 0 a i)) (sym (zero-add i)) ∙ take-paste z 0 a i (omega arith) (omega arith) in
+      let front : take i (paste z 0 a i) ≡ take i a = ap (λ (n : ℕ). take n (paste z 0 a i)) (sym (zero-add i))
+      ∙ take-paste z 0 a i (omega arith) (omega arith) in
       let size : length (paste z 0 a i) ≡ length z = length-paste z 0 a i (omega arith) (omega arith) in
       let rest : drop (i + (24 - i)) (paste z 0 a i) ≡ [] = drop-of-length-le (paste z 0 a i) {i = i + (24 - i)} (omega arith) in
       rw (front, rest) (append-nil (join a b i))

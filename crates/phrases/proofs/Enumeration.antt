@@ -4,7 +4,23 @@ use mathlib.Core.Path.{_≡_, refl, sym, ap, _∙_}
 use mathlib.Core.Logic.{⊎-elim, _↔_}
 use mathlib.Core.Bool.{Bool, true, false}
 use mathlib.Core.Option.{none}
-use mathlib.Core.List.{List, [], _∷_, _++_, map, head?, List·Memᴰ·head, List·Memᴰ·tail, List·Memᴰ·cases-cons, List·Memᴰ·not-nil, Memᴰ·cast, List·Memᴰ·append-cases, List·Memᴰ·eq-of-singleton, nil≢cons, cons≢nil}
+use mathlib.Core.List.{
+  List,
+  [],
+  _∷_,
+  _++_,
+  map,
+  head?,
+  List·Memᴰ·head,
+  List·Memᴰ·tail,
+  List·Memᴰ·cases-cons,
+  List·Memᴰ·not-nil,
+  Memᴰ·cast,
+  List·Memᴰ·append-cases,
+  List·Memᴰ·eq-of-singleton,
+  nil≢cons,
+  cons≢nil,
+}
 use Prim.Native.Nat.{ℕ, zero, suc, _<_, Ordering, Ordering·lt, Ordering·eq, Ordering·gt}
 use native.Mathlib.Omega.{arith}
 use lib.ListN.{length, getElem?}
@@ -69,7 +85,8 @@ strings-mem W (suc n) [] =
     ((λ m. let (x, h, k) = below-out _ W m in absurd (nil≢cons (map-out _ (strings W n) k .2))), λ m. absurd (omega arith))
 strings-mem W (suc n) (x ∷ s) = (to (strings-mem W n s .0), from (strings-mem W n s .1))
   where
-    to : (s ∈ strings W n → (length s ≡ n) × Below W s) → (x ∷ s) ∈ eachBelow (λ x. map (λ s. x ∷ s) (strings W n)) W → (suc (length s) ≡ suc n) × Below W (x ∷ s)
+    to : (s ∈ strings W n → (length s ≡ n) × Below W s) → (x ∷ s) ∈ eachBelow (λ x. map (λ s. x ∷ s) (strings W n)) W → (suc (length s) ≡ suc n)
+        × Below W (x ∷ s)
     to r m =
         let (y, h, k) = below-out (λ x. map (λ s. x ∷ s) (strings W n)) W m in
         let (t, i, e) = map-out (λ s. y ∷ s) (strings W n) k in
@@ -78,7 +95,8 @@ strings-mem W (suc n) (x ∷ s) = (to (strings-mem W n s .0), from (strings-mem 
         let (l, b) = r (Memᴰ·cast q i) in
         (ap suc l, (rw p h, b))
 
-    from : ((length s ≡ n) × Below W s → s ∈ strings W n) → (suc (length s) ≡ suc n) × Below W (x ∷ s) → (x ∷ s) ∈ eachBelow (λ x. map (λ s. x ∷ s) (strings W n)) W
+    from : ((length s ≡ n) × Below W s → s ∈ strings W n) → (suc (length s) ≡ suc n) × Below W (x ∷ s)
+        → (x ∷ s) ∈ eachBelow (λ x. map (λ s. x ∷ s) (strings W n)) W
     from r (l, (h, b)) = below-in (λ x. map (λ s. x ∷ s) (strings W n)) W x h (map-in (λ s. x ∷ s) (strings W n) (r (omega arith, b)))
 
 cons-ascending : (x : ℕ) (l : List (List ℕ)) → Ascending wordOrder l → Ascending wordOrder (map (λ s. x ∷ s) l)
@@ -100,7 +118,8 @@ below-ascending : (f : ℕ → List (List ℕ)) (n : ℕ) → ((x : ℕ) → Asc
 unfolding eachBelow
 below-ascending f zero h k = tt
 below-ascending f (suc n) h k =
-    append-ascending (f 0) (eachBelow (λ x. f (suc x)) n) (h 0) (below-ascending (λ x. f (suc x)) n (λ x. h (suc x)) (λ x y s t l. k (suc x) (suc y) s t (omega arith)))
+    append-ascending (f 0) (eachBelow (λ x. f (suc x)) n) (h 0)
+    (below-ascending (λ x. f (suc x)) n (λ x. h (suc x)) (λ x y s t l. k (suc x) (suc y) s t (omega arith)))
     (λ s t p q. let (y, b, q′) = below-out (λ x. f (suc x)) n q in k 0 (suc y) s t (omega arith) p q′)
 
 pub strings-ascending : (W n : ℕ) → Ascending wordOrder (strings W n)

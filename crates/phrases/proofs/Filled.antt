@@ -63,7 +63,8 @@ module _ (g : Grammar) (v : ValidGrammar g) (rule : ℕ → Rule) (stored : Stor
   unfolding leastAt
   least-filled A m a p l =
       of-cell A m a p (filled table Right (leastAt keeping rule (length (g .rules)) read) (32 * n) fits
-      (λ c x l f. fit (c / 32 + 1) (f .0) x (omega arith) (each (sized-of g v (symbolOf (c % 32)) (c / 32 + 1)) (f .1)) (f .2)) cell t room .1 (cellOf A m) (omega arith))
+      (λ c x l f. fit (c / 32 + 1) (f .0) x (omega arith) (each (sized-of g v (symbolOf (c % 32)) (c / 32 + 1)) (f .1)) (f .2)) cell t room .1 (cellOf A m)
+      (omega arith))
     where
       cell : (t : T) (c : ℕ) → c < 32 * n → ((d : ℕ) → d < c → Right d (read t d)) → Right c (leastAt keeping rule (length (g .rules)) read t c)
       cell t c l done =

@@ -43,7 +43,8 @@ least-first (x ∷ l) (a, b) = first (List·Memᴰ·head refl, λ t m. ⊎-elim 
 
 -- what comes at or after t comes at or after s, if s does not come after t
 at-or-after : (s t u : List ℕ) → (t ≡ s) ⊎ Precedes s t → (u ≡ t) ⊎ Precedes t u → (u ≡ s) ⊎ Precedes s u
-at-or-after s t u p q = ⊎-elim (λ e. ⊎-elim (λ f. inl (f ∙ e)) (λ h. inr (rw e at h)) q) (λ h. ⊎-elim (λ f. inr (rw f h)) (λ k. inr (order-lawful .chain s t u h k)) q) p
+at-or-after s t u p q = ⊎-elim (λ e. ⊎-elim (λ f. inl (f ∙ e)) (λ h. inr (rw e at h)) q)
+    (λ h. ⊎-elim (λ f. inr (rw f h)) (λ k. inr (order-lawful .chain s t u h k)) q) p
 
 -- the lesser of two
 pub lesser-least : {P Q : Property} {a b : Option (List ℕ)} → LeastOrNone P a → LeastOrNone Q b → LeastOrNone (λ s. P s ⊎ Q s) (lesserOf a b)

@@ -115,12 +115,14 @@ pub kept-word : (r x : ℕ) → Kept (suc r) (λ t. t ≡ x ∷ []) (x * scale r
 unfolding placed
 kept-word r x = record { under = λ t e. rw e (omega arith); reached = inr (x ∷ [], refl, omega arith) }
 
-pub kept-sum : (r j : ℕ) → j ≤ r → {P Q : Property} {a b : ℕ} → ((t : List ℕ) → P t → length t ≡ j) → Kept r P a → Kept (r - j) Q b → Kept r (Joined P Q) (a + b)
+pub kept-sum : (r j : ℕ) → j ≤ r → {P Q : Property} {a b : ℕ} → ((t : List ℕ) → P t → length t ≡ j) → Kept r P a → Kept (r - j) Q b
+    → Kept r (Joined P Q) (a + b)
 kept-sum r j h {P} {Q} {a} {b} sized k l = record {
   under = λ t (us, vs, p, q, e). let m = k .under us p in let n = l .under vs q in rw (e, both us vs p) (omega arith);
   reached =
       ⊎-elim (λ z. inl (omega arith))
-      (λ (us, p, x). ⊎-elim (λ z. inl (omega arith)) (λ (vs, q, y). inr (us ++ vs, (us, vs, p, q, refl), rw (both us vs p) (omega arith))) (l .reached)) (k .reached);
+      (λ (us, p, x). ⊎-elim (λ z. inl (omega arith)) (λ (vs, q, y). inr (us ++ vs, (us, vs, p, q, refl), rw (both us vs p) (omega arith))) (l .reached))
+      (k .reached);
 }
   where
     both : (us vs : List ℕ) → P us → placed r (us ++ vs) ≡ placed r us + placed (r - j) vs
@@ -136,4 +138,8 @@ module _ {P : Property} (n : ℕ) (h : n ≤ 6) (sized : (t : List ℕ) → P t 
   pub kept-first : {c : ℕ} → Kept 6 P c → c < noNumber → (s : List ℕ) × Least P s × (c ≡ placed 6 s)
   kept-first k l =
       ⊎-elim (λ z. absurd (omega arith))
-      (λ (s, p, e). (s, (p, λ t q. let (a, b) = sized t q in let m = k .under t q in placed-least 6 s t (sized s p .0 ∙ sym a) (omega arith) b (omega arith)), e)) (k .reached)
+      (λ (s, p, e). (
+        s,
+        (p, λ t q. let (a, b) = sized t q in let m = k .under t q in placed-least 6 s t (sized s p .0 ∙ sym a) (omega arith) b (omega arith)),
+        e,
+      )) (k .reached)

@@ -137,7 +137,10 @@ take-drop (suc i) n (x ∷ l) = rw suc-add (take-drop i n l)
 
 module _ (t : List ℕ) (c : ℕ) (x : List ℕ) (room : 24 * c + 24 ≤ length t) (fit : length x ≡ 24) where
   put-same : stringAt (putString t c x) c ≡ x
-  put-same = rw (take-paste t (24 * c) x 24 (omega arith) (omega arith), drop-at (take (24 * c) t) (take 24 x) (24 * c) (length-take-le (24 * c) t (omega arith))) (take-all 24 x (omega arith))
+  put-same = rw (
+    take-paste t (24 * c) x 24 (omega arith) (omega arith),
+    drop-at (take (24 * c) t) (take 24 x) (24 * c) (length-take-le (24 * c) t (omega arith)),
+  ) (take-all 24 x (omega arith))
 
   put-before : (d : ℕ) → d < c → stringAt (putString t c x) d ≡ stringAt t d
   put-before d h =

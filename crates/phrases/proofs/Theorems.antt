@@ -18,7 +18,19 @@ use Rattle.phrases.specs.Enumeration.{says, strings, passing, phrases, f
 use Rattle.phrases.proofs.Yields.{Yields, one, two, says-yields}
 use Rattle.phrases.proofs.Order.{order-lawful}
 use Rattle.phrases.proofs.Least.{LeastOrNone, least-same, least-first}
-use Rattle.phrases.proofs.Enumeration.{passing-mem, passing-ascending, Below, strings-mem, strings-ascending, says-true, less-precedes, precedes-less, head-at, above-at, passing-none}
+use Rattle.phrases.proofs.Enumeration.{
+  passing-mem,
+  passing-ascending,
+  Below,
+  strings-mem,
+  strings-ascending,
+  says-true,
+  less-precedes,
+  precedes-less,
+  head-at,
+  above-at,
+  passing-none,
+}
 
 pub below-append : (W : ℕ) (s t : List ℕ) → Below W s → Below W t → Below W (s ++ t)
 below-append W [] t a b = b

@@ -22,15 +22,21 @@ pub data Yields (g : Grammar) : Sym → List ℕ → Type 0 where
   two : {A B C : Sym} {us vs : List ℕ} (r w : ℕ) → At (g .rules) r (Pair A B C w) → Yields g B us → Yields g C vs → Yields g A (us ++ vs)
 
 -- edge e of a string goes from place e to the next, by word e
-edge-at : (i : ℕ) (us : List ℕ) (x : ℕ) (vs : List ℕ) → At (edgesFrom i (plain (us ++ x ∷ vs))) (length us) (edge (i + length us) (suc (i + length us)) (word x) 0)
+edge-at : (i : ℕ) (us : List ℕ) (x : ℕ) (vs : List ℕ)
+    → At (edgesFrom i (plain (us ++ x ∷ vs))) (length us) (edge (i + length us) (suc (i + length us)) (word x) 0)
 unfolding edgesFrom slotEdges plain
 edge-at i [] x vs = ap some (rw add-zero)
 edge-at i (y ∷ us) x vs = let e : i + suc (length us) ≡ suc i + length us = omega arith in rw e (edge-at (suc i) us x vs)
 
-edge-is : (a : ℕ) (ws : List ℕ) (e i k : ℕ) (x : W.Word) (c : ℕ) → At (edgesFrom a (plain ws)) e (edge i k x c) → (i ≡ a + e) × (k ≡ suc i) × (getElem? ws e ≡ some (x .0))
+edge-is : (a : ℕ) (ws : List ℕ) (e i k : ℕ) (x : W.Word) (c : ℕ) → At (edgesFrom a (plain ws)) e (edge i k x c) → (i ≡ a + e) × (k ≡ suc i)
+    × (getElem? ws e ≡ some (x .0))
 unfolding edgesFrom slotEdges plain
 edge-is a [] e i k x c h = let z : _≡_ {A = ℕ} 0 1 = cc in absurd (omega arith)
-edge-is a (y ∷ ws) zero i k x c h = (omega (arith, let z : i ≡ a = cc in z), (let z : k ≡ suc a = cc in let z₂ : i ≡ a = cc in omega arith), (let z : word y ≡ x = cc in rw (← z)))
+edge-is a (y ∷ ws) zero i k x c h = (
+  omega (arith, let z : i ≡ a = cc in z),
+  (let z : k ≡ suc a = cc in let z₂ : i ≡ a = cc in omega arith),
+  (let z : word y ≡ x = cc in rw (← z)),
+)
 edge-is a (y ∷ ws) (suc e) i k x c h = let (p, q, r) = edge-is (suc a) ws e i k x c h in (omega arith, q, r)
 
 -- element e of a list, and the part from i to k as the part to j and the part from j
@@ -53,11 +59,18 @@ length-plain (x ∷ ws) = ap suc (length-plain ws)
 
 module _ (g : Grammar) where
   -- a string derived, with whatever stands before and behind it
-  pub yields-derives : {A : Sym} {ws : List ℕ} → Yields g A ws → (us vs : List ℕ) → (0 < length ws) × ((t : Tree) × Derives g (edges (plain (us ++ (ws ++ vs)))) A (length us) (length us + length ws) t)
+  pub yields-derives : {A : Sym} {ws : List ℕ} → Yields g A ws → (us vs : List ℕ) → (0 < length ws)
+      × ((t : Tree) × Derives g (edges (plain (us ++ (ws ++ vs)))) A (length us) (length us + length ws) t)
   yields-derives (one {x = x} r w h) us vs =
       let e = edge-at 0 us x vs in
-      let n : length us + 1 ≡ suc (length us) = omega arith in
-      (omega arith, (leaf r (length us), rw n (by-word {e = length us} {w = w} {c = 0} {i = length us} {k = suc (length us)} h (rw zero-add at e, omega arith))))
+      let n : length us + 1 ≡ suc (length us) = omega arith in (
+        omega arith,
+        (
+          leaf r (length us),
+          rw n
+              (by-word {e = length us} {w = w} {c = 0} {i = length us} {k = suc (length us)} h (rw zero-add at e, omega arith)),
+        ),
+      )
   yields-derives (two {us = bs} {vs = cs} r w h l m) us vs =
       let (p, (s, d)) = yields-derives l us (cs ++ vs) in
       let (q, (t, f)) = yields-derives m (us ++ bs) vs in
@@ -70,7 +83,8 @@ module _ (g : Grammar) where
       (simp length-append (omega arith), (node r j s t, rw (n, append-assoc bs cs vs) whole))
 
   -- and a derivation over a part of a string: what stands before, the part, and what stands behind
-  derives-yields : (ws : List ℕ) {A : Sym} {i k : ℕ} {t : Tree} → Derives g (edges (plain ws)) A i k t → (i < k) × (k ≤ length ws) × Yields g A (take (k - i) (drop i ws))
+  derives-yields : (ws : List ℕ) {A : Sym} {i k : ℕ} {t : Tree} → Derives g (edges (plain ws)) A i k t → (i < k) × (k ≤ length ws)
+      × Yields g A (take (k - i) (drop i ws))
   derives-yields ws (by-word {x = x} {r} {e} {w} {c} {i} {k} h q) =
       let (p₁, p₂, p₃) = edge-is 0 ws e i k x c (q .0) in
       let n : i ≡ e = omega arith in
@@ -84,7 +98,8 @@ module _ (g : Grammar) where
 
   -- a grammar says the strings that its start yields
   pub says-yields : (ws : List ℕ) → Says g ws → Yields g (symbolOf 0) ws
-  says-yields ws (t, d) = let (p, q, y) = derives-yields ws (rw length-plain at d) in let n : length ws - 0 ≡ length ws = omega arith in rw (n, take-length) at y
+  says-yields ws (t, d) = let (p, q, y) = derives-yields ws (rw length-plain at d) in let n : length ws - 0 ≡ length ws = omega arith in
+      rw (n, take-length) at y
 
   pub yields-says : (ws : List ℕ) → Yields g (symbolOf 0) ws → Says g ws
   yields-says ws y = let (p, (t, d)) = yields-derives y [] [] in (t, rw length-plain (rw (append-nil, zero-add) at d))

@@ -33,7 +33,8 @@ module _ (n R : ℕ) (s : List ℕ) where
 
   reading-is : readingFrom n R s ≡ (headFrom n s ⟫ walkBehind)
   unfolding readingFrom headFrom
-  reading-is = join-two (fieldAt (bytes 31 s) 0 (blockKind 3 32)) (λ kind at. fieldAt (bytes 31 s) at (readingSlots n)) (λ m at. fieldAt (bytes 31 s) at readingWeight) walkBehind
+  reading-is = join-two (fieldAt (bytes 31 s) 0 (blockKind 3 32)) (λ kind at. fieldAt (bytes 31 s) at (readingSlots n))
+      (λ m at. fieldAt (bytes 31 s) at readingWeight) walkBehind
 
   pub head-failed : {m : ℕ} → headFrom n s ≡ failed m → readingFrom n R s ≡ failed m
   head-failed e = rw (reading-is, e)
@@ -47,9 +48,15 @@ pub head-place : (n : ℕ) (s : List ℕ) {w at : ℕ} → headFrom n s ≡ pars
 unfolding headFrom
 head-place n s e =
     let src = bytes 31 s in
-    let (kind, at1, p, e1) = both-parsed (fieldAt src 0 (blockKind 3 32)) (λ kind at. fieldAt src at (readingSlots n) ⟫ λ m at. fieldAt src at readingWeight) e in
+    let (kind, at1, p, e1) = both-parsed (fieldAt src 0 (blockKind 3 32)) (λ kind at. fieldAt src at (readingSlots n) ⟫ λ m at. fieldAt src at readingWeight)
+    e in
     let (m, at2, q, e2) = both-parsed (fieldAt src at1 (readingSlots n)) (λ m at. fieldAt src at readingWeight) e1 in
-    omega (arith, field-at-next (blockKind 3 32) src 0 4 (omega arith) (omega arith) p, field-at-next (readingSlots n) src at1 6 (omega arith) (omega arith) q, field-at-next readingWeight src at2 24 (omega arith) (omega arith) e2)
+    omega (
+      arith,
+      field-at-next (blockKind 3 32) src 0 4 (omega arith) (omega arith) p,
+      field-at-next (readingSlots n) src at1 6 (omega arith) (omega arith) q,
+      field-at-next readingWeight src at2 24 (omega arith) (omega arith) e2,
+    )
 
 -- the turns of the loop over the rule numbers, which stand in front of the array
 module _ (R : ℕ) (s : List ℕ) (count i at : ℕ) (array : List ℕ) where

@@ -1,4 +1,5 @@
--- What the reader of reading blocks answers: document 01, "Packed blocks". Assumes nothing.
+-- What the reader of reading blocks answers: document 01, "Packed blocks". Assumes nothing. Nobody need believe this page: no service's
+-- promise names it.
 use mathlib.Core.List.{List}
 use Prim.Native.Nat.{ℕ, _^_, _<_}
 use Rattle.packing.specs.Meaning.{Reading}

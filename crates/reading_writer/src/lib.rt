@@ -44,7 +44,9 @@ fn write_walk(out: &mut [u8], start: usize, rules: usize, trace: &[u32], n: usiz
 // A reading's block, in front of what stands in `out` beyond it. The trace has two numbers for each node, of which the first is the
 // rule's.
 pub fn write_reading(out: &mut [u8], n: usize, rules: usize, weight: u32, trace: &[u32])
-    requires { do ⌜ (1 ≤ n) × (n ≤ (← ⟦MAX_SLOTS⟧)) × (1 ≤ rules) × (rules ≤ (← ⟦MAX_RULES⟧)) × (2 * (2 * n - 1) ≤ length (now trace)) × (readingLength n rules ≤ length (now out)) ⌝ }
+    requires { do
+      ⌜ (1 ≤ n) × (n ≤ (← ⟦MAX_SLOTS⟧)) × (1 ≤ rules) × (rules ≤ (← ⟦MAX_RULES⟧)) × (2 * (2 * n - 1) ≤ length (now trace))
+          × (readingLength n rules ≤ length (now out)) ⌝ }
     ensures { λ _. ⌜ now (out .exit) ≡ blockOfReading rules (readingOf n weight (now (trace .entry)))
         ++ drop (length (blockOfReading rules (readingOf n weight (now (trace .entry))))) (now (out .entry)) ⌝ }
 {

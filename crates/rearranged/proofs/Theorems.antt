@@ -13,7 +13,19 @@ use Rattle.derivation.specs.Derivation.{At, Tree, leaf, node, weight, Derivatio
 use Rattle.derivation.specs.Order.{_▸_, costSum, order}
 use Rattle.derivation.specs.Rank.{_∈_, Distinct}
 use Rattle.derivation.specs.HeardList.{derivations}
-use Rattle.derivation.proofs.Comparison.{Lawful, turned, compare-self, compare-same, compare-turn, compare-below, compare-lawful, ▸-eq, ▸-first, number-turn, number-chain}
+use Rattle.derivation.proofs.Comparison.{
+  Lawful,
+  turned,
+  compare-self,
+  compare-same,
+  compare-turn,
+  compare-below,
+  compare-lawful,
+  ▸-eq,
+  ▸-first,
+  number-turn,
+  number-chain,
+}
 use Rattle.derivation.proofs.Lists.{at-take}
 use Rattle.derivation.proofs.Order.{order-lawful}
 use Rattle.derivation.proofs.Sorted.{ascending-distinct}
@@ -22,7 +34,15 @@ use Rattle.derivation.proofs.Rows.{Price, price, weightIn, costsIn, priceOf}
 use Rattle.rearranged.specs.Lists.{RearrangedLists}
 use Rattle.rearranged.specs.Rearranged.{Rearranged, renumber, SameRenumbered}
 use Rattle.rearranged.proofs.Ranks.{Climbs, Into, same-length, same-keys}
-use Rattle.rearranged.proofs.Renumber.{derives-below, renumber-injective, renumber-derives, derives-renumbered, derives-both, renumber-weight, renumber-costs}
+use Rattle.rearranged.proofs.Renumber.{
+  derives-below,
+  renumber-injective,
+  renumber-derives,
+  derives-renumbered,
+  derives-both,
+  renumber-weight,
+  renumber-costs,
+}
 
 -- by weight, then by cost sum
 unfoldable priceOrder : Price → Price → Ordering

@@ -90,7 +90,12 @@ module _ (marking : Bool) (src : Source) (S W R start : ℕ) where
         let w : parsed (p .rs) at ≡ whole = rw done at (p .left) in
         let size : length (p .rs) ≡ R = omega (arith, p .size) in
         let few : length (map markIn (p .rs)) ≡ i = rw (← p .borne) (length-take-le i marks space) in
-        record { answer = rw (← w, size); rows = rw (← w, few) (p .rows ∙ stored-overlaid before numbers (omega (arith, five-each)), p .borne); near = (refl, h) }
+        record {
+          answer = rw (← w, size);
+          rows = rw (← w, few) (p .rows ∙ stored-overlaid before numbers (omega (arith, five-each)), p .borne);
+          near =
+              (refl, h);
+        }
 
     one-more : i < R → R - i ≡ suc (R - (i + 1))
     one-more l = omega arith
@@ -114,7 +119,8 @@ module _ (marking : Bool) (src : Source) (S W R start : ℕ) where
             → i < length marks → Passed (i + 1) (c .at) (set keys i k) before array (set marks i m)
         unfolding unlikeFrom
         rule-passed f k key room array stored space =
-            let more : map ruleIn (p .rs ++ (marked (ruleBy n) m ∷ [])) ≡ map ruleIn (p .rs) ++ (ruleBy n ∷ []) = map-append ruleIn (p .rs) (marked (ruleBy n) m ∷ []) in
+            let more : map ruleIn (p .rs ++ (marked (ruleBy n) m ∷ [])) ≡ map ruleIn (p .rs) ++ (ruleBy n ∷ []) =
+            map-append ruleIn (p .rs) (marked (ruleBy n) m ∷ []) in
             record {
               rs = p .rs ++ (marked (ruleBy n) m ∷ []);
               size = simp length-append (omega (arith, p .size));

@@ -1,5 +1,5 @@
 -- The parts of the reader of a grammar's rules, for the contracts of its functions: document 01, "Packed blocks", and document 02, N5.
--- Assumes nothing.
+-- Assumes nothing. Nobody need believe this page: no service's promise names it.
 use mathlib.Core.Path.{_≡_}
 use mathlib.Core.List.{List, [], _∷_, map}
 use mathlib.Core.Bool.{Bool, true}

@@ -107,7 +107,9 @@ fn second_of(v: Vocabulary, kind: u32) -> Field
 // The rule at a place of the source.
 fn read_rule(src: Source, block: &[u8], sheet: &[u32], at: usize, v: Vocabulary) -> RuleRead
     requires { ⌜ (at < 2 ^ 16) × Ranges (v .symbols) (v .words) ⌝ }
-    ensures { λ r. do ⌜ (ruleRead r ≡ ruleFrom (sourceOf src (now (block .entry)) (now (sheet .entry))) (v .symbols) (v .words) at) × RuleNear (at + (← ⟦MAX_RULE_WIDTH⟧ .entry)) r ⌝ }
+    ensures { λ r. do
+      ⌜ (ruleRead r ≡ ruleFrom (sourceOf src (now (block .entry)) (now (sheet .entry))) (v .symbols) (v .words) at)
+          × RuleNear (at + (← ⟦MAX_RULE_WIDTH⟧ .entry)) r ⌝ }
 {
     let read = packing::field_at(src, block, sheet, at, format::RULE_KIND_FIELD);
     let Read::Number(kind, c) = read else {
@@ -164,7 +166,9 @@ fn read_marked(
     marked: bool,
 ) -> MarkedRead
     requires { ⌜ (at < 2 ^ 16) × Ranges (v .symbols) (v .words) ⌝ }
-    ensures { λ r. do ⌜ (markedRead r ≡ markedRuleFrom marked (sourceOf src (now (block .entry)) (now (sheet .entry))) (v .symbols) (v .words) at) × MarkedNear (at + (← ⟦MAX_MARKED_RULE_WIDTH⟧ .entry)) r ⌝ }
+    ensures { λ r. do
+      ⌜ (markedRead r ≡ markedRuleFrom marked (sourceOf src (now (block .entry)) (now (sheet .entry))) (v .symbols) (v .words) at)
+          × MarkedNear (at + (← ⟦MAX_MARKED_RULE_WIDTH⟧ .entry)) r ⌝ }
 {
     let rule = read_rule(src, block, sheet, at, v);
     match rule {
@@ -257,7 +261,8 @@ pub fn read_rules(
     requires { do
       ⌜ (start < 2 ^ 8) × Ranges (form .symbols) (form .words) × (form .count ≤ (← ⟦MAX_RULES⟧))
           × ((← ⟦RULES_LENGTH⟧) ≤ length (now rules)) × ((← ⟦MAX_RULES⟧) ≤ length (now marks)) ⌝ }
-    ensures { λ r. ⌜ RulesTold (form .marked) (sourceOf src (now (block .entry)) (now (sheet .entry))) (form .symbols) (form .words) (form .count) start r (now (rules .entry)) (now (rules .exit)) (now (marks .exit)) ⌝ }
+    ensures { λ r. ⌜ RulesTold (form .marked) (sourceOf src (now (block .entry)) (now (sheet .entry))) (form .symbols) (form .words) (form .count) start r
+        (now (rules .entry)) (now (rules .exit)) (now (marks .exit)) ⌝ }
 {
     let v = Vocabulary {
         symbols: form.symbols,

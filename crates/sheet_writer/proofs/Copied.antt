@@ -12,4 +12,11 @@ module _ (d h s : List ℕ) (n : ℕ) (l : n ≤ length s) where
   length-two = simp (length-append, length-take-le n s l)
 
   pub copied-two : paste (paste d 0 h (length h)) (length h) s n ≡ (h ++ take n s) ++ drop (length (h ++ take n s)) d
-  copied-two = rw (← length-two, take-length h, zero-add, take-append-seam h (drop (length h) d), drop-append-add h (drop (length h) d) n, drop-drop n (length h) d)
+  copied-two = rw (
+    ← length-two,
+    take-length h,
+    zero-add,
+    take-append-seam h (drop (length h) d),
+    drop-append-add h (drop (length h) d) n,
+    drop-drop n (length h) d,
+  )

@@ -1,5 +1,5 @@
--- What a writer answers and leaves behind: document 01, "The services": the length written, or the refusal. Assumes
--- nothing.
+-- What a writer answers and leaves behind: document 01, "The services": the length written, or the refusal. Assumes nothing. Nobody need
+-- believe this page: Demands says what a conversion answers and leaves behind.
 use mathlib.Core.Path.{_≡_}
 use mathlib.Core.List.{List}
 use Prim.Native.Nat.{ℕ}

@@ -1,5 +1,5 @@
--- The fields of a grammar and of an utterance that stand in a flat array of numbers, for the contracts of the writers:
--- document 01, "Packed blocks". Assumes nothing.
+-- The fields of a grammar and of an utterance that stand in a flat array of numbers, for the contracts of the writers: document 01, "Packed
+-- blocks". Assumes nothing. Nobody need believe this page: no service's promise names it.
 use mathlib.Core.Bool.{Bool}
 use mathlib.Core.List.{List, [], _∷_, _++_}
 use Prim.Native.Nat.{ℕ, zero, suc, _+_, _-_, _*_, _/_}

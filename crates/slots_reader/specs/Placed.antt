@@ -1,5 +1,5 @@
--- What the inner readers promise of a part of document 01's utterance block or sheet: what was read stands in the array, and
--- the answer says where it ends. Assumes nothing.
+-- What the inner readers promise of a part of document 01's utterance block or sheet: what was read stands in the array, and the answer
+-- says where it ends. Assumes nothing. Nobody need believe this page: no service's promise names it.
 use mathlib.Core.Path.{_≡_}
 use mathlib.Core.List.{List, _∷_}
 use Prim.Native.Nat.{ℕ, _+_}

@@ -99,7 +99,8 @@ fn read_candidates(
     slots: &mut [u32],
 ) -> Placed
     requires { do ⌜ (p .at < 2 ^ 30) × (count ≤ (← ⟦MAX_CANDIDATES⟧)) × (p .to + 2 * count ≤ length (now slots)) × (0 < words) × (words ≤ (← ⟦MAX_WORDS⟧)) ⌝ }
-    ensures { λ r. ⌜ PlacedAs (candidateNumbers words) (now (slots .entry)) (p .to) (now (slots .exit)) (candidatesFrom (sourceOf src (now (block .entry)) (now (sheet .entry))) words count 0 (p .at) []) r ⌝ }
+    ensures { λ r. ⌜ PlacedAs (candidateNumbers words) (now (slots .entry)) (p .to) (now (slots .exit))
+        (candidatesFrom (sourceOf src (now (block .entry)) (now (sheet .entry))) words count 0 (p .at) []) r ⌝ }
 {
     let to = p.to;
     let mut at = p.at;
@@ -132,7 +133,8 @@ fn read_slot(
     slots: &mut [u32],
 ) -> Placed
     requires { do ⌜ (p .at < 2 ^ 29) × (p .to + (← ⟦SLOT_LENGTH⟧) ≤ length (now slots)) × (0 < words) × (words ≤ (← ⟦MAX_WORDS⟧)) ⌝ }
-    ensures { λ r. ⌜ PlacedAs (oneSlotNumbers words) (now (slots .entry)) (p .to) (now (slots .exit)) (slotFrom (sourceOf src (now (block .entry)) (now (sheet .entry))) words (p .at)) r ⌝ }
+    ensures { λ r. ⌜ PlacedAs (oneSlotNumbers words) (now (slots .entry)) (p .to) (now (slots .exit))
+        (slotFrom (sourceOf src (now (block .entry)) (now (sheet .entry))) words (p .at)) r ⌝ }
 {
     let at = p.at;
     let to = p.to;
@@ -159,7 +161,8 @@ pub fn read_slots(
     slots: &mut [u32],
 ) -> Placed
     requires { do ⌜ (start < 2 ^ 28) × (count ≤ (← ⟦MAX_SLOTS⟧)) × ((← ⟦SLOTS_LENGTH⟧) ≤ length (now slots)) × (0 < words) × (words ≤ (← ⟦MAX_WORDS⟧)) ⌝ }
-    ensures { λ r. ⌜ PlacedAs (slotNumbers words) (now (slots .entry)) 0 (now (slots .exit)) (slotsFrom (sourceOf src (now (block .entry)) (now (sheet .entry))) words count start []) r ⌝ }
+    ensures { λ r. ⌜ PlacedAs (slotNumbers words) (now (slots .entry)) 0 (now (slots .exit))
+        (slotsFrom (sourceOf src (now (block .entry)) (now (sheet .entry))) words count start []) r ⌝ }
 {
     let mut p = Places { at: start, to: 0 };
     let mut i: usize = 0;

@@ -45,7 +45,8 @@ fitted-is S W s w (Word h x k) (p, q) = let e : x .0 % 256 ≡ x .0 = mod-eq-of-
 
 -- a rule of another head makes nothing
 module _ {O : Type 0} (addSplit : Sym → Sym → ℕ → O → O) (addWord : ℕ → O → O) (A : Sym) (m : ℕ) (o : O) where
-  other-rule : (b : Bool) (H B C : Sym) (x : Word.Word) (w w′ : ℕ) → (H .0 ≡ A .0 → ⊥) → byRule addSplit addWord A m o (fitted (pick b (Pair H B C w) (Word H x w′))) ≡ o
+  other-rule : (b : Bool) (H B C : Sym) (x : Word.Word) (w w′ : ℕ) → (H .0 ≡ A .0 → ⊥)
+      → byRule addSplit addWord A m o (fitted (pick b (Pair H B C w) (Word H x w′))) ≡ o
   unfolding byRule
   other-rule true H B C x w w′ h = rw (ne-eqb (H .0) (A .0) h)
   other-rule false H B C x w w′ h = rw (ne-eqb (H .0) (A .0) h)
@@ -53,6 +54,7 @@ module _ {O : Type 0} (addSplit : Sym → Sym → ℕ → O → O) (addWord : �
   other-head : (rules : List ℕ) (r : ℕ) → (getD rules (5 * r + 1) 0 ≡ A .0 → ⊥) → byRule addSplit addWord A m o (fittedAt rules r) ≡ o
   other-head rules r h = other-rule (eqb (getD rules (5 * r) 0) 0) (symbolOf (getD rules (5 * r + 1) 0)) _ _ _ _ _ h
 
-pub passed-over : (t : List ℕ) (a : Sym) (m : ℕ) (best rules : List ℕ) (r : ℕ) → (getD rules (5 * r + 1) 0 ≡ a .0 → ⊥) → best ≡ lesserRule t a m best (fittedAt rules r)
+pub passed-over : (t : List ℕ) (a : Sym) (m : ℕ) (best rules : List ℕ) (r : ℕ) → (getD rules (5 * r + 1) 0 ≡ a .0 → ⊥) → best
+    ≡ lesserRule t a m best (fittedAt rules r)
 unfolding lesserRule
 passed-over t a m best rules r h = sym (other-head (lesserSplit t m) (λ x best. lesserWord best x) a m best rules r h)

@@ -68,5 +68,6 @@ module _ (g : Grammar) (v : ValidGrammar g) (rules : List ℕ) (b : Begins (rule
     pub string-said : (out : List ℕ) {exit : List ℕ} → (getD full at 0 ≡ 255 → ⊥) → exit ≡ paste out 0 (lent full at) n
         → (Written ≡ answeredOf (accepted (firstPhrase g n))) × (exit ≡ outputOf (accepted (firstPhrase g n)) out)
     string-said out h x =
-        let (told, shown) = written-told (g .words) n (valid-sizes g v .3) pos (firstPhrase g n) _ out all-sized found (λ y. h (sym (first-byte full at) ∙ y)) in
+        let (told, shown) = written-told (g .words) n (valid-sizes g v .3) pos (firstPhrase g n) _ out all-sized found
+        (λ y. h (sym (first-byte full at) ∙ y)) in
         (told, x ∙ ap (λ (l : List ℕ). paste out 0 l n) (lent-is full at) ∙ shown)

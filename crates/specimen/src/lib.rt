@@ -63,7 +63,9 @@ fn lesser_split(
     j: usize,
     best: [u8; MAX_SLOTS],
 ) -> [u8; MAX_SLOTS]
-    requires { do ⌜ (length (now table) ≡ (← ⟦TABLE_LENGTH⟧)) × (b .0 < (← ⟦SYMBOLS⟧)) × (c .0 < (← ⟦SYMBOLS⟧)) × (0 < j) × (j < len) × (len ≤ (← ⟦MAX_SLOTS⟧)) ⌝ }
+    requires { do
+      ⌜ (length (now table) ≡ (← ⟦TABLE_LENGTH⟧)) × (b .0 < (← ⟦SYMBOLS⟧)) × (c .0 < (← ⟦SYMBOLS⟧)) × (0 < j) × (j < len)
+          × (len ≤ (← ⟦MAX_SLOTS⟧)) ⌝ }
     ensures { λ r. ⌜ r ≡ lesserSplit (now (table .entry)) len b c j best ⌝ }
 {
     let left = place_of(b, j);
@@ -151,7 +153,8 @@ fn fill_table(table: &mut [u8], rules: &[u32], count: usize, n: usize)
 // The answer for a grammar that was accepted and a length that there is room for.
 fn answer(rules: &[u32], sizes: Sizes, n: usize, out: &mut [u8]) -> Answered
     requires { do ⌜ Bounded sizes × (0 < n) × (n ≤ (← ⟦MAX_SLOTS⟧)) × (n ≤ length (now out)) ⌝ }
-    ensures { λ r. ⌜ ((g : Grammar) → sizes ≡ sizesOf g → ValidGrammar g → Begins (ruleNumbers g) (now (rules .entry)) → (r ≡ answeredOf (accepted (firstPhrase g n))) × (now (out .exit) ≡ outputOf (accepted (firstPhrase g n)) (now (out .entry)))) ⌝ }
+    ensures { λ r. ⌜ ((g : Grammar) → sizes ≡ sizesOf g → ValidGrammar g → Begins (ruleNumbers g) (now (rules .entry))
+        → (r ≡ answeredOf (accepted (firstPhrase g n))) × (now (out .exit) ≡ outputOf (accepted (firstPhrase g n)) (now (out .entry)))) ⌝ }
 {
     let mut table = [0u8; TABLE_LENGTH];
     fill_table(&mut table, rules, sizes.rules as usize, n);

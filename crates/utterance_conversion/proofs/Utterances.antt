@@ -43,7 +43,8 @@ module _ (W : ℕ) where
         rw (map-append fldOf es (slotsEntries W u), widths-append, candidates-bits cs 0, add-mul) (omega arith),
       )
 
-  pub slots-bits : (u : Utterance) → (length u ≤ length (slotNumbers W u)) × (widths (flds (slotsEntries W u)) ≡ slotsBits W (length u) (length (slotNumbers W u)))
+  pub slots-bits : (u : Utterance) → (length u ≤ length (slotNumbers W u))
+      × (widths (flds (slotsEntries W u)) ≡ slotsBits W (length u) (length (slotNumbers W u)))
   slots-bits u =
       let (k, n, b) = counted u in
       let h : (length (slotNumbers W u) - length u) / 2 ≡ k = omega arith in

@@ -1,5 +1,5 @@
--- The edges of an utterance whose slots stand in an array: document 01, "Grammars and derivations", an utterance's slots.
--- Assumes nothing.
+-- The edges of an utterance whose slots stand in an array: document 01, "Grammars and derivations", an utterance's slots. Assumes nothing.
+-- Nobody need believe this page: no service's promise names it.
 use mathlib.Core.List.{List}
 use Prim.Native.Nat.{ℕ, min}
 use lib.ListN.{getD}

@@ -27,7 +27,8 @@ pub promised-refusal : (W : ℕ) {v : Verdict Utterance} (after : List ℕ) {n :
 promised-refusal W after e = rw e (refl, tt, tt)
 
 pub promised-slots : (W : ℕ) {v : Verdict Utterance} (after : List ℕ) {u : Utterance} {found : Slots} → v ≡ accepted u → ValidUtterance W u
-    → found ≡ record { count = length u; numbers = length (slotNumbers W u) } → Begins (slotNumbers W u) after → Promised W v after (R.the-variants.Utterance found)
+    → found ≡ record { count = length u; numbers = length (slotNumbers W u) } → Begins (slotNumbers W u) after
+    → Promised W v after (R.the-variants.Utterance found)
 promised-slots W after {u} e valid f h = rw (e, f) (refl, h, valid-size W u valid)
 
 -- the ways out of a block's reader

@@ -12,7 +12,8 @@ use Rattle.utterance_reader.specs.Parts.{SlotsAs, slots, no-slots}
 use Rattle.utterance_reader.specs.declared.Slots.{Slots}
 use Rattle.utterance_reader.specs.declared.SlotsRead as L
 
-pub slots-told : {W : ℕ} {after : List ℕ} {x : Parse Utterance} {r : L.SlotsRead} {found : Slots} {c : Cursor} → SlotsAs W after x r → r ≡ L.the-variants.Read found c
+pub slots-told : {W : ℕ} {after : List ℕ} {x : Parse Utterance} {r : L.SlotsRead} {found : Slots} {c : Cursor} → SlotsAs W after x r → r
+    ≡ L.the-variants.Read found c
     → (u : Utterance) × (x ≡ parsed u (c .at)) × (found ≡ record { count = length u; numbers = length (slotNumbers W u) }) × Begins (slotNumbers W u) after
 slots-told {c = c} (slots u next h) e =
     let same : _≡_ {A = Cursor} (record { at = next }) c = cc in

@@ -1,5 +1,5 @@
--- What the readers of utterance blocks and sheets answer: document 01, "Packed blocks" and the rows utterance block and
--- sheet of "Where each check stands". Assumes nothing.
+-- What the readers of utterance blocks and sheets answer: document 01, "Packed blocks" and the rows utterance block and sheet of "Where
+-- each check stands". Assumes nothing. Nobody need believe this page: no service's promise names it.
 use Prim.Native.Nat.{ℕ, _*_, _≤_}
 use lib.ListN.{length}
 use Rattle.packing.specs.Meaning.{Utterance}

@@ -1,5 +1,5 @@
--- What the reader of an utterance's slots promises of document 01's utterance block or sheet: what was read stands in the
--- array, and the answer says where it ends. Assumes nothing.
+-- What the reader of an utterance's slots promises of document 01's utterance block or sheet: what was read stands in the array, and the
+-- answer says where it ends. Assumes nothing. Nobody need believe this page: no service's promise names it.
 use mathlib.Core.List.{List}
 use Prim.Native.Nat.{ℕ}
 use lib.ListN.{length}

@@ -69,7 +69,8 @@ fn read_utterance(
 // The utterance of a block under a grammar of `words` words.
 pub fn read_block(block: &[u8], words: u32, slots: &mut [u32]) -> UtteranceRead
     requires { do ⌜ ((← ⟦SLOTS_LENGTH⟧) ≤ length (now slots)) × (0 < words) × (words ≤ (← ⟦MAX_WORDS⟧)) ⌝ }
-    ensures { λ r. ⌜ (r ≡ answerOf words (utteranceBlock words (now (block .entry)))) × SlotsIn words (utteranceBlock words (now (block .entry))) (now (slots .exit)) × Sized r ⌝ }
+    ensures { λ r. ⌜ (r ≡ answerOf words (utteranceBlock words (now (block .entry))))
+        × SlotsIn words (utteranceBlock words (now (block .entry))) (now (slots .exit)) × Sized r ⌝ }
 {
     let sheet = [0u32; 1];
     let src = Source::Block(refused::UTTERANCE_END);
@@ -93,7 +94,8 @@ pub fn read_block(block: &[u8], words: u32, slots: &mut [u32]) -> UtteranceRead
 // The utterance of a sheet under a grammar of `words` words.
 pub fn read_sheet(sheet: &[u32], words: u32, slots: &mut [u32]) -> UtteranceRead
     requires { do ⌜ ((← ⟦SLOTS_LENGTH⟧) ≤ length (now slots)) × (0 < words) × (words ≤ (← ⟦MAX_WORDS⟧)) ⌝ }
-    ensures { λ r. ⌜ (r ≡ answerOf words (utteranceSheet words (now (sheet .entry)))) × SlotsIn words (utteranceSheet words (now (sheet .entry))) (now (slots .exit)) × Sized r ⌝ }
+    ensures { λ r. ⌜ (r ≡ answerOf words (utteranceSheet words (now (sheet .entry))))
+        × SlotsIn words (utteranceSheet words (now (sheet .entry))) (now (slots .exit)) × Sized r ⌝ }
 {
     let block = [0u8; 1];
     match read_utterance(Source::Sheet, &block, sheet, 0, words, slots) {

@@ -27,7 +27,11 @@ cast-result-2 : tie.Need-cast-result-2
 cast-result-2 c = omega (arith, c .shared-slice-known2 .given (c .before .before .args .first + 1))
 
 add-result : tie.Need-add-result
-add-result c = omega (arith, c .before .shared-slice-known .given (c .before .before .args .first), c .shared-slice-known2 .given (c .before .before .args .first + 1))
+add-result c = omega (
+  arith,
+  c .before .shared-slice-known .given (c .before .before .args .first),
+  c .shared-slice-known2 .given (c .before .before .args .first + 1),
+)
 
 returns : tie.Need-returns
 returns c =

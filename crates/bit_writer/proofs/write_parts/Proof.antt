@@ -64,7 +64,9 @@ same-length : tie.Need-same-length Inv-loop μ-loop
 same-length c = search needs
 
 returns : tie.Need-returns Inv-loop μ-loop
-returns c = let a = c .before .before .before .args in put-all (a .out .now) (a .at) (a .width) (a .value) (c .before .loop .done) (omega arith) (c .before .loop .inv .2)
+returns c =
+    let at-args = c .before .before .before in
+    let a = at-args .args in put-all (a .out .now) (a .at) (a .width) (a .value) (c .before .loop .done) (omega arith) (c .before .loop .inv .2)
 
 pub write-parts-spec : {M : Type 1} → statement M
 write-parts-spec =

@@ -27,7 +27,9 @@ slice-aggregate-print-rows : tie.Need-slice-aggregate-print-rows
 slice-aggregate-print-rows c = search needs
 
 print-rows-requires : tie.Need-print-rows-requires
-print-rows-requires c κs = found-few library _ _ 8 _ _ (c .before .before .before .before .before .before .before .before .lines .ensures .0) (c .before .before .answer .given .1)
+print-rows-requires c κs =
+    let at-lines = c .before .before .before .before .before .before .before .before in
+    found-few library _ _ 8 _ _ (at-lines .lines .ensures .0) (c .before .before .answer .given .1)
 
 enum-told : tie.Need-enum-told
 enum-told c = search needs

@@ -27,7 +27,13 @@ slice-aggregate-search : tie.Need-slice-aggregate-search
 slice-aggregate-search c = search needs
 
 search-requires : tie.Need-search-requires
-search-requires c κs = (let zeros = c .before .before .before .before .zero-front .ensures (rw (c .before .before .before .before .before .before .before .before .before .before .before .zero-behind .kept .0) (c .before .before .before .before .before .before .before .before .before .before .before .zero-behind .ensures)) ∙ ap (λ (n : ℕ). replicate n 0) (c .before .before .before .before .before .before .before .before .before .before .before .zero-behind .kept .0) in (c .before .before .before .before .before .before .before .before .before .before .before .before .before .before .before .before .before .pre .0, search needs, λ x. rw zeros (zeros-at (length (c .before .before .before .before .before .before .before .before .before .before .before .before .before .before .before .before .before .args .t .now)) x)))
+search-requires c κs =
+    let at-zero-front = c .before .before .before .before in
+    let at-zero-behind = at-zero-front .before .before .before .before .before .before .before in
+    let at-pre = at-zero-behind .before .before .before .before .before .before in
+    (let zeros = at-zero-front .zero-front .ensures (rw (at-zero-behind .zero-behind .kept .0) (at-zero-behind .zero-behind .ensures))
+    ∙ ap (λ (n : ℕ). replicate n 0) (at-zero-behind .zero-behind .kept .0) in
+    (at-pre .pre .0, search needs, λ x. rw zeros (zeros-at (length (at-pre .args .t .now)) x)))
 
 root-requires : tie.Need-root-requires
 root-requires c κs = search needs
@@ -43,7 +49,19 @@ same-length c = search needs
 
 returns : tie.Need-returns
 unfolding enumerate rootsFound
-returns c = let zeros = c .before .before .before .before .before .before .before .before .before .before .before .zero-front .ensures (rw (c .before .before .before .before .before .before .before .before .before .before .before .before .before .before .before .before .before .before .zero-behind .kept .0) (c .before .before .before .before .before .before .before .before .before .before .before .before .before .before .before .before .before .before .zero-behind .ensures)) ∙ ap (λ (n : ℕ). replicate n 0) (c .before .before .before .before .before .before .before .before .before .before .before .before .before .before .before .before .before .before .zero-behind .kept .0) in (rw (← c .before .before .before .before .before .before .before .before .before .before .before .before .before .before .make-index .ensures, ← zeros) (c .before .before .before .before .before .before .search .ensures), (rw (← c .before .before .root .ensures, ← c .before .cell-number .ensures .0) (c .first-missing .ensures .0), c .first-missing .ensures .1))
+returns c =
+    let at-search = c .before .before .before .before .before .before in
+    let at-zero-front = at-search .before .before .before .before .before in
+    let at-make-index = at-zero-front .before .before .before in
+    let at-zero-behind = at-make-index .before .before .before .before in
+    let zeros = at-zero-front .zero-front .ensures (rw (at-zero-behind .zero-behind .kept .0) (at-zero-behind .zero-behind .ensures))
+    ∙ ap (λ (n : ℕ). replicate n 0) (at-zero-behind .zero-behind .kept .0) in (
+      rw (← at-make-index .make-index .ensures, ← zeros) (at-search .search .ensures),
+      (
+        rw (← c .before .before .root .ensures, ← c .before .cell-number .ensures .0) (c .first-missing .ensures .0),
+        c .first-missing .ensures .1,
+      ),
+    )
 
 pub enumerate-spec : {M : Type 1} → statement M
 enumerate-spec =

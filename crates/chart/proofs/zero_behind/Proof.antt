@@ -24,7 +24,10 @@ same-length : tie.Need-same-length
 same-length c = search needs
 
 returns : tie.Need-returns
-returns c = put-behind (c .before .before .before .before .before .before .args .front) (c .before .before .before .before .before .before .args .t .now) (c .before .before .before .before .if1 .taken) (c .before .before .zero .ensures)
+returns c =
+    let at-if1 = c .before .before .before .before in
+    let at-args = at-if1 .before .before in
+    put-behind (at-args .args .front) (at-args .args .t .now) (at-if1 .if1 .taken) (c .before .before .zero .ensures)
 
 returns-2 : tie.Need-returns-2
 returns-2 c = none-behind (c .before .before .args .front) (c .before .before .args .t .now) (omega (arith, c .if1 .left))

@@ -22,7 +22,10 @@ same-length : tie.Need-same-length
 same-length c = search needs
 
 returns : tie.Need-returns
-returns c = λ behind. front-zeros (c .before .before .before .before .before .before .args .front) (c .before .before .before .before .before .before .args .t .now) (c .before .before .before .before .if1 .taken) (c .before .before .zero .ensures) behind
+returns c =
+    let at-if1 = c .before .before .before .before in
+    let at-args = at-if1 .before .before in
+    λ behind. front-zeros (at-args .args .front) (at-args .args .t .now) (at-if1 .if1 .taken) (c .before .before .zero .ensures) behind
 
 same-length-2 : tie.Need-same-length-2
 same-length-2 c = search needs

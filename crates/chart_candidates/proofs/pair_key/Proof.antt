@@ -24,7 +24,18 @@ back-number-requires c κs = search needs
 
 returns : tie.Need-returns
 unfolding pairKey
-returns c = rw (c .back-number .ensures .0, c .before .join-price .ensures, c .before .before .price-at2 .ensures .0, c .before .before .before .cell-number2 .ensures .0, c .before .before .before .before .price-at .ensures .0, c .before .before .before .before .before .cell-number .ensures .0)
+returns c =
+    let at-cell-number2 = c .before .before .before in
+    let at-price-at = at-cell-number2 .before in
+    let at-cell-number = at-price-at .before in
+    rw (
+      c .back-number .ensures .0,
+      c .before .join-price .ensures,
+      c .before .before .price-at2 .ensures .0,
+      at-cell-number2 .cell-number2 .ensures .0,
+      at-price-at .price-at .ensures .0,
+      at-cell-number .cell-number .ensures .0,
+    )
 
 pub pair-key-spec : {M : Type 1} → statement M
 pair-key-spec =

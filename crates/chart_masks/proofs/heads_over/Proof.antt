@@ -35,10 +35,17 @@ loop-less : tie.Need-loop-less Inv-loop μ-loop
 loop-less c = search needs
 
 loop-again : tie.Need-loop-again Inv-loop μ-loop
-loop-again c = (search needs, heads-next (c .edge-heads .result) (c .before .before .before .loop .inv .1) (rw (c .before .number-at .ensures .0) at (c .edge-heads .ensures)))
+loop-again c =
+    let at-loop = c .before .before .before in
+    (search needs, heads-next (c .edge-heads .result) (at-loop .loop .inv .1) (rw (c .before .number-at .ensures .0) at (c .edge-heads .ensures)))
 
 returns : tie.Need-returns Inv-loop μ-loop
-returns c = record { has = λ z h l. c .before .loop .inv .1 .has z (omega (arith, h, c .before .before .before .class-start .ensures .0)) (omega (arith, l, c .before .before .class-end .ensures .0, c .loop-test .left)) }
+returns c =
+    let at-class-start = c .before .before .before in
+    record {
+      has = λ z h l. c .before .loop .inv .1 .has z (omega (arith, h, at-class-start .class-start .ensures .0))
+          (omega (arith, l, c .before .before .class-end .ensures .0, c .loop-test .left));
+    }
 
 pub heads-over-spec : {M : Type 1} → statement M
 heads-over-spec =

@@ -29,7 +29,11 @@ narrow-at-requires-4 : tie.Need-narrow-at-requires-4
 narrow-at-requires-4 c κs = search needs
 
 returns : tie.Need-returns
-returns c = rw (c .before .before .before .before .before .before .narrow-at .ensures, c .before .before .before .before .narrow-at2 .ensures, c .before .before .narrow-at3 .ensures, c .narrow-at4 .ensures) (live-parts _ _ _ _)
+returns c =
+    let at-narrow-at2 = c .before .before .before .before in
+    let at-narrow-at = at-narrow-at2 .before .before in
+    rw (at-narrow-at .narrow-at .ensures, at-narrow-at2 .narrow-at2 .ensures, c .before .before .narrow-at3 .ensures, c .narrow-at4 .ensures)
+    (live-parts _ _ _ _)
 
 pub live-heads-spec : {M : Type 1} → statement M
 live-heads-spec =

@@ -62,8 +62,19 @@ same-length : tie.Need-same-length
 same-length c = search needs
 
 returns : tie.Need-returns
-returns c = marked-puts _ _ _ _ _ _ (c .before .before .before .before .before .before .before .before .before .before .before .before .before .before .before .before .before .before .before .before .before .before .before .before .before .before .wide .ensures .0) (c .before .before .before .before .before .before .before .before .before .before .before .before .before .before .before .before .before .before .before .before .before .before .before .before .before .before .before .before .pre .2) (c .before .before .before .before .before .before .before .before .before .before .before .before .before .before .before .before .before .before .before .before .before .before .before .before .before .before .before .before .pre .0) (c .before .before .before .before .before .before .before .before .before .before .before .before .before .before .before .before .before .before .before .before .before .before .before .before .before .before .before .before .pre .1) (c .before .before .before .before .before .before .before .before .before .before .before .before .before .before .before .before .before .before .before .only .ensures) (c .before .before .before .before .before .before .before .before .before .before .before .before .before .only2 .ensures) (c .before .before .before .before .before .before .before .before .before .before .before .before .before .before .before .before .before .before .before .before .before .before .before .before .narrow-at .ensures) (c .before .before .before .before .before .before .before .before .before .before .before .before .before .before .before .before .before .before .before .before .before .before .narrow-at2 .ensures)
-    (c .before .before .before .before .before .before .before .before .before .before .before .before .before .before .before .before .before .before .put .ensures) (c .before .before .before .before .before .before .before .before .before .before .before .before .put2 .ensures) (c .before .before .before .before .before .before .before .put3 .ensures) (c .before .before .put4 .ensures) (search needs)
+returns c =
+    let at-put3 = c .before .before .before .before .before .before .before in
+    let at-put2 = at-put3 .before .before .before .before .before in
+    let at-only2 = at-put2 .before in
+    let at-put = at-only2 .before .before .before .before .before in
+    let at-only = at-put .before in
+    let at-narrow-at2 = at-only .before .before .before in
+    let at-narrow-at = at-narrow-at2 .before .before in
+    let at-wide = at-narrow-at .before .before in
+    let at-pre = at-wide .before .before in
+    marked-puts _ _ _ _ _ _ (at-wide .wide .ensures .0) (at-pre .pre .2) (at-pre .pre .0) (at-pre .pre .1) (at-only .only .ensures) (at-only2 .only2 .ensures)
+    (at-narrow-at .narrow-at .ensures) (at-narrow-at2 .narrow-at2 .ensures)
+    (at-put .put .ensures) (at-put2 .put2 .ensures) (at-put3 .put3 .ensures) (c .before .before .put4 .ensures) (search needs)
 
 pub mark-spec : {M : Type 1} → statement M
 mark-spec =

@@ -57,12 +57,20 @@ loop-less : tie.Need-loop-less Inv-loop μ-loop
 loop-less c = search needs
 
 loop-again : tie.Need-loop-again Inv-loop μ-loop
-loop-again c = (
-  search needs,
-  search needs,
-  search needs,
-  more-next (c .before .before .before .before .slot .result) (c .before .before .before .before .before .before .number-at2 .result) (c .before .before .before .before .before .before .before .before .before .before .before .only .result) (c .before .before .before .before .before .before .before .before .before .before .before .before .before .before .before .before .before .pre .0 .3) (c .before .before .before .before .before .before .before .before .before .before .loop .inv .3) (rw (← c .before .before .before .before .before .before .before .before .number-at .ensures .0) (c .before .before .before .before .before .before .number-at2 .ensures .0)) (c .before .before .before .before .slot .ensures .0) (c .before .before .before .before .before .before .before .before .before .before .before .only .ensures) (c .before .before .put .ensures),
-)
+loop-again c =
+    let at-slot = c .before .before .before .before in
+    let at-number-at2 = at-slot .before .before in
+    let at-number-at = at-number-at2 .before .before in
+    let at-loop = at-number-at .before .before in
+    let at-only = at-loop .before in
+    let at-pre = at-only .before .before .before .before .before .before in (
+      search needs,
+      search needs,
+      search needs,
+      more-next (at-slot .slot .result) (at-number-at2 .number-at2 .result) (at-only .only .result) (at-pre .pre .0 .3) (at-loop .loop .inv .3)
+          (rw (← at-number-at .number-at .ensures .0) (at-number-at2 .number-at2 .ensures .0)) (at-slot .slot .ensures .0) (at-only .only .ensures)
+          (c .before .before .put .ensures),
+    )
 
 same-length : tie.Need-same-length Inv-loop μ-loop
 same-length c = c .before .loop .inv .2

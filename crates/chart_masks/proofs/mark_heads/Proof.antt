@@ -28,7 +28,13 @@ loop-less : tie.Need-loop-less Inv-loop μ-loop
 loop-less c = search needs
 
 loop-again : tie.Need-loop-again Inv-loop μ-loop
-loop-again c = (search needs, search needs, members-next (c .before .before .before .before .before .loop .inv .2) (c .before .before .mark-head .ensures), grown-more (c .before .before .before .before .before .loop .inv .3) (c .before .before .mark-head .ensures .grown))
+loop-again c =
+    let at-loop = c .before .before .before .before .before in (
+      search needs,
+      search needs,
+      members-next (at-loop .loop .inv .2) (c .before .before .mark-head .ensures),
+      grown-more (at-loop .loop .inv .3) (c .before .before .mark-head .ensures .grown),
+    )
 
 same-length : tie.Need-same-length Inv-loop μ-loop
 same-length c = c .before .loop .inv .1

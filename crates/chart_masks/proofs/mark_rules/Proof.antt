@@ -17,7 +17,13 @@ same-length : tie.Need-same-length
 same-length c = search needs
 
 returns : tie.Need-returns
-returns c = ruled-zeros (c .before .before .before .before .before .before .before .before .before .before .before .before .before .before .before .pre .0) (c .before .before .before .before .before .before .before .before .before .before .before .before .before .before .before .pre .2) (c .before .before .before .before .before .before .before .before .before .before .mark-heads .ensures .0) (c .before .before .before .before .before .before .before .before .before .before .mark-heads .ensures .1) (c .before .before .before .before .before .before .mark-heads2 .ensures .0) (c .before .before .before .before .before .before .mark-heads2 .ensures .1) (c .before .before .mark-heads3 .ensures .0) (c .before .before .mark-heads3 .ensures .1)
+returns c =
+    let at-mark-heads2 = c .before .before .before .before .before .before in
+    let at-mark-heads = at-mark-heads2 .before .before .before .before in
+    let at-pre = at-mark-heads .before .before .before .before .before in
+    ruled-zeros (at-pre .pre .0) (at-pre .pre .2) (at-mark-heads .mark-heads .ensures .0) (at-mark-heads .mark-heads .ensures .1)
+    (at-mark-heads2 .mark-heads2 .ensures .0) (at-mark-heads2 .mark-heads2 .ensures .1) (c .before .before .mark-heads3 .ensures .0)
+    (c .before .before .mark-heads3 .ensures .1)
 
 pub mark-rules-spec : {M : Type 1} → statement M
 mark-rules-spec =

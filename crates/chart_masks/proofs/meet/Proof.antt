@@ -52,7 +52,20 @@ disjoint-requires : tie.Need-disjoint-requires
 disjoint-requires c κs = search needs
 
 returns-4 : tie.Need-returns-4
-returns-4 c = λ e. record { size = omega (arith, c .before .before .before .before .before .before .before .before .before .before .before .before .if1 .left); left = omega (arith, c .before .before .before .before .before .before .before .before .if2 .left, c .before .before .before .before .before .before .before .before .before .before .before .wide .ensures .0); right = omega (arith, c .before .before .before .before .before .before .if3 .left, c .before .before .before .before .before .before .before .before .before .before .wide2 .ensures .0); disjoint = rw (← c .before .before .before .before .before .before .before .before .before .before .before .wide .ensures .0, ← c .before .before .before .before .before .before .before .before .before .before .wide2 .ensures .0) (c .before .disjoint .ensures (c .if4 .taken)) }
+returns-4 c =
+    let at-if3 = c .before .before .before .before .before .before in
+    let at-if2 = at-if3 .before .before in
+    let at-wide2 = at-if2 .before .before in
+    let at-wide = at-wide2 .before in
+    let at-if1 = at-wide .before in
+    λ e. record {
+      size = omega (arith, at-if1 .if1 .left);
+      left = omega (arith, at-if2 .if2 .left, at-wide .wide .ensures .0);
+      right =
+          omega (arith, at-if3 .if3 .left, at-wide2 .wide2 .ensures .0);
+      disjoint =
+          rw (← at-wide .wide .ensures .0, ← at-wide2 .wide2 .ensures .0) (c .before .disjoint .ensures (c .if4 .taken));
+    }
 
 returns-5 : tie.Need-returns-5
 returns-5 c = λ e. absurd (false≢true (sym e))

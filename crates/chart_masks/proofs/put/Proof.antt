@@ -14,7 +14,10 @@ same-length : tie.Need-same-length
 same-length c = search needs
 
 returns : tie.Need-returns
-returns c = rw (c .before .before .store .ensures, c .before .before .before .before .narrow-at .ensures) (put-or _ _ _ (c .before .before .before .before .before .before .before .pre))
+returns c =
+    let at-narrow-at = c .before .before .before .before in
+    let at-pre = at-narrow-at .before .before .before in
+    rw (c .before .before .store .ensures, at-narrow-at .narrow-at .ensures) (put-or _ _ _ (at-pre .pre))
 
 pub put-spec : {M : Type 1} → statement M
 put-spec = tie.close (tie.spec narrow-at-requires store-requires same-length returns)

@@ -28,7 +28,11 @@ replace-requires : tie.Need-replace-requires
 replace-requires c κs = search needs
 
 push-requires : tie.Need-push-requires
-push-requires c κs = search (needs, c .before .before .before .before .before .before .before .before .before .before .before .before .before .before .before .before .before .before .before .before .before .before .before .before .before .pre, c .before .before .before .before .before .before .before .before .before .before .before .before .before .before .before .before .before .before .before .before .before .queue-length .ensures)
+push-requires c κs =
+    let before-11 = c .before .before .before .before .before .before .before .before .before .before .before in
+    let at-queue-length = before-11 .before .before .before .before .before .before .before .before .before .before in
+    let at-pre = at-queue-length .before .before .before .before in
+    search (needs, at-pre .pre, at-queue-length .queue-length .ensures)
 
 same-length : tie.Need-same-length
 same-length c = search needs
@@ -38,17 +42,25 @@ same-length-2 c = search needs
 
 returns : tie.Need-returns
 unfolding extractMin
-returns c = (
-  simp (
-    ← c .before .before .before .before .before .before .before .before .before .before .before .before .before .before .before .before .before .before .before .before .before .before .before .before .queue-length .ensures .0,
-    ← c .before .before .before .before .before .before .before .before .before .before .before .before .before .before .before .before .before .before .before .before .before .before .least-place .ensures .0,
-    ← c .before .before .before .before .before .before .before .before .before .before .before .before .before .before .before .queued-key .ensures,
-    lt-ltb _ _ (c .before .before .before .before .before .before .before .before .before .before .before .before .before .before .if1 .taken),
-    ← c .before .before .before .before .before .before .before .before .before .before .before .before .before .before2 .ensures,
-    c .before .before .before .before .before .before .before .before .before .before .before .before .if2 .taken,
-  ) (rw (c .before .before .push .ensures, c .before .before .before .before .before .before .replace .ensures, c .before .before .before .before .before .before .before .before .before .before .put-key .ensures)),
-  simp (← c .before .before .before .before .before .before .before .before .before .before .before .before .before .before .before .before .before .before .before .before .before .before .before .before .queue-length .ensures .0, ← c .before .before .before .before .before .before .before .before .before .before .before .before .before .before .before .before .before .before .before .before .before .before .least-place .ensures .0) (c .before .before .before .before .before .before .before .before .before .before .before .before .before .before .before .before .before .before .before .keep-written .ensures),
-)
+returns c =
+    let at-replace = c .before .before .before .before .before .before in
+    let at-put-key = at-replace .before .before .before .before in
+    let at-if2 = at-put-key .before .before in
+    let at-if1 = at-if2 .before .before in
+    let at-queued-key = at-if1 .before in
+    let at-keep-written = at-queued-key .before .before .before .before in
+    let at-least-place = at-keep-written .before .before .before in
+    let at-queue-length = at-least-place .before .before in (
+      simp (
+        ← at-queue-length .queue-length .ensures .0,
+        ← at-least-place .least-place .ensures .0,
+        ← at-queued-key .queued-key .ensures,
+        lt-ltb _ _ (at-if1 .if1 .taken),
+        ← at-if2 .before .before2 .ensures,
+        at-if2 .if2 .taken,
+      ) (rw (c .before .before .push .ensures, at-replace .replace .ensures, at-put-key .put-key .ensures)),
+      simp (← at-queue-length .queue-length .ensures .0, ← at-least-place .least-place .ensures .0) (at-keep-written .keep-written .ensures),
+    )
 
 put-key-requires-2 : tie.Need-put-key-requires-2
 put-key-requires-2 c κs = search needs
@@ -64,14 +76,20 @@ same-length-4 c = search needs
 
 returns-2 : tie.Need-returns-2
 unfolding extractMin
-returns-2 c = (
-  rw (c .before .before .push2 .ensures, c .before .before .before .before .before .before .put-key2 .ensures) (simp (
-    ← c .before .before .before .before .before .before .before .before .before .before .before .before .before .before .before .before .before .before .queue-length .ensures .0,
-    ← c .before .before .before .before .before .before .before .before .before .before .before .before .before .before .before .before .least-place .ensures .0,
-    ← c .before .before .before .before .before .before .before .before .before .queued-key .ensures,
-  ) (⊎-elim (λ w. simp (lt-ltb _ _ (w .0 .taken), ← w .1 .ensures, w .2 .left)) (λ w. simp (le-ltb _ _ (w .left))) (c .before .before .before .before .before .before .before .before .if1 .came))),
-  simp (← c .before .before .before .before .before .before .before .before .before .before .before .before .before .before .before .before .before .before .queue-length .ensures .0, ← c .before .before .before .before .before .before .before .before .before .before .before .before .before .before .before .before .least-place .ensures .0) (c .before .before .before .before .before .before .before .before .before .before .before .before .before .keep-written .ensures),
-)
+returns-2 c =
+    let at-put-key2 = c .before .before .before .before .before .before in
+    let at-if1 = at-put-key2 .before .before in
+    let at-queued-key = at-if1 .before in
+    let at-keep-written = at-queued-key .before .before .before .before in
+    let at-least-place = at-keep-written .before .before .before in
+    let at-queue-length = at-least-place .before .before in (
+      rw (c .before .before .push2 .ensures, at-put-key2 .put-key2 .ensures) (simp (
+        ← at-queue-length .queue-length .ensures .0,
+        ← at-least-place .least-place .ensures .0,
+        ← at-queued-key .queued-key .ensures,
+      ) (⊎-elim (λ w. simp (lt-ltb _ _ (w .0 .taken), ← w .1 .ensures, w .2 .left)) (λ w. simp (le-ltb _ _ (w .left))) (at-if1 .if1 .came))),
+      simp (← at-queue-length .queue-length .ensures .0, ← at-least-place .least-place .ensures .0) (at-keep-written .keep-written .ensures),
+    )
 
 pub extract-min-spec : {M : Type 1} → statement M
 extract-min-spec =

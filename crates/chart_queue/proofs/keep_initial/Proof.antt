@@ -27,7 +27,13 @@ same-length : tie.Need-same-length
 same-length c = search needs
 
 returns : tie.Need-returns
-returns c = rw (c .before .before .put-beside .ensures, c .before .before .before .before .beside-at .ensures .0) (sym (keep-one _ _ _ _ (initial-is _ (c .before .before .before .before .before .before .before .before .back-pointer .ensures .0) (c .before .before .before .before .before .before .before .is-initial .ensures) (c .before .before .before .before .before .before .if1 .taken))))
+returns c =
+    let at-beside-at = c .before .before .before .before in
+    let at-if1 = at-beside-at .before .before in
+    let at-is-initial = at-if1 .before in
+    let at-back-pointer = at-is-initial .before in
+    rw (c .before .before .put-beside .ensures, at-beside-at .beside-at .ensures .0)
+    (sym (keep-one _ _ _ _ (initial-is _ (at-back-pointer .back-pointer .ensures .0) (at-is-initial .is-initial .ensures) (at-if1 .if1 .taken))))
 
 returns-2 : tie.Need-returns-2
 returns-2 c = sym (keep-none _ _ _ _ (initial-is _ (c .before .before .back-pointer .ensures .0) (c .before .is-initial .ensures) (c .if1 .left)))

@@ -46,7 +46,18 @@ same-length c = search needs
 
 returns-2 : tie.Need-returns-2
 unfolding keepWritten
-returns-2 c = rw (c .before .before .keep-four .ensures, c .before .before .before .before .before .before .before .entry-of .ensures .0, c .before .before .before .before .before .before .entry-of2 .ensures .0, c .before .before .before .before .before .entry-of3 .ensures .0, c .before .before .before .before .entry-of4 .ensures .0)
+returns-2 c =
+    let at-entry-of4 = c .before .before .before .before in
+    let at-entry-of3 = at-entry-of4 .before in
+    let at-entry-of2 = at-entry-of3 .before in
+    let at-entry-of = at-entry-of2 .before in
+    rw (
+      c .before .before .keep-four .ensures,
+      at-entry-of .entry-of .ensures .0,
+      at-entry-of2 .entry-of2 .ensures .0,
+      at-entry-of3 .entry-of3 .ensures .0,
+      at-entry-of4 .entry-of4 .ensures .0,
+    )
 
 pub keep-written-spec : {M : Type 1} → statement M
 keep-written-spec =

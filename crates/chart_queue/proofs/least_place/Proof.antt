@@ -44,21 +44,25 @@ loop-less : tie.Need-loop-less Inv-loop μ-loop
 loop-less c = search needs
 
 loop-again : tie.Need-loop-again Inv-loop μ-loop
-loop-again c = (
-  search needs,
-  ⊎-elim (λ w. rw (w .4) (search needs)) (⊎-elim (λ w. rw (w .4) (c .before .before .before .before .loop .inv .1)) (λ w. rw (w .1) (c .before .before .before .before .loop .inv .1))) (c .if1 .came),
-  ⊎-elim
-      (λ w. rw (w .4, iter-more, ← c .before .before .before .before .loop .inv .2)
-      (place-less _ _ _ _ _ _ _ (queued-is _ _ _ _ _ (c .before .before .beside-at .ensures .0) (w .1 .ensures .0)) (c .before .before .before .before .loop .inv .3) (sym (w .2 .ensures) ∙ w .3 .taken)))
-      (⊎-elim
-      (λ w. rw (w .4, iter-more, ← c .before .before .before .before .loop .inv .2)
-      (place-stays _ _ _ _ _ _ _ (queued-is _ _ _ _ _ (c .before .before .beside-at .ensures .0) (w .1 .ensures .0)) (c .before .before .before .before .loop .inv .3) (sym (w .2 .ensures) ∙ w .3 .left)))
-      (λ w. rw (w .1, iter-more, ← c .before .before .before .before .loop .inv .2)
-      (dearer-stays _ _ _ _ _ _ (c .before .before .before .before .loop .best) (search needs) (c .before .before .beside-at .ensures .0) (c .before .before .before .before .loop .inv .3) (w .0 .left))))
-      (c .if1 .came),
-  ⊎-elim (λ w. rw (w .4, w .5) (queued-is _ _ _ _ _ (c .before .before .beside-at .ensures .0) (w .1 .ensures .0))) (⊎-elim (λ w. rw (w .4, w .5) (c .before .before .before .before .loop .inv .3)) (λ w. rw (w .1, w .2) (c .before .before .before .before .loop .inv .3)))
-      (c .if1 .came),
-)
+loop-again c =
+    let at-loop = c .before .before .before .before in (
+      search needs,
+      ⊎-elim (λ w. rw (w .4) (search needs)) (⊎-elim (λ w. rw (w .4) (at-loop .loop .inv .1)) (λ w. rw (w .1) (at-loop .loop .inv .1))) (c .if1 .came),
+      ⊎-elim
+          (λ w. rw (w .4, iter-more, ← at-loop .loop .inv .2)
+          (place-less _ _ _ _ _ _ _ (queued-is _ _ _ _ _ (c .before .before .beside-at .ensures .0) (w .1 .ensures .0)) (at-loop .loop .inv .3)
+          (sym (w .2 .ensures) ∙ w .3 .taken)))
+          (⊎-elim
+          (λ w. rw (w .4, iter-more, ← at-loop .loop .inv .2)
+          (place-stays _ _ _ _ _ _ _ (queued-is _ _ _ _ _ (c .before .before .beside-at .ensures .0) (w .1 .ensures .0)) (at-loop .loop .inv .3)
+          (sym (w .2 .ensures) ∙ w .3 .left)))
+          (λ w. rw (w .1, iter-more, ← at-loop .loop .inv .2)
+          (dearer-stays _ _ _ _ _ _ (at-loop .loop .best) (search needs) (c .before .before .beside-at .ensures .0) (at-loop .loop .inv .3) (w .0 .left))))
+          (c .if1 .came),
+      ⊎-elim (λ w. rw (w .4, w .5) (queued-is _ _ _ _ _ (c .before .before .beside-at .ensures .0) (w .1 .ensures .0)))
+          (⊎-elim (λ w. rw (w .4, w .5) (at-loop .loop .inv .3)) (λ w. rw (w .1, w .2) (at-loop .loop .inv .3)))
+          (c .if1 .came),
+    )
 
 returns : tie.Need-returns Inv-loop μ-loop
 unfolding leastPlace

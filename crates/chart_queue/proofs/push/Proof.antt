@@ -9,7 +9,9 @@ is-some-requires : tie.Need-is-some-requires
 is-some-requires c κs = search needs
 
 put-queued-requires : tie.Need-put-queued-requires
-put-queued-requires c κs = search (needs, price-fits (c .before .before .before .before .args .key) (c .before .before .is-some .ensures) (c .before .if1 .taken))
+put-queued-requires c κs =
+    let at-args = c .before .before .before .before in
+    search (needs, price-fits (at-args .args .key) (c .before .before .is-some .ensures) (c .before .if1 .taken))
 
 add-put-queue-length : tie.Need-add-put-queue-length
 add-put-queue-length c = search needs
@@ -22,7 +24,11 @@ same-length c = search needs
 
 returns : tie.Need-returns
 unfolding push
-returns c = simp (← c .before .before .before .before .before .before .before .before .before .is-some .ensures, c .before .before .before .before .before .before .before .before .if1 .taken) (rw (c .before .before .put-queue-length .ensures, c .before .before .before .before .before .before .put-queued .ensures))
+returns c =
+    let at-put-queued = c .before .before .before .before .before .before in
+    let at-if1 = at-put-queued .before .before in
+    let at-is-some = at-if1 .before in
+    simp (← at-is-some .is-some .ensures, at-if1 .if1 .taken) (rw (c .before .before .put-queue-length .ensures, at-put-queued .put-queued .ensures))
 
 returns-2 : tie.Need-returns-2
 unfolding push

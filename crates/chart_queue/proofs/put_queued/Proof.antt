@@ -30,12 +30,15 @@ same-length c = search needs
 returns : tie.Need-returns
 unfolding putQueued
 returns c =
+    let at-keep-initial = c .before .before .before .before .before .before .before in
+    let at-tag-of = at-keep-initial .before .before in
+    let at-args = at-tag-of .before .before .before .before in
     rw (
-      digits-div (c .before .before .before .before .before .before .before .before .before .before .before .before .before .args .key .price) {m = keyUnit} {r = c .before .before .before .before .before .before .before .before .before .before .before .before .before .args .key .back} (search needs),
-      digits-mod (c .before .before .before .before .before .before .before .before .before .before .before .before .before .args .key .price) {m = keyUnit} {r = c .before .before .before .before .before .before .before .before .before .before .before .before .before .args .key .back} (search needs),
+      digits-div (at-args .args .key .price) {m = keyUnit} {r = at-args .args .key .back} (search needs),
+      digits-mod (at-args .args .key .price) {m = keyUnit} {r = at-args .args .key .back} (search needs),
       c .before .before .put-beside .ensures,
-      c .before .before .before .before .before .before .before .keep-initial .ensures,
-      c .before .before .before .before .before .before .before .before .before .tag-of .ensures .0,
+      at-keep-initial .keep-initial .ensures,
+      at-tag-of .tag-of .ensures .0,
     )
 
 pub put-queued-spec : {M : Type 1} → statement M

@@ -9,14 +9,19 @@ is-some-requires : tie.Need-is-some-requires
 is-some-requires c κs = search needs
 
 put-queued-requires : tie.Need-put-queued-requires
-put-queued-requires c κs = search (needs, price-fits (c .before .before .before .before .args .key) (c .before .before .is-some .ensures) (c .before .if1 .taken))
+put-queued-requires c κs =
+    let at-args = c .before .before .before .before in
+    search (needs, price-fits (at-args .args .key) (c .before .before .is-some .ensures) (c .before .if1 .taken))
 
 same-length : tie.Need-same-length
 same-length c = search needs
 
 returns : tie.Need-returns
 unfolding replace
-returns c = simp (← c .before .before .before .before .before .is-some .ensures, c .before .before .before .before .if1 .taken) (c .before .before .put-queued .ensures)
+returns c =
+    let at-if1 = c .before .before .before .before in
+    let at-is-some = at-if1 .before in
+    simp (← at-is-some .is-some .ensures, at-if1 .if1 .taken) (c .before .before .put-queued .ensures)
 
 sub-move-queued : tie.Need-sub-move-queued
 sub-move-queued c = search needs
@@ -35,7 +40,11 @@ same-length-2 c = search needs
 
 returns-2 : tie.Need-returns-2
 unfolding replace
-returns-2 c = simp (← c .before .before .before .before .before .before .before .before .before .is-some .ensures, c .before .before .before .before .before .before .before .before .if1 .left) (rw (c .before .before .put-queue-length .ensures, c .before .before .before .before .before .before .move-queued .ensures))
+returns-2 c =
+    let at-move-queued = c .before .before .before .before .before .before in
+    let at-if1 = at-move-queued .before .before in
+    let at-is-some = at-if1 .before in
+    simp (← at-is-some .is-some .ensures, at-if1 .if1 .left) (rw (c .before .before .put-queue-length .ensures, at-move-queued .move-queued .ensures))
 
 pub replace-spec : {M : Type 1} → statement M
 replace-spec =

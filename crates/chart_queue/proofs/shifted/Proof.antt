@@ -29,7 +29,9 @@ returns-3 c = simp (ne-eqb _ _ (c .before .before .if1 .left), ne-eqb _ _ (c .be
 
 returns-4 : tie.Need-returns-4
 unfolding shifted
-returns-4 c = simp (ne-eqb _ _ (c .before .before .before .if1 .left), ne-eqb _ _ (c .before .before .if2 .left), ne-eqb _ _ (c .before .if3 .left)) (omega (arith, c .if4 .taken))
+returns-4 c =
+    let at-if1 = c .before .before .before in
+    simp (ne-eqb _ _ (at-if1 .if1 .left), ne-eqb _ _ (c .before .before .if2 .left), ne-eqb _ _ (c .before .if3 .left)) (omega (arith, c .if4 .taken))
 
 returns-5 : tie.Need-returns-5
 unfolding shifted

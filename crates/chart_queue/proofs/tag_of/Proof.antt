@@ -12,7 +12,10 @@ is-initial-requires : tie.Need-is-initial-requires
 is-initial-requires c κs = search needs
 
 returns : tie.Need-returns
-returns c = (sym (tag-none _ _ _ _ _ (initial-is _ (c .before .before .back-pointer .ensures .0) (c .before .is-initial .ensures) (c .if1 .taken))), search needs)
+returns c = (
+  sym (tag-none _ _ _ _ _ (initial-is _ (c .before .before .back-pointer .ensures .0) (c .before .is-initial .ensures) (c .if1 .taken))),
+  search needs,
+)
 
 sub-result : tie.Need-sub-result
 sub-result c = search needs
@@ -33,7 +36,14 @@ add-result : tie.Need-add-result
 add-result c = search needs
 
 returns-2 : tie.Need-returns-2
-returns-2 c = (rw (c .code-of .ensures .0, c .before .back-at .ensures .0) (sym (tag-rank _ _ _ _ _ (initial-is _ (c .before .before .before .before .back-pointer .ensures .0) (c .before .before .before .is-initial .ensures) (c .before .before .if1 .left)))), search (needs, c .code-of .ensures .1))
+returns-2 c =
+    let at-is-initial = c .before .before .before in
+    let at-back-pointer = at-is-initial .before in (
+      rw (c .code-of .ensures .0, c .before .back-at .ensures .0)
+          (sym (tag-rank _ _ _ _ _ (initial-is _ (at-back-pointer .back-pointer .ensures .0) (at-is-initial .is-initial .ensures)
+          (c .before .before .if1 .left)))),
+      search (needs, c .code-of .ensures .1),
+    )
 
 pub tag-of-spec : {M : Type 1} → statement M
 tag-of-spec =

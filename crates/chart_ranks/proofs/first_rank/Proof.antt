@@ -7,7 +7,9 @@ use Rattle.chart_ranks.proofs.first_rank.Statement.{statement}
 use Rattle.chart_ranks.proofs.first_rank.Tie as tie
 
 first-seeds-requires : tie.Need-first-seeds-requires
-first-seeds-requires c κs = (c .before .before .before .before .before .before .pre .0, λ h. c .before .before .before .before .before .before .pre .2, c .before .before .before .before .before .before .pre .3)
+first-seeds-requires c κs =
+    let at-pre = c .before .before .before .before .before .before in
+    (at-pre .pre .0, λ h. at-pre .pre .2, at-pre .pre .3)
 
 same-length : tie.Need-same-length
 same-length c = search needs
@@ -16,7 +18,11 @@ same-length-2 : tie.Need-same-length-2
 same-length-2 c = search needs
 
 returns : tie.Need-returns
-returns c = (rw (← c .before .before .first-seeds .ensures) (sym (put-none _ _ _ _ (c .before .before .first-seeds .result) (search needs) (c .if1 .taken))), (c .before .before .before .before .before .before .before .before .before .pre .2, λ w. w))
+returns c =
+    let at-pre = c .before .before .before .before .before .before .before .before .before in (
+      rw (← c .before .before .first-seeds .ensures) (sym (put-none _ _ _ _ (c .before .before .first-seeds .result) (search needs) (c .if1 .taken))),
+      (at-pre .pre .2, λ w. w),
+    )
 
 cell-number-requires : tie.Need-cell-number-requires
 cell-number-requires c κs = search needs
@@ -34,13 +40,18 @@ same-length-4 : tie.Need-same-length-4
 same-length-4 c = search needs
 
 returns-2 : tie.Need-returns-2
-returns-2 c = (
-  rw (← c .before .before .before .before .before .before .before .cell-number .ensures .0, ← c .before .before .before .before .before .before .before .before .before .before .before .first-seeds .ensures) (c .before .before .before .before .before .before .put-key .ensures),
-  (
-    covers-found (c .before .before .before .before .before .before .before .cell-number .result) _ (c .before .before .before .before .before .before .before .before .before .before .before .before .before .before .before .before .before .before .pre .0) (c .before .before .before .before .before .before .before .before .before .before .before .before .before .before .before .before .before .before .pre .1) (c .before .before .before .before .before .before .before .before .before .before .before .before .before .before .before .before .before .before .pre .2) (c .before .before .before .before .before .before .before .cell-number .ensures .0) (c .before .before .before .before .before .before .put-key .ensures) (c .before .before .mark .ensures),
-    λ w. ruled-marked (c .before .before .before .before .before .before .before .before .before .before .before .before .before .before .before .before .before .before .pre .0 .sized .symbols) (c .before .before .before .before .before .before .before .before .before .before .before .before .before .before .before .before .before .before .pre .1) (search needs) (search needs) w (c .before .before .mark .ensures),
-  ),
-)
+returns-2 c =
+    let at-put-key = c .before .before .before .before .before .before in
+    let at-cell-number = at-put-key .before in
+    let at-first-seeds = at-cell-number .before .before .before .before in
+    let at-pre = at-first-seeds .before .before .before .before .before .before .before in (
+      rw (← at-cell-number .cell-number .ensures .0, ← at-first-seeds .first-seeds .ensures) (at-put-key .put-key .ensures),
+      (
+        covers-found (at-cell-number .cell-number .result) _ (at-pre .pre .0) (at-pre .pre .1) (at-pre .pre .2) (at-cell-number .cell-number .ensures .0)
+            (at-put-key .put-key .ensures) (c .before .before .mark .ensures),
+        λ w. ruled-marked (at-pre .pre .0 .sized .symbols) (at-pre .pre .1) (search needs) (search needs) w (c .before .before .mark .ensures),
+      ),
+    )
 
 pub first-rank-spec : {M : Type 1} → statement M
 first-rank-spec =

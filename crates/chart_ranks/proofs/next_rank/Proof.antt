@@ -28,7 +28,10 @@ before-requires : tie.Need-before-requires
 before-requires c κs = search needs
 
 extract-min-requires : tie.Need-extract-min-requires
-extract-min-requires c κs = (c .before .before .before .before .before .before .before .before .before .before .before .before .before .before .before .before .before .before .pre .0 .sized, c .before .before .before .before .before .before .before .before .before .before .before .cell-number .ensures .1, c .before .before .before .before .before .before .before .before .before .before .before .before .before .before .before .before .before .before .pre .1, kept-fits _ _ (c .before .before .before .before .before .before .before .before .before .before .before .before .before .before .before .before .before .before .pre .2) (c .before .before .before .before .before .before .before .before .before .before .before .before .before .before .before .before .before .before .pre .0 .sized .ranks))
+extract-min-requires c κs =
+    let at-cell-number = c .before .before .before .before .before .before .before .before .before .before .before in
+    let at-pre = at-cell-number .before .before .before .before .before .before .before in
+    (at-pre .pre .0 .sized, at-cell-number .cell-number .ensures .1, at-pre .pre .1, kept-fits _ _ (at-pre .pre .2) (at-pre .pre .0 .sized .ranks))
 
 same-length : tie.Need-same-length
 same-length c = search needs
@@ -38,20 +41,31 @@ same-length-2 c = search needs
 
 returns : tie.Need-returns
 unfolding nextRank
-returns c = (
-  rw (
-    ← c .before .before .before .before .before .before .before .before .before .before .before .before .before .before .before .before .cell-number .ensures .0,
-    ← c .before .before .before .before .before .before .before .before .before .before .before .before .before .before .found-at .ensures .0,
-    ← c .before .before .before .before .before .before .before .before .before .before .before .before .no-key .ensures,
-    ← c .before .before .before .before .before .before .before .before .before .before .before .successors .ensures,
-    ← c .before .before .before .before .before .before .before .before .before .replacement .ensures,
-    sym (c .before .before .before .before .before .before .before .before .before2 .ensures) ∙ c .before .before .before .before .before .before .before .if1 .taken,
-  ) (c .before .before .before .before .extract-min .ensures .0),
-  rw (← c .before .before .before .before .before .before .before .before .before .before .before .before .before .before .before .before .cell-number .ensures .0) (c .before .before .before .before .extract-min .ensures .1),
-)
+returns c =
+    let at-extract-min = c .before .before .before .before in
+    let at-if1 = at-extract-min .before .before .before in
+    let at-before2 = at-if1 .before in
+    let at-replacement = at-before2 .before in
+    let at-successors = at-replacement .before .before in
+    let at-no-key = at-successors .before in
+    let at-found-at = at-no-key .before .before in
+    let at-cell-number = at-found-at .before .before in (
+      rw (
+        ← at-cell-number .cell-number .ensures .0,
+        ← at-found-at .found-at .ensures .0,
+        ← at-no-key .no-key .ensures,
+        ← at-successors .successors .ensures,
+        ← at-replacement .replacement .ensures,
+        sym (at-before2 .before2 .ensures) ∙ at-if1 .if1 .taken,
+      ) (at-extract-min .extract-min .ensures .0),
+      rw (← at-cell-number .cell-number .ensures .0) (at-extract-min .extract-min .ensures .1),
+    )
 
 extract-min-requires-2 : tie.Need-extract-min-requires-2
-extract-min-requires-2 c κs = (c .before .before .before .before .before .before .before .before .before .before .before .before .before .before .before .before .before .before .pre .0 .sized, c .before .before .before .before .before .before .before .before .before .before .before .cell-number .ensures .1, c .before .before .before .before .before .before .before .before .before .before .before .before .before .before .before .before .before .before .pre .1, kept-fits _ _ (c .before .before .before .before .before .before .before .before .before .before .before .before .before .before .before .before .before .before .pre .2) (c .before .before .before .before .before .before .before .before .before .before .before .before .before .before .before .before .before .before .pre .0 .sized .ranks))
+extract-min-requires-2 c κs =
+    let at-cell-number = c .before .before .before .before .before .before .before .before .before .before .before in
+    let at-pre = at-cell-number .before .before .before .before .before .before .before in
+    (at-pre .pre .0 .sized, at-cell-number .cell-number .ensures .1, at-pre .pre .1, kept-fits _ _ (at-pre .pre .2) (at-pre .pre .0 .sized .ranks))
 
 same-length-3 : tie.Need-same-length-3
 same-length-3 c = search needs
@@ -61,17 +75,25 @@ same-length-4 c = search needs
 
 returns-2 : tie.Need-returns-2
 unfolding nextRank
-returns-2 c = (
-  rw (
-    ← c .before .before .before .before .before .before .before .before .before .before .before .before .before .before .before .before .cell-number .ensures .0,
-    ← c .before .before .before .before .before .before .before .before .before .before .before .before .before .before .found-at .ensures .0,
-    ← c .before .before .before .before .before .before .before .before .before .before .before .before .no-key .ensures,
-    ← c .before .before .before .before .before .before .before .before .before .before .before .successors .ensures,
-    ← c .before .before .before .before .before .before .before .before .before .replacement .ensures,
-    sym (c .before .before .before .before .before .before .before .before .before2 .ensures) ∙ c .before .before .before .before .before .before .before .if1 .left,
-  ) (c .before .before .before .before .extract-min2 .ensures .0),
-  rw (← c .before .before .before .before .before .before .before .before .before .before .before .before .before .before .before .before .cell-number .ensures .0) (c .before .before .before .before .extract-min2 .ensures .1),
-)
+returns-2 c =
+    let at-extract-min2 = c .before .before .before .before in
+    let at-if1 = at-extract-min2 .before .before .before in
+    let at-before2 = at-if1 .before in
+    let at-replacement = at-before2 .before in
+    let at-successors = at-replacement .before .before in
+    let at-no-key = at-successors .before in
+    let at-found-at = at-no-key .before .before in
+    let at-cell-number = at-found-at .before .before in (
+      rw (
+        ← at-cell-number .cell-number .ensures .0,
+        ← at-found-at .found-at .ensures .0,
+        ← at-no-key .no-key .ensures,
+        ← at-successors .successors .ensures,
+        ← at-replacement .replacement .ensures,
+        sym (at-before2 .before2 .ensures) ∙ at-if1 .if1 .left,
+      ) (at-extract-min2 .extract-min2 .ensures .0),
+      rw (← at-cell-number .cell-number .ensures .0) (at-extract-min2 .extract-min2 .ensures .1),
+    )
 
 pub next-rank-spec : {M : Type 1} → statement M
 next-rank-spec =

@@ -73,7 +73,20 @@ next-of-span-below t =
     next-of-span.Pre
 
 abbrev advance-pairing-claims : ℕ → advance-pairing-lts.Claims
-advance-pairing-claims t = (back-before-reads.Asked, back-before-reads.Learnt, rule-at-reads.Asked, rule-at-reads.Learnt, right-part-reads.Asked, right-part-reads.Learnt, part-of-reads.Asked, part-of-reads.Learnt, extend-below t, extend.Post, left-part-reads.Asked, left-part-reads.Learnt)
+advance-pairing-claims t = (
+  back-before-reads.Asked,
+  back-before-reads.Learnt,
+  rule-at-reads.Asked,
+  rule-at-reads.Learnt,
+  right-part-reads.Asked,
+  right-part-reads.Learnt,
+  part-of-reads.Asked,
+  part-of-reads.Learnt,
+  extend-below t,
+  extend.Post,
+  left-part-reads.Asked,
+  left-part-reads.Learnt,
+)
 
 abbrev extend-claims : ℕ → extend-lts.Claims
 extend-claims t = (cell-number-reads.Asked, cell-number-reads.Learnt, price-at-reads.Asked, price-at-reads.Learnt, next-of-span-below t, next-of-span.Post)
@@ -81,7 +94,8 @@ extend-claims t = (cell-number-reads.Asked, cell-number-reads.Learnt, price-at-r
 abbrev next-of-span-claims : ℕ → next-of-span-lts.Claims
 next-of-span-claims t = (advance-pairing-below t, advance-pairing.Post, next-rank-reads.Asked, next-rank-reads.Learnt)
 
-advance-pairing-back-before-requires : (t : ℕ) → advance-pairing-lts.Need-back-before-requires (advance-pairing-claims t) (advance-pairing-at t) advance-pairing.Post
+advance-pairing-back-before-requires : (t : ℕ) → advance-pairing-lts.Need-back-before-requires (advance-pairing-claims t) (advance-pairing-at t)
+    advance-pairing.Post
 advance-pairing-back-before-requires t c κs = search needs
 
 advance-pairing-sub-last : (t : ℕ) → advance-pairing-lts.Need-sub-last (advance-pairing-claims t) (advance-pairing-at t) advance-pairing.Post
@@ -93,59 +107,102 @@ advance-pairing-rule-at-requires t c κs = search needs
 advance-pairing-enum-known-rule : (t : ℕ) → advance-pairing-lts.Need-enum-known-rule (advance-pairing-claims t) (advance-pairing-at t) advance-pairing.Post
 advance-pairing-enum-known-rule t c = search needs
 
-advance-pairing-right-part-requires : (t : ℕ) → advance-pairing-lts.Need-right-part-requires (advance-pairing-claims t) (advance-pairing-at t) advance-pairing.Post
+advance-pairing-right-part-requires : (t : ℕ) → advance-pairing-lts.Need-right-part-requires (advance-pairing-claims t) (advance-pairing-at t)
+    advance-pairing.Post
 advance-pairing-right-part-requires t c κs = search needs
 
 advance-pairing-add-part-of : (t : ℕ) → advance-pairing-lts.Need-add-part-of (advance-pairing-claims t) (advance-pairing-at t) advance-pairing.Post
-advance-pairing-add-part-of t c = search (needs, c .before .before .before .before .before .before .before .before .before .before .back-before .ensures .1 .right)
+advance-pairing-add-part-of t c =
+    let at-back-before = c .before .before .before .before .before .before .before .before .before .before in
+    search (needs, at-back-before .back-before .ensures .1 .right)
 
 advance-pairing-part-of-requires : (t : ℕ) → advance-pairing-lts.Need-part-of-requires (advance-pairing-claims t) (advance-pairing-at t) advance-pairing.Post
 advance-pairing-part-of-requires t c κs = search needs
 
 advance-pairing-extend-requires : (t : ℕ) → advance-pairing-lts.Need-extend-requires (advance-pairing-claims t) (advance-pairing-at t) advance-pairing.Post
-advance-pairing-extend-requires t c κs = rw (c .before .before .part-of .ensures, c .before .before .before .before .right-part .ensures) (search (needs, c .before .before .before .before .before .before .before .before .before .before .if1 .taken, c .before .before .before .before .before .before .before .before .before .if2 .taken, c .before .before .before .before .before .before .before .before .before .before .before .before .before .before .before .before .before .before .before .before .before .pre))
+advance-pairing-extend-requires t c κs =
+    let at-right-part = c .before .before .before .before in
+    let at-if2 = at-right-part .before .before .before .before .before in
+    let at-if1 = at-if2 .before in
+    let at-pre = at-if1 .before .before .before .before .before .before .before .before .before .before .before in
+    rw (c .before .before .part-of .ensures, at-right-part .right-part .ensures) (search (needs, at-if1 .if1 .taken, at-if2 .if2 .taken, at-pre .pre))
 
-advance-pairing-left-part-requires : (t : ℕ) → advance-pairing-lts.Need-left-part-requires (advance-pairing-claims t) (advance-pairing-at t) advance-pairing.Post
+advance-pairing-left-part-requires : (t : ℕ) → advance-pairing-lts.Need-left-part-requires (advance-pairing-claims t) (advance-pairing-at t)
+    advance-pairing.Post
 advance-pairing-left-part-requires t c κs = search needs
 
 advance-pairing-add-part-of-2 : (t : ℕ) → advance-pairing-lts.Need-add-part-of-2 (advance-pairing-claims t) (advance-pairing-at t) advance-pairing.Post
-advance-pairing-add-part-of-2 t c = search (needs, c .before .before .before .before .before .before .before .before .before .before .before .before .before .before .before .before .before .before .before .before .before .before .back-before .ensures .1 .left)
+advance-pairing-add-part-of-2 t c =
+    let before-11 = c .before .before .before .before .before .before .before .before .before .before .before in
+    let at-back-before = before-11 .before .before .before .before .before .before .before .before .before .before .before in
+    search (needs, at-back-before .back-before .ensures .1 .left)
 
-advance-pairing-part-of-requires-2 : (t : ℕ) → advance-pairing-lts.Need-part-of-requires-2 (advance-pairing-claims t) (advance-pairing-at t) advance-pairing.Post
+advance-pairing-part-of-requires-2 : (t : ℕ) → advance-pairing-lts.Need-part-of-requires-2 (advance-pairing-claims t) (advance-pairing-at t)
+    advance-pairing.Post
 advance-pairing-part-of-requires-2 t c κs = search needs
 
 advance-pairing-extend-requires-2 : (t : ℕ) → advance-pairing-lts.Need-extend-requires-2 (advance-pairing-claims t) (advance-pairing-at t) advance-pairing.Post
-advance-pairing-extend-requires-2 t c κs = rw (c .before .before .part-of2 .ensures, c .before .before .before .before .left-part .ensures) (search (needs, c .before .before .before .before .before .before .before .before .before .before .before .before .before .before .before .before .before .before .before .before .before .before .if1 .taken, c .before .before .before .before .before .before .before .before .before .before .before .before .before .before .before .before .before .before .before .before .before .if2 .taken, c .before .before .before .before .before .before .before .before .before .before .before .before .before .before .before .before .before .before .before .before .before .before .before .before .before .before .before .before .before .before .before .before .before .pre))
+advance-pairing-extend-requires-2 t c κs =
+    let at-left-part = c .before .before .before .before in
+    let before-13 = at-left-part .before .before .before .before .before .before .before .before .before in
+    let at-if2 = before-13 .before .before .before .before .before .before .before .before in
+    let at-if1 = at-if2 .before in
+    let at-pre = at-if1 .before .before .before .before .before .before .before .before .before .before .before in
+    rw (c .before .before .part-of2 .ensures, at-left-part .left-part .ensures) (search (needs, at-if1 .if1 .taken, at-if2 .if2 .taken, at-pre .pre))
 
 advance-pairing-enum-told : (t : ℕ) → advance-pairing-lts.Need-enum-told (advance-pairing-claims t) (advance-pairing-at t) advance-pairing.Post
 advance-pairing-enum-told t c = search needs
 
 advance-pairing-same-length : (t : ℕ) → advance-pairing-lts.Need-same-length (advance-pairing-claims t) (advance-pairing-at t) advance-pairing.Post
-advance-pairing-same-length t c = c .before .before .before .before .extend2 .kept .0 ∙ c .before .before .before .before .before .before .before .before .before .before .before .before .before .before .before .before .extend .kept .0
+advance-pairing-same-length t c =
+    let at-extend2 = c .before .before .before .before in
+    let at-extend = at-extend2 .before .before .before .before .before .before .before .before .before .before .before .before in
+    at-extend2 .extend2 .kept .0 ∙ at-extend .extend .kept .0
 
 advance-pairing-same-length-2 : (t : ℕ) → advance-pairing-lts.Need-same-length-2 (advance-pairing-claims t) (advance-pairing-at t) advance-pairing.Post
-advance-pairing-same-length-2 t c = c .before .before .before .before .extend2 .kept .1 .0 ∙ c .before .before .before .before .before .before .before .before .before .before .before .before .before .before .before .before .extend .kept .1 .0
+advance-pairing-same-length-2 t c =
+    let at-extend2 = c .before .before .before .before in
+    let at-extend = at-extend2 .before .before .before .before .before .before .before .before .before .before .before .before in
+    at-extend2 .extend2 .kept .1 .0 ∙ at-extend .extend .kept .1 .0
 
 advance-pairing-returns : (t : ℕ) → advance-pairing-lts.Need-returns (advance-pairing-claims t) (advance-pairing-at t) advance-pairing.Post
 unfolding advancePairing extendParts keepPairing keepParts
-advance-pairing-returns t c = (
-  λ f h. rw (← c .before .before .before .before .before .before .before .before .before .before .before .before .before .before .before .before .before .before .before .before .before .before .before .before .before .before .before .before .before .before .back-before .ensures .0) (simp (
-    lt-ltb _ _ (c .before .before .before .before .before .before .before .before .before .before .before .before .before .before .before .before .before .before .before .before .before .before .before .before .before .before .before .if1 .taken),
-    lt-ltb (c .before .before .before .before .before .before .before .before .before .before .before .before .before .before .before .before .before .before .before .before .before .before .before .before .before .before .before .before .before .before .back-before .result .split) (c .before .before .before .before .before .before .before .before .before .before .before .before .before .before .before .before .before .before .before .before .before .before .before .before .before .before .before .before .before .before .before .before .before .before .before .before .before .before .args .part .cell .to) (omega (arith, c .before .before .before .before .before .before .before .before .before .before .before .before .before .before .before .before .before .before .before .before .before .before .before .before .before .before .before .before .before .before .before .before .before .before .before .before .before .before .pre .1 .0 .order, c .before .before .before .before .before .before .before .before .before .before .before .before .before .before .before .before .before .before .before .before .before .before .before .before .before .before .if2 .taken)),
-    ← c .before .before .before .before .before .before .before .before .before .before .before .before .before .before .before .before .before .before .before .before .before .before .before .before .before .rule-at .ensures,
-    c .before .before .before .before .before .before .before .before .before .before .before .before .before .before .before .before .before .before .before .before .before .before .before .rule .given .1,
-    eq-eqb _ _ (c .before .before .before .before .before .before .before .before .before .before .if3 .taken),
-  ) (rw (← (rw (c .before .before .before .before .before .before .before .before .before .before .before .before .before .before .before .before .before .before .before .part-of .ensures, c .before .before .before .before .before .before .before .before .before .before .before .before .before .before .before .before .before .before .before .before .before .right-part .ensures) at (c .before .before .before .before .before .before .before .before .before .before .before .before .before .before .before .before .extend .ensures .0 f)) (omega (arith, c .before .before .before .before .before .before .before .before .before .before .before .before .before .before .before .before .before .before .before .before .before .before .before .before .before .before .before .if1 .taken)))
-      ((rw (c .before .before .before .before .before .before .before .part-of2 .ensures, c .before .before .before .before .before .before .before .before .before .left-part .ensures) at (c .before .before .before .before .extend2 .ensures .0 f)) (omega (arith, c .before .before .before .before .before .before .before .before .before .before .before .before .before .before .before .before .before .before .before .before .before .before .before .before .before .before .before .if1 .taken, c .before .before .before .before .before .before .before .before .before .before .before .before .before .before .before .before .before .before .before .before .before .before .before .before .before .before .if2 .taken))))),
-  λ f h. rw (← c .before .before .before .before .before .before .before .before .before .before .before .before .before .before .before .before .before .before .before .before .before .before .before .before .before .before .before .before .before .before .back-before .ensures .0) (simp (
-    lt-ltb _ _ (c .before .before .before .before .before .before .before .before .before .before .before .before .before .before .before .before .before .before .before .before .before .before .before .before .before .before .before .if1 .taken),
-    lt-ltb (c .before .before .before .before .before .before .before .before .before .before .before .before .before .before .before .before .before .before .before .before .before .before .before .before .before .before .before .before .before .before .back-before .result .split) (c .before .before .before .before .before .before .before .before .before .before .before .before .before .before .before .before .before .before .before .before .before .before .before .before .before .before .before .before .before .before .before .before .before .before .before .before .before .before .args .part .cell .to) (omega (arith, c .before .before .before .before .before .before .before .before .before .before .before .before .before .before .before .before .before .before .before .before .before .before .before .before .before .before .before .before .before .before .before .before .before .before .before .before .before .before .pre .1 .0 .order, c .before .before .before .before .before .before .before .before .before .before .before .before .before .before .before .before .before .before .before .before .before .before .before .before .before .before .if2 .taken)),
-    ← c .before .before .before .before .before .before .before .before .before .before .before .before .before .before .before .before .before .before .before .before .before .before .before .before .before .rule-at .ensures,
-    c .before .before .before .before .before .before .before .before .before .before .before .before .before .before .before .before .before .before .before .before .before .before .before .rule .given .1,
-    eq-eqb _ _ (c .before .before .before .before .before .before .before .before .before .before .if3 .taken),
-  ) (rw (← (rw (c .before .before .before .before .before .before .before .before .before .before .before .before .before .before .before .before .before .before .before .part-of .ensures, c .before .before .before .before .before .before .before .before .before .before .before .before .before .before .before .before .before .before .before .before .before .right-part .ensures) at (c .before .before .before .before .before .before .before .before .before .before .before .before .before .before .before .before .extend .ensures .0 f)) (omega (arith, c .before .before .before .before .before .before .before .before .before .before .before .before .before .before .before .before .before .before .before .before .before .before .before .before .before .before .before .if1 .taken)), ← (rw (c .before .before .before .before .before .before .before .before .before .before .before .before .before .before .before .before .before .before .before .part-of .ensures, c .before .before .before .before .before .before .before .before .before .before .before .before .before .before .before .before .before .before .before .before .before .right-part .ensures) at (c .before .before .before .before .before .before .before .before .before .before .before .before .before .before .before .before .extend .ensures .1 f)) (omega (arith, c .before .before .before .before .before .before .before .before .before .before .before .before .before .before .before .before .before .before .before .before .before .before .before .before .before .before .before .if1 .taken)))
-      ((rw (c .before .before .before .before .before .before .before .part-of2 .ensures, c .before .before .before .before .before .before .before .before .before .left-part .ensures) at (c .before .before .before .before .extend2 .ensures .1 f)) (omega (arith, c .before .before .before .before .before .before .before .before .before .before .before .before .before .before .before .before .before .before .before .before .before .before .before .before .before .before .before .if1 .taken, c .before .before .before .before .before .before .before .before .before .before .before .before .before .before .before .before .before .before .before .before .before .before .before .before .before .before .if2 .taken))))),
-)
+advance-pairing-returns t c =
+    let at-extend2 = c .before .before .before .before in
+    let at-part-of2 = at-extend2 .before .before .before in
+    let at-left-part = at-part-of2 .before .before in
+    let at-if3 = at-left-part .before in
+    let at-extend = at-if3 .before .before .before .before .before .before in
+    let at-part-of = at-extend .before .before .before in
+    let at-right-part = at-part-of .before .before in
+    let at-rule = at-right-part .before .before in
+    let at-rule-at = at-rule .before .before in
+    let at-if2 = at-rule-at .before in
+    let at-if1 = at-if2 .before in
+    let at-back-before = at-if1 .before .before .before in
+    let at-args = at-back-before .before .before .before .before .before .before .before .before in (
+      λ f h. rw (← at-back-before .back-before .ensures .0) (simp (
+        lt-ltb _ _ (at-if1 .if1 .taken),
+        lt-ltb (at-back-before .back-before .result .split) (at-args .args .part .cell .to) (omega (arith, at-args .pre .1 .0 .order, at-if2 .if2 .taken)),
+        ← at-rule-at .rule-at .ensures,
+        at-rule .rule .given .1,
+        eq-eqb _ _ (at-if3 .if3 .taken),
+      ) (rw (← (rw (at-part-of .part-of .ensures, at-right-part .right-part .ensures) at (at-extend .extend .ensures .0 f)) (omega (arith, at-if1 .if1 .taken)))
+          ((rw (at-part-of2 .part-of2 .ensures, at-left-part .left-part .ensures) at (at-extend2 .extend2 .ensures .0 f))
+          (omega (arith, at-if1 .if1 .taken, at-if2 .if2 .taken))))),
+      λ f h. rw (← at-back-before .back-before .ensures .0) (simp (
+        lt-ltb _ _ (at-if1 .if1 .taken),
+        lt-ltb (at-back-before .back-before .result .split) (at-args .args .part .cell .to) (omega (arith, at-args .pre .1 .0 .order, at-if2 .if2 .taken)),
+        ← at-rule-at .rule-at .ensures,
+        at-rule .rule .given .1,
+        eq-eqb _ _ (at-if3 .if3 .taken),
+      ) (rw (
+        ← (rw (at-part-of .part-of .ensures, at-right-part .right-part .ensures) at (at-extend .extend .ensures .0 f)) (omega (arith, at-if1 .if1 .taken)),
+        ← (rw (at-part-of .part-of .ensures, at-right-part .right-part .ensures) at (at-extend .extend .ensures .1 f)) (omega (arith, at-if1 .if1 .taken)),
+      )
+          ((rw (at-part-of2 .part-of2 .ensures, at-left-part .left-part .ensures) at (at-extend2 .extend2 .ensures .1 f))
+          (omega (arith, at-if1 .if1 .taken, at-if2 .if2 .taken))))),
+    )
 
 advance-pairing-same-length-3 : (t : ℕ) → advance-pairing-lts.Need-same-length-3 (advance-pairing-claims t) (advance-pairing-at t) advance-pairing.Post
 advance-pairing-same-length-3 t c = c .before .before .before .before .before .before .extend .kept .0
@@ -155,58 +212,73 @@ advance-pairing-same-length-4 t c = c .before .before .before .before .before .b
 
 advance-pairing-returns-2 : (t : ℕ) → advance-pairing-lts.Need-returns-2 (advance-pairing-claims t) (advance-pairing-at t) advance-pairing.Post
 unfolding advancePairing extendParts keepPairing keepParts
-advance-pairing-returns-2 t c = (
-  λ f h. rw (← c .before .before .before .before .before .before .before .before .before .before .before .before .before .before .before .before .before .before .before .before .back-before .ensures .0) (simp (
-    lt-ltb _ _ (c .before .before .before .before .before .before .before .before .before .before .before .before .before .before .before .before .before .if1 .taken),
-    lt-ltb (c .before .before .before .before .before .before .before .before .before .before .before .before .before .before .before .before .before .before .before .before .back-before .result .split) (c .before .before .before .before .before .before .before .before .before .before .before .before .before .before .before .before .before .before .before .before .before .before .before .before .before .before .before .before .args .part .cell .to) (omega (arith, c .before .before .before .before .before .before .before .before .before .before .before .before .before .before .before .before .before .before .before .before .before .before .before .before .before .before .before .before .pre .1 .0 .order, c .before .before .before .before .before .before .before .before .before .before .before .before .before .before .before .before .if2 .taken)),
-    ← c .before .before .before .before .before .before .before .before .before .before .before .before .before .before .before .rule-at .ensures,
-    c .before .before .before .before .before .before .before .before .before .before .before .before .before .rule .given .1,
-    ne-eqb _ _ (c .if3 .left),
-  ) ((rw (c .before .before .before .before .before .before .before .before .before .part-of .ensures, c .before .before .before .before .before .before .before .before .before .before .before .right-part .ensures) at (c .before .before .before .before .before .before .extend .ensures .0 f)) (omega (arith, c .before .before .before .before .before .before .before .before .before .before .before .before .before .before .before .before .before .if1 .taken)))),
-  λ f h. rw (← c .before .before .before .before .before .before .before .before .before .before .before .before .before .before .before .before .before .before .before .before .back-before .ensures .0) (simp (
-    lt-ltb _ _ (c .before .before .before .before .before .before .before .before .before .before .before .before .before .before .before .before .before .if1 .taken),
-    lt-ltb (c .before .before .before .before .before .before .before .before .before .before .before .before .before .before .before .before .before .before .before .before .back-before .result .split) (c .before .before .before .before .before .before .before .before .before .before .before .before .before .before .before .before .before .before .before .before .before .before .before .before .before .before .before .before .args .part .cell .to) (omega (arith, c .before .before .before .before .before .before .before .before .before .before .before .before .before .before .before .before .before .before .before .before .before .before .before .before .before .before .before .before .pre .1 .0 .order, c .before .before .before .before .before .before .before .before .before .before .before .before .before .before .before .before .if2 .taken)),
-    ← c .before .before .before .before .before .before .before .before .before .before .before .before .before .before .before .rule-at .ensures,
-    c .before .before .before .before .before .before .before .before .before .before .before .before .before .rule .given .1,
-    ne-eqb _ _ (c .if3 .left),
-  ) ((rw (c .before .before .before .before .before .before .before .before .before .part-of .ensures, c .before .before .before .before .before .before .before .before .before .before .before .right-part .ensures) at (c .before .before .before .before .before .before .extend .ensures .1 f)) (omega (arith, c .before .before .before .before .before .before .before .before .before .before .before .before .before .before .before .before .before .if1 .taken)))),
-)
+advance-pairing-returns-2 t c =
+    let at-extend = c .before .before .before .before .before .before in
+    let at-part-of = at-extend .before .before .before in
+    let at-right-part = at-part-of .before .before in
+    let at-rule = at-right-part .before .before in
+    let at-rule-at = at-rule .before .before in
+    let at-if2 = at-rule-at .before in
+    let at-if1 = at-if2 .before in
+    let at-back-before = at-if1 .before .before .before in
+    let at-args = at-back-before .before .before .before .before .before .before .before .before in (
+      λ f h. rw (← at-back-before .back-before .ensures .0) (simp (
+        lt-ltb _ _ (at-if1 .if1 .taken),
+        lt-ltb (at-back-before .back-before .result .split) (at-args .args .part .cell .to) (omega (arith, at-args .pre .1 .0 .order, at-if2 .if2 .taken)),
+        ← at-rule-at .rule-at .ensures,
+        at-rule .rule .given .1,
+        ne-eqb _ _ (c .if3 .left),
+      ) ((rw (at-part-of .part-of .ensures, at-right-part .right-part .ensures) at (at-extend .extend .ensures .0 f)) (omega (arith, at-if1 .if1 .taken)))),
+      λ f h. rw (← at-back-before .back-before .ensures .0) (simp (
+        lt-ltb _ _ (at-if1 .if1 .taken),
+        lt-ltb (at-back-before .back-before .result .split) (at-args .args .part .cell .to) (omega (arith, at-args .pre .1 .0 .order, at-if2 .if2 .taken)),
+        ← at-rule-at .rule-at .ensures,
+        at-rule .rule .given .1,
+        ne-eqb _ _ (c .if3 .left),
+      ) ((rw (at-part-of .part-of .ensures, at-right-part .right-part .ensures) at (at-extend .extend .ensures .1 f)) (omega (arith, at-if1 .if1 .taken)))),
+    )
 
 advance-pairing-same-length-5 : (t : ℕ) → advance-pairing-lts.Need-same-length-5 (advance-pairing-claims t) (advance-pairing-at t) advance-pairing.Post
 advance-pairing-same-length-5 t c = search needs
 
 advance-pairing-returns-3 : (t : ℕ) → advance-pairing-lts.Need-returns-3 (advance-pairing-claims t) (advance-pairing-at t) advance-pairing.Post
 unfolding advancePairing extendParts keepPairing keepParts
-advance-pairing-returns-3 t c = (
-  λ f h. rw (← c .before .before .before .before .before .before .before .back-before .ensures .0) (simp (
-    lt-ltb _ _ (c .before .before .before .before .if1 .taken),
-    lt-ltb (c .before .before .before .before .before .before .before .back-before .result .split) (c .before .before .before .before .before .before .before .before .before .before .before .before .before .before .before .args .part .cell .to) (omega (arith, c .before .before .before .before .before .before .before .before .before .before .before .before .before .before .before .pre .1 .0 .order, c .before .before .before .if2 .taken)),
-    ← c .before .before .rule-at .ensures,
-    c .enum-told .given .1,
-  )),
-  λ f h. rw (← c .before .before .before .before .before .before .before .back-before .ensures .0) (simp (
-    lt-ltb _ _ (c .before .before .before .before .if1 .taken),
-    lt-ltb (c .before .before .before .before .before .before .before .back-before .result .split) (c .before .before .before .before .before .before .before .before .before .before .before .before .before .before .before .args .part .cell .to) (omega (arith, c .before .before .before .before .before .before .before .before .before .before .before .before .before .before .before .pre .1 .0 .order, c .before .before .before .if2 .taken)),
-    ← c .before .before .rule-at .ensures,
-    c .enum-told .given .1,
-  )),
-)
+advance-pairing-returns-3 t c =
+    let at-if2 = c .before .before .before in
+    let at-if1 = at-if2 .before in
+    let at-back-before = at-if1 .before .before .before in
+    let at-args = at-back-before .before .before .before .before .before .before .before .before in (
+      λ f h. rw (← at-back-before .back-before .ensures .0) (simp (
+        lt-ltb _ _ (at-if1 .if1 .taken),
+        lt-ltb (at-back-before .back-before .result .split) (at-args .args .part .cell .to) (omega (arith, at-args .pre .1 .0 .order, at-if2 .if2 .taken)),
+        ← c .before .before .rule-at .ensures,
+        c .enum-told .given .1,
+      )),
+      λ f h. rw (← at-back-before .back-before .ensures .0) (simp (
+        lt-ltb _ _ (at-if1 .if1 .taken),
+        lt-ltb (at-back-before .back-before .result .split) (at-args .args .part .cell .to) (omega (arith, at-args .pre .1 .0 .order, at-if2 .if2 .taken)),
+        ← c .before .before .rule-at .ensures,
+        c .enum-told .given .1,
+      )),
+    )
 
 advance-pairing-same-length-6 : (t : ℕ) → advance-pairing-lts.Need-same-length-6 (advance-pairing-claims t) (advance-pairing-at t) advance-pairing.Post
 advance-pairing-same-length-6 t c = search needs
 
 advance-pairing-returns-4 : (t : ℕ) → advance-pairing-lts.Need-returns-4 (advance-pairing-claims t) (advance-pairing-at t) advance-pairing.Post
 unfolding advancePairing keepPairing
-advance-pairing-returns-4 t c = (
-  λ f h. rw (← c .before .before .before .before .back-before .ensures .0) (simp (
-    lt-ltb _ _ (c .before .if1 .taken),
-    le-ltb (c .before .before .before .before .back-before .result .split) (c .before .before .before .before .before .before .before .before .before .before .before .before .args .part .cell .to) (omega (arith, c .if2 .left)),
-  )),
-  λ f h. rw (← c .before .before .before .before .back-before .ensures .0) (simp (
-    lt-ltb _ _ (c .before .if1 .taken),
-    le-ltb (c .before .before .before .before .back-before .result .split) (c .before .before .before .before .before .before .before .before .before .before .before .before .args .part .cell .to) (omega (arith, c .if2 .left)),
-  )),
-)
+advance-pairing-returns-4 t c =
+    let at-back-before = c .before .before .before .before in
+    let at-args = at-back-before .before .before .before .before .before .before .before .before in (
+      λ f h. rw (← at-back-before .back-before .ensures .0) (simp (
+        lt-ltb _ _ (c .before .if1 .taken),
+        le-ltb (at-back-before .back-before .result .split) (at-args .args .part .cell .to) (omega (arith, c .if2 .left)),
+      )),
+      λ f h. rw (← at-back-before .back-before .ensures .0) (simp (
+        lt-ltb _ _ (c .before .if1 .taken),
+        le-ltb (at-back-before .back-before .result .split) (at-args .args .part .cell .to) (omega (arith, c .if2 .left)),
+      )),
+    )
 
 advance-pairing-same-length-7 : (t : ℕ) → advance-pairing-lts.Need-same-length-7 (advance-pairing-claims t) (advance-pairing-at t) advance-pairing.Post
 advance-pairing-same-length-7 t c = search needs
@@ -237,17 +309,43 @@ extend-same-length-2 t c = c .before .before .before .before .next-of-span .kept
 
 extend-returns : (t : ℕ) → extend-lts.Need-returns (extend-claims t) (extend-at t) extend.Post
 unfolding extend keepExtend
-extend-returns t c = (
-  λ f h. simp (lt-ltb _ _ (c .before .before .before .before .before .before .before .before .before .before .before .if1 .taken), ← c .before .before .before .before .before .before .before .before .before .cell-number .ensures .0, ← c .before .before .before .before .before .before .before .before .price-at .ensures .0, eq-eqb _ _ (c .before .before .before .before .before .before .before .if2 .taken)) (c .before .before .before .before .next-of-span .ensures .0 f h),
-  λ f h. simp (lt-ltb _ _ (c .before .before .before .before .before .before .before .before .before .before .before .if1 .taken), ← c .before .before .before .before .before .before .before .before .before .cell-number .ensures .0, ← c .before .before .before .before .before .before .before .before .price-at .ensures .0, eq-eqb _ _ (c .before .before .before .before .before .before .before .if2 .taken)) (c .before .before .before .before .next-of-span .ensures .1 f h),
-)
+extend-returns t c =
+    let at-next-of-span = c .before .before .before .before in
+    let at-if2 = at-next-of-span .before .before .before in
+    let at-price-at = at-if2 .before in
+    let at-cell-number = at-price-at .before in
+    let at-if1 = at-cell-number .before .before in (
+      λ f h. simp (
+        lt-ltb _ _ (at-if1 .if1 .taken),
+        ← at-cell-number .cell-number .ensures .0,
+        ← at-price-at .price-at .ensures .0,
+        eq-eqb _ _ (at-if2 .if2 .taken),
+      )
+          (at-next-of-span .next-of-span .ensures .0 f h),
+      λ f h. simp (
+        lt-ltb _ _ (at-if1 .if1 .taken),
+        ← at-cell-number .cell-number .ensures .0,
+        ← at-price-at .price-at .ensures .0,
+        eq-eqb _ _ (at-if2 .if2 .taken),
+      )
+          (at-next-of-span .next-of-span .ensures .1 f h),
+    )
 
 extend-same-length-3 : (t : ℕ) → extend-lts.Need-same-length-3 (extend-claims t) (extend-at t) extend.Post
 extend-same-length-3 t c = search needs
 
 extend-returns-2 : (t : ℕ) → extend-lts.Need-returns-2 (extend-claims t) (extend-at t) extend.Post
 unfolding extend keepExtend
-extend-returns-2 t c = (λ f h. simp (lt-ltb _ _ (c .before .before .before .before .if1 .taken), ← c .before .before .cell-number .ensures .0, ← c .before .price-at .ensures .0, ne-eqb _ _ (c .if2 .left)), λ f h. simp (lt-ltb _ _ (c .before .before .before .before .if1 .taken), ← c .before .before .cell-number .ensures .0, ← c .before .price-at .ensures .0, ne-eqb _ _ (c .if2 .left)))
+extend-returns-2 t c =
+    let at-if1 = c .before .before .before .before in (
+      λ f h. simp (lt-ltb _ _ (at-if1 .if1 .taken), ← c .before .before .cell-number .ensures .0, ← c .before .price-at .ensures .0, ne-eqb _ _ (c .if2 .left)),
+      λ f h. simp (
+        lt-ltb _ _ (at-if1 .if1 .taken),
+        ← c .before .before .cell-number .ensures .0,
+        ← c .before .price-at .ensures .0,
+        ne-eqb _ _ (c .if2 .left),
+      ),
+    )
 
 extend-returns-3 : (t : ℕ) → extend-lts.Need-returns-3 (extend-claims t) (extend-at t) extend.Post
 unfolding extend keepExtend
@@ -260,23 +358,34 @@ next-of-span-next-rank-requires : (t : ℕ) → next-of-span-lts.Need-next-rank-
 next-of-span-next-rank-requires t c κs = search needs
 
 next-of-span-same-length : (t : ℕ) → next-of-span-lts.Need-same-length (next-of-span-claims t) (next-of-span-at t) next-of-span.Post
-next-of-span-same-length t c = c .before .before .before .before .next-rank .kept .0 ∙ c .before .before .before .before .before .before .before .before .before .before .before .advance-pairing .kept .0
+next-of-span-same-length t c =
+    let at-next-rank = c .before .before .before .before in
+    let at-advance-pairing = at-next-rank .before .before .before .before .before .before .before in
+    at-next-rank .next-rank .kept .0 ∙ at-advance-pairing .advance-pairing .kept .0
 
 next-of-span-same-length-2 : (t : ℕ) → next-of-span-lts.Need-same-length-2 (next-of-span-claims t) (next-of-span-at t) next-of-span.Post
-next-of-span-same-length-2 t c = c .before .before .before .before .next-rank .kept .1 .0 ∙ c .before .before .before .before .before .before .before .before .before .before .before .advance-pairing .kept .1 .0
+next-of-span-same-length-2 t c =
+    let at-next-rank = c .before .before .before .before in
+    let at-advance-pairing = at-next-rank .before .before .before .before .before .before .before in
+    at-next-rank .next-rank .kept .1 .0 ∙ at-advance-pairing .advance-pairing .kept .1 .0
 
 next-of-span-returns : (t : ℕ) → next-of-span-lts.Need-returns (next-of-span-claims t) (next-of-span-at t) next-of-span.Post
 unfolding nextOfSpan keepOfSpan
-next-of-span-returns t c = (
-  λ f. elim f [
-    | zero ↦ λ h. absurd (omega (arith, c .before .before .before .before .before .before .before .before .before .before .before .before .before .before .before .before .before .before .before .pre .1 .0 .order))
-    | suc g ↦ λ h. rw (ne-eqb (c .before .before .before .before .before .before .before .before .before .before .before .before .before .before .before .before .before .before .before .args .part .rank) 0 (λ e. omega (arith, c .before .before .before .before .before .before .before .before .before .before .before .before .before .before .before .before .before .before .before .pre .1 .1, e))) (rw (← c .before .before .before .before .before .before .before .before .before .before .before .advance-pairing .ensures .0 g h) (c .before .before .before .before .next-rank .ensures .0))
-  ],
-  λ f. elim f [
-    | zero ↦ λ h. absurd (omega (arith, c .before .before .before .before .before .before .before .before .before .before .before .before .before .before .before .before .before .before .before .pre .1 .0 .order))
-    | suc g ↦ λ h. rw (← c .before .before .before .before .before .before .before .before .before .before .before .advance-pairing .ensures .0 g h, ← c .before .before .before .before .before .before .before .before .before .before .before .advance-pairing .ensures .1 g h) (c .before .before .before .before .next-rank .ensures .1)
-  ],
-)
+next-of-span-returns t c =
+    let at-next-rank = c .before .before .before .before in
+    let at-advance-pairing = at-next-rank .before .before .before .before .before .before .before in
+    let at-pre = at-advance-pairing .before .before .before .before .before .before .before .before in (
+      λ f. elim f [
+        | zero ↦ λ h. absurd (omega (arith, at-pre .pre .1 .0 .order))
+        | suc g ↦ λ h. rw (ne-eqb (at-pre .args .part .rank) 0 (λ e. omega (arith, at-pre .pre .1 .1, e)))
+            (rw (← at-advance-pairing .advance-pairing .ensures .0 g h) (at-next-rank .next-rank .ensures .0))
+      ],
+      λ f. elim f [
+        | zero ↦ λ h. absurd (omega (arith, at-pre .pre .1 .0 .order))
+        | suc g ↦ λ h. rw (← at-advance-pairing .advance-pairing .ensures .0 g h, ← at-advance-pairing .advance-pairing .ensures .1 g h)
+            (at-next-rank .next-rank .ensures .1)
+      ],
+    )
 
 pub +advance-pairing+extend+next-of-span-spec : {M : Type 1} → statement M
 +advance-pairing+extend+next-of-span-spec =

@@ -18,7 +18,9 @@ back-pointer-requires c κs = search needs
 
 returns : tie.Need-returns
 unfolding backBefore
-returns c = (rw (← c .before .before .before .cell-number .ensures .0, ← c .before .back-at .ensures .0) (c .back-pointer .ensures .0), c .back-pointer .ensures .1)
+returns c =
+    let at-cell-number = c .before .before .before in
+    (rw (← at-cell-number .cell-number .ensures .0, ← c .before .back-at .ensures .0) (c .back-pointer .ensures .0), c .back-pointer .ensures .1)
 
 pub back-before-spec : {M : Type 1} → statement M
 back-before-spec =

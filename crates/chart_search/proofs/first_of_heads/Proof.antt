@@ -36,15 +36,18 @@ next-head-requires c κs = search needs
 
 loop-holds : tie.Need-loop-holds Inv-loop μ-loop
 unfolding iter
-loop-holds c = (
-  search needs,
-  search needs,
-  search needs,
-  search needs,
-  search needs,
-  search needs,
-  lacked-heads _ _ _ _ _ _ _ _ (c .before .before .before .before .before .before .before .before .before .before .args .span) _ _ 0 _ (c .before .before .before .before .before .before .before .before .before .before .pre .0) (c .before .before .before .before .before .before .before .before .before .before .pre .1) (c .before .before .before .before .before .before .before .before .before .before .pre .2) (c .before .before .before .heads-over .ensures) (c .before .before .before .before .before .before .before .before .before .before .pre .2) (c .before .live-heads .ensures) (c .next-head .ensures .0) (c .next-head .ensures .1) (c .next-head .ensures .2) refl,
-)
+loop-holds c =
+    let at-heads-over = c .before .before .before in
+    let at-args = at-heads-over .before .before .before .before .before .before .before in (
+      search needs,
+      search needs,
+      search needs,
+      search needs,
+      search needs,
+      search needs,
+      lacked-heads _ _ _ _ _ _ _ _ (at-args .args .span) _ _ 0 _ (at-args .pre .0) (at-args .pre .1) (at-args .pre .2) (at-heads-over .heads-over .ensures)
+          (at-args .pre .2) (c .before .live-heads .ensures) (c .next-head .ensures .0) (c .next-head .ensures .1) (c .next-head .ensures .2) refl,
+    )
 
 cast-t19 : tie.Need-cast-t19 Inv-loop μ-loop
 cast-t19 c = search needs
@@ -53,41 +56,83 @@ of-head-requires : tie.Need-of-head-requires Inv-loop μ-loop
 of-head-requires c κs = search needs
 
 first-leaf-requires : tie.Need-first-leaf-requires Inv-loop μ-loop
-first-leaf-requires c κs = rw (c .before .of-head .ensures) (
-  (
-    search needs,
-    search needs,
-    λ e. heads-complete _ _ _ _ _ _ (symbolOf (c .before .before .before .loop .a)) (c .before .before .before .before .before .before .before .before .before .before .before .before .before .before .args .span .from) (c .before .before .before .before .before .before .before .before .before .before .before .before .before .before .args .span .to) (c .before .before .before .before .before .before .before .before .before .before .before .before .before .before .pre .2 .words) (c .before .before .before .before .before .before .before .heads-over .ensures) (c .before .before .loop-test .taken) e,
-  ),
-  record { has = λ z. c .before .before .before .loop .inv .4 .words .has (c .before .before .before .loop .a) z (c .before .before .loop-test .taken) },
-)
+first-leaf-requires c κs =
+    let at-loop = c .before .before .before in
+    let at-heads-over = at-loop .before .before .before .before in
+    let at-args = at-heads-over .before .before .before .before .before .before .before in
+    rw (c .before .of-head .ensures) (
+      (
+        search needs,
+        search needs,
+        λ e. heads-complete _ _ _ _ _ _ (symbolOf (at-loop .loop .a)) (at-args .args .span .from) (at-args .args .span .to) (at-args .pre .2 .words)
+            (at-heads-over .heads-over .ensures) (c .before .before .loop-test .taken) e,
+      ),
+      record { has = λ z. at-loop .loop .inv .4 .words .has (at-loop .loop .a) z (c .before .before .loop-test .taken) },
+    )
 
 first-rank-requires : tie.Need-first-rank-requires Inv-loop μ-loop
-first-rank-requires c κs = rw (c .before .before .before .before .of-head .ensures) (record { sized = c .before .before .before .before .before .before .before .before .before .before .before .before .before .before .before .before .before .pre .0 .sized; order = c .before .before .before .before .before .before .before .before .before .before .before .before .before .before .before .before .before .pre .0 .order; last = c .before .before .before .before .before .before .before .before .before .before .before .before .before .before .before .before .before .pre .0 .last }, c .before .before .before .before .before .loop-test .taken, c .before .before .before .before .before .before .loop .inv .3, c .before .before .first-leaf .ensures .1)
+first-rank-requires c κs =
+    let at-of-head = c .before .before .before .before in
+    let at-loop-test = at-of-head .before in
+    let at-loop = at-loop-test .before in
+    let at-pre = at-loop .before .before .before .before .before .before .before .before .before .before .before in
+    rw (at-of-head .of-head .ensures) (
+      record { sized = at-pre .pre .0 .sized; order = at-pre .pre .0 .order; last = at-pre .pre .0 .last },
+      at-loop-test .loop-test .taken,
+      at-loop .loop .inv .3,
+      c .before .before .first-leaf .ensures .1,
+    )
 
 live-heads-requires-2 : tie.Need-live-heads-requires-2 Inv-loop μ-loop
-live-heads-requires-2 c κs = (c .before .before .before .before .before .before .before .before .before .before .before .before .before .before .before .before .before .before .before .before .before .before .before .pre .0 .sized .symbols, omega (arith, c .before .before .before .before .before .before .before .before .before .before .before .before .before .before .before .before .before .before .before .before .before .before .before .pre .0 .order, c .before .before .before .before .before .before .before .before .before .before .before .before .before .before .before .before .before .before .before .before .before .before .before .pre .0 .last), c .before .before .before .before .before .before .before .before .before .before .before .before .before .before .before .before .before .before .before .before .before .before .before .pre .0 .last)
+live-heads-requires-2 c κs =
+    let before-12 = c .before .before .before .before .before .before .before .before .before .before .before .before in
+    let at-pre = before-12 .before .before .before .before .before .before .before .before .before .before .before in
+    (at-pre .pre .0 .sized .symbols, omega (arith, at-pre .pre .0 .order, at-pre .pre .0 .last), at-pre .pre .0 .last)
 
 add-next-head : tie.Need-add-next-head Inv-loop μ-loop
-add-next-head c = search (needs, c .before .before .before .before .before .before .before .before .before .before .before .before .loop-test .taken, c .before .before .before .before .before .before .before .before .before .before .before .before .before .before .before .before .before .before .before .before .before .before .before .before .pre .0 .sized .symbols)
+add-next-head c =
+    let at-loop-test = c .before .before .before .before .before .before .before .before .before .before .before .before in
+    let at-pre = at-loop-test .before .before .before .before .before .before .before .before .before .before .before .before in
+    search (needs, at-loop-test .loop-test .taken, at-pre .pre .0 .sized .symbols)
 
 next-head-requires-2 : tie.Need-next-head-requires-2 Inv-loop μ-loop
-next-head-requires-2 c κs = (omega (arith, c .before .before .before .before .before .before .before .before .before .before .before .before .loop-test .taken), c .before .before .before .before .before .before .before .before .before .before .before .before .before .before .before .before .before .before .before .before .before .before .before .before .pre .0 .sized .symbols)
+next-head-requires-2 c κs =
+    let at-loop-test = c .before .before .before .before .before .before .before .before .before .before .before .before in
+    let at-pre = at-loop-test .before .before .before .before .before .before .before .before .before .before .before .before in
+    (omega (arith, at-loop-test .loop-test .taken), at-pre .pre .0 .sized .symbols)
 
 loop-less : tie.Need-loop-less Inv-loop μ-loop
-loop-less c = search (needs, c .before .before .before .before .before .before .before .before .before .before .before .before .before .loop-test .taken, c .next-head2 .ensures .0, c .next-head2 .ensures .1)
+loop-less c =
+    let at-loop-test = c .before .before .before .before .before .before .before .before .before .before .before .before .before in
+    search (needs, at-loop-test .loop-test .taken, c .next-head2 .ensures .0, c .next-head2 .ensures .1)
 
 loop-again : tie.Need-loop-again Inv-loop μ-loop
-loop-again c = (
-  c .next-head2 .ensures .1,
-  search needs,
-  search needs,
-  c .before .before .before .before .before .before .before .first-rank .ensures .1 .0,
-  c .before .before .before .before .before .before .before .first-rank .ensures .1 .1 (c .before .before .before .before .before .before .before .before .before .before .before .before .before .before .loop .inv .4),
-  c .before .live-heads2 .ensures,
-  lacked-heads _ _ _ _ _ _ _ _ (c .before .before .before .before .before .before .before .before .before .before .before .before .before .before .before .before .before .before .before .before .before .before .before .before .before .args .span) _ _ (c .before .before .before .before .before .before .before .before .before .before .before .before .before .before .loop .a + 1) _ (c .before .before .before .before .before .before .before .before .before .before .before .before .before .before .before .before .before .before .before .before .before .before .before .before .before .pre .0) (c .before .before .before .before .before .before .before .first-rank .ensures .1 .0) (c .before .before .before .before .before .before .before .before .before .before .before .before .before .before .before .before .before .before .before .before .before .before .before .before .before .pre .2) (c .before .before .before .before .before .before .before .before .before .before .before .before .before .before .before .before .before .before .heads-over .ensures) (c .before .before .before .before .before .before .before .first-rank .ensures .1 .1 (c .before .before .before .before .before .before .before .before .before .before .before .before .before .before .loop .inv .4)) (c .before .live-heads2 .ensures) (c .next-head2 .ensures .0) (c .next-head2 .ensures .1) (c .next-head2 .ensures .2)
-      (rw (iter-more, ← c .before .before .before .before .before .before .before .before .before .before .before .before .before .before .loop .inv .6, first-of-span _ _ _ _ _ (cell (symbolOf (c .before .before .before .before .before .before .before .before .before .before .before .before .before .before .loop .a)) (c .before .before .before .before .before .before .before .before .before .before .before .before .before .before .before .before .before .before .before .before .before .before .before .before .before .args .span .from) (c .before .before .before .before .before .before .before .before .before .before .before .before .before .before .before .before .before .before .before .before .before .before .before .before .before .args .span .to)) (c .before .before .before .before .before .before .before .before .before .before .before .before .before .before .before .before .before .before .before .before .before .before .before .before .before .pre .0 .order), ← c .before .before .before .before .before .before .before .before .before .before .before .before .of-head .ensures, ← c .before .before .before .before .before .before .before .before .before .before .first-leaf .ensures .0) (c .before .before .before .before .before .before .before .first-rank .ensures .0)),
-)
+loop-again c =
+    let at-first-rank = c .before .before .before .before .before .before .before in
+    let at-first-leaf = at-first-rank .before .before .before in
+    let at-of-head = at-first-leaf .before .before in
+    let at-loop = at-of-head .before .before in
+    let at-heads-over = at-loop .before .before .before .before in
+    let at-args = at-heads-over .before .before .before .before .before .before .before in (
+      c .next-head2 .ensures .1,
+      search needs,
+      search needs,
+      at-first-rank .first-rank .ensures .1 .0,
+      at-first-rank .first-rank .ensures .1 .1 (at-loop .loop .inv .4),
+      c .before .live-heads2 .ensures,
+      lacked-heads _ _ _ _ _ _ _ _ (at-args .args .span) _ _ (at-loop .loop .a + 1) _ (at-args .pre .0) (at-first-rank .first-rank .ensures .1 .0)
+          (at-args .pre .2)
+          (at-heads-over .heads-over .ensures) (at-first-rank .first-rank .ensures .1 .1 (at-loop .loop .inv .4)) (c .before .live-heads2 .ensures)
+          (c .next-head2 .ensures .0) (c .next-head2 .ensures .1) (c .next-head2 .ensures .2)
+          (rw (
+            iter-more,
+            ← at-loop .loop .inv .6,
+            first-of-span _ _ _ _ _
+                (cell (symbolOf (at-loop .loop .a)) (at-args .args .span .from) (at-args .args .span .to)) (at-args .pre .0 .order),
+            ← at-of-head .of-head .ensures,
+            ← at-first-leaf .first-leaf .ensures .0,
+          ) (at-first-rank .first-rank .ensures .0)),
+    )
 
 same-length : tie.Need-same-length Inv-loop μ-loop
 same-length c = search needs

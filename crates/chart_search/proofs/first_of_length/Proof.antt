@@ -41,14 +41,16 @@ loop-less : tie.Need-loop-less Inv-loop μ-loop
 loop-less c = search needs
 
 loop-again : tie.Need-loop-again Inv-loop μ-loop
-loop-again c = (
-  search needs,
-  search needs,
-  search needs,
-  search needs,
-  search needs,
-  rw (iter-more, ← c .before .before .before .before .before .before .before .before .loop .inv .5) (c .before .before .before .before .first-of-heads .ensures .0),
-)
+loop-again c =
+    let at-first-of-heads = c .before .before .before .before in
+    let at-loop = at-first-of-heads .before .before .before .before in (
+      search needs,
+      search needs,
+      search needs,
+      search needs,
+      search needs,
+      rw (iter-more, ← at-loop .loop .inv .5) (at-first-of-heads .first-of-heads .ensures .0),
+    )
 
 same-length : tie.Need-same-length Inv-loop μ-loop
 same-length c = search needs

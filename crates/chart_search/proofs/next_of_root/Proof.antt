@@ -44,9 +44,17 @@ same-length-3 c = search needs
 returns-2 : tie.Need-returns-2
 unfolding nextOfRoot keepOfRoot
 returns-2 c =
-    let found = rw (c .before .before .before .before .before .part-of .ensures) at (c .before .before .before .before .extend .ensures) in (
-      simp (← c .before .before .before .before .before .before .before .before .before .before .before .before .root .ensures, ← c .before .before .before .before .before .before .before .before .before .before .cell-number .ensures .0, ← c .before .before .before .before .before .before .before .before .before .price-at .ensures .0, ne-eqb _ _ (c .before .before .before .before .before .before .before .before .if1 .left)) (found .0 _ (rw (c .before .before .before .before .before .before .before .before .before .before .before .before .root .ensures) (omega arith))),
-      simp (← c .before .before .before .before .before .before .before .before .before .before .before .before .root .ensures, ← c .before .before .before .before .before .before .before .before .before .before .cell-number .ensures .0, ← c .before .before .before .before .before .before .before .before .before .price-at .ensures .0, ne-eqb _ _ (c .before .before .before .before .before .before .before .before .if1 .left)) (found .1 _ (rw (c .before .before .before .before .before .before .before .before .before .before .before .before .root .ensures) (omega arith))),
+    let at-extend = c .before .before .before .before in
+    let at-part-of = at-extend .before in
+    let at-if1 = at-part-of .before .before .before in
+    let at-price-at = at-if1 .before in
+    let at-cell-number = at-price-at .before in
+    let at-root = at-cell-number .before .before in
+    let found = rw (at-part-of .part-of .ensures) at (at-extend .extend .ensures) in (
+      simp (← at-root .root .ensures, ← at-cell-number .cell-number .ensures .0, ← at-price-at .price-at .ensures .0, ne-eqb _ _ (at-if1 .if1 .left))
+          (found .0 _ (rw (at-root .root .ensures) (omega arith))),
+      simp (← at-root .root .ensures, ← at-cell-number .cell-number .ensures .0, ← at-price-at .price-at .ensures .0, ne-eqb _ _ (at-if1 .if1 .left))
+          (found .1 _ (rw (at-root .root .ensures) (omega arith))),
     )
 
 pub next-of-root-spec : {M : Type 1} → statement M

@@ -23,8 +23,13 @@ price-at-requires c κs = search needs
 
 returns : tie.Need-returns Inv-loop μ-loop
 returns c =
-    let a = c .before .before .before .before .before .args in
-    (sym (c .before .before .before .loop .inv .1 ∙ missing-here (a .t .now) (a .d) (a .c) (a .d .ranks) (c .before .before .before .loop .x) (c .before .before .loop-test .taken) (rw (← c .before .price-at .ensures .0) (c .if1 .taken))), omega arith)
+    let at-loop = c .before .before .before in
+    let at-args = at-loop .before .before in
+    let a = at-args .args in (
+      sym (at-loop .loop .inv .1 ∙ missing-here (a .t .now) (a .d) (a .c) (a .d .ranks) (at-loop .loop .x) (c .before .before .loop-test .taken)
+          (rw (← c .before .price-at .ensures .0) (c .if1 .taken))),
+      omega arith,
+    )
 
 add-x : tie.Need-add-x Inv-loop μ-loop
 add-x c = search needs
@@ -34,13 +39,21 @@ loop-less c = search needs
 
 loop-again : tie.Need-loop-again Inv-loop μ-loop
 loop-again c =
-    let a = c .before .before .before .before .before .args in
-    (omega arith, c .before .before .before .loop .inv .1 ∙ missing-behind (a .t .now) (a .d) (a .c) (a .d .ranks) (c .before .before .before .loop .x) (c .before .before .loop-test .taken) (rw (← c .before .price-at .ensures .0) (c .if1 .left)))
+    let at-loop = c .before .before .before in
+    let at-args = at-loop .before .before in
+    let a = at-args .args in (
+      omega arith,
+      at-loop .loop .inv .1 ∙ missing-behind (a .t .now) (a .d) (a .c) (a .d .ranks) (at-loop .loop .x) (c .before .before .loop-test .taken)
+          (rw (← c .before .price-at .ensures .0) (c .if1 .left)),
+    )
 
 returns-2 : tie.Need-returns-2 Inv-loop μ-loop
 returns-2 c =
-    let a = c .before .before .before .args in
-    (sym (c .before .loop .inv .1 ∙ missing-end (a .t .now) (a .d) (a .c) (a .d .ranks) (c .before .loop .x) (c .before .loop .inv .0) (c .loop-test .left)), omega arith)
+    let at-args = c .before .before .before in
+    let a = at-args .args in (
+      sym (c .before .loop .inv .1 ∙ missing-end (a .t .now) (a .d) (a .c) (a .d .ranks) (c .before .loop .x) (c .before .loop .inv .0) (c .loop-test .left)),
+      omega arith,
+    )
 
 pub first-missing-spec : {M : Type 1} → statement M
 first-missing-spec =

@@ -22,7 +22,13 @@ price-of-requires c κs = search needs
 
 returns : tie.Need-returns
 unfolding priceAt
-returns c = (simp (lt-ltb _ _ (c .before .before .before .before .if1 .taken)) (rw (c .price-of .ensures .0, c .before .before .narrow-at .ensures, c .before .narrow-at2 .ensures, c .before .before .before .entry-of .ensures .0)), search needs)
+returns c =
+    let at-entry-of = c .before .before .before in
+    let at-if1 = at-entry-of .before in (
+      simp (lt-ltb _ _ (at-if1 .if1 .taken)) (rw
+          (c .price-of .ensures .0, c .before .before .narrow-at .ensures, c .before .narrow-at2 .ensures, at-entry-of .entry-of .ensures .0)),
+      search needs,
+    )
 
 returns-2 : tie.Need-returns-2
 unfolding priceAt

@@ -42,7 +42,11 @@ same-length c = search needs
 
 returns : tie.Need-returns
 unfolding putBeside
-returns c = rw (c .before .before .store2 .ensures, c .before .before .before .before .before .before .store .ensures, c .before .before .before .before .before .before .before .before .number-at .ensures .0, c .before .before .before .before .before .before .before .before .before .before .entry-of .ensures .0)
+returns c =
+    let at-store = c .before .before .before .before .before .before in
+    let at-number-at = at-store .before .before in
+    let at-entry-of = at-number-at .before .before in
+    rw (c .before .before .store2 .ensures, at-store .store .ensures, at-number-at .number-at .ensures .0, at-entry-of .entry-of .ensures .0)
 
 pub put-beside-spec : {M : Type 1} → statement M
 put-beside-spec =

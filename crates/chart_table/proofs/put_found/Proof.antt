@@ -48,7 +48,18 @@ same-length c = search needs
 
 returns : tie.Need-returns
 unfolding putFound
-returns c = rw (c .before .before .store3 .ensures, c .before .before .before .before .before .before .before .store2 .ensures, c .before .before .before .before .before .before .before .before .before .before .before .before .store .ensures, c .before .before .before .before .before .before .before .before .before .before .before .before .before .before .before .number-at .ensures .0, c .before .before .before .before .before .before .before .before .before .before .before .before .before .before .before .before .before .entry-of .ensures .0)
+returns c =
+    let at-store2 = c .before .before .before .before .before .before .before in
+    let at-store = at-store2 .before .before .before .before .before in
+    let at-number-at = at-store .before .before .before in
+    let at-entry-of = at-number-at .before .before in
+    rw (
+      c .before .before .store3 .ensures,
+      at-store2 .store2 .ensures,
+      at-store .store .ensures,
+      at-number-at .number-at .ensures .0,
+      at-entry-of .entry-of .ensures .0,
+    )
 
 pub put-found-spec : {M : Type 1} → statement M
 put-found-spec =

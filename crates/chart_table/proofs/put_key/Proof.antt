@@ -15,7 +15,12 @@ same-length : tie.Need-same-length
 same-length c = search needs
 
 returns : tie.Need-returns
-returns c = rw (c .before .before .put-last-rank .ensures, c .before .before .before .before .before .before .put-found .ensures) (sym (put-some _ _ _ _ (c .before .before .before .before .before .before .before .before .before .before .before .args .key) (search needs) (c .before .before .before .before .before .before .before .before .if1 .taken)))
+returns c =
+    let at-put-found = c .before .before .before .before .before .before in
+    let at-if1 = at-put-found .before .before in
+    let at-args = at-if1 .before .before .before in
+    rw (c .before .before .put-last-rank .ensures, at-put-found .put-found .ensures)
+    (sym (put-some _ _ _ _ (at-args .args .key) (search needs) (at-if1 .if1 .taken)))
 
 returns-2 : tie.Need-returns-2
 returns-2 c = sym (put-none _ _ _ _ (c .before .before .before .args .key) (search needs) (c .if1 .left))

@@ -34,7 +34,10 @@ same-length c = search needs
 
 returns : tie.Need-returns
 unfolding lastRank putLastRank
-returns c = simp (← c .before .before .before .before .before .beside-at .ensures .0, lt-ltb _ _ (c .before .before .before .before .if1 .taken)) (rw (c .before .before .put-beside .ensures))
+returns c =
+    let at-if1 = c .before .before .before .before in
+    let at-beside-at = at-if1 .before in
+    simp (← at-beside-at .beside-at .ensures .0, lt-ltb _ _ (at-if1 .if1 .taken)) (rw (c .before .before .put-beside .ensures))
 
 same-length-2 : tie.Need-same-length-2
 same-length-2 c = search needs

@@ -31,7 +31,12 @@ loop-less : tie.Need-loop-less Inv-loop μ-loop
 loop-less c = search needs
 
 loop-again : tie.Need-loop-again Inv-loop μ-loop
-loop-again c = (search needs, search needs, simp length-set (c .before .loop .inv .2), rw (c .before .loop .inv .3) (zeros-more (c .before .before .args .t .now) (c .before .loop .x) (search needs)))
+loop-again c = (
+  search needs,
+  search needs,
+  simp length-set (c .before .loop .inv .2),
+  rw (c .before .loop .inv .3) (zeros-more (c .before .before .args .t .now) (c .before .loop .x) (search needs)),
+)
 
 same-length : tie.Need-same-length Inv-loop μ-loop
 same-length c = c .before .loop .inv .2

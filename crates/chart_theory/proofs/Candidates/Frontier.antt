@@ -117,7 +117,8 @@ module _ {g : Grammar} {es : List Edge} {rules edges index : List ℕ} {d : Layo
         pairing (record { rule = rule; after = h₁; before = h₂ }) (right at) (holds-row x h at .parts B C w rule .0)
         (successors x _ h at B C w rule .0 hq (rank-below g es (rightPart c C j) (suc q) m)) l m
     candidate-complete (left-follower {B} {C} {r} {w} {j} {p} {x} rule h₁ h₂ h at hp l m) =
-        pairing (record { rule = rule; after = h₁; before = h₂ }) (left at) (successors x _ h at B C w rule .1 refl hp (rank-below g es (leftPart c B j) (suc p) l))
+        pairing (record { rule = rule; after = h₁; before = h₂ }) (left at)
+        (successors x _ h at B C w rule .1 refl hp (rank-below g es (leftPart c B j) (suc p) l))
         (holds-row x h at .parts B C w rule .1) l m
 
     -- a candidate whose key is one is of the frontier

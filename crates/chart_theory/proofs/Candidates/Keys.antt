@@ -31,7 +31,19 @@ use Rattle.chart_ranks.specs.Ranks.{foundAt, pairSuccessors, successors}
 use Rattle.chart_theory.proofs.Table.Keys.{rowNumber, rowBack, rowKey}
 use Rattle.chart_theory.proofs.Table.Cells.{InChart, rankedIn, RowOfIn, RowAtIn, row-unique}
 use Rattle.chart_theory.proofs.Invariant.{Setting, HoldsRow, row-back}
-use Rattle.chart_theory.proofs.Candidates.Select.{Selects, Between, Among, selects-one, selects-none, selects-same, selects-then, selects-when, selects-unless, selects-over, selects-members}
+use Rattle.chart_theory.proofs.Candidates.Select.{
+  Selects,
+  Between,
+  Among,
+  selects-one,
+  selects-none,
+  selects-same,
+  selects-then,
+  selects-when,
+  selects-unless,
+  selects-over,
+  selects-members,
+}
 
 -- the key of a pairing by a rule with these parts' heads and this weight
 abbrev pub joinedKey : List ℕ → Layout → Cell → (B C : Sym) → ℕ → BackPointer → ℕ

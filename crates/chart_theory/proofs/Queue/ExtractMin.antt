@@ -19,10 +19,51 @@ use Rattle.packing.specs.Loop.{iter}
 use Rattle.chart_keys.specs.Keys.{backPointer, keyUnit, noKey}
 use Rattle.chart_table.specs.declared.Layout.{Layout}
 use Rattle.chart_table.specs.Table.{entryOf, backAt, besideAt, putKey}
-use Rattle.chart_queue.specs.Queue.{isInitial, codeOf, tagOf, taggedBack, queuedKey, queueLength, keepInitial, putQueued, moveQueued, putQueueLength, lesserPlace, leastPlace, replace, push, extractMin}
+use Rattle.chart_queue.specs.Queue.{
+  isInitial,
+  codeOf,
+  tagOf,
+  taggedBack,
+  queuedKey,
+  queueLength,
+  keepInitial,
+  putQueued,
+  moveQueued,
+  putQueueLength,
+  lesserPlace,
+  leastPlace,
+  replace,
+  push,
+  extractMin,
+}
 use Rattle.chart_theory.proofs.Table.Entries.{entry-within}
 use Rattle.chart_theory.proofs.Table.Numbers.{beside-size, beside-back, beside-same, put-none, put-back-other, put-beside}
-use Rattle.chart_theory.proofs.Queue.Numbers.{tagAt, TagBelow, TagInitial, put-queued-own, put-queue-length, place-queued, place-tag, place-length, place-last, first-kept, tally-queued, tally-tag, length-same, length-last, length-queued, length-tag, initial-none, initial-kept, kept-back, kept-length, kept-last, Shift, code-shifted, code-below}
+use Rattle.chart_theory.proofs.Queue.Numbers.{
+  tagAt,
+  TagBelow,
+  TagInitial,
+  put-queued-own,
+  put-queue-length,
+  place-queued,
+  place-tag,
+  place-length,
+  place-last,
+  first-kept,
+  tally-queued,
+  tally-tag,
+  length-same,
+  length-last,
+  length-queued,
+  length-tag,
+  initial-none,
+  initial-kept,
+  kept-back,
+  kept-length,
+  kept-last,
+  Shift,
+  code-shifted,
+  code-below,
+}
 use Rattle.chart_theory.proofs.Queue.Pool.{Member, inside, low, high, Valid, keyIn, Arranged, NewTag, Has}
 use Rattle.chart_theory.proofs.Queue.Arranged.{pushed-arranged, replaced-arranged, moved-arranged}
 use Rattle.chart_theory.proofs.Queue.Stored.{Stored, stored-key, stored-beside, apart-rank}
@@ -393,7 +434,10 @@ module _ (t : List ℕ) (d : Layout) (c rank lo hi : ℕ) (below : c < d .cells)
           least = inside-least;
           stored = grown .stored;
           arranged = replaced-arranged rank m lo hi (queueLength after d c) (HasIn after) (grown .short) (grown .at-end) x in-queue some
-              (let (k, τ) = grown .same x in-queue in (k ∙ written-here at-rank (st .size) back x lo far-enough some reach, rw τ (written-tag at-rank (st .size) back x lo far-enough some reach)))
+              (let (k, τ) = grown .same x in-queue in (
+                k ∙ written-here at-rank (st .size) back x lo far-enough some reach,
+                rw τ (written-tag at-rank (st .size) back x lo far-enough some reach),
+              ))
               (λ y h other.
               let (k, τ) = grown .same y h in
               let (k′, τ′) = unmoved y h other in
@@ -484,7 +528,11 @@ module _ (t : List ℕ) (d : Layout) (c rank lo hi : ℕ) (below : c < d .cells)
           where
             moved-key : queuedKey w d c x ≡ queuedKey at-rank d c (m - 1)
             moved-key =
-                rw (moved-stub, beside-back at-rank d c (x + 1) (besideAt at-rank d c (m - 1 + 1)) c (besideAt at-rank d c (m - 1 + 1) % 1024 / 4), first-kept at-rank d c x (besideAt at-rank d c (m - 1 + 1)) below)
+                rw (
+                  moved-stub,
+                  beside-back at-rank d c (x + 1) (besideAt at-rank d c (m - 1 + 1)) c (besideAt at-rank d c (m - 1 + 1) % 1024 / 4),
+                  first-kept at-rank d c x (besideAt at-rank d c (m - 1 + 1)) below,
+                )
 
         new-tag : tagAt u d c x ≡ tagAt t d c (m - 1)
         new-tag = length-tag w d c (m - 1) below w-room (omega arith) x ∙ rw moved-stub (kept-tag (queued x) real-x (m - 1))
@@ -493,8 +541,11 @@ module _ (t : List ℕ) (d : Layout) (c rank lo hi : ℕ) (below : c < d .cells)
         other y h apart =
             let h′ : y < m = omega (arith, fewer) in
             let far-y = far y x apart (omega arith) (omega arith) in
-            let (k, τ) = kept (queued x) real-x y h′ in
-            (length-queued w d c (m - 1) below w-room (omega arith) y ∙ place-key y far-y ∙ k, length-tag w d c (m - 1) below w-room (omega arith) y ∙ place-mark y far-y ∙ τ)
+            let (k, τ) = kept (queued x) real-x y h′ in (
+              length-queued w d c (m - 1) below w-room (omega arith) y ∙ place-key y far-y ∙ k,
+              length-tag w d c (m - 1) below w-room (omega arith) y
+                  ∙ place-mark y far-y ∙ τ,
+            )
           where
             place-key : (y : ℕ) → entryOf d c (y + 1) ≢ entryOf d c (x + 1) → queuedKey w d c y ≡ queuedKey at-rank d c y
             place-key y = place-queued at-rank d c x (besideAt at-rank d c (m - 1 + 1)) below y

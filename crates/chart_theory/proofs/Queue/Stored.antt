@@ -13,7 +13,17 @@ use Rattle.chart_table.specs.declared.Layout.{Layout}
 use Rattle.chart_table.specs.Table.{entryOf, priceAt, backAt, putBeside, lastRank, putKey}
 use Rattle.chart_queue.specs.Queue.{queuedKey, queueLength}
 use Rattle.chart_theory.proofs.Table.Entries.{InEntry, entry-injective, entry-within}
-use Rattle.chart_theory.proofs.Table.Numbers.{beside-size, beside-within, beside-price, beside-back, put-size, put-within, put-beside, put-last, put-last-grows}
+use Rattle.chart_theory.proofs.Table.Numbers.{
+  beside-size,
+  beside-within,
+  beside-price,
+  beside-back,
+  put-size,
+  put-within,
+  put-beside,
+  put-last,
+  put-last-grows,
+}
 use Rattle.chart_theory.proofs.Queue.Numbers.{tagAt, put-queued-other, put-queue-length, apart-queued, apart-tag, apart-length, apart-last}
 
 -- what the store of a key at a rank of a cell changes, and the queues of other cells

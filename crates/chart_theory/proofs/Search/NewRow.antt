@@ -21,7 +21,22 @@ use Rattle.chart_theory.proofs.Table.Entries.{cell-below, cell-injectiv
 use Rattle.chart_theory.proofs.Table.Numbers.{put-price, put-back, put-price-other, put-back-other}
 use Rattle.chart_theory.proofs.Queue.Pool.{queue-kept}
 use Rattle.chart_theory.proofs.Queue.Stored.{Stored}
-use Rattle.chart_theory.proofs.Invariant.{Setting, priceIn, Found, Known, PartsFound, SuccessorsKnown, HoldsRow, QueueIn, Invariant, Grows, known-grows, parts-grow, successors-grow, Grown}
+use Rattle.chart_theory.proofs.Invariant.{
+  Setting,
+  priceIn,
+  Found,
+  Known,
+  PartsFound,
+  SuccessorsKnown,
+  HoldsRow,
+  QueueIn,
+  Invariant,
+  Grows,
+  known-grows,
+  parts-grow,
+  successors-grow,
+  Grown,
+}
 use Rattle.chart_theory.proofs.Candidates.Frontier.{Ready, frontier-fits, frontier-some}
 
 module _ {g : Grammar} {es : List Edge} {rules edges index : List ℕ} {d : Layout} (s : Setting g es rules edges index d) where

@@ -25,7 +25,21 @@ use Rattle.chart_search.specs.Search.{Finder, extend, extendParts, advancePairi
 use Rattle.chart_theory.proofs.Table.Keys.{rowBack}
 use Rattle.chart_theory.proofs.Table.Cells.{InChart, span, rankedIn, RowOfIn, RowAtIn, row-unique}
 use Rattle.chart_theory.proofs.Table.Entries.{found-test}
-use Rattle.chart_theory.proofs.Invariant.{Setting, priceIn, Found, Known, PartsFound, SuccessorsKnown, row-back, Invariant, known-grows, Grown, grown-refl, grown-trans, all-below}
+use Rattle.chart_theory.proofs.Invariant.{
+  Setting,
+  priceIn,
+  Found,
+  Known,
+  PartsFound,
+  SuccessorsKnown,
+  row-back,
+  Invariant,
+  known-grows,
+  Grown,
+  grown-refl,
+  grown-trans,
+  all-below,
+}
 use Rattle.chart_theory.proofs.Candidates.Keys.{Splits, rule-is}
 use Rattle.chart_theory.proofs.Candidates.Frontier.{part-cells}
 use Rattle.chart_theory.proofs.Search.NewRow.{Done}

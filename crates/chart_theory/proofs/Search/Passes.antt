@@ -184,7 +184,8 @@ module _ {g : Grammar} {es : List Edge} {rules edges index : List ℕ} {d : Layo
         go (eqb (priceIn d u (root d) x) 0) refl
         (further-known n (suc x) (nextOfRoot rules edges index d u x) (omega arith) (next-known x u (omega arith) listed))
       where
-        go : (b : Bool) → eqb (priceIn d u (root d) x) 0 ≡ b → Listed g es d (suc x + n) (furtherFrom rules edges index d n (nextOfRoot rules edges index d u x) (suc x))
+        go : (b : Bool) → eqb (priceIn d u (root d) x) 0 ≡ b
+            → Listed g es d (suc x + n) (furtherFrom rules edges index d n (nextOfRoot rules edges index d u x) (suc x))
             → Listed g es d (x + suc n) (pick b u (furtherFrom rules edges index d n (nextOfRoot rules edges index d u x) (x + 1)))
         go true e later = none-behind x u (omega arith) listed (eqb-true (priceIn d u (root d) x) 0 e) (x + suc n)
         go false e later = let same : x + suc n ≡ suc x + n = omega arith in rw (same, add-one x) later

@@ -28,7 +28,23 @@ use Rattle.chart_theory.proofs.Table.Entries.{cell-below, entry-within}
 use Rattle.chart_theory.proofs.Table.Numbers.{put-none, put-back}
 use Rattle.chart_theory.proofs.Queue.Numbers.{tagAt, put-queued-again, put-queue-length}
 use Rattle.chart_theory.proofs.Queue.Owners.{owned}
-use Rattle.chart_theory.proofs.Queue.Pool.{Pool, queue-kept, queue-first, Member, inside, low, high, Valid, keyIn, Queued, rowOf, ownerOf, pool-queued, pool-complete, requeued}
+use Rattle.chart_theory.proofs.Queue.Pool.{
+  Pool,
+  queue-kept,
+  queue-first,
+  Member,
+  inside,
+  low,
+  high,
+  Valid,
+  keyIn,
+  Queued,
+  rowOf,
+  ownerOf,
+  pool-queued,
+  pool-complete,
+  requeued,
+}
 use Rattle.chart_theory.proofs.Queue.Stored.{stored-key}
 use Rattle.chart_theory.proofs.Queue.ExtractMin.{Extracted, Outcome, nothing, something, extract-min-outcome}
 use Rattle.chart_theory.proofs.Invariant.{Setting, priceIn, Found, PartsFound, HoldsRow, QueueIn, FreshIn, parts-grow, grown-refl, all-below}

@@ -282,8 +282,10 @@ module _ (t : List ℕ) (d : Layout) (c rank : ℕ) where
         here =
             ⊎-elim
             (λ w.
-            rw (w .0, beside-same t d c 0 tally room)
-            (tally-length (besideAt t d c 0 / 262144) (besideAt t d c 0 % 512) rank (omega arith) few, tally-back (besideAt t d c 0 / 262144) (besideAt t d c 0 % 512) rank (omega arith) few))
+            rw (w .0, beside-same t d c 0 tally room) (
+              tally-length (besideAt t d c 0 / 262144) (besideAt t d c 0 % 512) rank (omega arith) few,
+              tally-back (besideAt t d c 0 / 262144) (besideAt t d c 0 % 512) rank (omega arith) few,
+            ))
             (λ w. rw (w .0) (refl, refl)) last-cases
 
         go : Dec (entryOf d c′ 0 ≡ entryOf d c 0) → (besideAt (putLastRank t d c rank) d c′ 0 % 512 ≡ besideAt t d c′ 0 % 512)

@@ -38,15 +38,23 @@ slice-aggregate-write-grammar-2 c = search needs
 
 write-grammar-requires : tie.Need-write-grammar-requires
 write-grammar-requires c κs =
-    let b = rw (c .before .before .before .before .before .z .given .1) at (c .before .before .before .before .before .before .before .before .before .read-sheet .ensures .bounds) in
-    (omega (arith, b .rules, c .before .before .before .wide .ensures .0), record { some-symbol = b .some-symbol; symbols = b .symbols; some-word = b .some-word; words = b .words })
+    let at-wide = c .before .before .before in
+    let at-z = at-wide .before .before in
+    let at-read-sheet = at-z .before .before .before .before in
+    let b = rw (at-z .z .given .1) at (at-read-sheet .read-sheet .ensures .bounds) in (
+      omega (arith, b .rules, at-wide .wide .ensures .0),
+      record { some-symbol = b .some-symbol; symbols = b .symbols; some-word = b .some-word; words = b .words },
+    )
 
 returns : tie.Need-returns
 unfolding grammarToBlock
 returns c =
-    let a = c .before .before .before .before .before .before .before .before .before .before .args in
+    let at-read-sheet = c .before .before .before .before .before in
+    let at-args = at-read-sheet .before .before .before .before .before in
+    let a = at-args .args in
     and-back (grammarToBlock (a .sheet .now)) (grammar-sheet-and-back (a .sheet .now)) (a .out .now)
-    (handed-up (a .out .now) (marked-refused (markedSheet (a .sheet .now)) (λ m. accepted (blockOfMarked m)) (sym (c .before .before .before .before .before .read-sheet .ensures .answer) ∙ c .before .n .given .1)))
+    (handed-up (a .out .now) (marked-refused (markedSheet (a .sheet .now)) (λ m. accepted (blockOfMarked m))
+    (sym (at-read-sheet .read-sheet .ensures .answer) ∙ c .before .n .given .1)))
 
 same-length : tie.Need-same-length
 same-length c = search needs
@@ -54,11 +62,15 @@ same-length c = search needs
 returns-2 : tie.Need-returns-2
 unfolding grammarToBlock
 returns-2 c =
-    let a = c .before .before .before .before .before .before .before .before .before .before .before .before .before .before .before .before .before .args in
-    let r = c .before .before .before .before .before .before .before .before .before .before .before .before .read-sheet in
-    let e = block-told (markedSheet (a .sheet .now)) (sym (r .ensures .answer) ∙ c .before .before .before .before .before .before .before .before .z .given .1) (r .last .1 .0) (r .last .1 .1 .0) (r .ensures .stands) in
+    let at-wide = c .before .before .before .before .before .before in
+    let at-z = at-wide .before .before in
+    let at-read-sheet = at-z .before .before .before .before in
+    let at-args = at-read-sheet .before .before .before .before .before in
+    let a = at-args .args in
+    let r = at-read-sheet .read-sheet in
+    let e = block-told (markedSheet (a .sheet .now)) (sym (r .ensures .answer) ∙ at-z .z .given .1) (r .last .1 .0) (r .last .1 .1 .0) (r .ensures .stands) in
     and-back (grammarToBlock (a .sheet .now)) (grammar-sheet-and-back (a .sheet .now)) (a .out .now)
-    (rw e (rw (c .before .before .before .before .before .before .wide .ensures .0) at (c .before .before .write-grammar .ensures)))
+    (rw e (rw (at-wide .wide .ensures .0) at (c .before .before .write-grammar .ensures)))
 
 pub grammar-to-block-spec : {M : Type 1} → statement M
 grammar-to-block-spec =

@@ -41,8 +41,11 @@ slice-aggregate-join-marks-3 c = search needs
 
 join-marks-requires : tie.Need-join-marks-requires
 join-marks-requires c κs =
-    let b = rw (c .before .before .before .before .before .before .z .given .1) at (c .before .before .before .before .before .before .before .before .before .before .read-marked-block .ensures .bounds) in
-    omega (arith, b .rules, c .before .before .before .before .wide .ensures .0)
+    let at-wide = c .before .before .before .before in
+    let at-z = at-wide .before .before in
+    let at-read-marked-block = at-z .before .before .before .before in
+    let b = rw (at-z .z .given .1) at (at-read-marked-block .read-marked-block .ensures .bounds) in
+    omega (arith, b .rules, at-wide .wide .ensures .0)
 
 slice-aggregate-write-sheet : tie.Need-slice-aggregate-write-sheet
 slice-aggregate-write-sheet c = search needs
@@ -55,8 +58,12 @@ mul-write-sheet c = omega (arith, c .before .before .before .before .before .bef
 
 write-sheet-requires : tie.Need-write-sheet-requires
 write-sheet-requires c κs =
-    let b = rw (c .before .before .before .before .before .before .before .before .before .before .before .z .given .1) at (c .before .before .before .before .before .before .before .before .before .before .before .before .before .before .before .read-marked-block .ensures .bounds) in
-    (omega arith, omega (arith, b .rules, c .before .before .before .before .before .before .before .before .before .wide .ensures .0, c .before .before .before .before .join-marks .kept .1 .1 .1 .0))
+    let at-join-marks = c .before .before .before .before in
+    let at-wide = at-join-marks .before .before .before .before .before in
+    let at-z = at-wide .before .before in
+    let at-read-marked-block = at-z .before .before .before .before in
+    let b = rw (at-z .z .given .1) at (at-read-marked-block .read-marked-block .ensures .bounds) in
+    (omega arith, omega (arith, b .rules, at-wide .wide .ensures .0, at-join-marks .join-marks .kept .1 .1 .1 .0))
 
 same-length : tie.Need-same-length
 same-length c = search needs
@@ -64,13 +71,22 @@ same-length c = search needs
 returns : tie.Need-returns
 unfolding grammarToSheet
 returns c =
-    let a = c .before .before .before .before .before .before .before .before .before .before .before .before .before .before .before .before .before .before .before .before .before .before .before .args in
-    let r = c .before .before .before .before .before .before .before .before .before .before .before .before .before .before .before .before .before .before .read-marked-block in
-    let b = rw (c .before .before .before .before .before .before .before .before .before .before .before .before .before .before .z .given .1) at (r .ensures .bounds) in
-    let stored = rw (c .before .before .before .before .before .before .before .before .before .before .before .before .wide .ensures .0) at (c .before .before .before .before .before .before .before .join-marks .ensures) in
-    let e = marked-told (markedBlock (a .block .now)) (sym (r .ensures .answer) ∙ c .before .before .before .before .before .before .before .before .before .before .before .before .before .before .z .given .1) (r .last .1 .0) (r .last .1 .1 .0) (r .ensures .stands) (c .before .before .before .before .before .before .before .before .before .before .before .if1 .taken) _ _ stored (omega (arith, b .rules)) in
-    and-back (grammarToSheet (a .block .now)) (λ l. grammar-block-and-back (a .block .now) l (λ i. c .before .before .before .before .before .before .before .before .before .before .before .before .before .before .before .before .before .before .before .before .before .before .shared-slice-known .given i .fits)) (a .out .now)
-    (rw e (rw (c .before .before .before .before .before .before .before .before .before .before .before .before .wide .ensures .0) at (c .before .before .write-sheet .ensures)))
+    let at-join-marks = c .before .before .before .before .before .before .before in
+    let at-if1 = at-join-marks .before .before .before .before in
+    let at-wide = at-if1 .before in
+    let at-z = at-wide .before .before in
+    let at-read-marked-block = at-z .before .before .before .before in
+    let at-shared-slice-known = at-read-marked-block .before .before .before .before in
+    let at-args = at-shared-slice-known .before in
+    let a = at-args .args in
+    let r = at-read-marked-block .read-marked-block in
+    let b = rw (at-z .z .given .1) at (r .ensures .bounds) in
+    let stored = rw (at-wide .wide .ensures .0) at (at-join-marks .join-marks .ensures) in
+    let e = marked-told (markedBlock (a .block .now)) (sym (r .ensures .answer) ∙ at-z .z .given .1) (r .last .1 .0) (r .last .1 .1 .0) (r .ensures .stands)
+    (at-if1 .if1 .taken) _ _ stored (omega (arith, b .rules)) in
+    and-back (grammarToSheet (a .block .now)) (λ l. grammar-block-and-back (a .block .now) l (λ i. at-shared-slice-known .shared-slice-known .given i .fits))
+    (a .out .now)
+    (rw e (rw (at-wide .wide .ensures .0) at (c .before .before .write-sheet .ensures)))
 
 slice-aggregate-write-sheet-3 : tie.Need-slice-aggregate-write-sheet-3
 slice-aggregate-write-sheet-3 c = search needs
@@ -83,15 +99,23 @@ mul-write-sheet-2 c = omega (arith, c .before .before .before .before .wide .ens
 
 write-sheet-requires-2 : tie.Need-write-sheet-requires-2
 write-sheet-requires-2 c κs =
-    let b = rw (c .before .before .before .before .before .before .z .given .1) at (c .before .before .before .before .before .before .before .before .before .before .read-marked-block .ensures .bounds) in
-    (omega arith, omega (arith, b .rules, c .before .before .before .before .wide .ensures .0, c .before .before .before .before .before .before .before .before .before .before .read-marked-block .kept .1 .0))
+    let at-wide = c .before .before .before .before in
+    let at-z = at-wide .before .before in
+    let at-read-marked-block = at-z .before .before .before .before in
+    let b = rw (at-z .z .given .1) at (at-read-marked-block .read-marked-block .ensures .bounds) in
+    (omega arith, omega (arith, b .rules, at-wide .wide .ensures .0, at-read-marked-block .read-marked-block .kept .1 .0))
 
 returns-2 : tie.Need-returns-2
 unfolding grammarToSheet
 returns-2 c =
-    let a = c .before .before .before .before .before .before .before .before .before .before .args in
-    and-back (grammarToSheet (a .block .now)) (λ l. grammar-block-and-back (a .block .now) l (λ i. c .before .before .before .before .before .before .before .before .before .shared-slice-known .given i .fits)) (a .out .now)
-    (handed-up (a .out .now) (marked-refused (markedBlock (a .block .now)) (λ m. accepted (sheetOfMarked m)) (sym (c .before .before .before .before .before .read-marked-block .ensures .answer) ∙ c .before .n .given .1)))
+    let at-read-marked-block = c .before .before .before .before .before in
+    let at-shared-slice-known = at-read-marked-block .before .before .before .before in
+    let at-args = at-shared-slice-known .before in
+    let a = at-args .args in
+    and-back (grammarToSheet (a .block .now)) (λ l. grammar-block-and-back (a .block .now) l (λ i. at-shared-slice-known .shared-slice-known .given i .fits))
+    (a .out .now)
+    (handed-up (a .out .now) (marked-refused (markedBlock (a .block .now)) (λ m. accepted (sheetOfMarked m))
+    (sym (at-read-marked-block .read-marked-block .ensures .answer) ∙ c .before .n .given .1)))
 
 same-length-2 : tie.Need-same-length-2
 same-length-2 c = search needs
@@ -99,11 +123,19 @@ same-length-2 c = search needs
 returns-3 : tie.Need-returns-3
 unfolding grammarToSheet
 returns-3 c =
-    let a = c .before .before .before .before .before .before .before .before .before .before .before .before .before .before .before .before .before .before .args in
-    let r = c .before .before .before .before .before .before .before .before .before .before .before .before .before .read-marked-block in
-    let e = plain-told (markedBlock (a .block .now)) (sym (r .ensures .answer) ∙ c .before .before .before .before .before .before .before .before .before .z .given .1) (r .last .1 .0) (r .last .1 .1 .0) (r .ensures .stands) (c .before .before .before .before .before .before .if1 .left) in
-    and-back (grammarToSheet (a .block .now)) (λ l. grammar-block-and-back (a .block .now) l (λ i. c .before .before .before .before .before .before .before .before .before .before .before .before .before .before .before .before .before .shared-slice-known .given i .fits)) (a .out .now)
-    (rw e (rw (c .before .before .before .before .before .before .before .wide .ensures .0) at (c .before .before .write-sheet2 .ensures)))
+    let at-if1 = c .before .before .before .before .before .before in
+    let at-wide = at-if1 .before in
+    let at-z = at-wide .before .before in
+    let at-read-marked-block = at-z .before .before .before .before in
+    let at-shared-slice-known = at-read-marked-block .before .before .before .before in
+    let at-args = at-shared-slice-known .before in
+    let a = at-args .args in
+    let r = at-read-marked-block .read-marked-block in
+    let e = plain-told (markedBlock (a .block .now)) (sym (r .ensures .answer) ∙ at-z .z .given .1) (r .last .1 .0) (r .last .1 .1 .0) (r .ensures .stands)
+    (at-if1 .if1 .left) in
+    and-back (grammarToSheet (a .block .now)) (λ l. grammar-block-and-back (a .block .now) l (λ i. at-shared-slice-known .shared-slice-known .given i .fits))
+    (a .out .now)
+    (rw e (rw (at-wide .wide .ensures .0) at (c .before .before .write-sheet2 .ensures)))
 
 pub grammar-to-sheet-spec : {M : Type 1} → statement M
 grammar-to-sheet-spec =

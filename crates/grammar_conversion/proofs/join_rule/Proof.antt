@@ -45,16 +45,28 @@ store-requires-3 : tie.Need-store-requires-3
 store-requires-3 c κs = tt
 
 add-store-4 : tie.Need-add-store-4
-add-store-4 c = omega (arith, c .before .before .before .before .before .before .before .before .before .before .before .before .before .before .before .before .before .before .before .pre)
+add-store-4 c =
+    let before-10 = c .before .before .before .before .before .before .before .before .before .before in
+    let at-pre = before-10 .before .before .before .before .before .before .before .before .before in
+    omega (arith, at-pre .pre)
 
 add-store-5 : tie.Need-add-store-5
-add-store-5 c = omega (arith, c .before .before .before .before .before .before .before .before .before .before .before .before .before .before .before .before .before .before .before .pre)
+add-store-5 c =
+    let before-10 = c .before .before .before .before .before .before .before .before .before .before in
+    let at-pre = before-10 .before .before .before .before .before .before .before .before .before in
+    omega (arith, at-pre .pre)
 
 add-store-6 : tie.Need-add-store-6
-add-store-6 c = omega (arith, c .before .before .before .before .before .before .before .before .before .before .before .before .before .before .before .before .before .before .before .pre)
+add-store-6 c =
+    let before-10 = c .before .before .before .before .before .before .before .before .before .before in
+    let at-pre = before-10 .before .before .before .before .before .before .before .before .before in
+    omega (arith, at-pre .pre)
 
 add-narrow-at-3 : tie.Need-add-narrow-at-3
-add-narrow-at-3 c = omega (arith, c .before .before .before .before .before .before .before .before .before .before .before .before .before .before .before .before .before .before .before .pre)
+add-narrow-at-3 c =
+    let before-10 = c .before .before .before .before .before .before .before .before .before .before in
+    let at-pre = before-10 .before .before .before .before .before .before .before .before .before in
+    omega (arith, at-pre .pre)
 
 narrow-at-requires-4 : tie.Need-narrow-at-requires-4
 narrow-at-requires-4 c κs = tt
@@ -63,19 +75,34 @@ store-requires-4 : tie.Need-store-requires-4
 store-requires-4 c κs = tt
 
 add-store-7 : tie.Need-add-store-7
-add-store-7 c = omega (arith, c .before .before .before .before .before .before .before .before .before .before .before .before .before .before .before .before .before .before .before .before .before .before .before .before .pre)
+add-store-7 c =
+    let before-12 = c .before .before .before .before .before .before .before .before .before .before .before .before in
+    let at-pre = before-12 .before .before .before .before .before .before .before .before .before .before .before .before in
+    omega (arith, at-pre .pre)
 
 add-store-8 : tie.Need-add-store-8
-add-store-8 c = omega (arith, c .before .before .before .before .before .before .before .before .before .before .before .before .before .before .before .before .before .before .before .before .before .before .before .before .pre)
+add-store-8 c =
+    let before-12 = c .before .before .before .before .before .before .before .before .before .before .before .before in
+    let at-pre = before-12 .before .before .before .before .before .before .before .before .before .before .before .before in
+    omega (arith, at-pre .pre)
 
 add-store-9 : tie.Need-add-store-9
-add-store-9 c = omega (arith, c .before .before .before .before .before .before .before .before .before .before .before .before .before .before .before .before .before .before .before .before .before .before .before .before .pre)
+add-store-9 c =
+    let before-12 = c .before .before .before .before .before .before .before .before .before .before .before .before in
+    let at-pre = before-12 .before .before .before .before .before .before .before .before .before .before .before .before in
+    omega (arith, at-pre .pre)
 
 add-store-10 : tie.Need-add-store-10
-add-store-10 c = omega (arith, c .before .before .before .before .before .before .before .before .before .before .before .before .before .before .before .before .before .before .before .before .before .before .before .before .pre)
+add-store-10 c =
+    let before-12 = c .before .before .before .before .before .before .before .before .before .before .before .before in
+    let at-pre = before-12 .before .before .before .before .before .before .before .before .before .before .before .before in
+    omega (arith, at-pre .pre)
 
 add-narrow-at-4 : tie.Need-add-narrow-at-4
-add-narrow-at-4 c = omega (arith, c .before .before .before .before .before .before .before .before .before .before .before .before .before .before .before .before .before .before .before .before .before .before .before .before .pre)
+add-narrow-at-4 c =
+    let before-12 = c .before .before .before .before .before .before .before .before .before .before .before .before in
+    let at-pre = before-12 .before .before .before .before .before .before .before .before .before .before .before .before in
+    omega (arith, at-pre .pre)
 
 narrow-at-requires-5 : tie.Need-narrow-at-requires-5
 narrow-at-requires-5 c κs = tt
@@ -84,19 +111,39 @@ store-requires-5 : tie.Need-store-requires-5
 store-requires-5 c κs = tt
 
 add-store-11 : tie.Need-add-store-11
-add-store-11 c = omega (arith, c .before .before .before .before .before .before .before .before .before .before .before .before .before .before .before .before .before .before .before .before .before .before .before .before .before .before .before .before .before .pre)
+add-store-11 c =
+    let before-14 = c .before .before .before .before .before .before .before .before .before .before .before .before .before .before in
+    let before-22 = before-14 .before .before .before .before .before .before .before .before in
+    let at-pre = before-22 .before .before .before .before .before .before .before in
+    omega (arith, at-pre .pre)
 
 add-store-12 : tie.Need-add-store-12
-add-store-12 c = omega (arith, c .before .before .before .before .before .before .before .before .before .before .before .before .before .before .before .before .before .before .before .before .before .before .before .before .before .before .before .before .before .pre)
+add-store-12 c =
+    let before-14 = c .before .before .before .before .before .before .before .before .before .before .before .before .before .before in
+    let before-22 = before-14 .before .before .before .before .before .before .before .before in
+    let at-pre = before-22 .before .before .before .before .before .before .before in
+    omega (arith, at-pre .pre)
 
 add-store-13 : tie.Need-add-store-13
-add-store-13 c = omega (arith, c .before .before .before .before .before .before .before .before .before .before .before .before .before .before .before .before .before .before .before .before .before .before .before .before .before .before .before .before .before .pre)
+add-store-13 c =
+    let before-14 = c .before .before .before .before .before .before .before .before .before .before .before .before .before .before in
+    let before-22 = before-14 .before .before .before .before .before .before .before .before in
+    let at-pre = before-22 .before .before .before .before .before .before .before in
+    omega (arith, at-pre .pre)
 
 add-store-14 : tie.Need-add-store-14
-add-store-14 c = omega (arith, c .before .before .before .before .before .before .before .before .before .before .before .before .before .before .before .before .before .before .before .before .before .before .before .before .before .before .before .before .before .pre)
+add-store-14 c =
+    let before-14 = c .before .before .before .before .before .before .before .before .before .before .before .before .before .before in
+    let before-22 = before-14 .before .before .before .before .before .before .before .before in
+    let at-pre = before-22 .before .before .before .before .before .before .before in
+    omega (arith, at-pre .pre)
 
 add-store-15 : tie.Need-add-store-15
-add-store-15 c = omega (arith, c .before .before .before .before .before .before .before .before .before .before .before .before .before .before .before .before .before .before .before .before .before .before .before .before .before .before .before .before .before .pre)
+add-store-15 c =
+    let before-14 = c .before .before .before .before .before .before .before .before .before .before .before .before .before .before in
+    let before-22 = before-14 .before .before .before .before .before .before .before .before in
+    let at-pre = before-22 .before .before .before .before .before .before .before in
+    omega (arith, at-pre .pre)
 
 narrow-at-requires-6 : tie.Need-narrow-at-requires-6
 narrow-at-requires-6 c κs = tt
@@ -105,24 +152,42 @@ store-requires-6 : tie.Need-store-requires-6
 store-requires-6 c κs = tt
 
 same-length : tie.Need-same-length
-same-length c = c .before .before .store6 .kept .0 ∙ c .before .before .before .before .before .before .before .store5 .kept .0 ∙ c .before .before .before .before .before .before .before .before .before .before .before .before .store4 .kept .0 ∙ c .before .before .before .before .before .before .before .before .before .before .before .before .before .before .before .before .before .store3 .kept .0 ∙ c .before .before .before .before .before .before .before .before .before .before .before .before .before .before .before .before .before .before .before .before .before .before .store2 .kept .0 ∙ c .before .before .before .before .before .before .before .before .before .before .before .before .before .before .before .before .before .before .before .before .before .before .before .before .before .before .before .store .kept .0
+same-length c =
+    let at-store5 = c .before .before .before .before .before .before .before in
+    let at-store4 = at-store5 .before .before .before .before .before in
+    let at-store3 = at-store4 .before .before .before .before .before in
+    let at-store2 = at-store3 .before .before .before .before .before in
+    let at-store = at-store2 .before .before .before .before .before in
+    c .before .before .store6 .kept .0 ∙ at-store5 .store5 .kept .0 ∙ at-store4 .store4 .kept .0 ∙ at-store3 .store3 .kept .0 ∙ at-store2 .store2 .kept .0
+    ∙ at-store .store .kept .0
 
 returns : tie.Need-returns
 unfolding storeAll
 returns c =
+    let at-narrow-at6 = c .before .before .before in
+    let at-store5 = at-narrow-at6 .before .before .before .before in
+    let at-narrow-at5 = at-store5 .before in
+    let at-store4 = at-narrow-at5 .before .before .before .before in
+    let at-narrow-at4 = at-store4 .before in
+    let at-store3 = at-narrow-at4 .before .before .before .before in
+    let at-narrow-at3 = at-store3 .before in
+    let at-store2 = at-narrow-at3 .before .before .before .before in
+    let at-narrow-at2 = at-store2 .before in
+    let at-store = at-narrow-at2 .before .before .before .before in
+    let at-narrow-at = at-store .before in
     rw (
       c .before .before .store6 .ensures,
-      c .before .before .before .before .before .before .before .store5 .ensures,
-      c .before .before .before .before .before .before .before .before .before .before .before .before .store4 .ensures,
-      c .before .before .before .before .before .before .before .before .before .before .before .before .before .before .before .before .before .store3 .ensures,
-      c .before .before .before .before .before .before .before .before .before .before .before .before .before .before .before .before .before .before .before .before .before .before .store2 .ensures,
-      c .before .before .before .before .before .before .before .before .before .before .before .before .before .before .before .before .before .before .before .before .before .before .before .before .before .before .before .store .ensures,
-      c .before .before .before .narrow-at6 .ensures,
-      c .before .before .before .before .before .before .before .before .narrow-at5 .ensures,
-      c .before .before .before .before .before .before .before .before .before .before .before .before .before .narrow-at4 .ensures,
-      c .before .before .before .before .before .before .before .before .before .before .before .before .before .before .before .before .before .before .narrow-at3 .ensures,
-      c .before .before .before .before .before .before .before .before .before .before .before .before .before .before .before .before .before .before .before .before .before .before .before .narrow-at2 .ensures,
-      c .before .before .before .before .before .before .before .before .before .before .before .before .before .before .before .before .before .before .before .before .before .before .before .before .before .before .before .before .narrow-at .ensures,
+      at-store5 .store5 .ensures,
+      at-store4 .store4 .ensures,
+      at-store3 .store3 .ensures,
+      at-store2 .store2 .ensures,
+      at-store .store .ensures,
+      at-narrow-at6 .narrow-at6 .ensures,
+      at-narrow-at5 .narrow-at5 .ensures,
+      at-narrow-at4 .narrow-at4 .ensures,
+      at-narrow-at3 .narrow-at3 .ensures,
+      at-narrow-at2 .narrow-at2 .ensures,
+      at-narrow-at .narrow-at .ensures,
     )
 
 pub join-rule-spec : {M : Type 1} → statement M

@@ -22,14 +22,21 @@ returns : tie.Need-returns
 returns c = sizes-refused _ _ _ (c .before .before .read-sizes .ensures .0) _ _ _ (c .enum-told .given .1)
 
 -- the sizes that were read are in their ranges
-near : (c : tie.After-known-told) → Bounded (c .before .head .given .0 .0) × (c .before .head .given .0 .1 .0 .at ≤ c .before .before .before .before .before .before .before .before .args .at + 23)
-near c = subst (SizesNear (c .before .before .before .before .before .before .before .before .args .at + 23)) (c .before .head .given .1) (c .before .before .before .read-sizes .ensures .1)
+near : (c : tie.After-known-told) → Bounded (c .before .head .given .0 .0)
+    × (c .before .head .given .0 .1 .0 .at ≤ c .before .before .before .before .before .before .before .before .args .at + 23)
+near c =
+    let at-read-sizes = c .before .before .before in
+    let at-args = at-read-sizes .before .before .before .before .before in
+    subst (SizesNear (at-args .args .at + 23)) (c .before .head .given .1) (at-read-sizes .read-sizes .ensures .1)
 
 unfit-requires : tie.Need-unfit-requires
 unfit-requires c κs = omega (arith, near c)
 
 returns-2 : tie.Need-returns-2
-returns-2 c = sheet-unfit _ _ _ (c .before .before .before .before .before .read-sizes .ensures .0) _ _ _ (c .before .before .before .head .given .1) (sym (c .before .unfit .ensures _) ∙ c .if1 .taken)
+returns-2 c =
+    let at-head = c .before .before .before in
+    let at-read-sizes = at-head .before .before in
+    sheet-unfit _ _ _ (at-read-sizes .read-sizes .ensures .0) _ _ _ (at-head .head .given .1) (sym (c .before .unfit .ensures _) ∙ c .if1 .taken)
 
 read-rules-requires : tie.Need-read-rules-requires
 read-rules-requires c κs =
@@ -59,7 +66,13 @@ same-length-2 c = search needs
 
 returns-3 : tie.Need-returns-3
 returns-3 c =
-    rules-refused _ _ _ (c .before .before .before .before .before .before .before .before .before .before .before .before .before .before .before .read-sizes .ensures .0) _ _ _ (c .before .before .before .before .before .before .before .before .before .before .before .before .before .head .given .1) (sym (c .before .before .before .before .before .before .before .before .before .before .before .unfit .ensures _) ∙ c .before .before .before .before .before .before .before .before .before .before .if1 .left) (c .before .before .before .before .before .before .before .read-rules .ensures) (c .before .enum-told2 .given .1)
+    let at-read-rules = c .before .before .before .before .before .before .before in
+    let at-if1 = at-read-rules .before .before .before in
+    let at-unfit = at-if1 .before in
+    let at-head = at-unfit .before .before in
+    let at-read-sizes = at-head .before .before in
+    rules-refused _ _ _ (at-read-sizes .read-sizes .ensures .0) _ _ _ (at-head .head .given .1) (sym (at-unfit .unfit .ensures _) ∙ at-if1 .if1 .left)
+    (at-read-rules .read-rules .ensures) (c .before .enum-told2 .given .1)
     (c .refusal .ensures)
 
 same-length-3 : tie.Need-same-length-3
@@ -70,8 +83,15 @@ same-length-4 c = search needs
 
 returns-4 : tie.Need-returns-4
 returns-4 c =
-    rules-read _ _ _ (c .before .before .before .before .before .before .before .before .before .before .before .before .before .before .before .read-sizes .ensures .0) _ _ _ (c .before .before .before .before .before .before .before .before .before .before .before .before .before .head .given .1) (sym (c .before .before .before .before .before .before .before .before .before .before .before .unfit .ensures _) ∙ c .before .before .before .before .before .before .before .before .before .before .if1 .left) (c .before .before .before .before .before .before .before .read-rules .ensures) (c .before .body .given .1)
-    (near (c .before .before .before .before .before .before .before .before .before .before .before .before) .0) (near (c .before .before .before .before .before .before .before .before .before .before .before .before) .1)
+    let at-read-rules = c .before .before .before .before .before .before .before in
+    let at-if1 = at-read-rules .before .before .before in
+    let at-unfit = at-if1 .before in
+    let before-12 = at-unfit .before in
+    let at-head = before-12 .before in
+    let at-read-sizes = at-head .before .before in
+    rules-read _ _ _ (at-read-sizes .read-sizes .ensures .0) _ _ _ (at-head .head .given .1) (sym (at-unfit .unfit .ensures _) ∙ at-if1 .if1 .left)
+    (at-read-rules .read-rules .ensures) (c .before .body .given .1)
+    (near (before-12) .0) (near (before-12) .1)
 
 pub read-grammar-spec : {M : Type 1} → statement M
 read-grammar-spec =

@@ -52,7 +52,12 @@ refusal-requires : tie.Need-refusal-requires
 refusal-requires c κs = search needs
 
 returns : tie.Need-returns
-returns c = no-kind _ _ (missed (bytes 1 (c .before .before .before .before .before .before .before .before .before .args .block .now)) 0 (c .before .before .before .before .kind-field .ensures .0) (c .before .before .before .field-at .ensures) (c .before .enum-told .given .1) (c .refusal .ensures))
+returns c =
+    let at-field-at = c .before .before .before in
+    let at-kind-field = at-field-at .before in
+    let at-args = at-kind-field .before .before .before .before .before in
+    no-kind _ _ (missed (bytes 1 (at-args .args .block .now)) 0 (at-kind-field .kind-field .ensures .0) (at-field-at .field-at .ensures)
+    (c .before .enum-told .given .1) (c .refusal .ensures))
 
 -- the kind that was read
 abbrev start : tie.After-known-told → tie.Start
@@ -61,8 +66,12 @@ start c = c .before .before .before .before .before .before .before .before .bef
 abbrev asked : tie.After-known-told → Field
 asked c = blockKind (kindNumber (start c .args .marked)) 2
 
-kind-read : (c : tie.After-known-told) → fieldAt (bytes 1 (start c .args .block .now)) 0 (asked c) ≡ parsed (c .before .kind .given .0 .0) (c .before .kind .given .0 .1 .0 .at)
-kind-read c = got (bytes 1 (start c .args .block .now)) 0 (c .before .before .before .before .kind-field .ensures .0) (c .before .before .before .field-at .ensures) (c .before .kind .given .1)
+kind-read : (c : tie.After-known-told) → fieldAt (bytes 1 (start c .args .block .now)) 0 (asked c)
+    ≡ parsed (c .before .kind .given .0 .0) (c .before .kind .given .0 .1 .0 .at)
+kind-read c =
+    let at-field-at = c .before .before .before in
+    let at-kind-field = at-field-at .before in
+    got (bytes 1 (start c .args .block .now)) 0 (at-kind-field .kind-field .ensures .0) (at-field-at .field-at .ensures) (c .before .kind .given .1)
 
 kind-near : (c : tie.After-known-told) → c .before .kind .given .0 .1 .0 .at ≤ 4
 kind-near c = omega (arith, taken (asked c) 4 (bytes 1 (start c .args .block .now)) 0 (omega arith) (omega arith) (kind-read c))
@@ -71,7 +80,10 @@ slice-aggregate-read-grammar : tie.Need-slice-aggregate-read-grammar
 slice-aggregate-read-grammar c = search needs
 
 read-grammar-requires : tie.Need-read-grammar-requires
-read-grammar-requires c κs = (omega (arith, kind-near (c .before .before .before)), c .before .before .before .before .before .before .before .before .before .before .before .before .pre .0, c .before .before .before .before .before .before .before .before .before .before .before .before .pre .1)
+read-grammar-requires c κs =
+    let before-3 = c .before .before .before in
+    let at-pre = before-3 .before .before .before .before .before .before .before .before .before in
+    (omega (arith, kind-near (before-3)), at-pre .pre .0, at-pre .pre .1)
 
 enum-known-read : tie.Need-enum-known-read
 enum-known-read c = search needs
@@ -83,8 +95,12 @@ enum-known-read-2 c = search needs
 abbrev kind-before : tie.After-known-told3 → tie.After-known-told
 kind-before c = c .before .before .before .before .before .before .before .before .before .before .before
 
-near : (c : tie.After-known-told3) → Bounded (c .before .read2 .given .0 .0) × (c .before .read2 .given .0 .1 .0 .at ≤ kind-before c .before .kind .given .0 .1 .0 .at + 23 + 42 * 256)
-near c = subst (SizesNear (kind-before c .before .kind .given .0 .1 .0 .at + 23 + 42 * 256)) (c .before .read2 .given .1) (c .before .before .before .before .before .before .before .read-grammar .ensures .near)
+near : (c : tie.After-known-told3) → Bounded (c .before .read2 .given .0 .0)
+    × (c .before .read2 .given .0 .1 .0 .at ≤ kind-before c .before .kind .given .0 .1 .0 .at + 23 + 42 * 256)
+near c =
+    let at-read-grammar = c .before .before .before .before .before .before .before in
+    subst (SizesNear (kind-before c .before .kind .given .0 .1 .0 .at + 23 + 42 * 256)) (c .before .read2 .given .1)
+    (at-read-grammar .read-grammar .ensures .near)
 
 zero-from-requires : tie.Need-zero-from-requires
 zero-from-requires c κs = omega (arith, near c, kind-near (c .before .before .before .before .before .before .before .before .before .before .before))
@@ -97,9 +113,14 @@ same-length-2 c = search needs
 
 returns-2 : tie.Need-returns-2
 returns-2 c =
-    let block = c .before .before .before .before .before .before .before .before .before .before .before .before .before .before .before .before .before .before .before .before .before .before .args .block .now in
-    after-kind block _ (kind-read (c .before .before .before .before .before .before .before .before .before .before .before .before .before))
-    (end-passed {src = bytes 1 block} (c .before .before .before .before .before .before .before .before .before .read-grammar .ensures) (ended block) 7 (c .before .before .before .read2 .given .1) (sym (c .before .zero-from .ensures) ∙ c .if1 .taken) (near (c .before .before) .0))
+    let at-read2 = c .before .before .before in
+    let at-read-grammar = at-read2 .before .before .before .before .before .before in
+    let before-13 = at-read-grammar .before .before .before .before in
+    let at-args = before-13 .before .before .before .before .before .before .before .before .before in
+    let block = at-args .args .block .now in
+    after-kind block _ (kind-read (before-13))
+    (end-passed {src = bytes 1 block} (at-read-grammar .read-grammar .ensures) (ended block) 7 (at-read2 .read2 .given .1)
+    (sym (c .before .zero-from .ensures) ∙ c .if1 .taken) (near (c .before .before) .0))
 
 same-length-3 : tie.Need-same-length-3
 same-length-3 c = search needs
@@ -109,8 +130,12 @@ same-length-4 c = search needs
 
 returns-3 : tie.Need-returns-3
 returns-3 c =
-    let block = c .before .before .before .before .before .before .before .before .before .before .before .before .before .before .before .before .before .before .before .before .args .block .now in
-    after-kind block _ (kind-read (c .before .before .before .before .before .before .before .before .before .before .before)) (end-refused {src = bytes 1 block} (c .before .before .before .before .before .before .before .read-grammar .ensures) (ended block) 7 (c .before .read .given .1))
+    let at-read-grammar = c .before .before .before .before .before .before .before in
+    let before-11 = at-read-grammar .before .before .before .before in
+    let at-args = before-11 .before .before .before .before .before .before .before .before .before in
+    let block = at-args .args .block .now in
+    after-kind block _ (kind-read (before-11)) (end-refused {src = bytes 1 block} (at-read-grammar .read-grammar .ensures) (ended block) 7
+    (c .before .read .given .1))
 
 same-length-5 : tie.Need-same-length-5
 same-length-5 c = search needs
@@ -120,9 +145,14 @@ same-length-6 c = search needs
 
 returns-4 : tie.Need-returns-4
 returns-4 c =
-    let block = c .before .before .before .before .before .before .before .before .before .before .before .before .before .before .before .before .before .before .before .before .before .before .args .block .now in
-    after-kind block _ (kind-read (c .before .before .before .before .before .before .before .before .before .before .before .before .before))
-    (end-failed {src = bytes 1 block} (c .before .before .before .before .before .before .before .before .before .read-grammar .ensures) (ended block) 7 (c .before .before .before .read2 .given .1) (sym (c .before .zero-from .ensures) ∙ c .if1 .left))
+    let at-read2 = c .before .before .before in
+    let at-read-grammar = at-read2 .before .before .before .before .before .before in
+    let before-13 = at-read-grammar .before .before .before .before in
+    let at-args = before-13 .before .before .before .before .before .before .before .before .before in
+    let block = at-args .args .block .now in
+    after-kind block _ (kind-read (before-13))
+    (end-failed {src = bytes 1 block} (at-read-grammar .read-grammar .ensures) (ended block) 7 (at-read2 .read2 .given .1)
+    (sym (c .before .zero-from .ensures) ∙ c .if1 .left))
 
 pub read-kind-spec : {M : Type 1} → statement M
 read-kind-spec =

@@ -20,7 +20,9 @@ use Rattle.grammar_reader.proofs.read_sheet.Tie as tie
 
 returns : tie.Need-returns
 unfolding markedSheet sheetBy
-returns c = rw (lt-ltb (length (c .before .before .before .before .args .sheet .now)) 3 (omega arith)) (record { answer = refl; stands = tt; laid = tt; bounds = tt })
+returns c =
+    let at-args = c .before .before .before .before in
+    rw (lt-ltb (length (at-args .args .sheet .now)) 3 (omega arith)) (record { answer = refl; stands = tt; laid = tt; bounds = tt })
 
 is-marked-sheet-requires : tie.Need-is-marked-sheet-requires
 is-marked-sheet-requires c κs = omega (arith, c .if1 .left)
@@ -52,7 +54,12 @@ module _ (s : List ℕ) (b : Bool) {r : MarkedRead} {before rules marks : List �
       rw (le-ltb (length s) 3 l, ← k, ← finish-always 41 (grammarFrom b (numbers s) 0)) t
 
 returns-2 : tie.Need-returns-2
-returns-2 c = long _ _ (c .before .before .before .before .before .before .before .before .before .before .before .before .if1 .left) (c .before .before .before .before .before .before .before .before .before .before .before .is-marked-sheet .ensures) (end-refused (c .before .before .before .before .before .before .before .read-grammar .ensures) (λ (at : ℕ). true) 41 (c .before .read .given .1))
+returns-2 c =
+    let at-read-grammar = c .before .before .before .before .before .before .before in
+    let at-is-marked-sheet = at-read-grammar .before .before .before .before in
+    let at-if1 = at-is-marked-sheet .before in
+    long _ _ (at-if1 .if1 .left) (at-is-marked-sheet .is-marked-sheet .ensures)
+    (end-refused (at-read-grammar .read-grammar .ensures) (λ (at : ℕ). true) 41 (c .before .read .given .1))
 
 same-length-3 : tie.Need-same-length-3
 same-length-3 c = search needs
@@ -62,8 +69,12 @@ same-length-4 c = search needs
 
 returns-3 : tie.Need-returns-3
 returns-3 c =
-    long _ _ (c .before .before .before .before .before .before .before .before .before .before .before .before .if1 .left) (c .before .before .before .before .before .before .before .before .before .before .before .is-marked-sheet .ensures)
-    (end-passed (c .before .before .before .before .before .before .before .read-grammar .ensures) (λ (at : ℕ). true) 41 (c .before .read2 .given .1) refl (subst (SizesNear _) (c .before .read2 .given .1) (c .before .before .before .before .before .before .before .read-grammar .ensures .near) .0))
+    let at-read-grammar = c .before .before .before .before .before .before .before in
+    let at-is-marked-sheet = at-read-grammar .before .before .before .before in
+    let at-if1 = at-is-marked-sheet .before in
+    long _ _ (at-if1 .if1 .left) (at-is-marked-sheet .is-marked-sheet .ensures)
+    (end-passed (at-read-grammar .read-grammar .ensures) (λ (at : ℕ). true) 41 (c .before .read2 .given .1) refl
+    (subst (SizesNear _) (c .before .read2 .given .1) (at-read-grammar .read-grammar .ensures .near) .0))
 
 pub read-sheet-spec : {M : Type 1} → statement M
 read-sheet-spec =

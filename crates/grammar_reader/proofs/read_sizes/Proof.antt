@@ -37,7 +37,8 @@ returns c =
 abbrev start : tie.After-known-told → tie.Start
 start c = c .before .before .before .before .before .before
 
-symbols-read : (c : tie.After-known-told) → fieldAt (source (start c)) (start c .args .at) (sizeField 6 32) ≡ parsed (c .before .read .given .0 .0) (c .before .read .given .0 .1 .0 .at)
+symbols-read : (c : tie.After-known-told) → fieldAt (source (start c)) (start c .args .at) (sizeField 6 32)
+    ≡ parsed (c .before .read .given .0 .0) (c .before .read .given .0 .1 .0 .at)
 symbols-read c = got (source (start c)) _ refl (c .before .before .before .field-at .ensures) (c .before .read .given .1)
 
 symbols-near : (c : tie.After-known-told) → let v = c .before .read .given .0 in (1 ≤ v .0) × (v .0 ≤ 32) × (v .1 .0 .at ≤ start c .args .at + 6)
@@ -66,10 +67,12 @@ returns-2 c =
 abbrev symbols-before : tie.After-known-told2 → tie.After-known-told
 symbols-before c = c .before .before .before .before
 
-words-read : (c : tie.After-known-told2) → fieldAt (source (start (symbols-before c))) (symbols-before c .before .read .given .0 .1 .0 .at) (sizeField 8 200) ≡ parsed (c .before .read2 .given .0 .0) (c .before .read2 .given .0 .1 .0 .at)
+words-read : (c : tie.After-known-told2) → fieldAt (source (start (symbols-before c))) (symbols-before c .before .read .given .0 .1 .0 .at) (sizeField 8 200)
+    ≡ parsed (c .before .read2 .given .0 .0) (c .before .read2 .given .0 .1 .0 .at)
 words-read c = got (source (start (symbols-before c))) _ refl (c .before .before .before .field-at2 .ensures) (c .before .read2 .given .1)
 
-words-near : (c : tie.After-known-told2) → let v = c .before .read2 .given .0 in (1 ≤ v .0) × (v .0 ≤ 200) × (v .1 .0 .at ≤ start (symbols-before c) .args .at + 14)
+words-near : (c : tie.After-known-told2) → let v = c .before .read2 .given .0 in (1 ≤ v .0) × (v .0 ≤ 200)
+    × (v .1 .0 .at ≤ start (symbols-before c) .args .at + 14)
 words-near c = omega (arith, symbols-near (symbols-before c), taken _ 8 (source (start (symbols-before c))) _ (omega arith) (omega arith) (words-read c))
 
 field-at-requires-3 : tie.Need-field-at-requires-3
@@ -102,7 +105,8 @@ returns-3 c =
 abbrev words-before : tie.After-known-told3 → tie.After-known-told2
 words-before c = c .before .before .before .before
 
-rules-read : (c : tie.After-known-told3) → fieldAt (source (start (symbols-before (words-before c)))) (words-before c .before .read2 .given .0 .1 .0 .at) (sizeField 9 256) ≡ parsed (c .before .read3 .given .0 .0) (c .before .read3 .given .0 .1 .0 .at)
+rules-read : (c : tie.After-known-told3) → fieldAt (source (start (symbols-before (words-before c)))) (words-before c .before .read2 .given .0 .1 .0 .at)
+    (sizeField 9 256) ≡ parsed (c .before .read3 .given .0 .0) (c .before .read3 .given .0 .1 .0 .at)
 rules-read c = got (source (start (symbols-before (words-before c)))) _ refl (c .before .before .before .field-at3 .ensures) (c .before .read3 .given .1)
 
 returns-4 : tie.Need-returns-4

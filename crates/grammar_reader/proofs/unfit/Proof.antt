@@ -26,7 +26,9 @@ not-pick true = refl
 not-pick false = refl
 
 returns : tie.Need-returns
-returns c = λ block. rw (c .before .enum-told2 .given .1, c .if1 .taken) (not-pick (eqb (length (c .before .before .before .args .sheet .now)) (3 + 6 * c .before .before .before .args .rules)))
+returns c =
+    let at-args = c .before .before .before in
+    λ block. rw (c .before .enum-told2 .given .1, c .if1 .taken) (not-pick (eqb (length (at-args .args .sheet .now)) (3 + 6 * at-args .args .rules)))
 
 mul-result-2 : tie.Need-mul-result-2
 mul-result-2 c = search needs
@@ -38,7 +40,9 @@ returns-2 : tie.Need-returns-2
 returns-2 c = λ block. rw (c .enum-told .given .1)
 
 returns-3 : tie.Need-returns-3
-returns-3 c = λ block. rw (c .before .enum-told2 .given .1, c .if1 .left) (not-pick (eqb (length (c .before .before .before .args .sheet .now)) (3 + 5 * c .before .before .before .args .rules)))
+returns-3 c =
+    let at-args = c .before .before .before in
+    λ block. rw (c .before .enum-told2 .given .1, c .if1 .left) (not-pick (eqb (length (at-args .args .sheet .now)) (3 + 5 * at-args .args .rules)))
 
 pub unfit-spec : {M : Type 1} → statement M
 unfit-spec =

@@ -54,10 +54,13 @@ loop-again c =
 returns : tie.Need-returns Inv-loop μ-loop
 unfolding widths
 returns c =
-    let a = c .before .before .before .args in
+    let at-args = c .before .before .before in
+    let a = at-args .args in
     let l = c .before .loop in
-    let f = a .form in
-    (λ marks. omega (arith, rw (rules-end (f .marked) (f .symbols) (f .words) (a .rules .now) marks (f .rules) (l .i) (omega arith)) at (l .inv .2 marks)), omega arith)
+    let f = a .form in (
+      λ marks. omega (arith, rw (rules-end (f .marked) (f .symbols) (f .words) (a .rules .now) marks (f .rules) (l .i) (omega arith)) at (l .inv .2 marks)),
+      omega arith,
+    )
 
 pub rules-bits-spec : {M : Type 1} → statement M
 rules-bits-spec =

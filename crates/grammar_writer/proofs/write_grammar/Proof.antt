@@ -17,17 +17,22 @@ returns c =
     no-room block (a .out .now) (c .before .grammar-length .ensures (a .marks .now)) (c .if1 .taken)
 
 write-fields-requires : tie.Need-write-fields-requires
-write-fields-requires c κs = (c .before .before .before .before .before .before .pre .0, c .before .before .before .before .before .before .pre .1, omega (arith, c .before .if1 .left, c .before .before .grammar-length .ensures (c .before .before .before .before .before .before .args .marks .now)))
+write-fields-requires c κs =
+    let at-pre = c .before .before .before .before .before .before in
+    (at-pre .pre .0, at-pre .pre .1, omega (arith, c .before .if1 .left, c .before .before .grammar-length .ensures (at-pre .args .marks .now)))
 
 same-length : tie.Need-same-length
 same-length c = search needs
 
 returns-2 : tie.Need-returns-2
 returns-2 c =
-    let a = c .before .before .before .before .before .before .before .before .before .args in
+    let at-if1 = c .before .before .before .before in
+    let at-grammar-length = at-if1 .before in
+    let at-args = at-grammar-length .before .before .before .before in
+    let a = at-args .args in
     let f = a .form in
     let block = blockOf (grammarFields (f .marked) (f .symbols) (f .words) (f .rules) (a .rules .now) (a .marks .now)) in
-    room block (a .out .now) (c .before .before .before .before .before .grammar-length .ensures (a .marks .now)) (c .before .before .before .before .if1 .left) (c .before .before .write-fields .ensures)
+    room block (a .out .now) (at-grammar-length .grammar-length .ensures (a .marks .now)) (at-if1 .if1 .left) (c .before .before .write-fields .ensures)
 
 pub write-grammar-spec : {M : Type 1} → statement M
 write-grammar-spec =

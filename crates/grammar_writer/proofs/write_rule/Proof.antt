@@ -73,7 +73,8 @@ returns c =
     let a = at-width-below .before .before .args in
     let w = at-width-below .width-below .ensures in
     let start = at-write-start .write-start .ensures in
-    pair-stands (a .symbols) (a .words) (a .at) _ _ _ (a .out .now) (w .0) (w .1) (start .0) (start .1) refl (at-rule .rule .given .1) (at-write-field .write-field .ensures) (c .before .before .write-field2 .ensures)
+    pair-stands (a .symbols) (a .words) (a .at) _ _ _ (a .out .now) (w .0) (w .1) (start .0) (start .1) refl (at-rule .rule .given .1)
+    (at-write-field .write-field .ensures) (c .before .before .write-field2 .ensures)
 
 same-length-2 : tie.Need-same-length-2
 same-length-2 c = search needs
@@ -88,7 +89,8 @@ returns-2 c =
     let w = at-width-below .width-below .ensures in
     let v = at-width-below2 .width-below2 .ensures in
     let start = at-write-start2 .write-start2 .ensures in
-    word-stands (a .symbols) (a .words) (a .at) _ _ _ (a .out .now) (w .0) (w .1) (start .0) (start .1) (v .0) (v .1) refl (at-rule2 .rule2 .given .1) (c .before .before .write-field3 .ensures)
+    word-stands (a .symbols) (a .words) (a .at) _ _ _ (a .out .now) (w .0) (w .1) (start .0) (start .1) (v .0) (v .1) refl (at-rule2 .rule2 .given .1)
+    (c .before .before .write-field3 .ensures)
 
 pub write-rule-spec : {M : Type 1} → statement M
 write-rule-spec =

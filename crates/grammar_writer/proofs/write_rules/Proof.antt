@@ -28,13 +28,18 @@ narrow-at-requires c κs = tt
 
 write-marked-requires : tie.Need-write-marked-requires Inv-loop μ-loop
 write-marked-requires c κs =
-    let a = c .before .before .before .before .before .before .before .before .args in
+    let at-loop-test = c .before .before .before in
+    let at-loop = at-loop-test .before in
+    let at-args = at-loop .before .before .before .before in
+    let a = at-args .args in
     let f = a .form in
-    let l = c .before .before .before .before .loop in
+    let l = at-loop .loop in
     let r = ruleFields (f .marked) (f .symbols) (f .words) (a .rules .now) (a .marks .now) (f .rules) (l .i) in
     let s = rulesFields (f .marked) (f .symbols) (f .words) (a .rules .now) (a .marks .now) (l .i + 1) (f .rules - (l .i + 1)) in
-    let m = rw (rules-more (f .marked) (f .symbols) (f .words) (a .rules .now) (a .marks .now) (f .rules) (l .i) (c .before .before .before .loop-test .taken)) at (l .inv .2) in
-    rw (c .before .before .rule-at .ensures, c .narrow-at .ensures) (omega (arith, l .inv .1, l .inv .0, c .before .before .before .before .before .before .before .before .pre .1), c .before .before .before .before .before .before .before .before .pre .2, omega (arith, some-within r s m, l .inv .2 .size, c .before .before .before .before .before .before .before .before .pre .3))
+    let m = rw (rules-more (f .marked) (f .symbols) (f .words) (a .rules .now) (a .marks .now) (f .rules) (l .i) (at-loop-test .loop-test .taken))
+    at (l .inv .2) in
+    rw (c .before .before .rule-at .ensures, c .narrow-at .ensures)
+    (omega (arith, l .inv .1, l .inv .0, at-args .pre .1), at-args .pre .2, omega (arith, some-within r s m, l .inv .2 .size, at-args .pre .3))
 
 add-i : tie.Need-add-i Inv-loop μ-loop
 add-i c = omega arith
@@ -44,14 +49,20 @@ loop-less c = omega arith
 
 loop-again : tie.Need-loop-again Inv-loop μ-loop
 loop-again c =
-    let a = c .before .before .before .before .before .before .before .before .before .before .before .args in
+    let at-narrow-at = c .before .before .before in
+    let at-rule-at = at-narrow-at .before .before in
+    let at-loop-test = at-rule-at .before in
+    let at-loop = at-loop-test .before in
+    let at-args = at-loop .before .before .before .before in
+    let a = at-args .args in
     let f = a .form in
-    let l = c .before .before .before .before .before .before .before .loop in
+    let l = at-loop .loop in
     let r = ruleFields (f .marked) (f .symbols) (f .words) (a .rules .now) (a .marks .now) (f .rules) (l .i) in
     let s = rulesFields (f .marked) (f .symbols) (f .words) (a .rules .now) (a .marks .now) (l .i + 1) (f .rules - (l .i + 1)) in
-    let m = rw (rules-more (f .marked) (f .symbols) (f .words) (a .rules .now) (a .marks .now) (f .rules) (l .i) (c .before .before .before .before .before .before .loop-test .taken)) at (l .inv .2) in
-    let w = rw (c .before .before .before .before .before .rule-at .ensures, c .before .before .before .narrow-at .ensures) at (c .before .before .write-marked .ensures) in
-    (omega (arith, c .before .before .before .before .before .before .loop-test .taken), omega (arith, l .inv .1, w .1), some-written r s m (w .2) (w .0))
+    let m = rw (rules-more (f .marked) (f .symbols) (f .words) (a .rules .now) (a .marks .now) (f .rules) (l .i) (at-loop-test .loop-test .taken))
+    at (l .inv .2) in
+    let w = rw (at-rule-at .rule-at .ensures, at-narrow-at .narrow-at .ensures) at (c .before .before .write-marked .ensures) in
+    (omega (arith, at-loop-test .loop-test .taken), omega (arith, l .inv .1, w .1), some-written r s m (w .2) (w .0))
 
 same-length : tie.Need-same-length Inv-loop μ-loop
 same-length c = c .before .loop .inv .2 .size

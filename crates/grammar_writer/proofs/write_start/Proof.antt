@@ -30,8 +30,11 @@ returns : tie.Need-returns
 returns c =
     let at-write-field2 = c .before .before .before .before .before .before in
     let at-write-field = at-write-field2 .before .before .before .before in
-    let a = at-write-field .before .before .before .args in
-    (refl, start-stands (a .out .now) (a .at) (a .width) _ _ _ (at-write-field .write-field .ensures) (at-write-field2 .write-field2 .ensures) (c .before .before .write-field3 .ensures))
+    let a = at-write-field .before .before .before .args in (
+      refl,
+      start-stands (a .out .now) (a .at) (a .width) _ _ _ (at-write-field .write-field .ensures) (at-write-field2 .write-field2 .ensures)
+          (c .before .before .write-field3 .ensures),
+    )
 
 pub write-start-spec : {M : Type 1} → statement M
 write-start-spec =

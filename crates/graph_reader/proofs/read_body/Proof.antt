@@ -27,7 +27,9 @@ refusal-requires : tie.Need-refusal-requires
 refusal-requires c κs = search needs
 
 returns : tie.Need-returns
-returns c = rw (no-places _ _ _ (refusal-told _ (c .before .before .before .block-field .ensures) (c .before .enum-told .given .1) (c .refusal .ensures))) (no-body _)
+returns c =
+    let at-block-field = c .before .before .before in
+    rw (no-places _ _ _ (refusal-told _ (at-block-field .block-field .ensures) (c .before .enum-told .given .1) (c .refusal .ensures))) (no-body _)
 
 abbrev source : tie.Start → Source
 source s = bytes 11 (s .args .block .now)
@@ -59,8 +61,11 @@ refusal-requires-2 : tie.Need-refusal-requires-2
 refusal-requires-2 c κs = search needs
 
 returns-2 : tie.Need-returns-2
-returns-2 c = let k = c .before .before .before .before in
-    rw (no-count _ _ _ (places k) (refusal-told _ (c .before .before .before .block-field2 .ensures) (c .before .enum-told2 .given .1) (c .refusal2 .ensures))) (no-body _)
+returns-2 c =
+    let at-block-field2 = c .before .before .before in
+    let k = at-block-field2 .before in
+    rw (no-count _ _ _ (places k) (refusal-told _ (at-block-field2 .block-field2 .ensures) (c .before .enum-told2 .given .1) (c .refusal2 .ensures)))
+    (no-body _)
 
 -- and the number of edges
 abbrev first : tie.After-known-told2 → tie.After-known-told
@@ -99,17 +104,22 @@ same-length : tie.Need-same-length
 same-length c = search needs
 
 returns-3 : tie.Need-returns-3
-returns-3 c = let k = c .before .before .before .before .before .before .before in
-    rw (no-edges _ _ _ (places (first k)) (count k) (not-found-told (c .before .before .before .before .before .read-edges .ensures) (c .before .n .given .1))) (no-body _)
+returns-3 c =
+    let at-read-edges = c .before .before .before .before .before in
+    let k = at-read-edges .before .before in
+    rw (no-edges _ _ _ (places (first k)) (count k) (not-found-told (at-read-edges .read-edges .ensures) (c .before .n .given .1))) (no-body _)
 
 same-length-2 : tie.Need-same-length-2
 same-length-2 c = search needs
 
 returns-4 : tie.Need-returns-4
-returns-4 c = let k = c .before .before .before .before .before .before .before in
+returns-4 c =
+    let at-read-edges = c .before .before .before .before .before in
+    let k = at-read-edges .before .before in
     let s = start (first k) in
-    let r = found-told (c .before .before .before .before .before .read-edges .ensures) (c .before .found .given .1) in
-    graph-placed (source s) (s .args .words) (s .args .at) (s .args .edges .now) (r .0) (all-edges _ _ _ (places (first k)) (count k) (r .1)) (r .2) (r .3) (omega (arith, s .pre))
+    let r = found-told (at-read-edges .read-edges .ensures) (c .before .found .given .1) in
+    graph-placed (source s) (s .args .words) (s .args .at) (s .args .edges .now) (r .0) (all-edges _ _ _ (places (first k)) (count k) (r .1)) (r .2) (r .3)
+    (omega (arith, s .pre))
 
 pub read-body-spec : {M : Type 1} → statement M
 read-body-spec =

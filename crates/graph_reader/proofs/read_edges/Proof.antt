@@ -33,7 +33,10 @@ same-length : tie.Need-same-length Inv-loop μ-loop
 same-length c = c .before .before .before .before .before .loop .inv .3
 
 returns : tie.Need-returns Inv-loop μ-loop
-returns c = edge-refused _ _ _ _ _ _ (c .before .before .before .before .before .loop .inv .4) (omega arith) (c .before .before .before .read-edge .ensures) (c .before .n .given .1)
+returns c =
+    let at-read-edge = c .before .before .before in
+    let at-loop = at-read-edge .before .before in
+    edge-refused _ _ _ _ _ _ (at-loop .loop .inv .4) (omega arith) (at-read-edge .read-edge .ensures) (c .before .n .given .1)
 
 enum-known-from : tie.Need-enum-known-from Inv-loop μ-loop
 enum-known-from c = search needs
@@ -72,9 +75,11 @@ same-length-2 c = c .before .before .before .before .before .before .before .bef
 
 returns-2 : tie.Need-returns-2 Inv-loop μ-loop
 returns-2 c =
-    let k = c .before .before .before .before in
-    edge-repeated _ _ _ _ _ _ (to-loop k .loop .inv .4) (k .before .before .before .before .loop-test .taken) (k .before .before .before .read-edge .ensures) (k .before .from .given .1)
-    (near k .1) (near k .2) (rw (c .before .before .before .edge-key .ensures) at (c .before .seen .ensures)) (c .if1 .taken)
+    let at-edge-key = c .before .before .before in
+    let k = at-edge-key .before in
+    edge-repeated _ _ _ _ _ _ (to-loop k .loop .inv .4) (k .before .before .before .before .loop-test .taken) (k .before .before .before .read-edge .ensures)
+    (k .before .from .given .1)
+    (near k .1) (near k .2) (rw (at-edge-key .edge-key .ensures) at (c .before .seen .ensures)) (c .if1 .taken)
 
 mul-keys : tie.Need-mul-keys Inv-loop μ-loop
 mul-keys c = omega arith
@@ -96,7 +101,8 @@ loop-less c = omega (arith, c .before .before .before .before .before .before .b
 
 loop-again : tie.Need-loop-again Inv-loop μ-loop
 loop-again c =
-    let s = c .before .before .before .before .before in
+    let at-if1 = c .before .before .before .before in
+    let s = at-if1 .before in
     let k = s .before .before .before in
     let t = k .before .before .before .before in
     let l = to-loop k .loop in (
@@ -104,8 +110,9 @@ loop-again c =
       omega (arith, l .inv .1, near k .3),
       simp length-set (l .inv .2),
       c .before .before .store-edge .kept .0 ∙ l .inv .3,
-      edge-passed _ _ _ _ _ _ (l .inv .4) (t .loop-test .taken) (k .before .before .before .read-edge .ensures) (k .before .from .given .1) (near k .1) (near k .2)
-          (rw (s .before .before .edge-key .ensures) at (s .seen .ensures)) (c .before .before .before .before .if1 .left) (s .before .before .edge-key .ensures)
+      edge-passed _ _ _ _ _ _ (l .inv .4) (t .loop-test .taken) (k .before .before .before .read-edge .ensures) (k .before .from .given .1) (near k .1)
+          (near k .2)
+          (rw (s .before .before .edge-key .ensures) at (s .seen .ensures)) (at-if1 .if1 .left) (s .before .before .edge-key .ensures)
           (room k .1) (c .before .before .store-edge .ensures),
     )
 

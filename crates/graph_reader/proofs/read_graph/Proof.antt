@@ -27,7 +27,9 @@ refusal-requires : tie.Need-refusal-requires
 refusal-requires c κs = search needs
 
 returns : tie.Need-returns
-returns c = promised-refusal _ _ (no-kind _ _ (refusal-told _ (c .before .before .before .block-field .ensures) (c .before .enum-told .given .1) (c .refusal .ensures)))
+returns c =
+    let at-block-field = c .before .before .before in
+    promised-refusal _ _ (no-kind _ _ (refusal-told _ (at-block-field .block-field .ensures) (c .before .enum-told .given .1) (c .refusal .ensures)))
 
 -- the kind that was read, and where it ends
 abbrev start : tie.After-known-told → tie.Start

@@ -26,9 +26,11 @@ refusal-requires c κs = search needs
 
 returns : tie.Need-returns
 returns c =
-    let a = c .before .before .before .before .before .args in
+    let at-number = c .before .before .before in
+    let at-args = at-number .before .before in
+    let a = at-args .args in
     let s = a .block .now in
-    let p = refusal-told (fieldAt (bytes 31 s) 0 (blockKind 6 32)) (c .before .before .before .number .ensures) (c .before .enum-told .given .1) (c .refusal .ensures) in
+    let p = refusal-told (fieldAt (bytes 31 s) 0 (blockKind 6 32)) (at-number .number .ensures) (c .before .enum-told .given .1) (c .refusal .ensures) in
     rw (no-kind (a .most) (a .rules) s p) (refl, tt)
 
 cast-t18 : tie.Need-cast-t18
@@ -52,10 +54,15 @@ refusal-requires-2 c κs = search needs
 
 returns-2 : tie.Need-returns-2
 returns-2 c =
-    let a = c .before .before .before .before .before .before .before .before .before .args in
+    let at-number2 = c .before .before .before in
+    let at-kind = at-number2 .before .before in
+    let at-number = at-kind .before .before in
+    let at-args = at-number .before .before in
+    let a = at-args .args in
     let s = a .block .now in
-    let p = number-told (fieldAt (bytes 31 s) 0 (blockKind 6 32)) (c .before .before .before .before .before .before .before .number .ensures) (c .before .before .before .before .before .kind .given .1) in
-    let q = refusal-told (fieldAt (bytes 31 s) _ (pathEdges (a .most))) (c .before .before .before .number2 .ensures) (c .before .enum-told2 .given .1) (c .refusal2 .ensures) in
+    let p = number-told (fieldAt (bytes 31 s) 0 (blockKind 6 32)) (at-number .number .ensures) (at-kind .kind .given .1) in
+    let q = refusal-told (fieldAt (bytes 31 s) _ (pathEdges (a .most))) (at-number2 .number2 .ensures) (c .before .enum-told2 .given .1)
+    (c .refusal2 .ensures) in
     rw (no-edges (a .most) (a .rules) s _ p q) (refl, tt)
 
 cast-edges : tie.Need-cast-edges
@@ -63,10 +70,14 @@ cast-edges c = search needs
 
 reading-bits-requires : tie.Need-reading-bits-requires
 reading-bits-requires c κs =
-    let a = c .before .before .before .before .before .before .before .before .before .args in
+    let at-number2 = c .before .before .before in
+    let at-kind = at-number2 .before .before in
+    let at-number = at-kind .before .before in
+    let at-args = at-number .before .before in
+    let a = at-args .args in
     let s = a .block .now in
-    let p = number-told (fieldAt (bytes 31 s) 0 (blockKind 6 32)) (c .before .before .before .before .before .before .before .number .ensures) (c .before .before .before .before .before .kind .given .1) in
-    let q = number-told (fieldAt (bytes 31 s) _ (pathEdges (a .most))) (c .before .before .before .number2 .ensures) (c .before .found .given .1) in
+    let p = number-told (fieldAt (bytes 31 s) 0 (blockKind 6 32)) (at-number .number .ensures) (at-kind .kind .given .1) in
+    let q = number-told (fieldAt (bytes 31 s) _ (pathEdges (a .most))) (at-number2 .number2 .ensures) (c .before .found .given .1) in
     omega (arith, field-at-range (pathEdges (a .most)) (bytes 31 s) _ q)
 
 is-short-requires : tie.Need-is-short-requires
@@ -74,20 +85,34 @@ is-short-requires c κs = search needs
 
 returns-3 : tie.Need-returns-3
 returns-3 c =
-    let a = c .before .before .before .before .before .before .before .before .before .before .before .before .args in
+    let at-found = c .before .before .before .before in
+    let at-number2 = at-found .before .before in
+    let at-kind = at-number2 .before .before in
+    let at-number = at-kind .before .before in
+    let at-args = at-number .before .before in
+    let a = at-args .args in
     let s = a .block .now in
-    let p = number-told (fieldAt (bytes 31 s) 0 (blockKind 6 32)) (c .before .before .before .before .before .before .before .before .before .before .number .ensures) (c .before .before .before .before .before .before .before .before .kind .given .1) in
-    let q = number-told (fieldAt (bytes 31 s) _ (pathEdges (a .most))) (c .before .before .before .before .before .before .number2 .ensures) (c .before .before .before .before .found .given .1) in
+    let p = number-told (fieldAt (bytes 31 s) 0 (blockKind 6 32)) (at-number .number .ensures) (at-kind .kind .given .1) in
+    let q = number-told (fieldAt (bytes 31 s) _ (pathEdges (a .most))) (at-number2 .number2 .ensures) (at-found .found .given .1) in
     let short = rw (c .before .before .reading-bits .ensures .0) at (sym (c .before .is-short .ensures) ∙ c .if1 .taken) in
     rw (too-short (a .most) (a .rules) s _ p _ q short) (refl, tt)
 
 number-requires-3 : tie.Need-number-requires-3
 number-requires-3 c κs =
-    let a = c .before .before .before .before .before .before .before .before .before .before .before .before .args in
+    let at-found = c .before .before .before .before in
+    let at-number2 = at-found .before .before in
+    let at-kind = at-number2 .before .before in
+    let at-number = at-kind .before .before in
+    let at-args = at-number .before .before in
+    let a = at-args .args in
     let s = a .block .now in
-    let p = number-told (fieldAt (bytes 31 s) 0 (blockKind 6 32)) (c .before .before .before .before .before .before .before .before .before .before .number .ensures) (c .before .before .before .before .before .before .before .before .kind .given .1) in
-    let q = number-told (fieldAt (bytes 31 s) _ (pathEdges (a .most))) (c .before .before .before .before .before .before .number2 .ensures) (c .before .before .before .before .found .given .1) in
-    omega (arith, field-at-next (blockKind 6 32) (bytes 31 s) 0 4 (omega arith) (omega arith) p, field-at-next (pathEdges (a .most)) (bytes 31 s) _ 6 (omega arith) (omega arith) q)
+    let p = number-told (fieldAt (bytes 31 s) 0 (blockKind 6 32)) (at-number .number .ensures) (at-kind .kind .given .1) in
+    let q = number-told (fieldAt (bytes 31 s) _ (pathEdges (a .most))) (at-number2 .number2 .ensures) (at-found .found .given .1) in
+    omega (
+      arith,
+      field-at-next (blockKind 6 32) (bytes 31 s) 0 4 (omega arith) (omega arith) p,
+      field-at-next (pathEdges (a .most)) (bytes 31 s) _ 6 (omega arith) (omega arith) q,
+    )
 
 enum-known-last : tie.Need-enum-known-last
 enum-known-last c = search needs
@@ -100,23 +125,42 @@ refusal-requires-3 c κs = search needs
 
 returns-4 : tie.Need-returns-4
 returns-4 c =
-    let a = c .before .before .before .before .before .before .before .before .before .before .before .before .before .before .before .before .args in
+    let at-number3 = c .before .before .before in
+    let at-if1 = at-number3 .before in
+    let at-is-short = at-if1 .before in
+    let at-reading-bits = at-is-short .before in
+    let at-found = at-reading-bits .before .before in
+    let at-number2 = at-found .before .before in
+    let at-kind = at-number2 .before .before in
+    let at-number = at-kind .before .before in
+    let at-args = at-number .before .before in
+    let a = at-args .args in
     let s = a .block .now in
-    let p = number-told (fieldAt (bytes 31 s) 0 (blockKind 6 32)) (c .before .before .before .before .before .before .before .before .before .before .before .before .before .before .number .ensures) (c .before .before .before .before .before .before .before .before .before .before .before .before .kind .given .1) in
-    let q = number-told (fieldAt (bytes 31 s) _ (pathEdges (a .most))) (c .before .before .before .before .before .before .before .before .before .before .number2 .ensures) (c .before .before .before .before .before .before .before .before .found .given .1) in
-    let long = rw (c .before .before .before .before .before .before .reading-bits .ensures .0) at (sym (c .before .before .before .before .before .is-short .ensures) ∙ c .before .before .before .before .if1 .left) in
-    let r = refusal-told (fieldAt (bytes 31 s) _ readingWeight) (c .before .before .before .number3 .ensures) (c .before .enum-told3 .given .1) (c .refusal3 .ensures) in
+    let p = number-told (fieldAt (bytes 31 s) 0 (blockKind 6 32)) (at-number .number .ensures) (at-kind .kind .given .1) in
+    let q = number-told (fieldAt (bytes 31 s) _ (pathEdges (a .most))) (at-number2 .number2 .ensures) (at-found .found .given .1) in
+    let long = rw (at-reading-bits .reading-bits .ensures .0) at (sym (at-is-short .is-short .ensures) ∙ at-if1 .if1 .left) in
+    let r = refusal-told (fieldAt (bytes 31 s) _ readingWeight) (at-number3 .number3 .ensures) (c .before .enum-told3 .given .1) (c .refusal3 .ensures) in
     rw (no-weight (a .most) (a .rules) s _ p _ q long r) (refl, tt)
 
 returns-5 : tie.Need-returns-5
 returns-5 c =
-    let a = c .before .before .before .before .before .before .before .before .before .before .before .before .before .before .before .before .args in
+    let at-number3 = c .before .before .before in
+    let at-if1 = at-number3 .before in
+    let at-is-short = at-if1 .before in
+    let at-reading-bits = at-is-short .before in
+    let at-found = at-reading-bits .before .before in
+    let at-number2 = at-found .before .before in
+    let at-kind = at-number2 .before .before in
+    let at-number = at-kind .before .before in
+    let at-args = at-number .before .before in
+    let a = at-args .args in
     let s = a .block .now in
-    let p = number-told (fieldAt (bytes 31 s) 0 (blockKind 6 32)) (c .before .before .before .before .before .before .before .before .before .before .before .before .before .before .number .ensures) (c .before .before .before .before .before .before .before .before .before .before .before .before .kind .given .1) in
-    let q = number-told (fieldAt (bytes 31 s) _ (pathEdges (a .most))) (c .before .before .before .before .before .before .before .before .before .before .number2 .ensures) (c .before .before .before .before .before .before .before .before .found .given .1) in
-    let long = rw (c .before .before .before .before .before .before .reading-bits .ensures .0) at (sym (c .before .before .before .before .before .is-short .ensures) ∙ c .before .before .before .before .if1 .left) in
-    let r = number-told (fieldAt (bytes 31 s) _ readingWeight) (c .before .before .before .number3 .ensures) (c .before .last .given .1) in
-    rw (head-read (a .most) (a .rules) s _ p _ q long r, c .before .before .before .before .before .before .reading-bits .ensures .0) (refl, omega (arith, field-at-range (pathEdges (a .most)) (bytes 31 s) _ q, c .before .before .before .before .before .before .reading-bits .ensures .1))
+    let p = number-told (fieldAt (bytes 31 s) 0 (blockKind 6 32)) (at-number .number .ensures) (at-kind .kind .given .1) in
+    let q = number-told (fieldAt (bytes 31 s) _ (pathEdges (a .most))) (at-number2 .number2 .ensures) (at-found .found .given .1) in
+    let long = rw (at-reading-bits .reading-bits .ensures .0) at (sym (at-is-short .is-short .ensures) ∙ at-if1 .if1 .left) in
+    let r = number-told (fieldAt (bytes 31 s) _ readingWeight) (at-number3 .number3 .ensures) (c .before .last .given .1) in
+    rw (head-read (a .most) (a .rules) s _ p _ q long r, at-reading-bits .reading-bits .ensures .0)
+    (refl, omega (arith, field-at-range (pathEdges (a .most)) (bytes 31 s) _ q, at-reading-bits .reading-bits .ensures .1))
 
 pub read-head-spec : {M : Type 1} → statement M
 read-head-spec =

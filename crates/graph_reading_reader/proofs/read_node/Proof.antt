@@ -38,13 +38,20 @@ wide-requires c κs = search needs
 
 returns-2 : tie.Need-returns-2
 returns-2 c =
-    let a = c .before .before .before .before .before .before .before .before .args in
+    let at-r = c .before .before .before in
+    let at-read-number = at-r .before .before in
+    let at-args = at-read-number .before .before .before in
+    let a = at-args .args in
     let s = a .block .now in
     let count = length-rules-at (a .rules .now) 0 (a .count) in
-    let p = number-told (fieldAt (bytes 31 s) (a .at) (ruleNumber (a .count))) (c .before .before .before .before .before .read-number .ensures) (c .before .before .before .r .given .1) in
+    let p = number-told (fieldAt (bytes 31 s) (a .at) (ruleNumber (a .count))) (at-read-number .read-number .ensures) (at-r .r .given .1) in
     let near = field-at-next (ruleNumber (a .count)) (bytes 31 s) (a .at) 8 (byte-width (a .count) (omega arith)) (omega arith) p in
-    let p′ : fieldAt (bytes 31 s) (a .at) (ruleNumber (length (rulesOf (a .rules .now) (a .count)))) ≡ parsed (c .before .wide .result) (c .before .before .before .r .given .0 .1 .0 .at) = rw (count, c .before .wide .ensures .0) p in
-    (34, no-rule (rulesOf (a .rules .now) (a .count)) (bytes 31 s) (a .at) (c .before .wide .result) _ p′ (no-rule-of (a .rules .now) 0 (a .count) (c .before .wide .result) (c .if1 .taken)))
+    let p′ : fieldAt (bytes 31 s) (a .at) (ruleNumber (length (rulesOf (a .rules .now) (a .count))))
+    ≡ parsed (c .before .wide .result) (at-r .r .given .0 .1 .0 .at) = rw (count, c .before .wide .ensures .0) p in (
+      34,
+      no-rule (rulesOf (a .rules .now) (a .count)) (bytes 31 s) (a .at) (c .before .wide .result) _ p′
+          (no-rule-of (a .rules .now) 0 (a .count) (c .before .wide .result) (c .if1 .taken)),
+    )
 
 rule-at-requires : tie.Need-rule-at-requires
 rule-at-requires c κs = search needs
@@ -57,10 +64,13 @@ enum-told-3 c = search needs
 
 number-requires : tie.Need-number-requires
 number-requires c κs =
-    let a = c .before .before .before .before .before .before .before .before .before .before .before .args in
+    let at-r = c .before .before .before .before .before .before in
+    let at-read-number = at-r .before .before in
+    let at-args = at-read-number .before .before .before in
+    let a = at-args .args in
     let s = a .block .now in
     let count = length-rules-at (a .rules .now) 0 (a .count) in
-    let p = number-told (fieldAt (bytes 31 s) (a .at) (ruleNumber (a .count))) (c .before .before .before .before .before .before .before .before .read-number .ensures) (c .before .before .before .before .before .before .r .given .1) in
+    let p = number-told (fieldAt (bytes 31 s) (a .at) (ruleNumber (a .count))) (at-read-number .read-number .ensures) (at-r .r .given .1) in
     let near = field-at-next (ruleNumber (a .count)) (bytes 31 s) (a .at) 8 (byte-width (a .count) (omega arith)) (omega arith) p in
     omega (arith, near)
 
@@ -72,45 +82,76 @@ enum-told-4 c = search needs
 
 returns-3 : tie.Need-returns-3
 returns-3 c =
-    let a = c .before .before .before .before .before .before .before .before .before .before .before .before .before .before .args in
+    let at-enum-told3 = c .before .before .before in
+    let at-rule-at = at-enum-told3 .before .before in
+    let at-if1 = at-rule-at .before in
+    let at-wide = at-if1 .before in
+    let at-r = at-wide .before .before in
+    let at-read-number = at-r .before .before in
+    let at-args = at-read-number .before .before .before in
+    let a = at-args .args in
     let s = a .block .now in
     let count = length-rules-at (a .rules .now) 0 (a .count) in
-    let p = number-told (fieldAt (bytes 31 s) (a .at) (ruleNumber (a .count))) (c .before .before .before .before .before .before .before .before .before .before .before .read-number .ensures) (c .before .before .before .before .before .before .before .before .before .r .given .1) in
+    let p = number-told (fieldAt (bytes 31 s) (a .at) (ruleNumber (a .count))) (at-read-number .read-number .ensures) (at-r .r .given .1) in
     let near = field-at-next (ruleNumber (a .count)) (bytes 31 s) (a .at) 8 (byte-width (a .count) (omega arith)) (omega arith) p in
-    let p′ : fieldAt (bytes 31 s) (a .at) (ruleNumber (length (rulesOf (a .rules .now) (a .count)))) ≡ parsed (c .before .before .before .before .before .before .before .wide .result) (c .before .before .before .before .before .before .before .before .before .r .given .0 .1 .0 .at) = rw (count, c .before .before .before .before .before .before .before .wide .ensures .0) p in
-    let is = sym (c .before .before .before .before .before .rule-at .ensures) ∙ c .before .before .before .enum-told3 .given .1 in
-    let there = rule-of (a .rules .now) (a .count) (c .before .before .before .before .before .before .before .wide .result) (c .before .before .before .before .before .before .if1 .left) ∙ ap some is in
+    let p′ : fieldAt (bytes 31 s) (a .at) (ruleNumber (length (rulesOf (a .rules .now) (a .count))))
+    ≡ parsed (at-wide .wide .result) (at-r .r .given .0 .1 .0 .at) = rw (count, at-wide .wide .ensures .0) p in
+    let is = sym (at-rule-at .rule-at .ensures) ∙ at-enum-told3 .enum-told3 .given .1 in
+    let there = rule-of (a .rules .now) (a .count) (at-wide .wide .result) (at-if1 .if1 .left) ∙ ap some is in
     let q = refused-out (fieldAt (bytes 31 s) _ edgeNumber) (sym (c .before .before .number .ensures) ∙ c .enum-told4 .given .1) in
-    (_, no-edge (rulesOf (a .rules .now) (a .count)) (bytes 31 s) (a .at) (c .before .before .before .before .before .before .before .wide .result) _ p′ there q)
+    (_, no-edge (rulesOf (a .rules .now) (a .count)) (bytes 31 s) (a .at) (at-wide .wide .result) _ p′ there q)
 
 wide-requires-2 : tie.Need-wide-requires-2
 wide-requires-2 c κs = search needs
 
 returns-4 : tie.Need-returns-4
 returns-4 c =
-    let a = c .before .before .before .before .before .before .before .before .before .before .before .args in
+    let at-if1 = c .before .before .before in
+    let at-wide = at-if1 .before in
+    let at-r = at-wide .before .before in
+    let at-read-number = at-r .before .before in
+    let at-args = at-read-number .before .before .before in
+    let a = at-args .args in
     let s = a .block .now in
     let count = length-rules-at (a .rules .now) 0 (a .count) in
-    let p = number-told (fieldAt (bytes 31 s) (a .at) (ruleNumber (a .count))) (c .before .before .before .before .before .before .before .before .read-number .ensures) (c .before .before .before .before .before .before .r .given .1) in
+    let p = number-told (fieldAt (bytes 31 s) (a .at) (ruleNumber (a .count))) (at-read-number .read-number .ensures) (at-r .r .given .1) in
     let near = field-at-next (ruleNumber (a .count)) (bytes 31 s) (a .at) 8 (byte-width (a .count) (omega arith)) (omega arith) p in
-    let p′ : fieldAt (bytes 31 s) (a .at) (ruleNumber (length (rulesOf (a .rules .now) (a .count)))) ≡ parsed (c .before .before .before .before .wide .result) (c .before .before .before .before .before .before .r .given .0 .1 .0 .at) = rw (count, c .before .before .before .before .wide .ensures .0) p in
+    let p′ : fieldAt (bytes 31 s) (a .at) (ruleNumber (length (rulesOf (a .rules .now) (a .count))))
+    ≡ parsed (at-wide .wide .result) (at-r .r .given .0 .1 .0 .at) = rw (count, at-wide .wide .ensures .0) p in
     let is = sym (c .before .before .rule-at .ensures) ∙ c .enum-told2 .given .1 in
-    let there = rule-of (a .rules .now) (a .count) (c .before .before .before .before .wide .result) (c .before .before .before .if1 .left) ∙ ap some is in
-    (pair-node (rulesOf (a .rules .now) (a .count)) (bytes 31 s) (a .at) (c .before .before .before .before .wide .result) _ p′ there ∙ rw is, omega (arith, near), c .before .before .before .before .wide .ensures .1, omega arith)
+    let there = rule-of (a .rules .now) (a .count) (at-wide .wide .result) (at-if1 .if1 .left) ∙ ap some is in (
+      pair-node (rulesOf (a .rules .now) (a .count)) (bytes 31 s) (a .at) (at-wide .wide .result) _ p′ there ∙ rw is,
+      omega (arith, near),
+      at-wide .wide .ensures .1,
+      omega arith,
+    )
 
 returns-5 : tie.Need-returns-5
 returns-5 c =
-    let a = c .before .before .before .before .before .before .before .before .before .before .before .before .before .before .before .before .args in
+    let at-number = c .before .before .before .before in
+    let at-enum-told3 = at-number .before in
+    let at-rule-at = at-enum-told3 .before .before in
+    let at-if1 = at-rule-at .before in
+    let at-wide = at-if1 .before in
+    let at-r = at-wide .before .before in
+    let at-read-number = at-r .before .before in
+    let at-args = at-read-number .before .before .before in
+    let a = at-args .args in
     let s = a .block .now in
     let count = length-rules-at (a .rules .now) 0 (a .count) in
-    let p = number-told (fieldAt (bytes 31 s) (a .at) (ruleNumber (a .count))) (c .before .before .before .before .before .before .before .before .before .before .before .before .before .read-number .ensures) (c .before .before .before .before .before .before .before .before .before .before .before .r .given .1) in
+    let p = number-told (fieldAt (bytes 31 s) (a .at) (ruleNumber (a .count))) (at-read-number .read-number .ensures) (at-r .r .given .1) in
     let near = field-at-next (ruleNumber (a .count)) (bytes 31 s) (a .at) 8 (byte-width (a .count) (omega arith)) (omega arith) p in
-    let p′ : fieldAt (bytes 31 s) (a .at) (ruleNumber (length (rulesOf (a .rules .now) (a .count)))) ≡ parsed (c .before .before .before .before .before .before .before .before .before .wide .result) (c .before .before .before .before .before .before .before .before .before .before .before .r .given .0 .1 .0 .at) = rw (count, c .before .before .before .before .before .before .before .before .before .wide .ensures .0) p in
-    let is = sym (c .before .before .before .before .before .before .before .rule-at .ensures) ∙ c .before .before .before .before .before .enum-told3 .given .1 in
-    let there = rule-of (a .rules .now) (a .count) (c .before .before .before .before .before .before .before .before .before .wide .result) (c .before .before .before .before .before .before .before .before .if1 .left) ∙ ap some is in
-    let q = number-told (fieldAt (bytes 31 s) _ edgeNumber) (c .before .before .before .before .number .ensures) (c .before .before .e .given .1) in
-    let end = field-at-next edgeNumber (bytes 31 s) _ 7 (omega arith) (omega arith) q in
-    (word-node (rulesOf (a .rules .now) (a .count)) (bytes 31 s) (a .at) (c .before .before .before .before .before .before .before .before .before .wide .result) _ p′ there q ∙ rw (is, c .wide2 .ensures .0), omega (arith, near, end), c .before .before .before .before .before .before .before .before .before .wide .ensures .1, c .wide2 .ensures .1)
+    let p′ : fieldAt (bytes 31 s) (a .at) (ruleNumber (length (rulesOf (a .rules .now) (a .count))))
+    ≡ parsed (at-wide .wide .result) (at-r .r .given .0 .1 .0 .at) = rw (count, at-wide .wide .ensures .0) p in
+    let is = sym (at-rule-at .rule-at .ensures) ∙ at-enum-told3 .enum-told3 .given .1 in
+    let there = rule-of (a .rules .now) (a .count) (at-wide .wide .result) (at-if1 .if1 .left) ∙ ap some is in
+    let q = number-told (fieldAt (bytes 31 s) _ edgeNumber) (at-number .number .ensures) (c .before .before .e .given .1) in
+    let end = field-at-next edgeNumber (bytes 31 s) _ 7 (omega arith) (omega arith) q in (
+      word-node (rulesOf (a .rules .now) (a .count)) (bytes 31 s) (a .at) (at-wide .wide .result) _ p′ there q ∙ rw (is, c .wide2 .ensures .0),
+      omega (arith, near, end),
+      at-wide .wide .ensures .1,
+      c .wide2 .ensures .1,
+    )
 
 pub read-node-spec : {M : Type 1} → statement M
 read-node-spec =

@@ -28,7 +28,13 @@ add-result-2 : tie.Need-add-result-2
 add-result-2 c = omega (arith, mul-le-mul {n₁ = 2 * c .before .args .n - 1} {m₁ = c .width-below .result} {n₂ = 47} {m₂ = 8} (omega arith) (omega arith))
 
 returns : tie.Need-returns
-returns c = (rw (c .width-below .ensures .0), omega (arith, mul-le-mul {n₁ = 2 * c .before .args .n - 1} {m₁ = c .width-below .result} {n₂ = 47} {m₂ = 8} (omega arith) (omega arith)))
+returns c = (
+  rw (c .width-below .ensures .0),
+  omega (
+    arith,
+    mul-le-mul {n₁ = 2 * c .before .args .n - 1} {m₁ = c .width-below .result} {n₂ = 47} {m₂ = 8} (omega arith) (omega arith),
+  ),
+)
 
 pub reading-bits-spec : {M : Type 1} → statement M
 reading-bits-spec =

@@ -28,7 +28,11 @@ loop-less : tie.Need-loop-less Inv-loop μ-loop
 loop-less c = search needs
 
 loop-again : tie.Need-loop-again Inv-loop μ-loop
-loop-again c = (search needs, simp length-set (c .before .loop .inv .1), rw (c .before .loop .inv .2) (zeros-more (c .before .before .args .out .now) (c .before .loop .i) (search needs)))
+loop-again c = (
+  search needs,
+  simp length-set (c .before .loop .inv .1),
+  rw (c .before .loop .inv .2) (zeros-more (c .before .before .args .out .now) (c .before .loop .i) (search needs)),
+)
 
 same-length : tie.Need-same-length Inv-loop μ-loop
 same-length c = c .before .loop .inv .1

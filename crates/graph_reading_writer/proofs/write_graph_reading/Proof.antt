@@ -35,10 +35,16 @@ same-length c = search needs
 
 returns : tie.Need-returns
 returns c =
-    let s = c .before .before .before .before .before .before .before .before .before .before .before .before .before .before .before .before .before .before .before .before .before .before .before in
+    let at-write-field3 = c .before .before .before .before .before .before in
+    let at-write-field2 = at-write-field3 .before .before .before .before in
+    let at-write-field = at-write-field2 .before .before .before .before in
+    let at-clear = at-write-field .before .before .before .before in
+    let at-slice-known = at-clear .before .before .before .before in
+    let s = at-slice-known .before in
     let a = s .args in
     graph-reading-written (a .count) (a .rules .now) (a .n) (a .weight) (a .size) (a .trace .now) (a .out .now) (omega (arith, s .pre)) (omega (arith, s .pre))
-    (λ i. c .before .before .before .before .before .before .before .before .before .before .before .before .before .before .before .before .before .before .before .before .before .before .slice-known .given i .fits) (c .before .before .before .before .before .before .before .before .before .before .before .before .before .before .before .before .before .before .clear .ensures) (c .before .before .before .before .before .before .before .before .before .before .before .before .before .before .write-field .ensures) (c .before .before .before .before .before .before .before .before .before .before .write-field2 .ensures) (c .before .before .before .before .before .before .write-field3 .ensures) (c .before .before .write-trace .ensures)
+    (λ i. at-slice-known .slice-known .given i .fits) (at-clear .clear .ensures) (at-write-field .write-field .ensures) (at-write-field2 .write-field2 .ensures)
+    (at-write-field3 .write-field3 .ensures) (c .before .before .write-trace .ensures)
 
 pub write-graph-reading-spec : {M : Type 1} → statement M
 write-graph-reading-spec =

@@ -8,8 +8,9 @@ use Rattle.graph_reading_writer.proofs.write_node.Tie as tie
 
 write-field-requires : tie.Need-write-field-requires
 write-field-requires c κs =
-    let a = c .before .before .before .args in
-    omega (arith, c .before .before .before .pre, node-width (a .width) (nodeBy (ruleAt (a .rules .now) (a .rule)) (a .rule) (a .edge)) (omega (arith, c .before .before .before .pre)))
+    let at-args = c .before .before .before in
+    let a = at-args .args in
+    omega (arith, at-args .pre, node-width (a .width) (nodeBy (ruleAt (a .rules .now) (a .rule)) (a .rule) (a .edge)) (omega (arith, at-args .pre)))
 
 add-next : tie.Need-add-next
 add-next c = search needs
@@ -28,18 +29,25 @@ same-length c = search needs
 
 returns : tie.Need-returns
 returns c =
-    let a = c .before .before .before .before .before .before .before .before .before .before .args in
+    let at-wide = c .before .before .before in
+    let at-write-field = at-wide .before .before .before in
+    let at-args = at-write-field .before .before .before .before in
+    let a = at-args .args in
     pair-written (a .out .now) (a .at) (a .width) (a .rule) (a .edge)
-    (pair-node (a .rules .now) (a .rule) (a .edge) (c .before .before .rule-at .ensures) (c .before .before .before .wide .ensures .0) (c .enum-told .given .1)) (c .before .before .before .before .before .before .write-field .ensures) (omega arith)
+    (pair-node (a .rules .now) (a .rule) (a .edge) (c .before .before .rule-at .ensures) (at-wide .wide .ensures .0) (c .enum-told .given .1))
+    (at-write-field .write-field .ensures) (omega arith)
 
 enum-told-2 : tie.Need-enum-told-2
 enum-told-2 c = search needs
 
 write-field-requires-2 : tie.Need-write-field-requires-2
 write-field-requires-2 c κs =
-    let a = c .before .before .before .before .before .before .before .before .before .before .before .args in
-    let node = word-node (a .rules .now) (a .rule) (a .edge) (c .before .before .before .rule-at .ensures) (c .before .before .before .before .wide .ensures .0) (c .before .enum-told2 .given .1) in
-    omega (arith, c .before .before .before .before .before .before .before .before .before .before .before .pre, word-room (a .out .now) (a .at) (a .width) (a .rule) (a .edge) node)
+    let at-rule-at = c .before .before .before in
+    let at-wide = at-rule-at .before in
+    let at-args = at-wide .before .before .before .before .before .before .before in
+    let a = at-args .args in
+    let node = word-node (a .rules .now) (a .rule) (a .edge) (at-rule-at .rule-at .ensures) (at-wide .wide .ensures .0) (c .before .enum-told2 .given .1) in
+    omega (arith, at-args .pre, word-room (a .out .now) (a .at) (a .width) (a .rule) (a .edge) node)
 
 add-result : tie.Need-add-result
 add-result c = search needs
@@ -49,9 +57,15 @@ same-length-2 c = search needs
 
 returns-2 : tie.Need-returns-2
 returns-2 c =
-    let a = c .before .before .before .before .before .before .before .before .before .before .before .before .before .before .args in
+    let at-enum-told2 = c .before .before .before .before in
+    let at-rule-at = at-enum-told2 .before .before in
+    let at-wide = at-rule-at .before in
+    let at-write-field = at-wide .before .before .before in
+    let at-args = at-write-field .before .before .before .before in
+    let a = at-args .args in
     word-written (a .out .now) (a .at) (a .width) (a .rule) (a .edge)
-    (word-node (a .rules .now) (a .rule) (a .edge) (c .before .before .before .before .before .before .rule-at .ensures) (c .before .before .before .before .before .before .before .wide .ensures .0) (c .before .before .before .before .enum-told2 .given .1)) (c .before .before .before .before .before .before .before .before .before .before .write-field .ensures) (c .before .before .write-field2 .ensures)
+    (word-node (a .rules .now) (a .rule) (a .edge) (at-rule-at .rule-at .ensures) (at-wide .wide .ensures .0) (at-enum-told2 .enum-told2 .given .1))
+    (at-write-field .write-field .ensures) (c .before .before .write-field2 .ensures)
     (omega arith)
 
 pub write-node-spec : {M : Type 1} → statement M

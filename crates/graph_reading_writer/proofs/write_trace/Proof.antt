@@ -45,12 +45,16 @@ shared-slice-read-write-node-2 c = omega arith
 
 write-node-requires : tie.Need-write-node-requires Inv-loop μ-loop
 write-node-requires c κs =
-    let a = c .before .before .before .before .before .before .before .before .before .args in
-    let l = c .before .before .before .before .loop in
-    let w = c .before .before .before .before .before .width-below .result in
+    let at-loop = c .before .before .before .before in
+    let at-width-below = at-loop .before in
+    let at-args = at-width-below .before .before .before .before in
+    let a = at-args .args in
+    let l = at-loop .loop in
+    let w = at-width-below .width-below .result in
     let node = nodeAt (a .count) (a .rules .now) (a .trace .now) (l .i) in
     let left = rest (a .count) (a .rules .now) (a .trace .now) (a .n) (l .i + 1) in
-    let r = node-remains (a .count) (a .rules .now) (a .trace .now) (a .n) (l .i) (c .before .before .before .before .before .width-below .ensures .0) (omega arith) (omega arith) (l .inv .2) in
+    let r = node-remains (a .count) (a .rules .now) (a .trace .now) (a .n) (l .i) (at-width-below .width-below .ensures .0) (omega arith) (omega arith)
+    (l .inv .2) in
     (omega arith, omega arith, omega (arith, some-within (nodeFields w node) left r, r .size))
 
 add-i : tie.Need-add-i Inv-loop μ-loop
@@ -61,12 +65,16 @@ loop-less c = omega arith
 
 loop-again : tie.Need-loop-again Inv-loop μ-loop
 loop-again c =
-    let a = c .before .before .before .before .before .before .before .before .before .before .before .before .args in
-    let l = c .before .before .before .before .before .before .before .loop in
-    let w = c .before .before .before .before .before .before .before .before .width-below .result in
+    let at-loop = c .before .before .before .before .before .before .before in
+    let at-width-below = at-loop .before in
+    let at-args = at-width-below .before .before .before .before in
+    let a = at-args .args in
+    let l = at-loop .loop in
+    let w = at-width-below .width-below .result in
     let node = nodeAt (a .count) (a .rules .now) (a .trace .now) (l .i) in
     let left = rest (a .count) (a .rules .now) (a .trace .now) (a .n) (l .i + 1) in
-    let r = node-remains (a .count) (a .rules .now) (a .trace .now) (a .n) (l .i) (c .before .before .before .before .before .before .before .before .width-below .ensures .0) (omega arith) (omega arith) (l .inv .2) in
+    let r = node-remains (a .count) (a .rules .now) (a .trace .now) (a .n) (l .i) (at-width-below .width-below .ensures .0) (omega arith) (omega arith)
+    (l .inv .2) in
     let e = c .before .before .write-node .ensures in
     (omega arith, omega (arith, e .1, node-width w node (omega arith)), some-written (nodeFields w node) left r (e .0) (e .1))
 

@@ -16,7 +16,10 @@ same-length c = search needs
 
 returns : tie.Need-returns
 unfolding heardBlock
-returns c = rw (sym (c .before .before .before .before .before .is-graph .ensures) ∙ c .before .before .before .before .if1 .taken) (c .before .before .read-graph .ensures)
+returns c =
+    let at-if1 = c .before .before .before .before in
+    let at-is-graph = at-if1 .before in
+    rw (sym (at-is-graph .is-graph .ensures) ∙ at-if1 .if1 .taken) (c .before .before .read-graph .ensures)
 
 read-slots-requires : tie.Need-read-slots-requires
 read-slots-requires c κs = search needs
@@ -26,7 +29,10 @@ same-length-2 c = search needs
 
 returns-2 : tie.Need-returns-2
 unfolding heardBlock
-returns-2 c = rw (sym (c .before .before .before .before .before .is-graph .ensures) ∙ c .before .before .before .before .if1 .left) (c .before .before .read-slots .ensures)
+returns-2 c =
+    let at-if1 = c .before .before .before .before in
+    let at-is-graph = at-if1 .before in
+    rw (sym (at-is-graph .is-graph .ensures) ∙ at-if1 .if1 .left) (c .before .before .read-slots .ensures)
 
 pub read-heard-spec : {M : Type 1} → statement M
 read-heard-spec =

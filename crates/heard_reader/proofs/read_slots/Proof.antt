@@ -23,7 +23,11 @@ slice-aggregate-edges-of : tie.Need-slice-aggregate-edges-of
 slice-aggregate-edges-of c = search needs
 
 edges-of-requires : tie.Need-edges-of-requires
-edges-of-requires c κs = omega (arith, subst Sized (c .before .before .before .size .given .1) (c .before .before .before .before .before .before .read-block .ensures .2), c .before .before .before .before .before .before .before .before .before .before .pre)
+edges-of-requires c κs =
+    let at-size = c .before .before .before in
+    let at-read-block = at-size .before .before .before in
+    let at-pre = at-read-block .before .before .before .before in
+    omega (arith, subst Sized (at-size .size .given .1) (at-read-block .read-block .ensures .2), at-pre .pre)
 
 returns : tie.Need-returns
 returns c = slots-refused _ _ (c .before .before .before .before .read-block .ensures .0) _ _ (c .before .n .given .1)

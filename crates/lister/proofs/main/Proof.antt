@@ -66,7 +66,10 @@ slice-aggregate-print-rows : tie.Need-slice-aggregate-print-rows
 slice-aggregate-print-rows c = search needs
 
 print-rows-requires : tie.Need-print-rows-requires
-print-rows-requires c κs = found-few library _ _ 8 _ _ (c .before .before .before .before .before .before .before .before .before .before .before .lines .ensures .0) (c .before .before .before .before .before .before .m .given .1)
+print-rows-requires c κs =
+    let at-m = c .before .before .before .before .before .before in
+    let at-lines = at-m .before .before .before .before .before in
+    found-few library _ _ 8 _ _ (at-lines .lines .ensures .0) (at-m .m .given .1)
 
 enum-known-n : tie.Need-enum-known-n
 enum-known-n c = search needs

@@ -35,7 +35,8 @@ returns c =
     let at-cell-at = at-with-rule .before .before in
     let at-cell-of = at-cell-at .before .before in
     let at-narrow-at = at-cell-of .before in
-    rule-is _ _ _ _ _ _ (at-narrow-at .narrow-at .ensures) (at-cell-of .cell-of .ensures .0) (at-cell-at .cell-at .ensures) (at-with-rule .with-rule .ensures) (at-put-cell .put-cell .ensures)
+    rule-is _ _ _ _ _ _ (at-narrow-at .narrow-at .ensures) (at-cell-of .cell-of .ensures .0) (at-cell-at .cell-at .ensures) (at-with-rule .with-rule .ensures)
+    (at-put-cell .put-cell .ensures)
 
 pub add-rule-spec : {M : Type 1} → statement M
 add-rule-spec =

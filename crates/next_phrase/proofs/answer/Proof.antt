@@ -56,7 +56,9 @@ returns c = λ g e v b.
     let at-fill-table = at-cell-of .before .before in
     let at-start = at-fill-table .before .before .before .before .before .before in
     let a = at-start .args in
-    string-said (a .n) (a .first) (search needs) (search needs) (a .out .now) (search needs) (a .sizes) (a .rules .now) (at-fill-table .fill-table .ensures) (at-cell-of .cell-of .ensures .0) (at-cell-at .cell-at .ensures) (at-asked-of .asked-of .ensures) g e v b (at-if1 .if1 .taken) (at-write .write .ensures)
+    string-said (a .n) (a .first) (search needs) (search needs) (a .out .now) (search needs) (a .sizes) (a .rules .now) (at-fill-table .fill-table .ensures)
+    (at-cell-of .cell-of .ensures .0) (at-cell-at .cell-at .ensures) (at-asked-of .asked-of .ensures) g e v b (at-if1 .if1 .taken)
+    (at-write .write .ensures)
 
 same-length-2 : tie.Need-same-length-2
 same-length-2 c = search needs
@@ -68,7 +70,8 @@ returns-2 c = λ g e v b.
     let at-fill-table = at-cell-of .before .before in
     let at-start = at-fill-table .before .before .before .before .before .before in
     let a = at-start .args in
-    nothing-said (a .n) (a .first) (search needs) (search needs) (a .out .now) (search needs) (a .sizes) (a .rules .now) (at-fill-table .fill-table .ensures) (at-cell-of .cell-of .ensures .0) (at-cell-at .cell-at .ensures) (c .before .asked-of .ensures) g e v b (c .if1 .left)
+    nothing-said (a .n) (a .first) (search needs) (search needs) (a .out .now) (search needs) (a .sizes) (a .rules .now) (at-fill-table .fill-table .ensures)
+    (at-cell-of .cell-of .ensures .0) (at-cell-at .cell-at .ensures) (c .before .asked-of .ensures) g e v b (c .if1 .left)
 
 pub answer-spec : {M : Type 1} → statement M
 answer-spec =

@@ -54,8 +54,12 @@ loop-again-2 : tie.Need-loop-again-2 Inv-loop μ-loop
 loop-again-2 c =
     let at-fill-part = c .before .before in
     let at-if1 = at-fill-part .before .before in
-    let at-loop = at-if1 .before .before in
-    (search needs, search needs, rw (iter-more, ← at-loop .loop .inv .2) (at-fill-part .fill-part .ensures ∙ part-filled _ _ _ _ (at-loop .loop .p) (at-if1 .if1 .left)))
+    let at-loop = at-if1 .before .before in (
+      search needs,
+      search needs,
+      rw (iter-more, ← at-loop .loop .inv .2)
+          (at-fill-part .fill-part .ensures ∙ part-filled _ _ _ _ (at-loop .loop .p) (at-if1 .if1 .left)),
+    )
 
 same-length : tie.Need-same-length Inv-loop μ-loop
 same-length c = search needs

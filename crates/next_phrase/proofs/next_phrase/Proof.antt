@@ -63,7 +63,8 @@ returns-4 : tie.Need-returns-4
 returns-4 c =
     let at-read-block = c .before .before .before .before in
     let at-start = at-read-block .before .before .before .before in
-    next-refused _ _ _ _ (asked-block 6 _ _ _ (refused-told (grammarBlock (at-start .args .grammar .now)) (at-read-block .read-block .ensures .0) (c .before .read .given .1)))
+    next-refused _ _ _ _ (asked-block 6 _ _ _ (refused-told (grammarBlock (at-start .args .grammar .now)) (at-read-block .read-block .ensures .0)
+    (c .before .read .given .1)))
 
 same-length : tie.Need-same-length
 same-length c = search needs
@@ -78,7 +79,8 @@ returns-5 c =
     let at-read-block = at-read2 .before .before .before in
     let at-start = at-read-block .before .before .before .before in
     let (g, e, z) = accepted-told (grammarBlock (at-start .args .grammar .now)) (at-read-block .read-block .ensures .0) (at-read2 .read2 .given .1) in
-    rw (next-told _ _ _ _ (asked-well 6 _ _ _ e (at-if1 .if1 .left) (at-if2 .if2 .left) (at-if3 .if3 .left))) (at-answer .answer .ensures g z (grammar-block-out _ g e .0) (rw e at (at-read-block .read-block .ensures .1)))
+    rw (next-told _ _ _ _ (asked-well 6 _ _ _ e (at-if1 .if1 .left) (at-if2 .if2 .left) (at-if3 .if3 .left)))
+    (at-answer .answer .ensures g z (grammar-block-out _ g e .0) (rw e at (at-read-block .read-block .ensures .1)))
 
 pub next-phrase-spec : {M : Type 1} → statement M
 next-phrase-spec =

@@ -43,7 +43,8 @@ returns c =
     let at-if1 = at-placed-word .before .before in
     let at-rule2 = at-if1 .before .before .before in
     let at-rule-at = at-rule2 .before .before in
-    rw (← at-rule-at .rule-at .ensures, at-rule2 .rule2 .given .1, eq-eqb _ _ (at-if1 .if1 .taken), ← at-placed-word .placed-word .ensures) (c .with-word .ensures)
+    rw (← at-rule-at .rule-at .ensures, at-rule2 .rule2 .given .1, eq-eqb _ _ (at-if1 .if1 .taken), ← at-placed-word .placed-word .ensures)
+    (c .with-word .ensures)
 
 returns-2 : tie.Need-returns-2
 unfolding withRule made

@@ -30,7 +30,8 @@ returns c =
     let at-cell-at = c .before .before in
     let at-cell-of2 = at-cell-at .before in
     let at-cell-of = at-cell-of2 .before .before .before in
-    split-is _ _ _ _ _ _ _ (at-cell-of .cell-of .ensures .0) (at-cell-of2 .cell-of2 .ensures .0) (at-cell-at .cell-at .ensures) (c .before .cell-at2 .ensures) (c .with-joined .ensures)
+    split-is _ _ _ _ _ _ _ (at-cell-of .cell-of .ensures .0) (at-cell-of2 .cell-of2 .ensures .0) (at-cell-at .cell-at .ensures) (c .before .cell-at2 .ensures)
+    (c .with-joined .ensures)
 
 pub with-split-spec : {M : Type 1} → statement M
 with-split-spec =

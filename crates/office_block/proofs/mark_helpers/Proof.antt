@@ -27,17 +27,23 @@ loop-less : tie.Need-loop-less Inv-loop μ-loop
 loop-less c = search needs
 
 loop-again : tie.Need-loop-again Inv-loop μ-loop
-loop-again c = (
-  omega (arith, c .before .before .before .before .loop-test .taken),
-  search needs,
-  ones-turn (c .before .before .before .before .before .before .before .args .n) (c .before .before .before .before .before .loop .i) (c .before .before .before .before .loop-test .taken) (c .before .before .before .before .before .loop .marks) (c .before .before .store .ensures) ∙ c .before .before .before .before .before .loop .inv .2,
-)
+loop-again c =
+    let at-loop-test = c .before .before .before .before in
+    let at-loop = at-loop-test .before in
+    let at-args = at-loop .before .before in (
+      omega (arith, at-loop-test .loop-test .taken),
+      search needs,
+      ones-turn (at-args .args .n) (at-loop .loop .i) (at-loop-test .loop-test .taken) (at-loop .loop .marks) (c .before .before .store .ensures)
+          ∙ at-loop .loop .inv .2,
+    )
 
 same-length : tie.Need-same-length Inv-loop μ-loop
 same-length c = search needs
 
 returns : tie.Need-returns Inv-loop μ-loop
-returns c = sym (ones-end (c .before .before .before .args .n) (c .before .loop .i) (omega (arith, c .loop-test .left)) (c .before .loop .marks)) ∙ c .before .loop .inv .2
+returns c =
+    let at-args = c .before .before .before in
+    sym (ones-end (at-args .args .n) (c .before .loop .i) (omega (arith, c .loop-test .left)) (c .before .loop .marks)) ∙ c .before .loop .inv .2
 
 pub mark-helpers-spec : {M : Type 1} → statement M
 mark-helpers-spec =

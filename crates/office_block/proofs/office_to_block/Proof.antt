@@ -30,7 +30,10 @@ wide-requires-2 c κs = search needs
 
 mark-helpers-requires : tie.Need-mark-helpers-requires
 mark-helpers-requires c κs =
-    let m = marks-room (c .before .before .before .before .before .before .before .before .before .before .before .args .sheet .now) (sym (c .before .before .before .before .before .before .before .read-grammar .ensures .0) ∙ c .before .before .before .before .z .given .1) in
+    let at-z = c .before .before .before .before in
+    let at-read-grammar = at-z .before .before .before in
+    let at-args = at-read-grammar .before .before .before .before in
+    let m = marks-room (at-args .args .sheet .now) (sym (at-read-grammar .read-grammar .ensures .0) ∙ at-z .z .given .1) in
     (omega (arith, m, c .before .before .wide .ensures .0, c .wide2 .ensures .0), omega (arith, m, c .before .before .wide .ensures .0))
 
 slice-aggregate-write-grammar : tie.Need-slice-aggregate-write-grammar
@@ -41,9 +44,13 @@ slice-aggregate-write-grammar-2 c = search needs
 
 write-grammar-requires : tie.Need-write-grammar-requires
 write-grammar-requires c κs =
-    let e = sym (c .before .before .before .before .before .before .before .before .before .before .before .before .read-grammar .ensures .0) ∙ c .before .before .before .before .before .before .before .before .before .z .given .1 in
-    let m = marks-room (c .before .before .before .before .before .before .before .before .before .before .before .before .before .before .before .before .args .sheet .now) e in
-    (omega (arith, m, c .before .before .before .before .before .before .before .wide .ensures .0), in-ranges (c .before .before .before .before .before .before .before .before .before .before .before .before .before .before .before .before .args .sheet .now) e)
+    let at-wide = c .before .before .before .before .before .before .before in
+    let at-z = at-wide .before .before in
+    let at-read-grammar = at-z .before .before .before in
+    let at-args = at-read-grammar .before .before .before .before in
+    let e = sym (at-read-grammar .read-grammar .ensures .0) ∙ at-z .z .given .1 in
+    let m = marks-room (at-args .args .sheet .now) e in
+    (omega (arith, m, at-wide .wide .ensures .0), in-ranges (at-args .args .sheet .now) e)
 
 returns : tie.Need-returns
 returns c =
@@ -55,11 +62,18 @@ same-length c = search needs
 
 returns-2 : tie.Need-returns-2
 returns-2 c =
-    let a = c .before .before .before .before .before .before .before .before .before .before .before .before .before .before .before .before .before .before .before .args in
-    let r = c .before .before .before .before .before .before .before .before .before .before .before .before .before .before .before .read-grammar in
-    let w = rw (c .before .before .before .before .before .before .before .before .before .before .wide .ensures .0, c .before .before .before .before .before .before .before .before .wide2 .ensures .0) at (c .before .before .before .before .before .before .before .mark-helpers .ensures) in
-    let e = block-told (a .sheet .now) (sym (r .ensures .0) ∙ c .before .before .before .before .before .before .before .before .before .before .before .before .z .given .1) 256 (omega arith) (r .last .1 .0) (c .before .before .before .before .before .before .before .mark-helpers .last .0) (r .ensures .1) w in
-    rw e (rw (c .before .before .before .before .before .before .before .before .before .before .wide .ensures .0) at (c .before .before .write-grammar .ensures))
+    let at-mark-helpers = c .before .before .before .before .before .before .before in
+    let at-wide2 = at-mark-helpers .before in
+    let at-wide = at-wide2 .before .before in
+    let at-z = at-wide .before .before in
+    let at-read-grammar = at-z .before .before .before in
+    let at-args = at-read-grammar .before .before .before .before in
+    let a = at-args .args in
+    let r = at-read-grammar .read-grammar in
+    let w = rw (at-wide .wide .ensures .0, at-wide2 .wide2 .ensures .0) at (at-mark-helpers .mark-helpers .ensures) in
+    let e = block-told (a .sheet .now) (sym (r .ensures .0) ∙ at-z .z .given .1) 256 (omega arith) (r .last .1 .0) (at-mark-helpers .mark-helpers .last .0)
+    (r .ensures .1) w in
+    rw e (rw (at-wide .wide .ensures .0) at (c .before .before .write-grammar .ensures))
 
 pub office-to-block-spec : {M : Type 1} → statement M
 office-to-block-spec =

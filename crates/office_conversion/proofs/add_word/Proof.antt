@@ -44,10 +44,17 @@ same-length-2 c = search needs
 
 returns : tie.Need-returns
 returns c =
-    let put = rw (c .before .before .before .before .before .before .before .before .before .before .wide2 .ensures .0) at (c .before .before .before .before .before .before .before .before .put-rule .ensures) in
-    let entry = rw (c .before .before .before .before .wide3 .ensures .0) at (c .before .before .store .ensures) in
-    let zero = rw (c .before .before .before .before .before .before .before .before .before .before .before .before .before .before .before .wide .ensures .0) at (sym (c .before .before .before .before .before .before .before .before .before .before .before .before .before .before .narrow-at .ensures) ∙ c .before .before .before .before .before .before .before .before .before .before .before .before .before .if1 .taken) in
-    (omega arith, omega arith, λ a hs rs v. rw entry (word-added (c .before .before .before .before .before .before .before .before .before .before .before .before .before .before .before .before .before .before .before .pre .4) v (c .before .before .before .before .before .before .before .before .before .before .before .before .before .before .before .before .before .before .before .pre .0) zero put))
+    let at-wide3 = c .before .before .before .before in
+    let at-put-rule = at-wide3 .before .before .before .before in
+    let at-wide2 = at-put-rule .before .before in
+    let at-if1 = at-wide2 .before .before .before in
+    let at-narrow-at = at-if1 .before in
+    let at-wide = at-narrow-at .before in
+    let at-pre = at-wide .before .before .before .before in
+    let put = rw (at-wide2 .wide2 .ensures .0) at (at-put-rule .put-rule .ensures) in
+    let entry = rw (at-wide3 .wide3 .ensures .0) at (c .before .before .store .ensures) in
+    let zero = rw (at-wide .wide .ensures .0) at (sym (at-narrow-at .narrow-at .ensures) ∙ at-if1 .if1 .taken) in
+    (omega arith, omega arith, λ a hs rs v. rw entry (word-added (at-pre .pre .4) v (at-pre .pre .0) zero put))
 
 same-length-3 : tie.Need-same-length-3
 same-length-3 c = search needs

@@ -37,9 +37,14 @@ add-at c = omega arith
 
 add-item-requires : tie.Need-add-item-requires Inv-loop μ-loop
 add-item-requires c κs =
-    let l = rw (rest-more (c .before .before .before .before .before .before .before .before .args .sheet .now) (c .before .before .before .before .before .before .before .before .args .p) (c .before .before .before .before .before .before .before .before .args .n) (c .before .before .before .before .loop .j) (c .before .before .before .loop-test .taken)) at (c .before .before .before .before .loop .inv .5) in
-    let x = below-first (itemAt (c .before .before .before .before .before .before .before .before .args .sheet .now) (c .before .before .before .before .before .before .before .before .args .p + 2 * c .before .before .before .before .loop .j)) (Rest (c .before .before .before .before .before .before .before .before .args .sheet .now) (c .before .before .before .before .before .before .before .before .args .p) (c .before .before .before .before .before .before .before .before .args .n) (c .before .before .before .before .loop .j + 1)) l .0 in
-    (omega arith, c .before .before .before .before .before .before .before .before .pre .2, c .before .before .before .before .before .before .before .before .pre .3, c .before .before .before .before .before .before .before .before .pre .4, omega arith, rw (c .before .before .wide .ensures .0) x)
+    let at-loop-test = c .before .before .before in
+    let at-loop = at-loop-test .before in
+    let at-args = at-loop .before .before .before .before in
+    let l = rw (rest-more (at-args .args .sheet .now) (at-args .args .p) (at-args .args .n) (at-loop .loop .j) (at-loop-test .loop-test .taken))
+    at (at-loop .loop .inv .5) in
+    let x = below-first (itemAt (at-args .args .sheet .now) (at-args .args .p + 2 * at-loop .loop .j))
+    (Rest (at-args .args .sheet .now) (at-args .args .p) (at-args .args .n) (at-loop .loop .j + 1)) l .0 in
+    (omega arith, at-args .pre .2, at-args .pre .3, at-args .pre .4, omega arith, rw (c .before .before .wide .ensures .0) x)
 
 add-j : tie.Need-add-j Inv-loop μ-loop
 add-j c = omega arith
@@ -49,18 +54,28 @@ loop-less c = omega arith
 
 loop-again : tie.Need-loop-again Inv-loop μ-loop
 loop-again c =
-    let l = rw (rest-more (c .before .before .before .before .before .before .before .before .before .before .before .before .before .args .sheet .now) (c .before .before .before .before .before .before .before .before .before .before .before .before .before .args .p) (c .before .before .before .before .before .before .before .before .before .before .before .before .before .args .n) (c .before .before .before .before .before .before .before .before .before .loop .j) (c .before .before .before .before .before .before .before .before .loop-test .taken)) at (c .before .before .before .before .before .before .before .before .before .loop .inv .5) in
-    let x = below-first (itemAt (c .before .before .before .before .before .before .before .before .before .before .before .before .before .args .sheet .now) (c .before .before .before .before .before .before .before .before .before .before .before .before .before .args .p + 2 * c .before .before .before .before .before .before .before .before .before .loop .j)) (Rest (c .before .before .before .before .before .before .before .before .before .before .before .before .before .args .sheet .now) (c .before .before .before .before .before .before .before .before .before .before .before .before .before .args .p) (c .before .before .before .before .before .before .before .before .before .before .before .before .before .args .n) (c .before .before .before .before .before .before .before .before .before .loop .j + 1)) l .1 in
-    let told = rw (c .before .before .before .before .before .before .before .wide .ensures .0) at (c .before .before .before .before .add-item .ensures .2) in (
+    let at-add-item = c .before .before .before .before in
+    let at-wide = at-add-item .before .before .before in
+    let at-loop-test = at-wide .before in
+    let at-loop = at-loop-test .before in
+    let at-args = at-loop .before .before .before .before in
+    let l = rw (rest-more (at-args .args .sheet .now) (at-args .args .p) (at-args .args .n) (at-loop .loop .j) (at-loop-test .loop-test .taken))
+    at (at-loop .loop .inv .5) in
+    let x = below-first (itemAt (at-args .args .sheet .now) (at-args .args .p + 2 * at-loop .loop .j))
+    (Rest (at-args .args .sheet .now) (at-args .args .p) (at-args .args .n) (at-loop .loop .j + 1)) l .1 in
+    let told = rw (at-wide .wide .ensures .0) at (at-add-item .add-item .ensures .2) in (
       omega arith,
       omega arith,
       omega arith,
-      c .before .before .before .before .add-item .kept .1 .1 .0 ∙ c .before .before .before .before .before .before .before .before .before .loop .inv .3,
-      c .before .before .before .before .add-item .kept .1 .1 .1 .0 ∙ c .before .before .before .before .before .before .before .before .before .loop .inv .4,
+      at-add-item .add-item .kept .1 .1 .0 ∙ at-loop .loop .inv .3,
+      at-add-item .add-item .kept .1 .1 .1 .0 ∙ at-loop .loop .inv .4,
       x,
       λ a hs rs v.
-          let (gs, w, e) = c .before .before .before .before .before .before .before .before .before .loop .inv .6 a hs rs v in
-          (withWords (itemAt (c .before .before .before .before .before .before .before .before .before .before .before .before .before .args .sheet .now) (c .before .before .before .before .before .before .before .before .before .before .before .before .before .args .p + 2 * c .before .before .before .before .before .before .before .before .before .loop .j) ∷ []) gs, told a gs rs w, words-more (c .before .before .before .before .before .before .before .before .before .before .before .before .before .args .sheet .now) (c .before .before .before .before .before .before .before .before .before .before .before .before .before .args .p) (c .before .before .before .before .before .before .before .before .before .before .before .before .before .args .n) (c .before .before .before .before .before .before .before .before .before .loop .j) (c .before .before .before .before .before .before .before .before .loop-test .taken) gs ∙ e),
+          let (gs, w, e) = at-loop .loop .inv .6 a hs rs v in (
+            withWords (itemAt (at-args .args .sheet .now) (at-args .args .p + 2 * at-loop .loop .j) ∷ []) gs,
+            told a gs rs w,
+            words-more (at-args .args .sheet .now) (at-args .args .p) (at-args .args .n) (at-loop .loop .j) (at-loop-test .loop-test .taken) gs ∙ e,
+          ),
     )
 
 same-length : tie.Need-same-length Inv-loop μ-loop
@@ -70,14 +85,16 @@ same-length-2 : tie.Need-same-length-2 Inv-loop μ-loop
 same-length-2 c = c .before .loop .inv .4
 
 returns : tie.Need-returns Inv-loop μ-loop
-returns c = (
-  omega arith,
-  omega arith,
-  λ a hs rs v.
-      let (gs, w, e) = c .before .loop .inv .6 a hs rs v in
-      let q : gs ≡ withWords (itemsAt (c .before .before .before .before .before .args .sheet .now) (c .before .before .before .before .before .args .p) (c .before .before .before .before .before .args .n)) hs = sym (words-end (c .before .before .before .before .before .args .sheet .now) (c .before .before .before .before .before .args .p) (c .before .before .before .before .before .args .n) (c .before .loop .j) (omega arith) gs) ∙ e in
-      rw (← q) w,
-)
+returns c =
+    let at-args = c .before .before .before .before .before in (
+      omega arith,
+      omega arith,
+      λ a hs rs v.
+          let (gs, w, e) = c .before .loop .inv .6 a hs rs v in
+          let q : gs ≡ withWords (itemsAt (at-args .args .sheet .now) (at-args .args .p) (at-args .args .n)) hs =
+          sym (words-end (at-args .args .sheet .now) (at-args .args .p) (at-args .args .n) (c .before .loop .j) (omega arith) gs) ∙ e in
+          rw (← q) w,
+    )
 
 pub add-words-spec : {M : Type 1} → statement M
 add-words-spec =

@@ -19,15 +19,34 @@ wide-requires : tie.Need-wide-requires Inv-loop μ-loop
 wide-requires c κs = tt
 
 loop-holds : tie.Need-loop-holds Inv-loop μ-loop
-loop-holds c = (omega arith, c .wide .ensures .0, omega arith, omega arith, refl, refl, none-passed (c .before .before .before .args .sheet .now) (c .before .before .before .args .base .symbols) (c .before .before .before .args .base .rules) (c .before .before .before .args .rules .now) (c .before .before .before .pre .3))
+loop-holds c =
+    let at-args = c .before .before .before in (
+      omega arith,
+      c .wide .ensures .0,
+      omega arith,
+      omega arith,
+      refl,
+      refl,
+      none-passed (at-args .args .sheet .now) (at-args .args .base .symbols) (at-args .args .base .rules) (at-args .args .rules .now) (at-args .pre .3),
+    )
 
 slice-aggregate-convert-rule : tie.Need-slice-aggregate-convert-rule Inv-loop μ-loop
 slice-aggregate-convert-rule c = sym (c .before .before .before .loop .inv .5)
 
 convert-rule-requires : tie.Need-convert-rule-requires Inv-loop μ-loop
 convert-rule-requires c κs =
-    let l : c .before .before .before .loop .i < c .before .before .before .before .before .before .before .args .base .rules = omega (arith, c .before .before .loop-test .taken, c .before .before .before .loop .inv .1) in
-    (omega (arith, c .before .before .before .loop .inv), l, c .before .before .before .before .before .before .before .pre .0, c .before .before .before .before .before .before .before .pre .1, c .before .before .before .before .before .before .before .pre .2, omega (arith, c .before .before .before .loop .inv), next-passable (c .before .before .before .before .before .before .before .args .sheet .now) (c .before .before .before .before .before .before .before .args .base .symbols) (c .before .before .before .before .before .before .before .args .base .rules) (c .before .before .before .before .before .before .before .args .rules .now) (c .before .before .before .loop .inv .6) l)
+    let at-loop = c .before .before .before in
+    let at-args = at-loop .before .before .before .before in
+    let l : at-loop .loop .i < at-args .args .base .rules = omega (arith, c .before .before .loop-test .taken, at-loop .loop .inv .1) in (
+      omega (arith, at-loop .loop .inv),
+      l,
+      at-args .pre .0,
+      at-args .pre .1,
+      at-args .pre .2,
+      omega (arith, at-loop .loop .inv),
+      next-passable (at-args .args .sheet .now) (at-args .args .base .symbols) (at-args .args .base .rules) (at-args .args .rules .now)
+          (at-loop .loop .inv .6) l,
+    )
 
 add-p : tie.Need-add-p Inv-loop μ-loop
 add-p c = omega arith
@@ -52,22 +71,30 @@ loop-less c = omega arith
 
 loop-again : tie.Need-loop-again Inv-loop μ-loop
 loop-again c =
-    let v = c .before .before .before .before .before .before .before .before .loop .inv .6 in
-    let l : c .before .before .before .before .before .before .before .before .loop .i < c .before .before .before .before .before .before .before .before .before .before .before .before .args .base .rules = omega (arith, c .before .before .before .before .before .before .before .loop-test .taken, c .before .before .before .before .before .before .before .before .loop .inv .1) in (
+    let at-convert-rule = c .before .before .before .before in
+    let at-loop-test = at-convert-rule .before .before .before in
+    let at-loop = at-loop-test .before in
+    let at-args = at-loop .before .before .before .before in
+    let v = at-loop .loop .inv .6 in
+    let l : at-loop .loop .i < at-args .args .base .rules = omega (arith, at-loop-test .loop-test .taken, at-loop .loop .inv .1) in (
       omega arith,
-      c .before .before .before .before .before .before .before .before .loop .inv .1,
+      at-loop .loop .inv .1,
       omega arith,
       omega arith,
-      c .before .before .before .before .convert-rule .kept .1 .1 .0 ∙ c .before .before .before .before .before .before .before .before .loop .inv .4,
-      c .before .before .before .before .convert-rule .kept .1 .1 .1 .0 ∙ c .before .before .before .before .before .before .before .before .loop .inv .5,
-      rw (c .number-at .ensures .0) (one-more (c .before .before .before .before .before .before .before .before .before .before .before .before .args .sheet .now) (c .before .before .before .before .before .before .before .before .before .before .before .before .args .base .symbols) (c .before .before .before .before .before .before .before .before .before .before .before .before .args .base .rules) (c .before .before .before .before .before .before .before .before .before .before .before .before .args .rules .now) v l (c .before .before .before .before .convert-rule .ensures .1 (c .before .before .before .before .before .before .before .before .before .before .before .before .args .rules .now) (v .hs) (v .rs) (v .size) (v .holds))),
+      at-convert-rule .convert-rule .kept .1 .1 .0 ∙ at-loop .loop .inv .4,
+      at-convert-rule .convert-rule .kept .1 .1 .1 .0 ∙ at-loop .loop .inv .5,
+      rw (c .number-at .ensures .0) (one-more (at-args .args .sheet .now) (at-args .args .base .symbols) (at-args .args .base .rules)
+          (at-args .args .rules .now) v l (at-convert-rule .convert-rule .ensures .1 (at-args .args .rules .now) (v .hs) (v .rs) (v .size) (v .holds))),
     )
 
 same-length : tie.Need-same-length Inv-loop μ-loop
 same-length c = c .before .loop .inv .4
 
 returns : tie.Need-returns Inv-loop μ-loop
-returns c = all-passed (c .before .before .before .before .before .args .sheet .now) (c .before .before .before .before .before .args .base .symbols) (c .before .before .before .before .before .args .base .rules) (c .before .before .before .before .before .args .rules .now) (c .before .loop .inv .6) (omega arith) (omega arith)
+returns c =
+    let at-args = c .before .before .before .before .before in
+    all-passed (at-args .args .sheet .now) (at-args .args .base .symbols) (at-args .args .base .rules) (at-args .args .rules .now) (c .before .loop .inv .6)
+    (omega arith) (omega arith)
 
 pub convert-spec : {M : Type 1} → statement M
 convert-spec =

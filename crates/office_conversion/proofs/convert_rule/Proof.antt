@@ -41,10 +41,20 @@ same-length c = search needs
 
 returns : tie.Need-returns
 returns c =
-    let put = rw (c .before .before .before .before .before .before .before .before .narrow-at .ensures, c .before .before .before .before .before .before .before .narrow-at2 .ensures, c .before .before .before .before .narrow-at4 .ensures) at (c .before .before .put-rule .ensures) in (
+    let at-narrow-at4 = c .before .before .before .before in
+    let at-if1 = at-narrow-at4 .before in
+    let at-narrow-at3 = at-if1 .before in
+    let at-narrow-at2 = at-narrow-at3 .before in
+    let at-narrow-at = at-narrow-at2 .before in
+    let at-args = at-narrow-at .before .before .before .before in
+    let put = rw (at-narrow-at .narrow-at .ensures, at-narrow-at2 .narrow-at2 .ensures, at-narrow-at4 .narrow-at4 .ensures)
+    at (c .before .before .put-rule .ensures) in (
       omega arith,
       λ a hs rs e v.
-          one-passed (c .before .before .before .before .before .before .before .before .before .before .before .before .args .sheet .now) (c .before .before .before .before .before .before .before .before .before .before .before .before .args .base .symbols) (c .before .before .before .before .before .before .before .before .before .before .before .before .args .base .rules) a hs rs (c .before .before .before .before .before .before .before .before .before .before .before .before .args .places .now) (c .before .before .before .before .before .before .before .before .before .before .before .before .args .i) e (c .before .before .before .before .before .before .before .before .before .before .before .before .pre .1) (getD (c .before .before .before .before .before .before .before .before .before .before .before .before .args .sheet .now) (c .before .before .before .before .before .before .before .before .before .before .before .before .args .p) 0) (getD (c .before .before .before .before .before .before .before .before .before .before .before .before .args .sheet .now) (c .before .before .before .before .before .before .before .before .before .before .before .before .args .p + 1) 0) (c .before .before .before .before .before .before .before .before .before .before .before .before .args .p + 3) (countAt (c .before .before .before .before .before .before .before .before .before .before .before .before .args .sheet .now) (c .before .before .before .before .before .before .before .before .before .before .before .before .args .p)) (sym (c .before .before .before .before .before .before .narrow-at3 .ensures) ∙ c .before .before .before .before .before .if1 .taken) (c .before .before .before .before .before .before .before .before .before .before .before .before .pre .6) v put,
+          one-passed (at-args .args .sheet .now) (at-args .args .base .symbols) (at-args .args .base .rules) a hs rs (at-args .args .places .now)
+          (at-args .args .i) e (at-args .pre .1) (getD (at-args .args .sheet .now) (at-args .args .p) 0)
+          (getD (at-args .args .sheet .now) (at-args .args .p + 1) 0) (at-args .args .p + 3) (countAt (at-args .args .sheet .now) (at-args .args .p))
+          (sym (at-narrow-at3 .narrow-at3 .ensures) ∙ at-if1 .if1 .taken) (at-args .pre .6) v put,
     )
 
 add-add-words : tie.Need-add-add-words
@@ -52,8 +62,17 @@ add-add-words c = search needs
 
 add-words-requires : tie.Need-add-words-requires
 add-words-requires c κs =
-    let z = count-size (c .before .before .before .before .before .before .before .before .before .args .sheet .now) (c .before .before .before .before .before .before .before .before .before .args .p) (c .before .before .before .before .before .before .before .before .before .pre .6) in
-    (omega arith, omega (arith, c .before .before .before .narrow-at3 .ensures, z), c .before .before .before .before .before .before .before .before .before .pre .2, c .before .before .before .before .before .before .before .before .before .pre .3, c .before .before .before .before .before .before .before .before .before .pre .4, omega arith, rw (c .before .before .before .narrow-at3 .ensures) (c .before .before .before .before .before .before .before .before .before .pre .6 .1))
+    let at-narrow-at3 = c .before .before .before in
+    let at-args = at-narrow-at3 .before .before .before .before .before .before in
+    let z = count-size (at-args .args .sheet .now) (at-args .args .p) (at-args .pre .6) in (
+      omega arith,
+      omega (arith, at-narrow-at3 .narrow-at3 .ensures, z),
+      at-args .pre .2,
+      at-args .pre .3,
+      at-args .pre .4,
+      omega arith,
+      rw (at-narrow-at3 .narrow-at3 .ensures) (at-args .pre .6 .1),
+    )
 
 add-symbol-of : tie.Need-add-symbol-of
 add-symbol-of c = search needs
@@ -68,10 +87,27 @@ add-top-of-2 : tie.Need-add-top-of-2
 add-top-of-2 c = search needs
 
 sub-top-of : tie.Need-sub-top-of
-sub-top-of c = omega (arith, c .before .before .before .before .before .before .before .before .before .before .before .narrow-at3 .ensures, count-size (c .before .before .before .before .before .before .before .before .before .before .before .before .before .before .before .before .before .args .sheet .now) (c .before .before .before .before .before .before .before .before .before .before .before .before .before .before .before .before .before .args .p) (c .before .before .before .before .before .before .before .before .before .before .before .before .before .before .before .before .before .pre .6))
+sub-top-of c =
+    let at-narrow-at3 = c .before .before .before .before .before .before .before .before .before .before .before in
+    let at-args = at-narrow-at3 .before .before .before .before .before .before in
+    omega (arith, at-narrow-at3 .narrow-at3 .ensures, count-size (at-args .args .sheet .now) (at-args .args .p) (at-args .pre .6))
 
 top-of-requires : tie.Need-top-of-requires
-top-of-requires c κs = (omega arith, omega (arith, c .before .before .before .before .before .before .before .before .before .before .if1 .left, c .before .before .before .before .before .before .before .before .before .before .before .narrow-at3 .ensures, count-size (c .before .before .before .before .before .before .before .before .before .before .before .before .before .before .before .before .before .args .sheet .now) (c .before .before .before .before .before .before .before .before .before .before .before .before .before .before .before .before .before .args .p) (c .before .before .before .before .before .before .before .before .before .before .before .before .before .before .before .before .before .pre .6)), c .before .before .before .before .before .before .before .before .before .before .before .before .before .before .before .before .before .pre .3, omega (arith, c .before .before .before .before .before .before .before .add-words .ensures .1))
+top-of-requires c κs =
+    let at-add-words = c .before .before .before .before .before .before .before in
+    let at-if1 = at-add-words .before .before .before in
+    let at-narrow-at3 = at-if1 .before in
+    let at-args = at-narrow-at3 .before .before .before .before .before .before in (
+      omega arith,
+      omega (
+        arith,
+        at-if1 .if1 .left,
+        at-narrow-at3 .narrow-at3 .ensures,
+        count-size (at-args .args .sheet .now) (at-args .args .p) (at-args .pre .6),
+      ),
+      at-args .pre .3,
+      omega (arith, at-add-words .add-words .ensures .1),
+    )
 
 put-rule-requires-2 : tie.Need-put-rule-requires-2
 put-rule-requires-2 c κs = search needs
@@ -83,16 +119,52 @@ add-put-chain-2 : tie.Need-add-put-chain-2
 add-put-chain-2 c = search needs
 
 sub-put-chain : tie.Need-sub-put-chain
-sub-put-chain c = omega (arith, c .before .before .before .before .before .before .before .before .before .before .before .before .before .before .before .before .before .narrow-at3 .ensures, count-size (c .before .before .before .before .before .before .before .before .before .before .before .before .before .before .before .before .before .before .before .before .before .before .before .args .sheet .now) (c .before .before .before .before .before .before .before .before .before .before .before .before .before .before .before .before .before .before .before .before .before .before .before .args .p) (c .before .before .before .before .before .before .before .before .before .before .before .before .before .before .before .before .before .before .before .before .before .before .before .pre .6))
+sub-put-chain c =
+    let before-9 = c .before .before .before .before .before .before .before .before .before in
+    let at-narrow-at3 = before-9 .before .before .before .before .before .before .before .before in
+    let at-args = at-narrow-at3 .before .before .before .before .before .before in
+    omega (arith, at-narrow-at3 .narrow-at3 .ensures, count-size (at-args .args .sheet .now) (at-args .args .p) (at-args .pre .6))
 
 put-chain-requires : tie.Need-put-chain-requires
-put-chain-requires c κs = (omega (arith, c .before .before .before .before .before .before .before .before .before .before .before .before .before .before .before .before .before .before .before .before .before .before .before .before .pre .0), omega (arith, c .before .before .before .before .before .before .before .before .before .before .before .before .before .before .before .before .before .if1 .left, c .before .before .before .before .before .before .before .before .before .before .before .before .before .before .before .before .before .before .narrow-at3 .ensures, count-size (c .before .before .before .before .before .before .before .before .before .before .before .before .before .before .before .before .before .before .before .before .before .before .before .before .args .sheet .now) (c .before .before .before .before .before .before .before .before .before .before .before .before .before .before .before .before .before .before .before .before .before .before .before .before .args .p) (c .before .before .before .before .before .before .before .before .before .before .before .before .before .before .before .before .before .before .before .before .before .before .before .before .pre .6)), omega (arith, c .before .before .before .before .before .before .before .before .before .before .before .before .before .before .before .before .before .before .narrow-at3 .ensures, count-size (c .before .before .before .before .before .before .before .before .before .before .before .before .before .before .before .before .before .before .before .before .before .before .before .before .args .sheet .now) (c .before .before .before .before .before .before .before .before .before .before .before .before .before .before .before .before .before .before .before .before .before .before .before .before .args .p) (c .before .before .before .before .before .before .before .before .before .before .before .before .before .before .before .before .before .before .before .before .before .before .before .before .pre .6)), c .before .before .before .before .before .before .before .before .before .before .before .before .before .before .before .before .before .before .before .before .before .before .before .before .pre .3, c .before .before .before .before .before .before .before .before .before .before .before .before .before .before .before .before .before .before .before .before .before .before .before .before .pre .4, omega (arith, c .before .before .before .before .before .before .before .before .before .before .before .before .before .before .add-words .ensures .1, c .before .before .before .before .before .before .before .before .before .before .before .before .before .before .before .before .before .before .before .before .before .before .before .before .pre .5))
+put-chain-requires c κs =
+    let at-add-words = c .before .before .before .before .before .before .before .before .before .before .before .before .before .before in
+    let at-if1 = at-add-words .before .before .before in
+    let at-narrow-at3 = at-if1 .before in
+    let at-pre = at-narrow-at3 .before .before .before .before .before .before in (
+      omega (arith, at-pre .pre .0),
+      omega (
+        arith,
+        at-if1 .if1 .left,
+        at-narrow-at3 .narrow-at3 .ensures,
+        count-size (at-pre .args .sheet .now) (at-pre .args .p) (at-pre .pre .6),
+      ),
+      omega (arith, at-narrow-at3 .narrow-at3 .ensures, count-size (at-pre .args .sheet .now) (at-pre .args .p) (at-pre .pre .6)),
+      at-pre .pre .3,
+      at-pre .pre .4,
+      omega (arith, at-add-words .add-words .ensures .1, at-pre .pre .5),
+    )
 
 sub-result : tie.Need-sub-result
-sub-result c = omega (arith, c .before .before .before .before .before .before .before .before .before .before .before .before .before .before .before .before .before .before .before .before .if1 .left, c .before .before .before .before .before .before .before .before .before .before .before .before .before .before .before .before .before .before .before .before .before .narrow-at3 .ensures, count-size (c .before .before .before .before .before .before .before .before .before .before .before .before .before .before .before .before .before .before .before .before .before .before .before .before .before .before .before .args .sheet .now) (c .before .before .before .before .before .before .before .before .before .before .before .before .before .before .before .before .before .before .before .before .before .before .before .before .before .before .before .args .p) (c .before .before .before .before .before .before .before .before .before .before .before .before .before .before .before .before .before .before .before .before .before .before .before .before .before .before .before .pre .6))
+sub-result c =
+    let before-10 = c .before .before .before .before .before .before .before .before .before .before in
+    let at-if1 = before-10 .before .before .before .before .before .before .before .before .before .before in
+    let at-narrow-at3 = at-if1 .before in
+    let at-args = at-narrow-at3 .before .before .before .before .before .before in
+    omega (arith, at-if1 .if1 .left, at-narrow-at3 .narrow-at3 .ensures, count-size (at-args .args .sheet .now) (at-args .args .p) (at-args .pre .6))
 
 add-result : tie.Need-add-result
-add-result c = omega (arith, c .before .before .before .before .before .before .before .before .before .before .before .before .before .before .before .before .before .before .before .before .before .narrow-at3 .ensures, count-size (c .before .before .before .before .before .before .before .before .before .before .before .before .before .before .before .before .before .before .before .before .before .before .before .before .before .before .before .args .sheet .now) (c .before .before .before .before .before .before .before .before .before .before .before .before .before .before .before .before .before .before .before .before .before .before .before .before .before .before .before .args .p) (c .before .before .before .before .before .before .before .before .before .before .before .before .before .before .before .before .before .before .before .before .before .before .before .before .before .before .before .pre .6), c .before .before .before .before .before .before .before .before .before .before .before .before .before .before .before .before .before .add-words .ensures .1, c .before .before .before .before .before .before .before .before .before .before .before .before .before .before .before .before .before .before .before .before .before .before .before .before .before .before .before .pre .5)
+add-result c =
+    let before-9 = c .before .before .before .before .before .before .before .before .before in
+    let at-add-words = before-9 .before .before .before .before .before .before .before .before in
+    let at-narrow-at3 = at-add-words .before .before .before .before in
+    let at-args = at-narrow-at3 .before .before .before .before .before .before in
+    omega (
+      arith,
+      at-narrow-at3 .narrow-at3 .ensures,
+      count-size (at-args .args .sheet .now) (at-args .args .p) (at-args .pre .6),
+      at-add-words .add-words .ensures .1,
+      at-args .pre .5,
+    )
 
 same-length-2 : tie.Need-same-length-2
 same-length-2 c = search needs
@@ -102,14 +174,27 @@ same-length-3 c = search needs
 
 returns-2 : tie.Need-returns-2
 returns-2 c =
-    let z = count-size (c .before .before .before .before .before .before .before .before .before .before .before .before .before .before .before .before .before .before .before .before .before .before .before .before .before .before .before .args .sheet .now) (c .before .before .before .before .before .before .before .before .before .before .before .before .before .before .before .before .before .before .before .before .before .before .before .before .before .before .before .args .p) (c .before .before .before .before .before .before .before .before .before .before .before .before .before .before .before .before .before .before .before .before .before .before .before .before .before .before .before .pre .6) in
-    let rest = rw (c .before .before .before .before .before .before .before .before .before .before .before .before .before .before .before .before .before .before .before .before .before .narrow-at3 .ensures) at (c .before .before .before .before .before .before .before .before .before .top-of .ensures) in
-    let put = rw (c .before .before .before .before .before .before .before .before .before .before .before .before .before .before .before .before .before .before .before .before .before .before .before .narrow-at .ensures, c .before .before .before .before .before .before .before .before .before .before .before .before .before .before .before .before .before .before .before .before .before .before .narrow-at2 .ensures) at (c .before .before .before .before .before .before .before .put-rule2 .ensures) in
-    let links = rw (c .before .before .before .before .before .before .before .before .before .before .before .before .before .before .before .before .before .before .before .before .before .narrow-at3 .ensures) at (c .before .before .put-chain .ensures) in (
-      omega (arith, c .before .before .before .before .before .before .before .before .before .before .before .before .before .before .before .before .before .before .before .before .before .narrow-at3 .ensures, z, c .before .before .before .before .before .before .before .before .before .before .before .before .before .before .before .before .before .add-words .ensures .1),
+    let at-put-rule2 = c .before .before .before .before .before .before .before in
+    let at-top-of = at-put-rule2 .before .before in
+    let at-symbol-of = at-top-of .before .before in
+    let at-add-words = at-symbol-of .before .before .before .before .before .before in
+    let at-if1 = at-add-words .before .before .before in
+    let at-narrow-at3 = at-if1 .before in
+    let at-narrow-at2 = at-narrow-at3 .before in
+    let at-narrow-at = at-narrow-at2 .before in
+    let at-args = at-narrow-at .before .before .before .before in
+    let z = count-size (at-args .args .sheet .now) (at-args .args .p) (at-args .pre .6) in
+    let rest = rw (at-narrow-at3 .narrow-at3 .ensures) at (at-top-of .top-of .ensures) in
+    let put = rw (at-narrow-at .narrow-at .ensures, at-narrow-at2 .narrow-at2 .ensures) at (at-put-rule2 .put-rule2 .ensures) in
+    let links = rw (at-narrow-at3 .narrow-at3 .ensures) at (c .before .before .put-chain .ensures) in (
+      omega (arith, at-narrow-at3 .narrow-at3 .ensures, z, at-add-words .add-words .ensures .1),
       λ a hs rs e v.
-          let w = rw (c .before .before .before .before .before .before .before .before .before .before .before .before .before .before .before .before .before .before .before .before .before .narrow-at3 .ensures) at (c .before .before .before .before .before .before .before .before .before .before .before .before .before .before .before .before .before .add-words .ensures .2 a hs rs v) in
-          rw (c .before .before .before .before .before .before .before .before .before .before .before .before .before .before .before .before .before .before .before .before .before .narrow-at3 .ensures) (more-passed (c .before .before .before .before .before .before .before .before .before .before .before .before .before .before .before .before .before .before .before .before .before .before .before .before .before .before .before .args .sheet .now) (c .before .before .before .before .before .before .before .before .before .before .before .before .before .before .before .before .before .before .before .before .before .before .before .before .before .before .before .args .base .symbols) (c .before .before .before .before .before .before .before .before .before .before .before .before .before .before .before .before .before .before .before .before .before .before .before .before .before .before .before .args .base .rules) a hs rs _ (c .before .before .before .before .before .before .before .before .before .before .before .before .before .before .before .before .before .before .before .before .before .before .before .before .before .before .before .args .i) e (c .before .before .before .before .before .before .before .before .before .before .before .before .before .before .before .before .before .before .before .before .before .before .before .before .before .before .before .pre .1) (getD (c .before .before .before .before .before .before .before .before .before .before .before .before .before .before .before .before .before .before .before .before .before .before .before .before .before .before .before .args .sheet .now) (c .before .before .before .before .before .before .before .before .before .before .before .before .before .before .before .before .before .before .before .before .before .before .before .before .before .before .before .args .p) 0) (getD (c .before .before .before .before .before .before .before .before .before .before .before .before .before .before .before .before .before .before .before .before .before .before .before .before .before .before .before .args .sheet .now) (c .before .before .before .before .before .before .before .before .before .before .before .before .before .before .before .before .before .before .before .before .before .before .before .before .before .before .before .args .p + 1) 0) (c .before .before .before .before .before .before .before .before .before .before .before .before .before .before .before .before .before .before .before .before .before .before .before .before .before .before .before .args .p + 3) (countAt (c .before .before .before .before .before .before .before .before .before .before .before .before .before .before .before .before .before .before .before .before .before .before .before .before .before .before .before .args .sheet .now) (c .before .before .before .before .before .before .before .before .before .before .before .before .before .before .before .before .before .before .before .before .before .before .before .before .before .before .before .args .p)) (z .0) (λ q. c .before .before .before .before .before .before .before .before .before .before .before .before .before .before .before .before .before .before .before .before .if1 .left (c .before .before .before .before .before .before .before .before .before .before .before .before .before .before .before .before .before .before .before .before .before .narrow-at3 .ensures ∙ q)) (c .before .before .before .before .before .before .before .before .before .before .before .before .before .before .before .before .before .before .before .before .before .before .before .before .before .before .before .pre .6) w (c .before .before .before .before .before .before .before .before .before .before .before .symbol-of .ensures) rest put links),
+          let w = rw (at-narrow-at3 .narrow-at3 .ensures) at (at-add-words .add-words .ensures .2 a hs rs v) in
+          rw (at-narrow-at3 .narrow-at3 .ensures) (more-passed (at-args .args .sheet .now) (at-args .args .base .symbols) (at-args .args .base .rules) a hs rs _
+          (at-args .args .i) e (at-args .pre .1) (getD (at-args .args .sheet .now) (at-args .args .p) 0)
+          (getD (at-args .args .sheet .now) (at-args .args .p + 1) 0) (at-args .args .p + 3) (countAt (at-args .args .sheet .now) (at-args .args .p))
+          (z .0) (λ q. at-if1 .if1 .left (at-narrow-at3 .narrow-at3 .ensures ∙ q)) (at-args .pre .6) w (at-symbol-of .symbol-of .ensures) rest put
+          links),
     )
 
 pub convert-rule-spec : {M : Type 1} → statement M

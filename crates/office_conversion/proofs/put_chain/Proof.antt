@@ -8,7 +8,8 @@ use Rattle.office_conversion.proofs.put_chain.Statement.{statement}
 use Rattle.office_conversion.proofs.put_chain.Tie as tie
 
 abbrev Inv-loop : tie.InvT-loop
-Inv-loop sheet places p n rules₀ base k j₀ rules j = (j + 1 ≤ n) × (length rules ≡ length rules₀) × (Left sheet places (base .symbols) (base .rules) k p n rules j ≡ Left sheet places (base .symbols) (base .rules) k p n rules₀ 0)
+Inv-loop sheet places p n rules₀ base k j₀ rules j = (j + 1 ≤ n) × (length rules ≡ length rules₀)
+    × (Left sheet places (base .symbols) (base .rules) k p n rules j ≡ Left sheet places (base .symbols) (base .rules) k p n rules₀ 0)
 
 abbrev μ-loop : tie.MeasureT-loop
 μ-loop sheet places p n rules₀ base k j₀ rules j = n - j
@@ -75,16 +76,33 @@ loop-less c = omega arith
 
 loop-again : tie.Need-loop-again Inv-loop μ-loop
 loop-again c =
-    let first = rw (c .before .before .before .before .before .before .before .before .before .wide .ensures .0) at (c .before .before .before .before .before .before .before .before .symbol-of .ensures) in
-    let rest = rw (c .before .before .before .before .before .before .before .before .before .wide .ensures .0) at (c .before .before .before .before .before .before .before .top-of .ensures) in
-    let new = rw (c .before .before .before .before .wide2 .ensures .0) at (c .before .before .put-rule .ensures) in
-    (omega arith, c .before .before .put-rule .kept .0 ∙ c .before .before .before .before .before .before .before .before .before .before .before .loop .inv .1, chain-turn (c .before .before .before .before .before .before .before .before .before .before .before .before .before .before .before .args .sheet .now) (c .before .before .before .before .before .before .before .before .before .before .before .before .before .before .before .args .places .now) (c .before .before .before .before .before .before .before .before .before .before .before .before .before .before .before .args .base .symbols) (c .before .before .before .before .before .before .before .before .before .before .before .before .before .before .before .args .base .rules) (c .before .before .before .before .before .before .before .before .before .before .before .before .before .before .before .args .k) (c .before .before .before .before .before .before .before .before .before .before .before .before .before .before .before .args .p) (c .before .before .before .before .before .before .before .before .before .before .before .before .before .before .before .args .n) (c .before .before .before .before .before .before .before .before .before .before .before .loop .rules) (c .before .before .before .before .before .before .before .before .before .before .before .loop .j) (c .before .before .before .before .before .before .before .before .before .before .loop-test .taken) first rest new ∙ c .before .before .before .before .before .before .before .before .before .before .before .loop .inv .2)
+    let at-wide2 = c .before .before .before .before in
+    let at-top-of = at-wide2 .before .before .before in
+    let at-symbol-of = at-top-of .before in
+    let at-wide = at-symbol-of .before in
+    let at-loop-test = at-wide .before in
+    let at-loop = at-loop-test .before in
+    let at-args = at-loop .before .before .before .before in
+    let first = rw (at-wide .wide .ensures .0) at (at-symbol-of .symbol-of .ensures) in
+    let rest = rw (at-wide .wide .ensures .0) at (at-top-of .top-of .ensures) in
+    let new = rw (at-wide2 .wide2 .ensures .0) at (c .before .before .put-rule .ensures) in (
+      omega arith,
+      c .before .before .put-rule .kept .0 ∙ at-loop .loop .inv .1,
+      chain-turn (at-args .args .sheet .now) (at-args .args .places .now) (at-args .args .base .symbols) (at-args .args .base .rules) (at-args .args .k)
+          (at-args .args .p) (at-args .args .n) (at-loop .loop .rules) (at-loop .loop .j) (at-loop-test .loop-test .taken) first rest new
+          ∙ at-loop .loop .inv .2,
+    )
 
 same-length : tie.Need-same-length Inv-loop μ-loop
 same-length c = c .before .loop .inv .1
 
 returns : tie.Need-returns Inv-loop μ-loop
-returns c = chain-end (c .before .before .before .before .before .args .sheet .now) (c .before .before .before .before .before .args .places .now) (c .before .before .before .before .before .args .base .symbols) (c .before .before .before .before .before .args .base .rules) (c .before .before .before .before .before .args .k) (c .before .before .before .before .before .args .p) (c .before .before .before .before .before .args .n) (c .before .loop .rules) (c .before .loop .j) (omega arith) (omega arith) ∙ c .before .loop .inv .2 ∙ chain-start (c .before .before .before .before .before .args .sheet .now) (c .before .before .before .before .before .args .places .now) (c .before .before .before .before .before .args .base .symbols) (c .before .before .before .before .before .args .base .rules) (c .before .before .before .before .before .args .k) (c .before .before .before .before .before .args .p) (c .before .before .before .before .before .args .n) (c .before .before .before .before .before .args .rules .now)
+returns c =
+    let at-args = c .before .before .before .before .before in
+    chain-end (at-args .args .sheet .now) (at-args .args .places .now) (at-args .args .base .symbols) (at-args .args .base .rules) (at-args .args .k)
+    (at-args .args .p) (at-args .args .n) (c .before .loop .rules) (c .before .loop .j) (omega arith) (omega arith) ∙ c .before .loop .inv .2
+    ∙ chain-start (at-args .args .sheet .now) (at-args .args .places .now) (at-args .args .base .symbols) (at-args .args .base .rules)
+    (at-args .args .k) (at-args .args .p) (at-args .args .n) (at-args .args .rules .now)
 
 pub put-chain-spec : {M : Type 1} → statement M
 put-chain-spec =

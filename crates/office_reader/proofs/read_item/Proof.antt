@@ -28,14 +28,23 @@ refusal-requires c κs = search needs
 
 returns : tie.Need-returns
 unfolding itemFrom
-returns c = rw (missed (numbers (c .before .before .before .before .before .before .args .sheet .now)) _ (c .before .before .before .before .kind-field .ensures .0) (c .before .before .before .number .ensures) (c .before .enum-told .given .1) (c .refusal .ensures))
+returns c =
+    let at-number = c .before .before .before in
+    let at-kind-field = at-number .before in
+    let at-args = at-kind-field .before .before in
+    rw (missed (numbers (at-args .args .sheet .now)) _ (at-kind-field .kind-field .ensures .0) (at-number .number .ensures) (c .before .enum-told .given .1)
+    (c .refusal .ensures))
 
 -- the kind that was read
 abbrev start : tie.After-known-told → tie.Start
 start c = c .before .before .before .before .before .before
 
-kind-read : (c : tie.After-known-told) → fieldAt (numbers (start c .args .sheet .now)) (start c .args .at) (itemKind (start c .args .count)) ≡ parsed (c .before .read .given .0 .0) (c .before .read .given .0 .1 .0 .at)
-kind-read c = got (numbers (start c .args .sheet .now)) _ (c .before .before .before .before .kind-field .ensures .0) (c .before .before .before .number .ensures) (c .before .read .given .1)
+kind-read : (c : tie.After-known-told) → fieldAt (numbers (start c .args .sheet .now)) (start c .args .at) (itemKind (start c .args .count))
+    ≡ parsed (c .before .read .given .0 .0) (c .before .read .given .0 .1 .0 .at)
+kind-read c =
+    let at-number = c .before .before .before in
+    let at-kind-field = at-number .before in
+    got (numbers (start c .args .sheet .now)) _ (at-kind-field .kind-field .ensures .0) (at-number .number .ensures) (c .before .read .given .1)
 
 kind-near : (c : tie.After-known-told) → c .before .read .given .0 .1 .0 .at ≡ start c .args .at + 1
 kind-near c = sym (field-at-numbers-out (start c .args .sheet .now) (start c .args .at) (itemKind (start c .args .count)) (kind-read c) .2)
@@ -57,11 +66,29 @@ refusal-requires-2 c κs = search needs
 
 returns-2 : tie.Need-returns-2
 unfolding itemFrom
-returns-2 c = rw (kind-read (c .before .before .before .before .before), missed (numbers (c .before .before .before .before .before .before .before .before .before .before .before .args .sheet .now)) _ (c .before .before .before .before .first-of .ensures .0) (c .before .before .before .number2 .ensures) (c .before .enum-told2 .given .1) (c .refusal2 .ensures))
+returns-2 c =
+    let at-number2 = c .before .before .before in
+    let at-first-of = at-number2 .before in
+    let before-5 = at-first-of .before in
+    let at-args = before-5 .before .before .before .before .before .before in
+    rw (
+      kind-read (before-5),
+      missed (numbers (at-args .args .sheet .now)) _ (at-first-of .first-of .ensures .0) (at-number2 .number2 .ensures)
+          (c .before .enum-told2 .given .1) (c .refusal2 .ensures),
+    )
 
 returns-3 : tie.Need-returns-3
 unfolding itemFrom
-returns-3 c = rw (kind-read (c .before .before .before .before .before), got (numbers (c .before .before .before .before .before .before .before .before .before .before .before .args .sheet .now)) _ (c .before .before .before .before .first-of .ensures .0) (c .before .before .before .number2 .ensures) (c .before .read2 .given .1))
+returns-3 c =
+    let at-number2 = c .before .before .before in
+    let at-first-of = at-number2 .before in
+    let before-5 = at-first-of .before in
+    let at-args = before-5 .before .before .before .before .before .before in
+    rw (
+      kind-read (before-5),
+      got (numbers (at-args .args .sheet .now)) _ (at-first-of .first-of .ensures .0) (at-number2 .number2 .ensures)
+          (c .before .read2 .given .1),
+    )
 
 pub read-item-spec : {M : Type 1} → statement M
 read-item-spec =

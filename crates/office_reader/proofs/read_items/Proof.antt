@@ -28,7 +28,13 @@ enum-known-n : tie.Need-enum-known-n Inv-loop μ-loop
 enum-known-n c = search needs
 
 returns : tie.Need-returns Inv-loop μ-loop
-returns c = sym (items-stop (c .before .before .before .before .before .before .before .args .sheet .now) (c .before .before .before .before .before .before .before .args .v .symbols) (c .before .before .before .before .before .before .before .args .v .words) (c .before .before .before .before .before .before .before .args .count) (c .before .before .before .before .before .loop .i) (c .before .before .before .before .before .loop .at) (c .before .before .before .before .loop-test .taken) (c .before .before .before .read-item .ensures) (c .before .n .given .1)) ∙ c .before .before .before .before .before .loop .inv .2
+returns c =
+    let at-read-item = c .before .before .before in
+    let at-loop-test = at-read-item .before in
+    let at-loop = at-loop-test .before in
+    let at-args = at-loop .before .before in
+    sym (items-stop (at-args .args .sheet .now) (at-args .args .v .symbols) (at-args .args .v .words) (at-args .args .count) (at-loop .loop .i)
+    (at-loop .loop .at) (at-loop-test .loop-test .taken) (at-read-item .read-item .ensures) (c .before .n .given .1)) ∙ at-loop .loop .inv .2
 
 enum-known-next : tie.Need-enum-known-next Inv-loop μ-loop
 enum-known-next c = search needs
@@ -40,11 +46,26 @@ loop-less : tie.Need-loop-less Inv-loop μ-loop
 loop-less c = omega arith
 
 loop-again : tie.Need-loop-again Inv-loop μ-loop
-loop-again c = let end = item-end (c .before .before .before .before .before .before .before .args .sheet .now) (c .before .before .before .before .before .before .before .args .v .symbols) (c .before .before .before .before .before .before .before .args .v .words) (c .before .before .before .before .before .before .before .args .count) (c .before .before .before .before .before .loop .i) (c .before .before .before .before .before .loop .at) (c .before .before .before .before .loop-test .taken) (c .before .before .before .read-item .ensures) (c .before .before .before .before .before .before .before .pre .2 .some-symbol) (c .before .before .before .before .before .before .before .pre .2 .some-word) (c .before .next .given .1) in
-    (omega arith, omega arith, sym (items-go-on (c .before .before .before .before .before .before .before .args .sheet .now) (c .before .before .before .before .before .before .before .args .v .symbols) (c .before .before .before .before .before .before .before .args .v .words) (c .before .before .before .before .before .before .before .args .count) (c .before .before .before .before .before .loop .i) (c .before .before .before .before .before .loop .at) (c .before .before .before .before .loop-test .taken) (c .before .before .before .read-item .ensures) (c .before .next .given .1)) ∙ c .before .before .before .before .before .loop .inv .2)
+loop-again c =
+    let at-read-item = c .before .before .before in
+    let at-loop-test = at-read-item .before in
+    let at-loop = at-loop-test .before in
+    let at-args = at-loop .before .before in
+    let end = item-end (at-args .args .sheet .now) (at-args .args .v .symbols) (at-args .args .v .words) (at-args .args .count) (at-loop .loop .i)
+    (at-loop .loop .at) (at-loop-test .loop-test .taken) (at-read-item .read-item .ensures) (at-args .pre .2 .some-symbol) (at-args .pre .2 .some-word)
+    (c .before .next .given .1) in (
+      omega arith,
+      omega arith,
+      sym (items-go-on (at-args .args .sheet .now) (at-args .args .v .symbols) (at-args .args .v .words) (at-args .args .count)
+          (at-loop .loop .i) (at-loop .loop .at) (at-loop-test .loop-test .taken) (at-read-item .read-item .ensures) (c .before .next .given .1))
+          ∙ at-loop .loop .inv .2,
+    )
 
 returns-2 : tie.Need-returns-2 Inv-loop μ-loop
-returns-2 c = sym (items-end (c .before .before .before .args .sheet .now) (c .before .before .before .args .v .symbols) (c .before .before .before .args .v .words) (c .before .before .before .args .count) (c .before .loop .i) (c .before .loop .at) (omega arith)) ∙ c .before .loop .inv .2
+returns-2 c =
+    let at-args = c .before .before .before in
+    sym (items-end (at-args .args .sheet .now) (at-args .args .v .symbols) (at-args .args .v .words) (at-args .args .count) (c .before .loop .i)
+    (c .before .loop .at) (omega arith)) ∙ c .before .loop .inv .2
 
 pub read-items-spec : {M : Type 1} → statement M
 read-items-spec =

@@ -21,7 +21,13 @@ abbrev μ-loop : tie.MeasureT-loop
 
 loop-holds : tie.Need-loop-holds Inv-loop μ-loop
 unfolding behindAll
-loop-holds c = (omega arith, refl, omega arith, rules-start (c .before .args .sheet .now) (c .before .args .v .symbols) (c .before .args .v .words) (c .before .args .count))
+loop-holds c = (
+  omega arith,
+  refl,
+  omega arith,
+  rules-start (c .before .args .sheet .now) (c .before .args .v .symbols) (c .before .args .v .words)
+      (c .before .args .count),
+)
 
 read-rule-requires : tie.Need-read-rule-requires Inv-loop μ-loop
 read-rule-requires c κs = (omega arith, c .before .before .before .pre .1)
@@ -30,7 +36,14 @@ enum-known-n : tie.Need-enum-known-n Inv-loop μ-loop
 enum-known-n c = search needs
 
 returns : tie.Need-returns Inv-loop μ-loop
-returns c = sym (rules-stop (c .before .before .before .before .before .before .before .args .sheet .now) (c .before .before .before .before .before .before .before .args .v .symbols) (c .before .before .before .before .before .before .before .args .v .words) (c .before .before .before .before .before .before .before .args .count) (c .before .before .before .before .before .loop .i) (c .before .before .before .before .before .loop .at) (c .before .before .before .before .loop-test .taken) (c .before .before .before .before .before .loop .inv .1) (c .before .before .before .read-rule .ensures) (c .before .n .given .1)) ∙ c .before .before .before .before .before .loop .inv .3
+returns c =
+    let at-read-rule = c .before .before .before in
+    let at-loop-test = at-read-rule .before in
+    let at-loop = at-loop-test .before in
+    let at-args = at-loop .before .before in
+    sym (rules-stop (at-args .args .sheet .now) (at-args .args .v .symbols) (at-args .args .v .words) (at-args .args .count) (at-loop .loop .i)
+    (at-loop .loop .at) (at-loop-test .loop-test .taken) (at-loop .loop .inv .1) (at-read-rule .read-rule .ensures) (c .before .n .given .1))
+    ∙ at-loop .loop .inv .3
 
 enum-known-next : tie.Need-enum-known-next Inv-loop μ-loop
 enum-known-next c = search needs
@@ -39,7 +52,15 @@ seen-requires : tie.Need-seen-requires Inv-loop μ-loop
 seen-requires c κs = omega arith
 
 returns-2 : tie.Need-returns-2 Inv-loop μ-loop
-returns-2 c = sym (rules-repeat (c .before .before .before .before .before .before .before .before .before .args .sheet .now) (c .before .before .before .before .before .before .before .before .before .args .v .symbols) (c .before .before .before .before .before .before .before .before .before .args .v .words) (c .before .before .before .before .before .before .before .before .before .args .count) (c .before .before .before .before .before .before .before .loop .i) (c .before .before .before .before .before .before .before .loop .at) (c .before .before .before .before .before .before .loop-test .taken) (c .before .before .before .before .before .before .before .loop .inv .1) (c .before .before .before .before .before .read-rule .ensures) (c .before .before .before .before .before .before .before .before .before .pre .1 .some-symbol) (c .before .before .before .before .before .before .before .before .before .pre .1 .some-word) (c .before .before .before .next .given .1) (sym (c .if1 .taken) ∙ c .before .seen .ensures)) ∙ c .before .before .before .before .before .before .before .loop .inv .3
+returns-2 c =
+    let at-next = c .before .before .before in
+    let at-read-rule = at-next .before .before in
+    let at-loop-test = at-read-rule .before in
+    let at-loop = at-loop-test .before in
+    let at-args = at-loop .before .before in
+    sym (rules-repeat (at-args .args .sheet .now) (at-args .args .v .symbols) (at-args .args .v .words) (at-args .args .count) (at-loop .loop .i)
+    (at-loop .loop .at) (at-loop-test .loop-test .taken) (at-loop .loop .inv .1) (at-read-rule .read-rule .ensures) (at-args .pre .1 .some-symbol)
+    (at-args .pre .1 .some-word) (at-next .next .given .1) (sym (c .if1 .taken) ∙ c .before .seen .ensures)) ∙ at-loop .loop .inv .3
 
 add-i : tie.Need-add-i Inv-loop μ-loop
 add-i c = omega arith
@@ -49,11 +70,28 @@ loop-less c = omega arith
 
 loop-again : tie.Need-loop-again Inv-loop μ-loop
 loop-again c =
-    let end = rule-end (c .before .before .before .before .before .before .before .before .before .args .sheet .now) (c .before .before .before .before .before .before .before .before .before .args .v .symbols) (c .before .before .before .before .before .before .before .before .before .args .v .words) (c .before .before .before .before .before .before .before .before .before .args .count) (c .before .before .before .before .before .before .before .loop .i) (c .before .before .before .before .before .before .before .loop .at) (c .before .before .before .before .before .before .loop-test .taken) (c .before .before .before .before .before .before .before .loop .inv .1) (c .before .before .before .before .before .read-rule .ensures) (c .before .before .before .before .before .before .before .before .before .pre .1 .some-symbol) (c .before .before .before .before .before .before .before .before .before .pre .1 .some-word) (c .before .before .before .next .given .1) in
-    (omega arith, end .0, omega (arith, end .1), sym (rules-go-on (c .before .before .before .before .before .before .before .before .before .args .sheet .now) (c .before .before .before .before .before .before .before .before .before .args .v .symbols) (c .before .before .before .before .before .before .before .before .before .args .v .words) (c .before .before .before .before .before .before .before .before .before .args .count) (c .before .before .before .before .before .before .before .loop .i) (c .before .before .before .before .before .before .before .loop .at) (c .before .before .before .before .before .before .loop-test .taken) (c .before .before .before .before .before .before .before .loop .inv .1) (c .before .before .before .before .before .read-rule .ensures) (c .before .before .before .before .before .before .before .before .before .pre .1 .some-symbol) (c .before .before .before .before .before .before .before .before .before .pre .1 .some-word) (c .before .before .before .next .given .1) (sym (c .if1 .left) ∙ c .before .seen .ensures)) ∙ c .before .before .before .before .before .before .before .loop .inv .3)
+    let at-next = c .before .before .before in
+    let at-read-rule = at-next .before .before in
+    let at-loop-test = at-read-rule .before in
+    let at-loop = at-loop-test .before in
+    let at-args = at-loop .before .before in
+    let end = rule-end (at-args .args .sheet .now) (at-args .args .v .symbols) (at-args .args .v .words) (at-args .args .count) (at-loop .loop .i)
+    (at-loop .loop .at) (at-loop-test .loop-test .taken) (at-loop .loop .inv .1) (at-read-rule .read-rule .ensures) (at-args .pre .1 .some-symbol)
+    (at-args .pre .1 .some-word) (at-next .next .given .1) in (
+      omega arith,
+      end .0,
+      omega (arith, end .1),
+      sym
+          (rules-go-on (at-args .args .sheet .now) (at-args .args .v .symbols) (at-args .args .v .words) (at-args .args .count) (at-loop .loop .i)
+          (at-loop .loop .at) (at-loop-test .loop-test .taken) (at-loop .loop .inv .1) (at-read-rule .read-rule .ensures) (at-args .pre .1 .some-symbol)
+          (at-args .pre .1 .some-word) (at-next .next .given .1) (sym (c .if1 .left) ∙ c .before .seen .ensures)) ∙ at-loop .loop .inv .3,
+    )
 
 returns-3 : tie.Need-returns-3 Inv-loop μ-loop
-returns-3 c = sym (rules-end (c .before .before .before .args .sheet .now) (c .before .before .before .args .v .symbols) (c .before .before .before .args .v .words) (c .before .before .before .args .count) (c .before .loop .i) (c .before .loop .at) (omega arith)) ∙ c .before .loop .inv .3
+returns-3 c =
+    let at-args = c .before .before .before in
+    sym (rules-end (at-args .args .sheet .now) (at-args .args .v .symbols) (at-args .args .v .words) (at-args .args .count) (c .before .loop .i)
+    (c .before .loop .at) (omega arith)) ∙ c .before .loop .inv .3
 
 pub read-rules-spec : {M : Type 1} → statement M
 read-rules-spec =

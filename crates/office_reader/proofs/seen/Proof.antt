@@ -10,7 +10,8 @@ use Rattle.office_reader.proofs.seen.Statement.{statement}
 use Rattle.office_reader.proofs.seen.Tie as tie
 
 abbrev Inv-loop : tie.InvT-loop
-Inv-loop sheet n at p₀ i₀ p i = (i ≤ n) × (p ≤ 3 + 8589934600 * i) × (Among sheet at n i p ≡ anyLike ruleAlike (officeRuleAt sheet at) (officeRulesAt sheet 3 n))
+Inv-loop sheet n at p₀ i₀ p i = (i ≤ n) × (p ≤ 3 + 8589934600 * i)
+    × (Among sheet at n i p ≡ anyLike ruleAlike (officeRuleAt sheet at) (officeRulesAt sheet 3 n))
 
 abbrev μ-loop : tie.MeasureT-loop
 μ-loop sheet n at p₀ i₀ p i = n - i
@@ -22,7 +23,11 @@ same-rule-requires : tie.Need-same-rule-requires Inv-loop μ-loop
 same-rule-requires c κs = omega arith
 
 returns : tie.Need-returns Inv-loop μ-loop
-returns c = sym (among-found (c .before .before .before .before .before .args .sheet .now) (c .before .before .before .before .before .args .at) (c .before .before .before .before .before .args .n) (c .before .before .before .loop .i) (c .before .before .before .loop .p) (c .before .before .loop-test .taken) (c .before .same-rule .ensures) (c .if1 .taken)) ∙ c .before .before .before .loop .inv .2
+returns c =
+    let at-loop = c .before .before .before in
+    let at-args = at-loop .before .before in
+    sym (among-found (at-args .args .sheet .now) (at-args .args .at) (at-args .args .n) (at-loop .loop .i) (at-loop .loop .p)
+    (c .before .before .loop-test .taken) (c .before .same-rule .ensures) (c .if1 .taken)) ∙ at-loop .loop .inv .2
 
 add-p : tie.Need-add-p Inv-loop μ-loop
 add-p c = omega arith
@@ -46,10 +51,23 @@ loop-less : tie.Need-loop-less Inv-loop μ-loop
 loop-less c = omega arith
 
 loop-again : tie.Need-loop-again Inv-loop μ-loop
-loop-again c = (omega arith, omega arith, rw (c .number-at .ensures .0) (sym (among-on (c .before .before .before .before .before .before .args .sheet .now) (c .before .before .before .before .before .before .args .at) (c .before .before .before .before .before .before .args .n) (c .before .before .before .before .loop .i) (c .before .before .before .before .loop .p) (c .before .before .before .loop-test .taken) (c .before .before .same-rule .ensures) (c .before .if1 .left)) ∙ c .before .before .before .before .loop .inv .2))
+loop-again c =
+    let at-loop-test = c .before .before .before in
+    let at-loop = at-loop-test .before in
+    let at-args = at-loop .before .before in (
+      omega arith,
+      omega arith,
+      rw (c .number-at .ensures .0)
+          (sym (among-on (at-args .args .sheet .now) (at-args .args .at) (at-args .args .n) (at-loop .loop .i) (at-loop .loop .p)
+          (at-loop-test .loop-test .taken)
+          (c .before .before .same-rule .ensures) (c .before .if1 .left)) ∙ at-loop .loop .inv .2),
+    )
 
 returns-2 : tie.Need-returns-2 Inv-loop μ-loop
-returns-2 c = sym (among-end (c .before .before .before .args .sheet .now) (c .before .before .before .args .at) (c .before .before .before .args .n) (c .before .loop .i) (c .before .loop .p) (omega arith)) ∙ c .before .loop .inv .2
+returns-2 c =
+    let at-args = c .before .before .before in
+    sym (among-end (at-args .args .sheet .now) (at-args .args .at) (at-args .args .n) (c .before .loop .i) (c .before .loop .p) (omega arith))
+    ∙ c .before .loop .inv .2
 
 pub seen-spec : {M : Type 1} → statement M
 seen-spec =

@@ -28,7 +28,10 @@ in-range-requires c κs = search needs
 
 returns : tie.Need-returns
 unfolding fieldAt
-returns c = rw (c .before .before .before .before .before .src .given .1, ← c .before .before .before .has-field .ensures, c .before .before .if1 .taken, ← c .before .read-field .ensures) (c .in-range .ensures)
+returns c =
+    let at-has-field = c .before .before .before in
+    let at-src = at-has-field .before .before in
+    rw (at-src .src .given .1, ← at-has-field .has-field .ensures, c .before .before .if1 .taken, ← c .before .read-field .ensures) (c .in-range .ensures)
 
 enum-told : tie.Need-enum-told
 enum-told c = search needs

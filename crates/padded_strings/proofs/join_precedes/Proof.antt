@@ -34,7 +34,8 @@ returns c =
     let at-start = at-loop .before .before .before .before in
     let a = at-start .args in
     let n = join-size (a .a .now) (a .b .now) (a .i) (search needs) (search needs) (search needs) in
-    compared-less (join (a .a .now) (a .b .now) (a .i)) (a .best .now) (at-loop .loop .x) (at-loop .loop .inv .1) (omega (arith, n, at-loop-test .loop-test .taken)) (search needs) (omega (arith, at-join-at .join-at .ensures, c .if1 .taken))
+    compared-less (join (a .a .now) (a .b .now) (a .i)) (a .best .now) (at-loop .loop .x) (at-loop .loop .inv .1)
+    (omega (arith, n, at-loop-test .loop-test .taken)) (search needs) (omega (arith, at-join-at .join-at .ensures, c .if1 .taken))
 
 returns-2 : tie.Need-returns-2 Inv-loop μ-loop
 returns-2 c =
@@ -44,7 +45,8 @@ returns-2 c =
     let at-start = at-loop .before .before .before .before in
     let a = at-start .args in
     let n = join-size (a .a .now) (a .b .now) (a .i) (search needs) (search needs) (search needs) in
-    compared-more (join (a .a .now) (a .b .now) (a .i)) (a .best .now) (at-loop .loop .x) (at-loop .loop .inv .1) (omega (arith, n, at-loop-test .loop-test .taken)) (search needs) (omega (arith, at-join-at .join-at .ensures, c .if2 .taken))
+    compared-more (join (a .a .now) (a .b .now) (a .i)) (a .best .now) (at-loop .loop .x) (at-loop .loop .inv .1)
+    (omega (arith, n, at-loop-test .loop-test .taken)) (search needs) (omega (arith, at-join-at .join-at .ensures, c .if2 .taken))
 
 add-x : tie.Need-add-x Inv-loop μ-loop
 add-x c = search needs
@@ -59,14 +61,20 @@ loop-again c =
     let at-loop = at-loop-test .before in
     let at-start = at-loop .before .before .before .before in
     let a = at-start .args in
-    let n = join-size (a .a .now) (a .b .now) (a .i) (search needs) (search needs) (search needs) in
-    (search needs, compared-on (join (a .a .now) (a .b .now) (a .i)) (a .best .now) (at-loop .loop .x) (at-loop .loop .inv .1) (omega (arith, n, at-loop-test .loop-test .taken)) (search needs) (omega (arith, at-join-at .join-at .ensures, c .before .if1 .left)) (omega (arith, at-join-at .join-at .ensures, c .if2 .left)))
+    let n = join-size (a .a .now) (a .b .now) (a .i) (search needs) (search needs) (search needs) in (
+      search needs,
+      compared-on (join (a .a .now) (a .b .now) (a .i)) (a .best .now) (at-loop .loop .x) (at-loop .loop .inv .1)
+          (omega (arith, n, at-loop-test .loop-test .taken)) (search needs) (omega (arith, at-join-at .join-at .ensures, c .before .if1 .left))
+          (omega (arith, at-join-at .join-at .ensures, c .if2 .left)),
+    )
 
 returns-3 : tie.Need-returns-3 Inv-loop μ-loop
 returns-3 c =
-    let a = c .before .before .before .before .before .args in
+    let at-args = c .before .before .before .before .before in
+    let a = at-args .args in
     let n = join-size (a .a .now) (a .b .now) (a .i) (search needs) (search needs) (search needs) in
-    compared-end (join (a .a .now) (a .b .now) (a .i)) (a .best .now) (c .before .loop .x) (c .before .loop .inv .1) (omega (arith, n, c .loop-test .left)) (search needs)
+    compared-end (join (a .a .now) (a .b .now) (a .i)) (a .best .now) (c .before .loop .x) (c .before .loop .inv .1) (omega (arith, n, c .loop-test .left))
+    (search needs)
 
 pub join-precedes-spec : {M : Type 1} → statement M
 join-precedes-spec =

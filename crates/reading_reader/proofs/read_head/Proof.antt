@@ -28,14 +28,16 @@ enum-told c = search needs
 returns : tie.Need-returns
 unfolding headFrom
 returns c =
-    let e = refused-out (fieldAt (source (c .before .before .before .before)) 0 (blockKind 3 32)) (sym (c .before .before .number .ensures) ∙ c .enum-told .given .1) in
+    let before-4 = c .before .before .before .before in
+    let e = refused-out (fieldAt (source (before-4)) 0 (blockKind 3 32)) (sym (c .before .before .number .ensures) ∙ c .enum-told .given .1) in
     rw e (c .enum-told .given .1)
 
 -- the kind that was read
 abbrev start : tie.After-known-told → tie.Start
 start c = c .before .before .before .before .before
 
-kind-read : (c : tie.After-known-told) → fieldAt (source (start c)) 0 (blockKind 3 32) ≡ parsed (c .before .kind .given .0 .0) (c .before .kind .given .0 .1 .0 .at)
+kind-read : (c : tie.After-known-told) → fieldAt (source (start c)) 0 (blockKind 3 32)
+    ≡ parsed (c .before .kind .given .0 .0) (c .before .kind .given .0 .1 .0 .at)
 kind-read c = number-told _ (c .before .before .before .number .ensures) (c .before .kind .given .1)
 
 kind-near : (c : tie.After-known-told) → c .before .kind .given .0 .1 .0 .at ≤ 4
@@ -60,7 +62,8 @@ returns-2 : tie.Need-returns-2
 unfolding headFrom
 returns-2 c =
     let k = c .before .before .before in
-    let e = refused-out (fieldAt (source (start k)) _ (readingSlots (start k .args .n))) (sym (c .before .before .number2 .ensures) ∙ c .enum-told2 .given .1) in
+    let e = refused-out (fieldAt (source (start k)) _ (readingSlots (start k .args .n)))
+    (sym (c .before .before .number2 .ensures) ∙ c .enum-told2 .given .1) in
     rw (kind-read k, e) (c .enum-told2 .given .1)
 
 -- n that was read
@@ -69,7 +72,8 @@ kind-before c = c .before .before .before .before
 
 slots-read : (c : tie.After-known-told2) →
     let k = kind-before c in
-    fieldAt (source (start k)) (k .before .kind .given .0 .1 .0 .at) (readingSlots (start k .args .n)) ≡ parsed (c .before .found .given .0 .0) (c .before .found .given .0 .1 .0 .at)
+    fieldAt (source (start k)) (k .before .kind .given .0 .1 .0 .at) (readingSlots (start k .args .n))
+    ≡ parsed (c .before .found .given .0 .0) (c .before .found .given .0 .1 .0 .at)
 slots-read c = number-told _ (c .before .before .before .number2 .ensures) (c .before .found .given .1)
 
 number-requires-3 : tie.Need-number-requires-3

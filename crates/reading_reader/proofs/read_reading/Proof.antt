@@ -78,7 +78,8 @@ same-length c = omega arith
 
 returns-2 : tie.Need-returns-2 Inv-loop μ-loop
 returns-2 c =
-    let at-loop-test = c .before .before .before .before in
+    let at-read-number = c .before .before .before in
+    let at-loop-test = at-read-number .before in
     let at-loop = at-loop-test .before in
     let at-head = at-loop .before .before in
     let at-read-head = at-head .before .before in
@@ -87,7 +88,7 @@ returns-2 c =
     let s = a .block .now in
     let l = at-loop .loop in
     let h = number-out (headFrom (a .n) s) (sym (at-read-head .read-head .ensures) ∙ at-head .head .given .1) in
-    let e = refused-out (fieldAt (bytes 31 s) (l .at) (ruleNumber (a .rules))) (sym (c .before .before .before .read-number .ensures) ∙ c .before .enum-told2 .given .1) in
+    let e = refused-out (fieldAt (bytes 31 s) (l .at) (ruleNumber (a .rules))) (sym (at-read-number .read-number .ensures) ∙ c .before .enum-told2 .given .1) in
     let f = walk-failed (a .rules) s (2 * a .n - 1) (l .i) (l .at) (l .walk) (at-loop-test .loop-test .taken) e in
     rw (head-parsed (a .n) (a .rules) s h (sym (l .inv .3) ∙ f)) (ap Refused (c .refusal2 .ensures ∙ ap refusalOf (c .before .enum-told2 .given .1)), tt, tt)
 
@@ -105,13 +106,14 @@ loop-less c = omega arith
 
 loop-again : tie.Need-loop-again Inv-loop μ-loop
 loop-again c =
-    let at-loop-test = c .before .before .before .before in
+    let at-read-number = c .before .before .before in
+    let at-loop-test = at-read-number .before in
     let at-loop = at-loop-test .before in
     let at-start = at-loop .before .before .before .before .before .before .before in
     let a = at-start .args in
     let s = a .block .now in
     let l = at-loop .loop in
-    let e = number-out (fieldAt (bytes 31 s) (l .at) (ruleNumber (a .rules))) (sym (c .before .before .before .read-number .ensures) ∙ c .before .found .given .1) in
+    let e = number-out (fieldAt (bytes 31 s) (l .at) (ruleNumber (a .rules))) (sym (at-read-number .read-number .ensures) ∙ c .before .found .given .1) in
     let w = byte-width (a .rules) (omega arith) in
     let n = field-at-next (ruleNumber (a .rules)) (bytes 31 s) (l .at) 8 w (omega arith) e in (
       omega arith,

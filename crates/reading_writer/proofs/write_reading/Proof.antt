@@ -45,8 +45,10 @@ returns c =
     let at-slice-known = at-write-field .before .before .before in
     let at-start = at-slice-known .before in
     let a = at-start .args in
-    reading-written (a .rules) (a .n) (a .weight) (a .trace .now) (a .out .now) (omega (arith, at-start .pre)) (omega (arith, at-start .pre)) (λ i. at-slice-known .slice-known .given i .fits)
-    (at-write-field .write-field .ensures) (at-write-field2 .write-field2 .ensures) (at-write-field3 .write-field3 .ensures) (c .before .before .write-walk .ensures)
+    reading-written (a .rules) (a .n) (a .weight) (a .trace .now) (a .out .now) (omega (arith, at-start .pre)) (omega (arith, at-start .pre))
+    (λ i. at-slice-known .slice-known .given i .fits)
+    (at-write-field .write-field .ensures) (at-write-field2 .write-field2 .ensures) (at-write-field3 .write-field3 .ensures)
+    (c .before .before .write-walk .ensures)
 
 pub write-reading-spec : {M : Type 1} → statement M
 write-reading-spec =

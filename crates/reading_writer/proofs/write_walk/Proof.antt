@@ -35,11 +35,16 @@ shared-slice-read-write-field c = omega arith
 
 write-field-requires : tie.Need-write-field-requires Inv-loop μ-loop
 write-field-requires c κs =
-    let at-width-below = c .before .before .before .before in
+    let at-loop = c .before .before .before in
+    let at-width-below = at-loop .before in
     let at-start = at-width-below .before .before .before in
     let a = at-start .args in
-    let l = c .before .before .before .loop in
-    omega (arith, one-within (rw (rest-more (a .rules) (a .trace .now) (a .n) (l .i) (at-width-below .width-below .ensures .0) (omega arith) (omega arith)) at (l .inv .2)))
+    let l = at-loop .loop in
+    omega (
+      arith,
+      one-within (rw (rest-more (a .rules) (a .trace .now) (a .n) (l .i) (at-width-below .width-below .ensures .0) (omega arith) (omega arith))
+          at (l .inv .2)),
+    )
 
 add-at : tie.Need-add-at Inv-loop μ-loop
 add-at c = omega arith
@@ -56,8 +61,13 @@ loop-again c =
     let at-width-below = at-loop .before in
     let at-start = at-width-below .before .before .before in
     let a = at-start .args in
-    let l = at-loop .loop in
-    (omega arith, omega arith, one-written (rw (rest-more (a .rules) (a .trace .now) (a .n) (l .i) (at-width-below .width-below .ensures .0) (omega arith) (omega arith)) at (l .inv .2)) (c .before .before .write-field .ensures))
+    let l = at-loop .loop in (
+      omega arith,
+      omega arith,
+      one-written (rw
+          (rest-more (a .rules) (a .trace .now) (a .n) (l .i) (at-width-below .width-below .ensures .0) (omega arith) (omega arith)) at (l .inv .2))
+          (c .before .before .write-field .ensures),
+    )
 
 same-length : tie.Need-same-length Inv-loop μ-loop
 same-length c = omega arith

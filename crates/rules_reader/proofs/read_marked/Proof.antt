@@ -18,8 +18,12 @@ enum-known-rule-2 : tie.Need-enum-known-rule-2
 enum-known-rule-2 c = search needs
 
 -- the rule that was read is sound and near
-near : (c : tie.After-known-told2) → Sound (c .before .rule2 .given .0 .0) × (c .before .rule2 .given .0 .1 .0 .at ≤ c .before .before .before .before .before .before .args .at + 41)
-near c = subst (RuleNear (c .before .before .before .before .before .before .args .at + 41)) (c .before .rule2 .given .1) (c .before .before .before .read-rule .ensures .1)
+near : (c : tie.After-known-told2) → Sound (c .before .rule2 .given .0 .0)
+    × (c .before .rule2 .given .0 .1 .0 .at ≤ c .before .before .before .before .before .before .args .at + 41)
+near c =
+    let at-read-rule = c .before .before .before in
+    let at-args = at-read-rule .before .before .before in
+    subst (RuleNear (at-args .args .at + 41)) (c .before .rule2 .given .1) (at-read-rule .read-rule .ensures .1)
 
 read-mark-requires : tie.Need-read-mark-requires
 read-mark-requires c κs = omega (arith, near c .1, c .before .before .before .before .before .before .pre .0)
@@ -34,10 +38,20 @@ returns : tie.Need-returns
 returns c = rule-refused _ _ _ _ _ (c .before .before .before .read-rule .ensures .0) (c .before .rule .given .1)
 
 returns-2 : tie.Need-returns-2
-returns-2 c = mark-refused _ _ _ _ _ (c .before .before .before .before .before .before .before .read-rule .ensures .0) (c .before .before .before .before .before .rule2 .given .1) (c .before .before .before .read-mark .ensures) (c .before .read .given .1)
+returns-2 c =
+    let at-read-mark = c .before .before .before in
+    let at-rule2 = at-read-mark .before .before in
+    let at-read-rule = at-rule2 .before .before in
+    mark-refused _ _ _ _ _ (at-read-rule .read-rule .ensures .0) (at-rule2 .rule2 .given .1) (at-read-mark .read-mark .ensures) (c .before .read .given .1)
 
 returns-3 : tie.Need-returns-3
-returns-3 c = mark-read _ _ _ _ _ (c .before .before .before .before .before .before .before .read-rule .ensures .0) (c .before .before .before .before .before .rule2 .given .1) (c .before .before .before .read-mark .ensures) (c .before .read2 .given .1) (near (c .before .before .before .before))
+returns-3 c =
+    let at-read-mark = c .before .before .before in
+    let before-4 = at-read-mark .before in
+    let at-rule2 = before-4 .before in
+    let at-read-rule = at-rule2 .before .before in
+    mark-read _ _ _ _ _ (at-read-rule .read-rule .ensures .0) (at-rule2 .rule2 .given .1) (at-read-mark .read-mark .ensures) (c .before .read2 .given .1)
+    (near (before-4))
 
 pub read-marked-spec : {M : Type 1} → statement M
 read-marked-spec =

@@ -37,7 +37,8 @@ returns c =
 abbrev start : tie.After-known-told → tie.Start
 start c = c .before .before .before .before .before .before
 
-kind-read : (c : tie.After-known-told) → fieldAt (source (start c)) (start c .args .at) ruleKind ≡ parsed (c .before .read .given .0 .0) (c .before .read .given .0 .1 .0 .at)
+kind-read : (c : tie.After-known-told) → fieldAt (source (start c)) (start c .args .at) ruleKind
+    ≡ parsed (c .before .read .given .0 .0) (c .before .read .given .0 .1 .0 .at)
 kind-read c = got (source (start c)) _ refl (c .before .before .before .field-at .ensures) (c .before .read .given .1)
 
 kind-near : (c : tie.After-known-told) → (c .before .read .given .0 .0 ≤ 1) × (c .before .read .given .0 .1 .0 .at ≤ start c .args .at + 1)
@@ -62,8 +63,14 @@ returns-2 : tie.Need-returns-2
 unfolding ruleFrom
 returns-2 c =
     let t = c .before .before .before in
-    let k = t .before .before in
-    (rw (kind-read k, missed (source (start k)) _ (t .before .symbol-of .ensures .0) (t .field-at2 .ensures) (c .before .enum-told2 .given .1) (c .refusal2 .ensures)), tt)
+    let k = t .before .before in (
+      rw (
+        kind-read k,
+        missed (source (start k)) _ (t .before .symbol-of .ensures .0) (t .field-at2 .ensures) (c .before .enum-told2 .given .1)
+            (c .refusal2 .ensures),
+      ),
+      tt,
+    )
 
 -- the head that was read, in its range
 abbrev kind-before : tie.After-known-told2 → tie.After-known-told
@@ -72,7 +79,8 @@ kind-before c = c .before .before .before .before .before
 abbrev start-2 : tie.After-known-told2 → tie.Start
 start-2 c = start (kind-before c)
 
-head-read : (c : tie.After-known-told2) → fieldAt (source (start-2 c)) (kind-before c .before .read .given .0 .1 .0 .at) (symbol (start-2 c .args .v .symbols)) ≡ parsed (c .before .read2 .given .0 .0) (c .before .read2 .given .0 .1 .0 .at)
+head-read : (c : tie.After-known-told2) → fieldAt (source (start-2 c)) (kind-before c .before .read .given .0 .1 .0 .at) (symbol (start-2 c .args .v .symbols))
+    ≡ parsed (c .before .read2 .given .0 .0) (c .before .read2 .given .0 .1 .0 .at)
 head-read c =
     let t = c .before .before .before in
     got (source (start-2 c)) _ (t .before .symbol-of .ensures .0) (t .field-at2 .ensures) (c .before .read2 .given .1)
@@ -96,8 +104,15 @@ returns-3 : tie.Need-returns-3
 unfolding ruleFrom
 returns-3 c =
     let t = c .before .before .before in
-    let h = t .before in
-    (rw (kind-read (kind-before h), head-read h, missed (source (start-2 h)) _ refl (t .field-at3 .ensures) (c .before .enum-told3 .given .1) (c .refusal3 .ensures)), tt)
+    let h = t .before in (
+      rw (
+        kind-read (kind-before h),
+        head-read h,
+        missed (source (start-2 h)) _ refl (t .field-at3 .ensures) (c .before .enum-told3 .given .1)
+            (c .refusal3 .ensures),
+      ),
+      tt,
+    )
 
 -- the weight that was read
 abbrev head-before : tie.After-known-told3 → tie.After-known-told2
@@ -106,7 +121,8 @@ head-before c = c .before .before .before .before
 abbrev start-3 : tie.After-known-told3 → tie.Start
 start-3 c = start-2 (head-before c)
 
-weight-read : (c : tie.After-known-told3) → fieldAt (source (start-3 c)) (head-before c .before .read2 .given .0 .1 .0 .at) weightField ≡ parsed (c .before .read3 .given .0 .0) (c .before .read3 .given .0 .1 .0 .at)
+weight-read : (c : tie.After-known-told3) → fieldAt (source (start-3 c)) (head-before c .before .read2 .given .0 .1 .0 .at) weightField
+    ≡ parsed (c .before .read3 .given .0 .0) (c .before .read3 .given .0 .1 .0 .at)
 weight-read c = got (source (start-3 c)) _ refl (c .before .before .before .field-at3 .ensures) (c .before .read3 .given .1)
 
 weight-near : (c : tie.After-known-told3) → c .before .read3 .given .0 .1 .0 .at ≤ start-3 c .args .at + 25
@@ -151,7 +167,9 @@ kind-4 c = kind-before (head-before (weight-before c))
 
 first-read : (c : tie.After-known-told4) →
     let s = start (kind-4 c) in
-    fieldAt (source s) (weight-before c .before .read3 .given .0 .1 .0 .at) (firstOf (s .args .v .symbols) (s .args .v .words) (kind-4 c .before .read .given .0 .0)) ≡ parsed (c .before .read4 .given .0 .0) (c .before .read4 .given .0 .1 .0 .at)
+    fieldAt (source s) (weight-before c .before .read3 .given .0 .1 .0 .at)
+    (firstOf (s .args .v .symbols) (s .args .v .words) (kind-4 c .before .read .given .0 .0))
+    ≡ parsed (c .before .read4 .given .0 .0) (c .before .read4 .given .0 .1 .0 .at)
 first-read c =
     let t = c .before .before .before in
     got (source (start (kind-4 c))) _ (t .before .first-of .ensures .0) (t .field-at4 .ensures) (c .before .read4 .given .1)
@@ -187,7 +205,8 @@ returns-5 c =
         head-read (head-before w),
         weight-read w,
         first-read f,
-        missed (source (start (kind-4 f))) _ (t .before .second-of .ensures .0) (t .field-at5 .ensures) (c .before .enum-told5 .given .1) (c .refusal5 .ensures),
+        missed (source (start (kind-4 f))) _ (t .before .second-of .ensures .0) (t .field-at5 .ensures) (c .before .enum-told5 .given .1)
+            (c .refusal5 .ensures),
       ),
       tt,
     )
@@ -201,15 +220,22 @@ kind-5 c = kind-4 (first-before c)
 
 second-read : (c : tie.After-known-told5) →
     let s = start (kind-5 c) in
-    fieldAt (source s) (first-before c .before .read4 .given .0 .1 .0 .at) (secondOf (s .args .v .symbols) (kind-5 c .before .read .given .0 .0)) ≡ parsed (c .before .read5 .given .0 .0) (c .before .read5 .given .0 .1 .0 .at)
+    fieldAt (source s) (first-before c .before .read4 .given .0 .1 .0 .at) (secondOf (s .args .v .symbols) (kind-5 c .before .read .given .0 .0))
+    ≡ parsed (c .before .read5 .given .0 .0) (c .before .read5 .given .0 .1 .0 .at)
 second-read c =
     let t = c .before .before .before in
     got (source (start (kind-5 c))) _ (t .before .second-of .ensures .0) (t .field-at5 .ensures) (c .before .read5 .given .1)
 
-second-near : (c : tie.After-known-told5) → (c .before .read5 .given .0 .0 ≤ 31 * (1 - kind-5 c .before .read .given .0 .0)) × (c .before .read5 .given .0 .1 .0 .at ≤ start (kind-5 c) .args .at + 41)
+second-near : (c : tie.After-known-told5) → (c .before .read5 .given .0 .0 ≤ 31 * (1 - kind-5 c .before .read .given .0 .0))
+    × (c .before .read5 .given .0 .1 .0 .at ≤ start (kind-5 c) .args .at + 41)
 second-near c =
     let k = kind-5 c in
-    omega (arith, first-near (first-before c), second-taken (start k .pre .1) (source (start k)) _ (k .before .read .given .0 .0) (kind-near k .0) (second-read c))
+    omega (
+      arith,
+      first-near (first-before c),
+      second-taken (start k .pre .1) (source (start k)) _ (k .before .read .given .0 .0) (kind-near k .0)
+          (second-read c),
+    )
 
 returns-6 : tie.Need-returns-6
 unfolding ruleFrom

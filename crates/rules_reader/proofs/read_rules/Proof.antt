@@ -28,7 +28,9 @@ loop-holds : tie.Need-loop-holds Inv-loop μ-loop
 loop-holds c = (omega arith, omega arith, refl, refl, refl, none-passed _ _ _ _ _ _ _ _ _, refl, filtered-none (replicate 1021 0))
 
 read-marked-requires : tie.Need-read-marked-requires Inv-loop μ-loop
-read-marked-requires c κs = (omega (arith, c .loop-test .taken, c .before .loop .inv .1, c .before .before .before .before .before .before .pre .0, c .before .before .before .before .before .before .pre .2), c .before .before .before .before .before .before .pre .1)
+read-marked-requires c κs =
+    let at-pre = c .before .before .before .before .before .before in
+    (omega (arith, c .loop-test .taken, c .before .loop .inv .1, at-pre .pre .0, at-pre .pre .2), at-pre .pre .1)
 
 enum-known-read : tie.Need-enum-known-read Inv-loop μ-loop
 enum-known-read c = search needs
@@ -40,7 +42,12 @@ same-length-2 : tie.Need-same-length-2 Inv-loop μ-loop
 same-length-2 c = c .before .before .before .before .before .loop .inv .4
 
 returns : tie.Need-returns Inv-loop μ-loop
-returns c = rule-refused _ _ _ _ _ _ (c .before .before .before .before .before .loop .inv .5) (omega (arith, c .before .before .before .before .loop-test .taken)) _ (c .before .before .before .read-marked .ensures .0) (c .before .read .given .1)
+returns c =
+    let at-read-marked = c .before .before .before in
+    let at-loop-test = at-read-marked .before in
+    let at-loop = at-loop-test .before in
+    rule-refused _ _ _ _ _ _ (at-loop .loop .inv .5) (omega (arith, at-loop-test .loop-test .taken)) _ (at-read-marked .read-marked .ensures .0)
+    (c .before .read .given .1)
 
 enum-known-read-2 : tie.Need-enum-known-read-2 Inv-loop μ-loop
 enum-known-read-2 c = search needs
@@ -52,7 +59,8 @@ to-loop c = c .before .before .before .before .before
 abbrev to-start : tie.After-known-told2 Inv-loop μ-loop → tie.Start Inv-loop μ-loop
 to-start c = to-loop c .before .before .before .before .before
 
-near : (c : tie.After-known-told2 Inv-loop μ-loop) → Sound (c .before .read2 .given .0 .0) × (c .before .read2 .given .0 .1 .1 .0 .at ≤ to-loop c .loop .at + 42)
+near : (c : tie.After-known-told2 Inv-loop μ-loop) → Sound (c .before .read2 .given .0 .0)
+    × (c .before .read2 .given .0 .1 .1 .0 .at ≤ to-loop c .loop .at + 42)
 near c = subst (MarkedNear (to-loop c .loop .at + 42)) (c .before .read2 .given .1) (c .before .before .before .read-marked .ensures .1)
 
 below : (c : tie.After-known-told2 Inv-loop μ-loop)
@@ -69,7 +77,10 @@ slice-aggregate-repeated-2 : tie.Need-slice-aggregate-repeated-2 Inv-loop μ-loo
 slice-aggregate-repeated-2 c = sym (c .before .before .before .before .before .before .before .before .loop .inv .2)
 
 repeated-requires : tie.Need-repeated-requires Inv-loop μ-loop
-repeated-requires c κs = (omega (arith, below (c .before .before .before)), c .before .before .before .before .before .before .before .before .loop .inv .6, c .before .before .before .before .before .before .before .before .loop .inv .7)
+repeated-requires c κs =
+    let before-3 = c .before .before .before in
+    let at-loop = before-3 .before .before .before .before .before in
+    (omega (arith, below (before-3)), at-loop .loop .inv .6, at-loop .loop .inv .7)
 
 same-length-3 : tie.Need-same-length-3 Inv-loop μ-loop
 same-length-3 c = c .before .before .before .before .before .before .before .before .before .before .loop .inv .3
@@ -79,8 +90,15 @@ same-length-4 c = c .before .before .before .before .before .before .before .bef
 
 returns-2 : tie.Need-returns-2 Inv-loop μ-loop
 returns-2 c =
-    rule-repeated _ _ _ _ _ _ (c .before .before .before .before .before .before .before .before .before .before .loop .inv .5) (omega (arith, c .before .before .before .before .before .before .before .before .before .loop-test .taken)) _ (c .before .before .before .before .before .before .before .before .read-marked .ensures .0) (near (c .before .before .before .before .before) .0) (c .before .before .before .before .before .before .read2 .given .1)
-    (rw (c .before .before .before .before .rule-key .ensures) at (c .before .repeated .ensures)) (c .if1 .taken)
+    let at-rule-key = c .before .before .before .before in
+    let before-5 = at-rule-key .before in
+    let at-read2 = before-5 .before in
+    let at-read-marked = at-read2 .before .before in
+    let at-loop-test = at-read-marked .before in
+    let at-loop = at-loop-test .before in
+    rule-repeated _ _ _ _ _ _ (at-loop .loop .inv .5) (omega (arith, at-loop-test .loop-test .taken)) _ (at-read-marked .read-marked .ensures .0)
+    (near (before-5) .0) (at-read2 .read2 .given .1)
+    (rw (at-rule-key .rule-key .ensures) at (c .before .repeated .ensures)) (c .if1 .taken)
 
 mul-keys : tie.Need-mul-keys Inv-loop μ-loop
 mul-keys c = omega arith
@@ -92,7 +110,9 @@ filter-place-requires : tie.Need-filter-place-requires Inv-loop μ-loop
 filter-place-requires c κs = search needs
 
 array-write-filter : tie.Need-array-write-filter Inv-loop μ-loop
-array-write-filter c = omega (arith, c .filter-place .ensures .1, c .before .before .before .before .before .before .before .before .before .before .before .loop .inv .6)
+array-write-filter c =
+    let at-loop = c .before .before .before .before .before .before .before .before .before .before .before in
+    omega (arith, c .filter-place .ensures .1, at-loop .loop .inv .6)
 
 store-rule-requires : tie.Need-store-rule-requires Inv-loop μ-loop
 store-rule-requires c κs = below (c .before .before .before .before .before .before .before) .2
@@ -110,18 +130,32 @@ loop-less : tie.Need-loop-less Inv-loop μ-loop
 loop-less c = omega (arith, c .before .before .before .before .before .before .before .before .before .before .before .before .before .before .loop-test .taken)
 
 loop-again : tie.Need-loop-again Inv-loop μ-loop
-loop-again c = (
-  omega (arith, c .before .before .before .before .before .before .before .before .before .before .before .before .before .before .loop-test .taken),
-  omega (arith, c .before .before .before .before .before .before .before .before .before .before .before .before .before .before .before .loop .inv .1, near (c .before .before .before .before .before .before .before .before .before .before) .1),
-  simp length-set (c .before .before .before .before .before .before .before .before .before .before .before .before .before .before .before .loop .inv .2),
-  c .before .before .store-rule .kept .0 ∙ c .before .before .before .before .before .before .before .before .before .before .before .before .before .before .before .loop .inv .3,
-  simp length-set (c .before .before .before .before .before .before .before .before .before .before .before .before .before .before .before .loop .inv .4),
-  rule-passed _ _ _ _ _ _ (c .before .before .before .before .before .before .before .before .before .before .before .before .before .before .before .loop .inv .5) (omega (arith, c .before .before .before .before .before .before .before .before .before .before .before .before .before .before .loop-test .taken)) _ (c .before .before .before .before .before .before .before .before .before .before .before .before .before .read-marked .ensures .0) (near (c .before .before .before .before .before .before .before .before .before .before) .0) (c .before .before .before .before .before .before .before .before .before .before .before .read2 .given .1)
-      (rw (c .before .before .before .before .before .before .before .before .before .rule-key .ensures) at (c .before .before .before .before .before .before .repeated .ensures)) (c .before .before .before .before .before .if1 .left) _ (c .before .before .before .before .before .before .before .before .before .rule-key .ensures) (below (c .before .before .before .before .before .before .before .before .before .before) .1) _ (c .before .before .store-rule .ensures)
-      (below (c .before .before .before .before .before .before .before .before .before .before) .3),
-  simp length-set (c .before .before .before .before .before .before .before .before .before .before .before .before .before .before .before .loop .inv .6),
-  rw (c .before .before .before .before .filter-place .ensures .0) (filtered-more (c .before .before .before .before .before .before .before .before .before .before .before .before .before .before .before .loop .keys) (c .before .before .before .before .before .before .before .before .before .before .before .before .before .before .before .loop .filter) (c .before .before .before .before .before .before .before .before .before .before .before .before .before .before .before .loop .i) (c .before .before .before .before .before .before .before .before .before .rule-key .result) (below (c .before .before .before .before .before .before .before .before .before .before) .1) (omega (arith, c .before .before .before .before .before .before .before .before .before .before .before .before .before .before .before .loop .inv .6)) (c .before .before .before .before .before .before .before .before .before .before .before .before .before .before .before .loop .inv .7)),
-)
+loop-again c =
+    let at-filter-place = c .before .before .before .before in
+    let at-if1 = at-filter-place .before in
+    let at-repeated = at-if1 .before in
+    let at-rule-key = at-repeated .before .before .before in
+    let before-10 = at-rule-key .before in
+    let at-read2 = before-10 .before in
+    let at-read-marked = at-read2 .before .before in
+    let at-loop-test = at-read-marked .before in
+    let at-loop = at-loop-test .before in (
+      omega (arith, at-loop-test .loop-test .taken),
+      omega (arith, at-loop .loop .inv .1, near (before-10) .1),
+      simp length-set (at-loop .loop .inv .2),
+      c .before .before .store-rule .kept .0 ∙ at-loop .loop .inv .3,
+      simp length-set (at-loop .loop .inv .4),
+      rule-passed _ _ _ _ _ _ (at-loop .loop .inv .5) (omega (arith, at-loop-test .loop-test .taken)) _ (at-read-marked .read-marked .ensures .0)
+          (near (before-10) .0) (at-read2 .read2 .given .1)
+          (rw (at-rule-key .rule-key .ensures) at (at-repeated .repeated .ensures)) (at-if1 .if1 .left) _ (at-rule-key .rule-key .ensures)
+          (below (before-10) .1) _
+          (c .before .before .store-rule .ensures)
+          (below (before-10) .3),
+      simp length-set (at-loop .loop .inv .6),
+      rw (at-filter-place .filter-place .ensures .0) (filtered-more (at-loop .loop .keys) (at-loop .loop .filter) (at-loop .loop .i)
+          (at-rule-key .rule-key .result)
+          (below (before-10) .1) (omega (arith, at-loop .loop .inv .6)) (at-loop .loop .inv .7)),
+    )
 
 same-length-5 : tie.Need-same-length-5 Inv-loop μ-loop
 same-length-5 c = c .before .loop .inv .3
@@ -131,8 +165,10 @@ same-length-6 c = c .before .loop .inv .4
 
 returns-3 : tie.Need-returns-3 Inv-loop μ-loop
 returns-3 c =
-    all-passed _ _ _ _ _ _ (c .before .loop .inv .5) (omega (arith, c .before .loop .inv .0, c .loop-test .left)) (omega (arith, c .before .loop .inv, c .before .before .before .before .before .before .pre))
-    (omega (arith, c .before .loop .inv, c .before .before .before .before .before .before .pre)) (omega (arith, c .before .loop .inv, c .before .before .before .before .before .before .pre))
+    let at-pre = c .before .before .before .before .before .before in
+    all-passed _ _ _ _ _ _ (c .before .loop .inv .5) (omega (arith, c .before .loop .inv .0, c .loop-test .left))
+    (omega (arith, c .before .loop .inv, at-pre .pre))
+    (omega (arith, c .before .loop .inv, at-pre .pre)) (omega (arith, c .before .loop .inv, at-pre .pre))
 
 pub read-rules-spec : {M : Type 1} → statement M
 read-rules-spec =

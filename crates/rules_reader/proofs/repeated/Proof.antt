@@ -13,8 +13,9 @@ shared-slice-read-if1 c = search needs
 
 returns : tie.Need-returns
 returns c =
-    let a = c .before .before .before .before .before .args in
-    filtered-miss (a .key) (take (a .n) (a .keys .now)) (a .filter .now) (c .before .before .before .before .before .pre .2) (rw (c .before .before .filter-place .ensures .0) at (c .if1 .taken))
+    let at-args = c .before .before .before .before .before in
+    let a = at-args .args in
+    filtered-miss (a .key) (take (a .n) (a .keys .now)) (a .filter .now) (at-args .pre .2) (rw (c .before .before .filter-place .ensures .0) at (c .if1 .taken))
 
 seen-requires : tie.Need-seen-requires
 seen-requires c κs = search needs

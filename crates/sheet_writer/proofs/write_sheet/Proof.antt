@@ -29,10 +29,12 @@ same-length c = search needs
 
 returns-2 : tie.Need-returns-2
 returns-2 c =
-    let a = c .before .before .before .before .before .before .before .before .before .before .before .before .args in
+    let at-copy = c .before .before .before .before .before .before in
+    let at-args = at-copy .before .before .before .before .before .before in
+    let a = at-args .args in
     let n = length-two (a .out .now) (a .head .now) (a .numbers .now) (a .n) (omega arith) in
     let e = copied-two (a .out .now) (a .head .now) (a .numbers .now) (a .n) (omega arith) in
-    room (a .head .now ++ take (a .n) (a .numbers .now)) (a .out .now) n (omega arith) (rw (c .before .before .before .before .before .before .copy .ensures) at (c .before .before .copy2 .ensures) ∙ e)
+    room (a .head .now ++ take (a .n) (a .numbers .now)) (a .out .now) n (omega arith) (rw (at-copy .copy .ensures) at (c .before .before .copy2 .ensures) ∙ e)
 
 pub write-sheet-spec : {M : Type 1} → statement M
 write-sheet-spec =

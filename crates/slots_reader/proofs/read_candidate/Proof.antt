@@ -53,7 +53,11 @@ returns c = no-word _ _ _ _ (refusal-told _ (first (c .before .before .before)) 
 field-at-requires-2 : tie.Need-field-at-requires-2
 field-at-requires-2 c κs =
     let s = c .before .before .before .before .before .before .before in
-    omega (arith, field-at-next (offered (s .args .words) (s .args .least)) (source s) (s .args .at) 8 (byte-width (s .args .words) (omega (arith, s .pre))) (omega arith) (word-read c))
+    omega (
+      arith,
+      field-at-next (offered (s .args .words) (s .args .least)) (source s) (s .args .at) 8 (byte-width (s .args .words) (omega (arith, s .pre)))
+          (omega arith) (word-read c),
+    )
 
 enum-known-second : tie.Need-enum-known-second
 enum-known-second c = search needs
@@ -65,10 +69,16 @@ refusal-requires-2 : tie.Need-refusal-requires-2
 refusal-requires-2 c κs = search needs
 
 returns-2 : tie.Need-returns-2
-returns-2 c = no-cost _ _ _ _ (word-read (c .before .before .before .before)) (refusal-told _ (c .before .before .before .field-at2 .ensures) (c .before .enum-told2 .given .1) (c .refusal2 .ensures))
+returns-2 c =
+    let at-field-at2 = c .before .before .before in
+    let before-4 = at-field-at2 .before in
+    no-cost _ _ _ _ (word-read (before-4)) (refusal-told _ (at-field-at2 .field-at2 .ensures) (c .before .enum-told2 .given .1) (c .refusal2 .ensures))
 
 returns-3 : tie.Need-returns-3
-returns-3 c = word-and-cost _ _ _ _ (word-read (c .before .before .before .before)) (number-told _ (c .before .before .before .field-at2 .ensures) (c .before .second .given .1))
+returns-3 c =
+    let at-field-at2 = c .before .before .before in
+    let before-4 = at-field-at2 .before in
+    word-and-cost _ _ _ _ (word-read (before-4)) (number-told _ (at-field-at2 .field-at2 .ensures) (c .before .second .given .1))
 
 pub read-candidate-spec : {M : Type 1} → statement M
 read-candidate-spec =

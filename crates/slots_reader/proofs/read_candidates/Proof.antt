@@ -66,8 +66,13 @@ same-length c = c .before .before .before .before .before .loop .inv .2
 
 returns : tie.Need-returns Inv-loop μ-loop
 returns c =
-    let l = c .before .before .before .before .before .loop in
-    let stops = candidates-stop (source (c .before .before .before .before .before .before .before .before .before)) _ _ (l .i) (l .least) (l .at) (l .inv .3 .0) (c .before .before .before .before .loop-test .taken) (candidate-told _ (c .before .before .before .read-candidate .ensures) (c .before .n .given .1)) in
+    let at-read-candidate = c .before .before .before in
+    let at-loop-test = at-read-candidate .before in
+    let at-loop = at-loop-test .before in
+    let before-9 = at-loop .before .before .before .before in
+    let l = at-loop .loop in
+    let stops = candidates-stop (source (before-9)) _ _ (l .i) (l .least) (l .at) (l .inv .3 .0) (at-loop-test .loop-test .taken)
+    (candidate-told _ (at-read-candidate .read-candidate .ensures) (c .before .n .given .1)) in
     rw (sym (l .inv .3 .3) ∙ stops) (not-placed _)
 
 enum-known-word : tie.Need-enum-known-word Inv-loop μ-loop
@@ -94,9 +99,13 @@ loop-less c = omega arith
 loop-again : tie.Need-loop-again Inv-loop μ-loop
 loop-again c =
     let k = c .before .before .before .before in
-    let l = c .before .before .before .before .before .before .before .before .before .loop in
-    let a = c .before .before .before .before .before .before .before .before .before .before .before .before .before .args in
-    let x = c .before .before .before .before .before .word .given .0 in
+    let at-word = k .before in
+    let at-loop-test = at-word .before .before .before in
+    let at-loop = at-loop-test .before in
+    let at-args = at-loop .before .before .before .before in
+    let l = at-loop .loop in
+    let a = at-args .args in
+    let x = at-word .word .given .0 in
     let cs = l .inv .3 .0 in (
       omega arith,
       omega (arith, bounds k .1),
@@ -104,8 +113,9 @@ loop-again c =
       (
         cs ++ (candidate (word (x .0)) (x .1 .0) ∷ []),
         simp length-append (omega arith),
-        candidate-stored (a .slots .now) (a .p .to) (a .words) (l .i) (x .0) (x .1 .0) cs (l .inv .3 .1) (l .inv .3 .2) (c .before .before .store-candidate .ensures),
-        sym (candidates-go-on (source (c .before .before .before .before .before .before .before .before .before .before .before .before .before)) _ _ (l .i) (l .least) (l .at) cs (c .before .before .before .before .before .before .before .before .loop-test .taken) (read k)) ∙ l .inv .3 .3,
+        candidate-stored (a .slots .now) (a .p .to) (a .words) (l .i) (x .0) (x .1 .0) cs (l .inv .3 .1) (l .inv .3 .2)
+            (c .before .before .store-candidate .ensures),
+        sym (candidates-go-on (source (at-args)) _ _ (l .i) (l .least) (l .at) cs (at-loop-test .loop-test .taken) (read k)) ∙ l .inv .3 .3,
       ),
     )
 

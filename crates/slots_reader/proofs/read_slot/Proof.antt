@@ -39,7 +39,11 @@ refusal-requires : tie.Need-refusal-requires
 refusal-requires c κs = search needs
 
 returns : tie.Need-returns
-returns c = rw (slot-stops (source (c .before .before .before .before .before .before .before)) _ _ (refusal-told _ (c .before .before .before .field-at .ensures) (c .before .enum-told .given .1) (c .refusal .ensures))) (not-placed _)
+returns c =
+    let at-field-at = c .before .before .before in
+    let before-7 = at-field-at .before .before .before .before in
+    rw (slot-stops (source (before-7)) _ _ (refusal-told _ (at-field-at .field-at .ensures) (c .before .enum-told .given .1) (c .refusal .ensures)))
+    (not-placed _)
 
 mul-slots : tie.Need-mul-slots
 mul-slots c = search needs
@@ -57,7 +61,11 @@ read-candidates-requires : tie.Need-read-candidates-requires
 read-candidates-requires c κs =
     let s = c .before .before .before .before .before .before .before .before in
     simp length-set
-    (omega (arith, field-at-range candidateCount (source s) (s .args .p .at) (count (c .before)), field-at-next candidateCount (source s) (s .args .p .at) 3 (omega arith) (omega arith) (count (c .before))))
+    (omega (
+      arith,
+      field-at-range candidateCount (source s) (s .args .p .at) (count (c .before)),
+      field-at-next candidateCount (source s) (s .args .p .at) 3 (omega arith) (omega arith) (count (c .before)),
+    ))
 
 same-length : tie.Need-same-length
 same-length c = c .before .before .read-candidates .kept .1 .1 .1 .1 .1 .1 .0 ∙ simp length-set

@@ -45,12 +45,20 @@ enum-known-n : tie.Need-enum-known-n Inv-loop μ-loop
 enum-known-n c = search needs
 
 same-length : tie.Need-same-length Inv-loop μ-loop
-same-length c = c .before .before .before .before .before .read-slot .kept .1 .1 .1 .1 .1 .0 ∙ c .before .before .before .before .before .before .before .before .loop .inv .3
+same-length c =
+    let at-read-slot = c .before .before .before .before .before in
+    let at-loop = at-read-slot .before .before .before in
+    at-read-slot .read-slot .kept .1 .1 .1 .1 .1 .0 ∙ at-loop .loop .inv .3
 
 returns : tie.Need-returns Inv-loop μ-loop
 returns c =
-    let l = c .before .before .before .before .before .before .before .before .loop in
-    let stops = slots-stop (source (c .before .before .before .before .before .before .before .before .before .before .before .before)) _ _ (l .i) (l .p .at) (l .inv .4 .0) (c .before .before .before .before .before .before .before .loop-test .taken) (not-placed-told (c .before .before .before .before .before .read-slot .ensures) (c .before .n .given .1)) in
+    let at-read-slot = c .before .before .before .before .before in
+    let at-loop-test = at-read-slot .before .before in
+    let at-loop = at-loop-test .before in
+    let before-12 = at-loop .before .before .before .before in
+    let l = at-loop .loop in
+    let stops = slots-stop (source (before-12)) _ _ (l .i) (l .p .at) (l .inv .4 .0) (at-loop-test .loop-test .taken)
+    (not-placed-told (at-read-slot .read-slot .ensures) (c .before .n .given .1)) in
     rw (sym (l .inv .4 .4) ∙ stops) (not-placed _)
 
 enum-known-next : tie.Need-enum-known-next Inv-loop μ-loop
@@ -64,22 +72,26 @@ loop-less c = omega arith
 
 loop-again : tie.Need-loop-again Inv-loop μ-loop
 loop-again c =
-    let l = c .before .before .before .before .before .before .before .before .loop in
-    let a = c .before .before .before .before .before .before .before .before .before .before .before .before .args in
+    let at-read-slot = c .before .before .before .before .before in
+    let at-loop-test = at-read-slot .before .before in
+    let at-loop = at-loop-test .before in
+    let at-args = at-loop .before .before .before .before in
+    let l = at-loop .loop in
+    let a = at-args .args in
     let u = l .inv .4 .0 in
-    let r = placed-told (c .before .before .before .before .before .read-slot .ensures) (c .before .next .given .1) in
-    let n = slot-near (source (c .before .before .before .before .before .before .before .before .before .before .before .before)) (a .words) (omega arith) (l .p .at) (r .1) in
+    let r = placed-told (at-read-slot .read-slot .ensures) (c .before .next .given .1) in
+    let n = slot-near (source (at-args)) (a .words) (omega arith) (l .p .at) (r .1) in
     let m = length-numbers (a .words) (r .0) in (
       omega arith,
       omega arith,
       omega arith,
-      c .before .before .before .before .before .read-slot .kept .1 .1 .1 .1 .1 .0 ∙ l .inv .3,
+      at-read-slot .read-slot .kept .1 .1 .1 .1 .1 .0 ∙ l .inv .3,
       (
         u ++ (r .0 ∷ []),
         simp length-append (omega arith),
         rw (slot-more (a .words) u (r .0), length-append) (omega arith),
         slot-stored (a .slots .now) (a .words) u (r .0) (l .inv .4 .2) (l .inv .4 .3) (r .3),
-        sym (slots-go-on (source (c .before .before .before .before .before .before .before .before .before .before .before .before)) _ _ (l .i) (l .p .at) u (c .before .before .before .before .before .before .before .loop-test .taken) (r .1)) ∙ l .inv .4 .4,
+        sym (slots-go-on (source (at-args)) _ _ (l .i) (l .p .at) u (at-loop-test .loop-test .taken) (r .1)) ∙ l .inv .4 .4,
       ),
     )
 

@@ -21,11 +21,13 @@ array-read-if1 : tie.Need-array-read-if1
 array-read-if1 c = search needs
 
 returns : tie.Need-returns
-returns c = λ g e v b.
+returns c =
+    λ g e v b.
     let at-fill-table = c .before .before .before in
     let at-start = at-fill-table .before .before .before .before .before in
     let a = at-start .args in
-    nothing-said g v (a .rules .now) b (a .n) (search needs) (search needs) (a .sizes) e _ refl (at-fill-table .fill-table .ensures) (c .before .place-of .ensures .0) _ (c .if1 .taken)
+    nothing-said g v (a .rules .now) b (a .n) (search needs) (search needs) (a .sizes) e _ refl (at-fill-table .fill-table .ensures)
+    (c .before .place-of .ensures .0) _ (c .if1 .taken)
 
 add-end : tie.Need-add-end
 add-end c = search needs
@@ -53,7 +55,8 @@ returns-2 c = λ g e v b.
     let at-fill-table = at-place-of .before .before in
     let at-start = at-fill-table .before .before .before .before .before in
     let a = at-start .args in
-    string-said g v (a .rules .now) b (a .n) (search needs) (search needs) (a .sizes) e _ refl (at-fill-table .fill-table .ensures) (at-place-of .place-of .ensures .0) _ (at-if1 .if1 .left) (at-copy .copy .ensures)
+    string-said g v (a .rules .now) b (a .n) (search needs) (search needs) (a .sizes) e _ refl (at-fill-table .fill-table .ensures)
+    (at-place-of .place-of .ensures .0) _ (at-if1 .if1 .left) (at-copy .copy .ensures)
 
 pub answer-spec : {M : Type 1} → statement M
 answer-spec =

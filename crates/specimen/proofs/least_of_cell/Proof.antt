@@ -50,8 +50,11 @@ loop-less c = search needs
 loop-again : tie.Need-loop-again Inv-loop μ-loop
 loop-again c =
     let at-loop = c .before .before .before in
-    let at-start = at-loop .before .before .before .before in
-    (search needs, rw (iter-more, ← at-loop .loop .inv .1) (passed-over _ _ _ _ (at-start .args .rules .now) (at-loop .loop .r) (λ e. c .if1 .taken (c .before .narrow-at .ensures ∙ e))))
+    let at-start = at-loop .before .before .before .before in (
+      search needs,
+      rw (iter-more, ← at-loop .loop .inv .1)
+          (passed-over _ _ _ _ (at-start .args .rules .now) (at-loop .loop .r) (λ e. c .if1 .taken (c .before .narrow-at .ensures ∙ e))),
+    )
 
 lesser-rule-requires : tie.Need-lesser-rule-requires Inv-loop μ-loop
 lesser-rule-requires c κs = search needs

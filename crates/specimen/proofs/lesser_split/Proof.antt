@@ -45,7 +45,8 @@ returns c =
     let at-place-of2 = c .before .before .before in
     let at-place-of = at-place-of2 .before in
     let at-start = at-place-of .before .before in
-    split-is _ _ _ _ (at-start .args .j) (at-start .args .best) (at-place-of .place-of .ensures .0) (at-place-of2 .place-of2 .ensures .0) (c .lesser-join .ensures)
+    split-is _ _ _ _ (at-start .args .j) (at-start .args .best) (at-place-of .place-of .ensures .0) (at-place-of2 .place-of2 .ensures .0)
+    (c .lesser-join .ensures)
 
 pub lesser-split-spec : {M : Type 1} → statement M
 lesser-split-spec =

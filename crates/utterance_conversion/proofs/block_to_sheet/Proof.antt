@@ -39,18 +39,24 @@ write-sheet-requires c κs =
 
 returns : tie.Need-returns
 returns c =
-    let a = c .before .before .before .before .before .before .before .before .args in
-    let r = c .before .before .before .before .read-block in
-    handed-up (a .out .now) (refusal-told (a .words) (utteranceBlock (a .words) (a .block .now)) (λ u. accepted (sheetOfUtterance (a .words) u)) (sym (r .ensures .0) ∙ c .before .n .given .1))
+    let at-read-block = c .before .before .before .before in
+    let at-args = at-read-block .before .before .before .before in
+    let a = at-args .args in
+    let r = at-read-block .read-block in
+    handed-up (a .out .now) (refusal-told (a .words) (utteranceBlock (a .words) (a .block .now)) (λ u. accepted (sheetOfUtterance (a .words) u))
+    (sym (r .ensures .0) ∙ c .before .n .given .1))
 
 same-length : tie.Need-same-length
 same-length c = search needs
 
 returns-2 : tie.Need-returns-2
 returns-2 c =
-    let a = c .before .before .before .before .before .before .before .before .before .before .before .before .before .before .before .args in
-    let r = c .before .before .before .before .before .before .before .before .before .before .before .read-block in
-    let e = sheet-told (a .words) (utteranceBlock (a .words) (a .block .now)) (sym (r .ensures .0) ∙ c .before .before .before .before .before .before .before .before .u .given .1) (r .last .1 .1 .0) (r .ensures .1) in
+    let at-u = c .before .before .before .before .before .before .before .before in
+    let at-read-block = at-u .before .before .before in
+    let at-args = at-read-block .before .before .before .before in
+    let a = at-args .args in
+    let r = at-read-block .read-block in
+    let e = sheet-told (a .words) (utteranceBlock (a .words) (a .block .now)) (sym (r .ensures .0) ∙ at-u .u .given .1) (r .last .1 .1 .0) (r .ensures .1) in
     rw e (c .before .before .write-sheet .ensures)
 
 pub block-to-sheet-spec : {M : Type 1} → statement M

@@ -26,26 +26,35 @@ slice-aggregate-write-utterance c = search needs
 
 write-utterance-requires : tie.Need-write-utterance-requires
 write-utterance-requires c κs =
-    let a = c .before .before .before .before .before .before .before .before .before .before .args in
-    let r = c .before .before .before .before .before .before .read-sheet in
-    let t = bits-told (a .words) (utteranceSheet (a .words) (a .sheet .now)) (sym (r .ensures .0) ∙ c .before .before .before .u .given .1) (r .last .1 .1 .0) (r .ensures .1) in
-    let b = rw (c .before .before .before .u .given .1) at (r .ensures .2) in
+    let at-u = c .before .before .before in
+    let at-read-sheet = at-u .before .before .before in
+    let at-args = at-read-sheet .before .before .before .before in
+    let a = at-args .args in
+    let r = at-read-sheet .read-sheet in
+    let t = bits-told (a .words) (utteranceSheet (a .words) (a .sheet .now)) (sym (r .ensures .0) ∙ at-u .u .given .1) (r .last .1 .1 .0) (r .ensures .1) in
+    let b = rw (at-u .u .given .1) at (r .ensures .2) in
     (omega arith, omega arith, omega arith, omega arith, omega arith, t .1)
 
 returns : tie.Need-returns
 returns c =
-    let a = c .before .before .before .before .before .before .before .before .args in
-    let r = c .before .before .before .before .read-sheet in
-    handed-up (a .out .now) (refusal-told (a .words) (utteranceSheet (a .words) (a .sheet .now)) (λ u. accepted (blockOfUtterance (a .words) u)) (sym (r .ensures .0) ∙ c .before .n .given .1))
+    let at-read-sheet = c .before .before .before .before in
+    let at-args = at-read-sheet .before .before .before .before in
+    let a = at-args .args in
+    let r = at-read-sheet .read-sheet in
+    handed-up (a .out .now) (refusal-told (a .words) (utteranceSheet (a .words) (a .sheet .now)) (λ u. accepted (blockOfUtterance (a .words) u))
+    (sym (r .ensures .0) ∙ c .before .n .given .1))
 
 same-length : tie.Need-same-length
 same-length c = search needs
 
 returns-2 : tie.Need-returns-2
 returns-2 c =
-    let a = c .before .before .before .before .before .before .before .before .before .before .before .before .before .args in
-    let r = c .before .before .before .before .before .before .before .before .before .read-sheet in
-    let e = block-told (a .words) (utteranceSheet (a .words) (a .sheet .now)) (sym (r .ensures .0) ∙ c .before .before .before .before .before .before .u .given .1) (r .last .1 .1 .0) (r .ensures .1) in
+    let at-u = c .before .before .before .before .before .before in
+    let at-read-sheet = at-u .before .before .before in
+    let at-args = at-read-sheet .before .before .before .before in
+    let a = at-args .args in
+    let r = at-read-sheet .read-sheet in
+    let e = block-told (a .words) (utteranceSheet (a .words) (a .sheet .now)) (sym (r .ensures .0) ∙ at-u .u .given .1) (r .last .1 .1 .0) (r .ensures .1) in
     rw e (c .before .before .write-utterance .ensures)
 
 pub sheet-to-block-spec : {M : Type 1} → statement M

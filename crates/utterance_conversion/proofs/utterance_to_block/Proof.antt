@@ -34,7 +34,8 @@ returns c =
     let at-start = at-read-block .before .before .before .before .before in
     let a = at-start .args in
     and-back (utteranceToBlock (a .grammar .now) (a .sheet .now)) (utterance-sheet-and-back (a .grammar .now) (a .sheet .now)) (a .out .now)
-    (handed-up (a .out .now) (refusal-told (grammarBlock (a .grammar .now)) (λ g. blockUnder (g .words) (a .sheet .now)) (sym (at-read-block .read-block .ensures .0) ∙ c .before .n .given .1)))
+    (handed-up (a .out .now) (refusal-told (grammarBlock (a .grammar .now)) (λ g. blockUnder (g .words) (a .sheet .now))
+    (sym (at-read-block .read-block .ensures .0) ∙ c .before .n .given .1)))
 
 same-length : tie.Need-same-length
 same-length c = search needs
@@ -47,7 +48,8 @@ returns-2 c =
     let at-start = at-read-block .before .before .before .before .before in
     let a = at-start .args in
     and-back (utteranceToBlock (a .grammar .now) (a .sheet .now)) (utterance-sheet-and-back (a .grammar .now) (a .sheet .now)) (a .out .now)
-    (rw (words-told (grammarBlock (a .grammar .now)) (sym (at-read-block .read-block .ensures .0) ∙ at-z .z .given .1) (λ W. blockUnder W (a .sheet .now))) (c .before .before .sheet-to-block .ensures))
+    (rw (words-told (grammarBlock (a .grammar .now)) (sym (at-read-block .read-block .ensures .0) ∙ at-z .z .given .1) (λ W. blockUnder W (a .sheet .now)))
+    (c .before .before .sheet-to-block .ensures))
 
 pub utterance-to-block-spec : {M : Type 1} → statement M
 utterance-to-block-spec =

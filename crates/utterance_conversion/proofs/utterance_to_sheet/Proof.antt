@@ -34,8 +34,10 @@ returns c =
     let at-read-block = c .before .before .before .before in
     let at-known = at-read-block .before .before .before in
     let a = at-known .before .before .args in
-    and-back (utteranceToSheet (a .grammar .now) (a .block .now)) (λ l. utterance-block-and-back (a .grammar .now) (a .block .now) l (λ i. at-known .shared-slice-known2 .given i .fits)) (a .out .now)
-    (handed-up (a .out .now) (refusal-told (grammarBlock (a .grammar .now)) (λ g. sheetUnder (g .words) (a .block .now)) (sym (at-read-block .read-block .ensures .0) ∙ c .before .n .given .1)))
+    and-back (utteranceToSheet (a .grammar .now) (a .block .now))
+    (λ l. utterance-block-and-back (a .grammar .now) (a .block .now) l (λ i. at-known .shared-slice-known2 .given i .fits)) (a .out .now)
+    (handed-up (a .out .now) (refusal-told (grammarBlock (a .grammar .now)) (λ g. sheetUnder (g .words) (a .block .now))
+    (sym (at-read-block .read-block .ensures .0) ∙ c .before .n .given .1)))
 
 same-length : tie.Need-same-length
 same-length c = search needs
@@ -47,8 +49,10 @@ returns-2 c =
     let at-read-block = at-z .before .before .before in
     let at-known = at-read-block .before .before .before in
     let a = at-known .before .before .args in
-    and-back (utteranceToSheet (a .grammar .now) (a .block .now)) (λ l. utterance-block-and-back (a .grammar .now) (a .block .now) l (λ i. at-known .shared-slice-known2 .given i .fits)) (a .out .now)
-    (rw (words-told (grammarBlock (a .grammar .now)) (sym (at-read-block .read-block .ensures .0) ∙ at-z .z .given .1) (λ W. sheetUnder W (a .block .now))) (c .before .before .block-to-sheet .ensures))
+    and-back (utteranceToSheet (a .grammar .now) (a .block .now))
+    (λ l. utterance-block-and-back (a .grammar .now) (a .block .now) l (λ i. at-known .shared-slice-known2 .given i .fits)) (a .out .now)
+    (rw (words-told (grammarBlock (a .grammar .now)) (sym (at-read-block .read-block .ensures .0) ∙ at-z .z .given .1) (λ W. sheetUnder W (a .block .now)))
+    (c .before .before .block-to-sheet .ensures))
 
 pub utterance-to-sheet-spec : {M : Type 1} → statement M
 utterance-to-sheet-spec =

@@ -66,10 +66,14 @@ loop-less c = omega arith
 
 loop-again : tie.Need-loop-again Inv-loop μ-loop
 loop-again c =
-    let l = c .before .before .before .before .before .before .loop in
-    let a = c .before .before .before .before .before .before .before .before .before .args in
+    let at-candidates-at = c .before .before .before .before in
+    let at-loop-test = at-candidates-at .before in
+    let at-loop = at-loop-test .before in
+    let at-args = at-loop .before .before .before in
+    let l = at-loop .loop in
+    let a = at-args .args in
     let es = l .inv .4 .0 in
-    let n = c .before .before .before .before .candidates-at .result in
+    let n = at-candidates-at .candidates-at .result in
     let fs = candidateEdges (a .slots .now) (l .i) n (l .p + 1) in
     let m = length-candidate-edges (a .slots .now) (l .i) n (l .p + 1) in (
       omega arith,
@@ -80,7 +84,8 @@ loop-again c =
         es ++ fs,
         simp length-append (omega arith),
         edges-stored (a .edges .now) 0 es fs (l .inv .4 .2) (omega arith) (c .before .before .slot-edges .ensures),
-        sym (slot-edges-more (a .slots .now) (a .count) (l .i) (l .p) es (c .before .before .before .before .before .loop-test .taken) (c .before .before .before .before .candidates-at .ensures)) ∙ l .inv .4 .3,
+        sym (slot-edges-more (a .slots .now) (a .count) (l .i) (l .p) es (at-loop-test .loop-test .taken) (at-candidates-at .candidates-at .ensures))
+            ∙ l .inv .4 .3,
       ),
     )
 

@@ -73,17 +73,23 @@ loop-less c = omega arith
 loop-again : tie.Need-loop-again Inv-loop μ-loop
 unfolding edgeNumbers
 loop-again c =
-    let l = c .before .before .before .before .before .before .before .loop in
-    let a = c .before .before .before .before .before .before .before .before .before .before .args in
+    let at-narrow-at2 = c .before .before .before .before in
+    let at-narrow-at = at-narrow-at2 .before in
+    let at-loop-test = at-narrow-at .before in
+    let at-loop = at-loop-test .before in
+    let at-args = at-loop .before .before .before in
+    let l = at-loop .loop in
+    let a = at-args .args in
     let es = l .inv .2 .0 in
-    let e = edge (a .slot) (a .slot + 1) (word (c .before .before .before .before .before .narrow-at .result)) (c .before .before .before .before .narrow-at2 .result) in (
+    let e = edge (a .slot) (a .slot + 1) (word (at-narrow-at .narrow-at .result)) (at-narrow-at2 .narrow-at2 .result) in (
       omega arith,
       c .before .before .store-edge .kept .0 ∙ l .inv .1,
       (
         es ++ (e ∷ []),
         simp length-append (omega arith),
         edges-stored (a .edges .now) (a .to) es (e ∷ []) (l .inv .2 .2) (omega arith) (c .before .before .store-edge .ensures),
-        sym (candidate-edge (a .slots .now) (a .slot) (a .count) (l .k) (a .p) es (c .before .before .before .before .before .before .loop-test .taken) (c .before .before .before .before .before .narrow-at .ensures) (c .before .before .before .before .narrow-at2 .ensures)) ∙ l .inv .2 .3,
+        sym (candidate-edge (a .slots .now) (a .slot) (a .count) (l .k) (a .p) es (at-loop-test .loop-test .taken) (at-narrow-at .narrow-at .ensures)
+            (at-narrow-at2 .narrow-at2 .ensures)) ∙ l .inv .2 .3,
       ),
     )
 

@@ -41,7 +41,9 @@ refusal-requires : tie.Need-refusal-requires
 refusal-requires c κs = search needs
 
 returns : tie.Need-returns
-returns c = promised-refusal _ _ (no-kind _ _ (refusal-told _ (c .before .before .before .field-at .ensures) (c .before .enum-told .given .1) (c .refusal .ensures)))
+returns c =
+    let at-field-at = c .before .before .before in
+    promised-refusal _ _ (no-kind _ _ (refusal-told _ (at-field-at .field-at .ensures) (c .before .enum-told .given .1) (c .refusal .ensures)))
 
 slice-aggregate-read-utterance : tie.Need-slice-aggregate-read-utterance
 slice-aggregate-read-utterance c = search needs
@@ -77,8 +79,9 @@ same-length-2 c = search needs
 
 returns-3 : tie.Need-returns-3
 returns-3 c =
-    let k = c .before .before .before .before .before .before .before .before in
-    promised-refusal _ _ (block-stops _ _ (kind k) (no-slots-told (c .before .before .before .before .before .read-utterance .ensures) (c .before .n .given .1)))
+    let at-read-utterance = c .before .before .before .before .before in
+    let k = at-read-utterance .before .before .before in
+    promised-refusal _ _ (block-stops _ _ (kind k) (no-slots-told (at-read-utterance .read-utterance .ensures) (c .before .n .given .1)))
 
 same-length-3 : tie.Need-same-length-3
 same-length-3 c = search needs

@@ -30,7 +30,9 @@ same-length-2 : tie.Need-same-length-2
 same-length-2 c = search needs
 
 returns-2 : tie.Need-returns-2
-returns-2 c = promised-refusal _ _ (sheet-stops _ _ (no-slots-told (c .before .before .before .before .before .read-utterance .ensures) (c .before .n .given .1)))
+returns-2 c =
+    let at-read-utterance = c .before .before .before .before .before in
+    promised-refusal _ _ (sheet-stops _ _ (no-slots-told (at-read-utterance .read-utterance .ensures) (c .before .n .given .1)))
 
 same-length-3 : tie.Need-same-length-3
 same-length-3 c = search needs

@@ -42,7 +42,11 @@ refusal-requires : tie.Need-refusal-requires
 refusal-requires c κs = search needs
 
 returns : tie.Need-returns
-returns c = rw (utterance-stops (source (c .before .before .before .before .before .before .before)) _ _ (refusal-told _ (c .before .before .before .field-at .ensures) (c .before .enum-told .given .1) (c .refusal .ensures))) (no-slots _)
+returns c =
+    let at-field-at = c .before .before .before in
+    let before-7 = at-field-at .before .before .before .before in
+    rw (utterance-stops (source (before-7)) _ _ (refusal-told _ (at-field-at .field-at .ensures) (c .before .enum-told .given .1) (c .refusal .ensures)))
+    (no-slots _)
 
 cast-count : tie.Need-cast-count
 cast-count c = search needs
@@ -50,7 +54,11 @@ cast-count c = search needs
 read-slots-requires : tie.Need-read-slots-requires
 read-slots-requires c κs =
     let s = c .before .before .before .before .before .before .before .before in
-    omega (arith, field-at-range slotCount (source s) (s .args .at) (count (c .before)), field-at-next slotCount (source s) (s .args .at) 6 (omega arith) (omega arith) (count (c .before)))
+    omega (
+      arith,
+      field-at-range slotCount (source s) (s .args .at) (count (c .before)),
+      field-at-next slotCount (source s) (s .args .at) 6 (omega arith) (omega arith) (count (c .before)),
+    )
 
 enum-known-m : tie.Need-enum-known-m
 enum-known-m c = search needs
@@ -63,8 +71,10 @@ same-length c = search needs
 
 returns-2 : tie.Need-returns-2
 returns-2 c =
-    let k = c .before .before .before .before .before .before .before in
-    rw (utterance-goes-on (source (c .before .before .before .before .before .before .before .before .before .before .before .before .before .before)) _ _ (count k) ∙ not-placed-told (c .before .before .before .before .before .read-slots .ensures) (c .before .m .given .1)) (no-slots _)
+    let at-read-slots = c .before .before .before .before .before in
+    let k = at-read-slots .before .before in
+    let before-14 = k .before .before .before .before .before .before .before in
+    rw (utterance-goes-on (source (before-14)) _ _ (count k) ∙ not-placed-told (at-read-slots .read-slots .ensures) (c .before .m .given .1)) (no-slots _)
 
 same-length-2 : tie.Need-same-length-2
 same-length-2 c = search needs

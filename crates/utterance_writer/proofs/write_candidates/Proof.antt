@@ -38,11 +38,13 @@ narrow-at-requires c κs = omega arith
 
 write-field-requires : tie.Need-write-field-requires Inv-loop μ-loop
 write-field-requires c κs =
-    let at-width-below = c .before .before .before .before in
+    let at-loop = c .before .before .before in
+    let at-width-below = at-loop .before in
     let at-start = at-width-below .before .before .before in
     let a = at-start .args in
-    let l = c .before .before .before .loop in
-    let m = rw (candidates-more (a .words) (a .slots .now) (a .p) (a .n) (l .i) (at-width-below .width-below .ensures .0) (c .before .before .loop-test .taken)) at (l .inv .1) in
+    let l = at-loop .loop in
+    let m = rw (candidates-more (a .words) (a .slots .now) (a .p) (a .n) (l .i) (at-width-below .width-below .ensures .0) (c .before .before .loop-test .taken))
+    at (l .inv .1) in
     omega (arith, one-within m)
 
 add-at : tie.Need-add-at Inv-loop μ-loop
@@ -79,7 +81,8 @@ write-field-requires-2 c κs =
     let at-start = at-width-below .before .before .before in
     let a = at-start .args in
     let l = at-loop .loop in
-    let m = rw (candidates-more (a .words) (a .slots .now) (a .p) (a .n) (l .i) (at-width-below .width-below .ensures .0) (at-loop-test .loop-test .taken)) at (l .inv .1) in
+    let m = rw (candidates-more (a .words) (a .slots .now) (a .p) (a .n) (l .i) (at-width-below .width-below .ensures .0) (at-loop-test .loop-test .taken))
+    at (l .inv .1) in
     let w = one-written m (rw (at-narrow-at .narrow-at .ensures) at (at-write-field .write-field .ensures)) in
     omega (arith, one-within w)
 
@@ -106,7 +109,8 @@ loop-again c =
     let at-start = at-width-below .before .before .before in
     let a = at-start .args in
     let l = at-loop .loop in
-    let m = rw (candidates-more (a .words) (a .slots .now) (a .p) (a .n) (l .i) (at-width-below .width-below .ensures .0) (at-loop-test .loop-test .taken)) at (l .inv .1) in
+    let m = rw (candidates-more (a .words) (a .slots .now) (a .p) (a .n) (l .i) (at-width-below .width-below .ensures .0) (at-loop-test .loop-test .taken))
+    at (l .inv .1) in
     let w = one-written m (rw (at-narrow-at .narrow-at .ensures) at (at-write-field .write-field .ensures)) in
     (omega arith, one-written w (rw (at-narrow-at2 .narrow-at2 .ensures) at (c .before .before .write-field2 .ensures)))
 

@@ -81,13 +81,15 @@ loop-less c = omega arith
 
 loop-again : tie.Need-loop-again Inv-loop μ-loop
 loop-again c =
-    let read = c .before .before .before .before .before .before .before .before in
+    let at-write-field = c .before .before .before .before .before .before in
+    let read = at-write-field .before .before in
     let l = read .before .before .loop in
     let a = read .before .before .before .before .before .args in
     let end = c .before .before .write-candidates .ensures in (
       omega arith,
       omega (arith, slot-within (a .words) (a .slots .now) (l .p) (a .n) (l .i) (read .number-at .ensures .0) (read .before .loop-test .taken) (l .inv .2)),
-      slot-written (a .words) (a .slots .now) (l .p) (a .n) (l .i) (read .number-at .ensures .0) (read .before .loop-test .taken) (l .inv .2) (c .before .before .before .before .before .before .write-field .ensures) (end .1) (end .0),
+      slot-written (a .words) (a .slots .now) (l .p) (a .n) (l .i) (read .number-at .ensures .0) (read .before .loop-test .taken) (l .inv .2)
+          (at-write-field .write-field .ensures) (end .1) (end .0),
     )
 
 same-length : tie.Need-same-length Inv-loop μ-loop

@@ -19,18 +19,22 @@ returns c =
 
 write-fields-requires : tie.Need-write-fields-requires
 write-fields-requires c κs =
-    let a = c .before .before .before .before .before .args in
-    let n = block-length (a .words) (a .slots .now) (a .n) (a .numbers) (c .before .before .before .before .before .pre .5) in
-    omega (arith, slots-small (a .words) (a .slots .now) (a .n) (a .numbers) (c .before .before .before .before .before .pre .5) (omega arith) (omega arith) (omega arith))
+    let at-args = c .before .before .before .before .before in
+    let a = at-args .args in
+    let n = block-length (a .words) (a .slots .now) (a .n) (a .numbers) (at-args .pre .5) in
+    omega (arith, slots-small (a .words) (a .slots .now) (a .n) (a .numbers) (at-args .pre .5) (omega arith) (omega arith) (omega arith))
 
 same-length : tie.Need-same-length
 same-length c = search needs
 
 returns-2 : tie.Need-returns-2
 returns-2 c =
-    let a = c .before .before .before .before .before .before .before .before .args in
-    let n = c .before .before .before .before .before .utterance-length .ensures ∙ block-length (a .words) (a .slots .now) (a .n) (a .numbers) (c .before .before .before .before .before .before .before .before .pre .5) in
-    room (blockOf (utteranceFields (a .words) (a .n) (a .slots .now))) (a .out .now) n (c .before .before .before .before .if1 .left) (c .before .before .write-fields .ensures)
+    let at-if1 = c .before .before .before .before in
+    let at-utterance-length = at-if1 .before in
+    let at-args = at-utterance-length .before .before .before in
+    let a = at-args .args in
+    let n = at-utterance-length .utterance-length .ensures ∙ block-length (a .words) (a .slots .now) (a .n) (a .numbers) (at-args .pre .5) in
+    room (blockOf (utteranceFields (a .words) (a .n) (a .slots .now))) (a .out .now) n (at-if1 .if1 .left) (c .before .before .write-fields .ensures)
 
 pub write-utterance-spec : {M : Type 1} → statement M
 write-utterance-spec =

@@ -33,7 +33,8 @@ returns c =
     let c₄ = c₂ .before .before in
     let c₈ = c₄ .before .before .before .before in
     let c₁₀ = c₈ .before .before in
-    right-tree _ _ _ _ _ _ _ ((rw (c₁₀ .root .ensures) at (c₈ .trace-checked .ensures)) _ (omega arith)) (c₄ .traced .given .1) (c .before .wide .ensures .0 ∙ c₂ .root-weight .ensures) (c .if1 .taken)
+    right-tree _ _ _ _ _ _ _ ((rw (c₁₀ .root .ensures) at (c₈ .trace-checked .ensures)) _ (omega arith)) (c₄ .traced .given .1)
+    (c .before .wide .ensures .0 ∙ c₂ .root-weight .ensures) (c .if1 .taken)
 
 same-length-2 : tie.Need-same-length-2
 same-length-2 c = search needs
@@ -53,7 +54,8 @@ returns-3 c =
     let c₄ = c₂ .before .before in
     let c₈ = c₄ .before .before .before .before in
     let c₁₀ = c₈ .before .before in
-    other-tree _ _ _ _ _ _ _ ((rw (c₁₀ .root .ensures) at (c₈ .trace-checked .ensures)) _ (omega arith)) (c₄ .traced .given .1) (c .before .wide .ensures .0 ∙ c₂ .root-weight .ensures) (c .if1 .left)
+    other-tree _ _ _ _ _ _ _ ((rw (c₁₀ .root .ensures) at (c₈ .trace-checked .ensures)) _ (omega arith)) (c₄ .traced .given .1)
+    (c .before .wide .ensures .0 ∙ c₂ .root-weight .ensures) (c .if1 .left)
 
 pub checked-root-spec : {M : Type 1} → statement M
 checked-root-spec =

@@ -15,7 +15,8 @@ use Rattle.chart_candidates.proofs.leaves.edge_leaves.Statement.{statem
 use Rattle.chart_candidates.proofs.leaves.edge_leaves.Tie as tie
 
 abbrev Inv-loop : tie.InvT-loop
-Inv-loop rules edges index e floor head start end heard so-far₀ y₀ so-far y = (start ≤ y) × (y - start ≤ end - start) × (keyNumber so-far ≡ over (λ x y. wordLeaf edges e (keyNumber floor) x (getD index y 0) (ruleAt rules (getD index y 0))) (keyNumber so-far₀) start y)
+Inv-loop rules edges index e floor head start end heard so-far₀ y₀ so-far y = (start ≤ y) × (y - start ≤ end - start)
+    × (keyNumber so-far ≡ over (λ x y. wordLeaf edges e (keyNumber floor) x (getD index y 0) (ruleAt rules (getD index y 0))) (keyNumber so-far₀) start y)
 
 abbrev μ-loop : tie.MeasureT-loop
 μ-loop rules edges index e floor head start end heard so-far₀ y₀ so-far y = end - y
@@ -67,11 +68,29 @@ loop-less : tie.Need-loop-less Inv-loop μ-loop
 loop-less c = search needs
 
 loop-again : tie.Need-loop-again Inv-loop μ-loop
-loop-again c = let h = c .before .before .before .loop .inv .0 in (search needs, search needs, rw (from-more, from-turn, ← c .before .before .before .loop .inv .2, ← c .before .number-at2 .ensures .0) (c .word-leaf .ensures))
+loop-again c =
+    let at-loop = c .before .before .before in
+    let h = at-loop .loop .inv .0 in (
+      search needs,
+      search needs,
+      rw (from-more, from-turn, ← at-loop .loop .inv .2, ← c .before .number-at2 .ensures .0) (c .word-leaf .ensures),
+    )
 
 returns-2 : tie.Need-returns-2 Inv-loop μ-loop
 unfolding edgeLeaves
-returns-2 c = simp (← c .before .before .before .before .before .before .before .before .number-at .ensures .0, eq-eqb _ _ (c .before .before .before .before .before .before .if1 .left), ← c .before .before .before .before .before .wide .ensures .0, ← c .before .before .before .before .class-start .ensures .0, ← c .before .before .before .class-end .ensures .0) (c .before .loop .inv .2 ∙ iter-end _ _ _ _ (c .before .loop .inv .1) (omega arith))
+returns-2 c =
+    let at-class-end = c .before .before .before in
+    let at-class-start = at-class-end .before in
+    let at-wide = at-class-start .before in
+    let at-if1 = at-wide .before in
+    let at-number-at = at-if1 .before .before in
+    simp (
+      ← at-number-at .number-at .ensures .0,
+      eq-eqb _ _ (at-if1 .if1 .left),
+      ← at-wide .wide .ensures .0,
+      ← at-class-start .class-start .ensures .0,
+      ← at-class-end .class-end .ensures .0,
+    ) (c .before .loop .inv .2 ∙ iter-end _ _ _ _ (c .before .loop .inv .1) (omega arith))
 
 pub edge-leaves-spec : {M : Type 1} → statement M
 edge-leaves-spec =

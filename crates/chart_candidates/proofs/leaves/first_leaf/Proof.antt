@@ -17,7 +17,13 @@ no-key-requires : tie.Need-no-key-requires
 no-key-requires c κs = search needs
 
 returns : tie.Need-returns
-returns c = (c .no-key .ensures ∙ sym (no-leaves _ _ _ _ 0 noKey (c .before .before .before .before .before .before .before .before .pre .0 .2 (rw (c .before .before .before .wide .ensures .0) at (c .before .before .lacks .ensures (c .before .if1 .taken))))), rw (c .no-key .ensures) (le-refl noKey))
+returns c =
+    let at-wide = c .before .before .before in
+    let at-pre = at-wide .before .before .before .before .before in (
+      c .no-key .ensures ∙ sym (no-leaves _ _ _ _ 0 noKey
+          (at-pre .pre .0 .2 (rw (at-wide .wide .ensures .0) at (c .before .before .lacks .ensures (c .before .if1 .taken))))),
+      rw (c .no-key .ensures) (le-refl noKey),
+    )
 
 least-leaf-requires : tie.Need-least-leaf-requires
 least-leaf-requires c κs = search needs

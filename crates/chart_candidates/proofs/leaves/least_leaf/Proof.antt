@@ -13,7 +13,8 @@ use Rattle.chart_candidates.proofs.leaves.least_leaf.Statement.{stateme
 use Rattle.chart_candidates.proofs.leaves.least_leaf.Tie as tie
 
 abbrev Inv-loop : tie.InvT-loop
-Inv-loop rules edges index masks c from start end least₀ y₀ least y = (start ≤ y) × (y - start ≤ end - start) × (keyNumber least ≡ over (λ x y. edgeLeaves rules edges index c 0 x (getD index y 0)) noKey start y)
+Inv-loop rules edges index masks c from start end least₀ y₀ least y = (start ≤ y) × (y - start ≤ end - start)
+    × (keyNumber least ≡ over (λ x y. edgeLeaves rules edges index c 0 x (getD index y 0)) noKey start y)
 
 abbrev μ-loop : tie.MeasureT-loop
 μ-loop rules edges index masks c from start end least₀ y₀ least y = end - y
@@ -43,11 +44,21 @@ loop-less : tie.Need-loop-less Inv-loop μ-loop
 loop-less c = search needs
 
 loop-again : tie.Need-loop-again Inv-loop μ-loop
-loop-again c = let h = c .before .before .before .loop .inv .0 in (search needs, search needs, rw (from-more, from-turn, ← c .before .before .before .loop .inv .2, ← c .before .number-at .ensures .0) (c .masked-leaves .ensures))
+loop-again c =
+    let at-loop = c .before .before .before in
+    let h = at-loop .loop .inv .0 in (
+      search needs,
+      search needs,
+      rw (from-more, from-turn, ← at-loop .loop .inv .2, ← c .before .number-at .ensures .0) (c .masked-leaves .ensures),
+    )
 
 returns : tie.Need-returns Inv-loop μ-loop
 unfolding leaves
-returns c = simp (← c .before .before .before .before .class-start .ensures .0, ← c .before .before .before .class-end .ensures .0) (c .before .loop .inv .2 ∙ iter-end _ _ _ _ (c .before .loop .inv .1) (omega arith))
+returns c =
+    let at-class-end = c .before .before .before in
+    let at-class-start = at-class-end .before in
+    simp (← at-class-start .class-start .ensures .0, ← at-class-end .class-end .ensures .0)
+    (c .before .loop .inv .2 ∙ iter-end _ _ _ _ (c .before .loop .inv .1) (omega arith))
 
 pub least-leaf-spec : {M : Type 1} → statement M
 least-leaf-spec =

@@ -13,7 +13,8 @@ use Rattle.chart_candidates.proofs.leaves.leaves.Statement.{statement}
 use Rattle.chart_candidates.proofs.leaves.leaves.Tie as tie
 
 abbrev Inv-loop : tie.InvT-loop
-Inv-loop rules edges index c floor from start end filter so-far₀ y₀ so-far y = (start ≤ y) × (y - start ≤ end - start) × (keyNumber so-far ≡ over (λ x y. edgeLeaves rules edges index c (keyNumber floor) x (getD index y 0)) (keyNumber so-far₀) start y)
+Inv-loop rules edges index c floor from start end filter so-far₀ y₀ so-far y = (start ≤ y) × (y - start ≤ end - start)
+    × (keyNumber so-far ≡ over (λ x y. edgeLeaves rules edges index c (keyNumber floor) x (getD index y 0)) (keyNumber so-far₀) start y)
 
 abbrev μ-loop : tie.MeasureT-loop
 μ-loop rules edges index c floor from start end filter so-far₀ y₀ so-far y = end - y
@@ -50,11 +51,21 @@ loop-less : tie.Need-loop-less Inv-loop μ-loop
 loop-less c = search needs
 
 loop-again : tie.Need-loop-again Inv-loop μ-loop
-loop-again c = let h = c .before .before .before .loop .inv .0 in (search needs, search needs, rw (from-more, from-turn, ← c .before .before .before .loop .inv .2, ← c .before .number-at .ensures .0) (c .filtered-leaves .ensures))
+loop-again c =
+    let at-loop = c .before .before .before in
+    let h = at-loop .loop .inv .0 in (
+      search needs,
+      search needs,
+      rw (from-more, from-turn, ← at-loop .loop .inv .2, ← c .before .number-at .ensures .0) (c .filtered-leaves .ensures),
+    )
 
 returns-2 : tie.Need-returns-2 Inv-loop μ-loop
 unfolding leaves
-returns-2 c = simp (← c .before .before .before .before .before .before .class-start .ensures .0, ← c .before .before .before .before .before .class-end .ensures .0) (c .before .loop .inv .2 ∙ iter-end _ _ _ _ (c .before .loop .inv .1) (omega arith))
+returns-2 c =
+    let at-class-end = c .before .before .before .before .before in
+    let at-class-start = at-class-end .before in
+    simp (← at-class-start .class-start .ensures .0, ← at-class-end .class-end .ensures .0)
+    (c .before .loop .inv .2 ∙ iter-end _ _ _ _ (c .before .loop .inv .1) (omega arith))
 
 pub leaves-spec : {M : Type 1} → statement M
 leaves-spec =

@@ -17,8 +17,11 @@ lacks-requires c κs = search needs
 
 returns : tie.Need-returns
 returns c =
-    let a = c .before .before .before .before .before .before .before .before .args in
-    sym (word-passed (a .rules .now) (a .edges .now) (a .index .now) (a .masks .now) (a .c) 0 (keyNumber (a .best)) (a .e) (c .before .before .before .edge-heads .result) (c .before .before .before .before .before .before .before .before .pre .2) (c .before .before .before .edge-heads .ensures) (rw (c .before .before .wide .ensures .0) at (c .before .lacks .ensures (c .if1 .taken))))
+    let at-edge-heads = c .before .before .before in
+    let at-args = at-edge-heads .before .before .before .before .before in
+    let a = at-args .args in
+    sym (word-passed (a .rules .now) (a .edges .now) (a .index .now) (a .masks .now) (a .c) 0 (keyNumber (a .best)) (a .e) (at-edge-heads .edge-heads .result)
+    (at-args .pre .2) (at-edge-heads .edge-heads .ensures) (rw (c .before .before .wide .ensures .0) at (c .before .lacks .ensures (c .if1 .taken))))
 
 edge-leaves-requires : tie.Need-edge-leaves-requires
 edge-leaves-requires c κs = search needs

@@ -47,11 +47,21 @@ returns c = simp (← c .before .before .rule-at .ensures, c .enum-told .given .
 
 returns-2 : tie.Need-returns-2
 unfolding wordLeaf
-returns-2 c = simp (← c .before .before .before .before .before .before .before .before .before .before .rule-at .ensures, c .before .before .before .before .before .before .before .before .rule .given .1, ← c .before .before .before .before .before .before .narrow-at .ensures, eq-eqb _ _ (c .before .before .before .before .if1 .taken)) (rw (c .lesser .ensures, c .before .before .back-number .ensures .0, c .before .leaf-price .ensures, c .before .before .before .number-at .ensures .0))
+returns-2 c =
+    let at-number-at = c .before .before .before in
+    let at-if1 = at-number-at .before in
+    let at-narrow-at = at-if1 .before .before in
+    let at-rule = at-narrow-at .before .before in
+    let at-rule-at = at-rule .before .before in
+    simp (← at-rule-at .rule-at .ensures, at-rule .rule .given .1, ← at-narrow-at .narrow-at .ensures, eq-eqb _ _ (at-if1 .if1 .taken))
+    (rw (c .lesser .ensures, c .before .before .back-number .ensures .0, c .before .leaf-price .ensures, at-number-at .number-at .ensures .0))
 
 returns-3 : tie.Need-returns-3
 unfolding wordLeaf
-returns-3 c = simp (← c .before .before .before .before .before .before .rule-at .ensures, c .before .before .before .before .rule .given .1, ← c .before .before .narrow-at .ensures, ne-eqb _ _ (c .if1 .left))
+returns-3 c =
+    let at-rule = c .before .before .before .before in
+    let at-rule-at = at-rule .before .before in
+    simp (← at-rule-at .rule-at .ensures, at-rule .rule .given .1, ← c .before .before .narrow-at .ensures, ne-eqb _ _ (c .if1 .left))
 
 pub rule-leaf-spec : {M : Type 1} → statement M
 rule-leaf-spec =

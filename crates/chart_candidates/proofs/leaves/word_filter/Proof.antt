@@ -44,10 +44,21 @@ loop-less : tie.Need-loop-less Inv-loop μ-loop
 loop-less c = search needs
 
 loop-again : tie.Need-loop-again Inv-loop μ-loop
-loop-again c = (search needs, rw (c .word-bit .ensures, c .before .narrow-at .ensures, c .before .before .number-at .ensures .0) (filter-next (c .before .before .before .before .before .before .before .before .before .args .rules .now) (c .before .before .before .before .loop .inv .1)))
+loop-again c =
+    let at-loop = c .before .before .before .before in
+    let at-args = at-loop .before .before .before .before .before in (
+      search needs,
+      rw (c .word-bit .ensures, c .before .narrow-at .ensures, c .before .before .number-at .ensures .0)
+          (filter-next (at-args .args .rules .now) (at-loop .loop .inv .1)),
+    )
 
 returns : tie.Need-returns Inv-loop μ-loop
-returns c = record { has = λ z h l. c .before .loop .inv .1 .has z (omega (arith, h, c .before .before .before .class-start .ensures .0)) (omega (arith, l, c .before .before .class-end .ensures .0, c .loop-test .left)) }
+returns c =
+    let at-class-start = c .before .before .before in
+    record {
+      has = λ z h l. c .before .loop .inv .1 .has z (omega (arith, h, at-class-start .class-start .ensures .0))
+          (omega (arith, l, c .before .before .class-end .ensures .0, c .loop-test .left));
+    }
 
 pub word-filter-spec : {M : Type 1} → statement M
 word-filter-spec =

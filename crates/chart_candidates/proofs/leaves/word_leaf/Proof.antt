@@ -16,7 +16,10 @@ narrow-at-requires : tie.Need-narrow-at-requires
 narrow-at-requires c κs = search needs
 
 returns : tie.Need-returns
-returns c = sym (other-word (c .before .before .before .before .args .rules .now) (c .before .before .before .before .args .edges .now) (c .before .before .before .before .args .e) (keyNumber (c .before .before .before .before .args .floor)) (keyNumber (c .before .before .before .before .args .best)) (c .before .before .before .before .args .r) (λ q. c .if1 .taken (c .before .narrow-at .ensures ∙ q ∙ sym (c .before .before .before .before .pre .2))))
+returns c =
+    let at-args = c .before .before .before .before in
+    sym (other-word (at-args .args .rules .now) (at-args .args .edges .now) (at-args .args .e) (keyNumber (at-args .args .floor))
+    (keyNumber (at-args .args .best)) (at-args .args .r) (λ q. c .if1 .taken (c .before .narrow-at .ensures ∙ q ∙ sym (at-args .pre .2))))
 
 rule-leaf-requires : tie.Need-rule-leaf-requires
 rule-leaf-requires c κs = search needs

@@ -15,7 +15,10 @@ returns : tie.Need-returns
 returns c = search needs
 
 returns-2 : tie.Need-returns-2
-returns-2 c = sym (seeds-passed _ _ _ (c .before .before .before .before .before .before .pre .1) _ 0 _ (c .before .before .before .before .before .before .pre .0 .last) (c .before .before .before .before .before .before .pre .2) (c .before .before .before .before .before .before .args .rules .now) (c .before .before .before .before .before .before .args .index .now) (c .before .has-seeds .ensures (c .if1 .left)))
+returns-2 c =
+    let at-pre = c .before .before .before .before .before .before in
+    sym (seeds-passed _ _ _ (at-pre .pre .1) _ 0 _ (at-pre .pre .0 .last) (at-pre .pre .2) (at-pre .args .rules .now) (at-pre .args .index .now)
+    (c .before .has-seeds .ensures (c .if1 .left)))
 
 pub first-seeds-spec : {M : Type 1} → statement M
 first-seeds-spec = tie.close (tie.spec has-seeds-requires seeds-requires returns returns-2)

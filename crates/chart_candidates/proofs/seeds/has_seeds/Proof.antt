@@ -44,10 +44,20 @@ loop-less : tie.Need-loop-less Inv-loop μ-loop
 loop-less c = search needs
 
 loop-again : tie.Need-loop-again Inv-loop μ-loop
-loop-again c = (search needs, below-more _ _ (c .before .before .before .before .loop .inv .1) (λ l. rw (← c .before .before .number-at .ensures .0) (c .before .parts-meet .ensures (c .if1 .left))))
+loop-again c =
+    let at-loop = c .before .before .before .before in (
+      search needs,
+      below-more _ _ (at-loop .loop .inv .1)
+          (λ l. rw (← c .before .before .number-at .ensures .0) (c .before .parts-meet .ensures (c .if1 .left))),
+    )
 
 returns-2 : tie.Need-returns-2 Inv-loop μ-loop
-returns-2 c = λ e z h l. let s = rw (c .before .before .before .before .wide .ensures .0) at (c .before .before .before .class-start .ensures .0) in let s₂ = rw (c .before .before .before .before .wide .ensures .0) at (c .before .before .class-end .ensures .0) in c .before .loop .inv .1 z (omega (arith, l, s₂, c .loop-test .left)) (omega (arith, h, s))
+returns-2 c =
+    let at-class-start = c .before .before .before in
+    let at-wide = at-class-start .before in
+    λ e z h l. let s = rw (at-wide .wide .ensures .0) at (at-class-start .class-start .ensures .0) in let s₂ =
+    rw (at-wide .wide .ensures .0) at (c .before .before .class-end .ensures .0) in c .before .loop .inv .1 z (omega (arith, l, s₂, c .loop-test .left))
+    (omega (arith, h, s))
 
 pub has-seeds-spec : {M : Type 1} → statement M
 has-seeds-spec =

@@ -15,7 +15,10 @@ returns : tie.Need-returns
 returns c = search needs
 
 returns-2 : tie.Need-returns-2
-returns-2 c = sym (rule-passed _ _ _ (c .before .before .before .before .before .before .pre .2) _ _ _ (c .before .before .before .before .before .before .pre .0 .last) (c .before .before .before .before .before .before .pre .3) (c .before .before .before .before .before .before .args .rules .now) (c .before .before .before .before .before .before .args .r) (c .before .before .parts-meet .ensures (c .before .if1 .left)))
+returns-2 c =
+    let at-pre = c .before .before .before .before .before .before in
+    sym (rule-passed _ _ _ (at-pre .pre .2) _ _ _ (at-pre .pre .0 .last) (at-pre .pre .3) (at-pre .args .rules .now) (at-pre .args .r)
+    (c .before .before .parts-meet .ensures (c .before .if1 .left)))
 
 pub masked-seeds-spec : {M : Type 1} → statement M
 masked-seeds-spec = tie.close (tie.spec parts-meet-requires rule-seeds-requires returns returns-2)

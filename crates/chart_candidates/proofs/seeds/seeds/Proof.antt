@@ -17,7 +17,8 @@ use Rattle.chart_candidates.proofs.seeds.seeds.Statement.{statement}
 use Rattle.chart_candidates.proofs.seeds.seeds.Tie as tie
 
 abbrev Inv-loop : tie.InvT-loop
-Inv-loop t masks d rules index c floor head start end so-far₀ y₀ so-far y = (start ≤ y) × (y - start ≤ end - start) × (keyNumber so-far ≡ over (λ x y. ruleSeeds t d c (keyNumber floor) x (getD index y 0) (ruleAt rules (getD index y 0))) (keyNumber so-far₀) start y)
+Inv-loop t masks d rules index c floor head start end so-far₀ y₀ so-far y = (start ≤ y) × (y - start ≤ end - start)
+    × (keyNumber so-far ≡ over (λ x y. ruleSeeds t d c (keyNumber floor) x (getD index y 0) (ruleAt rules (getD index y 0))) (keyNumber so-far₀) start y)
 
 abbrev μ-loop : tie.MeasureT-loop
 μ-loop t masks d rules index c floor head start end so-far₀ y₀ so-far y = end - y
@@ -38,7 +39,17 @@ number-at-requires : tie.Need-number-at-requires Inv-loop μ-loop
 number-at-requires c κs = search needs
 
 masked-seeds-requires : tie.Need-masked-seeds-requires Inv-loop μ-loop
-masked-seeds-requires c κs = let a = c .before .before .before .before .before .before .before .before .before .before .before .before .args in (c .before .before .before .before .before .before .before .before .before .before .before .before .pre .0, c .number-at .ensures .1, c .before .before .before .before .before .before .before .before .before .before .before .before .pre .1, rw (c .before .before .loop .inv .2) (le-trans (rules-below (a .t .now) (a .d) (a .index .now) (a .rules .now) (a .c) (keyNumber (a .range .floor)) (keyNumber (a .range .best)) (c .before .before .before .before .before .class-start .result) (c .before .before .loop .y)) (c .before .before .before .before .before .before .before .before .before .before .before .before .pre .2)))
+masked-seeds-requires c κs =
+    let at-class-start = c .before .before .before .before .before in
+    let at-args = at-class-start .before .before .before .before .before .before .before in
+    let a = at-args .args in (
+      at-args .pre .0,
+      c .number-at .ensures .1,
+      at-args .pre .1,
+      rw (c .before .before .loop .inv .2) (le-trans
+          (rules-below (a .t .now) (a .d) (a .index .now) (a .rules .now) (a .c) (keyNumber (a .range .floor)) (keyNumber (a .range .best))
+          (at-class-start .class-start .result) (c .before .before .loop .y)) (at-args .pre .2)),
+    )
 
 add-y : tie.Need-add-y Inv-loop μ-loop
 add-y c = search needs
@@ -47,11 +58,22 @@ loop-less : tie.Need-loop-less Inv-loop μ-loop
 loop-less c = search needs
 
 loop-again : tie.Need-loop-again Inv-loop μ-loop
-loop-again c = let h = c .before .before .before .loop .inv .0 in (search needs, search needs, rw (from-more, from-turn, ← c .before .before .before .loop .inv .2, ← c .before .number-at .ensures .0) (c .masked-seeds .ensures))
+loop-again c =
+    let at-loop = c .before .before .before in
+    let h = at-loop .loop .inv .0 in (
+      search needs,
+      search needs,
+      rw (from-more, from-turn, ← at-loop .loop .inv .2, ← c .before .number-at .ensures .0) (c .masked-seeds .ensures),
+    )
 
 returns : tie.Need-returns Inv-loop μ-loop
 unfolding seeds
-returns c = simp (← c .before .before .before .before .before .wide .ensures .0, ← c .before .before .before .before .class-start .ensures .0, ← c .before .before .before .class-end .ensures .0) (c .before .loop .inv .2 ∙ iter-end _ _ _ _ (c .before .loop .inv .1) (omega (arith, c .loop-test .left)))
+returns c =
+    let at-class-end = c .before .before .before in
+    let at-class-start = at-class-end .before in
+    let at-wide = at-class-start .before in
+    simp (← at-wide .wide .ensures .0, ← at-class-start .class-start .ensures .0, ← at-class-end .class-end .ensures .0)
+    (c .before .loop .inv .2 ∙ iter-end _ _ _ _ (c .before .loop .inv .1) (omega (arith, c .loop-test .left)))
 
 pub seeds-spec : {M : Type 1} → statement M
 seeds-spec =

@@ -40,13 +40,27 @@ divides-requires : tie.Need-divides-requires
 divides-requires c κs = search needs
 
 split-seeds-within-requires : tie.Need-split-seeds-within-requires
-split-seeds-within-requires c κs = (
-  (c .before .before .before .before .before .before .before .before .before .before .before .before .before .before .before .before .before .pre .0, c .before .before .before .is-small .ensures (c .before .before .if4 .taken), c .before .divides .ensures (c .if5 .taken)),
-  (
-    rw (← c .before .before .before .before .before .before .before .before .before .before .before .left-part .ensures, ← c .before .before .before .before .before .before .before .before .before .before .cell-number .ensures .0, ← c .before .before .before .before .before .before .before .before .before .entry-of .ensures .0) (search needs),
-    rw (← c .before .before .before .before .before .before .before .before .right-part .ensures, ← c .before .before .before .before .before .before .before .cell-number2 .ensures .0, ← c .before .before .before .before .before .before .entry-of2 .ensures .0) (search needs),
-  ),
-)
+split-seeds-within-requires c κs =
+    let at-entry-of2 = c .before .before .before .before .before .before in
+    let at-left-part = at-entry-of2 .before .before .before .before .before in (
+      (
+        at-left-part .before .before .before .before .before .before .pre .0,
+        c .before .before .before .is-small .ensures (c .before .before .if4 .taken),
+        c .before .divides .ensures (c .if5 .taken),
+      ),
+      (
+        rw (
+          ← at-left-part .left-part .ensures,
+          ← at-entry-of2 .before .before .before .before .cell-number .ensures .0,
+          ← at-entry-of2 .before .before .before .entry-of .ensures .0,
+        ) (search needs),
+        rw (
+          ← at-entry-of2 .before .before .right-part .ensures,
+          ← at-entry-of2 .before .cell-number2 .ensures .0,
+          ← at-entry-of2 .entry-of2 .ensures .0,
+        ) (search needs),
+      ),
+    )
 
 returns : tie.Need-returns
 returns c = search needs

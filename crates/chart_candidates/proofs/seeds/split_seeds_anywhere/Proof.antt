@@ -18,7 +18,8 @@ next-fits : (j end : ℕ) → j < end → end ≤ 31 → Fits w64 (j + 1)
 next-fits j end h l = omega arith
 
 abbrev Inv-loop : tie.InvT-loop
-Inv-loop t d rule c floor so-far₀ end j₀ so-far j = (c .from + 1 ≤ j) × (j - (c .from + 1) ≤ end - (c .from + 1)) × (keyNumber so-far ≡ over (λ x j. lesser (keyNumber floor) x (seedKey t d rule c j)) (keyNumber so-far₀) (c .from + 1) j)
+Inv-loop t d rule c floor so-far₀ end j₀ so-far j = (c .from + 1 ≤ j) × (j - (c .from + 1) ≤ end - (c .from + 1))
+    × (keyNumber so-far ≡ over (λ x j. lesser (keyNumber floor) x (seedKey t d rule c j)) (keyNumber so-far₀) (c .from + 1) j)
 
 abbrev μ-loop : tie.MeasureT-loop
 μ-loop t d rule c floor so-far₀ end j₀ so-far j = end - j
@@ -45,13 +46,33 @@ lesser-requires : tie.Need-lesser-requires Inv-loop μ-loop
 lesser-requires c κs = search needs
 
 add-j-2 : tie.Need-add-j-2 Inv-loop μ-loop
-add-j-2 c = next-fits _ _ (c .before .before .before .before .before .loop-test .taken) (c .before .before .before .before .before .before .before .before .before .pre .0 .last)
+add-j-2 c =
+    let at-loop-test = c .before .before .before .before .before in
+    let at-pre = at-loop-test .before .before .before .before in
+    next-fits _ _ (at-loop-test .loop-test .taken) (at-pre .pre .0 .last)
 
 loop-less : tie.Need-loop-less Inv-loop μ-loop
 loop-less c = search needs
 
 loop-again : tie.Need-loop-again Inv-loop μ-loop
-loop-again c = let h = c .before .before .before .before .before .before .loop .inv .0 in (search needs, search needs, rw (from-more, from-turn, c .lesser .ensures, c .before .pair-key .ensures, c .before .before .seed .ensures, c .before .before .before .right-part .ensures, c .before .before .before .before .left-part .ensures, c .before .before .before .before .before .before .loop .inv .2))
+loop-again c =
+    let at-right-part = c .before .before .before in
+    let at-left-part = at-right-part .before in
+    let at-loop = at-left-part .before .before in
+    let h = at-loop .loop .inv .0 in (
+      search needs,
+      search needs,
+      rw (
+        from-more,
+        from-turn,
+        c .lesser .ensures,
+        c .before .pair-key .ensures,
+        c .before .before .seed .ensures,
+        at-right-part .right-part .ensures,
+        at-left-part .left-part .ensures,
+        at-loop .loop .inv .2,
+      ),
+    )
 
 returns : tie.Need-returns Inv-loop μ-loop
 unfolding splitSeeds

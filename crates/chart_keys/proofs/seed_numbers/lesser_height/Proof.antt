@@ -14,7 +14,10 @@ returns : tie.Need-returns
 returns c = (lower _ _ _ _ (c .before .before .pre) (c .before .wrapping-sub-usize .ensures) (c .if1 .taken), search needs)
 
 returns-2 : tie.Need-returns-2
-returns-2 c = (not-lower _ _ _ _ (c .before .before .pre) (c .before .wrapping-sub-usize .ensures) (c .before .wrapping-sub-usize .ok) (c .if1 .left), search needs)
+returns-2 c = (
+  not-lower _ _ _ _ (c .before .before .pre) (c .before .wrapping-sub-usize .ensures) (c .before .wrapping-sub-usize .ok) (c .if1 .left),
+  search needs,
+)
 
 pub lesser-height-spec : {M : Type 1} → statement M
 lesser-height-spec =

@@ -17,7 +17,9 @@ slice-aggregate-seeds : tie.Need-slice-aggregate-seeds
 slice-aggregate-seeds c = search needs
 
 seeds-requires : tie.Need-seeds-requires
-seeds-requires c κs = (c .before .before .before .before .before .before .before .pre, λ h. absurd (omega (arith, h)), rw (c .before .leaves .ensures, c .before .before .no-key .ensures) (leaves-below _ _ _ _ _ noKey))
+seeds-requires c κs =
+    let at-pre = c .before .before .before .before .before .before .before in
+    (at-pre .pre, λ h. absurd (omega (arith, h)), rw (c .before .leaves .ensures, c .before .before .no-key .ensures) (leaves-below _ _ _ _ _ noKey))
 
 returns : tie.Need-returns
 unfolding leastInitial

@@ -17,7 +17,9 @@ unfolding replacement
 returns c = rw (sym (c .before .before .is-initial .ensures) ∙ c .before .if1 .taken) (c .least-initial .ensures)
 
 sibling-requires : tie.Need-sibling-requires
-sibling-requires c κs = search (needs, c .before .before .before .before .before .before .pre, inner-split (c .before .before .before .before .before .before .args .last .back) (sym (c .before .is-initial .ensures) ∙ c .if1 .left))
+sibling-requires c κs =
+    let at-pre = c .before .before .before .before .before .before in
+    search (needs, at-pre .pre, inner-split (at-pre .args .last .back) (sym (c .before .is-initial .ensures) ∙ c .if1 .left))
 
 returns-2 : tie.Need-returns-2
 unfolding replacement

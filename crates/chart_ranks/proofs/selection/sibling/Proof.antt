@@ -25,7 +25,11 @@ with-ranks-requires : tie.Need-with-ranks-requires
 with-ranks-requires c κs = search needs
 
 pair-key-requires : tie.Need-pair-key-requires
-pair-key-requires c κs = rw (c .before .before .before .before .before .left-part .ensures, c .before .before .before .before .right-part .ensures, c .with-ranks .ensures) (search (needs, c .before .before .before .before .before .before .before .before .before .before .before .before .before .before .pre))
+pair-key-requires c κs =
+    let at-right-part = c .before .before .before .before in
+    let at-left-part = at-right-part .before in
+    let at-pre = at-left-part .before .before .before .before .before .before .before .before .before in
+    rw (at-left-part .left-part .ensures, at-right-part .right-part .ensures, c .with-ranks .ensures) (search (needs, at-pre .pre))
 
 no-key-requires : tie.Need-no-key-requires
 no-key-requires c κs = search needs
@@ -36,13 +40,19 @@ lesser-requires c κs = search needs
 returns : tie.Need-returns
 unfolding sibling pairSibling
 returns c =
-    simp (← c .before .before .before .before .before .before .before .before .before .before .before .before .rule-at .ensures, c .before .before .before .before .before .before .before .before .before .before .rule .given .1, eq-eqb _ _ (c .before .before .before .before .before .if1 .taken)) (rw (
+    let at-with-ranks = c .before .before .before in
+    let at-if1 = at-with-ranks .before .before in
+    let at-right-part = at-if1 .before .before in
+    let at-left-part = at-right-part .before in
+    let at-rule = at-left-part .before .before in
+    let at-rule-at = at-rule .before .before in
+    simp (← at-rule-at .rule-at .ensures, at-rule .rule .given .1, eq-eqb _ _ (at-if1 .if1 .taken)) (rw (
       c .lesser .ensures,
       c .before .no-key .ensures,
       c .before .before .pair-key .ensures,
-      c .before .before .before .with-ranks .ensures,
-      c .before .before .before .before .before .before .before .right-part .ensures,
-      c .before .before .before .before .before .before .before .before .left-part .ensures,
+      at-with-ranks .with-ranks .ensures,
+      at-right-part .right-part .ensures,
+      at-left-part .left-part .ensures,
     ))
 
 sub-with-ranks : tie.Need-sub-with-ranks
@@ -52,7 +62,11 @@ with-ranks-requires-2 : tie.Need-with-ranks-requires-2
 with-ranks-requires-2 c κs = search needs
 
 pair-key-requires-2 : tie.Need-pair-key-requires-2
-pair-key-requires-2 c κs = rw (c .before .before .before .before .before .before .before .before .before .left-part .ensures, c .before .before .before .before .before .before .before .before .right-part .ensures, c .with-ranks2 .ensures) (search (needs, c .before .before .before .before .before .before .before .before .before .before .before .before .before .before .before .before .before .before .pre))
+pair-key-requires-2 c κs =
+    let at-right-part = c .before .before .before .before .before .before .before .before in
+    let at-left-part = at-right-part .before in
+    let at-pre = at-left-part .before .before .before .before .before .before .before .before .before in
+    rw (at-left-part .left-part .ensures, at-right-part .right-part .ensures, c .with-ranks2 .ensures) (search (needs, at-pre .pre))
 
 no-key-requires-2 : tie.Need-no-key-requires-2
 no-key-requires-2 c κs = search needs
@@ -63,13 +77,28 @@ lesser-requires-2 c κs = search needs
 returns-2 : tie.Need-returns-2
 unfolding sibling pairSibling
 returns-2 c =
+    let at-with-ranks2 = c .before .before .before in
+    let at-if3 = at-with-ranks2 .before .before in
+    let at-if2 = at-if3 .before .before in
+    let at-if1 = at-if2 .before .before in
+    let at-right-part = at-if1 .before .before in
+    let at-left-part = at-right-part .before in
+    let at-rule = at-left-part .before .before in
+    let at-rule-at = at-rule .before .before in
     simp (
-      ← c .before .before .before .before .before .before .before .before .before .before .before .before .before .before .before .before .rule-at .ensures,
-      c .before .before .before .before .before .before .before .before .before .before .before .before .before .before .rule .given .1,
-      ne-eqb _ _ (c .before .before .before .before .before .before .before .before .before .if1 .left),
-      eq-eqb _ _ (c .before .before .before .before .before .before .before .if2 .taken),
-      lt-ltb _ _ (c .before .before .before .before .before .if3 .taken),
-    ) (rw (c .lesser2 .ensures, c .before .no-key2 .ensures, c .before .before .pair-key2 .ensures, c .before .before .before .with-ranks2 .ensures, c .before .before .before .before .before .before .before .before .before .before .before .right-part .ensures, c .before .before .before .before .before .before .before .before .before .before .before .before .left-part .ensures))
+      ← at-rule-at .rule-at .ensures,
+      at-rule .rule .given .1,
+      ne-eqb _ _ (at-if1 .if1 .left),
+      eq-eqb _ _ (at-if2 .if2 .taken),
+      lt-ltb _ _ (at-if3 .if3 .taken),
+    ) (rw (
+      c .lesser2 .ensures,
+      c .before .no-key2 .ensures,
+      c .before .before .pair-key2 .ensures,
+      at-with-ranks2 .with-ranks2 .ensures,
+      at-right-part .right-part .ensures,
+      at-left-part .left-part .ensures,
+    ))
 
 no-key-requires-3 : tie.Need-no-key-requires-3
 no-key-requires-3 c κs = search needs
@@ -83,9 +112,12 @@ no-key-requires-4 c κs = search needs
 returns-3 : tie.Need-returns-3
 unfolding sibling pairSibling
 returns-3 c =
+    let at-if1 = c .before .before .before in
+    let at-rule = at-if1 .before .before .before .before .before in
+    let at-rule-at = at-rule .before .before in
     rw (c .no-key3 .ensures) (⊎-elim
-    (λ w. simp (← c .before .before .before .before .before .before .before .before .before .before .rule-at .ensures, c .before .before .before .before .before .before .before .before .rule .given .1, ne-eqb _ _ (c .before .before .before .if1 .left), eq-eqb _ _ (w .0 .taken), le-ltb _ _ (w .2 .left)))
-    (λ w. simp (← c .before .before .before .before .before .before .before .before .before .before .rule-at .ensures, c .before .before .before .before .before .before .before .before .rule .given .1, ne-eqb _ _ (c .before .before .before .if1 .left), ne-eqb _ _ (w .left)))
+    (λ w. simp (← at-rule-at .rule-at .ensures, at-rule .rule .given .1, ne-eqb _ _ (at-if1 .if1 .left), eq-eqb _ _ (w .0 .taken), le-ltb _ _ (w .2 .left)))
+    (λ w. simp (← at-rule-at .rule-at .ensures, at-rule .rule .given .1, ne-eqb _ _ (at-if1 .if1 .left), ne-eqb _ _ (w .left)))
     (c .before .if2 .came))
 
 returns-4 : tie.Need-returns-4

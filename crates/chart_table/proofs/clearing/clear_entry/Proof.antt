@@ -46,7 +46,12 @@ same-length-2 c = search needs
 
 returns-2 : tie.Need-returns-2
 unfolding clearEntry
-returns-2 c = rw (c .before .before .store4 .ensures, c .before .before .before .before .before .before .store3 .ensures, c .before .before .before .before .before .before .before .before .before .before .store2 .ensures, c .before .before .before .before .before .before .before .before .before .before .before .before .before .before .store .ensures, c .before .before .before .before .before .before .before .before .before .before .before .before .before .before .before .before .before .entry-of .ensures .0)
+returns-2 c =
+    let at-store3 = c .before .before .before .before .before .before in
+    let at-store2 = at-store3 .before .before .before .before in
+    let at-store = at-store2 .before .before .before .before in
+    let at-entry-of = at-store .before .before .before in
+    rw (c .before .before .store4 .ensures, at-store3 .store3 .ensures, at-store2 .store2 .ensures, at-store .store .ensures, at-entry-of .entry-of .ensures .0)
 
 pub clear-entry-spec : {M : Type 1} → statement M
 clear-entry-spec =

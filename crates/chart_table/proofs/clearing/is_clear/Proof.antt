@@ -67,7 +67,12 @@ add-result-3 : tie.Need-add-result-3
 add-result-3 c = search needs
 
 returns : tie.Need-returns
-returns c = λ e. rw (← c .before .before .before .before .before .before .before .before .before .entry-of .ensures .0) (sum-clear (c .before .before .before .before .before .before .wide .ensures .0) (c .before .before .before .before .wide2 .ensures .0) (c .before .before .wide3 .ensures .0) (c .wide4 .ensures .0) (eqb-true _ _ e))
+returns c =
+    let at-wide2 = c .before .before .before .before in
+    let at-wide = at-wide2 .before .before in
+    let at-entry-of = at-wide .before .before .before in
+    λ e. rw (← at-entry-of .entry-of .ensures .0) (sum-clear (at-wide .wide .ensures .0) (at-wide2 .wide2 .ensures .0) (c .before .before .wide3 .ensures .0)
+    (c .wide4 .ensures .0) (eqb-true _ _ e))
 
 returns-2 : tie.Need-returns-2
 returns-2 c = λ e. absurd (false≢true e)

@@ -36,7 +36,11 @@ same-length c = search needs
 
 returns : tie.Need-returns
 unfolding writeFour
-returns c = rw (c .before .before .copy-entry4 .ensures, c .before .before .before .before .before .before .copy-entry3 .ensures, c .before .before .before .before .before .before .before .before .before .before .copy-entry2 .ensures, c .before .before .before .before .before .before .before .before .before .before .before .before .before .before .copy-entry .ensures)
+returns c =
+    let at-copy-entry3 = c .before .before .before .before .before .before in
+    let at-copy-entry2 = at-copy-entry3 .before .before .before .before in
+    let at-copy-entry = at-copy-entry2 .before .before .before .before in
+    rw (c .before .before .copy-entry4 .ensures, at-copy-entry3 .copy-entry3 .ensures, at-copy-entry2 .copy-entry2 .ensures, at-copy-entry .copy-entry .ensures)
 
 pub copy-four-spec : {M : Type 1} → statement M
 copy-four-spec =

@@ -21,7 +21,11 @@ same-length c = search needs
 
 returns : tie.Need-returns
 unfolding keepFour
-returns c = rw (c .before .before .keep-entry4 .ensures, c .before .before .before .before .before .before .keep-entry3 .ensures, c .before .before .before .before .before .before .before .before .before .before .keep-entry2 .ensures, c .before .before .before .before .before .before .before .before .before .before .before .before .before .before .keep-entry .ensures)
+returns c =
+    let at-keep-entry3 = c .before .before .before .before .before .before in
+    let at-keep-entry2 = at-keep-entry3 .before .before .before .before in
+    let at-keep-entry = at-keep-entry2 .before .before .before .before in
+    rw (c .before .before .keep-entry4 .ensures, at-keep-entry3 .keep-entry3 .ensures, at-keep-entry2 .keep-entry2 .ensures, at-keep-entry .keep-entry .ensures)
 
 pub keep-each-spec : {M : Type 1} → statement M
 keep-each-spec =

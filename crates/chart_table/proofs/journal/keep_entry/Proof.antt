@@ -34,7 +34,13 @@ same-length c = search needs
 
 returns : tie.Need-returns
 unfolding keepEntry
-returns c = rw (c .before .before .store .ensures, c .before .before .before .before .before .before .write-kept .ensures, c .before .before .before .before .before .before .before .numbers-at .ensures) (simp (← c .before .before .before .before .before .before .before .before .before .before .number-at .ensures .0, lt-ltb _ _ (c .before .before .before .before .before .before .before .before .before .if1 .taken)))
+returns c =
+    let at-write-kept = c .before .before .before .before .before .before in
+    let at-numbers-at = at-write-kept .before in
+    let at-if1 = at-numbers-at .before .before in
+    let at-number-at = at-if1 .before in
+    rw (c .before .before .store .ensures, at-write-kept .write-kept .ensures, at-numbers-at .numbers-at .ensures)
+    (simp (← at-number-at .number-at .ensures .0, lt-ltb _ _ (at-if1 .if1 .taken)))
 
 same-length-2 : tie.Need-same-length-2
 same-length-2 c = search needs

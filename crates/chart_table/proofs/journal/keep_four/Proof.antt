@@ -40,9 +40,14 @@ same-length c = search needs
 
 returns : tie.Need-returns
 returns c =
-    let a = c .before .before .before .before .before .before .before .before .before .before .before .before .before .before .args in
-    rw (c .before .before .store .ensures, c .before .before .before .before .before .before .copy-four .ensures)
-    (kept-at-once (a .t .now) (a .kept .now) _ (a .at) (c .before .before .before .before .before .before .before .before .before .before .number-at .ensures .0) (c .before .before .before .before .before .before .before .before .before .if1 .taken) (omega (arith, c .before .before .before .before .before .before .before .before .if2 .taken)))
+    let at-copy-four = c .before .before .before .before .before .before in
+    let at-if2 = at-copy-four .before .before in
+    let at-if1 = at-if2 .before in
+    let at-number-at = at-if1 .before in
+    let at-args = at-number-at .before .before .before .before in
+    let a = at-args .args in
+    rw (c .before .before .store .ensures, at-copy-four .copy-four .ensures)
+    (kept-at-once (a .t .now) (a .kept .now) _ (a .at) (at-number-at .number-at .ensures .0) (at-if1 .if1 .taken) (omega (arith, at-if2 .if2 .taken)))
 
 keep-each-requires : tie.Need-keep-each-requires
 keep-each-requires c κs = search needs

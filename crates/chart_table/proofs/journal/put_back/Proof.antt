@@ -40,7 +40,13 @@ loop-less : tie.Need-loop-less Inv-loop μ-loop
 loop-less c = search needs
 
 loop-again : tie.Need-loop-again Inv-loop μ-loop
-loop-again c = (search (needs, c .before .before .before .before .before .loop .inv), c .before .before .before .before .before .loop .inv .1, c .before .before .restore-entry .kept .0 ∙ c .before .before .before .before .before .loop .inv .2, rw (c .before .before .restore-entry .ensures) (restore-less _ _ _ (search needs) ∙ c .before .before .before .before .before .loop .inv .3))
+loop-again c =
+    let at-loop = c .before .before .before .before .before in (
+      search (needs, at-loop .loop .inv),
+      at-loop .loop .inv .1,
+      c .before .before .restore-entry .kept .0 ∙ at-loop .loop .inv .2,
+      rw (c .before .before .restore-entry .ensures) (restore-less _ _ _ (search needs) ∙ at-loop .loop .inv .3),
+    )
 
 same-length : tie.Need-same-length Inv-loop μ-loop
 same-length c = c .before .loop .inv .2

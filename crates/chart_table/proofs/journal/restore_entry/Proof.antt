@@ -67,7 +67,27 @@ same-length c = search needs
 returns : tie.Need-returns
 unfolding restoreEntry
 returns c =
-    rw (c .before .before .store-behind4 .ensures, c .before .before .before .before .before .before .before .store-behind3 .ensures, c .before .before .before .before .before .before .before .before .before .before .before .before .store-behind2 .ensures, c .before .before .before .before .before .before .before .before .before .before .before .before .before .before .before .before .before .store-behind .ensures, c .before .before .before .before .before .before .before .before .before .before .before .before .before .before .before .before .before .before .narrow-at .ensures, c .before .before .before .before .before .before .before .before .before .before .before .before .before .narrow-at2 .ensures, c .before .before .before .before .before .before .before .before .narrow-at3 .ensures, c .before .before .before .narrow-at4 .ensures, c .before .before .before .before .before .before .before .before .before .before .before .before .before .before .before .before .before .before .before .before .before .number-at .ensures .0, c .before .before .before .before .before .before .before .before .before .before .before .before .before .before .before .before .before .before .before .before .number-at2 .ensures .0)
+    let at-narrow-at4 = c .before .before .before in
+    let at-store-behind3 = at-narrow-at4 .before .before .before .before in
+    let at-narrow-at3 = at-store-behind3 .before in
+    let at-store-behind2 = at-narrow-at3 .before .before .before .before in
+    let at-narrow-at2 = at-store-behind2 .before in
+    let at-store-behind = at-narrow-at2 .before .before .before .before in
+    let at-narrow-at = at-store-behind .before in
+    let at-number-at2 = at-narrow-at .before .before in
+    let at-number-at = at-number-at2 .before in
+    rw (
+      c .before .before .store-behind4 .ensures,
+      at-store-behind3 .store-behind3 .ensures,
+      at-store-behind2 .store-behind2 .ensures,
+      at-store-behind .store-behind .ensures,
+      at-narrow-at .narrow-at .ensures,
+      at-narrow-at2 .narrow-at2 .ensures,
+      at-narrow-at3 .narrow-at3 .ensures,
+      at-narrow-at4 .narrow-at4 .ensures,
+      at-number-at .number-at .ensures .0,
+      at-number-at2 .number-at2 .ensures .0,
+    )
 
 pub restore-entry-spec : {M : Type 1} → statement M
 restore-entry-spec =

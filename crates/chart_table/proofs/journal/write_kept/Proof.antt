@@ -63,7 +63,20 @@ same-length-2 c = search needs
 
 returns-2 : tie.Need-returns-2
 unfolding writeKept
-returns-2 c = rw (c .before .before .store6 .ensures, c .before .before .before .before .before .before .store5 .ensures, c .before .before .before .before .before .before .before .before .before .before .store4 .ensures, c .before .before .before .before .before .before .before .before .before .before .before .before .before .before .store3 .ensures, c .before .before .before .before .before .before .before .before .before .before .before .before .before .before .before .before .before .before .store2 .ensures, c .before .before .before .before .before .before .before .before .before .before .before .before .before .before .before .before .before .before .before .before .before .before .store .ensures)
+returns-2 c =
+    let at-store5 = c .before .before .before .before .before .before in
+    let at-store4 = at-store5 .before .before .before .before in
+    let at-store3 = at-store4 .before .before .before .before in
+    let at-store2 = at-store3 .before .before .before .before in
+    let at-store = at-store2 .before .before .before .before in
+    rw (
+      c .before .before .store6 .ensures,
+      at-store5 .store5 .ensures,
+      at-store4 .store4 .ensures,
+      at-store3 .store3 .ensures,
+      at-store2 .store2 .ensures,
+      at-store .store .ensures,
+    )
 
 pub write-kept-spec : {M : Type 1} → statement M
 write-kept-spec =

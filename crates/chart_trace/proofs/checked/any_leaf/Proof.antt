@@ -38,7 +38,8 @@ returns c =
     let c₃ = c₂ .before in
     let c₅ = c₃ .before .before in (
       leaf-read _ _ _ _ _ _ (c₃ .edge-cost .ensures) (c₂ .if1 .taken) (c .before .wide .ensures .0) (c .wide2 .ensures .0)
-          ∙ sym (c₅ .loop .inv .1 ∙ last-fits _ _ _ _ _ (c₅ .loop .e) (c₃ .before .loop-test .taken) (fits _ _ _ _ _ _ (c₃ .edge-cost .ensures) (c₂ .if1 .taken))),
+          ∙ sym (c₅ .loop .inv .1 ∙ last-fits _ _ _ _ _ (c₅ .loop .e) (c₃ .before .loop-test .taken)
+          (fits _ _ _ _ _ _ (c₃ .edge-cost .ensures) (c₂ .if1 .taken))),
       omega (arith, c .before .wide .ensures .1, c .wide2 .ensures .1),
     )
 
@@ -47,8 +48,11 @@ loop-less c = search needs
 
 loop-again : tie.Need-loop-again Inv-loop μ-loop
 loop-again c =
-    let c₃ = c .before .before .before in
-    (omega arith, c₃ .loop .inv .1 ∙ last-unfit _ _ _ _ _ (c₃ .loop .e) (c .before .before .loop-test .taken) (unfit _ _ _ _ _ _ (c .before .edge-cost .ensures) (c .if1 .left)))
+    let c₃ = c .before .before .before in (
+      omega arith,
+      c₃ .loop .inv .1 ∙ last-unfit _ _ _ _ _ (c₃ .loop .e) (c .before .before .loop-test .taken)
+          (unfit _ _ _ _ _ _ (c .before .edge-cost .ensures) (c .if1 .left)),
+    )
 
 returns-2 : tie.Need-returns-2 Inv-loop μ-loop
 returns-2 c = (none-left _ _ _ _ _ (c .before .loop .e) (c .loop-test .left) ∙ sym (c .before .loop .inv .1), omega arith)

@@ -21,7 +21,8 @@ returns : tie.Need-returns
 returns c =
     let c₂ = c .before .before in
     let c₃ = c₂ .before in (
-      rw (fits _ _ _ _ _ _ (c₃ .edge-cost .ensures) (c₂ .if1 .taken)) (leaf-read _ _ _ _ _ _ (c₃ .edge-cost .ensures) (c₂ .if1 .taken) (c .before .wide .ensures .0) (c .wide2 .ensures .0)),
+      rw (fits _ _ _ _ _ _ (c₃ .edge-cost .ensures) (c₂ .if1 .taken))
+          (leaf-read _ _ _ _ _ _ (c₃ .edge-cost .ensures) (c₂ .if1 .taken) (c .before .wide .ensures .0) (c .wide2 .ensures .0)),
       omega (arith, c .before .wide .ensures .1, c .wide2 .ensures .1),
     )
 

@@ -25,8 +25,10 @@ unfolding edgeFits
 returns-3 c =
     let c₃ = c .before .before .before in
     let c₆ = c₃ .before .before .before in
-    let c₇ = c₆ .before in
-    (simp (lt-ltb _ _ (c₇ .if1 .left), ← c₆ .edge-numbers .ensures .0, eq-eqb _ _ (c₃ .if2 .left), ← c₆ .edge-numbers .ensures .1, ne-eqb _ _ (c .if3 .taken)), λ l. absurd (omega arith))
+    let c₇ = c₆ .before in (
+      simp (lt-ltb _ _ (c₇ .if1 .left), ← c₆ .edge-numbers .ensures .0, eq-eqb _ _ (c₃ .if2 .left), ← c₆ .edge-numbers .ensures .1, ne-eqb _ _ (c .if3 .taken)),
+      λ l. absurd (omega arith),
+    )
 
 returns-4 : tie.Need-returns-4
 unfolding edgeFits
@@ -34,8 +36,18 @@ returns-4 c =
     let c₃ = c .before .before .before in
     let c₆ = c₃ .before .before .before in
     let c₉ = c₆ .before .before .before in
-    let c₁₀ = c₉ .before in
-    (simp (lt-ltb _ _ (c₁₀ .if1 .left), ← c₉ .edge-numbers .ensures .0, eq-eqb _ _ (c₆ .if2 .left), ← c₉ .edge-numbers .ensures .1, eq-eqb _ _ (c₃ .if3 .left), ← c₉ .edge-numbers .ensures .2, ne-eqb _ _ (c .if4 .taken)), λ l. absurd (omega arith))
+    let c₁₀ = c₉ .before in (
+      simp (
+        lt-ltb _ _ (c₁₀ .if1 .left),
+        ← c₉ .edge-numbers .ensures .0,
+        eq-eqb _ _ (c₆ .if2 .left),
+        ← c₉ .edge-numbers .ensures .1,
+        eq-eqb _ _ (c₃ .if3 .left),
+        ← c₉ .edge-numbers .ensures .2,
+        ne-eqb _ _ (c .if4 .taken),
+      ),
+      λ l. absurd (omega arith),
+    )
 
 returns-5 : tie.Need-returns-5
 unfolding edgeFits
@@ -43,8 +55,19 @@ returns-5 c =
     let c₃ = c .before .before .before in
     let c₆ = c₃ .before .before .before in
     let c₉ = c₆ .before .before .before in
-    let c₁₀ = c₉ .before in
-    (simp (lt-ltb _ _ (c₁₀ .if1 .left), ← c₉ .edge-numbers .ensures .0, eq-eqb _ _ (c₆ .if2 .left), ← c₉ .edge-numbers .ensures .1, eq-eqb _ _ (c₃ .if3 .left), ← c₉ .edge-numbers .ensures .2, eq-eqb _ _ (c .if4 .left), ← c₉ .edge-numbers .ensures .3), λ l. c₉ .edge-numbers .ensures .3)
+    let c₁₀ = c₉ .before in (
+      simp (
+        lt-ltb _ _ (c₁₀ .if1 .left),
+        ← c₉ .edge-numbers .ensures .0,
+        eq-eqb _ _ (c₆ .if2 .left),
+        ← c₉ .edge-numbers .ensures .1,
+        eq-eqb _ _ (c₃ .if3 .left),
+        ← c₉ .edge-numbers .ensures .2,
+        eq-eqb _ _ (c .if4 .left),
+        ← c₉ .edge-numbers .ensures .3,
+      ),
+      λ l. c₉ .edge-numbers .ensures .3,
+    )
 
 pub edge-cost-spec : {M : Type 1} → statement M
 edge-cost-spec =

@@ -61,7 +61,16 @@ add-weight c =
     let c₃ = c .before .before .before in
     let c₁₃ = c₃ .before .before .before .before .before .before .before .before .before .before in
     let c₁₈ = c₁₃ .before .before .before .before .before in
-    record { fits = omega (arith, c₁₃ .loop .inv .2 .light, c₁₃ .loop .inv .1 .numbers, c₁₃ .loop .inv .1 .few, c₁₈ .pre .0 .last, rw (c .before .node .given .1) at (c₃ .checked-node .ensures .1)) }
+    record {
+      fits = omega (
+        arith,
+        c₁₃ .loop .inv .2 .light,
+        c₁₃ .loop .inv .1 .numbers,
+        c₁₃ .loop .inv .1 .few,
+        c₁₈ .pre .0 .last,
+        rw (c .before .node .given .1) at (c₃ .checked-node .ensures .1),
+      );
+    }
 
 part-number-requires : tie.Need-part-number-requires Inv-loop μ-loop
 part-number-requires c κs = search needs
@@ -103,10 +112,15 @@ loop-again c =
     let c₁₅ = c₁₃ .before .before in
     let c₂₀ = c₁₅ .before .before .before .before .before in (
       c₈ .store-node .kept .0 ∙ c₁₅ .loop .inv .0,
-      rw (c .left-part .ensures, c₈ .store-node .ensures) (descends _ _ _ (c₁₅ .loop .inv .1) (c₁₀ .back-pointer .ensures .0 ∙ ap backPointer (c₁₃ .tree-of .ensures .1)) (c₁₀ .back-pointer .ensures .1) (c₂₀ .pre .0 .last)
-          (seen-as _ _ _ _ _ (c₅ .checked-node .ensures .0) (c₃ .node .given .1) .2 .1) refl (c .before .part-number .ensures .0) (c .before .part-number .ensures .1)),
-      rw (c .left-part .ensures) (weighs-pair _ _ _ _ _ (c₁₅ .loop .inv .2) _ (c₁₀ .back-pointer .ensures .1) (rw (c₁₅ .loop .inv .1 .room) (omega (arith, c₁₅ .loop .inv .1 .few, c₁₅ .loop .inv .1 .order, c₂₀ .pre .0 .last))) (c₁₅ .loop .inv .1 .within)
-          (pairing-node _ _ _ _ _ _ _ (c₁₅ .loop .inv .1 .order) (c₁₃ .tree-of .ensures .0) (c₁₁ .if1 .left) (c₁₀ .back-pointer .ensures .0 ∙ ap backPointer (c₁₃ .tree-of .ensures .1)) (c₅ .checked-node .ensures .0) (c₃ .node .given .1))
+      rw (c .left-part .ensures, c₈ .store-node .ensures)
+          (descends _ _ _ (c₁₅ .loop .inv .1) (c₁₀ .back-pointer .ensures .0 ∙ ap backPointer (c₁₃ .tree-of .ensures .1)) (c₁₀ .back-pointer .ensures .1)
+          (c₂₀ .pre .0 .last)
+          (seen-as _ _ _ _ _ (c₅ .checked-node .ensures .0) (c₃ .node .given .1) .2 .1) refl (c .before .part-number .ensures .0)
+          (c .before .part-number .ensures .1)),
+      rw (c .left-part .ensures) (weighs-pair _ _ _ _ _ (c₁₅ .loop .inv .2) _ (c₁₀ .back-pointer .ensures .1)
+          (rw (c₁₅ .loop .inv .1 .room) (omega (arith, c₁₅ .loop .inv .1 .few, c₁₅ .loop .inv .1 .order, c₂₀ .pre .0 .last))) (c₁₅ .loop .inv .1 .within)
+          (pairing-node _ _ _ _ _ _ _ (c₁₅ .loop .inv .1 .order) (c₁₃ .tree-of .ensures .0) (c₁₁ .if1 .left)
+          (c₁₀ .back-pointer .ensures .0 ∙ ap backPointer (c₁₃ .tree-of .ensures .1)) (c₅ .checked-node .ensures .0) (c₃ .node .given .1))
           (rw (c₃ .node .given .1) at (c₅ .checked-node .ensures .1)) (c .before .part-number .ensures .0)),
     )
 
@@ -118,7 +132,16 @@ add-weight-2 c =
     let c₃ = c .before .before .before in
     let c₁₃ = c₃ .before .before .before .before .before .before .before .before .before .before in
     let c₁₈ = c₁₃ .before .before .before .before .before in
-    record { fits = omega (arith, c₁₃ .loop .inv .2 .light, c₁₃ .loop .inv .1 .numbers, c₁₃ .loop .inv .1 .few, c₁₈ .pre .0 .last, rw (c .before .node2 .given .1) at (c₃ .checked-node .ensures .1)) }
+    record {
+      fits = omega (
+        arith,
+        c₁₃ .loop .inv .2 .light,
+        c₁₃ .loop .inv .1 .numbers,
+        c₁₃ .loop .inv .1 .few,
+        c₁₈ .pre .0 .last,
+        rw (c .before .node2 .given .1) at (c₃ .checked-node .ensures .1),
+      );
+    }
 
 enum-told : tie.Need-enum-told Inv-loop μ-loop
 enum-told c = search needs
@@ -138,7 +161,8 @@ returns-2 c =
     let c₁₂ = c₁₀ .before .before in
     let c₁₇ = c₁₂ .before .before .before .before .before in
     no-tree _ _ _ _ _ _ _ (c₁₇ .pre .0 .order) _ (spells-nothing _ _ _ _ _ (c₁₂ .loop .inv .2)
-    (wrong-node _ _ _ _ _ _ _ (c₁₂ .loop .inv .1 .order) (c₁₀ .tree-of .ensures .0) (c₈ .if1 .left) (c₇ .back-pointer .ensures .0 ∙ ap backPointer (c₁₀ .tree-of .ensures .1)) (c₂ .checked-node .ensures .0) (c .enum-told .given .1)))
+    (wrong-node _ _ _ _ _ _ _ (c₁₂ .loop .inv .1 .order) (c₁₀ .tree-of .ensures .0) (c₈ .if1 .left)
+    (c₇ .back-pointer .ensures .0 ∙ ap backPointer (c₁₀ .tree-of .ensures .1)) (c₂ .checked-node .ensures .0) (c .enum-told .given .1)))
 
 same-length-3 : tie.Need-same-length-3 Inv-loop μ-loop
 same-length-3 c =
@@ -157,8 +181,10 @@ returns-3 c =
     let c₁₄ = c₁₂ .before .before in
     let c₁₉ = c₁₄ .before .before .before .before .before in
     one-tree _ _ _ _ _ _ _ (c₁₉ .pre .0 .order) _ (weighs-last _ _ _ _ _ (c₁₄ .loop .inv .2)
-    (leaf-node _ _ _ _ _ _ _ (c₁₄ .loop .inv .1 .order) (c₁₂ .tree-of .ensures .0) (c₁₀ .if1 .left) (c₉ .back-pointer .ensures .0 ∙ ap backPointer (c₁₂ .tree-of .ensures .1)) (c₄ .checked-node .ensures .0) (c₂ .node2 .given .1)) (c .if2 .taken))
-    (ends _ _ _ (c₁₄ .loop .inv .1) (c₉ .back-pointer .ensures .0 ∙ ap backPointer (c₁₂ .tree-of .ensures .1)) (seen-as _ _ _ _ _ (c₄ .checked-node .ensures .0) (c₂ .node2 .given .1) .3) refl (c .if2 .taken) (c₇ .store-node .ensures))
+    (leaf-node _ _ _ _ _ _ _ (c₁₄ .loop .inv .1 .order) (c₁₂ .tree-of .ensures .0) (c₁₀ .if1 .left)
+    (c₉ .back-pointer .ensures .0 ∙ ap backPointer (c₁₂ .tree-of .ensures .1)) (c₄ .checked-node .ensures .0) (c₂ .node2 .given .1)) (c .if2 .taken))
+    (ends _ _ _ (c₁₄ .loop .inv .1) (c₉ .back-pointer .ensures .0 ∙ ap backPointer (c₁₂ .tree-of .ensures .1))
+    (seen-as _ _ _ _ _ (c₄ .checked-node .ensures .0) (c₂ .node2 .given .1) .3) refl (c .if2 .taken) (c₇ .store-node .ensures))
 
 sub-n : tie.Need-sub-n Inv-loop μ-loop
 sub-n c = search needs
@@ -189,10 +215,12 @@ loop-again-2 c =
     let c₁₃ = c₁₁ .before .before in
     let c₁₅ = c₁₃ .before .before in (
       c₈ .store-node .kept .0 ∙ c₁₅ .loop .inv .0,
-      rw (c .part-of .ensures, c₈ .store-node .ensures) (resumes _ _ _ (c₁₅ .loop .inv .1) (c₁₀ .back-pointer .ensures .0 ∙ ap backPointer (c₁₃ .tree-of .ensures .1)) _
+      rw (c .part-of .ensures, c₈ .store-node .ensures) (resumes _ _ _ (c₁₅ .loop .inv .1)
+          (c₁₀ .back-pointer .ensures .0 ∙ ap backPointer (c₁₃ .tree-of .ensures .1)) _
           (seen-as _ _ _ _ _ (c₅ .checked-node .ensures .0) (c₃ .node2 .given .1) .3) refl (omega arith)),
       rw (c .part-of .ensures) (weighs-leaf _ _ _ _ _ (c₁₅ .loop .inv .2)
-          (leaf-node _ _ _ _ _ _ _ (c₁₅ .loop .inv .1 .order) (c₁₃ .tree-of .ensures .0) (c₁₁ .if1 .left) (c₁₀ .back-pointer .ensures .0 ∙ ap backPointer (c₁₃ .tree-of .ensures .1)) (c₅ .checked-node .ensures .0) (c₃ .node2 .given .1))
+          (leaf-node _ _ _ _ _ _ _ (c₁₅ .loop .inv .1 .order) (c₁₃ .tree-of .ensures .0) (c₁₁ .if1 .left)
+          (c₁₀ .back-pointer .ensures .0 ∙ ap backPointer (c₁₃ .tree-of .ensures .1)) (c₅ .checked-node .ensures .0) (c₃ .node2 .given .1))
           _ (omega arith) (rw (c₃ .node2 .given .1) at (c₅ .checked-node .ensures .1))),
     )
 
