@@ -12,6 +12,8 @@ use std::hint::black_box;
 
 const ROUNDS: usize = 40;
 const WANTED: u32 = MAX_READINGS;
+/// With fewer readings than these one call suffices.
+const FEW: usize = 16;
 
 /// What a row measures: each input in turn under its own grammar.
 struct Row {
@@ -65,7 +67,10 @@ pub fn print_table() {
     let offices = [office::of_slots, office::of_graphs].into_iter().flat_map(|inputs| [6, 12, 24].map(inputs));
     let dense = [greatest(12), greatest(24)].into_iter().chain(shapes()).chain(graphs());
     for inputs in offices.chain(office::doors().into_iter().chain(dense).map(|input| vec![input])) {
-        print_inputs(&inputs);
+        // those that have few readings, then the others
+        let (few, more): (Vec<Input>, Vec<Input>) =
+            inputs.into_iter().partition(|input| Row::new(input).at_once() < FEW);
+        [few, more].iter().filter(|inputs| !inputs.is_empty()).for_each(|inputs| print_inputs(inputs));
     }
 }
 
@@ -76,8 +81,8 @@ fn print_inputs(inputs: &[Input]) {
     counts.sort_unstable();
     let calls: [fn(&mut Row); 4] =
         [|row| _ = black_box(row.at_once()), |row| _ = black_box(row.kept()), Row::new_at_once, Row::new_lister];
-    let rows = std::cell::RefCell::new(rows);
-    let mut calls = calls.map(|call| || rows.borrow_mut().iter_mut().for_each(call));
+    let rows = &std::cell::RefCell::new(rows);
+    let mut calls = calls.map(|call| move || rows.borrow_mut().iter_mut().for_each(call));
     let plan = Plan { rounds: ROUNDS, calls: 1 };
     let times = medians(plan, calls.each_mut().map(|call| call as &mut dyn FnMut()));
     let [at_once, lister, new, new_lister] = times.map(|time| time / inputs.len() as u32);
