@@ -127,6 +127,17 @@ int32_t spireyerba_util_read_reading(
     const uint8_t *block, size_t block_len,
     spireyerba_util_reading *reading);
 
+/*
+** Reads so many readings that stand one behind the other, each so many bytes long, as a
+** listing leaves them. Answers their number, or refuses as for the first that is refused;
+** those before it are then written.
+*/
+int32_t spireyerba_util_read_readings(
+    const spireyerba_util_grammar *grammar,
+    const uint8_t *blocks, size_t length,
+    uint32_t count,
+    spireyerba_util_reading *readings);
+
 /* An edge of a word graph. */
 typedef struct {
     uint32_t from, to, word, cost;

@@ -224,6 +224,17 @@ int32_t spireyerba_util_read_reading(const spireyerba_util_grammar *grammar, con
     return (int32_t)read.leaves;
 }
 
+int32_t spireyerba_util_read_readings(const spireyerba_util_grammar *grammar, const uint8_t *blocks, size_t length,
+                                      uint32_t count, spireyerba_util_reading *readings) {
+    uint32_t k;
+    for (k = 0; k < count; k++) {
+        int32_t answer = spireyerba_util_read_reading(grammar, blocks + k * length, length, &readings[k]);
+        if (answer < 0)
+            return answer;
+    }
+    return (int32_t)count;
+}
+
 /* Writes the next field; the block's bits are zero there. */
 static void put(cursor *cursor, uint8_t *block, size_t width, uint32_t value) {
     for (; width > 0; width--, cursor->at++)

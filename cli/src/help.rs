@@ -1,7 +1,7 @@
 //! What `--help` says.
 
 use crate::commands::{Command, COMMANDS};
-use crate::options::Opt;
+use crate::options::{Opt, HELP};
 
 const PROGRAM: &str = "\
 spireyerba lists the best readings of a spoken utterance under a weighted grammar: the least
@@ -17,6 +17,9 @@ texts are written, `spireyerba COMMAND --help` what a command does.
 Exit status: 0 answered, 1 refused, 2 wrong usage.
 
 example: spireyerba list grammar.txt utterance.txt";
+
+/// What the help of the program has before and behind its commands.
+pub const PROGRAM_PARTS: [&str; 2] = [PROGRAM, PROGRAM_END];
 
 /// The help about texts.
 pub const TEXTS: &str = "\
@@ -94,11 +97,12 @@ pub fn of_command(command: &Command) -> String {
     }
     text.push('\n');
     command.options.iter().for_each(|option| text += &row(&written(option), option.help));
-    text += &row("-h, --help", "print this");
+    text += &row(&written(&HELP), HELP.help);
     format!("{text}\nexample: {}", command.example)
 }
 
-fn sentence(summary: &str) -> String {
+/// A summary as a sentence.
+pub fn sentence(summary: &str) -> String {
     let (first, rest) = summary.split_at(1);
     format!("{}{rest}.", first.to_uppercase())
 }

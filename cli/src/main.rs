@@ -4,20 +4,26 @@
 //! |---|---|
 //! | `commands` | what each subcommand does, a file each, and the table of them |
 //! | `options`, `help` | the command line and what is said about it |
+//! | `manual`, `completions` | the same as manual pages and for shells, when the command is installed |
 //! | `files` | texts and blocks, read and written |
 //! | `heard` | slots or a word graph, whichever it is |
 //! | `anchor`, `skip` | words that are known for certain, and words too many |
+//! | `alignment`, `no_reading` | which words of two sentences differ; why there is no reading |
 //! | `drawing`, `page`, `json` | readings drawn in a terminal, on a page, and for programs |
 //! | `output`, `failure` | where answers and messages go |
 
+mod alignment;
 mod anchor;
 mod commands;
+mod completions;
 mod drawing;
 mod failure;
 mod files;
 mod heard;
 mod help;
 mod json;
+mod manual;
+mod no_reading;
 mod options;
 mod output;
 mod page;
@@ -37,12 +43,30 @@ fn main() -> ExitCode {
     }
 }
 
+/// What `make install` asks for behind `help`: the manual pages, or the completions for a shell.
+const MANUAL: &str = "--manual";
+const COMPLETIONS: &str = "--completions";
+
+/// Prints the file with a name that belongs to an installed command; without a name, those of all manual pages.
+fn installed(kind: &str, name: Option<&String>, output: &mut Output) -> Result<(), Failure> {
+    let text = match (kind, name) {
+        (MANUAL, None) => Some(manual::names().join("\n") + "\n"),
+        (MANUAL, Some(name)) => manual::page(name),
+        (_, name) => name.and_then(|name| completions::of_shell(name)),
+    };
+    match text {
+        Some(text) => output.bytes(text.as_bytes()),
+        None => Err(Failure::usage(format!("help {kind}: there is none for this"), "spireyerba")),
+    }
+}
+
 /// Runs what the words of the command line ask for.
 fn run(words: &[String], output: &mut Output) -> Result<(), Failure> {
     match words.first().map(String::as_str) {
         None => Err(Failure::usage("no command", "spireyerba")),
         Some("-h" | "--help" | "help") => match words.get(1) {
             Some(name) if name == "texts" => output.line(help::TEXTS),
+            Some(name) if name == MANUAL || name == COMPLETIONS => installed(name, words.get(2), output),
             Some(name) => output.line(&help::of_command(commands::find(name)?)),
             None => output.line(&help::of_program()),
         },

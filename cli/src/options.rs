@@ -32,6 +32,18 @@ pub const SKIP: Opt = Opt {
     value: Some("COST"),
     help: "words too many: slots may be passed over, each at this cost",
 };
+pub const DISTINCT: Opt = Opt {
+    long: "distinct",
+    short: None,
+    value: None,
+    help: "each sentence once: of readings with the same words the first; (+2 trees) counts the others",
+};
+pub const EVERY_TREE: Opt = Opt {
+    long: "every-tree",
+    short: None,
+    value: None,
+    help: "every reading, also if one before it has the same words",
+};
 pub const FILE: Opt =
     Opt { long: "output", short: Some('o'), value: Some("FILE"), help: "write to a file, not to standard output" };
 pub const SCALE: Opt = Opt {
@@ -87,6 +99,8 @@ pub const RESUME: Opt = Opt {
     value: Some("OUT"),
     help: "write to OUT, behind the answers that an interrupted run left in it",
 };
+/// What every command has beside its own.
+pub const HELP: Opt = Opt { long: "help", short: Some('h'), value: None, help: "print this" };
 
 /// The readings of a list that is not told how many to have.
 pub const WANTED_UNLESS_GIVEN: u32 = 8;

@@ -21,9 +21,11 @@
 //! | [`PackedGrammar`] | a grammar that is packed once for many calls |
 //! | [`Office`], [`MarkedGrammar`] | rules as offices write them, and what they become; [`Office::to_grammar`], [`MarkedGrammar::to_office`] |
 //! | [`Grammar::specimen`], [`Phrases`] | what can be said in a grammar |
+//! | [`Grammar::prefix`], [`Prefix`] | how far what was heard goes along with a grammar |
 //! | [`Grammar::cost_ranges`], [`CostRanges`] | the first reading where costs are known within ranges |
 //! | [`Grammar::word_margins`], [`WordMargin`] | which word to listen to again |
 //! | [`OpenListing`] | readings one by one, each found when it is asked for; [`Grammar::open`] |
+//! | [`Distinct`], [`Sentence`] | each sentence once: of readings with the same words the first |
 //! | [`Lister`] | many listings under one grammar, in memory that is kept, the library's or a desk panel's |
 //! | [`Grammar::chance`] | the product of the shares of a reading's rules |
 //! | [`Tree`] | a reading as a tree |
@@ -58,6 +60,7 @@ pub mod limits;
 pub mod services;
 pub mod text;
 
+mod distinct;
 mod error;
 mod fields;
 mod grammar;
@@ -70,12 +73,14 @@ mod office;
 mod open_listing;
 mod packed;
 mod phrases;
+mod prefix;
 mod ranges;
 mod reading;
 mod refusal;
 mod tree;
 mod utterance;
 
+pub use distinct::{Distinct, Sentence};
 pub use error::{Error, Position};
 pub use grammar::{Body, Grammar, Rule};
 pub use graph::{Edge, Graph};
@@ -87,6 +92,7 @@ pub use office::{Item, Office, OfficeRule};
 pub use open_listing::OpenListing;
 pub use packed::PackedGrammar;
 pub use phrases::Phrases;
+pub use prefix::Prefix;
 pub use ranges::CostRanges;
 pub use reading::Reading;
 pub use refusal::Refusal;

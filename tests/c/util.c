@@ -98,6 +98,7 @@ static void print_reading(const spireyerba_util_reading *reading) {
 
 static void call_list(void) {
     static spireyerba_util_lister lister; /* one for all calls */
+    static spireyerba_util_reading all[SPIREYERBA_MAX_READINGS];
     spireyerba_util_reading reading;
     int32_t found, rank;
     read_block(&grammar_block);
@@ -107,10 +108,13 @@ static void call_list(void) {
     found = spireyerba_util_list_block(&lister, other_block.bytes, other_block.length, number());
     if (!is_answered(found))
         return;
+    is_answered(spireyerba_util_read_readings(&lister.grammar, lister.out, lister.lengths.reading, lister.found, all));
     for (rank = 0; rank < found; rank++) {
         printf(" | ");
         if (is_answered(spireyerba_util_reading_at(&lister, (uint32_t)rank, &reading)))
             print_reading(&reading);
+        if (reading.weight != all[rank].weight || memcmp(reading.rule, all[rank].rule, reading.nodes * sizeof *reading.rule) != 0)
+            printf(" otherwise when all are read");
     }
     if (spireyerba_util_reading_at(&lister, (uint32_t)found, &reading) != -SPIREYERBA_READING_END)
         printf("one too many");

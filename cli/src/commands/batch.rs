@@ -1,5 +1,6 @@
 //! `batch`: many utterances, a line each, on all cores.
 
+mod line;
 mod messages;
 mod resume;
 mod sink;
@@ -9,12 +10,15 @@ use super::Command;
 use crate::failure::Failure;
 use crate::files;
 use crate::json;
-use crate::options::{Arguments, DROP_UNKNOWN, JOBS, LINE, RESUME, WANTED};
+use crate::no_reading::NoReading;
+use crate::options::{Arguments, DISTINCT, DROP_UNKNOWN, JOBS, LINE, RESUME, WANTED};
 use crate::output::Output;
+use line::Line;
 use sink::{Answers, Sink};
 use source::{Piece, Source};
-use spireyerba::text::{is_graph, UtteranceReader};
-use spireyerba::{Error, Lister, Reading};
+use spireyerba::limits::MAX_READINGS;
+use spireyerba::text::{is_graph, NamedGrammar, UtteranceReader};
+use spireyerba::{Distinct, Error, Found, Graph, Heard, Lister, Reading, Refusal};
 use std::borrow::Cow;
 use std::sync::Mutex;
 
@@ -22,13 +26,16 @@ pub const COMMAND: Command = Command {
     name: "batch",
     operands: &["GRAMMAR", "FILE"],
     needed: 2,
-    options: &[WANTED, JOBS, LINE, RESUME, DROP_UNKNOWN],
+    options: &[WANTED, DISTINCT, JOBS, LINE, RESUME, DROP_UNKNOWN],
     summary: "list the readings of many utterances or word graphs, one a line, on all cores",
     details: "\
 A line of the file has an utterance, with semicolons between its slots: `door 4 | four 61 ; twenty 12`, or a word graph,
 with semicolons between its edges: `0 1 door 4 ; 1 3 twenty 12 ; 3`. Empty lines and comments are passed over. The
 answers are lines of JSON in the same order, with the number of the line; what is refused has \"error\" in place of
-\"readings\", and a message on standard error, of which those that say the same are counted after the tenth.
+\"readings\", and a message on standard error, of which those that say the same are counted after the tenth. With
+--distinct \"others\" counts the readings with the same words among the first 256, and \"used_up\" says that these do not
+have N sentences, though there may be more. Where there is no reading, \"prefix\" has the words that begin a sentence, the
+place or slot where they end, and what could follow there.
 A name without blanks and a tab may stand before what was heard: the name comes back as \"id\". Where a number alone
 follows the tab, such as a cost, it is a blank like any other.
 With --resume a run that was interrupted goes on: no line is answered twice, and none is left out.",
@@ -46,6 +53,8 @@ fn run(arguments: &Arguments, output: &mut Output) -> Result<(), Failure> {
     let batch = Batch {
         name: files::name_of(arguments.operands[1]),
         wanted: arguments.wanted()?,
+        distinct: arguments.has(&DISTINCT),
+        named: &grammar.named,
         reader: files::utterance_reader(arguments, &grammar.named)?,
         lister: Lister::of(grammar.packed.clone()),
         names: json::Names::new(&grammar.named),
@@ -83,9 +92,12 @@ fn resume(out: &str, source: &mut Source, name: &str) -> Result<Output, Failure>
 struct Batch<'a> {
     name: &'a str,
     names: json::Names,
+    named: &'a NamedGrammar,
     reader: UtteranceReader<'a>,
     lister: Lister,
     wanted: u32,
+    /// Whether each sentence stands once.
+    distinct: bool,
 }
 
 impl Batch<'_> {
@@ -116,12 +128,15 @@ struct Worker<'a> {
     sheet: Vec<u32>,
     block: Vec<u8>,
     reading: Reading,
+    /// The sentences of the line at hand, if each stands once.
+    sentences: Option<Distinct>,
 }
 
 impl<'a> Worker<'a> {
     fn new(batch: &'a Batch) -> Self {
         let lister = batch.lister.clone();
-        Self { batch, lister, sheet: Vec::new(), block: Vec::new(), reading: Reading::default() }
+        let sentences = batch.distinct.then(|| Distinct::new(batch.wanted as usize));
+        Self { batch, lister, sheet: Vec::new(), block: Vec::new(), reading: Reading::default(), sentences }
     }
 
     /// The answers of some lines, in memory of others.
@@ -146,79 +161,81 @@ impl<'a> Worker<'a> {
 
     /// Adds the answer of a line, or nothing if it is refused.
     fn answer(&mut self, line: &Line, json: &mut Vec<u8>) -> Result<(), Error> {
-        let Batch { name, names, reader, wanted, .. } = self.batch;
+        let Batch { name, names, named, wanted, .. } = self.batch;
         let in_file = |error: Error| error.in_file(name).after_columns(line.columns()).after_lines(line.before);
-        let heard = line.heard;
-        let is_graph = heard.trim_start().starts_with(|first: char| first.is_ascii_digit()) && is_graph(heard);
-        let found = if is_graph {
-            let graph = reader.read_graph(heard).map_err(in_file)?;
-            self.lister.find(&graph, *wanted)
-        } else {
-            reader.read_block(heard, &mut self.sheet, &mut self.block).map_err(in_file)?;
-            self.lister.find_in_block(&self.block, *wanted)
+        let asked = self.sentences.as_ref().filter(|_| *wanted <= MAX_READINGS).map_or(*wanted, |_| MAX_READINGS);
+        let graph = self.read(line.heard).map_err(in_file)?;
+        let found = match &graph {
+            Some(graph) => self.lister.find(graph, asked),
+            None => self.lister.find_in_block(&self.block, asked),
         };
         let found = found.map_err(|refusal| in_file(refusal.into()))?;
         line.begin(json);
         json.extend_from_slice(b",\"readings\":[");
-        for number in 0..found.len() {
-            found.read(number, &mut self.reading);
-            names.begin_reading(json, Some(number as u32 + 1), &self.reading);
-            if let Some(path) = &self.reading.path {
-                json::push_numbers(json, "edges", path.iter().copied());
-            }
-            json::end_reading(json);
+        let mut used_up = false;
+        if let Some(sentences) = &mut self.sentences {
+            sentences.clear();
+            sentences.walk(&named.grammar, found.readings());
+            push_sentences(json, names, sentences);
+            used_up = found.len() == MAX_READINGS as usize && sentences.found().len() < *wanted as usize;
+        } else {
+            push_readings(json, names, found, &mut self.reading);
         }
+        let is_none = found.is_empty();
         json::end_list(json);
-        json.extend_from_slice(b"}\n");
+        if is_none {
+            self.push_why(json, graph).map_err(|refusal| in_file(refusal.into()))?;
+        }
+        json.extend_from_slice(if used_up { b",\"used_up\":true}\n" } else { b"}\n" });
+        Ok(())
+    }
+
+    /// Reads a line: a word graph, or else slots, whose block is then at hand.
+    fn read(&mut self, line: &str) -> Result<Option<Graph>, Error> {
+        let reader = &self.batch.reader;
+        if line.trim_start().starts_with(|first: char| first.is_ascii_digit()) && is_graph(line) {
+            return reader.read_graph(line).map(Some);
+        }
+        reader.read_block(line, &mut self.sheet, &mut self.block)?;
+        Ok(None)
+    }
+
+    /// Adds why the graph, or the slots whose block is at hand, has no reading.
+    fn push_why(&self, json: &mut Vec<u8>, graph: Option<Graph>) -> Result<(), Refusal> {
+        let heard = match graph {
+            Some(graph) => graph.into(),
+            None => Heard::from_block(self.lister.grammar().block(), &self.block)?,
+        };
+        NoReading::new(self.batch.named, &heard)?.push_json(json);
         Ok(())
     }
 }
 
-/// A line of the input.
-struct Line<'a> {
-    /// The lines before it.
-    before: usize,
-    /// What stands before a tab.
-    name: Option<&'a str>,
-    heard: &'a str,
-}
-
-impl<'a> Line<'a> {
-    fn new(line: &'a str, before: usize) -> Self {
-        let named = line.split_once('\t').filter(|(name, heard)| is_name(name) && !is_number_alone(heard));
-        match named {
-            Some((name, heard)) => Self { before, name: Some(name), heard },
-            None => Self { before, name: None, heard: line },
-        }
-    }
-
-    /// The columns before what was heard.
-    fn columns(&self) -> usize {
-        self.name.map_or(0, |name| name.chars().count() + 1)
-    }
-
-    /// Begins its answer.
-    fn begin(&self, json: &mut Vec<u8>) {
-        json.extend_from_slice(resume::BEGIN);
-        json::push_number(json, self.before as u32 + 1);
-        if let Some(name) = self.name {
-            json::push_key(json, "id");
-            json::push_string(json, name);
-        }
+/// Adds readings, in the memory of another.
+fn push_readings(json: &mut Vec<u8>, names: &json::Names, found: Found, memory: &mut Reading) {
+    for number in 0..found.len() {
+        found.read(number, memory);
+        begin_reading(json, names, number, memory);
+        json::end_reading(json);
     }
 }
 
-/// Whether this can be a line's name: it has no blank and nothing that stands between words.
-fn is_name(text: &str) -> bool {
-    !text.is_empty() && !text.contains(|letter: char| letter.is_whitespace() || "|;\"".contains(letter))
+/// Adds the first reading of each sentence, and how many others it has.
+fn push_sentences(json: &mut Vec<u8>, names: &json::Names, sentences: &Distinct) {
+    for (number, sentence) in sentences.found().iter().enumerate() {
+        begin_reading(json, names, number, &sentence.first);
+        json::push_key(json, "others");
+        json::push_number(json, sentence.others);
+        json::end_reading(json);
+    }
 }
 
-/// Whether a text begins with a number, as a cost or a place is one, and no other number follows: then what stands before it is
-/// a word that was heard, or a place.
-fn is_number_alone(text: &str) -> bool {
-    let is_number = |item: &str| item.bytes().all(|byte| byte.is_ascii_digit());
-    let mut items = text.split_whitespace();
-    items.next().is_some_and(is_number) && !items.next().is_some_and(is_number)
+/// Adds a reading with so many before it, but for its end.
+fn begin_reading(json: &mut Vec<u8>, names: &json::Names, before: usize, reading: &Reading) {
+    names.begin_reading(json, Some(before as u32 + 1), reading);
+    if let Some(path) = &reading.path {
+        json::push_numbers(json, "edges", path.iter().copied());
+    }
 }
 
 /// Adds the answer of a line that is refused.

@@ -55,7 +55,7 @@ fn of_ranks(arguments: &Arguments, listed: &Listed, first: usize, output: &mut O
             output,
         );
     }
-    listed.say_if_none();
+    listed.say_what_is_missing();
     let width = chances.iter().map(String::len).max().unwrap_or(0);
     for (rank, chance) in ranks.zip(chances) {
         let chance = output.paint(Style::Strong, &format!("{chance:<width$}"));

@@ -1,27 +1,34 @@
 //! `list`: the least readings of an utterance.
 
 use super::Command;
+use crate::alignment::differing;
 use crate::anchor;
 use crate::drawing::Drawing;
 use crate::failure::Failure;
 use crate::files::{self, GrammarFile};
 use crate::heard::{HeardWords, Taken};
 use crate::json;
-use crate::options::{Arguments, DROP_DELETES, DROP_UNKNOWN, EMPTY, JSON, RULES, SAID, SCALE, SKIP, TREE, WANTED};
+use crate::no_reading::NoReading;
+use crate::options::{
+    Arguments, DISTINCT, DROP_DELETES, DROP_UNKNOWN, EMPTY, JSON, RULES, SAID, SCALE, SKIP, TREE, WANTED,
+};
 use crate::output::{Output, Style};
 use crate::skip;
+use spireyerba::limits::MAX_READINGS;
 use spireyerba::text::print_list;
-use spireyerba::{Error, Heard, Reading, Tree};
+use spireyerba::{Distinct, Error, Heard, Reading, Refusal, Tree};
 use std::ops::RangeInclusive;
 
 pub const COMMAND: Command = Command {
     name: "list",
     operands: &["GRAMMAR", "UTTERANCE"],
     needed: 2,
-    options: &[WANTED, TREE, RULES, JSON, SAID, SKIP, SCALE, DROP_UNKNOWN, DROP_DELETES, EMPTY],
+    options: &[WANTED, DISTINCT, TREE, RULES, JSON, SAID, SKIP, SCALE, DROP_UNKNOWN, DROP_DELETES, EMPTY],
     summary: "list the readings of least weight, the least first",
     details: "\
-A line has rank, weight and words. Fewer readings than were asked for are all that there are.
+A line has rank, weight and words. Fewer readings than were asked for are all that there are; where there is none, a message
+says how far what was heard goes along with the grammar, and what could follow there (\"prefix\" in JSON). With --distinct no words stand
+twice: (+2 trees) says that 2 more of the first 256 readings have these, and a message if there may be more sentences.
 In a tree [5] is a rule's weight, and 12 behind a word its cost. With --skip some slots may have been words too many: as
 many in a row as 96 edges of a word graph have room for, and a message says how many that is.",
     example: "spireyerba list grammar.txt utterance.txt -n 3 --tree --said 0=door",
@@ -36,15 +43,23 @@ pub struct Listed {
     pub grammar: GrammarFile,
     pub heard: Heard,
     pub readings: Vec<Reading>,
+    /// How many more readings have the words of each, if each sentence stands once.
+    pub others: Option<Vec<u32>>,
+    /// Whether there may be more sentences than were found, since no listing has more than 256 readings.
+    pub used_up: bool,
     /// The slot of each edge, if the graph was drawn so that slots may be passed over.
     pub slots: Option<Vec<u32>>,
+    /// When each place of a word graph was reached, if that is known.
+    pub times: Option<Vec<f64>>,
+    /// What was heard and left out, a sentence without its end each.
+    pub left_out: Vec<String>,
 }
 
 impl Listed {
-    /// Lists so many readings of the utterance that the first two operands name.
+    /// Lists so many readings of the utterance that the first two operands name, each sentence once if it is said so.
     pub fn new(arguments: &Arguments, wanted: u32) -> Result<Self, Failure> {
         let mut listed = Self::none_yet(arguments)?;
-        listed.readings = listed.grammar.packed.list(&listed.heard, wanted).map_err(Error::from)?;
+        listed.find(wanted, arguments.has(&DISTINCT))?;
         Ok(listed)
     }
 
@@ -52,7 +67,35 @@ impl Listed {
     pub fn none_yet(arguments: &Arguments) -> Result<Self, Failure> {
         let grammar = files::grammar(arguments.operands[0])?;
         let (heard, slots) = heard(arguments, &grammar)?;
-        Ok(Self { grammar, heard, readings: Vec::new(), slots })
+        Ok(Self {
+            grammar,
+            heard,
+            readings: Vec::new(),
+            others: None,
+            used_up: false,
+            slots,
+            times: None,
+            left_out: Vec::new(),
+        })
+    }
+
+    /// Finds so many readings, or the first ones of so many sentences.
+    pub fn find(&mut self, wanted: u32, distinct: bool) -> Result<(), Failure> {
+        let grammar = &self.grammar.packed;
+        if !distinct {
+            self.readings = grammar.list(&self.heard, wanted).map_err(Error::from)?;
+            return Ok(());
+        }
+        if !(1..=MAX_READINGS).contains(&wanted) {
+            return Err(Error::from(Refusal::ListingWanted).into());
+        }
+        let mut sentences = Distinct::new(wanted as usize);
+        let mut open = grammar.open(&self.heard).map_err(Error::from)?;
+        sentences.walk(grammar.grammar(), open.by_ref());
+        self.used_up = open.is_full() && sentences.found().len() < wanted as usize;
+        self.readings = sentences.found().iter().map(|sentence| sentence.first.clone()).collect();
+        self.others = Some(sentences.found().iter().map(|sentence| sentence.others).collect());
+        Ok(())
     }
 
     /// Lists readings up to the one with a rank, which there has to be.
@@ -60,16 +103,35 @@ impl Listed {
         let listed = Self::new(arguments, rank)?;
         match listed.readings.len() {
             found if found < rank as usize => {
-                Err(Failure::Refused(format!("there is no reading {rank}: the utterance has {found} in all")))
+                let why = match (listed.used_up, &listed.others) {
+                    (true, _) => format!("no sentence {rank} found: {}", used_up(found)),
+                    (false, Some(_)) => format!("there is no sentence {rank}: the utterance has {found} in all"),
+                    (false, None) => format!("there is no reading {rank}: the utterance has {found} in all"),
+                };
+                Err(Failure::Refused(why))
             }
             _ => Ok(listed),
         }
     }
 
-    /// Says on standard error that there is no reading, if it is so.
-    pub fn say_if_none(&self) {
-        if self.readings.is_empty() {
-            say_no_reading();
+    /// Says on standard error that there is no reading, or that there may be more sentences, if it is so.
+    pub fn say_what_is_missing(&self) {
+        if let Some(none) = self.no_reading() {
+            eprintln!("{}", none.message());
+        }
+        self.say_if_used_up();
+    }
+
+    /// Why there is no reading, if there is none.
+    pub fn no_reading(&self) -> Option<NoReading<'_>> {
+        let why = || NoReading::new(&self.grammar.named, &self.heard).expect("the library took the grammar");
+        self.readings.is_empty().then(why)
+    }
+
+    /// Says on standard error that there may be more sentences, if it is so.
+    pub fn say_if_used_up(&self) {
+        if self.used_up {
+            eprintln!("{}", used_up(self.readings.len()));
         }
     }
 
@@ -81,14 +143,29 @@ impl Listed {
         }
     }
 
+    /// The words of the reading with a rank; none if there is no such reading.
+    pub fn words(&self, rank: usize) -> Vec<&str> {
+        self.taken(rank).iter().map(|taken| self.grammar.named.word(taken.candidate.word)).collect()
+    }
+
+    /// For each word of the reading with a rank whether the first reading does not have it there: in its slot, or by an alignment
+    /// of both sentences.
+    pub fn differing(&self, rank: usize) -> Vec<bool> {
+        match self.heard {
+            Heard::Slots(_) => self.words(1).iter().zip(self.words(rank)).map(|(usual, word)| *usual != word).collect(),
+            Heard::Graph(_) => differing(&self.words(1), &self.words(rank)),
+        }
+    }
+
     pub fn tree(&self, reading: &Reading) -> Tree {
         self.grammar.named.tree(reading).expect("the library lists walks of derivations")
     }
 }
 
-/// Says on standard error that there is no reading.
-pub fn say_no_reading() {
-    eprintln!("no reading: the grammar derives nothing of what was heard");
+/// That there may be more sentences than these.
+pub fn used_up(found: usize) -> String {
+    let sentences = if found == 1 { "is 1 sentence" } else { &format!("are {found} sentences") };
+    format!("among {MAX_READINGS} readings, the most that a listing has, there {sentences}; there may be more")
 }
 
 /// What was heard, as the command line asks for it, and the slot of each edge, if slots may be passed over.
@@ -107,10 +184,14 @@ fn run(arguments: &Arguments, output: &mut Output) -> Result<(), Failure> {
     let listed = Listed::new(arguments, arguments.wanted()?)?;
     match forms {
         [_, true, _] => {
+            listed.say_if_used_up();
             let shown = listed.readings.iter().map(|reading| listed.grammar.named.shown(reading));
             output.text(&print_list(&shown.collect::<Vec<_>>()))
         }
-        [_, _, true] => output.bytes(&json_of(&listed, 1..=listed.readings.len())),
+        [_, _, true] => {
+            listed.say_if_used_up();
+            output.bytes(&json_of(&listed, 1..=listed.readings.len()))
+        }
         [with_trees, ..] => print(&listed, with_trees, output),
     }
 }
@@ -131,17 +212,27 @@ pub fn json_of(listed: &Listed, ranks: RangeInclusive<usize>) -> Vec<u8> {
             (None, Some(path)) => json::push_numbers(&mut line, "edges", path.iter().copied()),
             (None, None) => {}
         }
+        if let Some(others) = &listed.others {
+            json::push_key(&mut line, "others");
+            json::push_number(&mut line, others[rank - 1]);
+        }
         json::push_key(&mut line, "tree");
         json::push_tree(&mut line, named, &listed.tree(reading));
         json::end_reading(&mut line);
     }
     json::end_list(&mut line);
+    if listed.used_up {
+        line.extend(b",\"used_up\":true");
+    }
+    if let Some(none) = listed.no_reading() {
+        none.push_json(&mut line);
+    }
     line.extend(b"}\n");
     line
 }
 
 pub fn print(listed: &Listed, with_trees: bool, output: &mut Output) -> Result<(), Failure> {
-    listed.say_if_none();
+    listed.say_what_is_missing();
     for rank in 1..=listed.readings.len() {
         let mut text = line(listed, rank, output) + "\n";
         if with_trees {
@@ -161,7 +252,18 @@ pub fn drawn(listed: &Listed, rank: usize, output: &Output) -> String {
 
 /// The reading with a rank in one line; words that the first reading does not have in their place are marked.
 pub fn line(listed: &Listed, rank: usize, output: &Output) -> String {
-    format!("{}  {}", line_begin(listed, rank, output), marked_words(listed, rank, output))
+    let others = other_trees(listed, rank).map_or(String::new(), |others| format!("  ({others})"));
+    let others = output.paint(Style::Faint, &others);
+    format!("{}  {}{others}", line_begin(listed, rank, output), marked_words(listed, rank, output))
+}
+
+/// How many more readings have the words of the one with a rank, if some have and sentences stand once.
+pub fn other_trees(listed: &Listed, rank: usize) -> Option<String> {
+    match listed.others.as_ref()?[rank - 1] {
+        0 => None,
+        1 => Some("+1 tree".into()),
+        others => Some(format!("+{others} trees")),
+    }
 }
 
 /// Rank and weight, as the line of the reading begins.
@@ -174,16 +276,10 @@ pub fn line_begin(listed: &Listed, rank: usize, output: &Output) -> String {
     format!("{rank:>rank_width$}  {}", output.paint(Style::Strong, &weight))
 }
 
-/// The words of the reading with a rank; those that the first reading does not have in their place are marked.
+/// The words of the reading with a rank; those that the first reading does not have there are marked.
 pub fn marked_words(listed: &Listed, rank: usize, output: &Output) -> String {
-    let usual = listed.taken(1);
-    let words = listed.taken(rank).into_iter().map(|taken| {
-        let word = listed.grammar.named.word(taken.candidate.word);
-        if usual.contains(&taken) {
-            word.to_owned()
-        } else {
-            output.paint(Style::Marked, word)
-        }
-    });
-    words.collect::<Vec<_>>().join(" ")
+    let words = listed.words(rank).into_iter().zip(listed.differing(rank));
+    let painted =
+        words.map(|(word, differs)| if differs { output.paint(Style::Marked, word) } else { word.to_owned() });
+    painted.collect::<Vec<_>>().join(" ")
 }

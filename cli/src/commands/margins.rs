@@ -1,10 +1,11 @@
 //! `margins`: which word to listen to again.
 
-use super::list::{heard, say_no_reading};
+use super::list::heard;
 use super::Command;
 use crate::failure::Failure;
 use crate::files;
 use crate::json;
+use crate::no_reading::NO_READING;
 use crate::options::{Arguments, DROP_DELETES, DROP_UNKNOWN, EMPTY, JSON, SAID, SCALE};
 use crate::output::{Output, Style};
 use spireyerba::text::NamedGrammar;
@@ -36,7 +37,7 @@ fn run(arguments: &Arguments, output: &mut Output) -> Result<(), Failure> {
     }
     if margins.is_empty() {
         match grammar.packed.list(&utterance, 1).map_err(Error::from)?.is_empty() {
-            true => say_no_reading(),
+            true => eprintln!("{NO_READING}"),
             false => eprintln!("none: no other word brings another reading, however cheap it is"),
         }
     }

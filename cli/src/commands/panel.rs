@@ -26,5 +26,15 @@ fn run(arguments: &Arguments, output: &mut Output) -> Result<(), Failure> {
     let wanted = arguments.wanted()?;
     let mut lister = Lister::of(grammar.packed.clone()).panel();
     let readings = lister.list(&heard, wanted).map_err(Error::from)?;
-    print(&Listed { grammar, heard, readings, slots: None }, arguments.has(&TREE), output)
+    let listed = Listed {
+        grammar,
+        heard,
+        readings,
+        others: None,
+        used_up: false,
+        slots: None,
+        times: None,
+        left_out: Vec::new(),
+    };
+    print(&listed, arguments.has(&TREE), output)
 }

@@ -1,23 +1,26 @@
 //! `pick`: readings found and shown one by one until one is taken.
 
-use super::list::{drawn, json_of, line, Listed};
+use super::list::{drawn, json_of, line, used_up, Listed};
 use super::Command;
 use crate::failure::Failure;
-use crate::options::{Arguments, DROP_DELETES, DROP_UNKNOWN, EMPTY, JSON, SAID, SCALE, SKIP, TREE};
+use crate::options::{
+    Arguments, DISTINCT, DROP_DELETES, DROP_UNKNOWN, EMPTY, EVERY_TREE, JSON, SAID, SCALE, SKIP, TREE,
+};
 use crate::output::Output;
 use spireyerba::limits::MAX_READINGS;
-use spireyerba::Error;
+use spireyerba::{Distinct, Error, OpenListing, Reading};
 use std::io::BufRead;
 
 pub const COMMAND: Command = Command {
     name: "pick",
     operands: &["GRAMMAR", "UTTERANCE"],
     needed: 2,
-    options: &[TREE, JSON, SAID, SKIP, SCALE, DROP_UNKNOWN, DROP_DELETES, EMPTY],
+    options: &[DISTINCT, EVERY_TREE, TREE, JSON, SAID, SKIP, SCALE, DROP_UNKNOWN, DROP_DELETES, EMPTY],
     summary: "show one reading after another until one is taken",
     details: "\
-Shows the readings on standard error, the least first and at most 256. Enter shows the next one, y takes the one
-shown and prints it to standard output as `list` does, q takes none. Each is looked for when it is asked for.",
+Shows the sentences on standard error, each by its first reading, the least first; with --every-tree all readings. They
+are those of at most 256 readings. Enter shows the next one, y takes the one shown and prints it to standard output as
+`list --distinct` does, or as `list` does, q takes none. Each is looked for when it is asked for.",
     example: "spireyerba pick grammar.txt utterance.txt > meant.txt",
     run,
 };
@@ -30,28 +33,71 @@ fn run(arguments: &Arguments, output: &mut Output) -> Result<(), Failure> {
     if with_tree && for_programs {
         return Err(arguments.wrong("--tree and --json: only one of them"));
     }
-    let mut listed = Listed::none_yet(arguments)?;
-    let mut open = listed.grammar.packed.open(&listed.heard).map_err(Error::from)?;
+    let mut picker = Picker::new(arguments)?;
     let mut answers = std::io::stdin().lock().lines();
-    for reading in open.by_ref() {
-        listed.readings.push(reading);
-        let rank = listed.readings.len();
-        let tree = if with_tree { drawn(&listed, rank, output) } else { String::new() };
-        let shown = line(&listed, rank, output);
+    while picker.next() {
+        let (listed, rank) = (&picker.listed, picker.listed.readings.len());
+        let tree = if with_tree { drawn(listed, rank, output) } else { String::new() };
+        let shown = line(listed, rank, output);
         eprint!("{shown}{}{tree}[Enter, y, q] ", if with_tree { "\n" } else { "  " });
         match answer(&mut answers)? {
             Answer::Next => {}
-            Answer::Take if for_programs => return output.bytes(&json_of(&listed, rank..=rank)),
-            Answer::Take => return output.text(&format!("{shown}\n{tree}")),
+            Answer::Take => {
+                let listed = picker.counted();
+                let taken = format!("{}\n{tree}", line(&listed, rank, output));
+                return output.bytes(&if for_programs { json_of(&listed, rank..=rank) } else { taken.into() });
+            }
             Answer::Quit => return Err(Failure::Refused("none taken".into())),
         }
     }
-    listed.say_if_none();
-    Err(Failure::Refused(if open.is_full() {
-        format!("none taken, and no more than {MAX_READINGS} readings are shown")
-    } else {
-        "none taken, and there are no more readings".into()
-    }))
+    picker.listed.say_what_is_missing();
+    Err(Failure::Refused(format!("none taken, and {}", picker.why_no_more())))
+}
+
+/// Readings that are looked for one by one.
+struct Picker {
+    listed: Listed,
+    open: OpenListing,
+    /// The sentences so far, if each is shown once.
+    sentences: Option<Distinct>,
+}
+
+impl Picker {
+    fn new(arguments: &Arguments) -> Result<Self, Failure> {
+        let listed = Listed::none_yet(arguments)?;
+        let open = listed.grammar.packed.open(&listed.heard).map_err(Error::from)?;
+        let once = arguments.has(&DISTINCT) || !arguments.has(&EVERY_TREE);
+        Ok(Self { listed, open, sentences: once.then(|| Distinct::new(MAX_READINGS as usize)) })
+    }
+
+    /// Adds the next one to the list; answers whether there is one.
+    fn next(&mut self) -> bool {
+        let Self { listed, open, sentences } = self;
+        let grammar = &listed.grammar.named.grammar;
+        let is_new = |found: &Reading| sentences.as_mut().is_none_or(|known| known.take(grammar, found.clone()));
+        let next = open.find(is_new);
+        next.map(|found| listed.readings.push(found)).is_some()
+    }
+
+    /// The list with the trees of each sentence counted, as `list` has it.
+    fn counted(self) -> Listed {
+        let Self { mut listed, open, sentences } = self;
+        if let Some(mut sentences) = sentences {
+            let shown = listed.readings.len();
+            sentences.walk(&listed.grammar.named.grammar, open);
+            listed.others = Some(sentences.found()[..shown].iter().map(|sentence| sentence.others).collect());
+        }
+        listed
+    }
+
+    fn why_no_more(&self) -> String {
+        match (self.open.is_full(), &self.sentences) {
+            (true, None) => format!("no more than {MAX_READINGS} readings are shown"),
+            (true, Some(sentences)) => used_up(sentences.found().len()),
+            (false, None) => "there are no more readings".into(),
+            (false, Some(_)) => "there are no more sentences".into(),
+        }
+    }
 }
 
 enum Answer {

@@ -5,7 +5,9 @@ use super::Command;
 use crate::anchor;
 use crate::failure::Failure;
 use crate::files;
-use crate::options::{Arguments, DROP_DELETES, DROP_UNKNOWN, EMPTY, FILE, HIGH, SAID, SCALE, SKIP, WANTED};
+use crate::options::{
+    Arguments, DISTINCT, DROP_DELETES, DROP_UNKNOWN, EMPTY, EVERY_TREE, FILE, HIGH, SAID, SCALE, SKIP, WANTED,
+};
 use crate::output::Output;
 use crate::page::{page, CostChanges, Ranges, Source};
 use spireyerba::{Error, Heard, Utterance};
@@ -14,19 +16,21 @@ pub const COMMAND: Command = Command {
     name: "report",
     operands: &["GRAMMAR", "UTTERANCE"],
     needed: 2,
-    options: &[FILE, WANTED, HIGH, SAID, SKIP, SCALE, DROP_UNKNOWN, DROP_DELETES, EMPTY],
+    options: &[FILE, WANTED, DISTINCT, EVERY_TREE, HIGH, SAID, SKIP, SCALE, DROP_UNKNOWN, DROP_DELETES, EMPTY],
     summary: "write a page with what was heard, the readings as drawn trees, and which words to listen to again",
     details: "\
 The page is one file of HTML that needs no other, to be looked at in a browser or printed. Of slots it says which words to
 listen to again, as `margins` does; with --high, where the costs of UTTERANCE are the least ones, also how the first weight
-varies, as `ranges` does.",
+varies, as `ranges` does. Of a word graph each sentence stands once, unless --every-tree is given.",
     example: "spireyerba report grammar.txt utterance.txt -o page.html",
     run,
 };
 
 fn run(arguments: &Arguments, output: &mut Output) -> Result<(), Failure> {
     let wanted = arguments.wanted()?;
-    let listed = Listed::new(arguments, wanted)?;
+    let mut listed = Listed::none_yet(arguments)?;
+    let is_graph = matches!(listed.heard, Heard::Graph(_));
+    listed.find(wanted, arguments.has(&DISTINCT) || is_graph && !arguments.has(&EVERY_TREE))?;
     let changes = match &listed.heard {
         Heard::Slots(utterance) => Some(cost_changes(arguments, &listed, utterance)?),
         Heard::Graph(_) if arguments.has(&HIGH) => {

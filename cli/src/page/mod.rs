@@ -1,12 +1,14 @@
 //! The page that `report` writes: HTML with its style and its drawings inside, and no script.
 
 mod changes;
+mod lattice;
 mod tree;
 
 pub use changes::{CostChanges, Ranges};
 
-use crate::commands::list::Listed;
+use crate::commands::list::{other_trees, used_up, Listed};
 use crate::heard::{HeardWords, Taken};
+use crate::no_reading::Lines;
 use spireyerba::Heard;
 use std::fmt::Write;
 
@@ -32,6 +34,7 @@ pub fn page(listed: &Listed, source: &Source, changes: Option<&CostChanges>) -> 
     html += &header(listed, source);
     html += &heard(listed, changes);
     html += &overview(listed);
+    html += &no_reading(listed);
     html += &changes.map_or(String::new(), |changes| changes.sections(listed));
     html += &trees(listed);
     let version = env!("CARGO_PKG_VERSION");
@@ -62,11 +65,12 @@ fn header(listed: &Listed, source: &Source) -> String {
         counted(named.words.len(), "word"),
         counted(named.own_rules() as usize, "rule"),
     ];
-    let found = listed.readings.len();
+    let (found, what) = (listed.readings.len(), listed.others.as_ref().map_or("reading", |_| "sentence"));
     let number = match found {
         0 => "It has no reading: the grammar derives nothing of what was heard.".into(),
-        _ if found < source.wanted as usize => format!("It has {} in all.", counted(found, "reading")),
-        _ => format!("Its {} of least weight.", counted(found, "reading")),
+        _ if listed.used_up => format!("Its {} of least weight: {}.", counted(found, what), used_up(found)),
+        _ if found < source.wanted as usize => format!("It has {} in all.", counted(found, what)),
+        _ => format!("Its {} of least weight.", counted(found, what)),
     };
     let best = listed.readings.first().map_or(String::new(), |reading| {
         let sentence = escaped(&listed.grammar.named.sentence(reading));
@@ -92,16 +96,39 @@ fn size(heard: &Heard) -> String {
     }
 }
 
+/// Why there is no reading, if there is none.
+fn no_reading(listed: &Listed) -> String {
+    let Some(none) = listed.no_reading() else { return String::new() };
+    let Lines { goes_along, could_follow, heard: (there, heard) } = none.lines();
+    let rows = [("goes along with the grammar", goes_along), ("could follow there", could_follow), (&there, heard)];
+    let rows = rows.map(|(title, text)| format!("<dt>{title}</dt><dd>{}</dd>\n", escaped(&text))).concat();
+    format!("<section>\n<h2>Why there is no reading</h2>\n<dl>\n{rows}</dl>\n</section>\n")
+}
+
 fn counted(count: usize, what: &str) -> String {
     format!("{count} {what}{}", if count == 1 { "" } else { "s" })
 }
 
-/// The slots, each with its words, the cheapest first; or what starts at each place of a word graph.
+/// What was heard, and what of it is not on the page.
 fn heard(listed: &Listed, changes: Option<&CostChanges>) -> String {
+    let drawn = match &listed.heard {
+        Heard::Slots(_) => slots(listed, changes),
+        Heard::Graph(graph) => format!(
+            "<figure>\n{}</figure>\n<p class=\"note\">Time goes from left to right, from place to place. A number is a cost: how \
+             badly the word fits what was heard. Marked: the path of the first reading. Struck out: not heard.</p>\n",
+            lattice::svg(listed, graph)
+        ),
+    };
+    let left_out = listed.left_out.iter().map(|note| format!("<p class=\"left-out\">{}.</p>\n", escaped(note)));
+    format!("<section>\n<h2>What was heard</h2>\n{}{drawn}</section>\n", left_out.collect::<String>())
+}
+
+/// The slots, each with its words, the cheapest first.
+fn slots(listed: &Listed, changes: Option<&CostChanges>) -> String {
     let (best, mut groups) = (listed.taken(1), listed.heard.groups());
     let heard = groups.iter().flatten().map(|taken| taken.candidate).filter(|candidate| candidate.is_offered());
     let greatest = heard.map(|candidate| candidate.cost).max().unwrap_or(0).max(1);
-    let mut html = String::from("<section>\n<h2>What was heard</h2>\n<ol class=\"slots\" start=\"0\">\n");
+    let mut html = String::from("<ol class=\"slots\" start=\"0\">\n");
     for group in &mut groups {
         group.sort_by_key(|taken| taken.candidate.cost);
         let words: String = group
@@ -111,14 +138,11 @@ fn heard(listed: &Listed, changes: Option<&CostChanges>) -> String {
                 word(listed, taken, best.contains(taken), Costs { greatest, highest })
             })
             .collect();
-        let title = match listed.heard {
-            Heard::Slots(_) => listed.heard.place(group[0].span),
-            Heard::Graph(_) => format!("from place {}", group[0].span[0]),
-        };
+        let title = listed.heard.place(group[0].span);
         write!(html, "<li><h3>{title}</h3>\n{words}</li>\n").expect("a string takes all");
     }
     html + "</ol>\n<p class=\"note\">A number is a cost: how badly the word fits what was heard. Marked: the words of the \
-            first reading. Struck out: not heard.</p>\n</section>\n"
+            first reading. Struck out: not heard.</p>\n"
 }
 
 /// The costs beside which that of a word is shown: the greatest of all, and the greatest that the word may have, if it is more.
@@ -128,11 +152,8 @@ struct Costs {
 }
 
 /// A word that was heard, with a bar as long as its cost is great.
-fn word(listed: &Listed, Taken { span, candidate }: &Taken, is_best: bool, costs: Costs) -> String {
-    let mut word = escaped(listed.grammar.named.word(candidate.word));
-    if let Heard::Graph(_) = listed.heard {
-        word += &format!(" <small>to&nbsp;{}</small>", span[1]);
-    }
+fn word(listed: &Listed, Taken { candidate, .. }: &Taken, is_best: bool, costs: Costs) -> String {
+    let word = escaped(listed.grammar.named.word(candidate.word));
     if !candidate.is_offered() {
         return format!("<div class=\"candidate unheard\"><span>{word}</span></div>\n");
     }
@@ -157,29 +178,27 @@ fn overview(listed: &Listed) -> String {
         let more = reading.weight - first.weight;
         let more = if rank == 1 { String::new() } else { format!("+{more}") };
         let words = marked_words(listed, rank);
+        let others = other_trees(listed, rank).map_or(String::new(), |others| format!(" <small>{others}</small>"));
         writeln!(
             html,
             "<tr><td class=\"number\"><a href=\"#reading-{rank}\">{rank}</a></td><td class=\"number\">{}</td>\
-             <td class=\"number more\">{more}</td><td>{words}</td></tr>",
+             <td class=\"number more\">{more}</td><td>{words}{others}</td></tr>",
             reading.weight
         )
         .expect("a string takes all");
     }
-    html + "</table>\n<p class=\"note\">A weight is the sum of a reading's rules and words. In a tree the number beside a \
+    html += "</table>\n<p class=\"note\">A weight is the sum of a reading's rules and words. In a tree the number beside a \
             symbol is the weight of its rule, and that below a word its cost. Marked: words that the first reading does not \
-            have there.</p>\n</section>\n"
+            have there.";
+    if listed.others.is_some() {
+        html += " Each sentence stands once, by its first reading; +2 trees says that 2 more of the first 256 readings have its words.";
+    }
+    html + "</p>\n</section>\n"
 }
 
 fn marked_words(listed: &Listed, rank: usize) -> String {
-    let usual = listed.taken(1);
-    let words = listed.taken(rank).into_iter().map(|taken| {
-        let text = escaped(listed.grammar.named.word(taken.candidate.word));
-        if usual.contains(&taken) {
-            text
-        } else {
-            format!("<mark>{text}</mark>")
-        }
-    });
+    let words = listed.words(rank).into_iter().map(escaped).zip(listed.differing(rank));
+    let words = words.map(|(word, differs)| if differs { format!("<mark>{word}</mark>") } else { word });
     words.collect::<Vec<_>>().join(" ")
 }
 

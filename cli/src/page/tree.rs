@@ -30,9 +30,9 @@ struct Layout<'a> {
     columns: Vec<f64>,
     /// The words' baseline.
     baseline: f64,
-    /// The words as they were heard, and those of the first reading: others are marked.
+    /// The words as they were heard, and which of them are marked.
     taken: Vec<Taken>,
-    usual: Vec<Taken>,
+    marked: Vec<bool>,
     svg: String,
 }
 
@@ -49,8 +49,8 @@ pub fn svg(listed: &Listed, rank: usize) -> String {
     }
     let baseline = MARGIN + LEVEL * tree.height() as f64;
     let (width, height) = (edge + MARGIN, baseline + FOOT);
-    let [usual, taken] = [1, rank].map(|rank| listed.taken(rank));
-    let mut layout = Layout { listed, named, columns, baseline, taken, usual, svg: String::new() };
+    let (taken, marked) = (listed.taken(rank), listed.differing(rank));
+    let mut layout = Layout { listed, named, columns, baseline, taken, marked, svg: String::new() };
     layout.node(tree, MARGIN);
     let label = escaped(&format!("tree of {}", named.symbol(named.grammar.rules[tree.rule as usize].head)));
     format!(
@@ -123,7 +123,7 @@ impl Layout<'_> {
     fn word(&mut self, word: u32, number: usize) -> f64 {
         let (x, y) = (self.columns[number], self.baseline);
         let taken = self.taken[number];
-        if !self.usual.contains(&taken) {
+        if self.marked[number] {
             let width = self.named.word(word).chars().count() as f64 * CHARACTER + MARK_PADDING;
             let (left, top, height) = (x - width / 2.0, y - ABOVE, ABOVE + BELOW);
             self.put(format_args!(

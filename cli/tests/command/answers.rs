@@ -76,10 +76,19 @@ fn list_with_words_that_are_known() {
 fn an_utterance_without_readings_is_answered() {
     let words = "list grammar.txt -";
     let empty = |words| run_with(&doors(), words, b"door 1");
-    let message = "no reading: the grammar derives nothing of what was heard\n";
+    let message = "\
+no reading: the grammar derives nothing of what was heard
+  goes along with it: door
+  could follow there: twenty, forty, four, five
+  heard behind it: nothing more
+";
     assert_eq!(empty(words), Run { status: 0, out: String::new(), err: message.into() });
     assert_eq!(answered(empty("list grammar.txt - --rules"), words), "readings 0\n");
-    assert_eq!(answered(empty("list grammar.txt - --json"), words), "{\"readings\":[]}\n");
+    assert_eq!(
+        answered(empty("list grammar.txt - --json"), words),
+        r#"{"readings":[],"prefix":{"words":["door"],"place":1,"next":["twenty","forty","four","five"],"may_end":false}}
+"#
+    );
     assert!(answered(empty("report grammar.txt -"), words).contains("It has no reading"));
 }
 

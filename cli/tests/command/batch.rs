@@ -74,7 +74,8 @@ fn batch_of_graphs() {
         "{}",
         lines[1]
     );
-    assert_eq!(lines[3], r#"{"line":4,"readings":[]}"#);
+    let prefix = r#""prefix":{"words":["door"],"place":1,"next":["twenty","forty","four","five"],"may_end":false}}"#;
+    assert_eq!(lines[3], format!("{{\"line\":4,\"readings\":[],{prefix}"));
 }
 
 /// Lines may be longer than what is read at a time, end in any way, and have bytes that are no characters.

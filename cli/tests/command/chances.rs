@@ -79,7 +79,7 @@ fn other_options_mean_the_same() {
     );
     let none = run_with(&doors(), "chance grammar.txt - shares.txt", b"door 1");
     assert_eq!((none.status, none.out.as_str()), (0, ""));
-    assert_eq!(none.err, "no reading: the grammar derives nothing of what was heard\n");
+    assert!(none.err.starts_with("no reading: the grammar derives nothing of what was heard\n"), "{}", none.err);
 }
 
 #[test]

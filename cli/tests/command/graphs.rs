@@ -106,11 +106,49 @@ fn pack_and_unpack() {
 #[test]
 fn the_page() {
     let page = answer_graph("report grammar.txt graph.txt");
-    assert!(page.contains("A word graph of 7 places and 14 edges."));
-    assert_eq!(page.matches("<svg ").count(), 8);
-    assert_eq!(page.matches("class=\"candidate taken\"").count(), 6);
-    assert_eq!(page.matches("class=\"candidate unheard\"").count(), 1);
-    assert_eq!(page.matches("<h3>from place ").count(), 6);
+    assert!(page.contains("A word graph of 7 places and 14 edges. Its 8 sentences of least weight."));
+    assert_eq!(page.matches("<svg ").count(), 9);
+    let (_, drawing) = page.split_once("<svg class=\"lattice\"").expect("the graph drawn");
+    let (drawing, _) = drawing.split_once("</svg>").expect("its end");
+    assert_eq!((drawing.matches("<path").count(), drawing.matches("<circle").count()), (14, 7));
+    // the path of the first reading, and what was not heard
+    for (class, edges) in [("taken", vec![0, 2, 4, 7, 9, 12]), ("unheard", vec![8])] {
+        assert_eq!(drawing.matches(&format!("<path class=\"{class}\"")).count(), edges.len());
+        let label = |edge: u32| drawing.contains(&format!("><title>edge {edge}: "));
+        assert!(edges.into_iter().all(label), "{drawing}");
+        let labels = drawing.matches(&format!("<text class=\"{class}\"")).count();
+        assert_eq!(labels, drawing.matches(&format!("<path class=\"{class}\"")).count());
+    }
+    assert!(
+        drawing.contains("<title>edge 3: 1 to 3</title>forty<tspan class=\"small\" dx=\"4\">24</tspan></text>"),
+        "{drawing}"
+    );
+}
+
+/// Words that differ are marked by an alignment of the sentences: the words behind a longer or shorter part are not.
+#[test]
+fn the_page_marks_few_words() {
+    let page = answer_graph("report grammar.txt graph.txt");
+    for words in ["door <mark>forty</mark> oak fire thirty", "door twenty <mark>glass</mark> fire thirty"] {
+        assert!(page.contains(&format!("<td>{words}</td>")), "{words}");
+    }
+    let trees = answer_graph("report grammar.txt graph.txt -n 2");
+    assert_eq!(trees.matches("rx=\"3\"/>").count(), 1);
+}
+
+/// Each sentence stands once, unless every tree is asked for.
+#[test]
+fn the_page_has_a_sentence_once() {
+    let files: [(&str, &[u8]); 2] =
+        [("g", b"A -> B B\nB -> \"x\""), ("l", b"0 1 x 1\n0 2 x 2\n1 3 x 1\n2 3 x 4\n1 2 x 9\n3")];
+    let folder = folder("page_once", &files);
+    let rows = |options: &str| {
+        let page = run_in(&folder, &format!("report g l {options}")).out;
+        page.matches("<a href=\"#reading-").count()
+    };
+    assert_eq!([rows(""), rows("--every-tree"), rows("--distinct")], [1, 2, 1]);
+    let page = run_in(&folder, "report g l").out;
+    assert!(page.contains("<td>x x <small>+1 tree</small></td>"), "{page}");
 }
 
 #[test]

@@ -145,6 +145,21 @@ addEventListener("load", () => {
 });
 </script>"#;
 
+/// A graph of 25 places and 96 edges: from each place edges to the next ones, of one to six places.
+fn dense_graph() -> String {
+    let spans = (0..24).flat_map(|from| [1, 1 + from % 3, 1 + from % 6].map(|length| (from, (from + length).min(24))));
+    let edges =
+        spans.flat_map(|(from, to)| ["a", "b"].map(|word| format!("{from} {to} {word} {}\n", 100 + from * 37 + to)));
+    let mut known = Vec::new();
+    edges.for_each(|edge| {
+        if !known.contains(&edge) {
+            known.push(edge)
+        }
+    });
+    known.truncate(96);
+    known.concat() + "24\n"
+}
+
 /// Pages of slots, of graphs and of office rules, with words of one letter under long symbols. Where there is no browser, this
 /// says so and passes.
 #[test]
@@ -152,13 +167,16 @@ fn a_browser_finds_room_for_every_text() {
     let Some(browser) = browser() else { return };
     let grammar = b"Instructions -> \"a\" \"b\" | Instructions Instructions \"b\" [65535] | \"a\" Instructions";
     let slot = "a 1 | b 2\n".repeat(24);
-    let folder = folder("report_probe", &[("g", grammar), ("u", slot.as_bytes())]);
+    let dense = dense_graph();
+    let files: [(&str, &[u8]); 3] = [("g", grammar), ("u", slot.as_bytes()), ("dense", dense.as_bytes())];
+    let folder = folder("report_probe", &files);
     let examples = doors().join("..").display().to_string();
     for (command, texts) in [
         (format!("{examples}/doors/grammar.txt {examples}/doors/utterance.txt --high {examples}/doors/high.txt"), 183),
         (format!("{examples}/doors_graph/grammar.txt {examples}/doors_graph/graph.txt"), 0),
         (format!("{examples}/doors_office/grammar.txt {examples}/doors_office/utterance.txt -n 256"), 0),
         ("g u -n 3".to_owned(), 0),
+        ("g dense".to_owned(), 0),
     ] {
         let page = answer_in(&folder, &format!("report {command}"));
         std::fs::write(folder.join("probe.html"), page.replace("</body>", &format!("{PROBE}</body>"))).expect("a file");

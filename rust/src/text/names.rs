@@ -180,10 +180,7 @@ impl NamedGrammar {
 
     /// The words of a reading in their order, by number.
     pub fn words_of<'a>(&'a self, reading: &'a Reading) -> impl Iterator<Item = u32> + 'a {
-        reading.walk.iter().filter_map(|&rule| match self.grammar.rules[rule as usize].body {
-            Body::Word(word) => Some(word),
-            Body::Pair(..) => None,
-        })
+        self.grammar.words_of(reading)
     }
 
     /// The words of a reading in their order, with a blank between two.

@@ -1,0 +1,93 @@
+#!/bin/sh
+# install.sh install|uninstall: puts what was built under PREFIX, or takes it away again. One list serves both.
+#
+#   PREFIX      /usr/local unless given
+#   DESTDIR     put before every path that is written to, and in no file
+#   BINDIR, LIBDIR, INCLUDEDIR, DATADIR, PYTHONDIR   where else something should stand
+set -eu
+cd "$(dirname "$0")/.."
+action=$1
+PREFIX=${PREFIX:-/usr/local}
+DESTDIR=${DESTDIR:-}
+BINDIR=${BINDIR:-$PREFIX/bin}
+LIBDIR=${LIBDIR:-$PREFIX/lib}
+INCLUDEDIR=${INCLUDEDIR:-$PREFIX/include}
+DATADIR=${DATADIR:-$PREFIX/share}
+version=$(sed -n 's/^#define SPIREYERBA_VERSION "\(.*\)"/\1/p' include/spireyerba_util.h)
+interface=$(sed -n 's/^#define SPIREYERBA_INTERFACE //p' include/spireyerba_util.h)
+command=target/bin/spireyerba
+made=$(mktemp)
+trap 'rm -f "$made"' EXIT
+
+# The folder of that prefix in which the Python that is found looks for packages, or would.
+python_folder() {
+    python3 - "$PREFIX" <<'PYTHON'
+import site, sys
+prefix = sys.argv[1].rstrip("/") + "/"
+own = "%slib/python%d.%d/site-packages" % (prefix, *sys.version_info[:2])
+print(next((folder for folder in site.getsitepackages() if folder.startswith(prefix)), own))
+PYTHON
+}
+PYTHONDIR=${PYTHONDIR:-$(python_folder)}
+
+# put MODE SOURCE PATH: a file that is installed, or taken away.
+put() {
+    case $action in
+        install) install -D -m "$1" "$2" "$DESTDIR$3" ;;
+        uninstall) take_away "$DESTDIR$3" ;;
+    esac
+}
+
+# take_away PATH: and with it its folder, if that is of this package alone.
+take_away() {
+    rm -f "$1"
+    case $(dirname "$1") in */spireyerba) rmdir --ignore-fail-on-non-empty "$(dirname "$1")" 2>/dev/null || true ;; esac
+}
+
+# filled SOURCE PATH: a file whose words between @ are filled in.
+filled() {
+    sed -e "s|@PREFIX@|$PREFIX|" -e "s|@LIBDIR@|$LIBDIR|" -e "s|@INCLUDEDIR@|$INCLUDEDIR|" -e "s|@VERSION@|$version|" \
+        -e "s|@INTERFACE@|$interface|" "$1" >"$made"
+    put 644 "$made" "$2"
+}
+
+# printed PATH WORDS..: what the command prints.
+printed() {
+    path=$1
+    shift
+    if [ "$action" = install ]; then "$command" help "$@" >"$made"; fi
+    put 644 "$made" "$path"
+}
+
+# link NAME PATH: a link to a file beside it.
+link() {
+    case $action in
+        install) ln -sf "$1" "$DESTDIR$2" ;;
+        uninstall) take_away "$DESTDIR$2" ;;
+    esac
+}
+
+libraries() {
+    put 644 target/staticlib/libspireyerba.a "$LIBDIR/libspireyerba.a"
+    put 644 target/lib/libspireyerba_util.a "$LIBDIR/libspireyerba_util.a"
+    put 755 "target/lib/libspireyerba.so.$interface" "$LIBDIR/libspireyerba.so.$interface"
+    link "libspireyerba.so.$interface" "$LIBDIR/libspireyerba.so"
+    put 644 include/spireyerba.h "$INCLUDEDIR/spireyerba.h"
+    put 644 include/spireyerba_util.h "$INCLUDEDIR/spireyerba_util.h"
+    filled packaging/spireyerba.pc.in "$LIBDIR/pkgconfig/spireyerba.pc"
+    filled packaging/spireyerba-config.cmake.in "$LIBDIR/cmake/spireyerba/spireyerba-config.cmake"
+    filled packaging/spireyerba-config-version.cmake.in "$LIBDIR/cmake/spireyerba/spireyerba-config-version.cmake"
+}
+
+the_command() {
+    put 755 "$command" "$BINDIR/spireyerba"
+    for page in $("$command" help --manual); do
+        printed "$DATADIR/man/man${page##*.}/$page" --manual "$page"
+    done
+    printed "$DATADIR/bash-completion/completions/spireyerba" --completions bash
+    printed "$DATADIR/zsh/site-functions/_spireyerba" --completions zsh
+    printed "$DATADIR/fish/vendor_completions.d/spireyerba.fish" --completions fish
+}
+
+libraries
+the_command
