@@ -86,7 +86,6 @@ pub const JOBS: Opt = Opt {
     value: Some("N"),
     help: "use so many threads; one for each core unless given",
 };
-
 pub const LINE: Opt = Opt {
     long: "line",
     short: None,
@@ -96,9 +95,10 @@ pub const LINE: Opt = Opt {
 pub const RESUME: Opt = Opt {
     long: "resume",
     short: None,
-    value: Some("OUT"),
-    help: "write to OUT, behind the answers that an interrupted run left in it",
+    value: Some("FILE"),
+    help: "write to this file, behind the answers that an interrupted run left in it",
 };
+
 /// What every command has beside its own.
 pub const HELP: Opt = Opt { long: "help", short: Some('h'), value: None, help: "print this" };
 
