@@ -27,9 +27,8 @@ impl Drawing<'_> {
     /// Draws a node behind what stands before it, and what is below it. A word that is all that stands below it stands behind
     /// it, and any other word in a line of its own.
     fn node(&self, text: &mut String, tree: &Tree, [before, below]: [&str; 2]) {
-        let rule = &self.grammar.grammar.rules[tree.rule as usize];
-        let weight = self.output.paint(Style::Faint, &format!("[{}]", rule.weight));
-        let symbol = self.grammar.symbol(rule.head);
+        let weight = self.output.paint(Style::Faint, &format!("[{}]", tree.weight));
+        let symbol = self.grammar.symbol(tree.head);
         *text += &format!("{before}{symbol} {weight}");
         if let [Part::Word { word, number }] = tree.parts[..] {
             *text += &format!("  {}\n", self.word(word, number));

@@ -8,7 +8,7 @@ use crate::failure::Failure;
 use crate::options::{Arguments, DROP_DELETES, DROP_UNKNOWN, EMPTY, FILE, SCALE};
 use crate::output::Output;
 use spireyerba::services::check;
-use spireyerba::text::{is_graph, parse_reading, parse_sheet, NamedGrammar, Places, UtteranceReader};
+use spireyerba::text::{is_graph, NamedGrammar, Places, UtteranceReader};
 use spireyerba::{Error, Heard, PackedGrammar, Reading, Refusal};
 use std::io::Read;
 use std::os::fd::AsFd;
@@ -170,23 +170,11 @@ pub fn reading(grammar: &GrammarFile, heard: &Heard, operand: &str) -> Result<Re
     let under = grammar.packed.block();
     let heard_block = heard.to_block(under).map_err(Error::from)?;
     let accepted = Reading::from_block(under, &heard_block, &file.bytes);
-    let reading = file.block_or_text(accepted, |text| parse_reading_of(grammar, heard, text))?;
+    let reading =
+        file.block_or_text(accepted, |text| grammar.named.parse_reading(text, matches!(heard, Heard::Graph(_))))?;
     let block = reading.to_block(grammar.packed.grammar()).map_err(in_file)?;
     check(under, &heard_block, &block).map_err(in_file)?;
     Ok(ReadingFile { reading, block })
-}
-
-/// The reading of slots or of a word graph that a text has.
-fn parse_reading_of(grammar: &GrammarFile, heard: &Heard, text: &str) -> Result<Reading, Error> {
-    if let Heard::Slots(_) = heard {
-        // there a bar is a fault, for no edges can follow it
-        parse_sheet(text)?;
-    }
-    let mut written = parse_reading(text)?;
-    if let Heard::Graph(_) = heard {
-        written.path.get_or_insert_default();
-    }
-    Ok(grammar.named.whole_reading(&written))
 }
 
 /// Reads the shares of a grammar's rules.

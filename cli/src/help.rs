@@ -23,18 +23,22 @@ pub const PROGRAM_PARTS: [&str; 2] = [PROGRAM, PROGRAM_END];
 
 /// The help about texts.
 pub const TEXTS: &str = "\
-A grammar: rules with a head, an arrow, and one quoted word or two to six symbols and quoted words.
+A grammar: rules with a head, an arrow, and a body of symbols and quoted words.
 
   Entry   -> Name Details | Name Leaf [30]   # alternatives; a rule's weight in brackets, or 0
   Number  -> Tens Units [5]
            | \"twenty\" [10]                   # more alternatives of the head before
-  Details -> Leaf \"fire\" Minutes
+  Details -> Leaf \"fire\"?120 Minutes Side? # what may be left out, and what its absence costs
+  Leaf    -> (\"oak\" | \"steel\" [5]) Paint*  # one of several; any number, Paint+ for one or more
+  Tens    -> Round [2]                       # a symbol alone: its rules, with weights added
+  Units   -> \"four\" => \"4\"               # what it becomes; $1 is the first part of a body, $2 the second
 
-The first head is the start. Rules, symbols and words are numbered as they are met; lines `symbols Entry Name ..` and
-`words \"door\" \"twenty\" ..` before them give other numbers. At most 32 symbols, 200 words, 256 rules, weight 65535. A
-word in a body of several items, and each item between the first and the last, takes a symbol and a rule more, those of
-helpers, which no answer shows; `lint` counts them. Where all bodies are one word or two symbols there are none. A line
-`office` says that such a grammar is to be packed with marks all the same, and [helper] or [3 helper] marks a rule of it.
+The first head is the start, and each symbol has a rule. Rules, symbols and words are numbered as they are met; lines
+`symbols Entry Name ..` and `words \"door\" \"twenty\" ..` before them give other numbers. At most 32 symbols, 200 words,
+256 rules, weight 65535, 24 parts of a body. A word in a body of several items, and each item between the first and the
+last, takes a symbol and a rule more, those of helpers, which no answer shows; what may be left out, chosen or repeated
+takes rules, and some of it symbols; `lint` counts them. Where all bodies are one word or two symbols there are none. A
+line `office` says that such a grammar is to be packed with marks all the same, and [helper] or [3 helper] marks a rule.
 
 An utterance: a slot a line, or with semicolons between slots, of up to 24.
 
@@ -68,7 +72,8 @@ A reading: its weight, and the rule number of each node, a node before its left 
   72 0 2 12 3 13 15 8 17 11 20 21            # of slots
   80 0 2 12 5 8 17 11 20 21 | 0 3 7 9 12     # of a word graph: a bar, and the numbers of its path's edges
 
-Under longer bodies it has the rules of the text; the nodes of helpers may be left out.
+Under longer bodies it has the rules of the text; the nodes of helpers may be left out. Where parts may be left out,
+chosen or repeated, 2.3 is the third of the rules that rule 2 becomes.
 
 Shares: a whole number from 1 to 1024 for each rule of the grammar's text, in their order.
 

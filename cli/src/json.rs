@@ -102,8 +102,8 @@ impl Piece {
     }
 }
 
-/// The word, if it has one, and the number of each rule of a grammar as they stand in lists, written once for many readings. A
-/// marked rule's number stands in none.
+/// The word, if it has one, of each rule of a grammar and the numbers of the text's rules whose nodes it makes, as they stand in
+/// lists, written once for many readings.
 pub struct Names {
     words: Vec<Option<Piece>>,
     rules: Vec<Piece>,
@@ -121,9 +121,9 @@ impl Names {
                 Some(Piece::new(&json))
             }
         };
-        let number = |rule| if named.is_marked(rule) { String::new() } else { format!("{rule},") };
+        let numbers = |rule| named.rules_shown(rule).iter().map(|rule| format!("{rule},")).collect::<String>();
         let words = rules.iter().map(|rule| word(rule.body)).collect();
-        Self { words, rules: (0..rules.len()).map(|rule| Piece::new(number(rule as u32).as_bytes())).collect() }
+        Self { words, rules: (0..rules.len()).map(|rule| Piece::new(numbers(rule as u32).as_bytes())).collect() }
     }
 
     /// Adds a reading but for its end: rank, if it has one, weight, words and rules.
@@ -149,7 +149,7 @@ impl Names {
 /// Adds a tree: a list of its symbol and its parts, of which a word is a string.
 pub fn push_tree(json: &mut Vec<u8>, grammar: &NamedGrammar, tree: &Tree) {
     json.push(b'[');
-    push_string(json, grammar.symbol(grammar.grammar.rules[tree.rule as usize].head));
+    push_string(json, grammar.symbol(tree.head));
     for part in &tree.parts {
         json.push(b',');
         match part {

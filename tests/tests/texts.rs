@@ -25,7 +25,8 @@ fn names(rng: &mut Rng, count: u32, letters: &[char]) -> Vec<String> {
     while names.len() < count as usize {
         let length = rng.within(1..=12);
         let name: String = (0..length).map(|_| rng.pick(letters)).collect();
-        if known.insert(name.clone()) {
+        // a name that begins with a quote is no symbol's
+        if known.insert(name.clone()) && !name.starts_with('\'') {
             names.push(name);
         }
     }

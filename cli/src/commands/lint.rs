@@ -5,6 +5,7 @@ use crate::failure::Failure;
 use crate::files::{self, GrammarFile};
 use crate::options::Arguments;
 use crate::output::Output;
+use crate::reach::{unused, Unused};
 use spireyerba::limits::{MAX_RULES, MAX_SLOTS, MAX_SYMBOLS, MAX_WORDS};
 use spireyerba::text::Places;
 use spireyerba::{Body, Error, Grammar, Position, Refusal, Rule};
@@ -14,33 +15,65 @@ pub const COMMAND: Command = Command {
     operands: &["GRAMMAR"],
     needed: 1,
     options: &[],
-    summary: "find symbols that derive nothing, rules of no use and words without a rule",
+    summary: "find symbols that derive nothing, and symbols, rules and words of no use",
     details: "\
-Nothing means: no string of 24 words or fewer, which is what an utterance has room for. The last line says how much
-room a grammar has left.",
+Nothing means: no string of 24 words or fewer, which is what an utterance has room for; then the exit status is 1, as for a
+grammar that cannot be read. What is of no use is a warning. The last line says how much room a grammar has left.",
     example: "spireyerba lint grammar.txt",
     run,
 };
 
 fn run(arguments: &Arguments, output: &mut Output) -> Result<(), Failure> {
     let file = files::grammar(arguments.operands[0])?;
-    let grammar = &file.named.grammar;
-    let shortest = shortest_strings(grammar).map_err(Error::from)?;
-    let own = &shortest[..file.named.own_symbols() as usize];
-    for (symbol, _) in own.iter().enumerate().filter(|(_, length)| length.is_none()) {
-        let what = format!("symbol {} derives nothing", file.named.symbols[symbol]);
-        output.line(&found(&file, |places| places.symbols[symbol], &what))?;
+    let named = &file.named;
+    let shortest = shortest_strings(&named.grammar).map_err(Error::from)?;
+    let derives_nothing: Vec<u32> =
+        (0..named.own_symbols()).filter(|symbol| shortest[*symbol as usize].is_none()).collect();
+    for &symbol in &derives_nothing {
+        let what = format!("`{}` derives nothing: no string of {MAX_SLOTS} words or fewer", named.symbol(symbol));
+        output.line(&found(&file, |places| places.symbols[symbol as usize], &what))?;
     }
-    let used = used_rules(grammar, &shortest);
-    for rule in (0..file.named.own_rules() as usize).filter(|rule| !used[*rule]) {
-        let what = format!("no derivation can use rule {rule}, {}", file.named.rule_text(rule as u32));
-        output.line(&found(&file, |places| places.rules[rule], &what))?;
+    warnings(&file, &shortest, output)?;
+    output.line(&room(&file))?;
+    match derives_nothing.len() {
+        0 => Ok(()),
+        1 => Err(Failure::Refused(format!("{}: a symbol derives nothing", file.name))),
+        count => Err(Failure::Refused(format!("{}: {count} symbols derive nothing", file.name))),
+    }
+}
+
+/// Symbols, rules and words that no derivation uses, the cause alone.
+fn warnings(file: &GrammarFile, shortest: &[Option<u32>], output: &mut Output) -> Result<(), Failure> {
+    let (named, grammar) = (&file.named, &file.named.grammar);
+    for Unused { symbol, is_in_no_rule } in unused(named) {
+        let what = match is_in_no_rule {
+            true => format!("nothing uses `{}`", named.symbol(symbol)),
+            false => format!("nothing that `{}` derives uses `{}`", named.symbol(0), named.symbol(symbol)),
+        };
+        output.line(&found(file, |places| places.symbols[symbol as usize], &what))?;
+    }
+    for rule in too_long(file, shortest) {
+        let what = format!("with rule {rule}, {}, nothing has {MAX_SLOTS} words or fewer", named.rule_text(rule));
+        output.line(&found(file, |places| places.rules[rule as usize], &what))?;
     }
     for word in (0..grammar.words).filter(|&word| !grammar.rules.iter().any(|rule| rule.body == Body::Word(word))) {
-        let what = format!("no rule has the word {}", file.named.word(word));
-        output.line(&found(&file, |places| places.words[word as usize], &what))?;
+        let what = format!("no rule has the word {}", named.word(word));
+        output.line(&found(file, |places| places.words[word as usize], &what))?;
     }
-    output.line(&room(&file))
+    Ok(())
+}
+
+/// The rules of the text that the start could use if an utterance had more room. Where a symbol derives nothing that comes first.
+fn too_long(file: &GrammarFile, shortest: &[Option<u32>]) -> Vec<u32> {
+    let (named, grammar) = (&file.named, &file.named.grammar);
+    if shortest.contains(&None) {
+        return Vec::new();
+    }
+    let beside = words_beside(grammar, shortest);
+    let is_explained = |rule: &Rule| beside[rule.head as usize].is_none() || body_length(rule, shortest).is_none();
+    let [used, explained] = [used_rules(grammar, shortest), grammar.rules.iter().map(is_explained).collect()]
+        .map(|some| in_text(file, &some));
+    (0..named.own_rules()).filter(|&rule| !used[rule as usize] && !explained[rule as usize]).collect()
 }
 
 /// A line about something at a place of the text, if it was a text.
@@ -107,6 +140,16 @@ fn used_rules(grammar: &Grammar, shortest: &[Option<u32>]) -> Vec<bool> {
         Some(beside[rule.head as usize]? + length <= MAX_SLOTS)
     };
     grammar.rules.iter().map(|rule| fits(rule).unwrap_or(false)).collect()
+}
+
+/// Whether one of the rules that a rule of the text becomes is among some, of each of them.
+fn in_text(file: &GrammarFile, some: &[bool]) -> Vec<bool> {
+    let mut in_text = vec![false; file.named.own_rules() as usize];
+    for (rule, _) in (0..).zip(some).filter(|(_, is_one)| **is_one) {
+        let shown = file.named.rules_shown(rule).into_iter();
+        shown.filter(|rule| *rule < file.named.own_rules()).for_each(|rule| in_text[rule as usize] = true);
+    }
+    in_text
 }
 
 /// The length of the shortest string that a rule's body derives.

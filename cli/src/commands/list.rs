@@ -15,7 +15,6 @@ use crate::options::{
 use crate::output::{Output, Style};
 use crate::skip;
 use spireyerba::limits::MAX_READINGS;
-use spireyerba::text::print_list;
 use spireyerba::{Distinct, Error, Heard, Reading, Refusal, Tree};
 use std::ops::RangeInclusive;
 
@@ -185,8 +184,7 @@ fn run(arguments: &Arguments, output: &mut Output) -> Result<(), Failure> {
     match forms {
         [_, true, _] => {
             listed.say_if_used_up();
-            let shown = listed.readings.iter().map(|reading| listed.grammar.named.shown(reading));
-            output.text(&print_list(&shown.collect::<Vec<_>>()))
+            output.text(&listed.grammar.named.print_list(&listed.readings))
         }
         [_, _, true] => {
             listed.say_if_used_up();

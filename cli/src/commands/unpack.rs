@@ -5,7 +5,6 @@ use crate::failure::Failure;
 use crate::files::{self, GrammarFile};
 use crate::options::{Arguments, DROP_DELETES, DROP_UNKNOWN, EMPTY, FILE, LATTICE, NETWORK, SCALE};
 use crate::output::Output;
-use spireyerba::text::reading_text;
 use spireyerba::Heard;
 
 pub const COMMAND: Command = Command {
@@ -29,7 +28,7 @@ fn run(arguments: &Arguments, output: &mut Output) -> Result<(), Failure> {
         [heard, reading, ..] => {
             let heard = files::heard(arguments, &grammar, heard)?;
             let reading = files::reading(&grammar, &heard, reading)?.reading;
-            reading_text(&grammar.named.written_reading(&reading))
+            grammar.named.reading_text(&reading)
         }
     };
     files::write(arguments, output, text.as_bytes())

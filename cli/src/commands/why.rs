@@ -74,23 +74,32 @@ fn words(listed: &Listed, rank: usize) -> Vec<Row> {
     spans.into_iter().filter_map(row).collect()
 }
 
-/// The rules that one of both uses more often. Those of helpers weigh nothing and are left out.
+/// The rules that one of both uses more often, or at other weights. Those of helpers weigh nothing and are left out.
 fn rules(listed: &Listed, first: &Reading, other: &Reading) -> Vec<Row> {
     let named = &listed.grammar.named;
-    let uses = |reading: &Reading, rule| reading.walk.iter().filter(|used| **used == rule).count() as i64;
+    let [first, other] = [first, other].map(|reading| named.rule_weights(reading));
+    let rules: BTreeSet<u32> = first.keys().chain(other.keys()).copied().collect();
     let row = |rule: u32| {
-        let more = uses(other, rule) - uses(first, rule);
-        let difference = more * i64::from(named.grammar.rules[rule as usize].weight);
-        let text = match more.abs() {
-            _ if difference == 0 && named.is_marked(rule) => return None,
-            0 => return None,
-            1 => named.rule_text(rule),
-            times => format!("{times} times {}", named.rule_text(rule)),
+        let [first, other] = [&first, &other].map(|uses| uses.get(&rule).map_or(&[][..], Vec::as_slice));
+        let [before, after] = [first, other].map(|uses| uses.iter().copied().map(i64::from).sum::<i64>());
+        let text = named.rule_text(rule);
+        let (first, other) = match other.len() as i64 - first.len() as i64 {
+            0 if first == other => return None,
+            0 => (format!("{text}, at {before}"), format!("the same, at {after}")),
+            more if more < 0 => (times(-more, text), String::new()),
+            more => (String::new(), times(more, text)),
         };
-        let (first, other) = if more < 0 { (text, String::new()) } else { (String::new(), text) };
-        Some(Row { place: format!("rule {rule}"), first, other, difference })
+        Some(Row { place: format!("rule {rule}"), first, other, difference: after - before })
     };
-    (0..named.grammar.rules.len() as u32).filter_map(row).collect()
+    rules.into_iter().filter_map(row).collect()
+}
+
+/// A rule that is used so many times more.
+fn times(more: i64, text: String) -> String {
+    match more {
+        1 => text,
+        more => format!("{more} times {text}"),
+    }
 }
 
 fn print(rows: &[Row], rank: u32, sum: i64, output: &mut Output) -> Result<(), Failure> {

@@ -52,7 +52,7 @@ pub fn svg(listed: &Listed, rank: usize) -> String {
     let (taken, marked) = (listed.taken(rank), listed.differing(rank));
     let mut layout = Layout { listed, named, columns, baseline, taken, marked, svg: String::new() };
     layout.node(tree, MARGIN);
-    let label = escaped(&format!("tree of {}", named.symbol(named.grammar.rules[tree.rule as usize].head)));
+    let label = escaped(&format!("tree of {}", named.symbol(tree.head)));
     format!(
         "<svg viewBox=\"0 0 {width:.0} {height:.0}\" width=\"{width:.0}\" height=\"{height:.0}\" role=\"img\" \
          aria-label=\"{label}\">\n{}</svg>\n",
@@ -71,7 +71,7 @@ fn word_widths(named: &NamedGrammar, tree: &Tree, widths: &mut Vec<f64>) {
         }
     }
     let below = &mut widths[first..];
-    let missing = width(named.symbol(named.grammar.rules[tree.rule as usize].head)) - below.iter().sum::<f64>();
+    let missing = width(named.symbol(tree.head)) - below.iter().sum::<f64>();
     let share = missing.max(0.0) / below.len() as f64;
     below.iter_mut().for_each(|width| *width += share);
 }
@@ -98,12 +98,11 @@ impl Layout<'_> {
                 }
             }
         }
-        let rule = &self.named.grammar.rules[tree.rule as usize];
-        let weight = match rule.weight {
+        let weight = match tree.weight {
             0 => String::new(),
             weight => format!("<tspan class=\"small\" dx=\"3\">{weight}</tspan>"),
         };
-        let (symbol, text) = (escaped(self.named.symbol(rule.head)), escaped(&self.named.rule_text(tree.rule)));
+        let (symbol, text) = (escaped(self.named.symbol(tree.head)), escaped(&self.named.rule_text(tree.rule)));
         self.put(format_args!(
             "<text class=\"symbol\" x=\"{x:.1}\" y=\"{baseline:.1}\"><title>rule {}: {text}</title>{symbol}{weight}</text>",
             tree.rule

@@ -1,7 +1,8 @@
 //! Every subcommand over the door schedule.
 
 use crate::common::{
-    answer, answer_in, answer_with, answered, doors, expect_refused_readings, folder, refused, run, run_with, Run,
+    answer, answer_in, answer_with, answered, doors, expect_refused_readings, folder, refused, run, run_in, run_with,
+    Run,
 };
 use spireyerba::Refusal;
 
@@ -291,17 +292,17 @@ fn lint_a_grammar() {
     let room = "12 of 32 symbols (20 left), 13 of 200 words (187 left), 25 of 256 rules (231 left)\n";
     assert_eq!(answer("lint grammar.txt"), format!("grammar.txt: {room}"));
     assert_eq!(answer("lint grammar.bin"), format!("grammar.bin: {room}"));
-    let text = b"words \"unused\"\nA -> A A | \"x\" | B C\nC -> \"y\"\nD -> \"x\"\n";
+    let text = b"words \"unused\"\nA -> A A | \"x\" | B C\nB -> B B\nC -> \"y\"\nD -> E E\nE -> \"x\"\nF -> G G\nG -> F F | \"x\"";
     let folder = folder("lint", &[("g", text)]);
     let lint = "\
-g:2:18: symbol B derives nothing
-g:2:18: no derivation can use rule 2, A -> B C
-g:3:6: no derivation can use rule 3, C -> \"y\"
-g:4:6: no derivation can use rule 4, D -> \"x\"
+g:2:18: `B` derives nothing: no string of 24 words or fewer
+g:5:1: nothing uses `D`
+g:7:1: nothing that `A` derives uses `F`
 g:1:7: no rule has the word unused
-g: 4 of 32 symbols (28 left), 3 of 200 words (197 left), 5 of 256 rules (251 left)
+g: 7 of 32 symbols (25 left), 3 of 200 words (197 left), 10 of 256 rules (246 left)
 ";
-    assert_eq!(answer_in(&folder, "lint g"), lint);
+    let run = run_in(&folder, "lint g");
+    assert_eq!((run.status, run.out.as_str(), run.err.as_str()), (1, lint, "g: a symbol derives nothing\n"));
 }
 
 /// An utterance has room for 24 words, so a symbol whose shortest string is longer derives nothing, and a rule that is only
@@ -311,9 +312,9 @@ fn lint_looks_as_far_as_an_utterance_goes() {
     let doubling: String = (0..5).map(|n| format!("D{n} -> D{} D{}\n", n + 1, n + 1)).collect();
     let text = format!("S -> \"x\" | D0 E\n{doubling}D5 -> \"x\"\nE -> \"y\"\n");
     let folder = folder("lint_long", &[("g", text.as_bytes())]);
-    let lint = answer_in(&folder, "lint g");
-    assert!(lint.starts_with("g:1:12: symbol D0 derives nothing\n"), "{lint}");
-    assert_eq!(lint.lines().filter(|line| line.contains("no derivation can use")).count(), 8, "{lint}");
+    let lint = run_in(&folder, "lint g").out;
+    assert!(lint.starts_with("g:1:12: `D0` derives nothing: no string of 24 words or fewer\n"), "{lint}");
+    assert_eq!(lint.lines().count(), 2, "{lint}");
     let short = folder_of_sixteen();
     let lint = answer_in(&short, "lint g");
     assert_eq!(lint.lines().count(), 1, "{lint}");

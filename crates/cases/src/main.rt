@@ -2,8 +2,8 @@
 // are not; 48 bytes of output are enough, 47 are not; other N; another G. Where a case is not about them, both are longer.
 // Then those of the panel (document 02, N8), of G with slots and with word graphs, and the lister's lines (N1, N5) of a graph and of grammars
 // of kind 4.
+use inputs::Listed;
 use lines::SHOWN_NUMBERS;
-use listing::Listed;
 use listing::PANEL;
 use listing::listing_within;
 use printing::print;

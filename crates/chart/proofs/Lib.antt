@@ -2,3 +2,4 @@
 pub mod Sizes
 pub mod Front
 pub mod Checked
+pub mod WorkTable

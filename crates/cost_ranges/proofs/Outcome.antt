@@ -29,14 +29,15 @@ use Rattle.inputs.proofs.Outcome.{rules-begin, edges-begin}
 use Rattle.inputs.proofs.Slots as I
 use Rattle.chart_table.specs.declared.Layout.{Layout}
 use Rattle.chart.specs.Chart.{layOut}
-use Rattle.listing.specs.Conditions.{tableSize}
+use Rattle.chart.specs.WorkTable.{tableSize, workAfter}
 use Rattle.cost_ranges.specs.Conditions.{rangesConditions, askedRanges}
-use Rattle.cost_ranges.specs.CostRanges.{answered, ranged, ranges, rangedOf, tableAfter, Meant}
+use Rattle.cost_ranges.specs.CostRanges.{answered, ranged, ranges, rangedOf, Meant}
 use Rattle.cost_ranges.specs.Model.{bothRise, passed, leftBy, Promised, AlikeRanged, EdgesRanged, LowRanged}
-use Rattle.cost_ranges.specs.declared.Pass.{Pass}
+use Rattle.one_best.specs.declared.Pass.{Pass}
 use Rattle.cost_ranges.specs.declared.Ranged.{Ranged}
 use Rattle.cost_ranges.specs.declared.Ranged.the-variants.{Refused}
-use Rattle.cost_ranges.proofs.ThreePasses.{passOf, passed-answer, left-zeros}
+use Rattle.one_best.proofs.Found.{passOf}
+use Rattle.cost_ranges.proofs.ThreePasses.{passed-answer, left-zeros}
 use Rattle.cost_ranges.proofs.Rise.{both-rise}
 
 -- what is all zeros and has kept its length
@@ -141,7 +142,7 @@ module _ (grammar low high work : List ℕ) where
   -- what is due is what is meant
   pub meant : {r : Ranged} {work′ : List ℕ} → Promised (ranges grammar low high (length work)) work r work′
       → (r ≡ rangedOf (ranges grammar low high (length work)))
-      × ((work′ ≡ tableAfter (ranges grammar low high (length work)) work) × Meant grammar low high work (λ a. r ≡ answered a) work′)
+      × ((work′ ≡ workAfter (ranges grammar low high (length work)) work) × Meant grammar low high work (λ a. r ≡ answered a) work′)
   unfolding ranges ranged rangesConditions
   meant due = (
     due .0,

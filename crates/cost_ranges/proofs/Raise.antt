@@ -1,11 +1,10 @@
 -- The loop over the nodes of a tree: what remains behind the first i nodes raises the rest of the costs, and weighs the rest.
 use mathlib.Core.Path.{_≡_, refl, sym, ap, _∙_}
-use mathlib.Core.List.{List, [], _∷_}
+use mathlib.Core.List.{List}
 use mathlib.Core.Option.{some}
-use Prim.Native.Nat.{ℕ, suc, _+_, _-_, _*_, _≤_, _<_}
+use Prim.Native.Nat.{ℕ, _+_, _-_, _*_, _≤_, _<_}
 use native.Mathlib.Omega.{arith}
-use lib.ListN.{length, take, drop, getD, set}
-use lib.Seq.{drop-cons}
+use lib.ListN.{length, take, getD, set}
 use Rattle.packing.specs.declared.Sym.{Sym}
 use Rattle.packing.specs.declared.Word as W
 use Rattle.packing.specs.declared.Rule.{Rule}
@@ -13,6 +12,7 @@ use Rattle.packing.specs.declared.Rule.the-variants.{Pair, Word}
 use Rattle.packing.specs.Meaning.{Node}
 use Rattle.packing.specs.Flat.{ruleAt, nodeBy, nodesIn}
 use Rattle.derivation.specs.Derivation.{ruleWeight}
+use Rattle.one_best.proofs.Trace.{nodeAt, rest, rest-more, rest-end}
 use Rattle.cost_ranges.specs.Model.{raiseNode, nodeWeight, raiseNodes, nodesWeight}
 
 -- the ways out of one node
@@ -37,41 +37,20 @@ module _ (rules high costs : List ℕ) (r e : ℕ) {x : Rule} {i : ℕ} (found :
       let sum : v + v′ ≡ ruleWeight (some (ruleAt rules r)) + getD high (4 * e + 3) 0 = rw (own, ev′, ec, ek) in
       rw (rule-is, p) (es ∙ rw (ec, ek), sum)
 
--- the node at place i of a trace, and those behind the first i of n
 module _ (rules trace : List ℕ) where
-  abbrev pub nodeAt : ℕ → Node
-  nodeAt i = nodeBy (ruleAt rules (getD trace (2 * i) 0)) (getD trace (2 * i) 0) (getD trace (2 * i + 1) 0)
-
-  abbrev pub rest : ℕ → ℕ → List Node
-  rest n i = nodesIn rules (take (2 * (n - i)) (drop (2 * i) trace))
-
   module _ (n i : ℕ) where
-    pub rest-more : i < n → 2 * n ≤ length trace → rest n i ≡ nodeAt i ∷ rest n (i + 1)
-    unfolding nodesIn
-    rest-more l h =
-        let z : 2 * (n - i) ≡ suc (suc (2 * (n - (i + 1)))) = omega arith in
-        let y : suc (suc (2 * i)) ≡ 2 * (i + 1) = omega arith in
-        let x : suc (2 * i) ≡ 2 * i + 1 = omega arith in
-        let a = drop-cons trace (2 * i) 0 (omega arith) in
-        let b = drop-cons trace (suc (2 * i)) 0 (omega arith) in
-        rw (z, a, b, y, x)
-
-    pub rest-end : n ≤ i → rest n i ≡ []
-    unfolding nodesIn
-    rest-end l = let z : 2 * (n - i) ≡ 0 = omega arith in rw z
-
     module _ (high : List ℕ) (all : List Node) where
       -- costs so far with the rest raised are those with all raised, and so for weights
       pub record Remains (costs₀ costs : List ℕ) (own : ℕ) : Type 0 where
-        pub raised : raiseNodes high costs (rest n i) ≡ raiseNodes high costs₀ all
-        pub weighs : own + nodesWeight rules high (rest n i) ≡ nodesWeight rules high all
+        pub raised : raiseNodes high costs (rest rules trace n i) ≡ raiseNodes high costs₀ all
+        pub weighs : own + nodesWeight rules high (rest rules trace n i) ≡ nodesWeight rules high all
 
       pub none-remain : n ≤ i → {costs₀ costs : List ℕ} {own : ℕ} → Remains costs₀ costs own
           → (costs ≡ raiseNodes high costs₀ all) × (own ≡ nodesWeight rules high all)
       unfolding raiseNodes nodesWeight
       none-remain l s =
-          let a = rw (rest-end l) at (s .raised) in
-          let b = rw (rest-end l) at (s .weighs) in
+          let a = rw (rest-end rules trace n i l) at (s .raised) in
+          let b = rw (rest-end rules trace n i l) at (s .weighs) in
           (a, omega arith)
 
   pub all-remain : (n : ℕ) (high costs : List ℕ) → Remains n 0 high (nodesIn rules (take (2 * n) trace)) costs costs 0
@@ -80,11 +59,11 @@ module _ (rules trace : List ℕ) where
       record { raised = rw z; weighs = rw z (omega arith) }
 
   pub next-remain : (n i : ℕ) (high : List ℕ) (all : List Node) → i < n → 2 * n ≤ length trace → {costs₀ costs costs′ : List ℕ} {own w : ℕ}
-      → costs′ ≡ raiseNode high costs (nodeAt i) → w ≡ nodeWeight rules high (nodeAt i) → Remains n i high all costs₀ costs own
+      → costs′ ≡ raiseNode high costs (nodeAt rules trace i) → w ≡ nodeWeight rules high (nodeAt rules trace i) → Remains n i high all costs₀ costs own
       → Remains n (i + 1) high all costs₀ costs′ (own + w)
   unfolding raiseNodes nodesWeight
   next-remain n i high all l h e f s =
-      let more = rest-more n i l h in
+      let more = rest-more rules trace n i l h in
       let a = rw more at (s .raised) in
       let b = rw more at (s .weighs) in
       record { raised = rw e a; weighs = omega arith }

@@ -13,8 +13,8 @@ use Rattle.packing.specs.Rows.{_∪_, GrammarBlockRow, UtteranceBlockRow, Range
 use Rattle.packing.proofs.Refusals.{Refuses, granted, denied, wider, then-row, choose-row, grammar-block-row, utterance-block-row}
 use Rattle.cost_changes.specs.Ranges.{rises, Answer}
 use Rattle.cost_changes.specs.Passes.{answer}
-use Rattle.listing.specs.Conditions.{tableSize}
-use Rattle.listing.proofs.Due.{then-within}
+use Rattle.chart.specs.WorkTable.{tableSize}
+use Rattle.inputs.proofs.Due.{then-within}
 use Rattle.cost_ranges.specs.Conditions.{rangesConditions, askedRanges}
 use Rattle.cost_ranges.specs.CostRanges.{ranged, ranges}
 

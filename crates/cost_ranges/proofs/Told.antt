@@ -3,46 +3,21 @@
 use mathlib.Core.Path.{_≡_, refl, ap, _∙_}
 use mathlib.Core.Bool.{Bool}
 use mathlib.Core.List.{List}
-use Prim.Native.Nat.{ℕ, _+_, _*_, _/_, _≤_}
-use native.Mathlib.Omega.{arith}
+use Prim.Native.Nat.{ℕ, _*_, _/_, _≤_}
 use lib.Dec.{eqb}
-use lib.ListN.{length, take, replicate, length-replicate}
+use lib.ListN.{length, take, replicate}
 use borrow.Author.Tests.{eq-eqb, ne-eqb}
 use Rattle.packing.specs.Meaning.{Node}
 use Rattle.packing.specs.Flat.{nodesIn}
 use Rattle.packing.specs.Store.{storeAll}
-use Rattle.packing.proofs.Flat.{stored-begins}
-use Rattle.packing.proofs.Store.{length-store}
-use Rattle.chart_table.specs.declared.Layout.{Layout}
-use Rattle.chart_table.specs.Table.{root, clear}
-use Rattle.chart_trace.proofs.Shape.{shape}
+use Rattle.chart_table.specs.Table.{clear}
 use Rattle.chart.specs.Chart.{rootsFound, rootWeight, rootTrace}
-use Rattle.cost_ranges.specs.Model.{raiseNodes, nodesWeight, tableBy, weightBy, hasLeast, decide, found, passed, leftBy}
-use Rattle.cost_ranges.specs.declared.Pass.{Pass}
+use Rattle.one_best.specs.Model.{tableBy, weightBy}
+use Rattle.one_best.proofs.Trace.{trace-front}
+use Rattle.cost_ranges.specs.Model.{raiseNodes, nodesWeight, hasLeast, decide, found, passed, leftBy}
+use Rattle.one_best.specs.declared.Pass.{Pass}
 use Rattle.cost_ranges.specs.declared.Ranged.{Ranged}
 use Rattle.cost_ranges.specs.declared.Ranged.the-variants.{Nothing}
-
--- the trace of the first rank of any table
-module _ (t rules : List ℕ) (d : Layout) (some : 1 ≤ d .places) (small : d .places ≤ 24) where
-  trace-size : (m : ℕ) × (m ≤ 24) × (length (rootTrace t rules d 0) + 2 ≡ 4 * m)
-  unfolding rootTrace
-  trace-size =
-      let (m, few, s) = shape t rules d (d .places) (root d) 0 some (omega arith) in
-      (m, omega arith, s .numbers)
-
-  pub trace-front : {n : ℕ} {trace : List ℕ} → n ≡ length (rootTrace t rules d 0) → trace ≡ storeAll (replicate 94 0) 0 (rootTrace t rules d 0)
-      → take (2 * (n / 2)) trace ≡ rootTrace t rules d 0
-  trace-front e s =
-      let (m, few, size) = trace-size in
-      let l = rootTrace t rules d 0 in
-      let even : 2 * (length l / 2) ≡ length l = omega arith in
-      rw (e, s, even) (stored-begins (replicate 94 0) l (rw length-replicate (omega arith)))
-
-  pub trace-fits : {n : ℕ} {trace : List ℕ} → n ≡ length (rootTrace t rules d 0) → trace ≡ storeAll (replicate 94 0) 0 (rootTrace t rules d 0)
-      → (n / 2 ≤ 47) × (2 * (n / 2) ≤ length trace)
-  trace-fits e s =
-      let (m, few, size) = trace-size in
-      (rw e (omega arith), rw (e, s, length-store, length-replicate) (omega arith))
 
 -- the pass over mixed costs
 pub least-told : (rules : List ℕ) (nodes : List Node) (high costs : List ℕ) (p : Pass) (size : ℕ) {own w least : ℕ} {costs′ work′ : List ℕ}

@@ -1,5 +1,5 @@
 -- What the service for costs known within ranges accepts: document 02, N11, with the rows grammar block and utterance block of document 01's "Where
--- each check stands". Stands on packing's definitions, on cost_changes' Ranges and on the listing's size of a table.
+-- each check stands". Stands on packing's definitions, on cost_changes' Ranges and on the chart's size of a table.
 use mathlib.Core.List.{List}
 use Prim.Native.Nat.{ℕ}
 use lib.Dec.{ltb}
@@ -10,7 +10,7 @@ use Rattle.packing.specs.Parse.{Verdict, accepted, refused, _then_}
 use Rattle.packing.specs.Grammar.{grammarBlock}
 use Rattle.packing.specs.Utterance.{utteranceBlock}
 use Rattle.cost_changes.specs.Ranges.{rises}
-use Rattle.listing.specs.Conditions.{tableSize}
+use Rattle.chart.specs.WorkTable.{tableSize}
 
 -- 59, and then 22 for one reading, of a grammar and of the utterances with low and high costs, all accepted, for a work table of this length
 unfoldable pub rangesConditions : Grammar → (low high : Utterance) (work : ℕ) → Verdict (Grammar × Utterance × Utterance)

@@ -11,7 +11,7 @@ use Rattle.packing.specs.Grammar.{grammarBlock}
 use Rattle.packing.specs.Utterance.{utteranceBlock}
 use Rattle.cost_changes.specs.Ranges.{rises, Answer, nothing, outweighed, stands, Answers}
 use Rattle.cost_changes.specs.Passes.{answer}
-use Rattle.listing.specs.Conditions.{tableSize}
+use Rattle.chart.specs.WorkTable.{tableSize}
 use Rattle.cost_ranges.specs.Conditions.{rangesConditions}
 use Rattle.cost_ranges.specs.declared.Ranged.{Ranged}
 use Rattle.cost_ranges.specs.declared.Ranged.the-variants.{Nothing, Outweighed, Stands, Refused}
@@ -34,10 +34,6 @@ answered (stands least greatest) = Stands (record { least = least; greatest = gr
 abbrev pub rangedOf : Verdict Answer → Ranged
 rangedOf (accepted a) = answered a
 rangedOf (refused n) = Refused n
-
-abbrev pub tableAfter : Verdict Answer → List ℕ → List ℕ
-tableAfter (accepted a) work = replicate (length work) 0
-tableAfter (refused n) work = work
 
 -- what is to hold where all is accepted and `AnswerIs a` says that a was answered: it is the answer over all choices of costs between low
 -- and high, and the work table is all zeros

@@ -3,7 +3,7 @@ use mathlib.Core.Path.{_≡_}
 use mathlib.Core.Bool.{Bool, true, _&&_}
 use mathlib.Core.List.{List, [], _∷_}
 use mathlib.Core.Option.{some}
-use Prim.Native.Nat.{ℕ, zero, suc, _+_, _*_, _≤_, _<_}
+use Prim.Native.Nat.{ℕ, zero, suc, _+_, _*_}
 use lib.Dec.{eqb}
 use lib.ListN.{length, getD, set}
 use Rattle.bits.specs.Bits.{pick}
@@ -18,10 +18,12 @@ use Rattle.grammar_reader.specs.Answer.{sizes}
 use Rattle.grammar_reader.specs.declared.Sizes.{Sizes}
 use Rattle.heard_reader.specs.Answer.{heardSize}
 use Rattle.heard_reader.specs.declared.HeardSize.{HeardSize}
-use Rattle.chart_table.specs.Table.{Sized, clear}
-use Rattle.chart.specs.Chart.{enumerate, rootsFound, rootWeight, rootTrace}
-use Rattle.cost_ranges.specs.CostRanges.{ranged, rangedOf, tableAfter}
-use Rattle.cost_ranges.specs.declared.Pass.{Pass}
+use Rattle.chart_table.specs.Table.{clear}
+use Rattle.chart.specs.Chart.{rootsFound, rootTrace}
+use Rattle.chart.specs.WorkTable.{workAfter}
+use Rattle.cost_ranges.specs.CostRanges.{ranged, rangedOf}
+use Rattle.one_best.specs.declared.Pass.{Pass}
+use Rattle.one_best.specs.Model.{tableBy, weightBy}
 use Rattle.cost_ranges.specs.declared.Ranged.{Ranged}
 use Rattle.cost_ranges.specs.declared.Ranged.the-variants.{Nothing, Outweighed, Stands}
 use Rattle.cost_ranges.specs.declared.Weights.{Weights}
@@ -57,21 +59,6 @@ unfoldable pub nodesWeight : List ℕ → List ℕ → List Node → ℕ
 nodesWeight rules high [] = 0
 nodesWeight rules high (x ∷ xs) = nodeWeight rules high x + nodesWeight rules high xs
 
--- what a pass is over, within the bounds of the chart
-pub record Passable (p : Pass) : Type 0 where
-  pub sized : Sized (p .table)
-  pub some-place : 0 < p .table .places
-  pub some-rank : 0 < p .table .ranks
-  pub rules : p .rules ≤ 256
-  pub edges : p .edges ≤ 256
-
--- the table of a pass and its first weight
-abbrev pub tableBy : List ℕ → List ℕ → Pass → ℕ → List ℕ
-tableBy rules array p size = enumerate rules (p .rules) array (p .edges) (p .table) size
-
-abbrev pub weightBy : List ℕ → List ℕ → Pass → ℕ → ℕ
-weightBy rules array p size = rootWeight (tableBy rules array p size) (p .table) 0
-
 abbrev pub hasLeast : List ℕ → List Node → List ℕ → List ℕ → Pass → ℕ → Bool
 hasLeast rules nodes high costs p size = eqb (nodesWeight rules high nodes) (weightBy rules (raiseNodes high costs nodes) p size)
 
@@ -100,7 +87,7 @@ module _ (rules low high : List ℕ) (p : Pass) (size : ℕ) where
 
 -- what is promised of the answer and of the work table afterwards, where this verdict is due
 abbrev pub Promised : Verdict Answer → (work : List ℕ) → Ranged → (work′ : List ℕ) → Type 0
-Promised v work r work′ = (r ≡ rangedOf v) × (work′ ≡ tableAfter v work)
+Promised v work r work′ = (r ≡ rangedOf v) × (work′ ≡ workAfter v work)
 
 -- what is promised where the edges of both utterances are in arrays, and are alike but for rising costs; where they are not known to be; and
 -- where the high block is not read yet

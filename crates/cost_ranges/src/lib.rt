@@ -3,13 +3,13 @@
 use arrays::narrow_at;
 use arrays::rule_at;
 use arrays::wide;
-use chart_table::Layout;
 use grammar_reader::Sizes;
 use heard_reader::HeardRead;
 use heard_reader::HeardSize;
 use heard_reader::read_slots;
 use inputs::InputsRead;
 use inputs::read_slot_inputs;
+use one_best::Pass;
 use packing::Rule;
 use packing::format::EDGE_COST_AT;
 use packing::format::EDGE_WORD_AT;
@@ -26,8 +26,10 @@ ghost use lib.ListN.{length, take};
 ghost use Rattle.packing.specs.Flat.{ruleAt, nodeBy, nodesIn};
 ghost use Rattle.cost_changes.specs.Ranges.{costRises};
 ghost use Rattle.grammar_reader.specs.Answer.{Bounded};
-ghost use Rattle.cost_ranges.specs.CostRanges.{answered, ranges, rangedOf, tableAfter, Meant};
-ghost use Rattle.cost_ranges.specs.Model.{edgeRises, edgesRise, raiseNode, nodeWeight, raiseNodes, nodesWeight, Passable, tableBy, weightBy, hasLeast, decide, passed, leftBy, bothRise, AlikeRanged, EdgesRanged, LowRanged};
+ghost use Rattle.chart.specs.WorkTable.{workAfter};
+ghost use Rattle.cost_ranges.specs.CostRanges.{answered, ranges, rangedOf, Meant};
+ghost use Rattle.one_best.specs.Model.{Passable, tableBy, weightBy};
+ghost use Rattle.cost_ranges.specs.Model.{edgeRises, edgesRise, raiseNode, nodeWeight, raiseNodes, nodesWeight, hasLeast, decide, passed, leftBy, bothRise, AlikeRanged, EdgesRanged, LowRanged};
 
 // The least and the greatest first weight.
 pub struct Weights {
@@ -42,13 +44,6 @@ pub enum Ranged {
     Outweighed(Weights),
     Stands(Weights),
     Refused(u32),
-}
-
-// What a pass is over: so many rules and edges of arrays, and a table.
-pub struct Pass {
-    pub rules: usize,
-    pub edges: usize,
-    pub table: Layout,
 }
 
 // One reading is looked for in each pass.
@@ -273,7 +268,7 @@ fn ranges_high(
 // outweighed under some choice, with a work table that is all zeros afterwards.
 pub fn cost_ranges(grammar: &[u8], low: &[u8], high: &[u8], work: &mut [u32]) -> Ranged
     ensures { λ r. ⌜ r ≡ rangedOf (ranges (now (grammar .entry)) (now (low .entry)) (now (high .entry)) (length (now (work .entry)))) ⌝ }
-    ensures { λ r. ⌜ now (work .exit) ≡ tableAfter (ranges (now (grammar .entry)) (now (low .entry)) (now (high .entry)) (length (now (work .entry)))) (now (work .entry)) ⌝ }
+    ensures { λ r. ⌜ now (work .exit) ≡ workAfter (ranges (now (grammar .entry)) (now (low .entry)) (now (high .entry)) (length (now (work .entry)))) (now (work .entry)) ⌝ }
     ensures { λ r. ⌜ Meant (now (grammar .entry)) (now (low .entry)) (now (high .entry)) (now (work .entry)) (λ a. r ≡ answered a) (now (work .exit)) ⌝ }
 {
     let mut rules = [0u32; RULES_LENGTH];

@@ -1,2 +1,3 @@
 pub mod Outcome
 pub mod Slots
+pub mod Due

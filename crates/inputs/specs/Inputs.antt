@@ -1,5 +1,5 @@
 -- A grammar block, and then a block of what was heard, of either kind or of slots alone: document 01, "Where each check stands", the rows
--- grammar block and utterance block. Assumes nothing.
+-- grammar block and utterance block. Nobody need believe this page: the services' own conditions say it of each. Assumes nothing.
 use mathlib.Core.Path.{_≡_}
 use mathlib.Core.List.{List, _++_}
 use Prim.Native.Nat.{ℕ, _≤_}

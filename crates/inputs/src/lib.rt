@@ -24,6 +24,12 @@ pub enum InputsRead {
     Refused(u32),
 }
 
+// What a service answers that lists something: how many were found, or the first refusal.
+pub enum Listed {
+    Found(usize),
+    Refused(u32),
+}
+
 // What is answered once the grammar is accepted.
 fn joined(sizes: Sizes, heard: HeardRead) -> InputsRead
     ensures { λ r. ⌜ r ≡ joinedOf sizes heard ⌝ }

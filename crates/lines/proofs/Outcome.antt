@@ -14,10 +14,11 @@ use Rattle.packing.proofs.Whole.{marked-block-out}
 use Rattle.packing.proofs.Heard.{heard-block-out}
 use Rattle.derivation.specs.Heard.{outputLength}
 use Rattle.listing.specs.Conditions.{library, askedListing}
-use Rattle.listing.specs.Listing.{list, listedOf}
+use Rattle.inputs.specs.Answer.{listedOf}
+use Rattle.listing.specs.Listing.{list}
 use Rattle.listing.specs.Demand3.{Demand3}
-use Rattle.listing.specs.declared.Listed.{Listed}
-use Rattle.listing.specs.declared.Listed.the-variants.{Found}
+use Rattle.inputs.specs.declared.Listed.{Listed}
+use Rattle.inputs.specs.declared.Listed.the-variants.{Found}
 use Rattle.listing.proofs.Accepted.{Asks, asked-out, list-asked}
 use Rattle.lines.specs.Rows.{Rows}
 use Rattle.lines.specs.Model.{shapeOf, sizeOf, ShapeOf, RowsSay}

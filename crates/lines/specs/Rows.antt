@@ -11,9 +11,9 @@ use Rattle.packing.specs.Grammar.{markedBlock}
 use Rattle.packing.specs.Heard.{heardBlock}
 use Rattle.derivation.specs.Derivation.{Tree, Derivation, weight, walk}
 use Rattle.derivation.specs.Rank.{Number}
-use Rattle.listing.specs.Demand3.{Ranked}
-use Rattle.listing.specs.declared.Listed.{Listed}
-use Rattle.listing.specs.declared.Listed.the-variants.{Found, Refused}
+use Rattle.traced_readings.specs.Ranked.{Ranked}
+use Rattle.inputs.specs.declared.Listed.{Listed}
+use Rattle.inputs.specs.declared.Listed.the-variants.{Found, Refused}
 use Rattle.office_theory.specs.Matching.{withoutMarked}
 
 -- a row of 50 numbers: rank, weight, how many rule numbers, these, and zeros; no derivation has more than 47 nodes

@@ -1,7 +1,7 @@
 // The lister of document 01: the eight least readings of what utterance.bin has, slots or a word graph, under the grammar in
 // grammar.bin. It reads both files and prints the numbers that `lines` shows.
+use inputs::Listed;
 use lines::SHOWN_NUMBERS;
-use listing::Listed;
 use printing::print;
 use printing::print_end;
 use printing::print_further;

@@ -20,13 +20,15 @@ use Rattle.derivation.specs.Rank.{Number}
 use Rattle.derivation.proofs.Lists.{map-at}
 use Rattle.derivation.proofs.Ranges.{All}
 use Rattle.derivation.proofs.HeardTheorems.{least-length, least-element, output-bytes}
-use Rattle.listing.specs.Conditions.{tableSize, conditions, askedListing}
-use Rattle.listing.specs.Listing.{readingsOf, listed, list, listedOf}
+use Rattle.chart.specs.WorkTable.{tableSize}
+use Rattle.listing.specs.Conditions.{conditions, askedListing}
+use Rattle.inputs.specs.Answer.{listedOf}
+use Rattle.listing.specs.Listing.{readingsOf, listed, list}
 use Rattle.listing.specs.declared.Limits.{Limits}
-use Rattle.listing.specs.declared.Listed.{Listed}
-use Rattle.listing.specs.declared.Listed.the-variants.{Found}
+use Rattle.inputs.specs.declared.Listed.{Listed}
+use Rattle.inputs.specs.declared.Listed.the-variants.{Found}
 use Rattle.listing.proofs.Joined.{Sized}
-use Rattle.listing.proofs.Due.{then-within}
+use Rattle.inputs.proofs.Due.{then-within}
 
 at-all : {A : Type 0} (P : A → Type 0) (l : List A) → ((k : ℕ) (x : A) → At l k x → P x) → All P l
 at-all P [] h = tt

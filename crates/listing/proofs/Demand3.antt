@@ -24,12 +24,15 @@ use Rattle.derivation.proofs.Lists.{at-map, length-at}
 use Rattle.derivation.proofs.HeardReadings.{heard-last}
 use Rattle.derivation.proofs.HeardTheorems.{finitely-many, one-comes-before, never-both, least-element, readings-differ}
 use Rattle.listing.specs.Conditions.{library, Within}
-use Rattle.listing.specs.Listing.{joined, list, listedOf, outputAfter, workAfter}
-use Rattle.listing.specs.Demand3.{kthBytes, Ranked, Either, RankedList, Demand3}
+use Rattle.inputs.specs.Answer.{listedOf}
+use Rattle.chart.specs.WorkTable.{workAfter}
+use Rattle.listing.specs.Listing.{joined, list, outputAfter}
+use Rattle.traced_readings.specs.Ranked.{Ranked}
+use Rattle.listing.specs.Demand3.{kthBytes, Either, RankedList, Demand3}
 use Rattle.listing.specs.Model.{Promised}
 use Rattle.listing.specs.declared.Limits.{Limits}
-use Rattle.listing.specs.declared.Listed.{Listed}
-use Rattle.listing.specs.declared.Listed.the-variants.{Found}
+use Rattle.inputs.specs.declared.Listed.{Listed}
+use Rattle.inputs.specs.declared.Listed.the-variants.{Found}
 use Rattle.listing.proofs.Joined.{length-joined, joined-at}
 use Rattle.listing.proofs.Accepted.{blocks, count-blocks, sized-blocks, listing-accepts}
 

@@ -1,4 +1,3 @@
-pub mod Due
 pub mod Sizes
 pub mod Joined
 pub mod Accepted

@@ -18,17 +18,20 @@ use Rattle.inputs.proofs.Outcome.{rules-begin, edges-begin, meant-first}
 use Rattle.chart_table.specs.declared.Layout.{Layout}
 use Rattle.chart.specs.Chart.{layOut}
 use Rattle.chart_theory.proofs.Accepted.{Holds, layout, chart-holds}
-use Rattle.listing.specs.Conditions.{tableSize}
+use Rattle.chart.specs.WorkTable.{tableSize}
 use Rattle.listing.specs.Listing.{joined, listed, list}
-use Rattle.listing.specs.Model.{shortage, formOf, Filled, Promised, ReadListed}
+use Rattle.traced_readings.specs.Model.{formOf}
+use Rattle.listing.specs.Model.{shortage, Filled, Promised, ReadListed}
 use Rattle.listing.specs.declared.Asked.{Asked}
-use Rattle.listing.specs.declared.Form.{Form}
+use Rattle.traced_readings.specs.declared.Form.{Form}
 use Rattle.listing.specs.declared.Limits.{Limits}
-use Rattle.listing.specs.declared.Listed.the-variants.{Found, Refused}
-use Rattle.listing.proofs.Sizes.{size-is, Met, all-met, short}
+use Rattle.inputs.specs.declared.Listed.the-variants.{Found, Refused}
+use Rattle.traced_readings.proofs.Sizes.{size-is}
+use Rattle.listing.proofs.Sizes.{Met, all-met, short}
 use Rattle.listing.proofs.Joined.{length-joined}
 use Rattle.listing.proofs.Accepted.{blocks, sized-blocks, listing-accepts}
-use Rattle.listing.proofs.Blocks.{form, count-found, blocks-written}
+use Rattle.traced_readings.proofs.Packed.{form}
+use Rattle.listing.proofs.Blocks.{count-found, blocks-written}
 
 -- the table holds the N least derivations
 module _ (g : Grammar) (h : Heard) (okg : ValidGrammar g) (okh : ValidHeard (g .words) h) (some : 1 ≤ lastPlace h) (asked : Asked) (work out : List ℕ)

@@ -21,10 +21,12 @@ use Rattle.derivation.specs.Heard.{outputLength}
 use Rattle.derivation.proofs.HeardReadings.{heard-last}
 use Rattle.derivation.proofs.Ranges.{valid-sizes, valid-rules}
 use Rattle.heard_reader.specs.Answer.{isGraph}
-use Rattle.listing.specs.Conditions.{library, panel, tableSize, conditions}
+use Rattle.chart.specs.WorkTable.{tableSize}
+use Rattle.listing.specs.Conditions.{library, panel, conditions}
 use Rattle.listing.specs.Listing.{listed, list}
 use Rattle.listing.specs.declared.Limits.{Limits}
-use Rattle.listing.proofs.Sizes.{size-is, mostNumbers, mostBytes, table-within, output-within}
+use Rattle.traced_readings.proofs.Sizes.{size-is}
+use Rattle.listing.proofs.Sizes.{mostNumbers, mostBytes, table-within, output-within}
 use Rattle.listing.proofs.Accepted.{listing-accepts}
 
 -- a row has the numbers of the conditions that hold

@@ -1,47 +1,26 @@
 -- The sizes that the listing computes with are small, and what is beyond the limits or short decides between a refusal and acceptance.
-use mathlib.Core.Path.{_≡_, refl, _∙_}
+use mathlib.Core.Path.{_≡_, refl}
 use mathlib.Core.Bool.{Bool, true, false}
 use Prim.Native.Nat.{ℕ, _+_, _-_, _*_, _/_, _≤_}
-use native.Mathlib.Nat.{mul-le-mul, mul-assoc}
+use native.Mathlib.Nat.{mul-le-mul}
 use native.Mathlib.Omega.{arith}
 use lib.Dec.{ltb}
-use lib.ListN.{length}
 use borrow.Author.Tests.{ltb-false}
 use Rattle.bits.specs.Bits.{pick}
 use Rattle.bits.specs.Width.{widthOf}
-use Rattle.packing.specs.Meaning.{Grammar, Heard, slots, graph, lastPlace}
+use Rattle.packing.specs.Meaning.{Grammar, Heard, slots, lastPlace}
 use Rattle.packing.specs.Parse.{refused}
 use Rattle.packing.specs.Reading.{readingLength}
 use Rattle.packing.specs.GraphReading.{graphReadingLength}
-use Rattle.packing.proofs.Widths.{byte-width, length-small}
-use Rattle.packing.proofs.GraphReading.{graph-length-small}
+use Rattle.packing.proofs.Widths.{byte-width}
 use Rattle.derivation.specs.Heard.{outputLength}
-use Rattle.heard_reader.specs.Answer.{isGraph}
-use Rattle.chart_table.specs.declared.Layout.{Layout}
-use Rattle.chart.specs.Chart.{layOut}
-use Rattle.listing.specs.Conditions.{tableSize, conditions}
+use Rattle.chart.specs.WorkTable.{tableSize}
+use Rattle.listing.specs.Conditions.{conditions}
 use Rattle.listing.specs.Listing.{listed}
-use Rattle.listing.specs.Model.{firstRefusal, shortage, sizeOf}
+use Rattle.traced_readings.specs.Model.{sizeOf}
+use Rattle.listing.specs.Model.{firstRefusal, shortage}
 use Rattle.listing.specs.declared.Asked.{Asked}
 use Rattle.listing.specs.declared.Limits.{Limits}
-
--- four numbers for each rank of each cell
-pub table-is : (S n N : ℕ) {d : Layout} {r : ℕ} → d ≡ layOut S n N → r ≡ 4 * d .cells * d .ranks → r ≡ tableSize S n N
-unfolding tableSize layOut
-table-is S n N e f = f ∙ rw (e, mul-assoc 4 S (n * (n + 1) / 2))
-
-pub layout-is : (S n N : ℕ) {d : Layout} → d ≡ layOut S n N → (d .places ≡ n) × (d .ranks ≡ N)
-unfolding layOut
-layout-is S n N e = rw e (refl, refl)
-
--- the bytes of a reading, of either kind
-pub size-small : (b : Bool) (n R : ℕ) → n ≤ 24 → R ≤ 256 → sizeOf b n R ≤ 73
-size-small true n R h k = graph-length-small n R h k
-size-small false n R h k = omega (arith, length-small n R h k)
-
-pub size-is : (g : Grammar) (h : Heard) → sizeOf (isGraph h) (lastPlace h) (length (g .rules)) ≡ outputLength g h
-size-is g (slots u) = refl
-size-is g (graph h) = refl
 
 pub output-small : {N size : ℕ} → N ≤ 256 → size ≤ 73 → N * size ≤ 18688
 output-small h k = mul-le-mul {n₂ = 256} {m₂ = 73} h k

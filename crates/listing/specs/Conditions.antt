@@ -1,8 +1,9 @@
 -- What a listing accepts: document 01, "Tables" and the rows grammar block, utterance block and listing of "Where each check stands"; document
--- 02, N1, of slots and of word graphs, and N8, within the limits of the library or of the panel. Stands on packing's and derivation's definitions.
+-- 02, N1, of slots and of word graphs, and N8, within the limits of the library or of the panel. Stands on packing's and derivation's
+-- definitions, and on the chart's size of a table.
 use mathlib.Core.Path.{_≡_}
 use mathlib.Core.List.{List}
-use Prim.Native.Nat.{ℕ, _+_, _*_, _/_, _≤_}
+use Prim.Native.Nat.{ℕ, _*_, _≤_}
 use lib.Dec.{ltb}
 use Rattle.bits.specs.Bits.{pick}
 use Rattle.packing.specs.Meaning.{Grammar, Heard, lastPlace}
@@ -10,6 +11,7 @@ use Rattle.packing.specs.Parse.{Verdict, accepted, refused, _then_}
 use Rattle.packing.specs.Grammar.{grammarBlock}
 use Rattle.packing.specs.Heard.{heardBlock}
 use Rattle.derivation.specs.Heard.{outputLength}
+use Rattle.chart.specs.WorkTable.{tableSize}
 use Rattle.listing.specs.declared.Limits.{Limits}
 
 -- the most slots, in a graph one less than its places, and the most readings: "The library keeps 24 and 256", the panel has "at most 12 slots and
@@ -24,10 +26,6 @@ panel = record { slots = 12; readings = 16 }
 pub record Within (l : Limits) (grammar heard : List ℕ) (N : ℕ) : Type 0 where
   pub slots : (g : Grammar) (h : Heard) → grammarBlock grammar ≡ accepted g → heardBlock (g .words) heard ≡ accepted h → lastPlace h ≤ l .slots
   pub readings : N ≤ l .readings
-
--- the numbers of work table that N readings need, for n slots; "Work is as for P−1 slots"
-unfoldable pub tableSize : ℕ → ℕ → ℕ → ℕ
-tableSize S n N = 4 * S * (n * (n + 1) / 2) * N
 
 -- the conditions 57 ("after 16"), 21, 58 ("directly after 21"), 22 and 23, in this order, of a grammar and of what was heard, both accepted, for a
 -- work table and an output of these lengths

@@ -15,18 +15,13 @@ use Rattle.packing.specs.Heard.{heardBlock}
 use Rattle.derivation.specs.Derivation.{Tree, Derivation}
 use Rattle.derivation.specs.Heard.{outputLength, packed}
 use Rattle.derivation.specs.Order.{Before}
-use Rattle.derivation.specs.Rank.{Number, Rank}
-use Rattle.listing.specs.Conditions.{tableSize}
+use Rattle.derivation.specs.Rank.{Number}
+use Rattle.traced_readings.specs.Ranked.{Ranked}
+use Rattle.chart.specs.WorkTable.{tableSize}
 
 -- the kth L bytes of an output, k from 1
 abbrev pub kthBytes : ℕ → ℕ → List ℕ → List ℕ
 kthBytes L k out = take L (drop ((k - 1) * L) out)
-
--- t is the derivation with rank k
-pub record Ranked (g : Grammar) (h : Heard) (k : ℕ) (t : Tree) : Type 0 where
-  pub derivation : Derivation g h t
-  pub rank : Rank g h t k
-  pub no-other : (s : Tree) → Derivation g h s → Rank g h s k → s ≡ t
 
 -- one of the two, and never both
 abbrev pub Either : Type 0 → Type 0 → Type 0

@@ -2,7 +2,7 @@
 -- HeardList, packed. Nobody need believe this page: Demand3 says by ranks what is listed, and proofs/Demand3 that this is it.
 use mathlib.Core.List.{List, [], _∷_, _++_, map}
 use Prim.Native.Nat.{ℕ}
-use lib.ListN.{length, drop, replicate}
+use lib.ListN.{length, drop}
 use Rattle.packing.specs.Meaning.{Grammar, Heard}
 use Rattle.packing.specs.Parse.{Verdict, accepted, refused, _then_}
 use Rattle.packing.specs.Grammar.{grammarBlock}
@@ -11,8 +11,6 @@ use Rattle.derivation.specs.Heard.{packed}
 use Rattle.derivation.specs.HeardList.{leastDerivations}
 use Rattle.listing.specs.Conditions.{conditions}
 use Rattle.listing.specs.declared.Limits.{Limits}
-use Rattle.listing.specs.declared.Listed.{Listed}
-use Rattle.listing.specs.declared.Listed.the-variants.{Found, Refused}
 
 -- the N least readings, each packed as it stands in the output
 abbrev pub readingsOf : ℕ → Grammar × Heard → List (List ℕ)
@@ -32,15 +30,7 @@ unfoldable pub joined : List (List ℕ) → List ℕ
 joined [] = []
 joined (l ∷ ls) = l ++ joined ls
 
--- the answer, of any list, the output afterwards, and the work table afterwards; a refusal changes nothing
-abbrev pub listedOf : {A : Type 0} → Verdict (List A) → Listed
-listedOf (accepted ls) = Found (length ls)
-listedOf (refused n) = Refused n
-
+-- the output afterwards; a refusal changes nothing
 abbrev pub outputAfter : Verdict (List (List ℕ)) → List ℕ → List ℕ
 outputAfter (accepted ls) out = joined ls ++ drop (length (joined ls)) out
 outputAfter (refused n) out = out
-
-abbrev pub workAfter : {A : Type 0} → Verdict A → List ℕ → List ℕ
-workAfter (accepted ls) work = replicate (length work) 0
-workAfter (refused n) work = work

@@ -2,28 +2,25 @@
 use mathlib.Core.Path.{_≡_}
 use mathlib.Core.Bool.{Bool}
 use mathlib.Core.List.{List, [], _++_}
-use Prim.Native.Nat.{ℕ, _+_, _*_, _/_, _≤_}
+use Prim.Native.Nat.{ℕ, _+_, _*_}
 use lib.Dec.{ltb}
-use lib.ListN.{length, drop, replicate}
+use lib.ListN.{length, drop}
 use Rattle.bits.specs.Bits.{pick}
 use Rattle.packing.specs.Parse.{Verdict}
 use Rattle.packing.specs.Heard.{heardBlock}
 use Rattle.packing.specs.Loop.{iter}
-use Rattle.packing.specs.Store.{storeAll}
-use Rattle.packing.specs.Reading.{blockOfReading, readingLength}
-use Rattle.packing.specs.GraphReading.{blockOfGraphReading, graphReadingLength, padded}
 use Rattle.inputs.specs.Inputs.{ReadOf}
 use Rattle.inputs.specs.declared.Inputs.{Inputs}
-use Rattle.reading_writer.specs.Answer.{readingOf}
-use Rattle.graph_reading_writer.specs.Answer.{graphReadingOf}
 use Rattle.chart_table.specs.declared.Layout.{Layout}
 use Rattle.chart_table.specs.Table.{clear}
-use Rattle.chart.specs.Chart.{enumerate, rootsFound, rootWeight, rootTrace}
-use Rattle.listing.specs.Conditions.{tableSize}
-use Rattle.listing.specs.Listing.{list, listedOf, outputAfter, workAfter}
+use Rattle.chart.specs.Chart.{enumerate, rootsFound}
+use Rattle.chart.specs.WorkTable.{tableSize, workAfter}
+use Rattle.inputs.specs.Answer.{listedOf}
+use Rattle.listing.specs.Listing.{list, outputAfter}
 use Rattle.listing.specs.declared.Asked.{Asked}
-use Rattle.listing.specs.declared.Listed.{Listed}
-use Rattle.listing.specs.declared.Form.{Form}
+use Rattle.inputs.specs.declared.Listed.{Listed}
+use Rattle.traced_readings.specs.Model.{blockAt}
+use Rattle.traced_readings.specs.declared.Form.{Form}
 
 -- the refusal of the first test that holds: too long for the limits, none asked for, too many, too many for the limits, the table short,
 -- the output short; 0 where none holds
@@ -37,35 +34,7 @@ shortage a S n L work out =
     firstRefusal (ltb (a .limits .slots) n) (ltb (a .wanted) 1) (ltb 256 (a .wanted)) (ltb (a .limits .readings) (a .wanted))
     (ltb work (tableSize S n (a .wanted))) (ltb out (a .wanted * L))
 
--- the bytes that a reading takes in the output, for the last place n under R rules, and the form of such readings
-abbrev pub sizeOf : Bool → ℕ → ℕ → ℕ
-sizeOf graph n R = pick graph (graphReadingLength n R) (readingLength n R)
-
-abbrev pub formOf : Bool → ℕ → ℕ → Form
-formOf graph n R = record { graph = graph; rules = R; size = sizeOf graph n R }
-
--- a form for the last place n
-pub record FormFor (n : ℕ) (f : Form) : Type 0 where
-  pub some-place : 1 ≤ n
-  pub places : n ≤ 24
-  pub some-rule : 1 ≤ f .rules
-  pub rules : f .rules ≤ 256
-  pub size : f .size ≡ sizeOf (f .graph) n (f .rules)
-
--- the trace of rank x of the root of a table, in an array of zeros, and how many edges its path has
-abbrev pub traceAt : List ℕ → List ℕ → Layout → ℕ → List ℕ
-traceAt t rules d x = storeAll (replicate 94 0) 0 (rootTrace t rules d x)
-
-abbrev pub edgesAt : List ℕ → List ℕ → Layout → ℕ → ℕ
-edgesAt t rules d x = (length (rootTrace t rules d x) / 2 + 1) / 2
-
--- its reading, packed, and the readings of the ranks below m, one after another
-unfoldable pub blockAt : List ℕ → List ℕ → Layout → Form → ℕ → List ℕ
-blockAt t rules d f x =
-    pick (f .graph)
-    (padded (f .size) (blockOfGraphReading (f .rules) (graphReadingOf rules (edgesAt t rules d x) (rootWeight t d x) (traceAt t rules d x))))
-    (blockOfReading (f .rules) (readingOf (d .places) (rootWeight t d x) (traceAt t rules d x)))
-
+-- the readings of the ranks below m, one after another
 unfoldable pub blocksAt : List ℕ → List ℕ → Layout → Form → ℕ → List ℕ
 blocksAt t rules d f m = iter (λ l x. l ++ blockAt t rules d f x) [] m
 

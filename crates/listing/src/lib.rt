@@ -1,36 +1,32 @@
 // The listing of the N least readings, within the limits of the library or of the panel.
 use chart_table::Layout;
 use chart_table::MOST_RANKS;
-use graph_reading_writer::graph_reading_length;
-use graph_reading_writer::write_graph_reading;
 use inputs::Inputs;
 use inputs::InputsRead;
+use inputs::Listed;
 use inputs::read_inputs;
 use packing::format::EDGES_LENGTH;
 use packing::format::MAX_SLOTS;
-use packing::format::NUMBERS_PER_NODE;
 use packing::format::RULES_LENGTH;
 use packing::format::TRACE_LENGTH;
 use packing::refused;
-use reading_writer::reading_length;
-use reading_writer::write_reading;
+use traced_readings::Form;
+use traced_readings::TracedRank;
+use traced_readings::form_of;
+use traced_readings::write_traced;
 ghost use mathlib.Core.Path.{_≡_};
 ghost use mathlib.Core.List.{_++_};
 ghost use Prim.Native.Nat.{_+_, _*_, _≤_, _<_};
 ghost use lib.ListN.{length, drop};
 ghost use Rattle.inputs.specs.Inputs.{Bounds};
 ghost use Rattle.chart_table.specs.Table.{Sized};
-ghost use Rattle.chart.specs.Chart.{rootTrace};
 ghost use Rattle.listing.specs.Conditions.{library, Within};
-ghost use Rattle.listing.specs.Listing.{list, listedOf, outputAfter, workAfter};
+ghost use Rattle.inputs.specs.Answer.{listedOf};
+ghost use Rattle.chart.specs.WorkTable.{workAfter};
+ghost use Rattle.listing.specs.Listing.{list, outputAfter};
 ghost use Rattle.listing.specs.Demand3.{Demand3};
-ghost use Rattle.listing.specs.Model.{shortage, formOf, FormFor, traceAt, blockAt, blocksAt, Filled, ReadListed};
-
-// What the listing answers: the number found.
-pub enum Listed {
-    Found(usize),
-    Refused(u32),
-}
+ghost use Rattle.traced_readings.specs.Model.{FormFor, blockAt};
+ghost use Rattle.listing.specs.Model.{shortage, blocksAt, Filled, ReadListed};
 
 // The most slots that a service takes, of a graph one less than its places, and the most readings that it lists.
 pub struct Limits {
@@ -56,32 +52,6 @@ pub const PANEL: Limits = Limits {
 struct Asked {
     limits: Limits,
     wanted: u32,
-}
-
-// How readings are written: of a graph or of slots, by this many rules, each into this many bytes of the output.
-pub struct Form {
-    pub graph: bool,
-    pub rules: usize,
-    pub size: usize,
-}
-
-// A rank of the root, and how many numbers its trace has.
-pub struct TracedRank {
-    pub rank: usize,
-    pub numbers: usize,
-}
-
-// The form of readings up to the last place n.
-pub fn form_of(graph: bool, n: usize, rules: usize) -> Form
-    requires { ⌜ (1 ≤ n) × (n ≤ 24) × (1 ≤ rules) × (rules ≤ 256) ⌝ }
-    ensures { λ f. ⌜ (f ≡ formOf graph n rules) × (f .size ≤ 73) ⌝ }
-{
-    let size = if graph {
-        graph_reading_length(n, rules)
-    } else {
-        reading_length(n, rules)
-    };
-    Form { graph, rules, size }
 }
 
 // The refusal of what was heard, up to the last place n, and of what is asked for or lent; 0 where all is within the limits and nothing short.
@@ -110,30 +80,6 @@ fn shortage(asked: Asked, symbols: usize, n: usize, size: usize, work: usize, ou
         return refused::LISTING_OUTPUT;
     }
     0
-}
-
-// The reading of a rank of the root whose trace stands in an array of zeros, in front of what stands in `out` beyond it; behind a graph's own
-// bytes it has zeros. A path of n edges has 2 n - 1 nodes.
-pub fn write_traced(
-    t: &[u32],
-    rules: &[u32],
-    form: Form,
-    d: Layout,
-    traced: TracedRank,
-    trace: &[u32],
-    out: &mut [u8],
-)
-    requires { ⌜ (Sized d) × (FormFor (d .places) form) × (traced .rank < d .ranks) × (form .size ≤ length (now out))
-        × (now trace ≡ traceAt (now t) (now rules) d (traced .rank)) × (traced .numbers ≡ length (rootTrace (now t) (now rules) d (traced .rank))) ⌝ }
-    ensures { λ _. ⌜ now (out .exit) ≡ blockAt (now (t .entry)) (now (rules .entry)) d form (traced .rank) ++ drop (form .size) (now (out .entry)) ⌝ }
-{
-    let weight = chart::root_weight(t, d, traced.rank);
-    if form.graph {
-        let n = (traced.numbers / NUMBERS_PER_NODE + 1) / 2;
-        write_graph_reading(out, form.size, n, weight, rules, form.rules, trace);
-        return;
-    }
-    write_reading(out, d.places, form.rules, weight, trace);
 }
 
 // The reading of a rank of the root, traced back.

@@ -24,7 +24,9 @@ ghost use Rattle.packing.specs.Ranges.{Ranges};
 ghost use Rattle.office.specs.Sheet.{itemKind, itemAlike, itemsAlike, ruleAlike, itemFrom, itemsFrom, officeRuleFrom, officeRulesFrom, officeSheet};
 ghost use Rattle.office.specs.Flat.{itemAt, itemsAt, officeRuleAt, officeRulesAt};
 ghost use mathlib.Core.List.{[]};
+ghost use Rattle.rules_reader.specs.Rules.{Filters};
 ghost use Rattle.office_reader.specs.Answer.{passedOf, answerOf, InBounds};
+ghost use Rattle.office_reader.specs.Filter.{itemNumber, itemsPlace, rulePlace};
 
 // Of each rule an office sheet has head, weight and item count, then the items; of each item its kind and its number.
 pub const ITEM_COUNT_AT: usize = 2;
@@ -216,11 +218,67 @@ fn seen(sheet: &[u32], n: usize, at: usize) -> bool
     false
 }
 
+// The places of a filter: a prime number, so that rules which are alike in some numbers stand at different ones.
+const FILTER_PLACES: usize = 4093;
+
+// By how much the items before it move an item's place.
+const ITEM_STEP: usize = 512;
+
+// The item at a place as one number.
+fn item_number(sheet: &[u32], p: usize) -> usize
+    requires { ⌜ p < 2 ^ 60 ⌝ }
+    ensures { λ r. ⌜ (r ≡ itemNumber (itemAt (now (sheet .entry)) p)) × (r < 2 ^ 40) ⌝ }
+{
+    let number = arrays::number_at(sheet, p + 1);
+    if arrays::narrow_at(sheet, p) == SYMBOL_ITEM {
+        return 2 * number;
+    }
+    2 * number + 1
+}
+
+// Where n items, behind others that stand at a place of a filter, stand in it.
+fn items_place(sheet: &[u32], p: usize, n: usize, start: usize) -> usize
+    requires { do ⌜ (p < 2 ^ 50) × (n < 2 ^ 32) × (start < (← ⟦FILTER_PLACES⟧)) ⌝ }
+    ensures { λ r. do ⌜ (r ≡ itemsPlace (itemsAt (now (sheet .entry)) p n) start) × (r < (← ⟦FILTER_PLACES⟧ .entry)) ⌝ }
+{
+    let mut place = start;
+    let mut i: usize = 0;
+    while i < n {
+        place = (place * ITEM_STEP + item_number(sheet, p + NUMBERS_PER_ITEM * i)) % FILTER_PLACES;
+        i += 1;
+    }
+    place
+}
+
+// Where the rule at a place stands in a filter.
+fn rule_place(sheet: &[u32], at: usize) -> usize
+    requires { ⌜ at < 2 ^ 49 ⌝ }
+    ensures { λ r. do ⌜ (r ≡ rulePlace (officeRuleAt (now (sheet .entry)) at)) × (r < (← ⟦FILTER_PLACES⟧ .entry)) ⌝ }
+{
+    let head = arrays::number_at(sheet, at) % FILTER_PLACES;
+    let n = arrays::number_at(sheet, at + ITEM_COUNT_AT);
+    items_place(sheet, at + ITEMS_AT, n, head)
+}
+
+// Whether the rule at a place, which stands at `place` of the filter, is alike one of the first n. Most are found not to be by the filter alone.
+fn repeated(sheet: &[u32], filter: &[u8], n: usize, at: usize, place: usize) -> bool
+    requires { do
+      ⌜ (n ≤ (← ⟦MAX_RULES⟧)) × (at < 2 ^ 48) × (place < length (now filter)) × (place ≡ rulePlace (officeRuleAt (now sheet) at))
+          × Filters ruleAlike rulePlace (officeRulesAt (now sheet) 3 n) (now filter) ⌝ }
+    ensures { λ r. ⌜ r ≡ anyLike ruleAlike (officeRuleAt (now (sheet .entry)) at) (officeRulesAt (now (sheet .entry)) 3 n) ⌝ }
+{
+    if filter[place] == 0 {
+        return false;
+    }
+    seen(sheet, n, at)
+}
+
 // The rules.
 fn read_rules(sheet: &[u32], v: Vocabulary, count: usize) -> Passed
     requires { do ⌜ (count ≤ (← ⟦MAX_RULES⟧)) × Ranges (v .symbols) (v .words) ⌝ }
     ensures { λ r. ⌜ r ≡ passedOf (officeRulesFrom (now (sheet .entry)) (v .symbols) (v .words) count 3 []) ⌝ }
 {
+    let mut filter = [0u8; FILTER_PLACES];
     let mut at: usize = GRAMMAR_SHEET_HEAD;
     let mut i: usize = 0;
     while i < count {
@@ -229,9 +287,11 @@ fn read_rules(sheet: &[u32], v: Vocabulary, count: usize) -> Passed
                 return Passed::Refused(n);
             }
             Passed::Upto(next) => {
-                if seen(sheet, i, at) {
+                let place = rule_place(sheet, at);
+                if repeated(sheet, &filter, i, at, place) {
                     return Passed::Refused(refused::GRAMMAR_REPEAT);
                 }
+                filter[place] = 1;
                 at = next;
                 i += 1;
             }

@@ -21,7 +21,7 @@ use Rattle.derivation.specs.Derivation.{Tree, leaf, Derives, by-pair, Derivatio
 use Rattle.derivation.specs.Heard.{outputLength, packed}
 use Rattle.derivation.proofs.Lists.{none≢some}
 use Rattle.derivation.proofs.HeardReadings.{heard-one-edge}
-use Rattle.listing.specs.Conditions.{tableSize}
+use Rattle.chart.specs.WorkTable.{tableSize}
 use Rattle.open_listing.specs.Stands.{Entry, entry, Spelled, leaf-spelled, node-spelled, SpelledReading}
 use Rattle.open_listing.specs.Open as S
 use Rattle.open_listing.specs.declared.Place.{Place}

@@ -21,7 +21,7 @@ use Rattle.derivation.specs.Rank.{Number}
 use Rattle.chart.specs.Chart.{layOut}
 use Rattle.chart_theory.proofs.Accepted.{layout}
 use Rattle.chart_theory.proofs.Search.Passes.{Listed}
-use Rattle.listing.specs.Conditions.{tableSize}
+use Rattle.chart.specs.WorkTable.{tableSize}
 use Rattle.bits.specs.Bits.{pick}
 use Rattle.inputs.specs.Inputs.{meantBy, ReadOf, rulesArray, edgesArray}
 use Rattle.inputs.specs.declared.Inputs.{Inputs}

@@ -10,10 +10,11 @@ use Rattle.chart.specs.Chart.{layOut}
 use Rattle.grammar_reader.specs.Answer.{sizes}
 use Rattle.inputs.specs.Inputs.{Bounds}
 use Rattle.heard_reader.specs.Answer.{heardSize}
-use Rattle.listing.specs.Conditions.{tableSize}
-use Rattle.listing.specs.Model.{formOf}
-use Rattle.listing.specs.declared.Form.{Form}
-use Rattle.listing.proofs.Sizes.{table-is, size-is}
+use Rattle.chart.specs.WorkTable.{tableSize}
+use Rattle.traced_readings.specs.Model.{formOf}
+use Rattle.traced_readings.specs.declared.Form.{Form}
+use Rattle.chart.proofs.WorkTable.{table-is}
+use Rattle.traced_readings.proofs.Sizes.{size-is}
 use Rattle.open_listing.specs.Model.{Planned, planOf}
 use Rattle.open_listing.specs.declared.Plan.{Plan}
 use Rattle.inputs.specs.declared.Inputs.{Inputs}

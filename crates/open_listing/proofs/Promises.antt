@@ -29,10 +29,10 @@ use Rattle.chart_theory.specs.Spelled.{namesEdges}
 use Rattle.chart_theory.proofs.Chart.{RootSpells, has-spells}
 use Rattle.chart_theory.proofs.Accepted.{layout, passed-spelled, spelled-passed, Reached, rank-reached}
 use Rattle.chart_theory.proofs.Search.Passes.{Listed}
-use Rattle.listing.specs.Conditions.{tableSize}
-use Rattle.listing.specs.Demand3.{Ranked}
-use Rattle.listing.proofs.Sizes.{size-is}
-use Rattle.listing.proofs.Blocks.{block-is}
+use Rattle.chart.specs.WorkTable.{tableSize}
+use Rattle.traced_readings.specs.Ranked.{Ranked}
+use Rattle.traced_readings.proofs.Sizes.{size-is}
+use Rattle.traced_readings.proofs.Packed.{block-is}
 use Rattle.open_listing.specs.Stands.{SpelledReading, Standing}
 use Rattle.open_listing.specs.Open as S
 use Rattle.open_listing.specs.Model.{Planned, isReading, handsOut, settled, Answered, Searched}

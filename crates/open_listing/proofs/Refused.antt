@@ -11,7 +11,7 @@ use Rattle.packing.specs.Rows.{_∪_, GrammarBlockRow, HeardBlockRow, OpenRow, 
 use Rattle.packing.proofs.Refusals.{Refuses, granted, denied, refusal-number, wider, then-row, choose-row, grammar-block-row}
 use Rattle.packing.proofs.GraphRefusals.{heard-block-row}
 use Rattle.derivation.specs.Heard.{outputLength}
-use Rattle.listing.specs.Conditions.{tableSize}
+use Rattle.chart.specs.WorkTable.{tableSize}
 use Rattle.open_listing.specs.Open as S
 use Rattle.open_listing.specs.Open.{opening, calling}
 use Rattle.open_listing.specs.declared.Place.{Place}

@@ -19,7 +19,7 @@ use Rattle.chart.proofs.Front.{take-zeros}
 use Rattle.chart_theory.proofs.Accepted.{layout, heard-sizes, first-reached, next-reached, front-filled}
 use Rattle.chart_theory.proofs.Search.Passes.{Listed}
 use Rattle.chart_theory.proofs.Table.Entries.{cell-below}
-use Rattle.listing.specs.Conditions.{tableSize}
+use Rattle.chart.specs.WorkTable.{tableSize}
 use Rattle.open_listing.specs.Open as S
 use Rattle.open_listing.specs.Stands.{Over}
 use Rattle.open_listing.specs.Model.{zeros, firstTable, nextTable, tableBy}

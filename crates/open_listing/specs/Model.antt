@@ -12,7 +12,7 @@ use Rattle.chart_index.specs.Build.{makeIndex}
 use Rattle.chart_search.specs.Search.{nextOfRoot}
 use Rattle.chart.specs.Chart.{layOut, enumerate, rootFound, rootSpelled}
 use Rattle.chart_theory.proofs.Plane.{single}
-use Rattle.listing.specs.Model.{formOf, FormFor, blockAt}
+use Rattle.traced_readings.specs.Model.{formOf, FormFor, blockAt}
 use Rattle.open_listing.specs.declared.Place.{Place}
 use Rattle.open_listing.specs.declared.Plan.{Plan}
 use Rattle.inputs.specs.Inputs.{Meant, inputsOf, rulesArray, edgesArray}

@@ -1,5 +1,5 @@
 -- Readings one by one: document 02, N2, with the rows grammar block, utterance block and listing of document 01's "Where each check stands".
--- Stands on packing's and derivation's definitions, on the listing's, and on specs/Stands: what stands in a work table.
+-- Stands on packing's and derivation's definitions, on traced_readings' Ranked, on the chart's size of a table, and on specs/Stands: what stands in it.
 use mathlib.Core.Path.{_≡_}
 use mathlib.Core.Option.{none, some}
 use mathlib.Core.List.{List, _++_}
@@ -15,8 +15,8 @@ use Rattle.packing.specs.declared.Sym.{Sym}
 use Rattle.derivation.specs.Derivation.{Tree, Derivation}
 use Rattle.derivation.specs.Heard.{outputLength, packed}
 use Rattle.derivation.specs.Rank.{Number}
-use Rattle.listing.specs.Conditions.{tableSize}
-use Rattle.listing.specs.Demand3.{Ranked}
+use Rattle.chart.specs.WorkTable.{tableSize}
+use Rattle.traced_readings.specs.Ranked.{Ranked}
 use Rattle.open_listing.specs.Stands.{Entry, front, entry, Found, Over, foundOver, foundRanks, SpelledReading, Standing}
 use Rattle.open_listing.specs.declared.Place.{Place}
 use Rattle.open_listing.specs.declared.Opened.{Opened}

@@ -13,7 +13,8 @@ use Rattle.packing.specs.Alike.{anyLike, unlikeFrom}
 use Rattle.derivation.specs.Derivation.{weight, walk, reading}
 use Rattle.derivation.specs.Order.{costSum}
 use Rattle.derivation.specs.List.{trees, ranked}
-use Rattle.listing.specs.Conditions.{tableSize, conditions}
+use Rattle.chart.specs.WorkTable.{tableSize}
+use Rattle.listing.specs.Conditions.{conditions}
 use Rattle.listing.specs.Listing.{listed, list, joined}
 use Rattle.checker.specs.Judgement.{fieldsFrom}
 use Rattle.checker.specs.Check.{firstWith, derivationOf, check}

@@ -13,10 +13,11 @@ use Rattle.packing.specs.Utterance.{blockOfUtterance}
 use Rattle.packing.specs.Reading.{blockOfReading}
 use Rattle.listing.specs.Conditions as Conditions
 use Rattle.listing.specs.Conditions.{library}
-use Rattle.listing.specs.Listing.{list, listedOf, outputAfter}
-use Rattle.listing.specs.declared.Listed.{Listed}
-use Rattle.listing.specs.declared.Listed.the-variants as L
-use Rattle.listing.specs.declared.Listed.the-variants.{Found}
+use Rattle.inputs.specs.Answer.{listedOf}
+use Rattle.listing.specs.Listing.{list, outputAfter}
+use Rattle.inputs.specs.declared.Listed.{Listed}
+use Rattle.inputs.specs.declared.Listed.the-variants as L
+use Rattle.inputs.specs.declared.Listed.the-variants.{Found}
 use Rattle.checker.specs.Check.{check, checkedOf}
 use Rattle.checker.specs.declared.Checked.{Checked}
 use Rattle.checker.specs.declared.Checked.the-variants.{Passes, Refused}

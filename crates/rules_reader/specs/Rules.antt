@@ -60,12 +60,16 @@ keyOf n = ((n .kind * 32 + n .head) * 256 + n .first) * 256 + n .second
 abbrev pub among : ℕ → List ℕ → Bool
 among k xs = anyLike eqb k xs
 
--- where a key stands in a filter, and that a filter has each key of a list
+-- a filter has each item of a list: a 1 stands at the item's place. It may have others
+abbrev pub Filters : {A : Type 0} → (A → A → Bool) → (A → ℕ) → List A → List ℕ → Type 0
+Filters {A} like place l filter = (x : A) → anyLike like x l ≡ true → getD filter (place x) 0 ≡ 1
+
+-- where a key stands in a filter, and a filter of keys
 abbrev pub filterPlace : ℕ → ℕ
 filterPlace k = k % 1021
 
 abbrev pub Filtered : List ℕ → List ℕ → Type 0
-Filtered keys filter = (k : ℕ) → among k keys ≡ true → getD filter (filterPlace k) 0 ≡ 1
+Filtered keys filter = Filters eqb filterPlace keys filter
 
 -- how many rules were read
 abbrev pub counted : Parse (List MarkedRule) → Parse ℕ

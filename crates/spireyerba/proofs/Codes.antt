@@ -18,8 +18,8 @@ use Rattle.checker.specs.Check as Check
 use Rattle.checker.specs.declared.Checked as C
 use Rattle.chance.specs.Answer as Chance
 use Rattle.chance.specs.declared.Outcome as P
-use Rattle.listing.specs.Listing as Listing
-use Rattle.listing.specs.declared.Listed as L
+use Rattle.inputs.specs.Answer.{listedOf}
+use Rattle.inputs.specs.declared.Listed as L
 use Rattle.specimen.specs.Specimen as Specimen
 use Rattle.specimen.specs.declared.Answered as A
 use Rattle.spireyerba.specs.Code.{codeOf, chanceAfter, stringLength}
@@ -124,18 +124,18 @@ kept-float (accepted y) before e told = let z : _≡_ {A = ℕ} 0 1 = cc in absu
 kept-float (refused m) before e told = refl
 
 -- the listing, of readings and of words to listen to again
-module _ {X : Type 0} {v : Verdict (List X)} (small : Small length v) {r : L.Listed} (e : r ≡ Listing.listedOf v) where
+module _ {X : Type 0} {v : Verdict (List X)} (small : Small length v) {r : L.Listed} (e : r ≡ listedOf v) where
   pub listed-small : SmallListed r
   listed-small = rw e (go small)
     where
-      go : {v : Verdict (List X)} → Small length v → SmallListed (Listing.listedOf v)
+      go : {v : Verdict (List X)} → Small length v → SmallListed (listedOf v)
       go (small-size h) = h
       go (small-refusal h) = h
 
   pub listed-number : {z : ℤ} → z ≡ listedCode r → toZ w32 (ofZ w32 z) ≡ codeOf length v
-  listed-number p = told-number length Listing.listedOf listedCode v (same v) small e refl p
+  listed-number p = told-number length listedOf listedCode v (same v) small e refl p
     where
-      same : (v : Verdict (List X)) → listedCode (Listing.listedOf v) ≡ codeOf length v
+      same : (v : Verdict (List X)) → listedCode (listedOf v) ≡ codeOf length v
       same (accepted ls) = refl
       same (refused n) = refl
 

@@ -12,7 +12,8 @@ use Rattle.packing.proofs.Refusals.{Refuses, granted, denied, Low, wider, low-b
 use Rattle.cost_changes.specs.Ranges.{Answer, nothing, outweighed, stands}
 use Rattle.cost_changes.specs.Passes.{answer}
 use Rattle.cost_ranges.specs.Conditions.{askedRanges}
-use Rattle.cost_ranges.specs.CostRanges.{answered, ranges, rangedOf, tableAfter}
+use Rattle.chart.specs.WorkTable.{workAfter}
+use Rattle.cost_ranges.specs.CostRanges.{answered, ranges, rangedOf}
 use Rattle.cost_ranges.specs.declared.Ranged.{Ranged}
 use Rattle.cost_ranges.specs.declared.Ranged.the-variants.{Nothing, Outweighed, Stands, Refused}
 use Rattle.cost_ranges.proofs.Refused.{ranges-asked, ranges-row}
@@ -121,8 +122,8 @@ module _ (grammar low high work : List ℕ) where
       greatest-told = ap (λ (x : Ranged). greatestBy x greatest) (sym told ∙ e) ∙ greatest-same due greatest
 
       -- of every way out
-      pub ranges-told : {code : ℤ} {work′ : List ℕ} → code ≡ rangesCode due → work′ ≡ tableAfter due work
-          → (code ≡ rangesCode due) × ((work′ ≡ tableAfter due work) × ((leastBy s least ≡ leastAfter due least)
+      pub ranges-told : {code : ℤ} {work′ : List ℕ} → code ≡ rangesCode due → work′ ≡ workAfter due work
+          → (code ≡ rangesCode due) × ((work′ ≡ workAfter due work) × ((leastBy s least ≡ leastAfter due least)
           × ((greatestBy s greatest ≡ greatestAfter due greatest)
           × D.CostRanges grammar low high work least greatest code work′ (leastBy s least) (greatestBy s greatest))))
       ranges-told ec ew =
@@ -138,8 +139,8 @@ module _ (grammar low high work : List ℕ) where
                   record {
                     demand-1 = asked-first rangesNumber (askedRanges grammar low high (length work)) (λ b. answer (b .0) (b .1) (b .2))
                         (ranges-asked grammar low high (length work)) (ranges-row grammar low high (length work)) ec
-                        (λ b p q. (answer (b .0) (b .1) (b .2), answers-asked grammar low high work (length work) p, refl, l ∙ ap (λ (v : Verdict Answer). leastAfter v least) q, h ∙ ap (λ (v : Verdict Answer). greatestAfter v greatest) q, ew ∙ ap (λ (v : Verdict Answer). tableAfter v work) q))
-                        (λ n p. (ew ∙ ap (λ (v : Verdict Answer). tableAfter v work) p, l ∙ ap (λ (v : Verdict Answer). leastAfter v least) p, h ∙ ap (λ (v : Verdict Answer). greatestAfter v greatest) p));
+                        (λ b p q. (answer (b .0) (b .1) (b .2), answers-asked grammar low high work (length work) p, refl, l ∙ ap (λ (v : Verdict Answer). leastAfter v least) q, h ∙ ap (λ (v : Verdict Answer). greatestAfter v greatest) q, ew ∙ ap (λ (v : Verdict Answer). workAfter v work) q))
+                        (λ n p. (ew ∙ ap (λ (v : Verdict Answer). workAfter v work) p, l ∙ ap (λ (v : Verdict Answer). leastAfter v least) p, h ∙ ap (λ (v : Verdict Answer). greatestAfter v greatest) p));
                   },
                 ),
               ),

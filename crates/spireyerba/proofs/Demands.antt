@@ -44,11 +44,12 @@ use Rattle.chance.specs.Answer.{chance, chanceOf}
 use Rattle.chance.specs.Chance.{sharesOf, one, productOf, askedChance, Shown}
 use Rattle.chance.specs.declared.Outcome as Chance
 use Rattle.chance.proofs.Shown.{chance-row, chance-asked}
-use Rattle.listing.specs.Conditions.{library, panel, Within, tableSize, askedListing}
-use Rattle.listing.specs.Listing.{readingsOf, list, outputAfter, workAfter}
+use Rattle.chart.specs.WorkTable.{tableSize, workAfter}
+use Rattle.listing.specs.Conditions.{library, panel, Within, askedListing}
+use Rattle.listing.specs.Listing.{readingsOf, list, outputAfter}
 use Rattle.listing.specs.declared.Limits.{Limits}
 use Rattle.listing.specs.Demand3.{kthBytes, RankedList, Demand3}
-use Rattle.listing.proofs.Due.{asked-row}
+use Rattle.inputs.proofs.Due.{asked-row}
 use Rattle.listing.proofs.Accepted.{asked-out, list-asked}
 use Rattle.listing.proofs.Demand3.{ranked-list, demand-3, in-library}
 use Rattle.listing.proofs.Refused.{library-row, panel-row, enough-row}

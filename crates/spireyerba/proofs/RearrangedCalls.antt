@@ -26,9 +26,11 @@ use Rattle.derivation.proofs.HeardTheorems.{least-element}
 use Rattle.rearranged.specs.Rearranged.{Rearranged, renumber, SameRenumbered}
 use Rattle.rearranged.proofs.Theorems.{same-derivations, rearranged-lists}
 use Rattle.rearranged.proofs.Held.{weight-held}
-use Rattle.listing.specs.Conditions.{library, tableSize, conditions, askedListing}
+use Rattle.chart.specs.WorkTable.{tableSize}
+use Rattle.listing.specs.Conditions.{library, conditions, askedListing}
 use Rattle.listing.proofs.Accepted.{Asks, conditions-asks}
-use Rattle.listing.specs.Demand3.{kthBytes, Ranked, RankedList}
+use Rattle.traced_readings.specs.Ranked.{Ranked}
+use Rattle.listing.specs.Demand3.{kthBytes, RankedList}
 use Rattle.spireyerba.specs.Demands as D
 use Rattle.spireyerba.specs.Demands.{Demand1, answers, refuses}
 use Rattle.spireyerba.specs.RearrangedCalls.{weightHeld, Among, SameReadings, RearrangedCalls}

@@ -21,8 +21,8 @@ use Rattle.derivation.specs.Derivation.{Tree}
 use Rattle.derivation.specs.Heard.{outputLength, packed}
 use Rattle.derivation.specs.HeardList as list
 use Rattle.derivation.proofs.HeardTheorems.{finitely-many}
-use Rattle.listing.specs.Demand3.{Ranked}
-use Rattle.listing.specs.Conditions.{tableSize}
+use Rattle.traced_readings.specs.Ranked.{Ranked}
+use Rattle.chart.specs.WorkTable.{tableSize}
 use Rattle.open_listing.specs.Stands.{Standing}
 use Rattle.open_listing.specs.Open as S
 use Rattle.open_listing.proofs.Decided.{answer-decided, table-decided, output-decided}

@@ -30,7 +30,8 @@ use Rattle.checker.specs.Check.{check}
 use Rattle.checker.proofs.Refused.{check-row}
 use Rattle.chance.specs.Answer.{chance}
 use Rattle.chance.proofs.Shown.{chance-row}
-use Rattle.listing.specs.Conditions.{library, panel, tableSize}
+use Rattle.chart.specs.WorkTable.{tableSize}
+use Rattle.listing.specs.Conditions.{library, panel}
 use Rattle.listing.specs.Listing.{list}
 use Rattle.listing.specs.declared.Limits.{Limits}
 use Rattle.listing.proofs.Accepted.{accepted-few}

@@ -7,7 +7,7 @@ use Prim.Native.Nat.{ℕ}
 use Rattle.packing.specs.Parse.{Verdict}
 use Rattle.cost_changes.specs.Margins.{Entry}
 use Rattle.cost_changes.specs.Listed.{marginsOf}
-use Rattle.listing.specs.Listing.{workAfter}
+use Rattle.chart.specs.WorkTable.{workAfter}
 use Rattle.word_margins.specs.Conditions.{askedMargins}
 use Rattle.word_margins.specs.WordMargins.{margins, outputAfter}
 use Rattle.word_margins.proofs.Refused.{margins-asked, margins-row}

@@ -12,7 +12,7 @@ use Rattle.packing.specs.Rows.{_∪_, GrammarBlockRow, HeardBlockRow, OpenRow, 
 use Rattle.derivation.specs.Derivation.{Tree, Derivation}
 use Rattle.derivation.specs.Heard.{outputLength, packed}
 use Rattle.derivation.specs.Rank.{Number}
-use Rattle.listing.specs.Demand3.{Ranked}
+use Rattle.traced_readings.specs.Ranked.{Ranked}
 use Rattle.open_listing.specs.Stands.{Standing}
 use Rattle.open_listing.specs.Open.{Blocks, opening, placeAfter, Search, Called, Kept}
 use Rattle.open_listing.specs.declared.Place.{Place}

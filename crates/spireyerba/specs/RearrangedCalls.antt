@@ -15,7 +15,8 @@ use Rattle.packing.specs.Heard.{heardBlock}
 use Rattle.derivation.specs.Derivation.{Tree, Derivation}
 use Rattle.derivation.specs.Order.{costSum}
 use Rattle.derivation.specs.Heard.{outputLength, packed}
-use Rattle.listing.specs.Demand3.{kthBytes, Ranked}
+use Rattle.traced_readings.specs.Ranked.{Ranked}
+use Rattle.listing.specs.Demand3.{kthBytes}
 use Rattle.rearranged.specs.Rearranged.{Rearranged, SameRenumbered}
 use Rattle.spireyerba.specs.Demands.{Listing}
 

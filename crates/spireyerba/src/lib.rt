@@ -3,7 +3,7 @@
 use chance::Outcome;
 use checker::Checked;
 use cost_ranges::Ranged;
-use listing::Listed;
+use inputs::Listed;
 use listing::PANEL;
 use listing::listing_within;
 use open_listing::Answer;
@@ -21,8 +21,9 @@ ghost use Rattle.office_block.specs.Block.{officeToBlock};
 ghost use Rattle.checker.specs.Check.{check};
 ghost use Rattle.chance.specs.Answer as definition;
 ghost use Rattle.listing.specs.Conditions.{library, panel};
-ghost use Rattle.listing.specs.Listing.{list, outputAfter, workAfter};
-ghost use Rattle.cost_ranges.specs.CostRanges.{ranges, tableAfter};
+ghost use Rattle.chart.specs.WorkTable.{workAfter};
+ghost use Rattle.listing.specs.Listing.{list, outputAfter};
+ghost use Rattle.cost_ranges.specs.CostRanges.{ranges};
 ghost use Rattle.word_margins.specs.WordMargins as again;
 ghost use Rattle.specimen.specs.Specimen.{specimen, outputOf};
 ghost use Rattle.next_phrase.specs.NextPhrase.{next};
@@ -259,7 +260,7 @@ pub extern "C" fn spireyerba_cost_ranges(
     greatest: &mut u32,
 ) -> i32
     ensures { λ r. ⌜ r ≡ rangesCode (ranges (now (grammar .entry)) (now (low .entry)) (now (high .entry)) (length (now (work .entry)))) ⌝ }
-    ensures { λ r. ⌜ now (work .exit) ≡ tableAfter (ranges (now (grammar .entry)) (now (low .entry)) (now (high .entry)) (length (now (work .entry)))) (now (work .entry)) ⌝ }
+    ensures { λ r. ⌜ now (work .exit) ≡ workAfter (ranges (now (grammar .entry)) (now (low .entry)) (now (high .entry)) (length (now (work .entry)))) (now (work .entry)) ⌝ }
     ensures { λ r. ⌜ now (least .exit) ≡ leastAfter (ranges (now (grammar .entry)) (now (low .entry)) (now (high .entry)) (length (now (work .entry)))) (now (least .entry)) ⌝ }
     ensures { λ r. ⌜ now (greatest .exit) ≡ greatestAfter (ranges (now (grammar .entry)) (now (low .entry)) (now (high .entry)) (length (now (work .entry)))) (now (greatest .entry)) ⌝ }
     ensures { λ r. ⌜ demands.CostRanges (now (grammar .entry)) (now (low .entry)) (now (high .entry)) (now (work .entry)) (now (least .entry)) (now (greatest .entry)) r (now (work .exit)) (now (least .exit)) (now (greatest .exit)) ⌝ }

@@ -23,7 +23,7 @@ use Rattle.chart_table.specs.declared.Layout.{Layout}
 use Rattle.chart_table.specs.Table.{cell, root, cellNumber}
 use Rattle.chart_theory.proofs.Table.Cells.{InChart}
 use Rattle.chart_theory.proofs.Table.Entries.{cell-below, cell-injective}
-use Rattle.cost_ranges.specs.declared.Pass.{Pass}
+use Rattle.one_best.specs.declared.Pass.{Pass}
 use Rattle.cost_changes.specs.Outside.{Cells, ifThere, inside, around, outside}
 use Rattle.cost_changes.proofs.Agree.{AgreeAbove}
 use Rattle.word_margins.specs.Model.{overRules, overSpans, fill}

@@ -28,13 +28,13 @@ use Rattle.inputs.proofs.Slots.{slots-read, slots-refused}
 use Rattle.packing.specs.Valid.{ValidGrammar, ValidUtterance}
 use Rattle.chart_table.specs.declared.Layout.{Layout}
 use Rattle.chart.specs.Chart.{layOut}
-use Rattle.listing.specs.Conditions.{tableSize}
-use Rattle.listing.specs.Listing.{listedOf, workAfter}
-use Rattle.listing.specs.declared.Listed.{Listed}
-use Rattle.listing.specs.declared.Listed.the-variants.{Found, Refused}
-use Rattle.cost_ranges.specs.Model.{tableBy}
-use Rattle.cost_ranges.specs.declared.Pass.{Pass}
-use Rattle.cost_ranges.proofs.ThreePasses.{passOf}
+use Rattle.chart.specs.WorkTable.{tableSize, workAfter}
+use Rattle.inputs.specs.Answer.{listedOf}
+use Rattle.inputs.specs.declared.Listed.{Listed}
+use Rattle.inputs.specs.declared.Listed.the-variants.{Found, Refused}
+use Rattle.one_best.specs.Model.{tableBy}
+use Rattle.one_best.specs.declared.Pass.{Pass}
+use Rattle.one_best.proofs.Found.{passOf}
 use Rattle.word_margins.specs.Conditions.{marginsConditions, askedMargins}
 use Rattle.word_margins.specs.WordMargins.{listed, margins, outputAfter, Meant}
 use Rattle.word_margins.specs.Model.{passList, Promised, ReadMargins}

@@ -29,9 +29,9 @@ use Rattle.cost_changes.proofs.Inside.{inside-first}
 use Rattle.chart_table.specs.Table.{cell, cellNumber}
 use Rattle.chart.specs.Chart.{layOut, rootsFound, rootWeight}
 use Rattle.chart_theory.proofs.Accepted.{layout, chart-firsts}
-use Rattle.listing.specs.Conditions.{tableSize}
-use Rattle.cost_ranges.specs.Model.{tableBy}
-use Rattle.cost_ranges.proofs.ThreePasses.{passOf, pass-none, pass-some}
+use Rattle.chart.specs.WorkTable.{tableSize}
+use Rattle.one_best.specs.Model.{tableBy}
+use Rattle.one_best.proofs.Found.{passOf, pass-none, pass-some}
 use Rattle.word_margins.specs.Model.{plain, fill, useNode, useNodes, firstUsed, tableList, passList}
 use Rattle.word_margins.proofs.Decoded.{read, inside-read}
 use Rattle.word_margins.proofs.Views.{inside-plain}

@@ -21,8 +21,8 @@ use Rattle.cost_changes.specs.Passes.{firstOf}
 use Rattle.cost_changes.specs.Outside.{outside}
 use Rattle.cost_changes.specs.Listed.{has, listedFor, marginsOf}
 use Rattle.cost_changes.proofs.Listed.{listed-length}
-use Rattle.listing.specs.Conditions.{tableSize}
-use Rattle.listing.proofs.Due.{then-within}
+use Rattle.chart.specs.WorkTable.{tableSize}
+use Rattle.inputs.proofs.Due.{then-within}
 use Rattle.word_margins.specs.Conditions.{marginsConditions, MarginsRow, askedMargins}
 use Rattle.word_margins.specs.WordMargins.{listed, margins}
 use Rattle.word_margins.proofs.Passed.{few-edges}

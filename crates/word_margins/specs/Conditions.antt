@@ -1,5 +1,5 @@
 -- What the service for words to listen to again accepts: document 02, N12, with the rows grammar block and utterance block of document 01's "Where
--- each check stands". Stands on packing's definitions and on the listing's size of a table.
+-- each check stands". Stands on packing's definitions and on the chart's size of a table.
 use mathlib.Core.Path.{_≡_}
 use mathlib.Core.Logic.{_⊎_}
 use mathlib.Core.List.{List}
@@ -11,7 +11,7 @@ use Rattle.packing.specs.Meaning.{Grammar, Utterance, edges}
 use Rattle.packing.specs.Parse.{Verdict, accepted, refused, _then_}
 use Rattle.packing.specs.Grammar.{grammarBlock}
 use Rattle.packing.specs.Utterance.{utteranceBlock}
-use Rattle.listing.specs.Conditions.{tableSize}
+use Rattle.chart.specs.WorkTable.{tableSize}
 
 -- "The work table is as for one reading (22); next, an output shorter than four numbers for each candidate in the utterance block gives 43", for
 -- a work table and an output of these lengths. An utterance has an edge for each candidate, whether it was heard or not

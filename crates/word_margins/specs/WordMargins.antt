@@ -11,7 +11,7 @@ use Rattle.packing.specs.Utterance.{utteranceBlock}
 use Rattle.cost_changes.specs.Margins as M
 use Rattle.cost_changes.specs.Margins.{listNumbers}
 use Rattle.cost_changes.specs.Listed.{marginsOf}
-use Rattle.listing.specs.Conditions.{tableSize}
+use Rattle.chart.specs.WorkTable.{tableSize}
 use Rattle.word_margins.specs.Conditions.{marginsConditions}
 
 -- of a grammar and an utterance, both accepted
@@ -22,8 +22,8 @@ listed g u work out = marginsConditions g u work out then λ b. accepted (margin
 unfoldable pub margins : List ℕ → List ℕ → ℕ → ℕ → Verdict (List M.Entry)
 margins grammar utterance work out = grammarBlock grammar then λ g. utteranceBlock (g .words) utterance then λ u. listed g u work out
 
--- "The answer is the number of entries", as the listing's is of readings (its `listedOf`); "output beyond them is unchanged", and the work table
--- is all zeros (its `workAfter`); a refusal changes nothing
+-- "The answer is the number of entries", as the listing's is of readings (`listedOf`); "output beyond them is unchanged", and the work table
+-- is all zeros (`workAfter`); a refusal changes nothing
 abbrev pub outputAfter : Verdict (List M.Entry) → List ℕ → List ℕ
 outputAfter (accepted l) out = listNumbers l ++ drop (length (listNumbers l)) out
 outputAfter (refused n) out = out

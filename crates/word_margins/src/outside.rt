@@ -12,7 +12,7 @@ use chart_table::Layout;
 use chart_table::cell_number;
 use chart_table::price_at;
 use chart_table::root;
-use cost_ranges::Pass;
+use one_best::Pass;
 use packing::Rule;
 use packing::Sym;
 ghost use mathlib.Core.Path.{_≡_};
@@ -20,7 +20,7 @@ ghost use Prim.Native.Nat.{_+_, _/_, _≤_, _<_};
 ghost use lib.ListN.{length, getD, replicate};
 ghost use Rattle.packing.specs.Flat.{ruleAt};
 ghost use Rattle.chart_table.specs.Table.{cellBound, Sized};
-ghost use Rattle.cost_ranges.specs.Model.{Passable};
+ghost use Rattle.one_best.specs.Model.{Passable};
 ghost use Rattle.word_margins.specs.Model.{fourths, plain, sums, Spanned, lesser, insideAt, joinAt, leftLeast, rightLeast, lower, lowerLeft, lowerRight, lowerParts, overRules, overSpans, fill};
 
 // The numbers of 32 bits.

@@ -1,6 +1,7 @@
 //! What can be wrong at a place of a text.
 
-use crate::limits::{MAX_ITEMS, MAX_RULES, MAX_SHARE, MAX_SYMBOLS, MAX_WEIGHT, NOT_HEARD};
+use super::RuleFault;
+use crate::limits::{MAX_SHARE, MAX_WEIGHT, NOT_HEARD};
 use crate::Refusal;
 use std::fmt::{Display, Formatter};
 
@@ -19,18 +20,13 @@ pub enum Fault {
     Unclosed,
     /// A backslash in a quoted word stands before something other than a quote or a backslash.
     Escape(String),
-    /// A rule's body has no item, or it is one symbol.
-    Body {
-        /// Which of both, as the library refuses it.
-        refusal: Refusal,
-    },
+    /// In the rules of a grammar.
+    Rule(RuleFault),
     /// A rule that is marked as a helper's and one with a body that is not of normal form, in one grammar.
     Marked {
         /// The line of the one that was met first.
         line: usize,
     },
-    /// A rule with which the grammar that an office's rules become passes its limits.
-    OfficeSize,
     /// A name that the list of symbols or of words has already.
     Named(String),
     /// Not a whole number.
@@ -170,8 +166,8 @@ impl Fault {
     /// The refusal by which the library would refuse the same, if it can be asked.
     pub fn refusal(&self) -> Option<Refusal> {
         match self {
-            Self::TooMany { refusal, .. } | Self::None { refusal, .. } | Self::Body { refusal } => Some(*refusal),
-            Self::OfficeSize => Some(Refusal::OfficeSize),
+            Self::TooMany { refusal, .. } | Self::None { refusal, .. } => Some(*refusal),
+            Self::Rule(fault) => fault.refusal(),
             Self::TooLarge { .. } | Self::CostTooLarge(_) => Some(Refusal::SheetValue),
             Self::RepeatedRule { .. } => Some(Refusal::GrammarRepeat),
             Self::Share(_) => Some(Refusal::ShareRange),
@@ -191,16 +187,10 @@ impl Fault {
             Self::Expected { wanted, found: None } => write!(formatter, "the line ends where {wanted} should stand"),
             Self::Unclosed => write!(formatter, "a quoted word has no quote at its end"),
             Self::Escape(found) => write!(formatter, "`{found}` in a quoted word: only \\\" and \\\\ have a meaning"),
-            Self::Body { .. } => {
-                write!(formatter, "a body is one quoted word, or two to {MAX_ITEMS} symbols and words")
-            }
+            Self::Rule(fault) => write!(formatter, "{fault}"),
             Self::Marked { line } => {
                 let bodies = "where a rule is marked as a helper's, all bodies are one quoted word or two symbols";
                 write!(formatter, "{bodies}: not so beside line {line}")
-            }
-            Self::OfficeSize => {
-                let limits = format!("{MAX_SYMBOLS} symbols or {MAX_RULES} rules");
-                write!(formatter, "with this rule and the helpers of all so far the grammar passes {limits}")
             }
             Self::Named(name) => write!(formatter, "`{name}` is listed already"),
             Self::Number(item) => write!(formatter, "`{item}` is not a whole number"),
@@ -280,6 +270,12 @@ impl Fault {
             }
             _ => unreachable!("the other faults are worded before"),
         }
+    }
+}
+
+impl From<RuleFault> for Fault {
+    fn from(fault: RuleFault) -> Self {
+        Self::Rule(fault)
     }
 }
 

@@ -1,10 +1,13 @@
 //! The text of a grammar.
 
-use super::names::{HELPER, OFFICE, SYMBOLS, WORDS};
+use super::names::{is_quoted_otherwise, HELPER, OFFICE, SYMBOLS, WORDS};
+use super::notation::{Alternative, Atom, Choice, Element, Times};
+use super::rule_fault::RuleFault;
 use super::scan::{weight, Token, Tokens, GRAMMAR};
+use super::translation::Template;
 use super::{without_mark, Fault, NamedGrammar};
-use crate::limits::{MAX_ITEMS, MAX_RULES, MAX_SYMBOLS, MAX_WORDS};
-use crate::{Error, Grammar, Item, MarkedGrammar, Office, OfficeRule, Position, Refusal, Rule};
+use crate::limits::{MAX_RULES, MAX_SLOTS, MAX_SYMBOLS, MAX_WORDS};
+use crate::{Error, Item, Position, Refusal};
 use std::collections::HashMap;
 
 /// Where in a grammar's text things stand.
@@ -40,12 +43,20 @@ impl NamedGrammar {
 const A_SYMBOL: &str = "a symbol";
 const A_WORD: &str = "a quoted word";
 
+/// What may stand right behind a part of a body, and behind that.
+const OPTIONAL: char = '?';
+const PLUS: char = '+';
+const STAR: char = '*';
+const BEHIND_A_PART: &[char] = &['|', ')', '['];
+/// Groups within groups, at most.
+const MAX_DEPTH: usize = 16;
+
 /// Names that are numbered as they are met.
 #[derive(Default)]
-struct Names {
+pub(super) struct Names {
     numbers: HashMap<String, u32>,
-    names: Vec<String>,
-    places: Vec<Position>,
+    pub(super) names: Vec<String>,
+    pub(super) places: Vec<Position>,
 }
 
 impl Names {
@@ -77,21 +88,23 @@ struct Price {
     is_helper: bool,
 }
 
+/// What a grammar's text has.
 #[derive(Default)]
-struct Parser {
-    symbols: Names,
-    words: Names,
-    rules: Vec<OfficeRule>,
-    marks: Vec<bool>,
-    places: Vec<Position>,
+pub(super) struct Parser {
+    pub(super) symbols: Names,
+    pub(super) words: Names,
+    pub(super) rules: Vec<Alternative>,
+    pub(super) marks: Vec<bool>,
+    /// How many symbols a list has numbered, which need no rules.
+    pub(super) listed: usize,
     /// The head of the rule before, to which a line that begins with a bar adds.
     head: Option<u32>,
     /// The line of each rule, by head and body.
     lines: HashMap<(u32, Vec<Item>), usize>,
     /// Whether a line says that the rules are an office's.
-    is_office: bool,
+    pub(super) is_office: bool,
     /// The lines of the first rule that is marked and of the first body that is not of normal form.
-    marked: Option<usize>,
+    pub(super) marked: Option<usize>,
     longer: Option<usize>,
 }
 
@@ -147,6 +160,9 @@ impl Parser {
             }
             next = tokens.next()?;
         }
+        if wanted == A_SYMBOL {
+            self.listed = self.symbols.names.len();
+        }
         Ok(())
     }
 
@@ -156,10 +172,16 @@ impl Parser {
     }
 
     fn symbol(&mut self, name: &str, position: Position) -> Result<u32, Error> {
+        if is_quoted_otherwise(name) {
+            return Err(Error::at(position, RuleFault::Quotes(name.to_owned()).into()));
+        }
         self.symbols.number(name, position, too_many("symbols", MAX_SYMBOLS), MAX_SYMBOLS)
     }
 
     fn word(&mut self, word: &str, position: Position) -> Result<u32, Error> {
+        if word.is_empty() {
+            return Err(Error::at(position, RuleFault::EmptyWord.into()));
+        }
         self.words.number(word, position, too_many("words", MAX_WORDS), MAX_WORDS)
     }
 
@@ -168,38 +190,85 @@ impl Parser {
         Ok(())
     }
 
-    /// One body with its weight; answers whether another follows.
+    /// One body with its weight and its translation; answers whether another follows.
     fn alternative(&mut self, head: u32, tokens: &mut Tokens) -> Result<bool, Error> {
-        let (items, mut end, place) = self.items(tokens)?;
-        let mut price = Price::default();
-        if end == Some(Token::Mark('[')) {
-            price = self.price(tokens)?;
+        let (body, mut end, place) = self.body(tokens, 0)?;
+        let (mut price, mut translation) = (None, None);
+        loop {
+            match end {
+                Some(Token::Mark('[')) if price.is_none() => price = Some(self.price(tokens)?),
+                Some(Token::Becomes) if translation.is_none() => {
+                    translation = Some(self.translation(tokens, body.len())?);
+                }
+                _ => break,
+            }
             end = tokens.next()?;
         }
         match end {
-            None | Some(Token::Mark('|')) => self.rule(head, items, price, place)?,
+            None | Some(Token::Mark('|')) => {
+                let Price { weight, is_helper } = price.unwrap_or_default();
+                self.rule(Alternative { head, weight, body, translation, place }, is_helper)?;
+            }
             other => return tokens.expected("`|` or the end of the line", other),
         }
         Ok(end.is_some())
     }
 
-    /// The items of a body, the token behind them, and where the body stands.
-    fn items<'a>(&mut self, tokens: &mut Tokens<'a>) -> Result<(Vec<Item>, Option<Token<'a>>, Position), Error> {
-        let (mut items, mut place) = (Vec::new(), None);
+    /// The parts of a body, the token behind them, and where the body stands.
+    fn body<'a>(
+        &mut self,
+        tokens: &mut Tokens<'a>,
+        depth: usize,
+    ) -> Result<(Vec<Element>, Option<Token<'a>>, Position), Error> {
+        let (mut body, mut first) = (Vec::new(), None);
         loop {
             let token = tokens.next()?;
-            let position = tokens.position();
-            let is_full = items.len() == MAX_ITEMS as usize;
-            items.push(match &token {
-                Some(Token::Bare(_) | Token::Quoted(_)) if is_full => {
-                    let (limit, refusal) = (MAX_ITEMS, Refusal::ItemCount);
-                    return Err(tokens.fault(Fault::TooMany { what: "items", within: "a body", limit, refusal }));
-                }
-                Some(Token::Bare(name)) => Item::Symbol(self.symbol(name, position)?),
-                Some(Token::Quoted(word)) => Item::Word(self.word(word, position)?),
-                _ => return Ok((items, token, place.unwrap_or(position))),
-            });
-            place.get_or_insert(position);
+            let place = tokens.position();
+            let is_part = matches!(token, Some(Token::Bare(_) | Token::Quoted(_) | Token::Mark('(')));
+            if is_part && body.len() == MAX_SLOTS as usize {
+                let (limit, refusal) = (MAX_SLOTS, Refusal::ItemCount);
+                return Err(tokens.fault(Fault::TooMany { what: "parts", within: "a body", limit, refusal }));
+            }
+            let atom = match &token {
+                Some(Token::Bare(name)) => Atom::Item(Item::Symbol(self.symbol(name, place)?)),
+                Some(Token::Quoted(word)) => Atom::Item(Item::Word(self.word(word, place)?)),
+                Some(Token::Mark('(')) => Atom::Group(self.group(tokens, depth + 1)?),
+                _ if body.is_empty() => return Err(tokens.fault(RuleFault::NoBody.into())),
+                _ => return Ok((body, token, first.unwrap_or(place))),
+            };
+            body.push(Element { atom, times: times(tokens)?, place });
+            first.get_or_insert(place);
+        }
+    }
+
+    /// The bodies of a group, behind its parenthesis.
+    fn group(&mut self, tokens: &mut Tokens, depth: usize) -> Result<Vec<Choice>, Error> {
+        if depth > MAX_DEPTH {
+            return Err(tokens.fault(RuleFault::Deep { limit: MAX_DEPTH }.into()));
+        }
+        let mut choices = Vec::new();
+        loop {
+            let (body, mut end, place) = self.body(tokens, depth)?;
+            let mut weight = 0;
+            if end == Some(Token::Mark('[')) {
+                weight = self.choice_weight(tokens)?;
+                end = tokens.next()?;
+            }
+            choices.push(Choice { body, weight, place });
+            match end {
+                Some(Token::Mark('|')) => {}
+                Some(Token::Mark(')')) => return Ok(choices),
+                other => return tokens.expected("`)`", other),
+            }
+        }
+    }
+
+    /// The weight of a body in a group, and the bracket behind it.
+    fn choice_weight(&mut self, tokens: &mut Tokens) -> Result<u32, Error> {
+        let Price { weight, is_helper } = self.price(tokens)?;
+        match is_helper {
+            true => tokens.expected("a weight", Some(Token::Bare(HELPER))),
+            false => Ok(weight),
         }
     }
 
@@ -225,17 +294,22 @@ impl Parser {
         }
     }
 
-    fn rule(&mut self, head: u32, items: Vec<Item>, price: Price, place: Position) -> Result<(), Error> {
-        let fault = |fault| Err(Error::at(place, fault));
-        let Price { weight, is_helper } = price;
-        let rule = OfficeRule { head, weight, items };
-        match rule.items[..] {
-            [] => return fault(Fault::Body { refusal: Refusal::ItemCount }),
-            [Item::Symbol(_)] => return fault(Fault::Body { refusal: Refusal::ItemAlone }),
-            _ => {}
+    /// What a rule of so many parts becomes.
+    fn translation(&mut self, tokens: &mut Tokens, parts: usize) -> Result<Template, Error> {
+        match tokens.next()? {
+            Some(Token::Quoted(text)) => Template::parse(&text, parts).map_err(|fault| tokens.fault(fault.into())),
+            other => tokens.expected("a quoted translation", other),
         }
-        if let Some(line) = self.lines.insert((head, rule.items.clone()), place.line) {
-            return fault(Fault::RepeatedRule { line });
+    }
+
+    fn rule(&mut self, rule: Alternative, is_helper: bool) -> Result<(), Error> {
+        let place = rule.place;
+        let fault = |fault| Err(Error::at(place, fault));
+        let plain = rule.plain();
+        if let Some(plain) = &plain {
+            if let Some(line) = self.lines.insert((plain.head, plain.items.clone()), place.line) {
+                return fault(Fault::RepeatedRule { line });
+            }
         }
         if self.rules.len() == MAX_RULES as usize {
             return fault(too_many("rules", MAX_RULES));
@@ -244,7 +318,7 @@ impl Parser {
         if is_helper {
             self.marked.get_or_insert(place.line);
         }
-        if rule.normal_body().is_none() {
+        if plain.and_then(|plain| plain.normal_body()).is_none() {
             self.longer.get_or_insert(place.line);
         }
         if self.marked.is_some() && self.longer.is_some() {
@@ -252,50 +326,26 @@ impl Parser {
         }
         self.rules.push(rule);
         self.marks.push(is_helper);
-        self.places.push(place);
         Ok(())
     }
+}
 
-    /// The grammar of a text of so many lines.
-    fn finish(self, lines: usize) -> Result<(NamedGrammar, Places), Error> {
-        let none =
-            |what| Error::at(Position { line: lines, column: 1 }, Fault::None { what, refusal: Refusal::GrammarRange });
-        if self.rules.is_empty() {
-            return Err(none("rule"));
+/// How often the part stands there behind which the tokens are.
+fn times(tokens: &mut Tokens) -> Result<Times, Error> {
+    let times = match tokens.touching(&[OPTIONAL, PLUS, STAR]) {
+        None => return Ok(Times::Once),
+        Some(PLUS) => Times::Plus,
+        Some(STAR) => Times::Star,
+        Some(_) => match tokens.touching_digits() {
+            None => Times::Optional { absence: 0 },
+            Some(digits) => Times::Optional { absence: weight(digits, "cost").map_err(|fault| tokens.fault(fault))? },
+        },
+    };
+    match tokens.is_apart(BEHIND_A_PART) {
+        true => Ok(times),
+        false => {
+            let found = tokens.next()?;
+            tokens.expected("a blank", found)
         }
-        if self.words.names.is_empty() {
-            return Err(none("word"));
-        }
-        let (symbols, words) = (self.symbols.names, self.words.names);
-        let office = Office { symbols: symbols.len() as u32, words: words.len() as u32, rules: self.rules };
-        let named = match normal_form(&office) {
-            Some(grammar) if self.marked.is_some() => {
-                NamedGrammar::marked(MarkedGrammar { grammar, marks: self.marks }, symbols, words)
-            }
-            Some(grammar) if !self.is_office => NamedGrammar::new(grammar, symbols, words),
-            _ => NamedGrammar::marked(converted(&office, &self.places)?, symbols, words),
-        };
-        Ok((named, Places { rules: self.places, symbols: self.symbols.places, words: self.words.places }))
     }
-}
-
-/// The grammar, if all its bodies are of normal form.
-fn normal_form(office: &Office) -> Option<Grammar> {
-    let Office { symbols, words, rules } = office;
-    let rule = |rule: &OfficeRule| Some(Rule { head: rule.head, weight: rule.weight, body: rule.normal_body()? });
-    Some(Grammar { symbols: *symbols, words: *words, rules: rules.iter().map(rule).collect::<Option<_>>()? })
-}
-
-/// What an office's rules become. If that is too large, the fault is at the first rule with which it is.
-fn converted(office: &Office, places: &[Position]) -> Result<MarkedGrammar, Error> {
-    office.to_grammar().map_err(|refusal| {
-        let is_too_large = |rules: &[OfficeRule]| {
-            let part = Office { rules: rules.to_vec(), ..*office };
-            part.to_block() == Err(Refusal::OfficeSize)
-        };
-        match (1..=office.rules.len()).find(|&count| is_too_large(&office.rules[..count])) {
-            Some(count) => Error::at(places[count - 1], Fault::OfficeSize),
-            None => refusal.into(),
-        }
-    })
 }

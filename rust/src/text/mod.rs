@@ -11,12 +11,28 @@
 //! Details -> Leaf "fire" Minutes
 //! ```
 //!
-//! A rule is a head, an arrow, a body of one quoted word or of two to six symbols and quoted words, and in brackets a weight,
+//! A rule is a head, an arrow, a body of symbols and quoted words, and in brackets a weight,
 //! which is 0 if it is left out. A bar stands between alternatives, each of which is a rule, and a line may begin with one. In
-//! a quoted word `\"` is a quote and `\\` a backslash. What follows a `#` is passed over, and so are empty lines.
+//! a quoted word `\"` is a quote and `\\` a backslash. What follows a `#` is passed over, and so are empty lines. Each symbol has a
+//! rule, unless a list of symbols has it (below).
+//!
+//! ```text
+//! Details -> Leaf ("fire" Minutes)?120 Side?   # may be left out; without fire and minutes it costs 120
+//! Leaf    -> ("oak" | "steel" [5]) "veneer"?   # one of several, each with its weight
+//! Number  -> Digit+ => "no. $1"                # one or more, Digit* for none too; and what a number becomes
+//! Digit   -> Units [3]                         # a symbol alone: its rules, with weights added
+//! Units   -> "four" => "4" | "five" => "5"
+//! ```
+//!
+//! What is written with `?`, `+`, `*`, groups and a symbol alone is written out as rules of an office. Each way to use the rules of
+//! the text is one of theirs, of equal weight, and answers have the rules, trees and weights of the text: there a node has what was
+//! left out or chosen in its weight. Two ways that become the same rule are a fault. What stands behind `=>` is what a rule
+//! becomes: `$1` is the first part of its body, which has at most 24, and `$$` a dollar sign. Without it a rule becomes what its
+//! parts become, with a blank between two.
 //!
 //! If all bodies are one word or two symbols, the grammar is in normal form and its block has no marks. Otherwise the rules are
-//! an [`Office`](crate::Office)'s: the library makes a grammar in normal form of them, and its helpers are in no answer. A line
+//! an [`Office`](crate::Office)'s: the library makes a grammar in normal form of them, and its helpers are in no answer. Ends of bodies
+//! that are equal have one helper, where something is written out and where the grammar would not fit otherwise. A line
 //! `office` says so of rules that are in normal form too. Behind the weight of a rule in normal form may stand `helper`, as in
 //! `[helper]` or `[3 helper]`: the rule is marked. With this every block of a grammar has a text.
 //!
@@ -86,7 +102,8 @@
 //!
 //! A weight and the rule number of each node, as the lister prints them behind the rank: `72 0 2 12 3 13 15 8 17 11 20 21`.
 //! That of a word graph has a bar behind them and the numbers of its edges: `80 0 2 12 5 8 17 11 20 21 | 0 3 7 9 12`. Under an
-//! office's rules the nodes of helpers are left out.
+//! office's rules the nodes of helpers are left out. Where a rule of the text is written out as several, a point and which of them
+//! it is follow its number: `80 0 2.3 5`.
 //!
 //! # Shares
 //!
@@ -110,24 +127,36 @@
 //! # Ok::<(), spireyerba::Error>(())
 //! ```
 
+mod expansion;
 mod fault;
+mod finish;
 mod grammar;
 mod graph;
 mod lattice;
 mod names;
+mod nearest;
 mod network;
+mod notation;
 mod plain;
 mod reading;
+mod room;
+mod rule_fault;
+mod rule_names;
 mod scan;
 mod score;
 mod shares;
+mod source;
+mod translation;
 mod utterance;
 
 pub use fault::Fault;
 pub use grammar::Places;
 pub use graph::is_graph;
 pub use names::NamedGrammar;
+pub use nearest::nearest;
 pub use reading::{parse_reading, parse_sheet, print_list, reading_text};
+pub use room::Room;
+pub use rule_fault::RuleFault;
 pub use utterance::UtteranceReader;
 
 /// The mark that some editors write before a text.

@@ -1,6 +1,7 @@
 //! Grammars with names.
 
 use super::scan::{is_bare, quoted, GRAMMAR};
+use super::source::Source;
 use crate::marked::unpacked;
 use crate::{Body, Grammar, Item, MarkedGrammar, Office, OfficeRule, PackedGrammar, Reading, Refusal, Tree};
 
@@ -28,12 +29,14 @@ pub(super) const HELPER: &str = "helper";
 pub struct NamedGrammar {
     /// The grammar in numbers, in normal form.
     pub grammar: Grammar,
-    /// The name of each symbol, which has no blank and none of `" # | [ ]`, but that a helper of an office's rules is called
-    /// what it stands for.
+    /// The name of each symbol, which has no blank and none of `" # | [ ] ( ) ? * + ;`, but that a helper of the text's rules is
+    /// called what it stands for.
     pub symbols: Vec<String>,
     /// Each word.
     pub words: Vec<String>,
     marks: Option<Marks>,
+    /// The rules as the text has them, where that says more than the grammar.
+    pub(super) source: Option<Box<Source>>,
 }
 
 /// The marks of a grammar's rules.
@@ -47,7 +50,7 @@ struct Marks {
 impl NamedGrammar {
     /// A grammar without marks.
     pub fn new(grammar: Grammar, symbols: Vec<String>, words: Vec<String>) -> Self {
-        Self { grammar, symbols, words, marks: None }
+        Self { grammar, symbols, words, marks: None, source: None }
     }
 
     /// A grammar with marks. If it is one that an office's rules become, names of helpers may be missing, and are not kept.
@@ -61,7 +64,13 @@ impl NamedGrammar {
             symbols.extend(names);
         }
         let MarkedGrammar { grammar, marks } = marked;
-        Self { grammar, symbols, words, marks: Some(Marks { of_rules: marks, office }) }
+        Self { grammar, symbols, words, marks: Some(Marks { of_rules: marks, office }), source: None }
+    }
+
+    /// The grammar of a text that says more than it.
+    pub(super) fn with_source(mut self, source: Source) -> Self {
+        self.source = Some(Box::new(source));
+        self
     }
 
     /// A grammar that has no names, with `S0`, `S1` and so on for its symbols and `w0`, `w1` and so on for its words.
@@ -109,22 +118,37 @@ impl NamedGrammar {
         self.marks.as_ref().and_then(|marks| marks.office.as_ref())
     }
 
-    /// How many symbols the grammar's text has: all, but for the helpers of an office's rules.
+    /// How many symbols the grammar's text has: all, but for the helpers of its rules.
     pub fn own_symbols(&self) -> u32 {
-        self.office().map_or(self.grammar.symbols, |office| office.symbols)
+        match &self.source {
+            Some(source) => source.symbols,
+            None => self.office().map_or(self.grammar.symbols, |office| office.symbols),
+        }
     }
 
-    /// How many rules the grammar's text has: all, but for those of the helpers of an office's rules.
+    /// How many rules the grammar's text has: each alternative is one, and those of helpers are none.
     pub fn own_rules(&self) -> u32 {
-        self.office().map_or(self.grammar.rules.len(), |office| office.rules.len()) as u32
+        match &self.source {
+            Some(source) => source.rules.len() as u32,
+            None => self.office().map_or(self.grammar.rules.len(), |office| office.rules.len()) as u32,
+        }
+    }
+
+    /// The symbol that a rule of the text derives from.
+    pub fn head(&self, rule: u32) -> u32 {
+        match &self.source {
+            Some(source) => source.rules[rule as usize].head,
+            None => self.grammar.rules[rule as usize].head,
+        }
     }
 
     /// The text, from which [`parse`](Self::parse) reads this grammar again. Lists of symbols and of words stand in it only
-    /// if they are not numbered as they are met.
+    /// if they are not numbered as they are met, or some have no rules.
     pub fn to_text(&self) -> String {
         let mut text = String::new();
         let [symbols, words] = self.as_met();
-        if !symbols.into_iter().eq(0..self.own_symbols()) {
+        let has_rule = |symbol| (0..self.own_rules()).any(|rule| self.head(rule) == symbol);
+        if !symbols.into_iter().eq(0..self.own_symbols()) || !(0..self.own_symbols()).all(has_rule) {
             text += &format!("{SYMBOLS} {}\n", self.symbols[..self.own_symbols() as usize].join(" "));
         }
         if !words.into_iter().eq(0..self.grammar.words) {
@@ -141,8 +165,12 @@ impl NamedGrammar {
         text
     }
 
-    /// One rule as it is written in a grammar's text.
+    /// One rule of the text as it is written there.
     pub fn rule_text(&self, rule: u32) -> String {
+        if let Some(source) = &self.source {
+            let rule = &source.rules[rule as usize];
+            return format!("{} -> {}", self.symbol(rule.head), rule.text);
+        }
         let OfficeRule { head, weight, items } = self.written(rule);
         let mut text = format!("{} ->", self.symbol(head));
         for item in items {
@@ -200,18 +228,22 @@ impl NamedGrammar {
         Reading { weight: reading.weight, walk, path: reading.path.clone() }
     }
 
-    /// The tree of a reading's rule numbers, without the nodes of marked rules below its root; nothing if they are not a walk
-    /// by this grammar's rules.
+    /// The tree of a reading's rule numbers as the text has the rules, without the nodes of helpers below its root; nothing if
+    /// they are not a walk by this grammar's rules.
     pub fn tree(&self, reading: &Reading) -> Option<Tree> {
         let tree = Tree::from_walk(&self.grammar, &reading.walk)?;
-        Some(match self.marks() {
-            Some(marks) => tree.without(marks),
-            None => tree,
-        })
+        match (&self.source, self.marks()) {
+            (Some(source), _) => source.tree(tree),
+            (None, Some(marks)) => Some(tree.without(marks)),
+            (None, None) => Some(tree),
+        }
     }
 
     /// The symbols and the words in the order in which the rules mention them.
     fn as_met(&self) -> [Vec<u32>; 2] {
+        if let Some(source) = &self.source {
+            return source.met.clone();
+        }
         let [mut symbols, mut words] = [Vec::new(), Vec::new()];
         let meet = |list: &mut Vec<u32>, number| {
             if !list.contains(&number) {
@@ -230,8 +262,13 @@ impl NamedGrammar {
 
     /// Whether a name can be a symbol's in a text.
     pub fn is_symbol_name(name: &str) -> bool {
-        is_bare(name, &GRAMMAR)
+        is_bare(name, &GRAMMAR) && !is_quoted_otherwise(name)
     }
+}
+
+/// Whether a name begins as a word does in quotes that are not those of texts.
+pub(super) fn is_quoted_otherwise(name: &str) -> bool {
+    name.starts_with(['\'', '`', '‘', '’', '‚', '‛', '“', '”', '„', '‟', '«', '»', '‹', '›', '＂'])
 }
 
 /// The names of symbols and words that have none.

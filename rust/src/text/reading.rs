@@ -19,14 +19,22 @@ const BAR: &str = "|";
 /// assert_eq!(print_list(&readings), "readings 2\n1 2 0 1 1\n2 4 1\n");
 /// ```
 pub fn print_list<'a>(readings: impl IntoIterator<Item = &'a Reading>) -> String {
-    let lines: Vec<String> = readings.into_iter().map(rules_text).collect();
+    ranked(readings.into_iter().map(rules_text).collect())
+}
+
+/// The number of lines, and each behind its rank.
+pub(super) fn ranked(lines: Vec<String>) -> String {
     let ranked = lines.iter().enumerate().map(|(before, line)| format!("{} {line}\n", before + 1));
     format!("readings {}\n{}", lines.len(), ranked.collect::<String>())
 }
 
 /// The text of a reading: its weight and the rule number of each node; of a word graph's also a bar and the numbers of its edges.
 pub fn reading_text(reading: &Reading) -> String {
-    let rules = rules_text(reading);
+    with_path(rules_text(reading), reading)
+}
+
+/// The text of a reading of which that of its weight and rules is given.
+pub(super) fn with_path(rules: String, reading: &Reading) -> String {
     match &reading.path {
         None => rules + "\n",
         Some(path) => format!("{rules} {BAR} {}\n", numbers_text(path)),
@@ -52,7 +60,12 @@ fn numbers_text(numbers: &[u32]) -> String {
 /// # Ok::<(), spireyerba::Error>(())
 /// ```
 pub fn parse_reading(text: &str) -> Result<Reading, Error> {
-    let mut lists = parse_lists(text, 2)?.into_iter();
+    reading_of(parse_lists(text, 2, |_, item| whole_number(item))?)
+}
+
+/// The reading of the numbers before a bar and behind it.
+pub(super) fn reading_of(lists: Vec<Vec<u32>>) -> Result<Reading, Error> {
+    let mut lists = lists.into_iter();
     let numbers = lists.next().unwrap_or_default();
     match numbers.split_first() {
         Some((&weight, walk)) => Ok(Reading { weight, walk: walk.to_vec(), path: lists.next() }),
@@ -65,18 +78,28 @@ pub fn parse_reading(text: &str) -> Result<Reading, Error> {
 
 /// Reads a sheet that is written as numbers.
 pub fn parse_sheet(text: &str) -> Result<Vec<u32>, Error> {
-    Ok(parse_lists(text, 1)?.remove(0))
+    Ok(parse_lists(text, 1, |_, item| whole_number(item))?.remove(0))
 }
 
-/// Reads lists of numbers with bars between them, at least one and at most so many.
-fn parse_lists(text: &str, most: usize) -> Result<Vec<Vec<u32>>, Error> {
+pub(super) fn whole_number(item: &str) -> Result<u32, Fault> {
+    digits(item).flatten().ok_or_else(|| Fault::Number(item.to_owned()))
+}
+
+/// Reads lists of numbers with bars between them, at least one and at most so many. What an item is depends on how many lists
+/// there are and how many numbers the last has.
+pub(super) fn parse_lists(
+    text: &str,
+    most: usize,
+    number: impl Fn([usize; 2], &str) -> Result<u32, Fault>,
+) -> Result<Vec<Vec<u32>>, Error> {
     let mut lists = vec![Vec::new()];
     for item in items(text) {
         if item.text == BAR && lists.len() < most {
             lists.push(Vec::new());
             continue;
         }
-        let number = digits(item.text).flatten().ok_or_else(|| item.fault(Fault::Number(item.text.to_owned())))?;
+        let place = [lists.len(), lists.last().map_or(0, Vec::len)];
+        let number = number(place, item.text).map_err(|fault| item.fault(fault))?;
         lists.last_mut().expect("one list at least").push(number);
     }
     Ok(lists)

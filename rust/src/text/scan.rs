@@ -9,6 +9,8 @@ const COMMENT: char = '#';
 const QUOTE: char = '"';
 const ESCAPE: char = '\\';
 const ARROW: &str = "->";
+/// What stands before what a rule becomes.
+const BECOMES: &str = "=>";
 
 /// What tokens a text has.
 pub(super) struct Syntax {
@@ -18,14 +20,16 @@ pub(super) struct Syntax {
     ends_bare: [bool; 128],
     /// Whether a byte is a character within such a token, and not one that an arrow begins with.
     is_plain: [bool; 256],
+    /// The arrows.
+    arrows: &'static [&'static str],
 }
 
-pub(super) static GRAMMAR: Syntax = Syntax::new(b"|[]");
-pub(super) static UTTERANCE: Syntax = Syntax::new(b"|;");
+pub(super) static GRAMMAR: Syntax = Syntax::new(b"|[]()?*+;", &[ARROW, BECOMES]);
+pub(super) static UTTERANCE: Syntax = Syntax::new(b"|;", &[ARROW]);
 
 impl Syntax {
-    const fn new(marks: &[u8]) -> Self {
-        let mut syntax = Self { is_mark: [false; 128], ends_bare: [false; 128], is_plain: [false; 256] };
+    const fn new(marks: &[u8], arrows: &'static [&'static str]) -> Self {
+        let mut syntax = Self { is_mark: [false; 128], ends_bare: [false; 128], is_plain: [false; 256], arrows };
         let mut number = 0;
         while number < marks.len() {
             syntax.is_mark[marks[number] as usize] = true;
@@ -36,10 +40,20 @@ impl Syntax {
             let letter = byte as u8 as char;
             syntax.ends_bare[byte] =
                 syntax.is_mark[byte] || letter.is_whitespace() || letter == QUOTE || letter == COMMENT;
-            syntax.is_plain[byte] = !syntax.ends_bare[byte] && letter != '-';
+            syntax.is_plain[byte] = !syntax.ends_bare[byte];
             byte += 1;
         }
+        let mut number = 0;
+        while number < arrows.len() {
+            syntax.is_plain[arrows[number].as_bytes()[0] as usize] = false;
+            number += 1;
+        }
         syntax
+    }
+
+    /// The arrow that a text begins with.
+    fn arrow(&self, text: &str) -> Option<&'static str> {
+        self.arrows.iter().copied().find(|arrow| text.starts_with(arrow))
     }
 
     fn ends_bare(&self, letter: char) -> bool {
@@ -53,6 +67,7 @@ pub(super) enum Token<'a> {
     Quoted(Cow<'a, str>),
     Mark(char),
     Arrow,
+    Becomes,
 }
 
 impl Token<'_> {
@@ -63,6 +78,7 @@ impl Token<'_> {
             Self::Quoted(word) => quoted(word),
             Self::Mark(mark) => mark.to_string(),
             Self::Arrow => ARROW.to_owned(),
+            Self::Becomes => BECOMES.to_owned(),
         }
     }
 }
@@ -120,12 +136,45 @@ impl<'a> Tokens<'a> {
                 self.at += mark.len_utf8();
                 Ok(Some(Token::Mark(mark)))
             }
-            Some('-') if rest.starts_with(ARROW) => {
-                self.at += ARROW.len();
-                Ok(Some(Token::Arrow))
-            }
+            Some('-' | '=') => Ok(Some(match self.syntax.arrow(rest) {
+                None => self.bare(rest),
+                Some(arrow) => {
+                    self.at += arrow.len();
+                    if arrow == ARROW {
+                        Token::Arrow
+                    } else {
+                        Token::Becomes
+                    }
+                }
+            })),
             Some(_) => Ok(Some(self.bare(rest))),
         }
+    }
+
+    /// Takes one of these marks, if it stands right behind the last token, with no blank between them.
+    pub(super) fn touching(&mut self, marks: &[char]) -> Option<char> {
+        let mark = self.line[self.at..].chars().next().filter(|mark| marks.contains(mark))?;
+        self.last = self.at;
+        self.at += mark.len_utf8();
+        Some(mark)
+    }
+
+    /// Takes the digits that stand right behind the last token.
+    pub(super) fn touching_digits(&mut self) -> Option<&'a str> {
+        let rest = &self.line[self.at..];
+        let digits = &rest[..prefix(rest, |letter| letter.is_ascii_digit())];
+        if digits.is_empty() {
+            return None;
+        }
+        self.last = self.at;
+        self.at += digits.len();
+        Some(digits)
+    }
+
+    /// Whether a blank, the end of the line or one of these stands behind the last token.
+    pub(super) fn is_apart(&self, marks: &[char]) -> bool {
+        let next = self.line[self.at..].chars().next();
+        next.is_none_or(|next| next.is_whitespace() || next == COMMENT || marks.contains(&next))
     }
 
     fn pass_blanks(&mut self) {
@@ -141,7 +190,7 @@ impl<'a> Tokens<'a> {
     fn bare(&mut self, rest: &'a str) -> Token<'a> {
         let plain = rest.bytes().position(|byte| !self.syntax.is_plain[usize::from(byte)]).unwrap_or(rest.len());
         let end = match rest.as_bytes().get(plain) {
-            Some(b'-' | 128..) => self.bare_end(rest),
+            Some(b'-' | b'=' | 128..) => self.bare_end(rest),
             _ => plain,
         };
         self.at += end;
@@ -151,7 +200,7 @@ impl<'a> Tokens<'a> {
     /// The bytes of a token that has characters of several bytes in it, or what may be an arrow.
     fn bare_end(&self, rest: &str) -> usize {
         let end = prefix(rest, |letter| !self.syntax.ends_bare(letter));
-        rest.as_bytes()[..end].windows(ARROW.len()).position(|pair| pair == ARROW.as_bytes()).unwrap_or(end)
+        self.syntax.arrows.iter().filter_map(|arrow| rest[..end].find(arrow)).min().unwrap_or(end)
     }
 
     fn quoted(&mut self) -> Result<Token<'a>, Error> {
@@ -212,7 +261,8 @@ pub(super) fn quoted(word: &str) -> String {
 
 /// Whether a word is one token where it stands without quotes.
 pub(super) fn is_bare(word: &str, syntax: &Syntax) -> bool {
-    !word.is_empty() && !word.contains(|letter| syntax.ends_bare(letter)) && !word.contains(ARROW)
+    let has_arrow = syntax.arrows.iter().any(|arrow| word.contains(arrow));
+    !word.is_empty() && !word.contains(|letter| syntax.ends_bare(letter)) && !has_arrow
 }
 
 /// The whole number that some digits write, if 32 bits hold it.

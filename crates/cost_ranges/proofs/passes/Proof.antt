@@ -1,7 +1,8 @@
 -- Each call's promise is a part of the model.
 use borrow.Author.Needs.{needs}
 use lib.ListN.{length}
-use Rattle.cost_ranges.proofs.Told.{trace-fits, none-told, some-told}
+use Rattle.one_best.proofs.Trace.{trace-fits}
+use Rattle.cost_ranges.proofs.Told.{none-told, some-told}
 use Rattle.cost_ranges.proofs.passes.Statement.{statement}
 use Rattle.cost_ranges.proofs.passes.Tie as tie
 

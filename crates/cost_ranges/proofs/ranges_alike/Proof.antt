@@ -3,8 +3,8 @@ use Prim.Native.Nat.{_≤_, _<_}
 use native.Mathlib.Omega.{arith}
 use borrow.Author.Needs.{needs}
 use lib.ListN.{length}
-use Rattle.listing.specs.Conditions.{tableSize}
-use Rattle.listing.proofs.Sizes.{table-is, layout-is}
+use Rattle.chart.specs.WorkTable.{tableSize}
+use Rattle.chart.proofs.WorkTable.{table-is, layout-is}
 use Rattle.cost_ranges.proofs.Outcome.{alike-short, alike-passed}
 use Rattle.cost_ranges.proofs.ranges_alike.Statement.{statement}
 use Rattle.cost_ranges.proofs.ranges_alike.Tie as tie

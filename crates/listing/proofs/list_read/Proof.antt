@@ -3,8 +3,10 @@ use mathlib.Core.Path.{_≡_, refl, sym, _∙_}
 use native.Mathlib.Omega.{arith}
 use borrow.Author.Needs.{needs}
 use lib.ListN.{length}
-use Rattle.listing.specs.Model.{shortage, FormFor}
-use Rattle.listing.proofs.Sizes.{all-met, layout-is}
+use Rattle.traced_readings.specs.Model.{FormFor}
+use Rattle.listing.specs.Model.{shortage}
+use Rattle.chart.proofs.WorkTable.{layout-is}
+use Rattle.listing.proofs.Sizes.{all-met}
 use Rattle.listing.proofs.Outcome.{read-refused, read-found}
 use Rattle.listing.proofs.list_read.Statement.{statement}
 use Rattle.listing.proofs.list_read.Tie as tie

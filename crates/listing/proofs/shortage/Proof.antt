@@ -6,9 +6,10 @@ use borrow.Author.Needs.{needs}
 use borrow.Author.Tests.{lt-ltb, le-ltb}
 use lib.Dec.{ltb}
 use Rattle.bits.specs.Bits.{pick}
-use Rattle.listing.specs.Conditions.{tableSize}
+use Rattle.chart.specs.WorkTable.{tableSize}
 use Rattle.listing.specs.Model.{shortage}
-use Rattle.listing.proofs.Sizes.{table-is, output-small}
+use Rattle.chart.proofs.WorkTable.{table-is}
+use Rattle.listing.proofs.Sizes.{output-small}
 use Rattle.listing.proofs.shortage.Statement.{statement}
 use Rattle.listing.proofs.shortage.Tie as tie
 

@@ -4,10 +4,11 @@ use mathlib.Core.Path.{_≡_, refl, sym, subst, _∙_}
 use Prim.Native.Nat.{_+_, _-_, _*_, _≤_, _<_}
 use native.Mathlib.Omega.{arith}
 use borrow.Author.Needs.{needs}
+use lib.Dec.{eqb}
 use lib.ListN.{length, take, replicate, length-set}
 use Rattle.packing.specs.Read.{sourceOf}
-use Rattle.rules_reader.specs.Rules.{MarkedNear, Sound, Filtered}
-use Rattle.rules_reader.proofs.Filter.{filtered-none, filtered-more}
+use Rattle.rules_reader.specs.Rules.{MarkedNear, Sound, filterPlace, Filtered}
+use Rattle.rules_reader.proofs.Filter.{filters-none, filtered-more}
 use Rattle.rules_reader.proofs.Turns.{Passed, none-passed, all-passed, rule-refused, rule-repeated, rule-passed}
 use Rattle.rules_reader.proofs.read_rules.Statement.{statement}
 use Rattle.rules_reader.proofs.read_rules.Tie as tie
@@ -25,7 +26,7 @@ cast-end : tie.Need-cast-end Inv-loop μ-loop
 cast-end c = omega (arith, c .before .before .before .before .pre .2)
 
 loop-holds : tie.Need-loop-holds Inv-loop μ-loop
-loop-holds c = (omega arith, omega arith, refl, refl, refl, none-passed _ _ _ _ _ _ _ _ _, refl, filtered-none (replicate 1021 0))
+loop-holds c = (omega arith, omega arith, refl, refl, refl, none-passed _ _ _ _ _ _ _ _ _, refl, filters-none eqb filterPlace (replicate 1021 0))
 
 read-marked-requires : tie.Need-read-marked-requires Inv-loop μ-loop
 read-marked-requires c κs =

@@ -1,7 +1,7 @@
 -- `rules_reader::repeated` meets its contract: a key that the filter does not have is none of those read. Assumes nothing.
 use lib.ListN.{take}
 use borrow.Author.Needs.{needs}
-use Rattle.rules_reader.proofs.Filter.{filtered-miss}
+use Rattle.rules_reader.proofs.Filter.{filters-miss}
 use Rattle.rules_reader.proofs.repeated.Statement.{statement}
 use Rattle.rules_reader.proofs.repeated.Tie as tie
 
@@ -15,7 +15,7 @@ returns : tie.Need-returns
 returns c =
     let at-args = c .before .before .before .before .before in
     let a = at-args .args in
-    filtered-miss (a .key) (take (a .n) (a .keys .now)) (a .filter .now) (at-args .pre .2) (rw (c .before .before .filter-place .ensures .0) at (c .if1 .taken))
+    filters-miss _ _ (a .key) (take (a .n) (a .keys .now)) (a .filter .now) (at-args .pre .2) (rw (c .before .before .filter-place .ensures .0) at (c .if1 .taken))
 
 seen-requires : tie.Need-seen-requires
 seen-requires c κs = search needs

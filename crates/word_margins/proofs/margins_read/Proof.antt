@@ -2,8 +2,8 @@
 use Prim.Native.Nat.{_≤_, _<_}
 use native.Mathlib.Omega.{arith}
 use lib.ListN.{length}
-use Rattle.listing.specs.Conditions.{tableSize}
-use Rattle.listing.proofs.Sizes.{table-is, layout-is}
+use Rattle.chart.specs.WorkTable.{tableSize}
+use Rattle.chart.proofs.WorkTable.{table-is, layout-is}
 use Rattle.word_margins.proofs.Outcome.{edges-short, edges-narrow, edges-listed}
 use borrow.Author.Needs.{needs}
 use Rattle.word_margins.proofs.margins_read.Statement.{statement}

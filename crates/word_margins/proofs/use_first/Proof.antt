@@ -1,6 +1,6 @@
 -- A trace stands whole in front of its array.
 use mathlib.Core.Path.{_∙_}
-use Rattle.cost_ranges.proofs.Told.{trace-front, trace-fits}
+use Rattle.one_best.proofs.Trace.{trace-front, trace-fits}
 use borrow.Author.Needs.{needs}
 use Rattle.word_margins.proofs.use_first.Statement.{statement}
 use Rattle.word_margins.proofs.use_first.Tie as tie

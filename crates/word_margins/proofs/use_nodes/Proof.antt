@@ -4,7 +4,7 @@ use native.Mathlib.Omega.{arith}
 use Prim.Native.Nat.{_-_, _*_, _≤_}
 use lib.ListN.{length, take}
 use Rattle.packing.specs.Flat.{nodesIn}
-use Rattle.cost_ranges.proofs.Raise.{rest}
+use Rattle.one_best.proofs.Trace.{rest}
 use Rattle.word_margins.specs.Model.{useNodes}
 use Rattle.word_margins.proofs.Carried.{all-used, next-used, none-used}
 use borrow.Author.Needs.{needs}

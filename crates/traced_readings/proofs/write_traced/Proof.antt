@@ -4,9 +4,9 @@ use Prim.Native.Nat.{ℕ, _+_, _/_}
 use native.Mathlib.Omega.{arith}
 use borrow.Author.Needs.{needs}
 use Rattle.packing.specs.Reading.{readingLength}
-use Rattle.listing.proofs.Written.{trace-size, given, graph-written, slots-written}
-use Rattle.listing.proofs.write_traced.Statement.{statement}
-use Rattle.listing.proofs.write_traced.Tie as tie
+use Rattle.traced_readings.proofs.Written.{trace-size, given, graph-written, slots-written}
+use Rattle.traced_readings.proofs.write_traced.Statement.{statement}
+use Rattle.traced_readings.proofs.write_traced.Tie as tie
 
 root-weight-requires : tie.Need-root-weight-requires
 root-weight-requires c κs = search needs

@@ -2,9 +2,9 @@
 use mathlib.Core.Path.{refl}
 use mathlib.Core.Bool.{true, false}
 use borrow.Author.Needs.{needs}
-use Rattle.listing.proofs.Sizes.{size-small}
-use Rattle.listing.proofs.form_of.Statement.{statement}
-use Rattle.listing.proofs.form_of.Tie as tie
+use Rattle.traced_readings.proofs.Sizes.{size-small}
+use Rattle.traced_readings.proofs.form_of.Statement.{statement}
+use Rattle.traced_readings.proofs.form_of.Tie as tie
 
 graph-reading-length-requires : tie.Need-graph-reading-length-requires
 graph-reading-length-requires c κs = search needs
