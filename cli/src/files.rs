@@ -12,6 +12,7 @@ use spireyerba::services::check;
 use spireyerba::text::{binary_kind, Format, Lattice, NamedGrammar, Places, Recognised, UtteranceReader};
 use spireyerba::{Error, Heard, PackedGrammar, Reading, Refusal};
 use std::io::Read;
+use std::os::fd::AsFd;
 
 /// The operand that means standard input, and its name in messages.
 const STANDARD_INPUT: &str = "-";
@@ -45,6 +46,16 @@ pub fn open(operand: &str) -> Result<Box<dyn Read + Send>, Failure> {
         Ok(file) => Ok(Box::new(file)),
         Err(error) => Err(Failure::file(operand, &error)),
     }
+}
+
+/// Whether this is a file whose bytes are all there, and not a pipe or a terminal.
+pub fn is_still(operand: &str) -> bool {
+    let metadata = if operand == STANDARD_INPUT {
+        std::io::stdin().as_fd().try_clone_to_owned().and_then(|stdin| std::fs::File::from(stdin).metadata())
+    } else {
+        std::fs::metadata(operand)
+    };
+    metadata.is_ok_and(|metadata| metadata.is_file())
 }
 
 impl File {

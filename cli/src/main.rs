@@ -62,6 +62,11 @@ fn installed(kind: &str, name: Option<&String>, output: &mut Output) -> Result<(
     }
 }
 
+/// The version of the command, and that of the library that it is linked with.
+fn version() -> String {
+    format!("spireyerba {} (library {})", env!("CARGO_PKG_VERSION"), spireyerba::LIBRARY_VERSION)
+}
+
 /// Runs what the words of the command line ask for.
 fn run(words: &[String], output: &mut Output) -> Result<(), Failure> {
     match words.first().map(String::as_str) {
@@ -72,7 +77,7 @@ fn run(words: &[String], output: &mut Output) -> Result<(), Failure> {
             Some(name) => output.line(&help::of_command(commands::find(name)?)),
             None => output.line(&help::of_program()),
         },
-        Some("-V" | "--version") => output.line(concat!("spireyerba ", env!("CARGO_PKG_VERSION"))),
+        Some("-V" | "--version") => output.line(&version()),
         Some(name) => {
             let command = commands::find(name)?;
             if options::asks_for_help(&words[1..]) {

@@ -105,6 +105,18 @@ pub const JOBS: Opt = Opt {
     value: Some("N"),
     help: "use so many threads; one for each core unless given",
 };
+pub const LINE: Opt = Opt {
+    long: "line",
+    short: None,
+    value: None,
+    help: "answer each line before the next is waited for, as always where FILE is a pipe or a terminal",
+};
+pub const RESUME: Opt = Opt {
+    long: "resume",
+    short: None,
+    value: Some("FILE"),
+    help: "write to this file, behind the answers that an interrupted run left in it",
+};
 
 /// What every command has beside its own.
 pub const HELP: Opt = Opt { long: "help", short: Some('h'), value: None, help: "print this" };

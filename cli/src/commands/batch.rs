@@ -1,44 +1,50 @@
 //! `batch`: many utterances, a line each, on all cores.
 
+mod line;
+mod messages;
+mod resume;
+mod sink;
+mod source;
+
 use super::Command;
 use crate::failure::Failure;
 use crate::files;
 use crate::json;
 use crate::no_reading::NoReading;
-use crate::options::{Arguments, DISTINCT, DROP_UNKNOWN, JOBS, WANTED};
+use crate::options::{Arguments, DISTINCT, DROP_UNKNOWN, JOBS, LINE, RESUME, WANTED};
 use crate::output::Output;
+use line::Line;
+use sink::{Answers, Sink};
+use source::{Piece, Source};
 use spireyerba::limits::MAX_READINGS;
 use spireyerba::text::{is_graph, NamedGrammar, UtteranceReader};
 use spireyerba::{Distinct, Error, Found, Graph, Heard, Lister, Reading, Refusal};
 use std::borrow::Cow;
-use std::collections::BTreeMap;
-use std::io::{stderr, ErrorKind, IsTerminal, Read};
-use std::sync::{Condvar, Mutex};
-use std::time::{Duration, Instant};
+use std::sync::Mutex;
 
 pub const COMMAND: Command = Command {
     name: "batch",
     operands: &["GRAMMAR", "FILE"],
     needed: 2,
-    options: &[WANTED, DISTINCT, JOBS, DROP_UNKNOWN],
+    options: &[WANTED, DISTINCT, JOBS, LINE, RESUME, DROP_UNKNOWN],
     summary: "list the readings of many utterances or word graphs, one a line, on all cores",
     details: "\
 A line of the file has an utterance, with semicolons between its slots: `door 4 | four 61 ; twenty 12`, or a word graph,
 with semicolons between its edges: `0 1 door 4 ; 1 3 twenty 12 ; 3`. Empty lines and comments are passed over. The
 answers are lines of JSON in the same order, with the number of the line; what is refused has \"error\" in place of
-\"readings\", and a message on standard error. With --distinct \"others\" counts the readings with the same words among the
-first 256, and \"used_up\" says that these do not have N sentences, though there may be more. Where there is no reading,
-\"prefix\" has the words that begin a sentence, the place or slot where they end, and what could follow there.",
-    example: "spireyerba batch grammar.txt utterances.txt -n 1 > readings.jsonl",
+\"readings\", and a message on standard error, of which those that say the same are counted after the tenth. With
+--distinct \"others\" counts the readings with the same words among the first 256, and \"used_up\" says that these do not
+have N sentences, though there may be more. Where there is no reading, \"prefix\" has the words that begin a sentence, the
+place or slot where they end, and what could follow there.
+A name without blanks and a tab may stand before what was heard: the name comes back as \"id\". Where a number alone
+follows the tab, such as a cost, it is a blank like any other.
+With --resume a run that was interrupted goes on: no line is answered twice, and none is left out.",
+    example: "spireyerba batch grammar.txt utterances.txt -n 1 --resume readings.jsonl",
     run,
 };
 
-/// A thread takes at most so many bytes at a time, or one line that is longer.
-const BYTES_AT_A_TIME: usize = 1 << 15;
 /// Pieces that a thread may be ahead of what is written.
 const AHEAD: usize = 4;
-/// The progress line is drawn anew at most so often.
-const PROGRESS_EVERY: Duration = Duration::from_millis(100);
 
 fn run(arguments: &Arguments, output: &mut Output) -> Result<(), Failure> {
     let cores = std::thread::available_parallelism().map_or(1, usize::from);
@@ -53,8 +59,12 @@ fn run(arguments: &Arguments, output: &mut Output) -> Result<(), Failure> {
         lister: Lister::of(grammar.packed.clone()),
         names: json::Names::new(&grammar.named),
     };
-    let source = Mutex::new(Source::new(files::open(arguments.operands[1])?));
-    let sink = Sink::new(output, AHEAD * jobs);
+    let operand = arguments.operands[1];
+    let mut source = Source::new(files::open(operand)?);
+    let mut resumed = arguments.value(&RESUME).map(|out| resume(out, &mut source, batch.name)).transpose()?;
+    let by_line = arguments.has(&LINE) || !files::is_still(operand);
+    let sink = Sink::new(resumed.as_mut().unwrap_or(output), by_line, AHEAD * jobs);
+    let source = Mutex::new(source);
     std::thread::scope(|scope| {
         // this thread is one of them
         for _ in 1..jobs {
@@ -62,70 +72,21 @@ fn run(arguments: &Arguments, output: &mut Output) -> Result<(), Failure> {
         }
         batch.work(&source, &sink);
     });
-    sink.finish()
+    sink.finish(batch.name)?;
+    resumed.map_or(Ok(()), |mut output| output.flush())
 }
 
-/// Where the lines come from.
-struct Source {
-    file: Box<dyn Read + Send>,
-    /// The front of a line whose end was not read yet.
-    rest: Vec<u8>,
-    /// The pieces and the lines that were taken.
-    pieces: usize,
-    taken: usize,
-}
-
-/// Some lines of the file.
-struct Piece {
-    /// How many lines stand before them.
-    before: usize,
-    text: Vec<u8>,
-}
-
-impl Source {
-    fn new(file: Box<dyn Read + Send>) -> Self {
-        Self { file, rest: Vec::new(), pieces: 0, taken: 0 }
+/// The file of answers behind which to go on; what it answers of the input is passed over.
+fn resume(out: &str, source: &mut Source, name: &str) -> Result<Output, Failure> {
+    let (file, lines) = resume::open(out)?;
+    if let Err(found) = source.pass_over(lines).map_err(|error| Failure::file(name, &error))? {
+        let other = format!("{out}: answers line {lines} of another input: {name} has {found} lines");
+        return Err(Failure::Refused(other));
     }
-
-    /// The next lines, as many as can be read at once, and at least one; nothing if there are none.
-    fn next(&mut self) -> std::io::Result<Option<Piece>> {
-        let mut text = std::mem::take(&mut self.rest);
-        loop {
-            let known = text.len();
-            text.resize(known + BYTES_AT_A_TIME, 0);
-            let read = read_some(&mut self.file, &mut text[known..])?;
-            text.truncate(known + read);
-            let end = text[known..].iter().rposition(|byte| *byte == b'\n').map(|at| known + at + 1);
-            match end {
-                Some(end) => self.rest = text.split_off(end),
-                None if read > 0 => continue,
-                None => {}
-            }
-            break;
-        }
-        let piece = Piece { before: self.taken, text };
-        self.pieces += 1;
-        self.taken += piece.text.iter().filter(|byte| **byte == b'\n').count();
-        Ok((!piece.text.is_empty()).then_some(piece))
+    if lines > 0 {
+        eprintln!("{out}: goes on behind line {lines}");
     }
-}
-
-/// Reads what there is, and tries again if it was interrupted.
-fn read_some(file: &mut impl Read, into: &mut [u8]) -> std::io::Result<usize> {
-    loop {
-        match file.read(into) {
-            Err(error) if error.kind() == ErrorKind::Interrupted => {}
-            read => return read,
-        }
-    }
-}
-
-/// What became of some lines.
-struct Answers {
-    json: Vec<u8>,
-    /// The messages about lines that were refused.
-    messages: Vec<String>,
-    utterances: usize,
+    Ok(Output::file(out, file))
 }
 
 struct Batch<'a> {
@@ -180,7 +141,7 @@ impl<'a> Worker<'a> {
 
     /// The answers of some lines, in memory of others.
     fn answers(&mut self, piece: &Piece, memory: Vec<u8>) -> Answers {
-        let mut answers = Answers { json: memory, messages: Vec::new(), utterances: 0 };
+        let mut answers = Answers { json: memory, refused: Vec::new(), utterances: 0 };
         // that a text is all right is found faster than where it is not
         let text =
             std::str::from_utf8(&piece.text).map_or_else(|_| String::from_utf8_lossy(&piece.text), Cow::Borrowed);
@@ -190,25 +151,26 @@ impl<'a> Worker<'a> {
                 continue;
             }
             answers.utterances += 1;
-            if let Err(error) = self.answer(line, piece.before + number, &mut answers.json) {
-                refuse(&mut answers, &error, piece.before + number + 1);
+            let line = Line::new(line, piece.before + number);
+            if let Err(error) = self.answer(&line, &mut answers.json) {
+                refuse(&mut answers, error, &line);
             }
         }
         answers
     }
 
-    /// Adds the answer of a line with so many before it, or nothing if it is refused.
-    fn answer(&mut self, line: &str, before: usize, json: &mut Vec<u8>) -> Result<(), Error> {
+    /// Adds the answer of a line, or nothing if it is refused.
+    fn answer(&mut self, line: &Line, json: &mut Vec<u8>) -> Result<(), Error> {
         let Batch { name, names, named, wanted, .. } = self.batch;
-        let in_file = |error: Error| error.in_file(name).after_lines(before);
+        let in_file = |error: Error| error.in_file(name).after_columns(line.columns()).after_lines(line.before);
         let asked = self.sentences.as_ref().filter(|_| *wanted <= MAX_READINGS).map_or(*wanted, |_| MAX_READINGS);
-        let graph = self.read(line).map_err(in_file)?;
+        let graph = self.read(line.heard).map_err(in_file)?;
         let found = match &graph {
             Some(graph) => self.lister.find(graph, asked),
             None => self.lister.find_in_block(&self.block, asked),
         };
         let found = found.map_err(|refusal| in_file(refusal.into()))?;
-        begin_line(json, before + 1);
+        line.begin(json);
         json.extend_from_slice(b",\"readings\":[");
         let mut used_up = false;
         if let Some(sentences) = &mut self.sentences {
@@ -276,127 +238,11 @@ fn begin_reading(json: &mut Vec<u8>, names: &json::Names, before: usize, reading
     }
 }
 
-/// Begins the answer of a line.
-fn begin_line(json: &mut Vec<u8>, line: usize) {
-    json.extend_from_slice(b"{\"line\":");
-    json::push_number(json, line as u32);
-}
-
 /// Adds the answer of a line that is refused.
-fn refuse(answers: &mut Answers, error: &Error, line: usize) {
-    let message = error.to_string();
-    begin_line(&mut answers.json, line);
+fn refuse(answers: &mut Answers, error: Error, line: &Line) {
+    line.begin(&mut answers.json);
     json::push_key(&mut answers.json, "error");
-    json::push_string(&mut answers.json, &message);
+    json::push_string(&mut answers.json, &error.to_string());
     answers.json.extend_from_slice(b"}\n");
-    answers.messages.push(message);
-}
-
-/// Where answers go, in the order of the lines. Whose turn it is writes its own, which are still near its core.
-struct Sink<'a> {
-    writer: Mutex<Writer<'a>>,
-    /// The pieces that may wait to be written.
-    most: usize,
-    written: Condvar,
-}
-
-struct Writer<'a> {
-    output: &'a mut Output,
-    progress: Progress,
-    /// Answers before which others are missing.
-    early: BTreeMap<usize, Result<Answers, Failure>>,
-    refused: usize,
-    /// Why nothing more is written.
-    failure: Option<Failure>,
-}
-
-impl<'a> Sink<'a> {
-    fn new(output: &'a mut Output, most: usize) -> Self {
-        let progress = Progress::begin(output);
-        let writer = Writer { output, progress, early: BTreeMap::new(), refused: 0, failure: None };
-        Self { writer: Mutex::new(writer), most, written: Condvar::new() }
-    }
-
-    /// Takes the answers of a piece, and writes all that are next. Gives memory for others, or nothing if none are wanted.
-    fn put(&self, number: usize, answers: Result<Answers, Failure>) -> Option<Vec<u8>> {
-        let is_far_ahead =
-            |writer: &mut Writer| writer.failure.is_none() && number >= writer.progress.pieces + self.most;
-        let mut writer = self.written.wait_while(self.writer.lock().ok()?, is_far_ahead).ok()?;
-        writer.early.insert(number, answers);
-        let memory = writer.write_next();
-        self.written.notify_all();
-        writer.failure.is_none().then_some(memory)
-    }
-
-    fn finish(self) -> Result<(), Failure> {
-        let Ok(writer) = self.writer.into_inner() else { unreachable!("no thread ends while it writes") };
-        writer.progress.clear();
-        match (writer.failure, writer.refused) {
-            (Some(failure), _) => Err(failure),
-            (None, 0) => Ok(()),
-            (None, refused) => {
-                Err(Failure::Refused(format!("{refused} of {} utterances refused", writer.progress.utterances)))
-            }
-        }
-    }
-}
-
-impl Writer<'_> {
-    /// Writes the answers that are next, if they are there; gives the memory of the first.
-    fn write_next(&mut self) -> Vec<u8> {
-        let mut memory = Vec::new();
-        while self.failure.is_none() {
-            let Some(answers) = self.early.remove(&self.progress.pieces) else { break };
-            match answers.and_then(|answers| self.write(answers)) {
-                Ok(json) if memory.capacity() == 0 => memory = json,
-                Ok(_) => {}
-                Err(failure) => self.failure = Some(failure),
-            }
-        }
-        memory.clear();
-        memory
-    }
-
-    fn write(&mut self, answers: Answers) -> Result<Vec<u8>, Failure> {
-        self.output.bytes(&answers.json)?;
-        if !answers.messages.is_empty() {
-            self.progress.clear();
-            answers.messages.iter().for_each(|message| eprintln!("{message}"));
-            self.refused += answers.messages.len();
-        }
-        self.progress.advance(answers.utterances);
-        Ok(answers.json)
-    }
-}
-
-/// A line that says how far the work is, if it would not stand among the answers.
-struct Progress {
-    shown: bool,
-    begin: Instant,
-    drawn: Option<Instant>,
-    pieces: usize,
-    utterances: usize,
-}
-
-impl Progress {
-    fn begin(output: &Output) -> Self {
-        let shown = stderr().is_terminal() && !output.is_terminal();
-        Self { shown, begin: Instant::now(), drawn: None, pieces: 0, utterances: 0 }
-    }
-
-    fn advance(&mut self, utterances: usize) {
-        self.pieces += 1;
-        self.utterances += utterances;
-        if self.shown && self.drawn.unwrap_or(self.begin).elapsed() >= PROGRESS_EVERY {
-            let speed = self.utterances as f64 / self.begin.elapsed().as_secs_f64();
-            eprint!("\r{} utterances, {speed:.0} a second\x1b[K", self.utterances);
-            self.drawn = Some(Instant::now());
-        }
-    }
-
-    fn clear(&self) {
-        if self.drawn.is_some() {
-            eprint!("\r\x1b[K");
-        }
-    }
+    answers.refused.push(error);
 }

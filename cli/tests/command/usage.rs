@@ -25,7 +25,8 @@ fn help_at_every_level() {
         assert_eq!(help, answer(&format!("{command} nonsense --nonsense -h")));
     }
     assert!(answer("help texts").contains("numaligns 2"));
-    assert!(answer("--version").starts_with("spireyerba 0."));
+    let version = env!("CARGO_PKG_VERSION");
+    assert_eq!(answer("--version"), format!("spireyerba {version} (library {version})\n"));
 }
 
 /// A copy of the door schedule, in which files can be written.

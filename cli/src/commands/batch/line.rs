@@ -1,0 +1,51 @@
+//! A line of the input, with its name.
+
+use super::resume::BEGIN;
+use crate::json;
+
+/// A line of the input.
+pub struct Line<'a> {
+    /// The lines before it.
+    pub before: usize,
+    /// What stands before a tab.
+    name: Option<&'a str>,
+    pub heard: &'a str,
+}
+
+impl<'a> Line<'a> {
+    pub fn new(line: &'a str, before: usize) -> Self {
+        let named = line.split_once('\t').filter(|(name, heard)| is_name(name) && !is_number_alone(heard));
+        match named {
+            Some((name, heard)) => Self { before, name: Some(name), heard },
+            None => Self { before, name: None, heard: line },
+        }
+    }
+
+    /// The columns before what was heard.
+    pub fn columns(&self) -> usize {
+        self.name.map_or(0, |name| name.chars().count() + 1)
+    }
+
+    /// Begins its answer.
+    pub fn begin(&self, json: &mut Vec<u8>) {
+        json.extend_from_slice(BEGIN);
+        json::push_number(json, self.before as u32 + 1);
+        if let Some(name) = self.name {
+            json::push_key(json, "id");
+            json::push_string(json, name);
+        }
+    }
+}
+
+/// Whether this can be a line's name: it has no blank and nothing that stands between words.
+fn is_name(text: &str) -> bool {
+    !text.is_empty() && !text.contains(|letter: char| letter.is_whitespace() || "|;\"".contains(letter))
+}
+
+/// Whether a text begins with a number, as a cost or a place is one, and no other number follows: then what stands before it is
+/// a word that was heard, or a place.
+fn is_number_alone(text: &str) -> bool {
+    let is_number = |item: &str| item.bytes().all(|byte| byte.is_ascii_digit());
+    let mut items = text.split_whitespace();
+    items.next().is_some_and(is_number) && !items.next().is_some_and(is_number)
+}
