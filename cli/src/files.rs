@@ -85,7 +85,7 @@ impl File {
     }
 
     /// What is made of the file's text.
-    fn text<T>(&self, parse: impl FnOnce(&str) -> Result<T, Error>) -> Result<T, Failure> {
+    pub fn text<T>(&self, parse: impl FnOnce(&str) -> Result<T, Error>) -> Result<T, Failure> {
         match text_of(&self.bytes) {
             Ok(text) => Ok(parse(text).map_err(|error| error.in_file(&self.name))?),
             Err(at) => Err(Failure::Refused(format!("{}: {}", self.name, self.no_text(at)))),

@@ -99,6 +99,12 @@ pub const HIGH: Opt = Opt {
     value: Some("FILE"),
     help: "costs known within ranges: the same utterance with the greatest costs",
 };
+pub const FILES: Opt = Opt {
+    long: "files",
+    short: None,
+    value: Some("LIST"),
+    help: "in place of FILE: a list of files with lattices in any format, one a line",
+};
 pub const JOBS: Opt = Opt {
     long: "jobs",
     short: Some('j'),

@@ -27,8 +27,12 @@ SPIREYERBA = os.environ.get("SPIREYERBA", "spireyerba")
 
 def phrases(grammar, length):
     """What the grammar derives in so many words, or the front of that."""
-    with subprocess.Popen([SPIREYERBA, "phrases", grammar, str(length)], stdout=subprocess.PIPE, text=True) as run:
-        return [line.strip() for line, _ in zip(run.stdout, range(PHRASES))]
+    command = [SPIREYERBA, "phrases", grammar, str(length)]
+    with subprocess.Popen(command, stdout=subprocess.PIPE, stderr=subprocess.PIPE, text=True) as run:
+        found = [line.strip() for line, _ in zip(run.stdout, range(PHRASES))]
+        if not found and run.wait() != 0:
+            sys.exit(run.stderr.read())
+        return found
 
 
 def chosen(grammar, count):

@@ -1,5 +1,6 @@
 //! `batch`: many utterances, a line each, on all cores.
 
+mod lattices;
 mod line;
 mod messages;
 mod resume;
@@ -11,10 +12,14 @@ use crate::failure::Failure;
 use crate::files;
 use crate::json;
 use crate::no_reading::NoReading;
-use crate::options::{Arguments, DISTINCT, DROP_UNKNOWN, JOBS, LINE, RESUME, WANTED};
+use crate::options::{
+    Arguments, DISTINCT, DROP_DELETES, DROP_UNKNOWN, EMPTY, EXACT, FILES, FORMAT, JOBS, LINE, PATHS, RESUME, SCALE,
+    WANTED,
+};
 use crate::output::Output;
+use lattices::{push_notes, Lines};
 use line::Line;
-use sink::{Answers, Sink};
+use sink::{Answers, Refused, Sink};
 use source::{Piece, Source};
 use spireyerba::limits::MAX_READINGS;
 use spireyerba::text::{is_graph, NamedGrammar, UtteranceReader};
@@ -25,9 +30,11 @@ use std::sync::Mutex;
 pub const COMMAND: Command = Command {
     name: "batch",
     operands: &["GRAMMAR", "FILE"],
-    needed: 2,
-    options: &[WANTED, DISTINCT, JOBS, LINE, RESUME, DROP_UNKNOWN],
-    summary: "list the readings of many utterances or word graphs, one a line, on all cores",
+    needed: 1,
+    options: &[
+        WANTED, DISTINCT, FILES, JOBS, LINE, RESUME, SCALE, DROP_UNKNOWN, DROP_DELETES, EMPTY, FORMAT, PATHS, EXACT,
+    ],
+    summary: "list the readings of many utterances, word graphs or lattices on all cores",
     details: "\
 A line of the file has an utterance, with semicolons between its slots: `door 4 | four 61 ; twenty 12`, or a word graph,
 with semicolons between its edges: `0 1 door 4 ; 1 3 twenty 12 ; 3`. Empty lines and comments are passed over. The
@@ -38,6 +45,10 @@ have N sentences, though there may be more. Where there is no reading, \"prefix\
 place or slot where they end, and what could follow there.
 A name without blanks and a tab may stand before what was heard: the name comes back as \"id\". Where a number alone
 follows the tab, such as a cost, it is a blank like any other.
+Lattices stand in files of their own: --files names a list of them, one a line, also with a name and a tab before it. A file
+in HTK's format or of Kaldi's may be FILE itself, and one in another with --format. Each lattice is an answer, with its own
+name as \"id\", or the line's, or the file's; \"complete_up_to\" says that it was pruned and up to which weight every reading
+is there, and \"dropped\" has the words that --drop-unknown left out.
 With --resume a run that was interrupted goes on: no line is answered twice, and none is left out.",
     example: "spireyerba batch grammar.txt utterances.txt -n 1 --resume readings.jsonl",
     run,
@@ -50,17 +61,22 @@ fn run(arguments: &Arguments, output: &mut Output) -> Result<(), Failure> {
     let cores = std::thread::available_parallelism().map_or(1, usize::from);
     let jobs = arguments.number(&JOBS)?.unwrap_or(cores).max(1);
     let grammar = files::grammar(arguments.operands[0])?;
+    let reader = files::utterance_reader(arguments, &grammar.named)?;
+    let Lines { operand, are_files, file } = Lines::open(arguments, reader.format)?;
+    if are_files && arguments.has(&RESUME) {
+        return Err(arguments.wrong("--resume goes on behind a line, and a file of lattices may have several answers"));
+    }
     let batch = Batch {
-        name: files::name_of(arguments.operands[1]),
+        name: files::name_of(operand),
+        are_files,
         wanted: arguments.wanted()?,
         distinct: arguments.has(&DISTINCT),
         named: &grammar.named,
-        reader: files::utterance_reader(arguments, &grammar.named)?,
+        reader,
         lister: Lister::of(grammar.packed.clone()),
         names: json::Names::new(&grammar.named),
     };
-    let operand = arguments.operands[1];
-    let mut source = Source::new(files::open(operand)?);
+    let mut source = Source::new(file);
     let mut resumed = arguments.value(&RESUME).map(|out| resume(out, &mut source, batch.name)).transpose()?;
     let by_line = arguments.has(&LINE) || !files::is_still(operand);
     let sink = Sink::new(resumed.as_mut().unwrap_or(output), by_line, AHEAD * jobs);
@@ -98,6 +114,8 @@ struct Batch<'a> {
     wanted: u32,
     /// Whether each sentence stands once.
     distinct: bool,
+    /// Whether each line is the name of a file with lattices.
+    are_files: bool,
 }
 
 impl Batch<'_> {
@@ -150,27 +168,67 @@ impl<'a> Worker<'a> {
             if first.is_none_or(|first| first == '#') {
                 continue;
             }
-            answers.utterances += 1;
             let line = Line::new(line, piece.before + number);
-            if let Err(error) = self.answer(&line, &mut answers.json) {
-                refuse(&mut answers, error, &line);
+            if self.batch.are_files {
+                self.answer_file(&line, &mut answers);
+            } else {
+                answers.utterances += 1;
+                if let Err(error) = self.answer(&line, &mut answers.json) {
+                    refuse(&mut answers, error.into(), &line);
+                }
             }
         }
         answers
     }
 
+    /// Adds the answer of each lattice of a file that a line names.
+    fn answer_file(&mut self, line: &Line, answers: &mut Answers) {
+        let lattices = match lattices::read(&self.batch.reader, line.heard.trim()) {
+            Ok(lattices) => lattices,
+            Err(refused) => {
+                answers.utterances += 1;
+                return refuse(answers, refused, line);
+            }
+        };
+        let is_alone = lattices.len() == 1;
+        for lattice in &lattices {
+            answers.utterances += 1;
+            let begin = |json: &mut Vec<u8>| line.begin_lattice(json, lattice.id.as_deref(), is_alone);
+            match self.answer_heard(Some(&lattice.heard), begin, &mut answers.json) {
+                Ok(()) => {
+                    push_notes(&mut answers.json, lattice);
+                    answers.json.extend_from_slice(b"}\n");
+                }
+                Err(refusal) => refuse(answers, Error::from(refusal).in_file(line.heard.trim()).into(), line),
+            }
+        }
+    }
+
     /// Adds the answer of a line, or nothing if it is refused.
     fn answer(&mut self, line: &Line, json: &mut Vec<u8>) -> Result<(), Error> {
-        let Batch { name, names, named, wanted, .. } = self.batch;
+        let name = self.batch.name;
         let in_file = |error: Error| error.in_file(name).after_columns(line.columns()).after_lines(line.before);
+        let graph = self.read(line.heard).map_err(in_file)?.map(Heard::Graph);
+        let answered = self.answer_heard(graph.as_ref(), |json| line.begin(json), json);
+        answered.map_err(|refusal| in_file(refusal.into()))?;
+        json.extend_from_slice(b"}\n");
+        Ok(())
+    }
+
+    /// Adds the answer of what was heard, or of the slots whose block is at hand, but for its end; nothing if it is refused.
+    fn answer_heard(
+        &mut self,
+        heard: Option<&Heard>,
+        begin: impl Fn(&mut Vec<u8>),
+        json: &mut Vec<u8>,
+    ) -> Result<(), Refusal> {
+        let Batch { names, named, wanted, .. } = self.batch;
         let asked = self.sentences.as_ref().filter(|_| *wanted <= MAX_READINGS).map_or(*wanted, |_| MAX_READINGS);
-        let graph = self.read(line.heard).map_err(in_file)?;
-        let found = match &graph {
-            Some(graph) => self.lister.find(graph, asked),
+        let found = match heard {
+            Some(heard) => self.lister.find(heard, asked),
             None => self.lister.find_in_block(&self.block, asked),
-        };
-        let found = found.map_err(|refusal| in_file(refusal.into()))?;
-        line.begin(json);
+        }?;
+        begin(json);
         json.extend_from_slice(b",\"readings\":[");
         let mut used_up = false;
         if let Some(sentences) = &mut self.sentences {
@@ -184,9 +242,9 @@ impl<'a> Worker<'a> {
         let is_none = found.is_empty();
         json::end_list(json);
         if is_none {
-            self.push_why(json, graph).map_err(|refusal| in_file(refusal.into()))?;
+            self.push_why(json, heard)?;
         }
-        json.extend_from_slice(if used_up { b",\"used_up\":true}\n" } else { b"}\n" });
+        json.extend_from_slice(if used_up { b",\"used_up\":true" } else { b"" });
         Ok(())
     }
 
@@ -200,13 +258,17 @@ impl<'a> Worker<'a> {
         Ok(None)
     }
 
-    /// Adds why the graph, or the slots whose block is at hand, has no reading.
-    fn push_why(&self, json: &mut Vec<u8>, graph: Option<Graph>) -> Result<(), Refusal> {
-        let heard = match graph {
-            Some(graph) => graph.into(),
-            None => Heard::from_block(self.lister.grammar().block(), &self.block)?,
+    /// Adds why what was heard, or the slots whose block is at hand, has no reading.
+    fn push_why(&self, json: &mut Vec<u8>, heard: Option<&Heard>) -> Result<(), Refusal> {
+        let slots;
+        let heard = match heard {
+            Some(heard) => heard,
+            None => {
+                slots = Heard::from_block(self.lister.grammar().block(), &self.block)?;
+                &slots
+            }
         };
-        NoReading::new(self.batch.named, &heard)?.push_json(json);
+        NoReading::new(self.batch.named, heard)?.push_json(json);
         Ok(())
     }
 }
@@ -239,10 +301,10 @@ fn begin_reading(json: &mut Vec<u8>, names: &json::Names, before: usize, reading
 }
 
 /// Adds the answer of a line that is refused.
-fn refuse(answers: &mut Answers, error: Error, line: &Line) {
+fn refuse(answers: &mut Answers, refused: Refused, line: &Line) {
     line.begin(&mut answers.json);
     json::push_key(&mut answers.json, "error");
-    json::push_string(&mut answers.json, &error.to_string());
+    json::push_string(&mut answers.json, &refused.message);
     answers.json.extend_from_slice(b"}\n");
-    answers.refused.push(error);
+    answers.refused.push(refused);
 }

@@ -12,6 +12,7 @@ mod offices;
 mod picks;
 mod random_skips;
 mod readme;
+mod recognisers;
 mod report;
 mod skips;
 mod usage;

@@ -28,9 +28,20 @@ impl<'a> Line<'a> {
 
     /// Begins its answer.
     pub fn begin(&self, json: &mut Vec<u8>) {
+        self.begin_as(json, self.name);
+    }
+
+    /// Begins the answer of a lattice of the file that it names: one of several has its own name, and one alone the line's, or its
+    /// own, or that of the file.
+    pub fn begin_lattice(&self, json: &mut Vec<u8>, own: Option<&str>, is_alone: bool) {
+        let [first, second] = if is_alone { [self.name, own] } else { [own, self.name] };
+        self.begin_as(json, first.or(second).or(Some(self.heard.trim())));
+    }
+
+    fn begin_as(&self, json: &mut Vec<u8>, name: Option<&str>) {
         json.extend_from_slice(BEGIN);
         json::push_number(json, self.before as u32 + 1);
-        if let Some(name) = self.name {
+        if let Some(name) = name {
             json::push_key(json, "id");
             json::push_string(json, name);
         }

@@ -1,6 +1,6 @@
 //! Messages about lines that were refused.
 
-use spireyerba::Error;
+use super::sink::Refused;
 use std::collections::BTreeMap;
 
 /// Of messages that say the same only so many are said.
@@ -17,17 +17,16 @@ pub struct Messages {
 
 impl Messages {
     /// Says on standard error why a line was refused, or counts it if that was said often enough.
-    pub fn say(&mut self, error: &Error) {
+    pub fn say(&mut self, Refused { message, reason }: &Refused) {
         self.count += 1;
-        let reason = error.reason();
-        if self.counts.len() < DIFFERENT || self.counts.contains_key(&reason) {
-            let count = self.counts.entry(reason).or_default();
+        if self.counts.len() < DIFFERENT || self.counts.contains_key(reason) {
+            let count = self.counts.entry(reason.clone()).or_default();
             *count += 1;
             if *count > SAID {
                 return;
             }
         }
-        eprintln!("{error}");
+        eprintln!("{message}");
     }
 
     /// How many lines were refused.

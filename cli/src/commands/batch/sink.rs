@@ -16,8 +16,30 @@ const PROGRESS_EVERY: Duration = Duration::from_millis(100);
 pub struct Answers {
     pub json: Vec<u8>,
     /// Why lines were refused.
-    pub refused: Vec<Error>,
+    pub refused: Vec<Refused>,
     pub utterances: usize,
+}
+
+/// Why a line was refused.
+pub struct Refused {
+    pub message: String,
+    /// The same without where.
+    pub reason: String,
+}
+
+impl Refused {
+    /// A file that could not be read.
+    pub fn of_file(failure: Failure, name: &str) -> Self {
+        let message = failure.message().to_owned();
+        let reason = message.strip_prefix(name).unwrap_or(&message).trim_start_matches([':', ' ']).to_owned();
+        Self { message, reason }
+    }
+}
+
+impl From<Error> for Refused {
+    fn from(error: Error) -> Self {
+        Self { message: error.to_string(), reason: error.reason() }
+    }
 }
 
 /// Where answers go, in the order of the lines. Whose turn it is writes its own, which are still near its core.
@@ -96,7 +118,7 @@ impl Writer<'_> {
         self.output.bytes(&answers.json)?;
         if !answers.refused.is_empty() {
             self.progress.clear();
-            answers.refused.iter().for_each(|error| self.messages.say(error));
+            answers.refused.iter().for_each(|refused| self.messages.say(refused));
         }
         self.progress.advance(answers.utterances);
         Ok(answers.json)
