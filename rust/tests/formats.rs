@@ -244,7 +244,7 @@ fn mistakes() {
         ("a A * * <ALT_BEGIN>\na A 0 1 door 1\n", "2:1: the line ends where <ALT_END> should stand"),
         ("a A * * <ALT_END>\na A 0 1 door 1\n", "1:9: `<ALT_END>` where <ALT_BEGIN> or a word should stand"),
         ("{\"hypotheses\": []}", "1:1: JSON, but not in a form of Vosk (text, result, alternatives), AWS Transcribe (results.items), Google (results) or Azure (NBest)"),
-        ("{\"NBest\": [{\"Confidence\": 1.5, \"Lexical\": \"door\"}, {\"Confidence\": 0.5}]}", "1:55: the line ends where a transcript should stand"),
+        ("{\"NBest\": [{\"Confidence\": 1.5, \"Lexical\": \"door\"}, {\"Confidence\": 0.5}]}", "1:52: the line ends where a transcript should stand"),
         ("{\"results\": [{\"alternatives\": [", "1:32: the line ends where a value should stand"),
         ("VERSION=1.0\nI=0\nI=1\nJ=0 S=0 E=1 W=door p=1.5\n", "4:20: `1.5` is not a posterior from 0 to the network's"),
     ] {

@@ -281,7 +281,9 @@ fn graphs_that_no_lattice_can_say() {
     let text = |edges: &[(u32, u32, u32, u32)], scale| grammar.lattice_text(&graph(3, edges), scale);
     let whole = text(&[(0, 1, 0, 4), (1, 2, 2, 7)], 100.0).expect("a lattice");
     assert!(whole.ends_with("J=0 S=0 E=1 W=x a=-0.04\nJ=1 S=1 E=2 W=\"new york\" a=-0.07\n"), "{whole}");
-    assert_eq!(text(&[(0, 1, 0, 4), (1, 2, 2, NOT_HEARD)], 100.0), None);
+    // what was not heard is written, and read as nothing
+    let unheard = text(&[(0, 1, 0, 4), (1, 2, 0, 7), (1, 2, 2, NOT_HEARD)], 100.0).expect("a lattice");
+    assert!(unheard.ends_with(" a=-1e10\n") && text(&[(0, 1, 0, 4), (1, 2, 2, NOT_HEARD)], 100.0).is_none());
     assert_eq!(text(&[(0, 1, 0, 4), (1, 2, 1, 0)], 100.0), None);
     assert_eq!(text(&[(0, 2, 0, 4)], 100.0), None);
     assert_eq!(text(&[(0, 2, 0, 4), (0, 1, 0, 4)], 100.0), None);

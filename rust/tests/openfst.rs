@@ -21,9 +21,9 @@ fn text(name: &str) -> String {
 
 /// What a shell prints that reads this.
 fn piped(command: &str, input: &str) -> Option<String> {
-    let shell =
-        Command::new("sh").args(["-c", command]).stdin(Stdio::piped()).stdout(Stdio::piped()).stderr(Stdio::null());
-    let mut child = { shell }.spawn().ok()?;
+    let mut shell = Command::new("sh");
+    shell.args(["-c", command]).stdin(Stdio::piped()).stdout(Stdio::piped()).stderr(Stdio::null());
+    let mut child = shell.spawn().ok()?;
     let (mut stdin, input) = (child.stdin.take()?, input.to_owned());
     let writer = std::thread::spawn(move || stdin.write_all(input.as_bytes()));
     let output = child.wait_with_output().ok()?;

@@ -18,6 +18,9 @@ use crate::limits::NOT_HEARD;
 use crate::{Edge, Error, Graph};
 use fields::written;
 
+/// How HTK writes the logarithm of 0.
+const LOGARITHM_OF_ZERO: &str = "-1e10";
+
 /// Fields that a line of a lattice may begin with.
 const FIRST_FIELDS: [&str; 6] = ["VERSION", "V", "N", "NODES", "I", "J"];
 
@@ -40,9 +43,9 @@ impl UtteranceReader<'_> {
 
 impl NamedGrammar {
     /// The lattice of a word graph over this grammar's words, from which an [`UtteranceReader`] with the same scale that keeps
-    /// all paths reads it again. Nothing if that is not possible: a word means something else in lattices or was not heard, a
-    /// place or an edge is on no path from the first place to the last, or a cost is so great beside the scale that its score
-    /// cannot be told from another's.
+    /// all paths reads it again, but for edges whose word was not heard, which are on no path of a lattice. Nothing if that is
+    /// not possible: a word means something else in lattices, a place or another edge is on no path from the first place to
+    /// the last, or a cost is so great beside the scale that its score cannot be told from another's.
     ///
     /// ```
     /// use spireyerba::lattice::Keep;
@@ -68,7 +71,8 @@ impl NamedGrammar {
         }
         let mut reader = UtteranceReader::new(self);
         (reader.scale, reader.keep) = (Some(scale), Keep::Paths);
-        (reader.read_graph(without_mark(&text)).as_ref() == Ok(graph)).then_some(text)
+        let heard = edges.iter().copied().filter(|edge| edge.is_offered()).collect();
+        (reader.read_graph(without_mark(&text)) == Ok(Graph { places: *places, edges: heard })).then_some(text)
     }
 }
 
@@ -76,7 +80,7 @@ impl NamedGrammar {
 fn score(cost: u32, scale: f64) -> Option<String> {
     match cost {
         0 => Some("0".to_owned()),
-        NOT_HEARD => None,
+        NOT_HEARD => Some(LOGARITHM_OF_ZERO.to_owned()),
         _ => {
             let score = shortest(-f64::from(cost) / scale, |score| scaled(score, scale) == Ok(cost))?;
             Some(score.to_string())
