@@ -75,11 +75,10 @@ fn what_has_no_room_is_said() {
         format!("u: kept {kept} of {of} edges: every reading of weight up to {weight} is in the list ({limits})\n")
     };
     let run = skips("x 1 | y 4 | z 7", 16, "5");
-    let kept = run.err.split(' ').nth(2).and_then(|kept| kept.parse::<usize>().ok()).expect("a number");
-    assert!(kept <= 96 && run.err == message(kept, 408, 20), "{}", run.err);
+    assert_eq!(run.err, message(92, 408, 25));
     assert_eq!(run.out.lines().map(|line| &line[..5]).collect::<Vec<_>>(), ["1  16", "2  16"]);
     let json = skips("x 1 | y 4 | z 7", 16, "5 --json");
-    assert!(json.out.ends_with("],\"complete_up_to\":20}\n"), "{}", json.out);
+    assert!(json.out.ends_with("],\"complete_up_to\":25}\n"), "{}", json.out);
     let exact = skips("x 1 | y 4 | z 7", 16, "5 --exact");
     assert_eq!(refused(exact, 1), "u: takes 408 edges and a word graph has 96: not --exact\n");
     // costs that no edge holds are taken off every weight
