@@ -91,8 +91,8 @@ fn what_does_not_fit() {
     assert_eq!(pruned.status, 0);
     let limits = "a word graph has 25 places and 96 edges";
     let note = format!("u: kept 96 of 108 edges: every reading of weight up to 79 is in the list ({limits})\n");
-    assert_eq!(pruned.stderr, note);
-    assert!(pruned.stdout.contains("\"complete_up_to\":79"), "{}", pruned.stdout);
+    assert_eq!(pruned.err, note);
+    assert!(pruned.out.contains("\"complete_up_to\":79"), "{}", pruned.out);
     let exact = refused(run_in(&folder, "list g u --exact"), 1);
     assert!(exact.starts_with("u:12:1: refused 13: the lattice takes 108 edges, and a word graph has"), "{exact}");
 }
