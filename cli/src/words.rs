@@ -12,21 +12,43 @@ use spireyerba::limits::{MAX_EDGES, MAX_PLACES};
 use spireyerba::text::{Lattice, NamedGrammar};
 use spireyerba::{Graph, Heard};
 
+/// Where what was heard comes from.
+#[derive(Clone, Copy)]
+pub enum Input<'a> {
+    /// A file.
+    File(&'a str),
+    /// Words of the command line.
+    Words(&'a str),
+}
+
+impl Input<'_> {
+    /// Its name in messages.
+    fn name(self) -> String {
+        match self {
+            Self::File(operand) => files::name_of(operand).to_owned(),
+            Self::Words(_) => "--words".into(),
+        }
+    }
+}
+
 /// What was heard, as the command line asks for it, and the slot of each edge, if slots became a word graph. Says on standard
 /// error what was pruned or left out.
 pub fn heard(
     arguments: &Arguments,
     grammar: &GrammarFile,
-    operand: &str,
+    input: Input,
 ) -> Result<(Lattice, Option<Vec<u32>>), Failure> {
     let cost = arguments.number::<u32>(&SKIP)?;
     let said: Vec<&str> = arguments.values(&SAID).filter(|said| anchor::slot_and_word(said).is_none()).collect();
     if cost.is_none() && said.is_empty() {
-        let mut lattice = files::heard(arguments, grammar, operand)?;
+        let mut lattice = match input {
+            Input::File(operand) => files::heard(arguments, grammar, operand)?,
+            Input::Words(words) => files::words(arguments, grammar, words)?.into(),
+        };
         anchor::apply(arguments, &grammar.named, &mut lattice.heard)?;
         return Ok((lattice, None));
     }
-    let mut source = Source::read(arguments, grammar, operand, cost.is_some())?;
+    let mut source = Source::read(arguments, grammar, input, cost.is_some())?;
     if let Some(cost) = cost {
         let known = std::mem::take(&mut source.known);
         source.acceptor = source.acceptor.skip(cost.into(), |arc| known.contains(&(arc.source as usize)));
@@ -50,10 +72,14 @@ struct Source {
 }
 
 impl Source {
-    fn read(arguments: &Arguments, grammar: &GrammarFile, operand: &str, may_skip: bool) -> Result<Self, Failure> {
-        let name = files::name_of(operand).to_owned();
+    fn read(arguments: &Arguments, grammar: &GrammarFile, input: Input, may_skip: bool) -> Result<Self, Failure> {
+        let name = input.name();
         let lattice_keep = if arguments.has(&PATHS) { Keep::Paths } else { Keep::Strings };
-        match files::written(arguments, grammar, operand, may_skip)? {
+        let written = match input {
+            Input::File(operand) => files::written(arguments, grammar, operand, may_skip)?,
+            Input::Words(words) => Written::Plain(files::words(arguments, grammar, words)?),
+        };
+        match written {
             Written::Plain(mut heard) => {
                 let known = anchor::apply(arguments, &grammar.named, &mut heard)?;
                 let (acceptor, is_slots) = match &heard {

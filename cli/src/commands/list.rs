@@ -9,11 +9,11 @@ use crate::heard::{HeardWords, Taken};
 use crate::json;
 use crate::no_reading::NoReading;
 use crate::options::{
-    Arguments, DISTINCT, DROP_DELETES, DROP_UNKNOWN, EMPTY, EXACT, FORMAT, JSON, PATHS, RULES, SAID, SCALE, SKIP, TREE,
-    WANTED,
+    Arguments, DISTINCT, DROP_DELETES, DROP_UNKNOWN, EMPTY, EXACT, FORMAT, JSON, PATHS, RULES, SAID, SAY, SCALE, SKIP,
+    TREE, WANTED, WORDS,
 };
 use crate::output::{Output, Style};
-use crate::words;
+use crate::words::{self, Input};
 use spireyerba::limits::MAX_READINGS;
 use spireyerba::text::Lattice;
 use spireyerba::{Distinct, Error, Heard, Reading, Refusal, Tree};
@@ -22,9 +22,10 @@ use std::ops::RangeInclusive;
 pub const COMMAND: Command = Command {
     name: "list",
     operands: &["GRAMMAR", "UTTERANCE"],
-    needed: 2,
+    needed: 1,
     options: &[
-        WANTED, DISTINCT, TREE, RULES, JSON, SAID, SKIP, SCALE, DROP_UNKNOWN, DROP_DELETES, EMPTY, FORMAT, PATHS, EXACT,
+        WANTED, WORDS, SAY, DISTINCT, TREE, RULES, JSON, SAID, SKIP, SCALE, DROP_UNKNOWN, DROP_DELETES, EMPTY, FORMAT, PATHS,
+        EXACT,
     ],
     summary: "list the readings of least weight, the least first",
     details: "\
@@ -182,7 +183,13 @@ pub fn used_up(found: usize) -> String {
 
 /// What was heard, as the command line asks for it, and the slot of each edge, if slots may be passed over.
 pub fn heard(arguments: &Arguments, grammar: &GrammarFile) -> Result<(Lattice, Option<Vec<u32>>), Failure> {
-    words::heard(arguments, grammar, arguments.operands[1])
+    let input = match (arguments.operands.get(1), arguments.value(&WORDS)) {
+        (Some(_), Some(_)) => return Err(arguments.wrong("UTTERANCE and --words: only one of them")),
+        (None, None) => return Err(arguments.wrong("UTTERANCE is missing")),
+        (Some(operand), None) => Input::File(operand),
+        (None, Some(words)) => Input::Words(words),
+    };
+    words::heard(arguments, grammar, input)
 }
 
 fn run(arguments: &Arguments, output: &mut Output) -> Result<(), Failure> {
@@ -200,7 +207,7 @@ fn run(arguments: &Arguments, output: &mut Output) -> Result<(), Failure> {
             listed.say_if_used_up();
             output.bytes(&json_of(&listed, 1..=listed.readings.len()))
         }
-        [with_trees, ..] => print(&listed, with_trees, output),
+        [with_trees, ..] => print(&listed, Shown { with_trees, says: arguments.has(&SAY) }, output),
     }
 }
 
@@ -225,7 +232,12 @@ pub fn json_of(listed: &Listed, ranks: RangeInclusive<usize>) -> Vec<u8> {
             json::push_number(&mut line, others[rank - 1]);
         }
         json::push_key(&mut line, "tree");
-        json::push_tree(&mut line, named, &listed.tree(reading));
+        let tree = listed.tree(reading);
+        json::push_tree(&mut line, named, &tree);
+        if named.has_translations() {
+            json::push_key(&mut line, "translation");
+            json::push_string(&mut line, &named.translation(&tree));
+        }
         json::end_reading(&mut line);
     }
     json::end_list(&mut line);
@@ -243,10 +255,23 @@ pub fn json_of(listed: &Listed, ranks: RangeInclusive<usize>) -> Vec<u8> {
     line
 }
 
-pub fn print(listed: &Listed, with_trees: bool, output: &mut Output) -> Result<(), Failure> {
+/// What is printed of a reading beside its words.
+#[derive(Clone, Copy, Default)]
+pub struct Shown {
+    pub with_trees: bool,
+    /// Whether what it becomes is.
+    pub says: bool,
+}
+
+pub fn print(listed: &Listed, Shown { with_trees, says }: Shown, output: &mut Output) -> Result<(), Failure> {
     listed.say_what_is_missing();
     for rank in 1..=listed.readings.len() {
-        let mut text = line(listed, rank, output) + "\n";
+        let mut text = line(listed, rank, output);
+        if says {
+            let becomes = listed.grammar.named.translation(&listed.tree(&listed.readings[rank - 1]));
+            text += &format!("  => {}", output.paint(Style::Strong, &becomes));
+        }
+        text.push('\n');
         if with_trees {
             text += &drawn(listed, rank, output);
             text += if rank < listed.readings.len() { "\n" } else { "" };

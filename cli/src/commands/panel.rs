@@ -1,6 +1,6 @@
 //! `panel`: the least readings, as a desk panel lists them.
 
-use super::list::{print, Listed};
+use super::list::{print, Listed, Shown};
 use super::Command;
 use crate::failure::Failure;
 use crate::files;
@@ -28,5 +28,5 @@ fn run(arguments: &Arguments, output: &mut Output) -> Result<(), Failure> {
     let readings = lister.list(&lattice.heard, wanted).map_err(Error::from)?;
     let mut listed = Listed::of(grammar, lattice, None);
     listed.readings = readings;
-    print(&listed, arguments.has(&TREE), output)
+    print(&listed, Shown { with_trees: arguments.has(&TREE), says: false }, output)
 }
