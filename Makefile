@@ -11,6 +11,7 @@ PREFIX ?= /usr/local
 export PREFIX DESTDIR BINDIR LIBDIR INCLUDEDIR DATADIR PYTHONDIR
 
 archive := target/staticlib/libspireyerba.a
+text_interface := $(shell sed -n 's/^.define SPIREYERBA_TEXT_INTERFACE //p' include/spireyerba_text.h)
 
 .PHONY: all quick command libraries install uninstall test bench clean
 
@@ -33,6 +34,8 @@ command: $(archive)
 
 libraries: $(archive)
 	packaging/shared.sh $(archive)
+	cargo build --release --locked --package spireyerba-text
+	install target/cargo/release/libspireyerba_text.so target/lib/libspireyerba_text.so.$(text_interface)
 
 install: command libraries
 	packaging/install.sh install

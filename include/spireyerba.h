@@ -405,8 +405,8 @@ enum {
 ** calls. To end it there is nothing to do.
 */
 typedef struct {
-    uint32_t handed; /* the readings that were handed out           */
-    uint32_t opened; /* 1 once it was opened; any other says: never */
+    uint32_t handed; /* the readings that were handed out */
+    uint32_t opened; /* 1 once it was opened              */
 } spireyerba_place;
 
 /*
@@ -452,13 +452,18 @@ enum {
 **
 ** Where place or work was altered, or the blocks are others, a call ends, what it
 ** hands out passes the check (that of a graph cut to its own length), and no tree
-** that stands in work is written over. If numbers stand in work for the reading that
-** is asked for, it is handed out if they spell one that passes the check; of slots
-** no edge number counts for that, since a reading of slots has none.
+** that stands in work is written over. What work spells at the rank that is asked
+** for decides: it is handed out if it passes the check. Where opened is not 1, and in
+** a first call where the first ranks in work are not zeros, nothing is looked for
+** and work is taken as it stands. What is handed out is spelled from found ranks
+** alone, and a rank is found once a tree of its own symbol and span stands there: a
+** graph's leaf whose edge goes over another span spells nothing. Of slots no edge
+** number counts, since a reading of slots has none.
 **
 ** Refuses for the blocks, then with LISTING_WORK, LISTING_OUTPUT, and last of all
-** with ALTERED_WALK: a place that was never opened, or altered numbers that spell no
-** reading that passes. NEXT_FULL comes before it.
+** with ALTERED_WALK: the walk that altered numbers spell is not a reading that
+** passes, as where a place was never opened and work is zeros. NEXT_FULL comes
+** before it.
 */
 int32_t spireyerba_next(
     const uint8_t *grammar, size_t grammar_len,

@@ -157,6 +157,17 @@ int32_t spireyerba_util_graph_to_block(
     uint8_t *out, size_t out_len);
 
 /*
+** Reads the block of a word graph under a grammar, given as its block. Answers its number of
+** edges, writes them to edges, which has room for SPIREYERBA_MAX_EDGES, and the number of
+** places to *places. Refuses as a listing does; slots with UTTERANCE_KIND.
+*/
+int32_t spireyerba_util_read_graph(
+    const uint8_t *grammar, size_t grammar_len,
+    const uint8_t *block, size_t block_len,
+    uint32_t *places,
+    spireyerba_util_edge *edges);
+
+/*
 ** LISTERS. A lister keeps a grammar and the memory that its listings need from one
 ** listing to the next. It is all zeros before its first use, and each thread has its
 ** own.

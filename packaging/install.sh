@@ -15,6 +15,7 @@ INCLUDEDIR=${INCLUDEDIR:-$PREFIX/include}
 DATADIR=${DATADIR:-$PREFIX/share}
 version=$(sed -n 's/^#define SPIREYERBA_VERSION "\(.*\)"/\1/p' include/spireyerba_util.h)
 interface=$(sed -n 's/^#define SPIREYERBA_INTERFACE //p' include/spireyerba_util.h)
+text_interface=$(sed -n 's/^#define SPIREYERBA_TEXT_INTERFACE //p' include/spireyerba_text.h)
 command=target/bin/spireyerba
 made=$(mktemp)
 trap 'rm -f "$made"' EXIT
@@ -28,7 +29,7 @@ own = "%slib/python%d.%d/site-packages" % (prefix, *sys.version_info[:2])
 print(next((folder for folder in site.getsitepackages() if folder.startswith(prefix)), own))
 PYTHON
 }
-PYTHONDIR=${PYTHONDIR:-$(python_folder)}
+PYTHONDIR=${PYTHONDIR:-$(if command -v python3 >/dev/null; then python_folder; fi)}
 
 # put MODE SOURCE PATH: a file that is installed, or taken away.
 put() {
@@ -72,8 +73,11 @@ libraries() {
     put 644 target/lib/libspireyerba_util.a "$LIBDIR/libspireyerba_util.a"
     put 755 "target/lib/libspireyerba.so.$interface" "$LIBDIR/libspireyerba.so.$interface"
     link "libspireyerba.so.$interface" "$LIBDIR/libspireyerba.so"
+    put 755 "target/lib/libspireyerba_text.so.$text_interface" "$LIBDIR/libspireyerba_text.so.$text_interface"
+    link "libspireyerba_text.so.$text_interface" "$LIBDIR/libspireyerba_text.so"
     put 644 include/spireyerba.h "$INCLUDEDIR/spireyerba.h"
     put 644 include/spireyerba_util.h "$INCLUDEDIR/spireyerba_util.h"
+    put 644 include/spireyerba_text.h "$INCLUDEDIR/spireyerba_text.h"
     filled packaging/spireyerba.pc.in "$LIBDIR/pkgconfig/spireyerba.pc"
     filled packaging/spireyerba-config.cmake.in "$LIBDIR/cmake/spireyerba/spireyerba-config.cmake"
     filled packaging/spireyerba-config-version.cmake.in "$LIBDIR/cmake/spireyerba/spireyerba-config-version.cmake"
@@ -89,5 +93,16 @@ the_command() {
     printed "$DATADIR/fish/vendor_completions.d/spireyerba.fish" --completions fish
 }
 
+# The Python package, which is told where the libraries are.
+python_package() {
+    for file in python/spireyerba/*.py python/spireyerba/py.typed; do
+        put 644 "$file" "$PYTHONDIR/spireyerba/${file##*/}"
+    done
+    printf '"""Where the libraries were installed."""\n\nLIBDIR = "%s"\n' "$LIBDIR" >"$made"
+    if [ "$action" = uninstall ]; then rm -rf "$DESTDIR$PYTHONDIR/spireyerba/__pycache__"; fi
+    put 644 "$made" "$PYTHONDIR/spireyerba/_installed.py"
+}
+
 libraries
 the_command
+if [ -n "$PYTHONDIR" ]; then python_package; else echo 'there is no python3: the Python package is left out'; fi

@@ -52,10 +52,16 @@ prints() {
     "$1" | diff - <(sed -n 's/^    \(weight .*\)$/\1/p' README.md)
 }
 
-# The shared library shows what the headers declare and nothing else, under its name with the interface's number.
+# declared HEADER..: the functions that the headers declare.
+declared() {
+    (cd "$prefix/include" && sed -n '/^static\|^typedef/!s/^[a-z].*[ *]\(spireyerba_[a-z_]*\)(.*/\1/p' "${@/%/.h}") | sort
+}
+
+# The shared libraries show what the headers declare and nothing else, under their names with the interface's number.
 shows_declared_names() {
     diff <(nm -D --defined-only "$library" | awk '{ print $3 }' | sort) \
-        <(sed -n '/^static/!s/^[a-z].*[ *]\(spireyerba_[a-z_]*\)(.*/\1/p' "$prefix"/include/spireyerba*.h | sort) &&
+        <(declared spireyerba spireyerba_util) &&
+        diff <(nm -D --defined-only "$prefix"/lib/libspireyerba_text.so.* | awk '{ print $3 }' | sort) <(declared spireyerba_text) &&
         readelf -d "$library" | grep -q "SONAME.*\[libspireyerba.so.$interface\]"
 }
 
@@ -147,6 +153,17 @@ command_runs() {
         diff - <(sed -n 's/^    \([123]  [0-9]* .*\)$/\1/p' README.md | head -3)
 }
 
+# A Python prompt that knows nothing of the repository.
+python_lists() {
+    local python_folder
+    python_folder=$(dirname "$(find "$prefix" -name spireyerba -path '*python*')")
+    (cd "$folder" && env -u LD_LIBRARY_PATH PYTHONPATH="$python_folder" python3 -c '
+from spireyerba import Grammar
+doors = Grammar.from_text("Entry -> \"door\" Number [1]\nNumber -> \"four\" | \"five\" [2]")
+for reading in doors.list(doors.read("door 3; four 9 | five 5")):
+    print("%d: %s" % (reading.weight, reading.sentence))') | diff - <(printf '11: door five\n13: door four\n')
+}
+
 # Nothing is left but folders that others may use.
 is_taken_away() {
     make -s uninstall PREFIX="$prefix" >"$folder/log" 2>&1 && [ -z "$(find "$prefix" ! -type d)" ] &&
@@ -168,6 +185,7 @@ part bash_completes
 part bash -n "$prefix/share/bash-completion/completions/spireyerba"
 with zsh zsh -n "$prefix/share/zsh/site-functions/_spireyerba"
 with fish fish -n "$prefix/share/fish/vendor_completions.d/spireyerba.fish"
+with python3 python_lists
 part is_taken_away
 echo "$passed passed, $failed failed"
 [ "$failed" -eq 0 ]

@@ -137,16 +137,16 @@ static int is_past_end(const cursor *cursor) {
     return cursor->at > cursor->bits;
 }
 
-/* The next field, of so many bits, most significant bit first; 0 if it passes the end. */
+/* The next field, of 1 to 24 bits, most significant bit first; 0 if it passes the end. */
 static uint32_t take(cursor *cursor, const uint8_t *block, size_t width) {
+    size_t byte = cursor->at / 8, end = cursor->at + width;
     uint32_t value = 0;
-    size_t at = cursor->at;
-    cursor->at += width;
+    cursor->at = end;
     if (is_past_end(cursor))
         return 0;
-    for (; at < cursor->at; at++)
-        value = value << 1 | (block[at / 8] >> (7 - at % 8) & 1);
-    return value;
+    for (; 8 * byte < end; byte++)
+        value = value << 8 | block[byte];
+    return value >> (8 * byte - end) & (((uint32_t)1 << width) - 1);
 }
 
 int32_t spireyerba_util_measure(const spireyerba_util_grammar *grammar, const uint8_t *utterance, size_t utterance_len,
@@ -301,6 +301,38 @@ int32_t spireyerba_util_graph_to_block(const uint8_t *grammar, size_t grammar_le
     for (k = 0; k < count; k++)
         put_edge(&cursor, out, width, &edges[k]);
     return (int32_t)bytes;
+}
+
+/* Refuses what a listing refuses for the blocks, or answers 0: it refuses a number wanted of 0 after them. */
+static int32_t check_blocks(const uint8_t *grammar, size_t grammar_len, const uint8_t *block, size_t block_len) {
+    uint32_t no_work;
+    uint8_t no_out;
+    int32_t refused = spireyerba_listing(grammar, grammar_len, block, block_len, 0, &no_work, 0, &no_out, 0);
+    return refused == -SPIREYERBA_LISTING_WANTED ? 0 : refused;
+}
+
+int32_t spireyerba_util_read_graph(const uint8_t *grammar, size_t grammar_len, const uint8_t *block, size_t block_len,
+                                   uint32_t *places, spireyerba_util_edge *edges) {
+    spireyerba_util_grammar under;
+    cursor cursor = front_of(block_len);
+    size_t width;
+    uint32_t count, k;
+    int32_t refused = check_blocks(grammar, grammar_len, block, block_len);
+    if (refused < 0)
+        return refused;
+    if (take(&cursor, block, KIND_BITS) != GRAPH_KIND)
+        return -SPIREYERBA_UTTERANCE_KIND;
+    spireyerba_util_read_grammar(grammar, grammar_len, &under);
+    width = word_width(under.words);
+    *places = take(&cursor, block, PLACES_BITS);
+    count = take(&cursor, block, EDGES_BITS);
+    for (k = 0; k < count; k++) {
+        edges[k].from = take(&cursor, block, PLACES_BITS);
+        edges[k].to = take(&cursor, block, PLACES_BITS);
+        edges[k].word = take(&cursor, block, width);
+        edges[k].cost = take(&cursor, block, COST_BITS);
+    }
+    return (int32_t)count;
 }
 
 int32_t spireyerba_util_set_sheet(spireyerba_util_lister *lister, const uint32_t *sheet, size_t sheet_len) {

@@ -156,6 +156,21 @@ pub fn heard(arguments: &Arguments, grammar: &GrammarFile, operand: &str) -> Res
     })
 }
 
+/// The lines of a text file, each with how many stand before it, but for those that are empty or a comment.
+pub fn lines(operand: &str) -> Result<Vec<(usize, String)>, Failure> {
+    File::read(operand)?.text(|text| {
+        let lines = text.trim_start_matches('\u{feff}').lines().enumerate();
+        let said = lines.filter(|(_, line)| !matches!(line.trim_start().chars().next(), None | Some('#')));
+        Ok(said.map(|(before, line)| (before, line.to_owned())).collect())
+    })
+}
+
+/// Words that were said, as a command line has them.
+pub fn words(arguments: &Arguments, grammar: &GrammarFile, words: &str) -> Result<Heard, Failure> {
+    let said = utterance_reader(arguments, &grammar.named)?.read_words(words);
+    Ok(Heard::Slots(said.map_err(|error| error.in_file("--words"))?))
+}
+
 /// A reading that the library passes, and its block.
 pub struct ReadingFile {
     pub reading: Reading,

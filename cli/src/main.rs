@@ -8,6 +8,7 @@
 //! | `files` | texts and blocks, read and written |
 //! | `heard` | slots or a word graph, whichever it is |
 //! | `reach` | which symbols of a grammar are of use |
+//! | `rows` | a schedule as CSV and as a page |
 //! | `anchor`, `skip` | words that are known for certain, and words too many |
 //! | `alignment`, `no_reading` | which words of two sentences differ; why there is no reading |
 //! | `drawing`, `page`, `json` | readings drawn in a terminal, on a page, and for programs |
@@ -29,6 +30,7 @@ mod options;
 mod output;
 mod page;
 mod reach;
+mod rows;
 mod skip;
 
 use failure::Failure;

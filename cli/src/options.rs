@@ -44,6 +44,27 @@ pub const EVERY_TREE: Opt = Opt {
     value: None,
     help: "every reading, also if one before it has the same words",
 };
+pub const WORDS: Opt = Opt {
+    long: "words",
+    short: None,
+    value: Some("SENTENCE"),
+    help: "words that were said, in place of UTTERANCE: each at no cost",
+};
+pub const SAY: Opt =
+    Opt { long: "say", short: None, value: None, help: "print what a reading becomes beside its words" };
+pub const COLUMNS: Opt = Opt {
+    long: "columns",
+    short: None,
+    value: Some("SYMBOL,.."),
+    help: "the symbols whose translations are the columns",
+};
+pub const CLOSE: Opt = Opt {
+    long: "close",
+    short: None,
+    value: Some("W"),
+    help: "mark rows where another reading weighs at most W more and has another column; 0 unless given",
+};
+pub const HTML: Opt = Opt { long: "html", short: None, value: None, help: "write a page in place of CSV" };
 pub const FILE: Opt =
     Opt { long: "output", short: Some('o'), value: Some("FILE"), help: "write to a file, not to standard output" };
 pub const SCALE: Opt = Opt {

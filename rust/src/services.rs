@@ -499,7 +499,7 @@ pub fn panel_listing(
 pub struct Place {
     /// The readings that were handed out.
     pub handed: u32,
-    /// 1 if the listing was opened; any other number says that it never was.
+    /// 1 if the listing was opened; with any other number [`next`] takes its table as it stands and looks for nothing.
     pub opened: u32,
 }
 
@@ -565,11 +565,12 @@ pub fn open(grammar: &[u8], utterance: &[u8], place: &mut Place, work: &mut [u32
 /// come to the table, n being the slots, or P − 1.
 ///
 /// With a place or a table that was altered, or with other blocks, a call ends all the same, and what it hands out passes
-/// [`check`].
+/// [`check`]: what the table spells at the rank that is asked for is handed out if it passes. Where `opened` is not 1, and in a
+/// first call where the first ranks in `work` are not zeros, nothing is looked for and the table is taken as it stands.
 ///
 /// Refuses for the blocks, then with [`ListingWork`](Refusal::ListingWork) as [`open`] does, with
-/// [`ListingOutput`](Refusal::ListingOutput) for one reading; and last of all with [`AlteredWalk`](Refusal::AlteredWalk), where
-/// altered numbers spell none, or the place was never opened.
+/// [`ListingOutput`](Refusal::ListingOutput) for one reading; and last of all with [`AlteredWalk`](Refusal::AlteredWalk): the walk
+/// that altered numbers spell is not a reading that passes, as where a place was never opened and the table is zeros.
 ///
 /// ```
 /// use spireyerba::{services::{next, Place}, Refusal};

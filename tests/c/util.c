@@ -146,6 +146,20 @@ static size_t read_edges(spireyerba_util_edge *edges) {
     return count;
 }
 
+/* The edges of the block are read again as they are. */
+static void check_edges_again(uint32_t places, const spireyerba_util_edge *edges, size_t count) {
+    spireyerba_util_edge again[SPIREYERBA_MAX_EDGES];
+    uint32_t places_again = 0;
+    int32_t answer = spireyerba_util_read_graph(grammar_block.bytes, grammar_block.length, other_block.bytes,
+                                                other_block.length, &places_again, again);
+    if (answer != (int32_t)count || places_again != places || memcmp(again, edges, count * sizeof *edges) != 0)
+        printf(" is read otherwise");
+    answer = spireyerba_util_read_graph(grammar_block.bytes, grammar_block.length, other_block.bytes,
+                                        other_block.length - 1, &places_again, again);
+    if (answer != -SPIREYERBA_UTTERANCE_END)
+        printf(" is read when it is cut");
+}
+
 static void call_graph(void) {
     spireyerba_util_edge edges[SPIREYERBA_MAX_EDGES + 1];
     size_t count, length, k;
@@ -164,6 +178,8 @@ static void call_graph(void) {
         return;
     for (k = 0; k < (size_t)answer; k++)
         printf("%02x", (unsigned)other_block.bytes[k]);
+    other_block.length = (size_t)answer;
+    check_edges_again(places, edges, count);
 }
 
 static void call(const char *name) {

@@ -47,16 +47,12 @@ impl Listed {
         Ok(())
     }
 
-    /// A call with a table of so many numbers, as it was left: "22 for that table and 23 for one reading", then "full", and last
-    /// 53 for a place that was never opened.
+    /// A call with a place and a table of so many numbers, as they were left: "22 for that table and 23 for one reading", then "full".
     pub fn next(&self, place: &mut Place, work_len: usize, out: &mut [u8]) -> Result<Next, Refusal> {
         self.takes_table(work_len)?;
         let reading = out.get_mut(..self.reading_length()).ok_or(Refusal::ListingOutput)?;
         if place.handed >= MAX_READINGS {
             return Ok(Next::Full);
-        }
-        if place.opened != 1 {
-            return Err(Refusal::AlteredWalk);
         }
         let Some(next) = self.readings.get(place.handed as usize) else {
             return Ok(Next::NoMore);

@@ -52,7 +52,7 @@ fn lengths_and_refusals_of_the_examples() {
     };
     assert_eq!(services::open(&G, &U, &mut place, &mut work[..10_239]), Err(ListingWork));
     assert_eq!((place, work[0]), (Place { handed: 7, opened: 9 }, 7));
-    // a place that was never opened, with whatever table
+    // a place that was never opened: neither these numbers nor zeros spell a reading
     place = Place::default();
     expect(&mut place, &mut work, &mut out, Err(AlteredWalk));
     work.fill(0);
@@ -216,6 +216,31 @@ fn altered_places_and_tables() {
         }
     });
     met.demand(48_000, 1_000);
+}
+
+/// Nothing but the mark of the place is altered: what the table spells as it stands is handed out, and nothing is looked for.
+#[test]
+fn altered_marks() {
+    let mut met = Met::default();
+    over_seeds(46_000..47_000, |rng| {
+        let (grammar, heard) = heard_case(rng, &[&TINY, &AMBIGUOUS, &SPARSE]);
+        let blocks = [grammar::pack(&grammar), heard::pack(&grammar, &heard)];
+        let blocks = [&blocks[0][..], &blocks[1]];
+        let listed = Listed::new(blocks[0], blocks[1]).expect("accepted");
+        let calls = rng.below(4);
+        let mut left = opened(rng, blocks, &listed, calls);
+        let handed = left.place().handed;
+        for rank in 0..=handed {
+            let mut state = left.clone();
+            *state.place() = Place { handed: rank, opened: rng.pick(&[0, 2, u32::MAX]) };
+            let answer = expect_sound(rng, blocks, &listed, &mut state, listed.reading_length());
+            assert!(state.work == left.work, "a table that was taken as it stands");
+            assert!(answer == Ok(Next::Reading) || rank == handed, "{answer:?} at rank {rank} of {handed}");
+            met.count(answer);
+        }
+    });
+    println!("{met:?}");
+    assert!(met.0[0] == 0 && met.0[1] > 500 && met.0[3] > 500, "{met:?}");
 }
 
 /// Nothing but the edge number of one found leaf is altered. A reading of slots has no edge numbers, so its walk is one that passes

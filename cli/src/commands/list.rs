@@ -10,7 +10,7 @@ use crate::heard::{HeardWords, Taken};
 use crate::json;
 use crate::no_reading::NoReading;
 use crate::options::{
-    Arguments, DISTINCT, DROP_DELETES, DROP_UNKNOWN, EMPTY, JSON, RULES, SAID, SCALE, SKIP, TREE, WANTED,
+    Arguments, DISTINCT, DROP_DELETES, DROP_UNKNOWN, EMPTY, JSON, RULES, SAID, SAY, SCALE, SKIP, TREE, WANTED, WORDS,
 };
 use crate::output::{Output, Style};
 use crate::skip;
@@ -21,8 +21,8 @@ use std::ops::RangeInclusive;
 pub const COMMAND: Command = Command {
     name: "list",
     operands: &["GRAMMAR", "UTTERANCE"],
-    needed: 2,
-    options: &[WANTED, DISTINCT, TREE, RULES, JSON, SAID, SKIP, SCALE, DROP_UNKNOWN, DROP_DELETES, EMPTY],
+    needed: 1,
+    options: &[WANTED, WORDS, SAY, DISTINCT, TREE, RULES, JSON, SAID, SKIP, SCALE, DROP_UNKNOWN, DROP_DELETES, EMPTY],
     summary: "list the readings of least weight, the least first",
     details: "\
 A line has rank, weight and words. Fewer readings than were asked for are all that there are; where there is none, a message
@@ -169,7 +169,12 @@ pub fn used_up(found: usize) -> String {
 
 /// What was heard, as the command line asks for it, and the slot of each edge, if slots may be passed over.
 pub fn heard(arguments: &Arguments, grammar: &GrammarFile) -> Result<(Heard, Option<Vec<u32>>), Failure> {
-    let mut heard = files::heard(arguments, grammar, arguments.operands[1])?;
+    let mut heard = match (arguments.operands.get(1), arguments.value(&WORDS)) {
+        (Some(_), Some(_)) => return Err(arguments.wrong("UTTERANCE and --words: only one of them")),
+        (None, None) => return Err(arguments.wrong("UTTERANCE is missing")),
+        (Some(operand), None) => files::heard(arguments, grammar, operand)?,
+        (None, Some(words)) => files::words(arguments, grammar, words)?,
+    };
     let known = anchor::apply(arguments, &grammar.named, &mut heard)?;
     let slots = skip::apply(arguments, &known, &mut heard)?;
     Ok((heard, slots))
@@ -190,7 +195,7 @@ fn run(arguments: &Arguments, output: &mut Output) -> Result<(), Failure> {
             listed.say_if_used_up();
             output.bytes(&json_of(&listed, 1..=listed.readings.len()))
         }
-        [with_trees, ..] => print(&listed, with_trees, output),
+        [with_trees, ..] => print(&listed, Shown { with_trees, says: arguments.has(&SAY) }, output),
     }
 }
 
@@ -215,7 +220,12 @@ pub fn json_of(listed: &Listed, ranks: RangeInclusive<usize>) -> Vec<u8> {
             json::push_number(&mut line, others[rank - 1]);
         }
         json::push_key(&mut line, "tree");
-        json::push_tree(&mut line, named, &listed.tree(reading));
+        let tree = listed.tree(reading);
+        json::push_tree(&mut line, named, &tree);
+        if named.has_translations() {
+            json::push_key(&mut line, "translation");
+            json::push_string(&mut line, &named.translation(&tree));
+        }
         json::end_reading(&mut line);
     }
     json::end_list(&mut line);
@@ -229,10 +239,23 @@ pub fn json_of(listed: &Listed, ranks: RangeInclusive<usize>) -> Vec<u8> {
     line
 }
 
-pub fn print(listed: &Listed, with_trees: bool, output: &mut Output) -> Result<(), Failure> {
+/// What is printed of a reading beside its words.
+#[derive(Clone, Copy, Default)]
+pub struct Shown {
+    pub with_trees: bool,
+    /// Whether what it becomes is.
+    pub says: bool,
+}
+
+pub fn print(listed: &Listed, Shown { with_trees, says }: Shown, output: &mut Output) -> Result<(), Failure> {
     listed.say_what_is_missing();
     for rank in 1..=listed.readings.len() {
-        let mut text = line(listed, rank, output) + "\n";
+        let mut text = line(listed, rank, output);
+        if says {
+            let becomes = listed.grammar.named.translation(&listed.tree(&listed.readings[rank - 1]));
+            text += &format!("  => {}", output.paint(Style::Strong, &becomes));
+        }
+        text.push('\n');
         if with_trees {
             text += &drawn(listed, rank, output);
             text += if rank < listed.readings.len() { "\n" } else { "" };

@@ -12,7 +12,9 @@ mod phrases;
 mod pick;
 mod ranges;
 mod report;
+mod schedule;
 mod specimen;
+mod test;
 mod unpack;
 mod why;
 
@@ -49,7 +51,9 @@ pub const COMMANDS: &[Command] = &[
     why::COMMAND,
     report::COMMAND,
     batch::COMMAND,
+    schedule::COMMAND,
     lint::COMMAND,
+    test::COMMAND,
     specimen::COMMAND,
     phrases::COMMAND,
     margins::COMMAND,

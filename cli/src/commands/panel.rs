@@ -1,6 +1,6 @@
 //! `panel`: the least readings, as a desk panel lists them.
 
-use super::list::{print, Listed};
+use super::list::{print, Listed, Shown};
 use super::Command;
 use crate::failure::Failure;
 use crate::files;
@@ -36,5 +36,5 @@ fn run(arguments: &Arguments, output: &mut Output) -> Result<(), Failure> {
         times: None,
         left_out: Vec::new(),
     };
-    print(&listed, arguments.has(&TREE), output)
+    print(&listed, Shown { with_trees: arguments.has(&TREE), says: false }, output)
 }

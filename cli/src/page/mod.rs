@@ -44,7 +44,7 @@ pub fn page(listed: &Listed, source: &Source, changes: Option<&CostChanges>) -> 
 }
 
 /// Text as it may stand in HTML.
-fn escaped(text: &str) -> String {
+pub fn escaped(text: &str) -> String {
     let mut html = String::with_capacity(text.len());
     for letter in text.chars() {
         match letter {

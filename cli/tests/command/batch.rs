@@ -43,7 +43,7 @@ fn batch_goes_on_after_a_refusal() {
     assert_eq!(run.status, 1);
     let errors = "\
 <stdin>:2:9: refused 14: the grammar has no word `green`
-<stdin>:5:6: `x` is not a whole number
+<stdin>:5:6: `x` is no cost: a cost is 0 to 65535, digits only, and between slots stands `;`
 2 of 4 utterances refused
 ";
     assert_eq!(run.err, errors);

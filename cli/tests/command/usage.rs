@@ -6,9 +6,9 @@ use std::io::Write;
 use std::path::Path;
 use std::process::{Command, Stdio};
 
-const COMMANDS: [&str; 15] = [
+const COMMANDS: [&str; 17] = [
     "list", "panel", "pick", "why", "report", "batch", "lint", "specimen", "phrases", "margins", "ranges", "check",
-    "chance", "pack", "unpack",
+    "chance", "pack", "unpack", "schedule", "test",
 ];
 
 #[test]

@@ -1,6 +1,6 @@
 -- The loops over shares and over the nodes of a walk, and the ways out of `shared`.
 use mathlib.Core.Path.{_≡_, sym, ap, _∙_}
-use mathlib.Core.Bool.{true, false}
+use mathlib.Core.Bool.{true, false, false≢true}
 use mathlib.Core.List.{List, [], _∷_}
 use Prim.Native.Nat.{ℕ, zero, suc, _+_, _-_, _≤_, _<_}
 use native.Mathlib.Numerals.{add-one}
@@ -21,9 +21,6 @@ use Rattle.chance.specs.Chance.{isShare, areShares, sharesOf, one, facto
 use Rattle.chance.specs.Model.{Held, Shared}
 use Rattle.chance.specs.declared.Outcome.the-variants.{Refused}
 use Rattle.chance.proofs.Error.{Share}
-
-false≢true : false ≡ true → ⊥
-false≢true e = let z : _≡_ {A = ℕ} 0 1 = cc in omega arith
 
 -- the turns of the loop over shares
 module _ (shares : List ℕ) (i : ℕ) where

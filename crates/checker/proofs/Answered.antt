@@ -58,11 +58,13 @@ walk-judged n count rules u block array {d} {at} o e front own judged =
     let begun = subst (λ p. read.WalkIn p array) e front in
     let long = reading-out n count block e .2 in
     let numbers : take (2 * n - 1) array ≡ d .walk = rw long at begun in
-    let answered : Answered (weighed block (d .weight) at (d .walk) o) _ array = (judged (d .walk) long, walk-in block (d .weight) at (d .walk) array o begun) in
+    let answered : Answered (weighed block (d .weight) at (d .walk) o) _ array =
+    (judged (d .walk) long, walk-in block (d .weight) at (d .walk) array o begun) in
     rw (e, ← numbers, ← own) (rw (← numbers) at answered)
 
 -- a reading of a graph, by the weight of the path whose nodes stand in the block
-pub path-judged : (count last : ℕ) (rules : List R.Rule) (es : List Edge) (block array : List ℕ) {r : HeadRead} {x : GraphHead} {c : Cursor} (own : Found) {a : Walked}
+pub path-judged : (count last : ℕ) (rules : List R.Rule) (es : List Edge) (block array : List ℕ) {r : HeadRead} {x : GraphHead} {c : Cursor} (own : Found)
+    {a : Walked}
     → r ≡ answerOf count (graphHeadFrom last count block) → r ≡ Head x c → count ≡ length rules → numberOf own ≡ pathWeight rules es last (x .edges) block
     → Kept rules block (2 * x .edges - 1) array own → 2 * x .edges - 1 ≤ length array
     → Judges block (x .weight) (c .at) (numberOf own) (2 * x .edges - 1) a

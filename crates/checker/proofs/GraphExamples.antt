@@ -40,7 +40,8 @@ checks reading = checkedOf (check G four-places reading)
 pub third : (checks (96 ∷ 128 ∷ 0 ∷ 1 ∷ 16 ∷ 80 ∷ 96 ∷ []) ≡ Passes)
     × (checks (96 ∷ 128 ∷ 0 ∷ 1 ∷ 16 ∷ 80 ∷ 96 ∷ 0 ∷ []) ≡ Refused 36)
     × (checks (96 ∷ 128 ∷ 0 ∷ 1 ∷ 80 ∷ 80 ∷ 96 ∷ []) ≡ Refused 35)
-unfolding num bitsOf ended widthOf widthFrom bitsOfAll inRange fieldAt anyLike unlikeFrom ruleFrom markedRuleFrom grammarFrom blockBy markedBlock grammarBlock edgeFrom graphFrom graphBlock heardBlock traceEntries graphHeadFrom weight pathLength trace trees hasBits fieldsFrom firstWith derivationOf check
+unfolding num bitsOf ended widthOf widthFrom bitsOfAll inRange fieldAt anyLike unlikeFrom ruleFrom markedRuleFrom grammarFrom blockBy markedBlock grammarBlock
+    edgeFrom graphFrom graphBlock heardBlock traceEntries graphHeadFrom weight pathLength trace trees hasBits fieldsFrom firstWith derivationOf check
 third = (refl, refl, refl)
 
 -- 34: an edge that does not start where the path stands, a path that does not end at P − 1, an edge number not below E, another mix of
@@ -51,11 +52,13 @@ pub not-a-walk : (checks (96 ∷ 128 ∷ 0 ∷ 1 ∷ 16 ∷ 16 ∷ 96 ∷ []) �
     × (checks (96 ∷ 128 ∷ 0 ∷ 1 ∷ 32 ∷ 160 ∷ 192 ∷ []) ≡ Refused 34)
     × (checkedOf (check two-words one-heard (96 ∷ 64 ∷ 0 ∷ 0 ∷ 192 ∷ 0 ∷ [])) ≡ Refused 34)
     × (checkedOf (check two-words one-heard (96 ∷ 64 ∷ 0 ∷ 0 ∷ 224 ∷ 64 ∷ [])) ≡ Passes)
-unfolding num bitsOf ended widthOf widthFrom bitsOfAll inRange fieldAt anyLike unlikeFrom ruleFrom markedRuleFrom grammarFrom blockBy markedBlock grammarBlock edgeFrom graphFrom graphBlock heardBlock traceEntries graphHeadFrom weight pathLength trace trees hasBits fieldsFrom firstWith derivationOf check
+unfolding num bitsOf ended widthOf widthFrom bitsOfAll inRange fieldAt anyLike unlikeFrom ruleFrom markedRuleFrom grammarFrom blockBy markedBlock grammarBlock
+    edgeFrom graphFrom graphBlock heardBlock traceEntries graphHeadFrom weight pathLength trace trees hasBits fieldsFrom firstWith derivationOf check
 not-a-walk = (refl, refl, refl, refl, refl, refl)
 
 -- 33 for n 0 or above P − 1, 32 for a reading of slots, 31 for fewer bits than n edges need
 pub not-read : (checks (96 ∷ 0 ∷ 0 ∷ 1 ∷ 16 ∷ 80 ∷ 96 ∷ []) ≡ Refused 33) × (checks (97 ∷ 0 ∷ 0 ∷ 1 ∷ 16 ∷ 80 ∷ 96 ∷ []) ≡ Refused 33)
     × (checks (48 ∷ 128 ∷ 0 ∷ 1 ∷ 16 ∷ 80 ∷ 96 ∷ []) ≡ Refused 32) × (checks (96 ∷ 128 ∷ 0 ∷ 1 ∷ 16 ∷ 80 ∷ []) ≡ Refused 31)
-unfolding num bitsOf ended widthOf widthFrom bitsOfAll inRange fieldAt anyLike unlikeFrom ruleFrom markedRuleFrom grammarFrom blockBy markedBlock grammarBlock edgeFrom graphFrom graphBlock heardBlock graphHeadFrom fieldsFrom check
+unfolding num bitsOf ended widthOf widthFrom bitsOfAll inRange fieldAt anyLike unlikeFrom ruleFrom markedRuleFrom grammarFrom blockBy markedBlock grammarBlock
+    edgeFrom graphFrom graphBlock heardBlock graphHeadFrom fieldsFrom check
 not-read = (refl, refl, refl, refl)

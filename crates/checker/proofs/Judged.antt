@@ -1,7 +1,7 @@
 -- A derivation with the nodes that were read is found exactly if there is one, and there is one at most: the enumeration has all
 -- derivations, and a walk over slots or the bits of the nodes decide it.
 use mathlib.Core.Path.{_≡_, refl, sym, ap, _∙_}
-use mathlib.Core.Bool.{Bool, true, false}
+use mathlib.Core.Bool.{Bool, true, false, false≢true}
 use mathlib.Core.List.{List, [], _∷_, List·Memᴰ·head, List·Memᴰ·tail, List·Memᴰ·cases-cons, List·Memᴰ·not-nil}
 use mathlib.Core.Logic.{⊎-elim}
 use mathlib.Core.Option.{Option, none, some}
@@ -36,9 +36,6 @@ use Rattle.derivation.proofs.HeardReadings.{heard-forward}
 use Rattle.derivation.proofs.Path.{stands-one}
 use Rattle.checker.specs.Judgement.{Fields, walked, headed, fieldsFrom, HasNodes, Has}
 use Rattle.checker.specs.Check.{same, hasBits, fits, firstWith, derivationOf}
-
-false≢true : false ≡ true → ⊥
-false≢true e = let z : _≡_ {A = ℕ} 0 1 = cc in omega arith
 
 -- the tests say what they are to say
 same-out : (a b : List ℕ) → same a b ≡ true → a ≡ b
@@ -135,7 +132,8 @@ unfolding fieldsFrom
 slots-fields g u block P e f = through (readingFrom (length u) (length (g .rules)) block) _ e λ r at p k. same-parsed P k (f r at p)
 
 pub graph-fields : (g : Grammar) (h : Graph) (block : List ℕ) (P : Fields → ℕ → Type 0) {d : Fields} {at : ℕ} → fieldsFrom g (graph h) block ≡ parsed d at
-    → ((r : GraphHead) (at : ℕ) → graphHeadFrom (h .places - 1) (length (g .rules)) block ≡ parsed r at → P (headed r) (graphReadingBits (r .edges) (length (g .rules)))) → P d at
+    → ((r : GraphHead) (at : ℕ) → graphHeadFrom (h .places - 1) (length (g .rules)) block
+    ≡ parsed r at → P (headed r) (graphReadingBits (r .edges) (length (g .rules)))) → P d at
 unfolding fieldsFrom
 graph-fields g h block P e f = through (graphHeadFrom (h .places - 1) (length (g .rules)) block) _ e λ r at p k. same-parsed P k (f r at p)
 
@@ -149,5 +147,6 @@ has-one g (graph h) block okg ok e =
     graph-fields g h block (λ d at. (s t : Tree) → Has block g (graph h) d s → Has block g (graph h) d t → s ≡ t) e
     (λ r at p s t (c, (n, m)) (c′, (n′, m′)).
     let room = head-read (h .places - 1) (length (g .rules)) block p in
-    stands-one g (h .edges) (heard-forward (g .words) (graph h) ok) (omega (arith, valid-edge-count (g .words) h ok)) (valid-rules g okg) (h .places - 1) (r .edges) block
+    stands-one g (h .edges) (heard-forward (g .words) (graph h) ok) (omega (arith, valid-edge-count (g .words) h ok)) (valid-rules g okg) (h .places - 1)
+    (r .edges) block
     (omega (arith, room .3)) s t (record { derives = c; edges = n; nodes = m }) (record { derives = c′; edges = n′; nodes = m′ }))

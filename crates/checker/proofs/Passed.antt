@@ -45,7 +45,8 @@ module _ (g : Grammar) (h : Heard) (block : List ℕ) (okg : ValidGrammar g) (ok
           → judged g (heardEdges h) block (weightRead d) at o ≡ accepted t → Read g h block t
       found d at p none f e = absurd (refused≢accepted e)
       found d at p (some s) f e =
-          let (w, e) = picked-first (eqb (weight g (heardEdges h) s) (weightRead d)) (pick (ended block at) (accepted s) (refused 36)) (refused 35) refused≢accepted e in
+          let (w, e) = picked-first (eqb (weight g (heardEdges h) s) (weightRead d)) (pick (ended block at) (accepted s) (refused 36)) (refused 35)
+          refused≢accepted e in
           let (end, e) = picked-first (ended block at) (accepted s) (refused 36) refused≢accepted e in
           let is : t ≡ s = sym (accepted-is e) in
           record { d = d; at = at; fields = p; has = rw is f; weighs = rw is (eqb-true _ _ w); ends = end }
@@ -101,7 +102,8 @@ module _ (g : Grammar) (h : Graph) (block : List ℕ) (okg : ValidGrammar g) (ok
       own d at p (c, (n, m)) w end =
           let z = head-read (h .places - 1) (length (g .rules)) block p .0 in
           let is : d ≡ record { edges = pathLength t; weight = weight g (h .edges) t } = λ i. record { edges = sym n i; weight = sym w i } in
-          let head : graphHeadFrom (h .places - 1) (length (g .rules)) block ≡ parsed (record { edges = pathLength t; weight = weight g (h .edges) t }) 34 = p ∙ rw (z, is) in
+          let head : graphHeadFrom (h .places - 1) (length (g .rules)) block ≡ parsed (record { edges = pathLength t; weight = weight g (h .edges) t }) 34 = p
+          ∙ rw (z, is) in
           graph-reading-accepted (h .places - 1) (length (g .rules)) block (graphReading g h t) bytes (graph-reading-packs g okg h ok t c)
           (path g okg (graph h) ok t c .1) .1 (head, m, rw n end)
 

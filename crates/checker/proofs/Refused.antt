@@ -105,7 +105,8 @@ module _ (g : Grammar) (h : Heard) (block : List ℕ) (d : Fields) (at : ℕ) wh
   found okg ok e t c = go (derivationOf g h block d) (derivation-found g h block d)
     where
       go : (o : Option Tree) → Found (Has block g h d) o
-          → judged g (heardEdges h) block (weightRead d) at o ≡ pick (eqb (weighs t) (weightRead d)) (pick (ended block at) (accepted t) (refused 36)) (refused 35)
+          → judged g (heardEdges h) block (weightRead d) at o
+          ≡ pick (eqb (weighs t) (weightRead d)) (pick (ended block at) (accepted t) (refused 36)) (refused 35)
       go none f = absurd (f t c)
       go (some s) f = let same : s ≡ t = has-one g h block okg ok e s t f c in rw same
 

@@ -78,7 +78,8 @@ module _ (g : Grammar) (block : List ℕ) where
         → walksOf (judged g (h .edges) block (d .weight) at o)
         ≡ weighed block (d .weight) at (pathWalk (g .rules) (d .edges) block) (pathWeight (g .rules) (h .edges) (h .places - 1) (d .edges) block)
     graph-found d at long none f =
-        rw (path-none g (h .edges) (heard-forward (g .words) (graph h) ok) (omega (arith, valid-edge-count (g .words) h ok)) (valid-rules g okg) (h .places - 1) (d .edges) block long
+        rw (path-none g (h .edges) (heard-forward (g .words) (graph h) ok) (omega (arith, valid-edge-count (g .words) h ok)) (valid-rules g okg) (h .places - 1)
+        (d .edges) block long
         (λ t s. f t (s .derives, (s .edges, s .nodes))))
     graph-found d at long (some t) (c, (n, m)) =
         let forward = heard-forward (g .words) (graph h) ok in

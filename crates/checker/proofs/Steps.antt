@@ -31,7 +31,8 @@ use Rattle.parts_stack.proofs.Fits.{pair-there, word-there}
 use Rattle.checker.specs.Run.{slotAt, behind, stateOf}
 
 -- where no rule fits
-lost : (slots : Utterance) (A : Sym) (heads : List Sym) (w : ℕ) (o : Option R.Rule) → withHead A o ≡ F.the-variants.Nothing → ruleStep slots A heads w o ≡ astray
+lost : (slots : Utterance) (A : Sym) (heads : List Sym) (w : ℕ) (o : Option R.Rule) → withHead A o ≡ F.the-variants.Nothing → ruleStep slots A heads w o
+    ≡ astray
 unfolding ruleStep
 lost slots A heads w none e = refl
 lost slots A heads w (some (Pair H B C v)) e = go (eqb (H .0) (A .0)) e

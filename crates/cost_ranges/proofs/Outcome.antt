@@ -118,7 +118,8 @@ module _ (grammar low high work : List ℕ) where
   unfolding ranges
   not-read e = rw (I.slots-refused grammar low (λ g u. utteranceBlock (g .words) high then λ v. ranged g u v (length work)) e) (refl, refl)
 
-  pub read : {rules₀ edges₀ : List ℕ} {z : Inputs} {rules array : List ℕ} → ReadOf asSlots grammar low rules₀ edges₀ z rules array → {r : Ranged} {work′ : List ℕ}
+  pub read : {rules₀ edges₀ : List ℕ} {z : Inputs} {rules array : List ℕ} → ReadOf asSlots grammar low rules₀ edges₀ z rules array
+      → {r : Ranged} {work′ : List ℕ}
       → LowRanged rules (z .sizes) array (z .heard) high work r work′ → Promised (ranges grammar low high (length work)) work r work′
   unfolding ranges
   read k due =

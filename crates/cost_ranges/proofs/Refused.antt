@@ -33,7 +33,8 @@ pub ranges-asked : (grammar low high : List ℕ) (work : ℕ)
     → ranges grammar low high work ≡ (askedRanges grammar low high work then λ b. accepted (answer (b .0) (b .1) (b .2)))
 unfolding ranges ranged askedRanges
 ranges-asked grammar low high work =
-    then-within (grammarBlock grammar) (λ g. utteranceBlock (g .words) low then λ u. utteranceBlock (g .words) high then λ v. rangesConditions g u v work) found λ g.
+    then-within (grammarBlock grammar) (λ g. utteranceBlock (g .words) low then λ u. utteranceBlock (g .words) high then λ v. rangesConditions g u v work) found
+    λ g.
     then-within (utteranceBlock (g .words) low) (λ u. utteranceBlock (g .words) high then λ v. rangesConditions g u v work) found λ u.
     then-within (utteranceBlock (g .words) high) (λ v. rangesConditions g u v work) found λ v. refl
   where

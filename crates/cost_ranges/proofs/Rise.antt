@@ -1,7 +1,7 @@
 -- The test for 59 over arrays of edges. An edge's start says its slot, so edges that are one by one alike but for their costs are those of
 -- utterances that are: where one slot ends before the other, the starts differ.
 use mathlib.Core.Path.{_≡_, refl, sym, _∙_}
-use mathlib.Core.Bool.{Bool, true, false, _&&_}
+use mathlib.Core.Bool.{Bool, true, false, _&&_, and-false}
 use mathlib.Core.List.{List, [], _∷_, _++_, List·Memᴰ·head}
 use Prim.Native.Nat.{ℕ, suc, _+_, _-_, _*_, _≤_, _<_}
 use native.Mathlib.Numerals.{add-one}
@@ -22,10 +22,6 @@ use Rattle.cost_changes.proofs.Valid.{risen-edges}
 use Rattle.heard_reader.specs.Answer.{heardSize}
 use Rattle.heard_reader.specs.declared.HeardSize.{HeardSize}
 use Rattle.cost_ranges.specs.Model.{edgeRises, edgesRise, bothRise}
-
-and-false : (b : Bool) → (b && false) ≡ false
-and-false true = refl
-and-false false = refl
 
 -- the ways out of one test
 module _ (low high : List ℕ) (e : ℕ) where

@@ -40,28 +40,31 @@ module _ (g : Grammar) (okg : ValidGrammar g) (rules : List ℕ) (has-rules : Be
   -- all passes
   module _ (low : Utterance) (room : tableSize (g .symbols) (length low) 1 ≤ size) where
     -- a pass over another utterance that low rises to
-    module _ (v : Utterance) (okv : ValidUtterance (g .words) v) (risen : rises low v ≡ true) (array : List ℕ) (has : Begins (edgeNumbers (edges v)) array) where
-      room-too : tableSize (g .symbols) (length v) 1 ≤ size
-      room-too = rw (risen-length low v risen) at room
+    module _ (v : Utterance) (okv : ValidUtterance (g .words) v) (risen : rises low v ≡ true) (array : List ℕ) (has : Begins (edgeNumbers (edges v)) array)
+      where
+        room-too : tableSize (g .symbols) (length v) 1 ≤ size
+        room-too = rw (risen-length low v risen) at room
 
-      other-weight : {s : Tree} → First g low s → weightBy rules array (passOf g low) size ≡ weightOf g (edges v) (firstOf g (edges v) (length low))
-      other-weight first =
-          let (t, f) = derives-first g v (risen-derives g low v risen (first .derivation)) in
-          ap (λ (p : Pass). weightBy rules array p size) (pass-same g low v risen) ∙ pass-weight g okg rules has-rules size v okv array has room-too f
-          ∙ ap (λ (n : ℕ). weightOf g (edges v) (firstOf g (edges v) n)) (sym (risen-length low v risen))
+        other-weight : {s : Tree} → First g low s → weightBy rules array (passOf g low) size ≡ weightOf g (edges v) (firstOf g (edges v) (length low))
+        other-weight first =
+            let (t, f) = derives-first g v (risen-derives g low v risen (first .derivation)) in
+            ap (λ (p : Pass). weightBy rules array p size) (pass-same g low v risen) ∙ pass-weight g okg rules has-rules size v okv array has room-too f
+            ∙ ap (λ (n : ℕ). weightOf g (edges v) (firstOf g (edges v) n)) (sym (risen-length low v risen))
 
-      other-clears : (k : ℕ) × (clear (tableBy rules array (passOf g low) size) (passOf g low .table) ≡ replicate k 0)
-      other-clears = (
-        length (tableBy rules array (passOf g v) size),
-        ap (λ (p : Pass). clear (tableBy rules array p size) (p .table)) (pass-same g low v risen) ∙ pass-clears g okg rules has-rules size v okv array has room-too,
-      )
+        other-clears : (k : ℕ) × (clear (tableBy rules array (passOf g low) size) (passOf g low .table) ≡ replicate k 0)
+        other-clears = (
+          length (tableBy rules array (passOf g v) size),
+          ap (λ (p : Pass). clear (tableBy rules array p size) (p .table)) (pass-same g low v risen)
+              ∙ pass-clears g okg rules has-rules size v okv array has room-too,
+        )
 
     module _ (high : Utterance) (okl : ValidUtterance (g .words) low) (okh : ValidUtterance (g .words) high) (risen : rises low high ≡ true)
         (low-array high-array : List ℕ) (has-low : Begins (edgeNumbers (edges low)) low-array) (has-high : Begins (edgeNumbers (edges high)) high-array) where
       abbrev given : {X : Type 0} → (List ℕ → List ℕ → List ℕ → Pass → ℕ → X) → X
       given f = f rules low-array high-array (passOf g low) size
 
-      picked : (b : Bool) (w v : ℕ) → pick b (Stands (record { least = w; greatest = v })) (Outweighed (record { least = w; greatest = v })) ≡ answered (pick b (stands w v) (outweighed w v))
+      picked : (b : Bool) (w v : ℕ) → pick b (Stands (record { least = w; greatest = v })) (Outweighed (record { least = w; greatest = v }))
+          ≡ answered (pick b (stands w v) (outweighed w v))
       picked true w v = refl
       picked false w v = refl
 
@@ -84,17 +87,23 @@ module _ (g : Grammar) (okg : ValidGrammar g) (rules : List ℕ) (has-rules : Be
               let own : nodesWeight rules high-array (given firstNodes) ≡ weight g (edges high) z =
               rw (rank .has .nodes) (tree-weight (edges high) high-array has-high g rules has-rules (edges low) lengths (first .derivation)) in
               let greatest = other-weight high okh risen high-array has-high first in
-              let lightest = other-weight m (risen-valid (g .words) m high (o .choice .below) okh) (o .choice .above) (given mixed) (mixed-has z first rank m is) first in
-              rw (ne-eqb (given found) 0 n, own, greatest, lightest, rank .has .weighs, first-place g low first, ← is) (picked (eqb (weight g (edges high) z) (weightOf g (edges m) (firstOf g (edges m) (length low)))) (weight g (edges low) z)
+              let lightest = other-weight m (risen-valid (g .words) m high (o .choice .below) okh) (o .choice .above) (given mixed)
+              (mixed-has z first rank m is) first in
+              rw (ne-eqb (given found) 0 n, own, greatest, lightest, rank .has .weighs, first-place g low first, ← is)
+              (picked (eqb (weight g (edges high) z) (weightOf g (edges m) (firstOf g (edges m) (length low)))) (weight g (edges low) z)
               (weightOf g (edges high) (firstOf g (edges high) (length low))))
 
       pub left-zeros : (k : ℕ) × (given leftBy ≡ replicate k 0)
       left-zeros = go (ℕ-discrete (given found) 0)
         where
           go : Dec (given found ≡ 0) → (k : ℕ) × (given leftBy ≡ replicate k 0)
-          go (yes e) = (length (tableBy rules low-array (passOf g low) size), rw (eq-eqb (given found) 0 e) (pass-clears g okg rules has-rules size low okl low-array has-low room))
+          go (yes e) = (
+            length (tableBy rules low-array (passOf g low) size),
+            rw (eq-eqb (given found) 0 e) (pass-clears g okg rules has-rules size low okl low-array has-low room),
+          )
           go (no n) =
               let (z, first, rank) = pass-some g okg rules has-rules size low okl low-array has-low room n in
               let (m, o, is) = own-high low high risen z in
-              let (k, zeros) = other-clears m (risen-valid (g .words) m high (o .choice .below) okh) (o .choice .above) (given mixed) (mixed-has z first rank m is) in
+              let (k, zeros) = other-clears m (risen-valid (g .words) m high (o .choice .below) okh) (o .choice .above) (given mixed)
+              (mixed-has z first rank m is) in
               (k, rw (ne-eqb (given found) 0 n) zeros)

@@ -34,7 +34,8 @@ module _ (rules low high : List ℕ) (p : Pass) (size : ℕ) where
       let none : found rules low high p size ≡ 0 = rw (em, et) at z in
       rw (eq-eqb (found rules low high p size) 0 none) (refl, ew ∙ ap (λ (t : List ℕ). clear t (p .table)) et)
 
-  pub some-told : 1 ≤ p .table .places → p .table .places ≤ 24 → (work₂ : List ℕ) {table work₃ work′ trace : List ℕ} {m n least greatest : ℕ} {b : Bool} {r : Ranged}
+  pub some-told : 1 ≤ p .table .places → p .table .places ≤ 24
+      → (work₂ : List ℕ) {table work₃ work′ trace : List ℕ} {m n least greatest : ℕ} {b : Bool} {r : Ranged}
       → table ≡ tableBy rules low p size → m ≡ rootsFound table (p .table) → (m ≡ 0 → ⊥) → least ≡ rootWeight table (p .table) 0
       → trace ≡ storeAll (replicate 94 0) 0 (rootTrace table rules (p .table) 0) → n ≡ length (rootTrace table rules (p .table) 0) → length table ≡ size
       → greatest ≡ weightBy rules high p (length table) → length work₂ ≡ length table

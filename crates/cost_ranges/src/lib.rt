@@ -29,7 +29,22 @@ ghost use Rattle.grammar_reader.specs.Answer.{Bounded};
 ghost use Rattle.chart.specs.WorkTable.{workAfter};
 ghost use Rattle.cost_ranges.specs.CostRanges.{answered, ranges, rangedOf, Meant};
 ghost use Rattle.one_best.specs.Model.{Passable, tableBy, weightBy};
-ghost use Rattle.cost_ranges.specs.Model.{edgeRises, edgesRise, raiseNode, nodeWeight, raiseNodes, nodesWeight, hasLeast, decide, passed, leftBy, bothRise, AlikeRanged, EdgesRanged, LowRanged};
+ghost use Rattle.cost_ranges.specs.Model.{
+  edgeRises,
+  edgesRise,
+  raiseNode,
+  nodeWeight,
+  raiseNodes,
+  nodesWeight,
+  hasLeast,
+  decide,
+  passed,
+  leftBy,
+  bothRise,
+  AlikeRanged,
+  EdgesRanged,
+  LowRanged,
+};
 
 // The least and the greatest first weight.
 pub struct Weights {
@@ -114,7 +129,8 @@ fn raise_node(rules: &[u32], rule: u32, edge: u32, high: &[u32], costs: &mut [u3
 // Gives the edges of a tree, whose nodes are traced, their high costs. The answer is the tree's weight for high costs.
 fn raise_own(rules: &[u32], trace: &[u32], nodes: usize, high: &[u32], costs: &mut [u32]) -> usize
     requires { ⌜ (nodes ≤ 47) × (2 * nodes ≤ length (now trace)) ⌝ }
-    ensures { λ r. ⌜ now (costs .exit) ≡ raiseNodes (now (high .entry)) (now (costs .entry)) (nodesIn (now (rules .entry)) (take (2 * nodes) (now (trace .entry)))) ⌝ }
+    ensures { λ r. ⌜ now (costs .exit) ≡ raiseNodes (now (high .entry)) (now (costs .entry))
+        (nodesIn (now (rules .entry)) (take (2 * nodes) (now (trace .entry)))) ⌝ }
     ensures { λ r. ⌜ r ≡ nodesWeight (now (rules .entry)) (now (high .entry)) (nodesIn (now (rules .entry)) (take (2 * nodes) (now (trace .entry)))) ⌝ }
 {
     let mut own: usize = 0;
@@ -149,8 +165,11 @@ fn has_least(
     work: &mut [u32],
 ) -> bool
     requires { ⌜ (Passable pass) × (nodes ≤ 47) × (2 * nodes ≤ length (now trace)) ⌝ }
-    ensures { λ r. ⌜ r ≡ hasLeast (now (rules .entry)) (nodesIn (now (rules .entry)) (take (2 * nodes) (now (trace .entry)))) (now (high .entry)) (now (costs .entry)) pass (length (now (work .entry))) ⌝ }
-    ensures { λ r. ⌜ now (work .exit) ≡ tableBy (now (rules .entry)) (raiseNodes (now (high .entry)) (now (costs .entry)) (nodesIn (now (rules .entry)) (take (2 * nodes) (now (trace .entry))))) pass (length (now (work .entry))) ⌝ }
+    ensures { λ r. ⌜ r ≡ hasLeast (now (rules .entry)) (nodesIn (now (rules .entry)) (take (2 * nodes) (now (trace .entry)))) (now (high .entry))
+        (now (costs .entry)) pass (length (now (work .entry))) ⌝ }
+    ensures { λ r. ⌜ now (work .exit) ≡ tableBy (now (rules .entry))
+        (raiseNodes (now (high .entry)) (now (costs .entry)) (nodesIn (now (rules .entry)) (take (2 * nodes) (now (trace .entry))))) pass
+        (length (now (work .entry))) ⌝ }
 {
     let own = raise_own(rules, trace, nodes, high, costs);
     let least = first_weight(rules, &costs[..], pass, work);
@@ -268,7 +287,8 @@ fn ranges_high(
 // outweighed under some choice, with a work table that is all zeros afterwards.
 pub fn cost_ranges(grammar: &[u8], low: &[u8], high: &[u8], work: &mut [u32]) -> Ranged
     ensures { λ r. ⌜ r ≡ rangedOf (ranges (now (grammar .entry)) (now (low .entry)) (now (high .entry)) (length (now (work .entry)))) ⌝ }
-    ensures { λ r. ⌜ now (work .exit) ≡ workAfter (ranges (now (grammar .entry)) (now (low .entry)) (now (high .entry)) (length (now (work .entry)))) (now (work .entry)) ⌝ }
+    ensures { λ r. ⌜ now (work .exit) ≡ workAfter (ranges (now (grammar .entry)) (now (low .entry)) (now (high .entry)) (length (now (work .entry))))
+        (now (work .entry)) ⌝ }
     ensures { λ r. ⌜ Meant (now (grammar .entry)) (now (low .entry)) (now (high .entry)) (now (work .entry)) (λ a. r ≡ answered a) (now (work .exit)) ⌝ }
 {
     let mut rules = [0u32; RULES_LENGTH];

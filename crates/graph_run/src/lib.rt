@@ -117,7 +117,8 @@ pub fn weight_of(
     walk: &mut [u32],
 ) -> Found
     requires { do ⌜ (1 ≤ count) × (count ≤ (← ⟦MAX_RULES⟧)) × (1 ≤ n) × (n ≤ (← ⟦MAX_PATH_EDGES⟧)) × (2 * n - 1 ≤ length (now walk)) ⌝ }
-    ensures { λ r. ⌜ (numberOf r ≡ pathWeight (rulesOf (now (rules .entry)) count) (edgesOf (now (edges .entry)) (graph .edges)) (graph .last) n (now (block .entry)))
+    ensures { λ r. ⌜ (numberOf r ≡ pathWeight (rulesOf (now (rules .entry)) count) (edgesOf (now (edges .entry)) (graph .edges)) (graph .last) n
+        (now (block .entry)))
         × Kept (rulesOf (now (rules .entry)) count) (now (block .entry)) (2 * n - 1) (now (walk .exit)) r ⌝ }
 {
     let mut stack = [0u32; MAX_PARTS];

@@ -24,7 +24,8 @@ module _ (block : ℕ → List ℕ → Verdict Heard) (grammar heard : List ℕ)
   unfolding meantBy
   grammar-refused e = rw (grammars.refused-told (grammarBlock grammar) told e)
 
-  pub grammar-read : (rules₀ edges₀ rules edges : List ℕ) → RulesOver (grammarBlock grammar) rules₀ rules → InBounds s → {z : Sizes} → s ≡ G.the-variants.Grammar z
+  pub grammar-read : (rules₀ edges₀ rules edges : List ℕ) → RulesOver (grammarBlock grammar) rules₀ rules → InBounds s → {z : Sizes} → s
+      ≡ G.the-variants.Grammar z
       → {h : H.HeardRead} → Promised (block (z .words) heard) edges₀ edges h → {r : I.InputsRead} → r ≡ joinedOf z h
       → InputsTold block grammar heard rules₀ edges₀ r rules edges
   unfolding meantBy
@@ -41,7 +42,8 @@ module _ (block : ℕ → List ℕ → Verdict Heard) (grammar heard : List ℕ)
           let (h, e, ey) = hearings.accepted-told (block (z .words) heard) (t .answer) refl in
           held h e ey (t .sized) (rw e at (t .laid))
         where
-          held : (h : Heard) → block (z .words) heard ≡ accepted h → y ≡ heardSize h → Sized (H.the-variants.Heard y) → Overlaid (edgeNumbers (heardEdges h)) edges₀ edges
+          held : (h : Heard) → block (z .words) heard ≡ accepted h → y ≡ heardSize h → Sized (H.the-variants.Heard y)
+              → Overlaid (edgeNumbers (heardEdges h)) edges₀ edges
               → ReadOf block grammar heard rules₀ edges₀ (record { sizes = z; heard = y }) rules edges
           held h e ey sized laid′ = record {
             meant = both g h;

@@ -27,7 +27,8 @@ pub slots-refused : {C : Type 0} (grammar heard : List ℕ) (k : Grammar → Utt
 unfolding meantBy
 slots-refused grammar heard k {n} = go (grammarBlock grammar)
   where
-    go-on : (g : Grammar) (v : Verdict Utterance) → ((v then λ u. accepted (slots u)) then λ h. accepted (both g h)) ≡ refused n → (v then λ u. k g u) ≡ refused n
+    go-on : (g : Grammar) (v : Verdict Utterance) → ((v then λ u. accepted (slots u)) then λ h. accepted (both g h)) ≡ refused n → (v then λ u. k g u)
+        ≡ refused n
     go-on g (accepted u) e = let z : _≡_ {A = ℕ} 0 1 = cc in absurd (omega arith)
     go-on g (refused m) e = let same : m ≡ n = cc in ap refused same
 

@@ -43,7 +43,8 @@ fn joined(sizes: Sizes, heard: HeardRead) -> InputsRead
 // A grammar, and slots or a graph under it.
 pub fn read_inputs(grammar: &[u8], heard: &[u8], rules: &mut [u32], edges: &mut [u32]) -> InputsRead
     requires { do ⌜ ((← ⟦RULES_LENGTH⟧) ≤ length (now rules)) × ((← ⟦EDGES_LENGTH⟧) ≤ length (now edges)) ⌝ }
-    ensures { λ r. ⌜ InputsTold heardBlock (now (grammar .entry)) (now (heard .entry)) (now (rules .entry)) (now (edges .entry)) r (now (rules .exit)) (now (edges .exit)) ⌝ }
+    ensures { λ r. ⌜ InputsTold heardBlock (now (grammar .entry)) (now (heard .entry)) (now (rules .entry)) (now (edges .entry)) r (now (rules .exit))
+        (now (edges .exit)) ⌝ }
 {
     match grammar_reader::read_block(grammar, rules) {
         GrammarRead::Refused(n) => InputsRead::Refused(n),
@@ -61,7 +62,8 @@ pub fn read_slot_inputs(
     edges: &mut [u32],
 ) -> InputsRead
     requires { do ⌜ ((← ⟦RULES_LENGTH⟧) ≤ length (now rules)) × ((← ⟦EDGES_LENGTH⟧) ≤ length (now edges)) ⌝ }
-    ensures { λ r. ⌜ InputsTold asSlots (now (grammar .entry)) (now (heard .entry)) (now (rules .entry)) (now (edges .entry)) r (now (rules .exit)) (now (edges .exit)) ⌝ }
+    ensures { λ r. ⌜ InputsTold asSlots (now (grammar .entry)) (now (heard .entry)) (now (rules .entry)) (now (edges .entry)) r (now (rules .exit))
+        (now (edges .exit)) ⌝ }
 {
     match grammar_reader::read_block(grammar, rules) {
         GrammarRead::Refused(n) => InputsRead::Refused(n),

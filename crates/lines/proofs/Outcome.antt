@@ -5,7 +5,7 @@ use Prim.Native.Nat.{ℕ, _+_, _-_, _*_, _≤_}
 use native.Mathlib.Nat.{mul-le-mul-right}
 use native.Mathlib.Omega.{arith}
 use lib.ListN.{length}
-use Rattle.packing.specs.Meaning.{Grammar, Marked, grammarOf, Heard, slots, graph}
+use Rattle.packing.specs.Meaning.{Marked, grammarOf, Heard}
 use Rattle.packing.specs.Parse.{Verdict, accepted, refused}
 use Rattle.packing.specs.Grammar.{markedBlock, grammarBlock}
 use Rattle.packing.specs.Heard.{heardBlock}
@@ -20,13 +20,10 @@ use Rattle.listing.specs.Demand3.{Demand3}
 use Rattle.inputs.specs.declared.Listed.{Listed}
 use Rattle.inputs.specs.declared.Listed.the-variants.{Found}
 use Rattle.listing.proofs.Accepted.{Asks, asked-out, list-asked}
+use Rattle.traced_readings.proofs.Sizes.{size-is}
 use Rattle.lines.specs.Rows.{Rows}
-use Rattle.lines.specs.Model.{shapeOf, sizeOf, ShapeOf, RowsSay}
+use Rattle.lines.specs.Model.{sizeOf, ShapeOf, RowsSay}
 use Rattle.lines.specs.declared.Shape.{Shape}
-
-size-is : (g : Grammar) (h : Heard) → sizeOf (shapeOf g h) ≡ outputLength g h
-size-is g (slots u) = refl
-size-is g (graph h) = refl
 
 -- where readings were found, what both blocks mean
 record Meant (grammar heard : List ℕ) (work out : ℕ) : Type 0 where

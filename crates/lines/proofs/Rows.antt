@@ -44,13 +44,15 @@ in-front : (n b a : ℕ) (l l′ : List ℕ) → b + n ≤ a → b ≤ length l 
 in-front n b a l l′ h r r′ e =
     let same : take (b + n) l ≡ take (b + n) l′ = sym (take-take (b + n) a l h) ∙ ap (take (b + n)) e ∙ take-take (b + n) a l′ h in
     let both : take b l ++ take n (drop b l) ≡ take b l′ ++ take n (drop b l′) = sym (take-add b n l) ∙ same ∙ take-add b n l′ in
-    sym (drop-at (take b l) (take n (drop b l)) b (length-take-le b l r)) ∙ ap (drop b) both ∙ drop-at (take b l′) (take n (drop b l′)) b (length-take-le b l′ r′)
+    sym (drop-at (take b l) (take n (drop b l)) b (length-take-le b l r)) ∙ ap (drop b) both
+    ∙ drop-at (take b l′) (take n (drop b l′)) b (length-take-le b l′ r′)
 
 module _ (rules marks : List ℕ) (s : Shape) (out : List ℕ) where
   pub no-rows : (shown : List ℕ) → RowsSay rules marks s out 0 shown shown
   no-rows shown = record { each = λ j l. absurd (omega arith); beyond = refl }
 
-  pub rows-more : (k size : ℕ) → size ≡ sizeOf s → (shown now part : List ℕ) → RowsSay rules marks s out k shown now → length part ≡ 50 → k * 50 + 50 ≤ length now
+  pub rows-more : (k size : ℕ) → size ≡ sizeOf s → (shown now part : List ℕ) → RowsSay rules marks s out k shown now → length part ≡ 50
+      → k * 50 + 50 ≤ length now
       → RowSays rules marks s (take (k * size + size - k * size) (drop (k * size) out)) (k + 1) part
       → RowsSay rules marks s out (k + 1) shown (putMid (k * 50) (k * 50 + 50 - k * 50) now part)
   rows-more k bytes sized shown now part before size room says = record { each = each; beyond = beyond }

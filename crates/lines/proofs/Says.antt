@@ -61,14 +61,16 @@ module _ (rules : List ℕ) (s : Shape) (block array : List ℕ) {r : graphs.Hea
     (answered : r ≡ graph-answer.answerOf (s .rules) (graphHeadFrom (s .last) (s .rules) block)) where
   pub graph-refused : {m : ℕ} → r ≡ graphs.the-variants.Refused m → {line : Line} → GraphSays rules s block line array
   graph-refused {m} told d l next head nodes =
-      let same : graphs.the-variants.Refused m ≡ graph-answer.answerOf (s .rules) (parsed d 34) = sym told ∙ answered ∙ ap (graph-answer.answerOf (s .rules)) head in
+      let same : graphs.the-variants.Refused m ≡ graph-answer.answerOf (s .rules) (parsed d 34) = sym told ∙ answered
+      ∙ ap (graph-answer.answerOf (s .rules)) head in
       let z : _≡_ {A = ℕ} 0 1 = cc in
       absurd (omega arith)
 
   pub graph-read : {x : heads.GraphHead} {c : Cursor} → r ≡ graphs.the-variants.Head x c → WalkRead rules (s .rules) (2 * x .edges - 1) block array
       → GraphSays rules s block (record { weight = x .weight; nodes = 2 * x .edges - 1 }) array
   graph-read {x} {c} told walked d l next head nodes =
-      let same : graphs.the-variants.Head x c ≡ graph-answer.answerOf (s .rules) (parsed d 34) = sym told ∙ answered ∙ ap (graph-answer.answerOf (s .rules)) head in
+      let same : graphs.the-variants.Head x c ≡ graph-answer.answerOf (s .rules) (parsed d 34) = sym told ∙ answered
+      ∙ ap (graph-answer.answerOf (s .rules)) head in
       let weights : x .weight ≡ d .weight = cc in
       let edges : x .edges ≡ d .edges = cc in
       (weights, rw edges, walked l next (rw edges nodes))
@@ -97,7 +99,8 @@ module _ (rules : List ℕ) (s : Shape) (block : List ℕ) (r : Line) (array : L
           → (r .weight ≡ weight g (h .edges) t) × (r .nodes ≡ length (walk t)) × Begins (walk t) array
       go head {mid} nodes =
           let walked = walk-read g (h .edges) (bytes 31 block) d nodes (2 * pathLength t - 1) refl in
-          let (a, b, c) = say (record { edges = pathLength t; weight = weight g (h .edges) t }) (walk t) mid (rw shape head) (rw (shape, rules-of g rules stand) walked) in
+          let (a, b, c) = say (record { edges = pathLength t; weight = weight g (h .edges) t }) (walk t) mid (rw shape head)
+          (rw (shape, rules-of g rules stand) walked) in
           (a, b ∙ omega (arith, walk-path t), c)
 
   slots-says : SlotsSay s block r array → (g : Grammar) (u : Utterance) (t : Tree) → ValidGrammar g → ValidUtterance (g .words) u → s ≡ shapeOf g (slots u)

@@ -18,7 +18,8 @@ use Rattle.lines.specs.Rows.{row, rowOf, kthRow, Rows}
 module _ (o : Office) (matching : (h : Heard) → Match o h) where
   -- of a derivation of the converted grammar: the row has the office derivation's weight and its own rule numbers
   office-row : (k : ℕ) (h : Heard) (s : Tree) → Derivation (convert o) h s
-      → row k (weight (convert o) (heardEdges h) s) (withoutMarked (marks o) (walk s)) ≡ row k (officeWeight o (heardEdges h) (toOffice o s)) (officeWalk (toOffice o s))
+      → row k (weight (convert o) (heardEdges h) s) (withoutMarked (marks o) (walk s))
+      ≡ row k (officeWeight o (heardEdges h) (toOffice o s)) (officeWalk (toOffice o s))
   office-row k h s d =
       let m = matching h in
       let t = toOffice o s in

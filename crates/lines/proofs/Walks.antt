@@ -51,7 +51,8 @@ module _ (rules : List R.Rule) (src : Source) (nodes : ℕ) where
         let place : end ≡ mid = cc in
         (rest, rw place at more, rw (add-one i, take-suc-set array i r room, append-assoc, k, ← same) is)
 
-    pub no-node : i < nodes → {n : ℕ} → nodeFrom rules src at ≡ failed n → (l : List ℕ) (next : ℕ) → rulesRead rules src nodes 34 ≡ parsed l next → Begins l array
+    pub no-node : i < nodes → {n : ℕ} → nodeFrom rules src at ≡ failed n → (l : List ℕ) (next : ℕ) → rulesRead rules src nodes 34 ≡ parsed l next
+        → Begins l array
     no-node b p l next e =
         let (x, mid, rest, q, more, is) = one-more b l next e in
         let z : _≡_ {A = ℕ} 0 1 = cc in

@@ -3,14 +3,13 @@ use mathlib.Core.Path.{_≡_}
 use mathlib.Core.List.{List, _++_}
 use Prim.Native.Nat.{ℕ, _+_, _-_, _*_, _≤_, _<_}
 use lib.ListN.{length, take, drop}
-use Rattle.bits.specs.Bits.{pick}
 use Rattle.packing.specs.Meaning.{Grammar, Marked, grammarOf, Heard, lastPlace, heardEdges, Reading}
 use Rattle.packing.specs.Parse.{accepted, parsed}
 use Rattle.packing.specs.Source.{bytes}
 use Rattle.packing.specs.Grammar.{markedBlock}
 use Rattle.packing.specs.Heard.{heardBlock}
-use Rattle.packing.specs.Reading.{blockOfReading, readingLength}
-use Rattle.packing.specs.GraphReading.{GraphHead, graphHeadFrom, graphReadingLength}
+use Rattle.packing.specs.Reading.{blockOfReading}
+use Rattle.packing.specs.GraphReading.{GraphHead, graphHeadFrom}
 use Rattle.packing.specs.Flat.{Begins, ruleNumbers, markNumbers, rulesOf}
 use Rattle.packing.specs.Valid.{ValidGrammar, ValidMarked, ValidHeard, ValidReading}
 use Rattle.derivation.specs.Derivation.{Tree, Derivation, weight, walk}
@@ -18,6 +17,7 @@ use Rattle.derivation.specs.Heard.{packed}
 use Rattle.derivation.specs.Path.{rulesRead}
 use Rattle.heard_reader.specs.Answer.{isGraph}
 use Rattle.office_theory.specs.Matching.{withoutMarked}
+use Rattle.traced_readings.specs.Model as Traced
 use Rattle.lines.specs.Rows.{rowOf}
 use Rattle.lines.specs.declared.Shape.{Shape}
 use Rattle.lines.specs.declared.Line.{Line}
@@ -34,7 +34,7 @@ abbrev pub shapeOf : Grammar → Heard → Shape
 shapeOf g h = record { graph = isGraph h; last = lastPlace h; rules = length (g .rules) }
 
 abbrev pub sizeOf : Shape → ℕ
-sizeOf s = pick (s .graph) (graphReadingLength (s .last) (s .rules)) (readingLength (s .last) (s .rules))
+sizeOf s = Traced.sizeOf (s .graph) (s .last) (s .rules)
 
 -- the shape of what both blocks mean, and the rules with their marks
 pub record ShapeOf (grammar heard rules marks : List ℕ) (s : Shape) : Type 0 where

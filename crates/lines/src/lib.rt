@@ -5,7 +5,6 @@ use graph_reading_reader::HeadRead;
 use graph_reading_reader::NodeRead;
 use graph_reading_reader::read_head;
 use graph_reading_reader::read_node;
-use graph_reading_writer::graph_reading_length;
 use heard_reader::HeardRead;
 use inputs::Listed;
 use packing::format::EDGES_LENGTH;
@@ -15,7 +14,7 @@ use packing::format::RULES_LENGTH;
 use packing::format::UNMARKED;
 use packing::format::WALK_LENGTH;
 use reading_reader::ReadingRead;
-use reading_writer::reading_length;
+use traced_readings::form_of;
 ghost use mathlib.Core.Path.{_≡_};
 ghost use mathlib.Core.List.{[], _∷_, _++_};
 ghost use Prim.Native.Nat.{_+_, _-_, _*_, _≤_, _<_};
@@ -88,10 +87,8 @@ fn size_of(s: Shape) -> usize
     requires { ⌜ Bounded s ⌝ }
     ensures { λ r. ⌜ r ≡ sizeOf s ⌝ }
 {
-    if s.graph {
-        return graph_reading_length(s.last, s.rules);
-    }
-    reading_length(s.last, s.rules)
+    let form = form_of(s.graph, s.last, s.rules);
+    form.size
 }
 
 // The line of a reading of slots, with its rule numbers at the front of `walk`.
@@ -226,8 +223,10 @@ pub fn lines(
 ) -> Listed
     requires { ⌜ 400 ≤ length (now shown) ⌝ }
     ensures { λ r. ⌜ r ≡ listedOf (list library (now (grammar .entry)) (now (heard .entry)) 8 (length (now (work .entry))) (length (now (out .entry)))) ⌝ }
-    ensures { λ r. ⌜ now (work .exit) ≡ workAfter (list library (now (grammar .entry)) (now (heard .entry)) 8 (length (now (work .entry))) (length (now (out .entry)))) (now (work .entry)) ⌝ }
-    ensures { λ r. ⌜ now (out .exit) ≡ outputAfter (list library (now (grammar .entry)) (now (heard .entry)) 8 (length (now (work .entry))) (length (now (out .entry)))) (now (out .entry)) ⌝ }
+    ensures { λ r. ⌜ now (work .exit) ≡ workAfter
+        (list library (now (grammar .entry)) (now (heard .entry)) 8 (length (now (work .entry))) (length (now (out .entry)))) (now (work .entry)) ⌝ }
+    ensures { λ r. ⌜ now (out .exit) ≡ outputAfter
+        (list library (now (grammar .entry)) (now (heard .entry)) 8 (length (now (work .entry))) (length (now (out .entry)))) (now (out .entry)) ⌝ }
     ensures { λ r. ⌜ Told (now (grammar .entry)) (now (heard .entry)) r (now (shown .entry)) (now (shown .exit)) ⌝ }
 {
     let mut rules = [0u32; RULES_LENGTH];

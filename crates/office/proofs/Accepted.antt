@@ -16,7 +16,7 @@ use Rattle.packing.specs.Alike.{anyLike, unlikeFrom}
 use Rattle.packing.specs.Grammar.{sizeField}
 use Rattle.packing.proofs.Parse.{through, same-parsed, finish-out, parsed-else}
 use Rattle.packing.proofs.Taking.{field-at-numbers-out}
-use Rattle.office.specs.Office.{Item, symbol, spoken, OfficeRule, rule, Office, Unlike, Valid}
+use Rattle.office.specs.Office.{Item, symbol, spoken, OfficeRule, rule, Office, OfficeUnlike, Valid}
 use Rattle.office.specs.Sheet.{itemsAlike, ruleAlike, officeRuleFrom, officeRulesFrom, officeFrom, officeSheet}
 use Rattle.office.specs.Flat.{officeRulesAt, behindAll}
 use Rattle.office.proofs.Read.{rules-read, length-rules}
@@ -54,7 +54,7 @@ not-among r (p ∷ qs) n {q} e h = go (ruleAlike r p) refl h n e (λ n e h. not-
 true≢false : {b : Bool} → b ≡ true → b ≡ false → ⊥
 true≢false t f = let z : _≡_ {A = ℕ} 0 1 = cc in omega arith
 
-unlike-snoc : (qs : List OfficeRule) (x : OfficeRule) → Unlike qs → anyLike ruleAlike x qs ≡ false → Unlike (qs ++ (x ∷ []))
+unlike-snoc : (qs : List OfficeRule) (x : OfficeRule) → OfficeUnlike qs → anyLike ruleAlike x qs ≡ false → OfficeUnlike (qs ++ (x ∷ []))
 unlike-snoc qs x h new q r u w A l a b =
     at-snoc qs x q a (λ c. at-snoc qs x r b (λ d. h q r u w A l c d) (λ n e. absurd (clash q u w c e)))
     (λ n e. at-snoc qs x r b (λ d. absurd (clash r w u d e)) (λ m f. n ∙ sym m))
@@ -63,9 +63,9 @@ unlike-snoc qs x h new q r u w A l a b =
     clash n v z c e = true≢false (rule-self A z v l) (rw e at (not-among x qs n c new))
 
 unlike-read : (s : List ℕ) (S W n at : ℕ) (qs : List OfficeRule) {rs : List OfficeRule} {next : ℕ} → officeRulesFrom s S W n at qs ≡ parsed rs next
-    → Unlike qs → Unlike rs
+    → OfficeUnlike qs → OfficeUnlike rs
 unfolding unlikeFrom
-unlike-read s S W zero at qs e h = same-parsed (λ rs next. Unlike rs) e h
+unlike-read s S W zero at qs e h = same-parsed (λ rs next. OfficeUnlike rs) e h
 unlike-read s S W (suc n) at qs e h =
     through (officeRuleFrom s S W at) _ e λ r a p e.
     let (new, e) = parsed-else (anyLike ruleAlike r qs) 6 (officeRulesFrom s S W n a (qs ++ (r ∷ []))) e in

@@ -22,7 +22,7 @@ use Rattle.packing.proofs.Grammar.{valid-marked}
 use Rattle.derivation.specs.Derivation.{At}
 use Rattle.derivation.proofs.Lists.{at-length}
 use Rattle.derivation.proofs.Trees.{same-sym, same-word}
-use Rattle.office.specs.Office.{OfficeRule, Office, Valid, Within, Unlike}
+use Rattle.office.specs.Office.{OfficeRule, Office, Valid, OfficeWithin, OfficeUnlike}
 use Rattle.office.proofs.Marked.{marked-grammar}
 use Rattle.office.proofs.Steps.{result-symbols, result-words, result-rules}
 use Rattle.office.specs.Conversion.{forWord, joins, helper, helpers, convert, rulesBehind, helperRules, convertMarked}
@@ -84,7 +84,7 @@ word-fits S Ws a b c = omega arith
 pair-fits : (S Ws : ℕ) {A B C : Sym} {w : ℕ} → A .0 < S → B .0 < S → C .0 < S → w ≤ 65535 → Fits (ruleEntries S Ws (Pair A B C w))
 pair-fits S Ws a b c d = omega arith
 
-module _ (o : Office) (v : Within o) where
+module _ (o : Office) (v : OfficeWithin o) where
   abbrev n : ℕ
   n = o .symbols + length (helpers o)
 
@@ -114,7 +114,7 @@ module _ (o : Office) (v : Within o) where
   alike-heads (Word A x w) (Pair A′ B′ C′ w′) e = absurd (false≢true e)
   alike-heads (Word A x w) (Word A′ x′ w′) e = eqb-true (A .0) (A′ .0) (both-out _ _ e .0)
 
-  module _ (u : Unlike (o .rules)) where
+  module _ (u : OfficeUnlike (o .rules)) where
     -- office rules that become alike have head and items alike
     office-one : (q r : ℕ) {a b : OfficeRule} {c d : R.Rule} → At (o .rules) q a → At (o .rules) r b
         → Becomes (o .symbols) (helpers o) a c → Becomes (o .symbols) (helpers o) b d → alike c d ≡ true → q ≡ r
@@ -151,7 +151,7 @@ converted-valid o v h m = (
       alike-one o w (v .unlike) q r c d (place o w q p) (place o w r p′) e),
 )
   where
-    w : Within o
+    w : OfficeWithin o
     w = v .within
 
     symbols : (1 ≤ convert o .symbols) × (convert o .symbols ≤ 32)

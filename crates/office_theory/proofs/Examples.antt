@@ -5,13 +5,13 @@ use mathlib.Core.List.{List, [], _∷_}
 use native.Mathlib.Omega.{arith}
 use Rattle.packing.specs.Meaning.{symbolOf, word, Edge, edge}
 use Rattle.derivation.specs.Derivation.{leaf, node}
-use Rattle.office.specs.Office.{Item, symbol, spoken, OfficeRule, rule, Within}
+use Rattle.office.specs.Office.{Item, symbol, spoken, OfficeRule, rule, OfficeWithin}
 use Rattle.office_theory.specs.Derivations.{OfficeTree, heard, ruled, parted, OfficeDerives, by-edge, by-rule, by-parts, officeWeight}
 use Rattle.office.specs.Conversion.{convert, marks}
 use Rattle.office_theory.specs.Matching.{unlessMarked, reduced, leftOf, rightOf, helperNumber, expandedBy, toGrammar, toOffice, withoutMarked}
 use Rattle.office.proofs.Examples.{desk}
 
-desk-within : Within desk
+desk-within : OfficeWithin desk
 desk-within = omega arith
 
 abbrev heardEdges : List Edge

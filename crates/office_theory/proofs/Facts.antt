@@ -12,7 +12,7 @@ use Rattle.packing.specs.declared.Rule as R
 use Rattle.packing.specs.declared.Rule.the-variants.{Pair, Word}
 use Rattle.derivation.specs.Derivation.{At}
 use Rattle.derivation.proofs.Lists.{none≢some, at-length, length-at, at-map}
-use Rattle.office.specs.Office.{Item, symbol, spoken, OfficeRule, rule, Office, RulesWithin, RuleWithin, Within}
+use Rattle.office.specs.Office.{Item, symbol, spoken, OfficeRule, rule, Office, RulesWithin, RuleWithin, OfficeWithin}
 use Rattle.office_theory.specs.Derivations.{OfficeTree, ruled}
 use Rattle.office.proofs.Steps.{rules-length}
 use Rattle.office.specs.Conversion.{Helper, forWord, joins, helper, rulesBehind, helpers, helperRule, helperRules, convert, marks}
@@ -86,7 +86,7 @@ module _ (o : Office) where
   unfolding helperNumber
   helper-number k = omega arith
 
-  module _ (v : Within o) where
+  module _ (v : OfficeWithin o) where
     -- an office rule's rule
     pub office-rule : (r : ℕ) {q : OfficeRule} → At (o .rules) r q → (c : R.Rule) × At (convert o .rules) r c × Become q c
     unfolding convert helpers

@@ -11,7 +11,7 @@ use Rattle.packing.specs.declared.Rule.the-variants.{Pair, Word}
 use Rattle.packing.specs.Meaning.{Edge, edge}
 use Rattle.derivation.specs.Derivation.{At, Offered, Tree, leaf, node, Derives, by-word, by-pair, edgeCost, weight}
 use Rattle.derivation.proofs.Rows.{leaf-weight, node-weight}
-use Rattle.office.specs.Office.{Item, symbol, rule, Office, Within}
+use Rattle.office.specs.Office.{Item, symbol, rule, Office, OfficeWithin}
 use Rattle.office_theory.specs.Derivations.{
   OfficeTree,
   heard,
@@ -61,7 +61,7 @@ use Rattle.office_theory.proofs.Facts.{
   helper-left-out,
 }
 
-module _ (o : Office) (v : Within o) (es : List Edge) where
+module _ (o : Office) (v : OfficeWithin o) (es : List Edge) where
   abbrev Spell : List Item → Sym → Type 0
   Spell = Spells (o .symbols) (helpers o)
 

@@ -7,7 +7,10 @@ use native.Mathlib.Omega.{arith}
 use borrow.Author.Tests.{lt-ltb, le-ltb, eq-eqb, ne-eqb}
 use lib.Dec.{ltb}
 use lib.ListN.{length, take}
-use Rattle.open_listing.specs.Model.{zeros, nextTable, Answered, Searched, FirstCalled, answeredBy, firstBy, callBy, As}
+use Rattle.bits.specs.Bits.{pick}
+use Rattle.chart.specs.Chart.{rootFound}
+use Rattle.open_listing.specs.Model.{zeros, firstTable, nextTable, Answered, Searched, FirstCalled, answeredBy, seeks, tableBy, soughtBy, callBy, As}
+use Rattle.open_listing.specs.Open.{Left}
 use Rattle.open_listing.specs.declared.Place.{Place}
 use Rattle.open_listing.specs.declared.Plan.{Plan}
 use Rattle.open_listing.specs.declared.Answer as A
@@ -17,13 +20,11 @@ answered-as : {found : Bool} {table rules edges : List ℕ} {q : Plan} {x : ℕ}
     → Answered found table rules edges q x work out r work′ out′ → As (answeredBy found table rules edges q x work out) r work′ out′
 answered-as s = record { answer = s .answer; table = rw (s .answer) at (s .left); output = rw (s .answer) at (s .output) }
 
-first-as : (rules edges : List ℕ) (q : Plan) (work out : List ℕ) {r : A.Answer} {work′ out′ : List ℕ}
-    → FirstCalled rules edges q work out r work′ out′ → As (firstBy rules edges q work out) r work′ out′
-first-as rules edges q work out {r} {work′} {out′} s = go (zeros (take (4 * q .layout .cells) work)) refl
-  where
-    go : (b : Bool) → zeros (take (4 * q .layout .cells) work) ≡ b → As (firstBy rules edges q work out) r work′ out′
-    go true z = rw z (answered-as (s .clear z))
-    go false z = rw z (answered-as (s .altered z))
+-- a first call, by the test of its table's front
+abbrev firstBy : (rules edges : List ℕ) → Plan → (work out : List ℕ) → Bool → Left
+firstBy rules edges q work out clear =
+    let t = pick clear (firstTable rules edges q work) work in
+    answeredBy (pick clear (rootFound t (q .layout) 0) true) t rules edges q 0 work out
 
 -- the tests, one behind the other
 module _ (rules edges : List ℕ) (q : Plan) (p : Place) (work out : List ℕ) {n : ℕ} (e : n ≡ 4 * q .layout .cells * q .layout .ranks) where
@@ -53,20 +54,26 @@ module _ (rules edges : List ℕ) (q : Plan) (p : Place) (work out : List ℕ) {
       unfolding callBy
       full many = rw (fits, fits′, le-ltb (p .handed) 256 many) (record { answer = refl; table = refl; output = refl })
 
-      module _ (below : p .handed < 256) where
-        pub not-opened : (p .opened ≡ 1 → ⊥) → Calls (Refused 53) work out
-        unfolding callBy
-        not-opened other =
-            rw (fits, fits′, lt-ltb (p .handed) 256 below, ne-eqb (p .opened) 1 other) (record { answer = refl; table = refl; output = refl })
+      more : p .handed < 256 → ltb (p .handed) 256 ≡ true
+      more below = lt-ltb (p .handed) 256 below
 
-        module _ (opened : p .opened ≡ 1) {r : A.Answer} {work′ out′ : List ℕ} where
+      module _ (below : p .handed < 256) {r : A.Answer} {work′ out′ : List ℕ} where
+        pub unopened-call : (p .opened ≡ 1 → ⊥) → Answered true work rules edges q (p .handed) work out r work′ out′ → Calls r work′ out′
+        unfolding callBy soughtBy tableBy seeks
+        unopened-call other s = rw (fits, fits′, more below, ne-eqb (p .opened) 1 other) (answered-as s)
+
+        module _ (opened : p .opened ≡ 1) where
           pub first-call : p .handed ≡ 0 → FirstCalled rules edges q work out r work′ out′ → Calls r work′ out′
-          unfolding callBy
-          first-call none s =
-              rw (fits, fits′, lt-ltb (p .handed) 256 below, eq-eqb (p .opened) 1 opened, eq-eqb (p .handed) 0 none) (first-as rules edges q work out s)
+          unfolding callBy soughtBy tableBy seeks
+          first-call none s = rw (fits, fits′, more below, eq-eqb (p .opened) 1 opened, none) (go (zeros (take (4 * q .layout .cells) work)) refl)
+            where
+              go : (b : Bool) → zeros (take (4 * q .layout .cells) work) ≡ b → As (firstBy rules edges q work out b) r work′ out′
+              go true z = answered-as (s .clear z)
+              go false z = answered-as (s .altered z)
 
-          pub later-call : 1 ≤ p .handed → Searched (nextTable rules edges q (p .handed - 1) work) rules edges q (p .handed) work out r work′ out′ → Calls r work′ out′
-          unfolding callBy
+          pub later-call : 1 ≤ p .handed → Searched (nextTable rules edges q (p .handed - 1) work) rules edges q (p .handed) work out r work′ out′
+              → Calls r work′ out′
+          unfolding callBy soughtBy tableBy seeks
           later-call some s =
               let other : p .handed ≡ 0 → ⊥ = λ z. omega arith in
-              rw (fits, fits′, lt-ltb (p .handed) 256 below, eq-eqb (p .opened) 1 opened, ne-eqb (p .handed) 0 other) (answered-as s)
+              rw (fits, fits′, more below, eq-eqb (p .opened) 1 opened, ne-eqb (p .handed) 0 other) (answered-as s)

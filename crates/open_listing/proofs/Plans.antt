@@ -19,7 +19,8 @@ use Rattle.open_listing.specs.Model.{Planned, planOf}
 use Rattle.open_listing.specs.declared.Plan.{Plan}
 use Rattle.inputs.specs.declared.Inputs.{Inputs}
 
-module _ (b : Inputs) (bounds : Bounds b) {f : Form} {d : Layout} (formed : f ≡ formOf (b .heard .graph) (b .heard .last) (b .sizes .rules)) (laid : d ≡ layOut (b .sizes .symbols) (b .heard .last) 256) where
+module _ (b : Inputs) (bounds : Bounds b) {f : Form} {d : Layout} (formed : f ≡ formOf (b .heard .graph) (b .heard .last) (b .sizes .rules))
+    (laid : d ≡ layOut (b .sizes .symbols) (b .heard .last) 256) where
   abbrev made : Plan
   made = record { form = f; layout = d; edges = b .heard .edges }
 
@@ -31,7 +32,13 @@ module _ (b : Inputs) (bounds : Bounds b) {f : Form} {d : Layout} (formed : f �
   plan-planned sized small = record {
     sized = sized;
     all-ranks = rw laid;
-    form = rw (formed, laid) (record { some-place = bounds .some-place; places = bounds .places; some-rule = bounds .sizes .some-rule; rules = bounds .sizes .rules; size = refl });
+    form = rw (formed, laid) (record {
+      some-place = bounds .some-place;
+      places = bounds .places;
+      some-rule = bounds .sizes .some-rule;
+      rules = bounds .sizes .rules;
+      size = refl;
+    });
     size = small;
     edges = omega (arith, bounds .edges);
   }

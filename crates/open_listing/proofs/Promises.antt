@@ -1,6 +1,7 @@
 -- What a call is to promise, from what its search leaves: whatever the table held (`Called`), and after k readings (`Kept`).
 use mathlib.Core.Path.{_≡_, refl, sym, ap, _∙_}
 use mathlib.Core.Bool.{Bool, true, false, false≢true}
+use mathlib.Core.Option.{none}
 use mathlib.Core.List.{List, _++_}
 use Prim.Native.Nat.{ℕ, suc, _+_, _≤_, _<_}
 use native.Mathlib.Numerals.{add-one, one-add}
@@ -33,7 +34,7 @@ use Rattle.chart.specs.WorkTable.{tableSize}
 use Rattle.traced_readings.specs.Ranked.{Ranked}
 use Rattle.traced_readings.proofs.Sizes.{size-is}
 use Rattle.traced_readings.proofs.Packed.{block-is}
-use Rattle.open_listing.specs.Stands.{SpelledReading, Standing}
+use Rattle.open_listing.specs.Stands.{entry, SpelledReading, Standing}
 use Rattle.open_listing.specs.Open as S
 use Rattle.open_listing.specs.Model.{Planned, isReading, handsOut, settled, Answered, Searched}
 use Rattle.open_listing.specs.declared.Place.{Place}
@@ -70,14 +71,12 @@ module _ (grammar heard : List ℕ) (g : Grammar) (h : Heard) (eg : grammarBlock
     calling-accepts room enough = rw (opening-accepts work room, le-ltb out (outputLength g h) enough)
 
 -- where nothing is short
-module _ (search : S.Search) (grammar heard : List ℕ) (g : Grammar) (h : Heard) (eg : grammarBlock grammar ≡ accepted g) (eh : heardBlock (g .words) heard ≡ accepted h)
-    (rules edges : List ℕ) (begun : Begins (ruleNumbers g) rules) (begun′ : Begins (edgeNumbers (heardEdges h)) edges) (planned : Planned (plan g h)) (p : Place)
+module _ (search : S.Search) (grammar heard : List ℕ) (g : Grammar) (h : Heard) (eg : grammarBlock grammar ≡ accepted g)
+    (eh : heardBlock (g .words) heard ≡ accepted h)
+    (rules edges : List ℕ) (begun : Begins (ruleNumbers g) rules) (begun′ : Begins (edgeNumbers (heardEdges h)) edges) (planned : Planned (plan g h))
+    (p : Place)
     (work out : List ℕ)
     (calls : S.calling grammar heard (length work) (length out) ≡ accepted (blocks grammar heard g h eg eh)) where
-  -- a refusal of what is accepted, and the blocks are these
-  only : (b : S.Blocks) → S.calling grammar heard (length work) (length out) ≡ accepted b → blocks grammar heard g h eg eh ≡ b
-  only b e = accepted-is (sym calls ∙ e)
-
   okg : ValidGrammar g
   okg = grammar-block-out grammar g eg .0
 
@@ -87,7 +86,7 @@ module _ (search : S.Search) (grammar heard : List ℕ) (g : Grammar) (h : Heard
   -- whatever the table held
   module _ (below : p .handed < 256) {found : Bool} (table : List ℕ) {r : A.Answer} {work′ out′ : List ℕ}
       (answered : Answered found table rules edges (plan g h) (p .handed) work out r work′ out′) where
-    nothing-left : (a : A.Answer) → r ≡ a → isReading a ≡ false → S.Unchanged search grammar heard p work out r work′ out′
+    nothing-left : (a : A.Answer) → r ≡ a → isReading a ≡ false → S.Unchanged (S.lent grammar heard p work out) (S.left r work′ out′)
     nothing-left a e n = record { table = rw (e, n) at (answered .left); output = rw (e, n) at (answered .output) }
 
     -- the reading that is written, of a derivation that the rank spells
@@ -99,11 +98,18 @@ module _ (search : S.Search) (grammar heard : List ℕ) (g : Grammar) (h : Heard
         ∙ rw (block-is g 256 rules table h (planned .form .some-place) (planned .form .places) (p .handed) z has derived, size-is g h)
 
     one-more : r ≡ Reading → search g h p work ≡ table → S.Looked g h p work table → handsOut table rules edges (plan g h) (p .handed) ≡ true
-        → S.OneMore search grammar heard p work out r work′ out′ g h
+        → S.OneMore search (blocks grammar heard g h eg eh) (S.lent grammar heard p work out) (S.left r work′ out′)
     one-more e made looked hands =
         let (z, derived, has, spelled) = passed-spelled g h 256 okg okh (omega arith) (omega arith) rules edges begun begun′ table (p .handed) hands in
         let left : work′ ≡ table = rw e at (answered .left) in
-        rw left (record { tree = z; derivation = derived; written = written z derived has e; spelled = reading-from g h table spelled derived; looked = looked; table-is = sym made })
+        rw left (record {
+          tree = z;
+          derivation = derived;
+          written = written z derived has e;
+          spelled = reading-from g h table spelled derived;
+          looked = looked;
+          table-is = sym made;
+        })
 
     answer-is : r ≡ pick found (pick (handsOut table rules edges (plan g h) (p .handed)) Reading (Refused 53)) NoMore
     unfolding settled
@@ -114,45 +120,57 @@ module _ (search : S.Search) (grammar heard : List ℕ) (g : Grammar) (h : Heard
     NonePasses = (z : Tree) → Derivation g h z → SpelledReading g h table (p .handed) z → ⊥
 
     -- by what is known of the table where the rank is taken for found, and where not
-    called-by : p .opened ≡ 1 → search g h p work ≡ table → S.Looked g h p work table → (found ≡ true → NonePasses → S.Astray g h p work table)
-        → (found ≡ false → S.Missing g h p work table) → S.Called search grammar heard p work out r work′ out′
-    called-by opened made looked astray missing = go found (handsOut table rules edges (plan g h) (p .handed)) refl refl answer-is
+    called-by : search g h p work ≡ table → S.Looked g h p work table → (found ≡ true → NonePasses → S.Astray g h p work table)
+        → (found ≡ false → S.Missing g h p work table) → S.Called search (S.lent grammar heard p work out) (S.left r work′ out′)
+    called-by made looked astray missing = go found (handsOut table rules edges (plan g h) (p .handed)) refl refl answer-is
       where
         none-passes : handsOut table rules edges (plan g h) (p .handed) ≡ false → NonePasses
         none-passes f z derived spelled =
-            false≢true (sym f ∙ spelled-passed g h 256 okg okh (omega arith) (omega arith) rules edges begun begun′ table (p .handed) z derived (reading-to g h table spelled))
+            false≢true (sym f ∙ spelled-passed g h 256 okg okh (omega arith) (omega arith) rules edges begun begun′ table (p .handed) z derived
+            (reading-to g h table spelled))
 
         go : (a b : Bool) → found ≡ a → handsOut table rules edges (plan g h) (p .handed) ≡ b → r ≡ pick a (pick b Reading (Refused 53)) NoMore
-            → S.Called search grammar heard p work out r work′ out′
-        go false b is hands e = S.no-more calls below opened (rw made (missing is)) e (nothing-left NoMore e refl)
-        go true false is hands e = S.altered calls below opened (rw made (astray is (none-passes hands))) e (nothing-left (Refused 53) e refl)
-        go true true is hands e = S.one-more calls below opened e (one-more e made looked hands)
+            → S.Called search (S.lent grammar heard p work out) (S.left r work′ out′)
+        go false b is hands e = S.no-more calls below (rw made (missing is)) e (nothing-left NoMore e refl)
+        go true false is hands e = S.altered calls below (rw made (astray is (none-passes hands))) e (nothing-left (Refused 53) e refl)
+        go true true is hands e = S.one-more calls below e (one-more e made looked hands)
 
-  -- of a table as it is, whose front is not zeros
-  pub as-it-is-called : p .handed ≡ 0 → p .opened ≡ 1 → (S.FrontZero g h work → ⊥) → search g h p work ≡ work → S.Looked g h p work work → {r : A.Answer} {work′ out′ : List ℕ}
-      → Answered true work rules edges (plan g h) (p .handed) work out r work′ out′ → S.Called search grammar heard p work out r work′ out′
-  as-it-is-called first opened dirty made looked answered =
-      called-by (omega arith) work answered opened made looked
-      (λ is none. record { looked = looked; none-passes = none; later-found = λ some. absurd (omega arith); first-found = λ z front. absurd (dirty front) })
-      (λ is. absurd (false≢true (sym is)))
+  -- where the rank was looked for or not, as the test says: whatever the table held
+  module _ (below : p .handed < 256) (table : List ℕ) (sought : Bool) (is-sought : sought ≡ true → S.Sought g h p work)
+      (tests : S.Sought g h p work → sought ≡ true)
+      {r : A.Answer} {work′ out′ : List ℕ}
+      (answered : Answered (pick sought (rootFound table (layout g h 256) (p .handed)) true) table rules edges (plan g h) (p .handed) work out r work′ out′)
+    where
+      abbrev price : ℕ
+      price = priceAt table (layout g h 256) (cellNumber (layout g h 256) (root (layout g h 256))) (p .handed)
+
+      asked-found : rootFound table (layout g h 256) (p .handed) ≡ true → S.AskedFound g h p work table
+      unfolding rootFound layOut
+      asked-found is =
+          let some : 0 < price = omega (arith, eqb-false price 0 (not-true (eqb price 0) is)) in
+          (_, found-entry g h table (symbolOf 0) 0 (lastPlace h) (p .handed) some)
+
+      asked-missing : rootFound table (layout g h 256) (p .handed) ≡ false → entry g h table (symbolOf 0) 0 (lastPlace h) (p .handed) ≡ none
+      unfolding rootFound layOut
+      asked-missing is = no-entry g h table (symbolOf 0) 0 (lastPlace h) (p .handed) (eqb-true price 0 (not-false (eqb price 0) is))
+
+      pub called : search g h p work ≡ table → S.Looked g h p work table → S.Called search (S.lent grammar heard p work out) (S.left r work′ out′)
+      called made looked =
+          called-by below table answered made looked
+          (λ is astray. record { looked = looked; none-passes = astray; found = λ s. asked-found (tested sought (tests s) is) })
+          (λ is. let (s, missing) = untested sought is in record { looked = looked; sought = is-sought s; missing = asked-missing missing })
+        where
+          tested : (b : Bool) → b ≡ true → {c : Bool} → pick b c true ≡ true → c ≡ true
+          tested true sure e = e
+          tested false sure e = absurd (false≢true sure)
+
+          untested : (b : Bool) {c : Bool} → pick b c true ≡ false → (b ≡ true) × (c ≡ false)
+          untested true e = (refl, e)
+          untested false e = absurd (false≢true (sym e))
 
   -- of a table in which the rank was looked for
   module _ (below : p .handed < 256) (table : List ℕ) {r : A.Answer} {work′ out′ : List ℕ}
       (searched : Searched table rules edges (plan g h) (p .handed) work out r work′ out′) where
-    pub called : p .opened ≡ 1 → search g h p work ≡ table → S.Looked g h p work table → (p .handed ≡ 0 → S.FrontZero g h work)
-        → S.Called search grammar heard p work out r work′ out′
-    unfolding rootFound layOut
-    called opened made looked front =
-        let price = priceAt table (layout g h 256) (cellNumber (layout g h 256) (root (layout g h 256))) (p .handed) in
-        called-by below table searched opened made looked
-        (λ is none.
-        let some : 0 < price = omega (arith, eqb-false price 0 (not-true (eqb price 0) is)) in
-        let found : S.SoughtFound g h p work table = (_, found-entry g h table (symbolOf 0) 0 (lastPlace h) (p .handed) some) in
-        record { looked = looked; none-passes = none; later-found = λ l. found; first-found = λ z f. found })
-        (λ is.
-        let nothing : price ≡ 0 = eqb-true price 0 (not-false (eqb price 0) is) in
-        record { looked = looked; missing = no-entry g h table (symbolOf 0) 0 (lastPlace h) (p .handed) nothing; front-zero = front })
-
     -- where the ranks of the root are known up to the one that was looked for
     module _ (known : Listed g (heardEdges h) (layout g h 256) (p .handed) table) where
       reached : Reached g h 256 okg okh (omega arith) (omega arith) rules edges begun begun′ table (p .handed)
@@ -164,10 +182,11 @@ module _ (search : S.Search) (grammar heard : List ℕ) (g : Grammar) (h : Heard
           let N = n + length (derivations g h) in
           omega (arith, least-length g h N n all, length-take N (derivations g h))
 
-      module _ (size : ℕ) (left : S.AsLeft search g h size (p .handed) p work) (made : search g h p work ≡ table) where
-        gives : p .handed < length (derivations g h)
-            → (z : Tree) × Ranked g h (suc (p .handed)) z × (r ≡ Reading) × (out′ ≡ packed g h z ++ drop (outputLength g h) out)
-            × S.AsLeft search g h size (suc (p .handed)) (S.placeAfter r p) work′ × Standing g h work′
+      abbrev b : S.Blocks
+      b = blocks grammar heard g h eg eh
+
+      module _ (left : S.AsLeft search b (p .handed) p work) (made : search g h p work ≡ table) where
+        gives : p .handed < length (derivations g h) → S.Gives search b (p .handed) (S.lent grammar heard p work out) (S.left r work′ out′)
         gives more =
             let (found, hands, (z, rank)) = reached .some more in
             let (derived, ranks, few) = least-element g h 256 (p .handed) z .0 (rank .place) in
@@ -175,22 +194,23 @@ module _ (search : S.Search) (grammar heard : List ℕ) (g : Grammar) (h : Heard
             let stays : work′ ≡ table = rw reads at (searched .left) in
             let opened : p .opened ≡ 1 = ap (λ (q : Place). q .opened) (left .place) in
             let place : S.placeAfter r p ≡ S.placeOf (suc (p .handed)) = ap (λ (a : A.Answer). S.placeAfter a p) reads ∙ rw (add-one (p .handed), opened) in
-            let again : search g h p work ≡ S.tableAfter search g h size (suc (p .handed)) =
-            ap (λ (q : Place). search g h q work) (left .place) ∙ ap (search g h (S.placeOf (p .handed))) (left .table) in (
-              z,
-              record {
+            let again : search g h p work ≡ S.tableAfter search g h (left .size) (suc (p .handed)) =
+            ap (λ (q : Place). search g h q work) (left .place) ∙ ap (search g h (S.placeOf (p .handed))) (left .table) in
+            record {
+              tree = z;
+              ranked = record {
                 derivation = derived;
                 rank = rw (one-add (p .handed)) at ranks;
                 no-other = λ s c also. let there = least-element g h 256 (p .handed) s .1 (c, rw (one-add (p .handed)) also, few) in cc;
-              },
-              reads,
-              written below table searched z derived (has-spells (namesEdges h) (rank .has)) reads,
-              record { enough = left .enough; place = place; table = stays ∙ sym made ∙ again },
-              rw stays (standing g h okg okh rules edges begun begun′ (p .handed) table known),
-            )
+              };
+              reads = reads;
+              written = written below table searched z derived (has-spells (namesEdges h) (rank .has)) reads;
+              as-left = record { size = left .size; enough = left .enough; place = place; table = stays ∙ sym made ∙ again };
+              stands = rw stays (standing g h okg okh rules edges begun begun′ (p .handed) table known);
+            }
 
-        pub after : (n : ℕ) → Number (Derivation g h) n → S.After search grammar heard p work out r work′ out′ g h size (p .handed) n
-        after n all = record {
-          gives = λ more. gives (omega (arith, number-is n all));
-          says-no-more = λ none. answer-is below table searched ∙ rw (reached .none (omega (arith, number-is n all)));
+        pub after : S.After search b (p .handed) (S.lent grammar heard p work out) (S.left r work′ out′)
+        after = record {
+          gives = λ n all more. gives (omega (arith, number-is n all));
+          says-no-more = λ n all few. answer-is below table searched ∙ rw (reached .none (omega (arith, number-is n all)));
         }

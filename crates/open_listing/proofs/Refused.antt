@@ -14,8 +14,6 @@ use Rattle.derivation.specs.Heard.{outputLength}
 use Rattle.chart.specs.WorkTable.{tableSize}
 use Rattle.open_listing.specs.Open as S
 use Rattle.open_listing.specs.Open.{opening, calling}
-use Rattle.open_listing.specs.declared.Place.{Place}
-use Rattle.open_listing.specs.declared.Answer as A
 use Rattle.open_listing.specs.declared.Answer.the-variants.{Reading, Refused}
 
 pub opening-row : (grammar heard : List ℕ) (work : ℕ) → Refuses (GrammarBlockRow ∪ HeardBlockRow ∪ OpenRow) (opening grammar heard work)
@@ -34,21 +32,19 @@ calling-row grammar heard work out =
     choose-row (ltb out (outputLength (b .grammar) (b .heard))) (denied {n = 23} (inr (inl (omega arith, omega arith)))) granted
 
 -- of a call's answer
-module _ {search : S.Search} {grammar heard : List ℕ} {p : Place} {work out : List ℕ} {a : A.Answer} {work′ out′ : List ℕ} where
-  pub refused-row : S.Called search grammar heard p work out a work′ out′ → (n : ℕ) → a ≡ Refused n → (GrammarBlockRow ∪ HeardBlockRow ∪ CallRow) n
+module _ {search : S.Search} {l : S.Lent} {r : S.Left} where
+  pub refused-row : S.Called search l r → (n : ℕ) → r .answer ≡ Refused n → (GrammarBlockRow ∪ HeardBlockRow ∪ CallRow) n
   refused-row (S.turned-away {n = m} e is same) n f =
       let equal : m ≡ n = cc in
-      refusal-number (calling-row grammar heard (length work) (length out)) (rw equal at e)
+      refusal-number (calling-row (l .grammar) (l .heard) (length (l .work)) (length (l .out))) (rw equal at e)
   refused-row (S.full e many is same) n f = let z : _≡_ {A = ℕ} 0 1 = cc in absurd (omega arith)
-  refused-row (S.not-opened e below closed is same) n f = let equal : 53 ≡ n = cc in rw (← equal) (inr (inr (omega arith, omega arith)))
-  refused-row (S.altered e below opened astray is same) n f = let equal : 53 ≡ n = cc in rw (← equal) (inr (inr (omega arith, omega arith)))
-  refused-row (S.no-more e below opened missing is same) n f = let z : _≡_ {A = ℕ} 0 1 = cc in absurd (omega arith)
-  refused-row (S.one-more e below opened is more) n f = let z : _≡_ {A = ℕ} 0 1 = cc in absurd (omega arith)
+  refused-row (S.altered e below astray is same) n f = let equal : 53 ≡ n = cc in rw (← equal) (inr (inr (omega arith, omega arith)))
+  refused-row (S.no-more e below missing is same) n f = let z : _≡_ {A = ℕ} 0 1 = cc in absurd (omega arith)
+  refused-row (S.one-more e below is more) n f = let z : _≡_ {A = ℕ} 0 1 = cc in absurd (omega arith)
 
-  pub reading-below : S.Called search grammar heard p work out a work′ out′ → a ≡ Reading → p .handed < 256
+  pub reading-below : S.Called search l r → r .answer ≡ Reading → l .place .handed < 256
   reading-below (S.turned-away e is same) f = let z : _≡_ {A = ℕ} 0 1 = cc in absurd (omega arith)
   reading-below (S.full e many is same) f = let z : _≡_ {A = ℕ} 0 1 = cc in absurd (omega arith)
-  reading-below (S.not-opened e below closed is same) f = below
-  reading-below (S.altered e below opened astray is same) f = below
-  reading-below (S.no-more e below opened missing is same) f = below
-  reading-below (S.one-more e below opened is more) f = below
+  reading-below (S.altered e below astray is same) f = below
+  reading-below (S.no-more e below missing is same) f = below
+  reading-below (S.one-more e below is more) f = below

@@ -15,7 +15,7 @@ use Rattle.chart_search.specs.Search.{nextOfRoot, keepOfRoot}
 use Rattle.chart.specs.Chart.{enumerate, rootFound}
 use Rattle.chart_theory.proofs.Plane.{single}
 use Rattle.chart_steps.proofs.Undo.{search-undone}
-use Rattle.open_listing.specs.Model.{Planned, zeros, isReading, settled, outputBy, firstTable, nextTable, Searched, FirstCalled}
+use Rattle.open_listing.specs.Model.{Planned, zeros, isReading, settled, outputBy, firstTable, nextTable, Answered, Searched, FirstCalled}
 use Rattle.open_listing.specs.declared.Plan.{Plan}
 use Rattle.open_listing.specs.declared.Answer as A
 use Rattle.open_listing.proofs.Zeros.{zeros-are}
@@ -50,6 +50,15 @@ module _ (rules edges : List ℕ) (p : Plan) (planned : Planned p) (x : ℕ) (wo
   put-back keeps e =
       e ∙ rw (keeps, stepped) (search-undone rules edges index (p .layout) work x (omega (arith, planned .form .some-place)) (planned .form .places))
 
+-- of a table that is taken as it stands
+pub as-it-stands : (rules edges : List ℕ) (p : Plan) (work out : List ℕ) (x : ℕ) {r : A.Answer} {out′ : List ℕ} → r ≡ settled work rules edges p x true
+    → out′ ≡ outputBy (isReading r) work rules p x out → Answered true work rules edges p x work out r work out′
+as-it-stands rules edges p work out x {r} answer output = record { answer = answer; left = either (isReading r); output = output }
+  where
+    either : (b : Bool) → work ≡ pick b work work
+    either true = refl
+    either false = refl
+
 -- of a first call
 module _ (rules edges : List ℕ) (p : Plan) (work out : List ℕ) (fits : 4 * p .layout .cells ≤ length work) where
   abbrev front : ℕ
@@ -60,14 +69,7 @@ module _ (rules edges : List ℕ) (p : Plan) (work out : List ℕ) (fits : 4 * p
 
   pub not-zeros : {b : Bool} {r : A.Answer} {out′ : List ℕ} → b ≡ zeros (take front work) → b ≡ false → r ≡ settled work rules edges p 0 true
       → out′ ≡ outputBy (isReading r) work rules p 0 out → FirstCalled rules edges p work out r work out′
-  not-zeros {r = r} e f answer output = record {
-    clear = λ z. absurd (false≢true (sym f ∙ e ∙ z));
-    altered = λ z. record { answer = answer; left = either (isReading r); output = output };
-  }
-    where
-      either : (b : Bool) → work ≡ pick b work work
-      either true = refl
-      either false = refl
+  not-zeros e f answer output = record { clear = λ z. absurd (false≢true (sym f ∙ e ∙ z)); altered = λ z. as-it-stands rules edges p work out 0 answer output }
 
   module _ {b : Bool} (test : b ≡ zeros (take front work)) (clear : b ≡ true) {e : List ℕ}
       (made : e ≡ enumerate rules (p .form .rules) edges (p .edges) (single (p .layout)) (length (take front work))) where

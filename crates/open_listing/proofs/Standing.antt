@@ -41,5 +41,6 @@ standing g h okg okh rules edges begun begun′ n t listed = record {
       (_, found-entry g h t A i k x (listed .invariant .prefix-closed x (in-chart over) next));
   nothing = λ A i k x over few is y small.
       ap (λ (z : ℕ). getD t (z + y) 0) (first-is g h A i k x)
-      ∙ nothing-stands g h 256 okg okh (omega arith) (omega arith) rules edges begun begun′ n t listed (in-chart over) x few (entry-none g h t A i k x is) y small;
+      ∙ nothing-stands g h 256 okg okh (omega arith) (omega arith) rules edges begun begun′ n t listed (in-chart over) x few (entry-none g h t A i k x is) y
+      small;
 }

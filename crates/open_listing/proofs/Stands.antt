@@ -24,7 +24,8 @@ use Rattle.chart_table.specs.Table.{cell, cellNumber, entryOf, priceAt, backAt}
 use Rattle.chart.specs.Chart.{layOut}
 use Rattle.chart_theory.specs.Spelled as chart
 use Rattle.chart_theory.specs.Spelled.{namesEdges, EdgeNamed, FoundWith}
-use Rattle.open_listing.specs.Stands.{Entry, byWord, byPair, weightIn, costsIn, madeBy, firstNumber, priceNumber, number, entry, SameEdge, Spelled, leaf-spelled, node-spelled, SpelledReading}
+use Rattle.open_listing.specs.Stands.{Entry, byWord, byPair, weightIn, costsIn, madeBy, firstNumber}
+use Rattle.open_listing.specs.Stands.{priceNumber, number, entry, SameEdge, Spelled, leaf-spelled, node-spelled, SpelledReading}
 
 module _ (g : Grammar) (h : Heard) where
   abbrev pub d : Layout
@@ -144,7 +145,8 @@ module _ (g : Grammar) (h : Heard) (table : List ℕ) where
       let rule : At (g .rules) (b / 2097152) (Pair A B C v) = rw er at in
       rw (← er, ← ej) (chart.node-spelled (record { found = found; points = refl }) rule l m)
 
-  leaf-from : {A : Sym} {i k x r e : ℕ} {y : W.Word} {v : ℕ} → (b : BackPointer) → b .rule ≡ r → FoundWith (d g h) table (cell A i k) x b → EdgeNamed (namesEdges h) b e
+  leaf-from : {A : Sym} {i k x r e : ℕ} {y : W.Word} {v : ℕ} → (b : BackPointer) → b .rule ≡ r → FoundWith (d g h) table (cell A i k) x b
+      → EdgeNamed (namesEdges h) b e
       → At (g .rules) r (Word A y v) → Spelled g h table (leaf r e) A i k x
   leaf-from {A} {i} {k} {x} {r} {e} b is found by at =
       let n = backAt table (d g h) (numberOf g h A i k) x in

@@ -22,7 +22,7 @@ use Rattle.chart_theory.proofs.Table.Entries.{cell-below}
 use Rattle.chart.specs.WorkTable.{tableSize}
 use Rattle.open_listing.specs.Open as S
 use Rattle.open_listing.specs.Stands.{Over}
-use Rattle.open_listing.specs.Model.{zeros, firstTable, nextTable, tableBy}
+use Rattle.open_listing.specs.Model.{zeros, firstTable, nextTable, seeks, tableBy}
 use Rattle.open_listing.specs.declared.Place.{Place}
 use Rattle.open_listing.proofs.Plans.{plan}
 use Rattle.open_listing.proofs.Counted as counted
@@ -40,8 +40,8 @@ module _ (g : Grammar) (h : Heard) (okg : ValidGrammar g) (okh : ValidHeard (g .
   unfolding layOut
   below over = cell-below refl (in-chart over)
 
-  -- a first call, whose front was zeros
-  module _ (p : Place) (clear : S.FrontZero g h work) (none : p .handed ≡ 0) where
+  -- a first call that looks for a rank
+  module _ (p : Place) (sought : S.Sought g h p work) (none : p .handed ≡ 0) where
     pub first-looked : S.Looked g h p work (firstTable rules edges (plan g h) work)
     unfolding firstTable layOut
     first-looked =
@@ -50,26 +50,35 @@ module _ (g : Grammar) (h : Heard) (okg : ValidGrammar g) (okh : ValidHeard (g .
         record {
           stays = λ A i k x over y is.
               let found = entry-found g h work A i k x is .0 in
-              let (price, back) = counted.first-stays d e work size clear (numberOf g h A i k) x (below over) found in
+              let (price, back) = counted.first-stays d e work size (sought .front-zero none) (numberOf g h A i k) x (below over) found in
               entry-stays g h work _ A i k x price back ∙ is;
           first-adds = λ z A i k over. rw (over-is g h _ A i k, over-is g h work A i k) (counted.first-adds d e work size (numberOf g h A i k));
           later-adds = λ some. absurd (omega arith);
+          as-it-stands = λ unsought. absurd (unsought sought);
         }
 
-  -- and one whose front was not, where nothing is looked for
+  -- a call that looks for none
   pub same-looked : (p : Place) → S.Looked g h p work work
-  same-looked p = record { stays = λ A i k x over y is. is; first-adds = λ z A i k over. omega arith; later-adds = λ some. omega arith }
+  same-looked p = record {
+    stays = λ A i k x over y is. is;
+    first-adds = λ z A i k over. omega arith;
+    later-adds = λ some. omega arith;
+    as-it-stands = λ unsought. refl;
+  }
 
   -- a later call
-  pub later-looked : (p : Place) → 1 ≤ p .handed → S.Looked g h p work (nextTable rules edges (plan g h) (p .handed - 1) work)
+  pub later-looked : (p : Place) → S.Sought g h p work → 1 ≤ p .handed → S.Looked g h p work (nextTable rules edges (plan g h) (p .handed - 1) work)
   unfolding nextTable layOut
-  later-looked p some = record {
+  later-looked p sought some = record {
     stays = λ A i k x over y is.
         let found = entry-found g h work A i k x is .0 in
         let (price, back) = search-keeps rules edges _ d work (p .handed - 1) (numberOf g h A i k) x found in
         entry-stays g h work _ A i k x price back ∙ is;
     first-adds = λ z. absurd (omega arith);
-    later-adds = λ z. rw (ranks-are g h _, ranks-are g h work) (search-adds (d .cells * d .ranks) rules edges _ d work (p .handed - 1) (heard-sizes (g .words) h okh .0));
+    later-adds = λ z.
+        rw (ranks-are g h _, ranks-are g h work)
+        (search-adds (d .cells * d .ranks) rules edges _ d work (p .handed - 1) (heard-sizes (g .words) h okh .0));
+    as-it-stands = λ unsought. absurd (unsought sought);
   }
 
   -- from zeros
@@ -81,7 +90,8 @@ module _ (g : Grammar) (h : Heard) (okg : ValidGrammar g) (okh : ValidHeard (g .
     pub first-known : Listed g (heardEdges h) d 0 (firstTable rules edges (plan g h) work)
     unfolding firstTable tableSize layOut
     first-known =
-        let rest : drop (4 * d .cells) work ≡ replicate (length work - 4 * d .cells) 0 = ap (drop (4 * d .cells)) is ∙ drop-zeros (length work) (4 * d .cells) in
+        let rest : drop (4 * d .cells) work ≡ replicate (length work - 4 * d .cells) 0 = ap (drop (4 * d .cells)) is
+        ∙ drop-zeros (length work) (4 * d .cells) in
         rw rest (first-reached g h 256 okg okh (omega arith) (omega arith) rules edges begun begun′ (length work - 4 * d .cells) (omega (arith, room)))
 
   pub later-known : (x : ℕ) → x + 1 < 256 → Listed g (heardEdges h) d x work → Listed g (heardEdges h) d (suc x) (nextTable rules edges (plan g h) x work)
@@ -94,7 +104,7 @@ module _ (g : Grammar) (h : Heard) (okg : ValidGrammar g) (okh : ValidHeard (g .
     (makes : (p : Place) (work : List ℕ) → search g h p work ≡ tableBy rules edges (plan g h) p work) (size : ℕ)
     (enough : tableSize (g .symbols) (lastPlace h) 256 ≤ size) where
   first-left : Listed g (heardEdges h) (layout g h 256) 0 (search g h (S.placeOf 0) (replicate size 0))
-  unfolding tableBy layOut
+  unfolding tableBy seeks layOut
   first-left =
       let work = replicate {A = ℕ} size 0 in
       let long : length work ≡ size = length-replicate size 0 in
@@ -106,7 +116,7 @@ module _ (g : Grammar) (h : Heard) (okg : ValidGrammar g) (okh : ValidHeard (g .
 
   next-left : (x : ℕ) → x + 1 < 256 → (work : List ℕ) → Listed g (heardEdges h) (layout g h 256) x work
       → Listed g (heardEdges h) (layout g h 256) (suc x) (search g h (S.placeOf (suc x)) work)
-  unfolding tableBy
+  unfolding tableBy seeks
   next-left x few work listed =
       let last : suc x - 1 ≡ x = omega arith in
       rw (makes (S.placeOf (suc x)) work, eqb·suc-zero x, last) (later-known g h okg okh rules edges begun begun′ work x few listed)

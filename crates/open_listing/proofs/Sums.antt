@@ -123,8 +123,10 @@ module _ (g : Grammar) (h : Heard) (table : List ℕ) where
       let F : ℕ → ℕ = λ c. sumBelow 256 (λ x. q (at c x)) in
       let all : sumBelow (C * 256) q ≡ sumBelow C F = sum-entries C 255 q at (λ c. refl) at-suc in
       let cells : sumBelow C F ≡ sumBelow (suc (lastPlace h)) (λ k. sumBelow k (λ i. sumBelow S (λ a. F ((spans k + i) * S + a)))) =
-      ap (λ (n : ℕ). sumBelow n F) cells-are ∙ sum-digits (spans (suc (lastPlace h))) S F ∙ sum-spans (suc (lastPlace h)) (λ y. sumBelow S (λ a. F (y * S + a))) in
-      sum-same (suc (lastPlace h)) (λ k l. sum-same k (λ i m. sum-same S (λ a o. over-is (symbolOf a) i k ∙ count-is (numberOf g h (symbolOf a) i k) ∙ number-is a i k)))
+      ap (λ (n : ℕ). sumBelow n F) cells-are ∙ sum-digits (spans (suc (lastPlace h))) S F
+      ∙ sum-spans (suc (lastPlace h)) (λ y. sumBelow S (λ a. F (y * S + a))) in
+      sum-same (suc (lastPlace h)) (λ k l. sum-same k (λ i m. sum-same S (λ a o. over-is (symbolOf a) i k ∙ count-is (numberOf g h (symbolOf a) i k)
+      ∙ number-is a i k)))
       ∙ sym (count-sum (λ e. priceIn table (e * 4)) (C * 256) ∙ all ∙ cells)
     where
       number-is : (a i k : ℕ) → sumBelow 256 (λ x. pick (eqb (priceIn table (at (numberOf g h (symbolOf a) i k) x * 4)) 0) 0 1)

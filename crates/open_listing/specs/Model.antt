@@ -13,12 +13,14 @@ use Rattle.chart_search.specs.Search.{nextOfRoot}
 use Rattle.chart.specs.Chart.{layOut, enumerate, rootFound, rootSpelled}
 use Rattle.chart_theory.proofs.Plane.{single}
 use Rattle.traced_readings.specs.Model.{formOf, FormFor, blockAt}
+use Rattle.open_listing.specs.Open.{Left, left}
 use Rattle.open_listing.specs.declared.Place.{Place}
 use Rattle.open_listing.specs.declared.Plan.{Plan}
-use Rattle.inputs.specs.Inputs.{Meant, inputsOf, rulesArray, edgesArray}
+use Rattle.inputs.specs.Inputs.{Meant, inputsOf, meantBy, rulesArray, edgesArray}
 use Rattle.inputs.specs.declared.Inputs.{Inputs}
 use Rattle.packing.specs.Meaning.{Grammar, Heard}
 use Rattle.packing.specs.Parse.{Verdict, accepted, refused}
+use Rattle.packing.specs.Heard.{heardBlock}
 use Rattle.open_listing.specs.declared.Answer as A
 use Rattle.open_listing.specs.declared.Answer.the-variants.{Reading, NoMore, Full, Refused}
 
@@ -86,43 +88,36 @@ pub record FirstCalled (rules edges : List ℕ) (p : Plan) (work out : List ℕ)
   pub clear : zeros (take (4 * p .layout .cells) work) ≡ true → Searched (firstTable rules edges p work) rules edges p 0 work out r work′ out′
   pub altered : zeros (take (4 * p .layout .cells) work) ≡ false → Answered true work rules edges p 0 work out r work′ out′
 
--- what a call answers and leaves
-pub record Left : Type 0 where
-  pub answer : A.Answer
-  pub table : List ℕ
-  pub output : List ℕ
-
--- nothing is changed; a rank was looked for; the first call; a later one, for rank x
+-- nothing is changed; rank x decides, where it is there or not, as the first test says
 abbrev pub unchanged : A.Answer → (work out : List ℕ) → Left
-unchanged r work out = record { answer = r; table = work; output = out }
+unchanged r work out = left r work out
 
 abbrev pub answeredBy : Bool → (table rules edges : List ℕ) → Plan → ℕ → (work out : List ℕ) → Left
 answeredBy found table rules edges p x work out =
     let r = settled table rules edges p x found in
-    record { answer = r; table = pick (isReading r) table work; output = outputBy (isReading r) table rules p x out }
+    left r (pick (isReading r) table work) (outputBy (isReading r) table rules p x out)
 
-abbrev pub searchedBy : (table rules edges : List ℕ) → Plan → ℕ → (work out : List ℕ) → Left
-searchedBy table rules edges p x = answeredBy (rootFound table (p .layout) x) table rules edges p x
+-- whether a call looks for the rank behind those that were handed out: at an opened place, and of a first call in a table whose front is zeros
+unfoldable pub seeks : Plan → Place → List ℕ → Bool
+seeks q p work = pick (eqb (p .opened) 1) (pick (eqb (p .handed) 0) (zeros (take (4 * q .layout .cells) work)) true) false
 
-abbrev pub firstBy : (rules edges : List ℕ) → Plan → (work out : List ℕ) → Left
-firstBy rules edges p work out =
-    pick (zeros (take (4 * p .layout .cells) work)) (searchedBy (firstTable rules edges p work) rules edges p 0 work out) (answeredBy true work rules edges p 0 work out)
+-- the table that its search makes; where nothing is looked for, the table as it stands
+unfoldable pub tableBy : (rules edges : List ℕ) → Plan → Place → List ℕ → List ℕ
+tableBy rules edges q p work =
+    pick (seeks q p work) (pick (eqb (p .handed) 0) (firstTable rules edges q work) (nextTable rules edges q (p .handed - 1) work)) work
+
+-- what a call answers and leaves where nothing is short and more can be handed out; a rank that was not looked for is taken for found
+unfoldable pub soughtBy : (rules edges : List ℕ) → Plan → Place → (work out : List ℕ) → Left
+soughtBy rules edges q p work out =
+    let t = tableBy rules edges q p work in
+    answeredBy (pick (seeks q p work) (rootFound t (q .layout) (p .handed)) true) t rules edges q (p .handed) work out
 
 -- and any call, by the arrays of rules and edges and the plan
 unfoldable pub callBy : (rules edges : List ℕ) → Plan → Place → (work out : List ℕ) → Left
 callBy rules edges q p work out =
     pick (ltb (length work) (4 * q .layout .cells * q .layout .ranks)) (unchanged (Refused 22) work out)
     (pick (ltb (length out) (q .form .size)) (unchanged (Refused 23) work out)
-    (pick (ltb (p .handed) 256)
-    (pick (eqb (p .opened) 1)
-    (pick (eqb (p .handed) 0) (firstBy rules edges q work out) (searchedBy (nextTable rules edges q (p .handed - 1) work) rules edges q (p .handed) work out))
-    (unchanged (Refused 53) work out))
-    (unchanged Full work out)))
-
--- the table in which a rank is looked for: the search's, or of a first call, unless the front is zeros, the table as it is
-unfoldable pub tableBy : (rules edges : List ℕ) → Plan → Place → List ℕ → List ℕ
-tableBy rules edges q p work =
-    pick (eqb (p .handed) 0) (pick (zeros (take (4 * q .layout .cells) work)) (firstTable rules edges q work) work) (nextTable rules edges q (p .handed - 1) work)
+    (pick (ltb (p .handed) 256) (soughtBy rules edges q p work out) (unchanged Full work out)))
 
 -- of what both blocks mean
 abbrev pub searched : Grammar → Heard → Place → List ℕ → List ℕ
@@ -132,6 +127,10 @@ searched g h p work = tableBy (rulesArray g) (edgesArray h) (planOf (inputsOf (r
 abbrev pub nextBy : Verdict Meant → Place → (work out : List ℕ) → Left
 nextBy (accepted m) p work out = callBy (rulesArray (m .grammar)) (edgesArray (m .heard)) (planOf (inputsOf m)) p work out
 nextBy (refused n) p work out = unchanged (Refused n) work out
+
+-- and so of both blocks
+abbrev pub nextOf : (grammar heard : List ℕ) → Place → (work out : List ℕ) → Left
+nextOf grammar heard p work out = nextBy (meantBy heardBlock grammar heard) p work out
 
 -- an answer and what was lent are as this says
 pub record As (l : Left) (r : A.Answer) (work′ out′ : List ℕ) : Type 0 where

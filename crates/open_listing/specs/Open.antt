@@ -66,6 +66,12 @@ Search = Grammar → Heard → Place → List ℕ → List ℕ
 abbrev pub FrontZero : Grammar → Heard → List ℕ → Type 0
 FrontZero g h work = take (front g h) work ≡ replicate (front g h) 0
 
+-- That rank is looked for at an opened place, by a first call if the table's front is zeros. Elsewhere the table is taken as it stands: a mark other than 1
+-- and a front that is not zeros are altered numbers like others
+pub record Sought (g : Grammar) (h : Heard) (p : Place) (work : List ℕ) : Type 0 where
+  pub opened : p .opened ≡ 1
+  pub front-zero : p .handed ≡ 0 → FrontZero g h work
+
 -- a work table before a call, and the table that the search makes of it
 module _ (g : Grammar) (h : Heard) (p : Place) (work table : List ℕ) where
   -- what looking for one more leaves and what it adds
@@ -76,23 +82,76 @@ module _ (g : Grammar) (h : Heard) (p : Place) (work table : List ℕ) where
     pub first-adds : p .handed ≡ 0 → (A : Sym) (i k : ℕ) → Over g h A i k → foundOver g h table A i k ≤ foundOver g h work A i k + 1
     -- "After it, a call adds at most 2n−1 found ranks (n being P−1 in a graph) over all spans and heads, counted from the table itself."
     pub later-adds : 1 ≤ p .handed → foundRanks g h table ≤ foundRanks g h work + (2 * lastPlace h - 1)
+    pub as-it-stands : (Sought g h p work → ⊥) → table ≡ work
 
-  -- the rank that is looked for is found
-  abbrev pub SoughtFound : Type 0
-  SoughtFound = Found g h table (symbolOf 0) 0 (lastPlace h) (p .handed)
+  -- the rank that is asked for is found
+  abbrev pub AskedFound : Type 0
+  AskedFound = Found g h table (symbolOf 0) 0 (lastPlace h) (p .handed)
 
-  -- that rank spells no reading that passes. It is found, unless a first call was lent a table whose front is not zeros, where none is looked for
+  -- that rank spells no reading that passes; where it was looked for, it is found
   pub record Astray : Type 0 where
     pub looked : Looked
     pub none-passes : (z : Tree) → Derivation g h z → SpelledReading g h table (p .handed) z → ⊥
-    pub later-found : 1 ≤ p .handed → SoughtFound
-    pub first-found : p .handed ≡ 0 → FrontZero g h work → SoughtFound
+    pub found : Sought g h p work → AskedFound
 
-  -- that rank is not found; of a first call, in a table whose front was zeros
+  -- that rank was looked for and is not found
   pub record Missing : Type 0 where
     pub looked : Looked
+    pub sought : Sought g h p work
     pub missing : entry g h table (symbolOf 0) 0 (lastPlace h) (p .handed) ≡ none
-    pub front-zero : p .handed ≡ 0 → FrontZero g h work
+
+-- what a call is lent, and what it answers and leaves
+pub record Lent : Type 0 where
+  pub grammar : List ℕ
+  pub heard : List ℕ
+  pub place : Place
+  pub work : List ℕ
+  pub out : List ℕ
+
+pub record Left : Type 0 where
+  pub answer : A.Answer
+  pub table : List ℕ
+  pub output : List ℕ
+
+abbrev pub lent : (grammar heard : List ℕ) → Place → (work out : List ℕ) → Lent
+lent grammar heard p work out = record { grammar = grammar; heard = heard; place = p; work = work; out = out }
+
+abbrev pub left : A.Answer → (table output : List ℕ) → Left
+left a table output = record { answer = a; table = table; output = output }
+
+-- what is refused before the search, or the blocks
+abbrev pub asked : Lent → Verdict Blocks
+asked l = calling (l .grammar) (l .heard) (length (l .work)) (length (l .out))
+
+-- the table that the search makes of what was lent
+abbrev pub made : Search → Blocks → Lent → List ℕ
+made search b l = search (b .grammar) (b .heard) (l .place) (l .work)
+
+pub record Unchanged (l : Lent) (r : Left) : Type 0 where
+  pub table : r .table ≡ l .work
+  pub output : r .output ≡ l .out
+
+-- one more reading was handed out
+pub record OneMore (search : Search) (b : Blocks) (l : Lent) (r : Left) : Type 0 where
+  -- "what it hands out passes the check": a derivation's reading, of a graph with its zeros
+  pub tree : Tree
+  pub derivation : Derivation (b .grammar) (b .heard) tree
+  pub written : r .output ≡ packed (b .grammar) (b .heard) tree ++ drop (outputLength (b .grammar) (b .heard)) (l .out)
+  -- "what a call hands out is spelled from found ranks alone": that rank of the whole, from 0, spells the tree in the table
+  pub spelled : SpelledReading (b .grammar) (b .heard) (r .table) (l .place .handed) tree
+  pub looked : Looked (b .grammar) (b .heard) (l .place) (l .work) (r .table)
+  pub table-is : r .table ≡ made search b l
+
+-- Whatever place and table are: "These two answers change nothing", nor does a refusal. "53 the walk that altered numbers spell is not a reading that passes,
+-- last of all"
+pub data Called (search : Search) (l : Lent) (r : Left) : Type 0 where
+  turned-away : {n : ℕ} → asked l ≡ refused n → r .answer ≡ Refused n → Unchanged l r → Called search l r
+  full : {b : Blocks} → asked l ≡ accepted b → 256 ≤ l .place .handed → r .answer ≡ Full → Unchanged l r → Called search l r
+  altered : {b : Blocks} → asked l ≡ accepted b → l .place .handed < 256
+      → Astray (b .grammar) (b .heard) (l .place) (l .work) (made search b l) → r .answer ≡ Refused 53 → Unchanged l r → Called search l r
+  no-more : {b : Blocks} → asked l ≡ accepted b → l .place .handed < 256
+      → Missing (b .grammar) (b .heard) (l .place) (l .work) (made search b l) → r .answer ≡ NoMore → Unchanged l r → Called search l r
+  one-more : {b : Blocks} → asked l ≡ accepted b → l .place .handed < 256 → r .answer ≡ Reading → OneMore search b l r → Called search l r
 
 -- the place after k readings, and the table of `size` numbers: zeros, and then each time what the search makes
 abbrev pub placeOf : ℕ → Place
@@ -103,54 +162,27 @@ tableAfter search g h size zero = replicate size 0
 tableAfter search g h size (suc k) = search g h (placeOf k) (tableAfter search g h size k)
 
 -- place and table as they were left after k readings
-pub record AsLeft (search : Search) (g : Grammar) (h : Heard) (size k : ℕ) (p : Place) (work : List ℕ) : Type 0 where
-  pub enough : tableSize (g .symbols) (lastPlace h) 256 ≤ size
+pub record AsLeft (search : Search) (b : Blocks) (k : ℕ) (p : Place) (work : List ℕ) : Type 0 where
+  pub size : ℕ
+  pub enough : tableSize (b .grammar .symbols) (lastPlace (b .heard)) 256 ≤ size
   pub place : p ≡ placeOf k
-  pub table : work ≡ tableAfter search g h size k
+  pub table : work ≡ tableAfter search (b .grammar) (b .heard) size k
 
--- what is to hold of a call with a grammar block, a block of what was heard, a place, a work table and an output that answers `answer`
-module _ (search : Search) (grammar heard : List ℕ) (p : Place) (work out : List ℕ) (answer : A.Answer) (work′ out′ : List ℕ) where
-  pub record Unchanged : Type 0 where
-    pub table : work′ ≡ work
-    pub output : out′ ≡ out
+-- after k readings the one with rank k + 1 was handed out
+pub record Gives (search : Search) (b : Blocks) (k : ℕ) (l : Lent) (r : Left) : Type 0 where
+  pub tree : Tree
+  pub ranked : Ranked (b .grammar) (b .heard) (suc k) tree
+  pub reads : r .answer ≡ Reading
+  pub written : r .output ≡ packed (b .grammar) (b .heard) tree ++ drop (outputLength (b .grammar) (b .heard)) (l .out)
+  pub as-left : AsLeft search b (suc k) (placeAfter (r .answer) (l .place)) (r .table)
+  pub stands : Standing (b .grammar) (b .heard) (r .table)
 
-  -- one more reading was handed out
-  pub record OneMore (g : Grammar) (h : Heard) : Type 0 where
-    -- "what it hands out passes the check": it is a derivation's reading, of a graph with its zeros
-    pub tree : Tree
-    pub derivation : Derivation g h tree
-    pub written : out′ ≡ packed g h tree ++ drop (outputLength g h) out
-    -- "what a call hands out is spelled from found ranks alone": that rank of the whole, from 0, spells it in the table
-    pub spelled : SpelledReading g h work′ (p .handed) tree
-    pub looked : Looked g h p work work′
-    -- the table is the one that the search makes
-    pub table-is : work′ ≡ search g h p work
+-- "For k up to 256 a call that is not refused, made after k−1 readings were handed out, gives the kth of the listing, or no more exactly if
+-- fewer than k exist .. while blocks, place and table come back as they were left." Here k is one less, and n exist
+pub record After (search : Search) (b : Blocks) (k : ℕ) (l : Lent) (r : Left) : Type 0 where
+  pub gives : (n : ℕ) → Number (Derivation (b .grammar) (b .heard)) n → k < n → Gives search b k l r
+  pub says-no-more : (n : ℕ) → Number (Derivation (b .grammar) (b .heard)) n → n ≤ k → r .answer ≡ NoMore
 
-  -- whatever place and table are: "These two answers change nothing", nor does a refusal. "53 the walk that altered numbers spell is not a
-  -- reading that passes, last of all". That a place which was not opened is answered by 53 too is our choice
-  pub data Called : Type 0 where
-    turned-away : {n : ℕ} → calling grammar heard (length work) (length out) ≡ refused n → answer ≡ Refused n → Unchanged → Called
-    full : {b : Blocks} → calling grammar heard (length work) (length out) ≡ accepted b → 256 ≤ p .handed → answer ≡ Full → Unchanged → Called
-    not-opened : {b : Blocks} → calling grammar heard (length work) (length out) ≡ accepted b → p .handed < 256 → (p .opened ≡ 1 → ⊥)
-        → answer ≡ Refused 53 → Unchanged → Called
-    altered : {b : Blocks} → calling grammar heard (length work) (length out) ≡ accepted b → p .handed < 256 → p .opened ≡ 1
-        → Astray (b .grammar) (b .heard) p work (search (b .grammar) (b .heard) p work) → answer ≡ Refused 53 → Unchanged → Called
-    no-more : {b : Blocks} → calling grammar heard (length work) (length out) ≡ accepted b → p .handed < 256 → p .opened ≡ 1
-        → Missing (b .grammar) (b .heard) p work (search (b .grammar) (b .heard) p work) → answer ≡ NoMore → Unchanged → Called
-    one-more : {b : Blocks} → calling grammar heard (length work) (length out) ≡ accepted b → p .handed < 256 → p .opened ≡ 1 → answer ≡ Reading
-        → OneMore (b .grammar) (b .heard) → Called
-
-  -- after k readings were handed out, of n that exist, in a table of `size` numbers: one more, the one with rank k + 1, or "no more"
-  pub record After (g : Grammar) (h : Heard) (size k n : ℕ) : Type 0 where
-    pub gives : k < n
-        → (t : Tree) × Ranked g h (suc k) t × (answer ≡ Reading) × (out′ ≡ packed g h t ++ drop (outputLength g h) out)
-        × AsLeft search g h size (suc k) (placeAfter answer p) work′ × Standing g h work′
-    pub says-no-more : n ≤ k → answer ≡ NoMore
-
-  -- "For k up to 256 a call that is not refused, made after k−1 readings were handed out, gives the kth of the listing, or no more exactly if
-  -- fewer than k exist .. while blocks, place and table come back as they were left."
-  abbrev pub Kept : Type 0
-  Kept =
-      (b : Blocks) → calling grammar heard (length work) (length out) ≡ accepted b → (size k : ℕ) → k < 256
-      → AsLeft search (b .grammar) (b .heard) size k p work → (n : ℕ) → Number (Derivation (b .grammar) (b .heard)) n
-      → After (b .grammar) (b .heard) size k n
+abbrev pub Kept : Search → Lent → Left → Type 0
+Kept search l r =
+    (b : Blocks) → asked l ≡ accepted b → (k : ℕ) → k < 256 → AsLeft search b k (l .place) (l .work) → After search b k l r

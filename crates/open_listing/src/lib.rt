@@ -23,10 +23,10 @@ ghost use mathlib.Core.Bool.{true};
 ghost use Prim.Native.Nat.{_-_, _*_, _≤_, _<_};
 ghost use lib.ListN.{length};
 ghost use Rattle.chart.specs.Chart.{rootFound};
-ghost use Rattle.packing.specs.Heard.{heardBlock};
-ghost use Rattle.inputs.specs.Inputs.{Bounds, meantBy};
-ghost use Rattle.open_listing.specs.Open.{opening, openedOf, tableOpened, Called, Kept};
-ghost use Rattle.open_listing.specs.Model.{zeros, Planned, planOf, handsOut, settled, isReading, outputBy, nextTable, Searched, FirstCalled, As, callBy, nextBy, searched};
+ghost use Rattle.inputs.specs.Inputs.{Bounds};
+ghost use Rattle.open_listing.specs.Open.{opening, openedOf, tableOpened, lent, left, Called, Kept};
+ghost use Rattle.open_listing.specs.Model.{zeros, Planned, planOf, handsOut, settled, isReading, outputBy};
+ghost use Rattle.open_listing.specs.Model.{nextTable, Searched, FirstCalled, As, callBy, nextOf, searched};
 
 // An open listing's place: how many readings were handed out, and whether it was opened.
 #[repr(C)]
@@ -49,7 +49,7 @@ pub enum Answer {
     Refused(u32),
 }
 
-// The mark of a place that was opened.
+// The mark of a place that was opened. At a place with another, nothing is looked for: the table is taken as it stands.
 pub const OPENED: u32 = 1;
 
 // What a search goes by: the form of readings, the table's layout and the number of edges.
@@ -156,7 +156,8 @@ fn settle(
 // The first call: one rank of each cell is looked for, at the table's front, if that is zeros. If not, the table is taken as it is.
 fn first(work: &mut [u32], rules: &[u32], edges: &[u32], plan: Plan, out: &mut [u8]) -> Answer
     requires { ⌜ (Planned plan) × (plan .form .size ≤ length (now out)) × (4 * plan .layout .cells ≤ length (now work)) ⌝ }
-    ensures { λ r. ⌜ FirstCalled (now (rules .entry)) (now (edges .entry)) plan (now (work .entry)) (now (out .entry)) r (now (work .exit)) (now (out .exit)) ⌝ }
+    ensures { λ r. ⌜ FirstCalled (now (rules .entry)) (now (edges .entry)) plan (now (work .entry)) (now (out .entry)) r (now (work .exit))
+        (now (out .exit)) ⌝ }
 {
     let d = plan.layout;
     let front = chart_table::ENTRY_NUMBERS * d.cells;
@@ -195,7 +196,8 @@ fn later(
     out: &mut [u8],
 ) -> Answer
     requires { ⌜ (Planned plan) × (1 ≤ handed) × (handed < plan .layout .ranks) × (plan .form .size ≤ length (now out)) ⌝ }
-    ensures { λ r. ⌜ Searched (nextTable (now (rules .entry)) (now (edges .entry)) plan (handed - 1) (now (work .entry))) (now (rules .entry)) (now (edges .entry)) plan handed (now (work .entry)) (now (out .entry)) r (now (work .exit)) (now (out .exit)) ⌝ }
+    ensures { λ r. ⌜ Searched (nextTable (now (rules .entry)) (now (edges .entry)) plan (handed - 1) (now (work .entry))) (now (rules .entry))
+        (now (edges .entry)) plan handed (now (work .entry)) (now (out .entry)) r (now (work .exit)) (now (out .exit)) ⌝ }
 {
     let d = plan.layout;
     let mut index = [0u32; INDEX_NUMBERS];
@@ -233,7 +235,8 @@ fn next_read(
     out: &mut [u8],
 ) -> Answer
     requires { ⌜ Planned plan ⌝ }
-    ensures { λ r. ⌜ As (callBy (now (rules .entry)) (now (edges .entry)) plan place (now (work .entry)) (now (out .entry))) r (now (work .exit)) (now (out .exit)) ⌝ }
+    ensures { λ r. ⌜ As (callBy (now (rules .entry)) (now (edges .entry)) plan place (now (work .entry)) (now (out .entry))) r (now (work .exit))
+        (now (out .exit)) ⌝ }
 {
     if work.len() < chart::table_numbers(plan.layout) {
         return Answer::Refused(refused::LISTING_WORK);
@@ -246,7 +249,7 @@ fn next_read(
         return Answer::Full;
     }
     if place.opened != OPENED {
-        return Answer::Refused(refused::OPEN_ALTERED);
+        return as_spelled(&work[..], rules, edges, plan, handed, out);
     }
     if handed == 0 {
         return first(work, rules, edges, plan, out);
@@ -256,9 +259,12 @@ fn next_read(
 
 // One more reading of what was heard, slots or a graph, under the grammar, to the front of `out`, for a place and a work table as they were left.
 pub fn next(grammar: &[u8], heard: &[u8], place: Place, work: &mut [u32], out: &mut [u8]) -> Answer
-    ensures { λ r. ⌜ Called searched (now (grammar .entry)) (now (heard .entry)) place (now (work .entry)) (now (out .entry)) r (now (work .exit)) (now (out .exit)) ⌝ }
-    ensures { λ r. ⌜ Kept searched (now (grammar .entry)) (now (heard .entry)) place (now (work .entry)) (now (out .entry)) r (now (work .exit)) (now (out .exit)) ⌝ }
-    ensures { λ r. ⌜ As (nextBy (meantBy heardBlock (now (grammar .entry)) (now (heard .entry))) place (now (work .entry)) (now (out .entry))) r (now (work .exit)) (now (out .exit)) ⌝ }
+    ensures { λ r. ⌜ Called searched (lent (now (grammar .entry)) (now (heard .entry)) place (now (work .entry)) (now (out .entry)))
+        (left r (now (work .exit)) (now (out .exit))) ⌝ }
+    ensures { λ r. ⌜ Kept searched (lent (now (grammar .entry)) (now (heard .entry)) place (now (work .entry)) (now (out .entry)))
+        (left r (now (work .exit)) (now (out .exit))) ⌝ }
+    ensures { λ r. ⌜ As (nextOf (now (grammar .entry)) (now (heard .entry)) place (now (work .entry)) (now (out .entry))) r (now (work .exit)) (now (out .exit))
+        ⌝ }
 {
     let mut rules = [0u32; RULES_LENGTH];
     let mut edges = [0u32; EDGES_LENGTH];

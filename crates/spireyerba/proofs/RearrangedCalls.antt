@@ -46,7 +46,7 @@ module _ (grammar heard : List ℕ) {g : Grammar} {h : Heard} (p : grammarBlock 
       let e₀ : conditions library g h N work out ≡ accepted _ = rw (p, q) at e in
       conditions-asks library g h N work out e₀ .0
 
-  answered-enough : {work out after written : List ℕ} {m : ℕ} → D.Listing grammar heard N work out (pos m) after written
+  pub answered-enough : {work out after written : List ℕ} {m : ℕ} → D.Listing grammar heard N work out (pos m) after written
       → Asks g h N (length work) (length out)
   answered-enough {work} {out} {after} {written} {m} call = go (call .demand-1) refl
     where

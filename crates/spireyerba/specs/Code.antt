@@ -1,5 +1,6 @@
 -- The answers of the services, as functions that can be run, as C numbers: 0 or more is the answer, less than 0 is minus the refusal's number. Nobody
 -- need believe this page: the exported functions' contracts have the equations with what is computed beside the records of Demands, which say what it means.
+use mathlib.Core.Path.{_≡_}
 use mathlib.Core.List.{List}
 use mathlib.Core.Option.{Option, none, some}
 use Prim.Native.Nat.{ℕ}
@@ -10,7 +11,10 @@ use Rattle.packing.specs.Parse.{Verdict, accepted, refused}
 use Rattle.derivation.specs.Derivation.{Tree}
 use Rattle.cost_changes.specs.Ranges.{Answer}
 use Rattle.cost_changes.specs.Margins.{Entry}
+use Rattle.open_listing.specs.Open.{Blocks, tableOpened, placeAfter, Left}
+use Rattle.open_listing.specs.declared.Place.{Place}
 use Rattle.spireyerba.specs.Demands.{rangesNumber, leastOf, greatestOf}
+use Rattle.spireyerba.specs.OneByOne.{placeAt, nextCode, Returned}
 
 -- of a verdict, whose answer is told by its size
 abbrev pub codeOf : {A : Type 0} → (A → ℕ) → Verdict A → ℤ
@@ -60,3 +64,23 @@ leastAfter (refused n) before = before
 abbrev pub greatestAfter : Verdict Answer → ℕ → ℕ
 greatestAfter (accepted a) before = greatestOf a before
 greatestAfter (refused n) before = before
+
+-- Readings one by one: opening answers 0, with the place of no readings handed out and the table zeroed, or changes nothing; a call answers and leaves what
+-- open_listing's model says, with the place after that answer
+abbrev pub openCode : Verdict Blocks → ℤ
+openCode v = codeOf (λ b. 0) v
+
+abbrev pub placeOpened : Verdict Blocks → Place → Place
+placeOpened (accepted b) before = placeAt 0 1
+placeOpened (refused n) before = before
+
+pub record OpenedAs (due : Verdict Blocks) (p : Place) (work : List ℕ) (r : Returned) : Type 0 where
+  pub code : r .code ≡ openCode due
+  pub place : r .place ≡ placeOpened due p
+  pub table : r .work ≡ tableOpened due work
+
+pub record CalledAs (due : Left) (p : Place) (r : Returned) (out′ : List ℕ) : Type 0 where
+  pub code : r .code ≡ nextCode (due .answer)
+  pub place : r .place ≡ placeAfter (due .answer) p
+  pub table : r .work ≡ due .table
+  pub output : out′ ≡ due .output

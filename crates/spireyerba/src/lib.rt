@@ -28,10 +28,12 @@ ghost use Rattle.word_margins.specs.WordMargins as again;
 ghost use Rattle.specimen.specs.Specimen.{specimen, outputOf};
 ghost use Rattle.next_phrase.specs.NextPhrase.{next};
 ghost use Rattle.spireyerba.specs.Code.{checkCode, chanceCode, chanceAfter, listCode, marginsCode, lengthCode, stringCode, rangesCode, leastAfter, greatestAfter};
+ghost use Rattle.spireyerba.specs.Code.{OpenedAs, CalledAs};
 ghost use Rattle.spireyerba.specs.Demands as demands;
-ghost use Rattle.open_listing.specs.Model.{searched};
+ghost use Rattle.open_listing.specs.Open.{opening, lent};
+ghost use Rattle.open_listing.specs.Model.{searched, nextOf};
 ghost use Rattle.spireyerba.specs.OneByOne as onebyone;
-ghost use Rattle.spireyerba.specs.OneByOne.{placeAt};
+ghost use Rattle.spireyerba.specs.OneByOne.{placeAt, returned};
 ghost use Rattle.spireyerba.specs.Model.{writtenCode, SmallWritten, listedCode, SmallListed};
 
 // What a call of an open listing answers: a reading was handed out; all that can be listed were.
@@ -300,7 +302,10 @@ pub extern "C" fn spireyerba_word_margins(
 
 // Opens a listing whose place was this.
 fn open_call(grammar: &[u8], utterance: &[u8], work: &mut [u32], handed: u32, opened: u32) -> Moved
-    ensures { λ r. ⌜ onebyone.Open (now (grammar .entry)) (now (utterance .entry)) (placeAt handed opened) (now (work .entry)) (r .code) (placeAt (r .handed) (r .opened)) (now (work .exit)) ⌝ }
+    ensures { λ r. ⌜ OpenedAs (opening (now (grammar .entry)) (now (utterance .entry)) (length (now (work .entry)))) (placeAt handed opened) (now (work .entry))
+        (returned (r .code) (placeAt (r .handed) (r .opened)) (now (work .exit)))
+        × onebyone.Open (now (grammar .entry)) (now (utterance .entry)) (placeAt handed opened) (now (work .entry))
+        (returned (r .code) (placeAt (r .handed) (r .opened)) (now (work .exit))) ⌝ }
 {
     let answer = open_listing::open(grammar, utterance, work);
     match answer {
@@ -326,7 +331,10 @@ fn next_call(
     handed: u32,
     opened: u32,
 ) -> Moved
-    ensures { λ r. ⌜ onebyone.Next searched (now (grammar .entry)) (now (utterance .entry)) (placeAt handed opened) (now (work .entry)) (now (out .entry)) (r .code) (placeAt (r .handed) (r .opened)) (now (work .exit)) (now (out .exit)) ⌝ }
+    ensures { λ r. ⌜ CalledAs (nextOf (now (grammar .entry)) (now (utterance .entry)) (placeAt handed opened) (now (work .entry)) (now (out .entry)))
+        (placeAt handed opened) (returned (r .code) (placeAt (r .handed) (r .opened)) (now (work .exit))) (now (out .exit))
+        × onebyone.Next searched (lent (now (grammar .entry)) (now (utterance .entry)) (placeAt handed opened) (now (work .entry)) (now (out .entry)))
+        (returned (r .code) (placeAt (r .handed) (r .opened)) (now (work .exit))) (now (out .exit)) ⌝ }
 {
     let answer = open_listing::next(grammar, utterance, Place { handed, opened }, work, out);
     match answer {
@@ -361,7 +369,10 @@ pub extern "C" fn spireyerba_open(
     place: &mut Place,
     work: &mut [u32],
 ) -> i32
-    ensures { λ r. ⌜ onebyone.Open (now (grammar .entry)) (now (utterance .entry)) (now (place .entry)) (now (work .entry)) r (now (place .exit)) (now (work .exit)) ⌝ }
+    ensures { λ r. ⌜ OpenedAs (opening (now (grammar .entry)) (now (utterance .entry)) (length (now (work .entry)))) (now (place .entry)) (now (work .entry))
+        (returned r (now (place .exit)) (now (work .exit)))
+        × onebyone.Open (now (grammar .entry)) (now (utterance .entry)) (now (place .entry)) (now (work .entry))
+        (returned r (now (place .exit)) (now (work .exit))) ⌝ }
 {
     let handed = place.handed;
     let opened = place.opened;
@@ -381,7 +392,10 @@ pub extern "C" fn spireyerba_next(
     work: &mut [u32],
     out: &mut [u8],
 ) -> i32
-    ensures { λ r. ⌜ onebyone.Next searched (now (grammar .entry)) (now (utterance .entry)) (now (place .entry)) (now (work .entry)) (now (out .entry)) r (now (place .exit)) (now (work .exit)) (now (out .exit)) ⌝ }
+    ensures { λ r. ⌜ CalledAs (nextOf (now (grammar .entry)) (now (utterance .entry)) (now (place .entry)) (now (work .entry)) (now (out .entry)))
+        (now (place .entry)) (returned r (now (place .exit)) (now (work .exit))) (now (out .exit))
+        × onebyone.Next searched (lent (now (grammar .entry)) (now (utterance .entry)) (now (place .entry)) (now (work .entry)) (now (out .entry)))
+        (returned r (now (place .exit)) (now (work .exit))) (now (out .exit)) ⌝ }
 {
     let handed = place.handed;
     let opened = place.opened;

@@ -85,7 +85,8 @@ module _ {g : Grammar} {es : List Edge} {rules t : List ℕ} {d : Layout} (s : S
       go A h k in-chart where-is (no p) q =
           after-span .elsewhere A h k in-chart (λ (a, b). p a) ∙ l .done A h k in-chart (⊎-elim inl (λ (a, b). inr (a, omega arith)) where-is)
       go A h k in-chart where-is (yes p) (no q) =
-          after-span .elsewhere A h k in-chart (λ (a, b). q b) ∙ l .done A h k in-chart (⊎-elim inl (λ (a, b). absurd (q (omega (arith, in-chart .order)))) where-is)
+          after-span .elsewhere A h k in-chart (λ (a, b). q b)
+          ∙ l .done A h k in-chart (⊎-elim inl (λ (a, b). absurd (q (omega (arith, in-chart .order)))) where-is)
 
   -- what a pass is over
   abbrev pub passWith : ℕ → Pass
@@ -115,7 +116,8 @@ module _ {g : Grammar} {es : List Edge} {rules t : List ℕ} {d : Layout} (s : S
   unfolding around
   not-around A h k apart = go (eqb (A .0) 0) refl (eqb h 0) refl (eqb k n) refl
     where
-      go : (a : Bool) → eqb (A .0) 0 ≡ a → (b : Bool) → eqb h 0 ≡ b → (c : Bool) → eqb k n ≡ c → pick {A = Option ℕ} a (pick {A = Option ℕ} b (pick {A = Option ℕ} c (some 0) none) none) none ≡ none
+      go : (a : Bool) → eqb (A .0) 0 ≡ a → (b : Bool) → eqb h 0 ≡ b → (c : Bool) → eqb k n ≡ c
+          → pick {A = Option ℕ} a (pick {A = Option ℕ} b (pick {A = Option ℕ} c (some 0) none) none) none ≡ none
       go true p true q true r = absurd (apart (eqb-true (A .0) 0 p, eqb-true h 0 q, eqb-true k n r))
       go true p true q false r = refl
       go true p false q c r = refl

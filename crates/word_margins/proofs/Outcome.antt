@@ -53,7 +53,8 @@ module _ (rules array : List ℕ) (z : Inputs) (work out : List ℕ) where
       let g = k .meant .grammar in
       let (u, is, same) = slots-read k in
       rw (k .grammar-is, is)
-      (due g u (grammar-block-out grammar g (k .grammar-is) .0) (utterance-block-out (g .words) utterance u is .0) (k .sizes ∙ ap (λ (h : Heard). inputsOf (both g h)) same)
+      (due g u (grammar-block-out grammar g (k .grammar-is) .0) (utterance-block-out (g .words) utterance u is .0)
+      (k .sizes ∙ ap (λ (h : Heard). inputsOf (both g h)) same)
       (rules-begin k) (rw same at (edges-begin k)))
 
   pub edges-short : length work < tableSize (z .sizes .symbols) (z .heard .last) 1 → ReadMargins rules array z work out (Refused 22) work out
@@ -72,7 +73,8 @@ module _ (rules array : List ℕ) (z : Inputs) (work out : List ℕ) where
 
     pub edges-listed : 4 * z .heard .edges ≤ length out → {d : Layout} → d ≡ layOut (z .sizes .symbols) (z .heard .last) 1 → {m : ℕ} {work′ out′ : List ℕ}
         → m ≡ length (passList rules array (record { rules = z .sizes .rules; edges = z .heard .edges; table = d }) (length work))
-        → work′ ≡ replicate (length work) 0 → length (tableBy rules array (record { rules = z .sizes .rules; edges = z .heard .edges; table = d }) (length work)) ≡ length work
+        → work′ ≡ replicate (length work) 0 → length
+        (tableBy rules array (record { rules = z .sizes .rules; edges = z .heard .edges; table = d }) (length work)) ≡ length work
         → out′ ≡ storeAll out 0 (listNumbers (passList rules array (record { rules = z .sizes .rules; edges = z .heard .edges; table = d }) (length work)))
         → ReadMargins rules array z work out (Found m) work′ out′
     unfolding listed marginsConditions
@@ -80,10 +82,12 @@ module _ (rules array : List ℕ) (z : Inputs) (work out : List ℕ) where
         let room′ : tableSize (g .symbols) (length u) 1 ≤ length work = rw ez at room in
         let wide′ : 4 * length (edges u) ≤ length out = rw ez at wide in
         let is : _≡_ {A = Pass} (record { rules = z .sizes .rules; edges = z .heard .edges; table = d }) (passOf g u) = rw (ed, ez) in
-        let kept′ : length (tableBy rules array (passOf g u) (length work)) ≡ length work = ap (λ (p : Pass). length (tableBy rules array p (length work))) (sym is) ∙ kept in
+        let kept′ : length (tableBy rules array (passOf g u) (length work)) ≡ length work =
+        ap (λ (p : Pass). length (tableBy rules array p (length work))) (sym is) ∙ kept in
         let same : passList rules array (record { rules = z .sizes .rules; edges = z .heard .edges; table = d }) (length work) ≡ marginsOf g u =
         ap (λ (p : Pass). passList rules array p (length work)) is ∙ pass-list g okg rules begun (length work) u oku array begun′ room′ kept′ in
-        let few : length (marginsOf g u) ≤ length (edges u) = rw (pass-list g okg rules begun (length work) u oku array begun′ room′ kept′) at (pass-length (passOf g u)) in
+        let few : length (marginsOf g u) ≤ length (edges u) =
+        rw (pass-list g okg rules begun (length work) u oku array begun′ room′ kept′) at (pass-length (passOf g u)) in
         let n = numbers-length (marginsOf g u) in
         let front = store-at out 0 (listNumbers (marginsOf g u)) (omega arith) in
         rw (le-ltb _ _ room′, le-ltb _ _ wide′) (
@@ -97,7 +101,8 @@ module _ (rules array : List ℕ) (z : Inputs) (work out : List ℕ) where
 
 -- and of blocks that were not
 module _ (grammar utterance work out : List ℕ) where
-  pub not-read : {n : ℕ} → meantBy asSlots grammar utterance ≡ refused n → Promised (margins grammar utterance (length work) (length out)) work out (Refused n) work out
+  pub not-read : {n : ℕ} → meantBy asSlots grammar utterance ≡ refused n
+      → Promised (margins grammar utterance (length work) (length out)) work out (Refused n) work out
   unfolding margins
   not-read e = rw (slots-refused grammar utterance (λ g u. listed g u (length work) (length out)) e) (refl, refl, refl)
 

@@ -185,7 +185,8 @@ module _ {g : Grammar} {es : List Edge} {rules t : List ℕ} {d : Layout} (s : S
               let reads : O.lesser (outerIn d o B i j) (read x) ≡ Y B = rw (held, x-is) in
               rw (same-sym A B q, e) (lower-here o (p .room) B i j x (span-in B symbol) (Y B) reads small)
           go A in-chart (no q) =
-              lower-there o (p .room) B i j x (span-in B symbol) A i j in-chart (λ same. q (same .0)) ∙ p .here A in-chart ∙ rw (none-else A q, lesser-none (X A))
+              lower-there o (p .room) B i j x (span-in B symbol) A i j in-chart (λ same. q (same .0)) ∙ p .here A in-chart
+              ∙ rw (none-else A q, lesser-none (X A))
 
       -- which of both, the table tells
       half : Span Y (pick (eqb (insideAt t d (cellNumber d (cell B i j))) 0) o (lower o (cellNumber d (cell B i j)) x))

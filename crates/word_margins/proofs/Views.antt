@@ -90,7 +90,8 @@ unfolding lower lesser
 lower-zeros n c = rw (zeros-read n c)
 
 -- a number lowered in the table
-pub lower-told : (t : List ℕ) (c x : ℕ) {n least : ℕ} {t′ : List ℕ} → n ≡ getD (fourths t) c 0 → least ≡ lesser n x → t′ ≡ set t (4 * c + 3) (least % 4294967296)
+pub lower-told : (t : List ℕ) (c x : ℕ) {n least : ℕ} {t′ : List ℕ} → n ≡ getD (fourths t) c 0 → least ≡ lesser n x → t′
+    ≡ set t (4 * c + 3) (least % 4294967296)
     → (fourths t′ ≡ lower (fourths t) c x) × (plain t′ ≡ plain t)
 unfolding lower
 lower-told t c x {least = least} en el e =

@@ -100,8 +100,10 @@ fn pass_margins(
 ) -> usize
     requires { ⌜ (Passable pass) × (pass .table .places ≤ 24) × (4 * pass .edges ≤ length (now out)) ⌝ }
     ensures { λ r. ⌜ r ≡ length (passList (now (rules .entry)) (now (edges .entry)) pass (length (now (work .entry)))) ⌝ }
-    ensures { λ r. ⌜ (now (work .exit) ≡ replicate (length (now (work .entry))) 0) × (length (tableBy (now (rules .entry)) (now (edges .entry)) pass (length (now (work .entry)))) ≡ length (now (work .entry))) ⌝ }
-    ensures { λ r. ⌜ now (out .exit) ≡ storeAll (now (out .entry)) 0 (listNumbers (passList (now (rules .entry)) (now (edges .entry)) pass (length (now (work .entry))))) ⌝ }
+    ensures { λ r. ⌜ (now (work .exit) ≡ replicate (length (now (work .entry))) 0)
+        × (length (tableBy (now (rules .entry)) (now (edges .entry)) pass (length (now (work .entry)))) ≡ length (now (work .entry))) ⌝ }
+    ensures { λ r. ⌜ now (out .exit) ≡ storeAll (now (out .entry)) 0
+        (listNumbers (passList (now (rules .entry)) (now (edges .entry)) pass (length (now (work .entry))))) ⌝ }
 {
     let d = pass.table;
     let found = chart::enumerate(work, rules, pass.rules, edges, pass.edges, d);
@@ -127,7 +129,8 @@ fn margins_read(
     out: &mut [u32],
 ) -> Listed
     requires { ⌜ Bounds inputs ⌝ }
-    ensures { λ r. ⌜ ReadMargins (now (rules .entry)) (now (edges .entry)) inputs (now (work .entry)) (now (out .entry)) r (now (work .exit)) (now (out .exit)) ⌝ }
+    ensures { λ r. ⌜ ReadMargins (now (rules .entry)) (now (edges .entry)) inputs (now (work .entry)) (now (out .entry)) r (now (work .exit)) (now (out .exit))
+        ⌝ }
 {
     let table = chart::lay_out(inputs.sizes.symbols as usize, inputs.heard.last, ONE);
     if work.len() < chart::table_numbers(table) {
@@ -148,9 +151,12 @@ fn margins_read(
 // afterwards.
 pub fn word_margins(grammar: &[u8], utterance: &[u8], work: &mut [u32], out: &mut [u32]) -> Listed
     ensures { λ r. ⌜ r ≡ listedOf (margins (now (grammar .entry)) (now (utterance .entry)) (length (now (work .entry))) (length (now (out .entry)))) ⌝ }
-    ensures { λ r. ⌜ now (work .exit) ≡ workAfter (margins (now (grammar .entry)) (now (utterance .entry)) (length (now (work .entry))) (length (now (out .entry)))) (now (work .entry)) ⌝ }
-    ensures { λ r. ⌜ now (out .exit) ≡ outputAfter (margins (now (grammar .entry)) (now (utterance .entry)) (length (now (work .entry))) (length (now (out .entry)))) (now (out .entry)) ⌝ }
-    ensures { λ r. ⌜ Meant (now (grammar .entry)) (now (utterance .entry)) (now (work .entry)) (now (out .entry)) (λ l. r ≡ listedOf (accepted l)) (now (work .exit)) (now (out .exit)) ⌝ }
+    ensures { λ r. ⌜ now (work .exit) ≡ workAfter
+        (margins (now (grammar .entry)) (now (utterance .entry)) (length (now (work .entry))) (length (now (out .entry)))) (now (work .entry)) ⌝ }
+    ensures { λ r. ⌜ now (out .exit) ≡ outputAfter
+        (margins (now (grammar .entry)) (now (utterance .entry)) (length (now (work .entry))) (length (now (out .entry)))) (now (out .entry)) ⌝ }
+    ensures { λ r. ⌜ Meant (now (grammar .entry)) (now (utterance .entry)) (now (work .entry)) (now (out .entry)) (λ l. r ≡ listedOf (accepted l))
+        (now (work .exit)) (now (out .exit)) ⌝ }
 {
     let mut rules = [0u32; RULES_LENGTH];
     let mut edges = [0u32; EDGES_LENGTH];

@@ -21,7 +21,24 @@ ghost use lib.ListN.{length, getD, replicate};
 ghost use Rattle.packing.specs.Flat.{ruleAt};
 ghost use Rattle.chart_table.specs.Table.{cellBound, Sized};
 ghost use Rattle.one_best.specs.Model.{Passable};
-ghost use Rattle.word_margins.specs.Model.{fourths, plain, sums, Spanned, lesser, insideAt, joinAt, leftLeast, rightLeast, lower, lowerLeft, lowerRight, lowerParts, overRules, overSpans, fill};
+ghost use Rattle.word_margins.specs.Model.{
+  fourths,
+  plain,
+  sums,
+  Spanned,
+  lesser,
+  insideAt,
+  joinAt,
+  leftLeast,
+  rightLeast,
+  lower,
+  lowerLeft,
+  lowerRight,
+  lowerParts,
+  overRules,
+  overSpans,
+  fill,
+};
 
 // The numbers of 32 bits.
 const NUMBERS: usize = 4294967296;
@@ -144,7 +161,8 @@ fn lower(t: &mut [u32], c: usize, x: usize)
 // Lowers what stands around a left part, by a rule that has it. A cell without a tree is passed over.
 fn lower_left(t: &mut [u32], d: Layout, part: Cell, head: Sym, right: Sym, weight: u32)
     requires { ⌜ (Sized d) × (Spanned part) × (part .to ≤ d .places) ⌝ }
-    ensures { λ _. ⌜ (fourths (now (t .exit)) ≡ lowerLeft (fourths (now (t .entry))) (plain (now (t .entry))) d part head right weight) × (plain (now (t .exit)) ≡ plain (now (t .entry))) ⌝ }
+    ensures { λ _. ⌜ (fourths (now (t .exit)) ≡ lowerLeft (fourths (now (t .entry))) (plain (now (t .entry))) d part head right weight)
+        × (plain (now (t .exit)) ≡ plain (now (t .entry))) ⌝ }
 {
     let c = cell_number(d, part);
     if inside_at(&t[..], d, c) == 0 {
@@ -157,7 +175,8 @@ fn lower_left(t: &mut [u32], d: Layout, part: Cell, head: Sym, right: Sym, weigh
 // The same of a right part.
 fn lower_right(t: &mut [u32], d: Layout, part: Cell, head: Sym, left: Sym, weight: u32)
     requires { ⌜ (Sized d) × (Spanned part) ⌝ }
-    ensures { λ _. ⌜ (fourths (now (t .exit)) ≡ lowerRight (fourths (now (t .entry))) (plain (now (t .entry))) d part head left weight) × (plain (now (t .exit)) ≡ plain (now (t .entry))) ⌝ }
+    ensures { λ _. ⌜ (fourths (now (t .exit)) ≡ lowerRight (fourths (now (t .entry))) (plain (now (t .entry))) d part head left weight)
+        × (plain (now (t .exit)) ≡ plain (now (t .entry))) ⌝ }
 {
     let c = cell_number(d, part);
     if inside_at(&t[..], d, c) == 0 {
@@ -170,7 +189,8 @@ fn lower_right(t: &mut [u32], d: Layout, part: Cell, head: Sym, left: Sym, weigh
 // Lowers what stands around both parts of a pair rule, over one span.
 fn lower_parts(t: &mut [u32], rules: &[u32], r: usize, d: Layout, from: usize, to: usize)
     requires { ⌜ (Sized d) × (r < 4294967296) × (from ≤ 31) × (0 < to) × (to ≤ d .places) ⌝ }
-    ensures { λ _. ⌜ (fourths (now (t .exit)) ≡ lowerParts (fourths (now (t .entry))) (plain (now (t .entry))) d from to (ruleAt (now (rules .entry)) r)) × (plain (now (t .exit)) ≡ plain (now (t .entry))) ⌝ }
+    ensures { λ _. ⌜ (fourths (now (t .exit)) ≡ lowerParts (fourths (now (t .entry))) (plain (now (t .entry))) d from to (ruleAt (now (rules .entry)) r))
+        × (plain (now (t .exit)) ≡ plain (now (t .entry))) ⌝ }
 {
     let rule = rule_at(rules, r);
     match rule {
@@ -195,7 +215,8 @@ fn lower_parts(t: &mut [u32], rules: &[u32], r: usize, d: Layout, from: usize, t
 // Lowers what stands around all cells of one span, by all rules.
 fn over_rules(t: &mut [u32], rules: &[u32], count: usize, d: Layout, from: usize, to: usize)
     requires { ⌜ (Sized d) × (count ≤ 256) × (from ≤ 31) × (0 < to) × (to ≤ d .places) ⌝ }
-    ensures { λ _. ⌜ (fourths (now (t .exit)) ≡ overRules (fourths (now (t .entry))) (plain (now (t .entry))) (now (rules .entry)) count d from to) × (plain (now (t .exit)) ≡ plain (now (t .entry))) ⌝ }
+    ensures { λ _. ⌜ (fourths (now (t .exit)) ≡ overRules (fourths (now (t .entry))) (plain (now (t .entry))) (now (rules .entry)) count d from to)
+        × (plain (now (t .exit)) ≡ plain (now (t .entry))) ⌝ }
 {
     for r in 0..count {
         lower_parts(t, rules, r, d, from, to);
@@ -205,7 +226,8 @@ fn over_rules(t: &mut [u32], rules: &[u32], count: usize, d: Layout, from: usize
 // Over all spans of a length.
 fn over_spans(t: &mut [u32], rules: &[u32], pass: Pass, length: usize)
     requires { ⌜ (Passable pass) × (0 < length) × (length ≤ pass .table .places) ⌝ }
-    ensures { λ _. ⌜ (fourths (now (t .exit)) ≡ overSpans (fourths (now (t .entry))) (plain (now (t .entry))) (now (rules .entry)) pass length) × (plain (now (t .exit)) ≡ plain (now (t .entry))) ⌝ }
+    ensures { λ _. ⌜ (fourths (now (t .exit)) ≡ overSpans (fourths (now (t .entry))) (plain (now (t .entry))) (now (rules .entry)) pass length)
+        × (plain (now (t .exit)) ≡ plain (now (t .entry))) ⌝ }
 {
     let d = pass.table;
     let spans = d.places + 1 - length;
@@ -227,7 +249,8 @@ fn blank(t: &mut [u32])
 // Finds the outside weights of all cells that hold a tree, the longer spans first.
 pub fn fill(t: &mut [u32], rules: &[u32], pass: Pass)
     requires { ⌜ Passable pass ⌝ }
-    ensures { λ _. ⌜ (fourths (now (t .exit)) ≡ fill (replicate (length (now (t .entry)) / 4) 0) (plain (now (t .entry))) (now (rules .entry)) pass) × (plain (now (t .exit)) ≡ plain (now (t .entry))) ⌝ }
+    ensures { λ _. ⌜ (fourths (now (t .exit)) ≡ fill (replicate (length (now (t .entry)) / 4) 0) (plain (now (t .entry))) (now (rules .entry)) pass)
+        × (plain (now (t .exit)) ≡ plain (now (t .entry))) ⌝ }
 {
     let d = pass.table;
     blank(t);

@@ -31,6 +31,13 @@ pub enum Fault {
     Named(String),
     /// Not a whole number.
     Number(String),
+    /// Not a weight or a cost: a whole number from 0 to 65,535.
+    Weight {
+        /// Which of both.
+        what: &'static str,
+        /// What stands here.
+        found: String,
+    },
     /// A weight or a cost that passes the greatest.
     TooLarge {
         /// Which of both.
@@ -194,6 +201,14 @@ impl Fault {
             }
             Self::Named(name) => write!(formatter, "`{name}` is listed already"),
             Self::Number(item) => write!(formatter, "`{item}` is not a whole number"),
+            Self::Weight { what, found } => {
+                write!(formatter, "`{found}` is no {what}: a {what} is 0 to {MAX_WEIGHT}, digits only")?;
+                match found.parse::<f64>().is_ok_and(|number| number.fract() != 0.0) {
+                    true => write!(formatter, "; for {found} multiply all by 100"),
+                    false if *what == "cost" => write!(formatter, ", and between slots stands `;`"),
+                    false => Ok(()),
+                }
+            }
             Self::TooLarge { what, number } => {
                 write!(formatter, "{number} is too large: a {what} is at most {MAX_WEIGHT}")
             }

@@ -46,8 +46,8 @@
 //! twenty 12 | forty 20
 //! ```
 //!
-//! A slot a line: candidates with bars between them, each a word and its cost, in any order. A cost of 65535 says that the
-//! word was not heard. A semicolon ends a slot too, so that an utterance can stand in one line. A word with a blank, a quote
+//! A slot a line: candidates with bars between them, each a word and its cost, in any order. A word without a cost has cost 0, and
+//! a cost of 65535 says that the word was not heard. A semicolon ends a slot too, so that an utterance can stand in one line. A word with a blank, a quote
 //! or one of `| ; #` in it is quoted as in a grammar. Confusion networks as SRILM writes them are utterances too:
 //!
 //! ```text
@@ -60,6 +60,16 @@
 //! A word's cost is then minus the natural logarithm of its share of the posterior, times a scale that the reader is given,
 //! rounded; a posterior of 0 says that the word was not heard. Alignments of only `<s>` or `</s>` are no slots, and lines
 //! that begin otherwise are passed over.
+//!
+//! # Sentences
+//!
+//! ```text
+//! + door twenty four oak [5] => "24 oak"
+//! - door door
+//! ```
+//!
+//! A sentence a line, which a grammar should derive (`+`) or not (`-`), as a test of it; in brackets the weight that the first
+//! reading should have, and behind `=>` what it should become, if that is to be tested.
 //!
 //! # Word graphs
 //!
@@ -144,6 +154,7 @@ mod rule_fault;
 mod rule_names;
 mod scan;
 mod score;
+mod sentence;
 mod shares;
 mod source;
 mod translation;
@@ -157,6 +168,7 @@ pub use nearest::nearest;
 pub use reading::{parse_reading, parse_sheet, print_list, reading_text};
 pub use room::Room;
 pub use rule_fault::RuleFault;
+pub use sentence::Sentence;
 pub use utterance::UtteranceReader;
 
 /// The mark that some editors write before a text.

@@ -274,7 +274,7 @@ pub(super) fn digits(item: &str) -> Option<Option<u32>> {
 /// A weight or a cost.
 pub(super) fn weight(item: &str, what: &'static str) -> Result<u32, Fault> {
     match digits(item) {
-        None => Err(Fault::Number(item.to_owned())),
+        None => Err(Fault::Weight { what, found: item.to_owned() }),
         Some(Some(number)) if number <= crate::limits::MAX_WEIGHT => Ok(number),
         Some(_) => Err(Fault::TooLarge { what, number: item.to_owned() }),
     }

@@ -189,6 +189,11 @@ impl NamedGrammar {
         }
     }
 
+    /// Whether some rule of the text says what it becomes.
+    pub fn has_translations(&self) -> bool {
+        self.source.as_ref().is_some_and(|source| source.rules.iter().any(|rule| rule.translation.is_some()))
+    }
+
     /// Whether some rules of the text are written out as several of the grammar's.
     pub fn is_written_out(&self) -> bool {
         self.source.as_ref().is_some_and(|source| {

@@ -29,12 +29,11 @@ impl Template {
         let mut rest = text;
         while let Some((before, behind)) = rest.split_once(REFERENCE) {
             pieces.push(Piece::Text(before.to_owned()));
-            let digits = behind.len() - behind.trim_start_matches(|letter: char| letter.is_ascii_digit()).len();
-            let number: Option<usize> = behind[..digits].parse().ok();
-            rest = match number.filter(|number| (1..=parts).contains(number)) {
-                Some(number) => {
-                    pieces.push(Piece::Part(number as u32 - 1));
-                    &behind[digits..]
+            let digits = behind.bytes().take_while(u8::is_ascii_digit).count();
+            rest = match part_number(&behind[..digits], parts) {
+                Some((number, length)) => {
+                    pieces.push(Piece::Part(number - 1));
+                    &behind[length..]
                 }
                 None => {
                     pieces.push(Piece::Text(REFERENCE.to_string()));
@@ -54,6 +53,12 @@ impl Template {
         });
         pieces.collect()
     }
+}
+
+/// The number of a part that digits begin with, the longest, and how many digits it has: of one part `$10` is the part and a 0.
+fn part_number(digits: &str, parts: usize) -> Option<(u32, usize)> {
+    let numbers = (1..=digits.len()).rev().filter_map(|length| Some((digits[..length].parse::<u32>().ok()?, length)));
+    numbers.into_iter().find(|(number, _)| (1..=parts as u32).contains(number))
 }
 
 /// That no part stands behind a `$`.

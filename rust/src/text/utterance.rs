@@ -128,8 +128,7 @@ impl<'a> UtteranceReader<'a> {
     ) -> Result<Option<Token<'b>>, Error> {
         let mut word = Some(first);
         loop {
-            self.candidate(slots, word, tokens)?;
-            match tokens.next()? {
+            match self.candidate(slots, word, tokens)? {
                 None => return Ok(None),
                 Some(Token::Mark(';')) => return tokens.next(),
                 Some(Token::Mark('|')) => word = tokens.next()?,
@@ -138,22 +137,29 @@ impl<'a> UtteranceReader<'a> {
         }
     }
 
-    /// Reads a candidate whose word is at hand.
-    fn candidate(&self, slots: &mut Slots, word: Option<Token>, tokens: &mut Tokens) -> Result<(), Error> {
+    /// Reads a candidate whose word is at hand; answers the token behind it.
+    fn candidate<'b>(
+        &self,
+        slots: &mut Slots,
+        word: Option<Token<'b>>,
+        tokens: &mut Tokens<'b>,
+    ) -> Result<Option<Token<'b>>, Error> {
         let known = match &word {
             Some(Token::Bare(word)) => self.take(slots, word),
             Some(Token::Quoted(word)) => self.take(slots, word),
             _ => return tokens.expected("a word", word),
         };
         let known = known.map_err(|fault| tokens.fault(fault))?;
-        let cost = match tokens.next()? {
-            Some(Token::Bare(item)) => weight(item, "cost").map_err(|fault| tokens.fault(fault))?,
-            other => return tokens.expected("a cost", other),
-        };
+        let mut next = tokens.next()?;
+        let mut cost = 0;
+        if let Some(Token::Bare(item)) = next {
+            cost = weight(item, "cost").map_err(|fault| tokens.fault(fault))?;
+            next = tokens.next()?;
+        }
         if let Some(word) = known {
             slots.add(Candidate { word, cost });
         }
-        Ok(())
+        Ok(next)
     }
 
     /// The number of a word that the last slot is to have; nothing if it is left out.

@@ -149,15 +149,17 @@ pub fn expect_sound(
     answer
 }
 
-/// What a call is to hand out, with its zeros, or nothing if it is to answer 53, where its table alone decides that: the rank that it
-/// looks for is found already, or it is a first call whose table is not zeros where the first ranks stand.
+/// What a call is to hand out, with its zeros, or nothing if it is to answer 53, where its table as it stands decides that: the rank
+/// that is asked for is found already, or none is looked for, since the place has another mark than 1 or the table of a first call is
+/// not zeros where the first ranks stand.
 fn spelled_in(blocks: [&[u8]; 2], listed: &Listed, state: &State) -> Option<Option<Vec<u8>>> {
     let (Place { handed, opened }, work) = (state.places[1], state.work.slice());
-    if opened != 1 || handed >= MAX_READINGS {
+    if handed >= MAX_READINGS {
         return None;
     }
     let Some(spelled) = listed.spelled(work, handed as usize) else {
-        return (handed == 0 && !listed.front_is_zero(work)).then_some(None);
+        let is_sought = opened == 1 && (handed > 0 || listed.front_is_zero(work));
+        return (!is_sought).then_some(None);
     };
     let mut reading = spelled.filter(|reading| check::check(blocks[0], blocks[1], reading).is_ok());
     if let Some(reading) = &mut reading {

@@ -3,7 +3,7 @@
 -- into the queue is read again, since its back pointer comes from the last found's in one of four ways, or follows none.
 use mathlib.Core.Path.{_≡_, refl, sym, _∙_}
 use mathlib.Core.Logic.{_⊎_, inl, inr, ⊎-elim, _≢_}
-use mathlib.Core.Bool.{Bool, true, false}
+use mathlib.Core.Bool.{Bool, true, false, true≢false}
 use mathlib.Core.List.{List}
 use Prim.Native.Nat.{ℕ, zero, suc, _+_, _-_, _*_, _/_, _%_, _≤_, _<_}
 use native.Mathlib.Nat.{eq-or-lt-of-le, le-refl, le-trans}
@@ -104,9 +104,6 @@ module _ (t : List ℕ) (d : Layout) (c : ℕ) where
   least-place-least : (m : ℕ) → 0 < m → (leastPlace t d c m < m) × ((y : ℕ) → y < m → key (leastPlace t d c m) ≤ key y)
   least-place-least zero h = absurd (omega arith)
   least-place-least (suc m) h = least-place-suc m
-
-pub true≢false : _≡_ {A = Bool} true false → ⊥
-true≢false e = let z : _≡_ {A = ℕ} 0 1 = cc in omega arith
 
 -- the back pointer of a key, and whether it follows none
 abbrev pub backIn : ℕ → ℕ

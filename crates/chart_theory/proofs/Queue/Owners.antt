@@ -1,7 +1,7 @@
 -- What a candidate of a cell follows: nothing, which is written 0, or rank x, which is written suc x.
 -- No candidate follows two: its rule, split and ranks say which pairing it follows, and a pairing has one rank.
 use mathlib.Core.Path.{_≡_, refl, sym, _∙_}
-use mathlib.Core.Bool.{Bool, true, false}
+use mathlib.Core.Bool.{true, false≢true}
 use mathlib.Core.List.{List}
 use Prim.Native.Nat.{ℕ, zero, suc, _≤_, _<_}
 use native.Mathlib.Nat.{le-trans}
@@ -18,9 +18,6 @@ use Rattle.chart_table.specs.declared.Cell.{Cell}
 use Rattle.chart_queue.specs.Queue.{isInitial}
 use Rattle.chart_theory.proofs.Table.Keys.{rowBack}
 use Rattle.chart_theory.proofs.Table.Cells.{RowOfIn, RowAtIn, FrontierIn}
-
-false≢true : _≡_ {A = Bool} false true → ⊥
-false≢true e = let z : _≡_ {A = ℕ} 0 1 = cc in omega arith
 
 module _ (g : Grammar) (es : List Edge) (c : Cell) where
   -- rule, split and ranks of the parts make the tree

@@ -2,7 +2,7 @@
 -- none. For it follows the last found, or it follows what the last found followed, and then it is that one's sibling.
 use mathlib.Core.Path.{_≡_, refl, sym, ap, _∙_, subst}
 use mathlib.Core.Logic.{_⊎_, inl, inr, ⊎-elim}
-use mathlib.Core.Bool.{Bool, true, false}
+use mathlib.Core.Bool.{Bool, true, false, true≢false}
 use mathlib.Core.List.{List}
 use Prim.Native.Nat.{ℕ, zero, suc, _+_, _-_, _/_, _≤_, _<_}
 use native.Mathlib.Omega.{arith}
@@ -22,7 +22,7 @@ use Rattle.chart_theory.proofs.Table.Cells.{RowOfIn, RowAtIn, row-uniqu
 use Rattle.chart_theory.proofs.Queue.Numbers.{Shift, next-right, next-left, to-left, to-right}
 use Rattle.chart_theory.proofs.Queue.Owners.{OwnerOf, tree-unique}
 use Rattle.chart_theory.proofs.Queue.Pool.{Pool, Queued, fresh-initial}
-use Rattle.chart_theory.proofs.Queue.ExtractMin.{true≢false, backIn, FollowsNone, Reached}
+use Rattle.chart_theory.proofs.Queue.ExtractMin.{backIn, FollowsNone, Reached}
 
 module _ (g : Grammar) (es : List Edge) (c : Cell) where
   -- a row is one by its back pointer

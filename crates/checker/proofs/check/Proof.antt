@@ -35,7 +35,9 @@ slice-aggregate-check-heard-2 c = search needs
 
 check-heard-requires : tie.Need-check-heard-requires
 check-heard-requires c κs =
-    let bounded = rw (c .before .before .before .before .sizes .given .1) at (c .before .before .before .before .before .before .before .read-block .ensures .2) in
+    let at-sizes = c .before .before .before .before in
+    let at-read-block = at-sizes .before .before .before in
+    let bounded = rw (at-sizes .sizes .given .1) at (at-read-block .read-block .ensures .2) in
     omega arith
 
 verdict-requires : tie.Need-verdict-requires
@@ -50,11 +52,15 @@ returns c =
 
 returns-2 : tie.Need-returns-2
 returns-2 c =
-    let a = c .before .before .before .before .before .before .before .before .before .before .before .before .before .before .before .args in
-    let read = c .before .before .before .before .before .before .before .before .before .before .read-block in
-    let (g, p, z) = accepted-told (grammarBlock (a .grammar .now)) (read .ensures .0) (c .before .before .before .before .before .before .before .sizes .given .1) in
+    let at-sizes = c .before .before .before .before .before .before .before in
+    let at-read-block = at-sizes .before .before .before in
+    let at-shared-slice-known3 = at-read-block .before .before in
+    let at-args = at-shared-slice-known3 .before .before .before in
+    let a = at-args .args in
+    let read = at-read-block .read-block in
+    let (g, p, z) = accepted-told (grammarBlock (a .grammar .now)) (read .ensures .0) (at-sizes .sizes .given .1) in
     let rules = rules-of g (read .last .1 .0) (rw p at (read .ensures .1)) in
-    promised (a .grammar .now) (a .heard .now) (a .reading .now) (λ i. c .before .before .before .before .before .before .before .before .before .before .before .before .shared-slice-known3 .given i .fits)
+    promised (a .grammar .now) (a .heard .now) (a .reading .now) (λ i. at-shared-slice-known3 .shared-slice-known3 .given i .fits)
     (c .verdict .ensures
     ∙ ap checkedBy (c .before .before .check-heard .ensures .0)
     ∙ rw (z, rules) (ap (λ v. checkedBy (walkedOf v)) (sym (under-rules (a .grammar .now) (a .heard .now) (a .reading .now) g p))

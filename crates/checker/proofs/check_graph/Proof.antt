@@ -34,8 +34,11 @@ slice-aggregate-check-path c = search needs
 
 check-path-requires : tie.Need-check-path-requires
 check-path-requires c κs =
-    let sized = rw (c .before .before .before .before .found .given .1) at (c .before .before .before .before .before .before .before .read-graph .ensures .2) in
-    omega (arith, sized, c .before .before .before .before .before .before .before .before .before .before .before .before .before .pre)
+    let at-found = c .before .before .before .before in
+    let at-read-graph = at-found .before .before .before in
+    let at-pre = at-read-graph .before .before .before .before .before .before in
+    let sized = rw (at-found .found .given .1) at (at-read-graph .read-graph .ensures .2) in
+    omega (arith, sized, at-pre .pre)
 
 returns : tie.Need-returns
 returns c =
@@ -47,9 +50,12 @@ same-length c = search needs
 
 returns-2 : tie.Need-returns-2
 returns-2 c =
-    let a = c .before .before .before .before .before .before .before .before .before .before .before .before .before .before .before .before .args in
-    let read = c .before .before .before .before .before .before .before .before .before .before .read-graph in
-    let (h, e, z) = accepted-told (graphBlock (a .words) (a .heard .now)) (read .ensures .0) (c .before .before .before .before .before .before .before .found .given .1) in
+    let at-found = c .before .before .before .before .before .before .before in
+    let at-read-graph = at-found .before .before .before in
+    let at-args = at-read-graph .before .before .before .before .before .before in
+    let a = at-args .args in
+    let read = at-read-graph .read-graph in
+    let (h, e, z) = accepted-told (graphBlock (a .words) (a .heard .now)) (read .ensures .0) (at-found .found .given .1) in
     let judged = graph-judged (a .words) (rulesOf (a .rules .now) (a .count)) (a .heard .now) (a .reading .now) (read .last .1 .1 .0) e (read .ensures .1)
     (ap (λ (s : GraphSize). s .edges) z) (ap (λ (s : GraphSize). s .places - 1) z) (sym (length-rules-at (a .rules .now) 0 (a .count))) in
     rw judged at (c .before .before .check-path .ensures)

@@ -14,7 +14,10 @@ same-length : tie.Need-same-length
 same-length c = search needs
 
 returns : tie.Need-returns
-returns c = rw (sym (c .before .before .before .before .before .is-graph .ensures) ∙ c .before .before .before .before .if1 .taken) (c .before .before .check-graph .ensures)
+returns c =
+    let at-if1 = c .before .before .before .before in
+    let at-is-graph = at-if1 .before in
+    rw (sym (at-is-graph .is-graph .ensures) ∙ at-if1 .if1 .taken) (c .before .before .check-graph .ensures)
 
 check-slots-requires : tie.Need-check-slots-requires
 check-slots-requires c κs = search needs
@@ -23,7 +26,10 @@ same-length-2 : tie.Need-same-length-2
 same-length-2 c = search needs
 
 returns-2 : tie.Need-returns-2
-returns-2 c = rw (sym (c .before .before .before .before .before .is-graph .ensures) ∙ c .before .before .before .before .if1 .left) (c .before .before .check-slots .ensures)
+returns-2 c =
+    let at-if1 = c .before .before .before .before in
+    let at-is-graph = at-if1 .before in
+    rw (sym (at-is-graph .is-graph .ensures) ∙ at-if1 .if1 .left) (c .before .before .check-slots .ensures)
 
 pub check-heard-spec : {M : Type 1} → statement M
 check-heard-spec =

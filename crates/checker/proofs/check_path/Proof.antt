@@ -27,17 +27,25 @@ weight-of-requires c κs =
 
 mul-judge : tie.Need-mul-judge
 mul-judge c =
-    let sized = rw (c .before .before .before .before .before .head .given .1) at (c .before .before .before .before .before .before .before .read-head .ensures .1) in
-    omega (arith, sized, c .before .before .before .before .before .before .before .before .before .before .before .before .pre)
+    let at-head = c .before .before .before .before .before in
+    let at-read-head = at-head .before .before in
+    let at-pre = at-read-head .before .before .before .before .before in
+    let sized = rw (at-head .head .given .1) at (at-read-head .read-head .ensures .1) in
+    omega (arith, sized, at-pre .pre)
 
 sub-judge : tie.Need-sub-judge
 sub-judge c =
-    let sized = rw (c .before .before .before .before .before .head .given .1) at (c .before .before .before .before .before .before .before .read-head .ensures .1) in
-    omega (arith, sized, c .before .before .before .before .before .before .before .before .before .before .before .before .pre)
+    let at-head = c .before .before .before .before .before in
+    let at-read-head = at-head .before .before in
+    let at-pre = at-read-head .before .before .before .before .before in
+    let sized = rw (at-head .head .given .1) at (at-read-head .read-head .ensures .1) in
+    omega (arith, sized, at-pre .pre)
 
 judge-requires : tie.Need-judge-requires
 judge-requires c κs =
-    let sized = rw (c .before .before .before .before .before .head .given .1) at (c .before .before .before .before .before .before .before .read-head .ensures .1) in
+    let at-head = c .before .before .before .before .before in
+    let at-read-head = at-head .before .before in
+    let sized = rw (at-head .head .given .1) at (at-read-head .read-head .ensures .1) in
     omega (arith, sized)
 
 returns : tie.Need-returns
@@ -51,13 +59,18 @@ same-length c = search needs
 
 returns-2 : tie.Need-returns-2
 returns-2 c =
-    let a = c .before .before .before .before .before .before .before .before .before .before .before .before .before .args in
-    let sized = rw (c .before .before .before .before .before .before .head .given .1) at (c .before .before .before .before .before .before .before .before .read-head .ensures .1) in
-    let w = c .before .before .before .weight-of in
+    let at-weight-of = c .before .before .before in
+    let at-head = at-weight-of .before .before .before in
+    let at-read-head = at-head .before .before in
+    let at-args = at-read-head .before .before .before .before .before in
+    let a = at-args .args in
+    let sized = rw (at-head .head .given .1) at (at-read-head .read-head .ensures .1) in
+    let w = at-weight-of .weight-of in
     let array = w .last .1 .1 .1 .1 .1 .1 .0 in
-    let room : 2 * c .before .before .before .before .before .before .head .given .0 .0 .edges - 1 ≤ length array = omega (arith, sized, w .kept .1 .1 .1 .1 .1 .1 .0, c .before .before .before .before .before .before .before .before .before .before .before .before .before .pre) in
+    let room : 2 * at-head .head .given .0 .0 .edges - 1 ≤ length array = omega (arith, sized, w .kept .1 .1 .1 .1 .1 .1 .0, at-args .pre) in
     path-judged (a .count) (a .graph .last) (rulesOf (a .rules .now) (a .count)) (edgesOf (a .edges .now) (a .graph .edges)) (a .reading .now) array (w .result)
-    (c .before .before .before .before .before .before .before .before .read-head .ensures .0) (c .before .before .before .before .before .before .head .given .1) (sym (length-rules-at (a .rules .now) 0 (a .count))) (w .ensures .0) (w .ensures .1) room (c .judge .ensures)
+    (at-read-head .read-head .ensures .0) (at-head .head .given .1) (sym (length-rules-at (a .rules .now) 0 (a .count))) (w .ensures .0) (w .ensures .1) room
+    (c .judge .ensures)
 
 pub check-path-spec : {M : Type 1} → statement M
 check-path-spec =

@@ -35,18 +35,23 @@ check-walk-requires c κs =
 
 returns : tie.Need-returns
 returns c =
-    let a = c .before .before .before .before .before .before .before .before .before .before .args in
-    rw (refused-told (a .words) (utteranceBlock (a .words) (a .heard .now)) (c .before .before .before .before .read-block .ensures .0) (c .before .m .given .1)) (refl, tt)
+    let at-read-block = c .before .before .before .before in
+    let at-args = at-read-block .before .before .before .before .before .before in
+    let a = at-args .args in
+    rw (refused-told (a .words) (utteranceBlock (a .words) (a .heard .now)) (at-read-block .read-block .ensures .0) (c .before .m .given .1)) (refl, tt)
 
 same-length : tie.Need-same-length
 same-length c = search needs
 
 returns-2 : tie.Need-returns-2
 returns-2 c =
-    let a = c .before .before .before .before .before .before .before .before .before .before .before .before .before .before .before .args in
-    let read = c .before .before .before .before .before .before .before .before .before .read-block in
+    let at-found = c .before .before .before .before .before .before in
+    let at-read-block = at-found .before .before .before in
+    let at-args = at-read-block .before .before .before .before .before .before in
+    let a = at-args .args in
+    let read = at-read-block .read-block in
     let rules : List R.Rule = rulesOf (a .rules .now) (a .count) in
-    let (u, e, z) = accepted-told (a .words) (utteranceBlock (a .words) (a .heard .now)) (read .ensures .0) (c .before .before .before .before .before .before .found .given .1) in
+    let (u, e, z) = accepted-told (a .words) (utteranceBlock (a .words) (a .heard .now)) (read .ensures .0) (at-found .found .given .1) in
     let judged = slots-judged (a .words) rules (a .heard .now) (a .reading .now) (read .last .1 .1 .0) e (read .ensures .1)
     (ap (λ (s : Slots). s .count) z) (sym (length-rules-at (a .rules .now) 0 (a .count))) in
     rw judged at (c .before .before .check-walk .ensures)

@@ -36,19 +36,25 @@ same-length c = search needs
 
 returns : tie.Need-returns
 returns c =
-    let a = c .before .before .before .before .before .before .before .before .before .before .before .args in
-    rw (failed-told (readingFrom (a .n) (a .count) (a .reading .now)) (c .before .before .before .before .before .read-reading .ensures .0) (c .before .m .given .1)) (refl, tt)
+    let at-read-reading = c .before .before .before .before .before in
+    let at-args = at-read-reading .before .before .before .before .before .before in
+    let a = at-args .args in
+    rw (failed-told (readingFrom (a .n) (a .count) (a .reading .now)) (at-read-reading .read-reading .ensures .0) (c .before .m .given .1)) (refl, tt)
 
 same-length-2 : tie.Need-same-length-2
 same-length-2 c = search needs
 
 returns-2 : tie.Need-returns-2
 returns-2 c =
-    let a = c .before .before .before .before .before .before .before .before .before .before .before .before .before .before .args in
-    let read = c .before .before .before .before .before .before .before .before .read-reading in
-    let (d, e, w) = parsed-told (readingFrom (a .n) (a .count) (a .reading .now)) (read .ensures .0) (c .before .before .before .before .weight .given .1) in
+    let at-weight = c .before .before .before .before in
+    let at-read-reading = at-weight .before .before .before .before in
+    let at-args = at-read-reading .before .before .before .before .before .before in
+    let a = at-args .args in
+    let read = at-read-reading .read-reading in
+    let (d, e, w) = parsed-told (readingFrom (a .n) (a .count) (a .reading .now)) (read .ensures .0) (at-weight .weight .given .1) in
     walk-judged (a .n) (a .count) (rulesOf (a .rules .now) (a .count)) (slotsOf (a .slots .now) (a .n) 0)
-    (a .reading .now) (read .last .1 .1 .1 .0) (numberOf (c .before .weight-of .result)) e (read .ensures .1) (c .before .weight-of .ensures) (rw w (c .judge .ensures))
+    (a .reading .now) (read .last .1 .1 .1 .0) (numberOf (c .before .weight-of .result)) e (read .ensures .1) (c .before .weight-of .ensures)
+    (rw w (c .judge .ensures))
 
 pub check-walk-spec : {M : Type 1} → statement M
 check-walk-spec =

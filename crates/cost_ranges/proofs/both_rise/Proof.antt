@@ -9,10 +9,16 @@ edges-rise-requires : tie.Need-edges-rise-requires
 edges-rise-requires c κs = omega (arith, c .before .before .before .before .before .before .before .before .pre)
 
 returns : tie.Need-returns
-returns c = let a = c .before .before .before .before .before .before .before .before .before .args in c .edges-rise .ensures ∙ sizes-same (a .low .now) (a .high .now) (a .heard) (a .other) (c .before .before .before .before .if1 .taken) (c .before .if2 .taken)
+returns c =
+    let at-if1 = c .before .before .before .before in
+    let at-args = at-if1 .before .before .before .before .before in
+    let a = at-args .args in
+    c .edges-rise .ensures ∙ sizes-same (a .low .now) (a .high .now) (a .heard) (a .other) (at-if1 .if1 .taken) (c .before .if2 .taken)
 
 returns-2 : tie.Need-returns-2
-returns-2 c = let a = c .before .before .before .before .before .before .before .before .args in other-count (a .low .now) (a .high .now) (a .heard) (a .other) (c .if2 .left)
+returns-2 c =
+    let a = c .before .before .before .before .before .before .before .before .args in
+    other-count (a .low .now) (a .high .now) (a .heard) (a .other) (c .if2 .left)
 
 returns-3 : tie.Need-returns-3
 returns-3 c = let a = c .before .before .before .before .before .args in other-last (a .low .now) (a .high .now) (a .heard) (a .other) (c .if1 .left)

@@ -28,24 +28,32 @@ slice-aggregate-ranges-high-2 c = search needs
 
 ranges-high-requires : tie.Need-ranges-high-requires
 ranges-high-requires c κs =
-    let k = rw (c .before .before .before .before .inputs .given .1) at (c .before .before .before .before .before .before .before .before .read-slot-inputs .ensures) in
+    let at-inputs = c .before .before .before .before in
+    let at-read-slot-inputs = at-inputs .before .before .before .before in
+    let k = rw (at-inputs .inputs .given .1) at (at-read-slot-inputs .read-slot-inputs .ensures) in
     (k .bounds .sizes, k .bounds .some-place, k .bounds .places, k .bounds .edges)
 
 returns : tie.Need-returns
 returns c =
-    let a = c .before .before .before .before .before .before .before .before .before .before .before .before .args in
+    let at-read-slot-inputs = c .before .before .before .before .before in
+    let at-args = at-read-slot-inputs .before .before .before .before .before .before .before in
+    let a = at-args .args in
     meant (a .grammar .now) (a .low .now) (a .high .now) (a .work .now)
-    (not-read (a .grammar .now) (a .low .now) (a .high .now) (a .work .now) (rw (c .before .n .given .1) at (c .before .before .before .before .before .read-slot-inputs .ensures)))
+    (not-read (a .grammar .now) (a .low .now) (a .high .now) (a .work .now) (rw (c .before .n .given .1) at (at-read-slot-inputs .read-slot-inputs .ensures)))
 
 same-length : tie.Need-same-length
 same-length c = search needs
 
 returns-2 : tie.Need-returns-2
 returns-2 c =
-    let a = c .before .before .before .before .before .before .before .before .before .before .before .before .before .before .before .before .before .before .before .args in
-    let k = rw (c .before .before .before .before .before .before .before .before .inputs .given .1) at (c .before .before .before .before .before .before .before .before .before .before .before .before .read-slot-inputs .ensures) in
+    let at-ranges-high = c .before .before .before in
+    let at-inputs = at-ranges-high .before .before .before .before .before in
+    let at-read-slot-inputs = at-inputs .before .before .before .before in
+    let at-args = at-read-slot-inputs .before .before .before .before .before .before .before in
+    let a = at-args .args in
+    let k = rw (at-inputs .inputs .given .1) at (at-read-slot-inputs .read-slot-inputs .ensures) in
     meant (a .grammar .now) (a .low .now) (a .high .now) (a .work .now)
-    (read (a .grammar .now) (a .low .now) (a .high .now) (a .work .now) k (c .before .before .before .ranges-high .ensures))
+    (read (a .grammar .now) (a .low .now) (a .high .now) (a .work .now) k (at-ranges-high .ranges-high .ensures))
 
 pub cost-ranges-spec : {M : Type 1} → statement M
 cost-ranges-spec =

@@ -37,9 +37,17 @@ cost-rises-requires c κs = search needs
 
 returns : tie.Need-returns
 returns c =
-    let a = c .before .before .before .before .before .before .before .before .before .before .before .args in
-    c .cost-rises .ensures ∙ edge-same (a .low .now) (a .high .now) (a .e) (c .before .before .before .before .before .before .before .before .narrow-at .ensures) (c .before .before .before .before .before .before .before .narrow-at2 .ensures) (c .before .before .before .before .before .narrow-at3 .ensures) (c .before .before .before .before .narrow-at4 .ensures)
-    (c .before .before .narrow-at5 .ensures) (c .before .narrow-at6 .ensures) (c .before .before .before .before .before .before .if1 .taken) (c .before .before .before .if2 .taken)
+    let at-if2 = c .before .before .before in
+    let at-narrow-at4 = at-if2 .before in
+    let at-narrow-at3 = at-narrow-at4 .before in
+    let at-if1 = at-narrow-at3 .before in
+    let at-narrow-at2 = at-if1 .before in
+    let at-narrow-at = at-narrow-at2 .before in
+    let at-args = at-narrow-at .before .before .before in
+    let a = at-args .args in
+    c .cost-rises .ensures ∙ edge-same (a .low .now) (a .high .now) (a .e) (at-narrow-at .narrow-at .ensures) (at-narrow-at2 .narrow-at2 .ensures)
+    (at-narrow-at3 .narrow-at3 .ensures) (at-narrow-at4 .narrow-at4 .ensures)
+    (c .before .before .narrow-at5 .ensures) (c .before .narrow-at6 .ensures) (at-if1 .if1 .taken) (at-if2 .if2 .taken)
 
 returns-2 : tie.Need-returns-2
 returns-2 c =

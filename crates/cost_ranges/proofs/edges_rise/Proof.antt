@@ -28,13 +28,21 @@ loop-less c = omega arith
 
 loop-again : tie.Need-loop-again Inv-loop μ-loop
 loop-again c =
-    let a = c .before .before .before .before .before .before .args in
-    (omega arith, rises-here (a .low .now) (a .high .now) (c .before .before .before .loop .e) (a .count) (c .before .before .loop-test .taken) (sym (c .before .edge-rises .ensures) ∙ c .if1 .taken) ∙ c .before .before .before .loop .inv .1)
+    let at-loop = c .before .before .before in
+    let at-args = at-loop .before .before .before in
+    let a = at-args .args in (
+      omega arith,
+      rises-here (a .low .now) (a .high .now) (at-loop .loop .e) (a .count) (c .before .before .loop-test .taken)
+          (sym (c .before .edge-rises .ensures) ∙ c .if1 .taken) ∙ at-loop .loop .inv .1,
+    )
 
 returns : tie.Need-returns Inv-loop μ-loop
 returns c =
-    let a = c .before .before .before .before .before .before .args in
-    sym (falls-here (a .low .now) (a .high .now) (c .before .before .before .loop .e) (a .count) (c .before .before .loop-test .taken) (sym (c .before .edge-rises .ensures) ∙ c .if1 .left)) ∙ c .before .before .before .loop .inv .1
+    let at-loop = c .before .before .before in
+    let at-args = at-loop .before .before .before in
+    let a = at-args .args in
+    sym (falls-here (a .low .now) (a .high .now) (at-loop .loop .e) (a .count) (c .before .before .loop-test .taken)
+    (sym (c .before .edge-rises .ensures) ∙ c .if1 .left)) ∙ at-loop .loop .inv .1
 
 returns-2 : tie.Need-returns-2 Inv-loop μ-loop
 returns-2 c =

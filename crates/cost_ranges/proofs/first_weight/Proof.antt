@@ -18,8 +18,10 @@ same-length c = search needs
 
 returns : tie.Need-returns
 returns c =
-    let table = c .before .before .before .before .enumerate .ensures .0 in
-    (table, c .root-weight .ensures ∙ ap (λ (t : List ℕ). rootWeight t (c .before .before .before .before .before .before .before .before .before .args .pass .table) 0) table)
+    let at-enumerate = c .before .before .before .before in
+    let at-args = at-enumerate .before .before .before .before .before in
+    let table = at-enumerate .enumerate .ensures .0 in
+    (table, c .root-weight .ensures ∙ ap (λ (t : List ℕ). rootWeight t (at-args .args .pass .table) 0) table)
 
 pub first-weight-spec : {M : Type 1} → statement M
 first-weight-spec = tie.close (tie.spec enumerate-requires root-weight-requires same-length returns)

@@ -46,8 +46,12 @@ add-result c = search needs
 
 returns : tie.Need-returns
 returns c =
-    let a = c .before .before .before .before .before .before .before .before .before .args in
-    let (kept, weighs) = pair-node (a .rules .now) (a .high .now) (a .costs .now) (a .rule) (a .edge) (c .before .before .before .before .rule-at .ensures) (c .before .before .before .before .before .wide .ensures .0) (c .before .before .kind .given .1) (c .wide2 .ensures .0) in
+    let at-rule-at = c .before .before .before .before in
+    let at-wide = at-rule-at .before in
+    let at-args = at-wide .before .before .before .before in
+    let a = at-args .args in
+    let (kept, weighs) = pair-node (a .rules .now) (a .high .now) (a .costs .now) (a .rule) (a .edge) (at-rule-at .rule-at .ensures) (at-wide .wide .ensures .0)
+    (c .before .before .kind .given .1) (c .wide2 .ensures .0) in
     (kept, (weighs, omega (arith, c .wide2 .ensures .1)))
 
 same-length : tie.Need-same-length
@@ -55,9 +59,17 @@ same-length c = search needs
 
 returns-2 : tie.Need-returns-2
 returns-2 c =
-    let a = c .before .before .before .before .before .before .before .before .before .before .before .before .before .before .before .before .args in
-    let (raised, weighs) = word-node (a .rules .now) (a .high .now) (a .costs .now) (a .rule) (a .edge) (c .before .before .before .before .before .before .before .before .before .before .before .rule-at .ensures) (c .before .before .before .before .before .before .before .before .before .before .before .before .wide .ensures .0) (c .before .before .before .before .before .before .before .before .before .kind2 .given .1) (c .before .before .before .before .before .before .before .wide3 .ensures .0)
-    (c .before .before .before .before .before .before .narrow-at .ensures) (c .before .before .before .before .store .ensures) (c .before .wide4 .ensures .0) (c .wide5 .ensures .0) in
+    let at-store = c .before .before .before .before in
+    let at-narrow-at = at-store .before .before in
+    let at-wide3 = at-narrow-at .before in
+    let at-kind2 = at-wide3 .before .before in
+    let at-rule-at = at-kind2 .before .before in
+    let at-wide = at-rule-at .before in
+    let at-args = at-wide .before .before .before .before in
+    let a = at-args .args in
+    let (raised, weighs) = word-node (a .rules .now) (a .high .now) (a .costs .now) (a .rule) (a .edge) (at-rule-at .rule-at .ensures)
+    (at-wide .wide .ensures .0) (at-kind2 .kind2 .given .1) (at-wide3 .wide3 .ensures .0)
+    (at-narrow-at .narrow-at .ensures) (at-store .store .ensures) (c .before .wide4 .ensures .0) (c .wide5 .ensures .0) in
     (raised, (weighs, omega (arith, c .before .wide4 .ensures .1, c .wide5 .ensures .1)))
 
 pub raise-node-spec : {M : Type 1} → statement M

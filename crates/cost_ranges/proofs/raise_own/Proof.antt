@@ -18,7 +18,9 @@ abbrev μ-loop : tie.MeasureT-loop
 μ-loop rules trace nodes high costs₀ own₀ i₀ costs own i = nodes - i
 
 loop-holds : tie.Need-loop-holds Inv-loop μ-loop
-loop-holds c = let a = c .before .before .before .before .args in (omega arith, omega arith, refl, all-remain (a .rules .now) (a .trace .now) (a .nodes) (a .high .now) (a .costs .now))
+loop-holds c =
+    let a = c .before .before .before .before .args in
+    (omega arith, omega arith, refl, all-remain (a .rules .now) (a .trace .now) (a .nodes) (a .high .now) (a .costs .now))
 
 mul-p : tie.Need-mul-p Inv-loop μ-loop
 mul-p c = omega arith
@@ -52,13 +54,17 @@ loop-less c = omega arith
 
 loop-again : tie.Need-loop-again Inv-loop μ-loop
 loop-again c =
-    let a = c .before .before .before .before .before .before .before .before .before .before .before .before .args in
+    let at-loop-test = c .before .before .before .before .before .before in
+    let at-loop = at-loop-test .before in
+    let at-args = at-loop .before .before .before .before .before in
+    let a = at-args .args in
     let e = c .before .before .raise-node .ensures in (
       omega arith,
-      omega (arith, e .1 .1, c .before .before .before .before .before .before .before .loop .inv .1),
-      c .before .before .raise-node .kept .1 .1 .1 .1 .0 ∙ c .before .before .before .before .before .before .before .loop .inv .2,
-      next-remain (a .rules .now) (a .trace .now) (a .nodes) (c .before .before .before .before .before .before .before .loop .i) (a .high .now) (nodesIn (a .rules .now) (take (2 * a .nodes) (a .trace .now))) (c .before .before .before .before .before .before .loop-test .taken)
-          (c .before .before .before .before .before .before .before .before .before .before .before .before .pre .1) (e .0) (e .1 .0) (c .before .before .before .before .before .before .before .loop .inv .3),
+      omega (arith, e .1 .1, at-loop .loop .inv .1),
+      c .before .before .raise-node .kept .1 .1 .1 .1 .0 ∙ at-loop .loop .inv .2,
+      next-remain (a .rules .now) (a .trace .now) (a .nodes) (at-loop .loop .i) (a .high .now) (nodesIn (a .rules .now) (take (2 * a .nodes) (a .trace .now)))
+          (at-loop-test .loop-test .taken)
+          (at-args .pre .1) (e .0) (e .1 .0) (at-loop .loop .inv .3),
     )
 
 same-length : tie.Need-same-length Inv-loop μ-loop
@@ -66,8 +72,10 @@ same-length c = c .before .loop .inv .2
 
 returns : tie.Need-returns Inv-loop μ-loop
 returns c =
-    let a = c .before .before .before .before .before .before .args in
-    none-remain (a .rules .now) (a .trace .now) (a .nodes) (c .before .loop .i) (a .high .now) (nodesIn (a .rules .now) (take (2 * a .nodes) (a .trace .now))) (c .loop-test .left) (c .before .loop .inv .3)
+    let at-args = c .before .before .before .before .before .before in
+    let a = at-args .args in
+    none-remain (a .rules .now) (a .trace .now) (a .nodes) (c .before .loop .i) (a .high .now) (nodesIn (a .rules .now) (take (2 * a .nodes) (a .trace .now)))
+    (c .loop-test .left) (c .before .loop .inv .3)
 
 pub raise-own-spec : {M : Type 1} → statement M
 raise-own-spec =

@@ -51,11 +51,17 @@ same-length-2 c = search needs
 
 returns-2 : tie.Need-returns-2
 returns-2 c =
-    let a = c .before .before .before .before .before .before .before .before .before .before .before .before .before .before .before .before .args in
-    let numbers = table-is (a .sizes .symbols) (a .heard .last) 1 (c .before .before .before .before .before .before .before .before .before .before .lay-out .ensures .0) (c .before .before .before .before .before .before .before .before .before .table-numbers .ensures .0) in
-    let room : tableSize (a .sizes .symbols) (a .heard .last) 1 ≤ length (a .work .now) = rw numbers at (c .before .before .before .before .before .before .before .before .if1 .left) in
-    alike-passed (a .rules .now) (a .sizes) (a .low .now) (a .high .now) (a .heard) (a .work .now) room (c .before .before .before .before .before .before .before .before .before .before .lay-out .ensures .0) (c .before .before .before .before .passes .ensures .0)
-    (c .before .before .before .before .passes .ensures .1) (c .before .before .before .before .passes .kept .1 .1 .1 .1 .0)
+    let at-passes = c .before .before .before .before in
+    let at-if1 = at-passes .before .before .before .before in
+    let at-table-numbers = at-if1 .before in
+    let at-lay-out = at-table-numbers .before in
+    let at-args = at-lay-out .before .before .before .before .before .before in
+    let a = at-args .args in
+    let numbers = table-is (a .sizes .symbols) (a .heard .last) 1 (at-lay-out .lay-out .ensures .0) (at-table-numbers .table-numbers .ensures .0) in
+    let room : tableSize (a .sizes .symbols) (a .heard .last) 1 ≤ length (a .work .now) = rw numbers at (at-if1 .if1 .left) in
+    alike-passed (a .rules .now) (a .sizes) (a .low .now) (a .high .now) (a .heard) (a .work .now) room (at-lay-out .lay-out .ensures .0)
+    (at-passes .passes .ensures .0)
+    (at-passes .passes .ensures .1) (at-passes .passes .kept .1 .1 .1 .1 .0)
 
 pub ranges-alike-spec : {M : Type 1} → statement M
 ranges-alike-spec =

@@ -19,17 +19,24 @@ same-length-2 c = search needs
 
 returns : tie.Need-returns
 returns c =
-    let a = c .before .before .before .before .before .before .before .before .before .before .before .before .before .before .args in
-    edges-alike (a .rules .now) (a .sizes) (a .low .now) (a .heard) (a .high .now) (a .other) (a .work .now) (sym (c .before .before .before .before .before .before .before .before .both-rise .ensures) ∙ c .before .before .before .before .before .before .before .if1 .taken)
-    (c .before .before .before .before .ranges-alike .ensures)
+    let at-ranges-alike = c .before .before .before .before in
+    let at-if1 = at-ranges-alike .before .before .before in
+    let at-both-rise = at-if1 .before in
+    let at-args = at-both-rise .before .before .before .before .before .before in
+    let a = at-args .args in
+    edges-alike (a .rules .now) (a .sizes) (a .low .now) (a .heard) (a .high .now) (a .other) (a .work .now)
+    (sym (at-both-rise .both-rise .ensures) ∙ at-if1 .if1 .taken)
+    (at-ranges-alike .ranges-alike .ensures)
 
 same-length-3 : tie.Need-same-length-3
 same-length-3 c = search needs
 
 returns-2 : tie.Need-returns-2
 returns-2 c =
-    let a = c .before .before .before .before .before .before .before .args in
-    edges-differ (a .rules .now) (a .sizes) (a .low .now) (a .heard) (a .high .now) (a .other) (a .work .now) (sym (c .before .both-rise .ensures) ∙ c .if1 .left)
+    let at-args = c .before .before .before .before .before .before .before in
+    let a = at-args .args in
+    edges-differ (a .rules .now) (a .sizes) (a .low .now) (a .heard) (a .high .now) (a .other) (a .work .now)
+    (sym (c .before .both-rise .ensures) ∙ c .if1 .left)
 
 pub ranges-edges-spec : {M : Type 1} → statement M
 ranges-edges-spec =

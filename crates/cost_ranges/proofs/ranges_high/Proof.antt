@@ -38,10 +38,14 @@ same-length-2 c = search needs
 
 returns-2 : tie.Need-returns-2
 returns-2 c =
-    let a = c .before .before .before .before .before .before .before .before .before .before .before .before .before .before .before .before .before .before .args in
-    let (h, v, y) = accepted-told (asSlots (a .sizes .words) (a .high .now)) (c .before .before .before .before .before .before .before .before .before .before .before .before .read-slots .ensures .answer) (c .before .before .before .before .before .before .before .before .before .other .given .1) in
-    high-read (a .rules .now) (a .sizes) (a .low .now) (a .heard) (a .high .now) (a .work .now) (c .before .before .before .before .before .before .before .before .before .before .before .before .read-slots .last .1 .1 .0) h v y
-    (rw v at (c .before .before .before .before .before .before .before .before .before .before .before .before .read-slots .ensures .edges)) (c .before .before .before .before .ranges-edges .ensures)
+    let at-ranges-edges = c .before .before .before .before in
+    let at-other = at-ranges-edges .before .before .before .before .before in
+    let at-read-slots = at-other .before .before .before in
+    let at-args = at-read-slots .before .before .before .before .before .before in
+    let a = at-args .args in
+    let (h, v, y) = accepted-told (asSlots (a .sizes .words) (a .high .now)) (at-read-slots .read-slots .ensures .answer) (at-other .other .given .1) in
+    high-read (a .rules .now) (a .sizes) (a .low .now) (a .heard) (a .high .now) (a .work .now) (at-read-slots .read-slots .last .1 .1 .0) h v y
+    (rw v at (at-read-slots .read-slots .ensures .edges)) (at-ranges-edges .ranges-edges .ensures)
 
 pub ranges-high-spec : {M : Type 1} → statement M
 ranges-high-spec =

@@ -36,26 +36,45 @@ number-at-requires-3 c κs = search needs
 
 returns-2 : tie.Need-returns-2
 returns-2 c =
-    let a = c .before .before .before .before .before .before .before .before .before .args in
-    let there = edge-of (a .edges .now) (a .count) (a .edge) (c .before .before .before .before .before .before .before .if1 .left) in
-    let starts = eq-eqb (getD (a .edges .now) (4 * a .edge) 0) (a .place) (sym (c .before .before .before .before .before .before .number-at .ensures .0) ∙ c .before .before .before .before .before .if2 .taken) in
-    let carries = eq-eqb (getD (a .edges .now) (4 * a .edge + 2) 0) (a .word .0) (sym (c .before .before .before .before .number-at2 .ensures .0) ∙ c .before .before .if3 .taken ∙ c .before .before .before .wide .ensures .0) in
+    let at-wide = c .before .before .before in
+    let at-number-at2 = at-wide .before in
+    let at-if2 = at-number-at2 .before in
+    let at-number-at = at-if2 .before in
+    let at-if1 = at-number-at .before in
+    let at-args = at-if1 .before .before in
+    let a = at-args .args in
+    let there = edge-of (a .edges .now) (a .count) (a .edge) (at-if1 .if1 .left) in
+    let starts = eq-eqb (getD (a .edges .now) (4 * a .edge) 0) (a .place) (sym (at-number-at .number-at .ensures .0) ∙ at-if2 .if2 .taken) in
+    let carries = eq-eqb (getD (a .edges .now) (4 * a .edge + 2) 0) (a .word .0)
+    (sym (at-number-at2 .number-at2 .ensures .0) ∙ c .before .before .if3 .taken ∙ at-wide .wide .ensures .0) in
     (rw (there, starts, carries, ← c .before .number-at3 .ensures .0, lt-ltb _ _ (c .if4 .taken)), c .before .number-at3 .ensures .1)
 
 returns-3 : tie.Need-returns-3
 returns-3 c =
-    let a = c .before .before .before .before .before .before .before .before .before .args in
-    let there = edge-of (a .edges .now) (a .count) (a .edge) (c .before .before .before .before .before .before .before .if1 .left) in
-    let starts = eq-eqb (getD (a .edges .now) (4 * a .edge) 0) (a .place) (sym (c .before .before .before .before .before .before .number-at .ensures .0) ∙ c .before .before .before .before .before .if2 .taken) in
-    let carries = eq-eqb (getD (a .edges .now) (4 * a .edge + 2) 0) (a .word .0) (sym (c .before .before .before .before .number-at2 .ensures .0) ∙ c .before .before .if3 .taken ∙ c .before .before .before .wide .ensures .0) in
+    let at-wide = c .before .before .before in
+    let at-number-at2 = at-wide .before in
+    let at-if2 = at-number-at2 .before in
+    let at-number-at = at-if2 .before in
+    let at-if1 = at-number-at .before in
+    let at-args = at-if1 .before .before in
+    let a = at-args .args in
+    let there = edge-of (a .edges .now) (a .count) (a .edge) (at-if1 .if1 .left) in
+    let starts = eq-eqb (getD (a .edges .now) (4 * a .edge) 0) (a .place) (sym (at-number-at .number-at .ensures .0) ∙ at-if2 .if2 .taken) in
+    let carries = eq-eqb (getD (a .edges .now) (4 * a .edge + 2) 0) (a .word .0)
+    (sym (at-number-at2 .number-at2 .ensures .0) ∙ c .before .before .if3 .taken ∙ at-wide .wide .ensures .0) in
     (rw (there, starts, carries, ← c .before .number-at3 .ensures .0, le-ltb _ _ (c .if4 .left)), tt)
 
 returns-4 : tie.Need-returns-4
 returns-4 c =
-    let a = c .before .before .before .before .before .before .before .args in
-    let there = edge-of (a .edges .now) (a .count) (a .edge) (c .before .before .before .before .before .if1 .left) in
-    let starts = eq-eqb (getD (a .edges .now) (4 * a .edge) 0) (a .place) (sym (c .before .before .before .before .number-at .ensures .0) ∙ c .before .before .before .if2 .taken) in
-    let other = ne-eqb (getD (a .edges .now) (4 * a .edge + 2) 0) (a .word .0) (λ e. c .if3 .left (c .before .before .number-at2 .ensures .0 ∙ e ∙ sym (c .before .wide .ensures .0))) in
+    let at-if2 = c .before .before .before in
+    let at-number-at = at-if2 .before in
+    let at-if1 = at-number-at .before in
+    let at-args = at-if1 .before .before in
+    let a = at-args .args in
+    let there = edge-of (a .edges .now) (a .count) (a .edge) (at-if1 .if1 .left) in
+    let starts = eq-eqb (getD (a .edges .now) (4 * a .edge) 0) (a .place) (sym (at-number-at .number-at .ensures .0) ∙ at-if2 .if2 .taken) in
+    let other = ne-eqb (getD (a .edges .now) (4 * a .edge + 2) 0) (a .word .0)
+    (λ e. c .if3 .left (c .before .before .number-at2 .ensures .0 ∙ e ∙ sym (c .before .wide .ensures .0))) in
     (rw (there, starts, other), tt)
 
 returns-5 : tie.Need-returns-5

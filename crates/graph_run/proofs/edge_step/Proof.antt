@@ -22,8 +22,10 @@ enum-told c = search needs
 
 returns : tie.Need-returns
 returns c =
-    let a = c .before .before .before .before .args in
-    let e : costAt (a .word) (a .at .place) (getElem? (edgesOf (a .edges .now) (a .count)) (a .edge)) ≡ none = sym (c .before .before .cost-of .ensures .0) ∙ ap numberOf (c .enum-told .given .1) in
+    let at-args = c .before .before .before .before in
+    let a = at-args .args in
+    let e : costAt (a .word) (a .at .place) (getElem? (edgesOf (a .edges .now) (a .count)) (a .edge)) ≡ none = sym (c .before .before .cost-of .ensures .0)
+    ∙ ap numberOf (c .enum-told .given .1) in
     (λ stack. sym (not-taken (a .word) (a .at .place) (a .at .left - 1) (headsOf stack (a .at .height - 1)) (a .at .weight + a .weight) _ e), tt)
 
 mul-number-at : tie.Need-mul-number-at
@@ -49,18 +51,25 @@ add-t16 c = search needs
 
 add-t17 : tie.Need-add-t17
 add-t17 c =
-    let small = rw (c .before .before .before .before .before .before .cost .given .1) at (c .before .before .before .before .before .before .before .before .cost-of .ensures .1) in
+    let at-cost = c .before .before .before .before .before .before in
+    let at-cost-of = at-cost .before .before in
+    let small = rw (at-cost .cost .given .1) at (at-cost-of .cost-of .ensures .1) in
     omega (arith, small, c .before .wide .ensures .1)
 
 returns-2 : tie.Need-returns-2
 returns-2 c =
-    let a = c .before .before .before .before .before .before .before .before .before .before .args in
-    let e : costAt (a .word) (a .at .place) (getElem? (edgesOf (a .edges .now) (a .count)) (a .edge)) ≡ some (c .before .before .before .before .before .before .cost .given .0 .0) =
-    sym (c .before .before .before .before .before .before .before .before .cost-of .ensures .0) ∙ ap numberOf (c .before .before .before .before .before .before .cost .given .1) in
+    let at-number-at = c .before .before .before .before in
+    let at-cost = at-number-at .before .before in
+    let at-cost-of = at-cost .before .before in
+    let at-args = at-cost-of .before .before in
+    let a = at-args .args in
+    let e : costAt (a .word) (a .at .place) (getElem? (edgesOf (a .edges .now) (a .count)) (a .edge)) ≡ some (at-cost .cost .given .0 .0) =
+    sym (at-cost-of .cost-of .ensures .0) ∙ ap numberOf (at-cost .cost .given .1) in
     let there = edge-there (a .word) (a .at .place) (a .edges .now) (a .count) (a .edge) e in
-    let small = rw (c .before .before .before .before .before .before .cost .given .1) at (c .before .before .before .before .before .before .before .before .cost-of .ensures .1) in (
-      λ stack. rw (c .before .before .before .before .number-at .ensures .0, c .before .wide .ensures .0, there) (sym (taken (a .word) (a .at .place) (a .at .left - 1) (headsOf stack (a .at .height - 1)) (a .at .weight + a .weight) _ _ _ _ _ (rw there at e))),
-      omega (arith, small, c .before .wide .ensures .1, c .before .before .before .before .number-at .ensures .1),
+    let small = rw (at-cost .cost .given .1) at (at-cost-of .cost-of .ensures .1) in (
+      λ stack. rw (at-number-at .number-at .ensures .0, c .before .wide .ensures .0, there)
+          (sym (taken (a .word) (a .at .place) (a .at .left - 1) (headsOf stack (a .at .height - 1)) (a .at .weight + a .weight) _ _ _ _ _ (rw there at e))),
+      omega (arith, small, c .before .wide .ensures .1, at-number-at .number-at .ensures .1),
     )
 
 pub edge-step-spec : {M : Type 1} → statement M

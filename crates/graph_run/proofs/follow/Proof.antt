@@ -39,9 +39,11 @@ same-length c = search needs
 
 returns : tie.Need-returns
 returns c =
-    let a = c .before .before .before .before .before .before .before .args in
+    let at-args = c .before .before .before .before .before .before .before in
+    let a = at-args .args in
     let fit = sym (c .before .before .fitting .ensures) ∙ c .enum-told .given .1 in (
-      nothing-fits (rulesOf (a .rules .now) (a .count)) (edgesOf (a .edges .now) (a .graph .edges)) (ruleAt (a .rules .now) (a .node .rule)) (a .at .place) (a .at .left)
+      nothing-fits (rulesOf (a .rules .now) (a .count)) (edgesOf (a .edges .now) (a .graph .edges)) (ruleAt (a .rules .now) (a .node .rule)) (a .at .place)
+          (a .at .left)
           (headsOf (a .stack .now) (a .at .height)) (a .at .weight) (a .node .rule) (a .node .edge) fit,
       tt,
     )
@@ -61,9 +63,12 @@ same-length-3 c = search needs
 
 returns-3 : tie.Need-returns-3
 returns-3 c =
-    let a = c .before .before .before .before .before .before .before .before .before .args in
-    let fit = sym (c .before .before .before .before .fitting .ensures) ∙ c .before .before .word .given .1 in
-    let goes = word-fits (a .rules .now) (a .count) (edgesOf (a .edges .now) (a .graph .edges)) (a .stack .now) (a .at) (a .node .rule) (a .node .edge) (omega arith) fit in
+    let at-fitting = c .before .before .before .before in
+    let at-args = at-fitting .before .before .before .before .before in
+    let a = at-args .args in
+    let fit = sym (at-fitting .fitting .ensures) ∙ c .before .before .word .given .1 in
+    let goes = word-fits (a .rules .now) (a .count) (edgesOf (a .edges .now) (a .graph .edges)) (a .stack .now) (a .at) (a .node .rule) (a .node .edge)
+    (omega arith) fit in
     (c .edge-step .ensures .0 (a .stack .now) ∙ sym goes, c .edge-step .ensures .1)
 
 pub follow-spec : {M : Type 1} → statement M

@@ -70,13 +70,16 @@ same-length c = omega arith
 
 returns : tie.Need-returns Inv-loop μ-loop
 returns c =
-    let a = c .before .before .before .before .before .before .before .before .before .args in
-    let l = c .before .before .before .before .loop in
+    let at-loop-test = c .before .before .before in
+    let at-loop = at-loop-test .before in
+    let at-args = at-loop .before .before .before .before .before in
+    let a = at-args .args in
+    let l = at-loop .loop in
     let rules : List R.Rule = rulesOf (a .rules .now) (a .count) in
     let es : List Edge = edgesOf (a .edges .now) (a .graph .edges) in
     let from : State = standing (l .stack) (Onward (l .at)) in
     let (n, p) = rw (c .enum-told .given .1) at (c .before .before .read-node .ensures) in
-    (not-read rules es (bytes 31 (a .block .now)) (a .graph .last) (2 * a .n - 1) (l .i) from (l .bit) (c .before .before .before .loop-test .taken) p ∙ l .inv .7, tt)
+    (not-read rules es (bytes 31 (a .block .now)) (a .graph .last) (2 * a .n - 1) (l .i) from (l .bit) (at-loop-test .loop-test .taken) p ∙ l .inv .7, tt)
 
 slice-aggregate-follow : tie.Need-slice-aggregate-follow Inv-loop μ-loop
 slice-aggregate-follow c = omega arith
@@ -97,18 +100,29 @@ same-length-2 c = omega arith
 
 returns-2 : tie.Need-returns-2 Inv-loop μ-loop
 returns-2 c =
-    let a = c .before .before .before .before .before .before .before .before .before .before .before .before .before .before .before .args in
-    let l = c .before .before .before .before .before .before .before .before .before .before .loop in
+    let at-follow = c .before .before .before in
+    let at-node = at-follow .before .before .before in
+    let at-read-node = at-node .before .before in
+    let at-loop-test = at-read-node .before in
+    let at-loop = at-loop-test .before in
+    let at-args = at-loop .before .before .before .before .before in
+    let a = at-args .args in
+    let l = at-loop .loop in
     let rules : List R.Rule = rulesOf (a .rules .now) (a .count) in
     let es : List Edge = edgesOf (a .edges .now) (a .graph .edges) in
     let from : State = standing (l .stack) (Onward (l .at)) in
-    let read = rw (c .before .before .before .before .before .before .node .given .1) at (c .before .before .before .before .before .before .before .before .read-node .ensures) in
-    let next = sym (ap (standing (c .before .before .before .follow .last .1 .1 .1 .1 .0)) (c .enum-told2 .given .1)) ∙ c .before .before .before .follow .ensures .0 in
-    (read-lost rules es (bytes 31 (a .block .now)) (a .graph .last) (2 * a .n - 1) (l .i) from (l .bit) (c .before .before .before .before .before .before .before .before .before .loop-test .taken) _ (read .0) next ∙ l .inv .7, tt)
+    let read = rw (at-node .node .given .1) at (at-read-node .read-node .ensures) in
+    let next = sym (ap (standing (at-follow .follow .last .1 .1 .1 .1 .0)) (c .enum-told2 .given .1)) ∙ at-follow .follow .ensures .0 in (
+      read-lost rules es (bytes 31 (a .block .now)) (a .graph .last) (2 * a .n - 1) (l .i) from (l .bit) (at-loop-test .loop-test .taken) _ (read .0) next
+          ∙ l .inv .7,
+      tt,
+    )
 
 cast-walk : tie.Need-cast-walk Inv-loop μ-loop
 cast-walk c =
-    let read = rw (c .before .before .before .before .before .before .before .before .node .given .1) at (c .before .before .before .before .before .before .before .before .before .before .read-node .ensures) in
+    let at-node = c .before .before .before .before .before .before .before .before in
+    let at-read-node = at-node .before .before in
+    let read = rw (at-node .node .given .1) at (at-read-node .read-node .ensures) in
     search (needs, read .2)
 
 mul-walk : tie.Need-mul-walk Inv-loop μ-loop
@@ -125,18 +139,26 @@ loop-less c = omega arith
 
 loop-again : tie.Need-loop-again Inv-loop μ-loop
 loop-again c =
-    let a = c .before .before .before .before .before .before .before .before .before .before .before .before .before .before .before .before .before .args in
-    let l = c .before .before .before .before .before .before .before .before .before .before .before .before .loop in
+    let at-follow = c .before .before .before .before .before in
+    let at-node = at-follow .before .before .before in
+    let at-read-node = at-node .before .before in
+    let at-loop-test = at-read-node .before in
+    let at-loop = at-loop-test .before in
+    let at-args = at-loop .before .before .before .before .before in
+    let a = at-args .args in
+    let l = at-loop .loop in
     let rules : List R.Rule = rulesOf (a .rules .now) (a .count) in
     let es : List Edge = edgesOf (a .edges .now) (a .graph .edges) in
     let from : State = standing (l .stack) (Onward (l .at)) in
-    let read = rw (c .before .before .before .before .before .before .before .before .node .given .1) at (c .before .before .before .before .before .before .before .before .before .before .read-node .ensures) in
-    let next = sym (ap (standing (c .before .before .before .before .before .follow .last .1 .1 .1 .1 .0)) (c .before .before .next .given .1)) ∙ c .before .before .before .before .before .follow .ensures .0 in
-    let more = read-on rules es (bytes 31 (a .block .now)) (a .graph .last) (2 * a .n - 1) (l .i) from (l .bit) (c .before .before .before .before .before .before .before .before .before .before .before .loop-test .taken) (read .0) next in
-    let further = rw (c .before .before .next .given .1) at (c .before .before .before .before .before .follow .ensures .1) in
-    let kept = c .before .before .before .before .before .follow .kept .1 .1 .1 .1 .0 in
-    let x = c .before .before .before .before .before .before .before .before .node .given .0 .0 in
-    let keeps = kept-more rules (bytes 31 (a .block .now)) (2 * a .n - 1) (l .walk) (l .i) (l .bit) (c .before .before .before .before .before .before .before .before .before .before .before .loop-test .taken) (omega (arith, l .inv .8, c .before .before .before .before .before .before .before .before .before .before .before .before .before .before .before .before .before .pre)) (read .0)
+    let read = rw (at-node .node .given .1) at (at-read-node .read-node .ensures) in
+    let next = sym (ap (standing (at-follow .follow .last .1 .1 .1 .1 .0)) (c .before .before .next .given .1)) ∙ at-follow .follow .ensures .0 in
+    let more = read-on rules es (bytes 31 (a .block .now)) (a .graph .last) (2 * a .n - 1) (l .i) from (l .bit) (at-loop-test .loop-test .taken) (read .0)
+    next in
+    let further = rw (c .before .before .next .given .1) at (at-follow .follow .ensures .1) in
+    let kept = at-follow .follow .kept .1 .1 .1 .1 .0 in
+    let x = at-node .node .given .0 .0 in
+    let keeps = kept-more rules (bytes 31 (a .block .now)) (2 * a .n - 1) (l .walk) (l .i) (l .bit) (at-loop-test .loop-test .taken)
+    (omega (arith, l .inv .8, at-args .pre)) (read .0)
     (by-rule (ruleAt (a .rules .now) (x .rule)) (x .rule) (x .edge)) in (
       omega arith,
       kept ∙ l .inv .1,
@@ -155,14 +177,18 @@ same-length-3 c = omega arith
 
 returns-3 : tie.Need-returns-3 Inv-loop μ-loop
 returns-3 c =
-    let a = c .before .before .before .before .before .before .before .before .before .before .before .args in
-    let l = c .before .before .before .before .before .before .loop in
+    let at-if1 = c .before .before .before in
+    let at-loop-test = at-if1 .before .before in
+    let at-loop = at-loop-test .before in
+    let at-args = at-loop .before .before .before .before .before in
+    let a = at-args .args in
+    let l = at-loop .loop in
     let rules : List R.Rule = rulesOf (a .rules .now) (a .count) in
     let es : List Edge = edgesOf (a .edges .now) (a .graph .edges) in
     let from : State = standing (l .stack) (Onward (l .at)) in
-    let over = all-read rules es (bytes 31 (a .block .now)) (a .graph .last) (2 * a .n - 1) (l .i) from (l .bit) (c .before .before .before .before .before .loop-test .left) in
-    let end = at-end (l .stack) (l .at) (a .graph .last) (c .before .before .before .if1 .taken) (l .inv .2) in
-    let all = kept-all rules (bytes 31 (a .block .now)) (2 * a .n - 1) (l .walk) (l .i) (l .bit) (c .before .before .before .before .before .loop-test .left) (l .inv .0) in
+    let over = all-read rules es (bytes 31 (a .block .now)) (a .graph .last) (2 * a .n - 1) (l .i) from (l .bit) (at-loop-test .loop-test .left) in
+    let end = at-end (l .stack) (l .at) (a .graph .last) (at-if1 .if1 .taken) (l .inv .2) in
+    let all = kept-all rules (bytes 31 (a .block .now)) (2 * a .n - 1) (l .walk) (l .i) (l .bit) (at-loop-test .loop-test .left) (l .inv .0) in
     (sym (rw (eq-eqb (l .at .place) (a .graph .last) (c .if2 .taken)) at end) ∙ sym over ∙ l .inv .7, (l .bit, sym (l .inv .9) ∙ all))
 
 same-length-4 : tie.Need-same-length-4 Inv-loop μ-loop
@@ -170,13 +196,17 @@ same-length-4 c = omega arith
 
 returns-4 : tie.Need-returns-4 Inv-loop μ-loop
 returns-4 c =
-    let a = c .before .before .before .before .before .before .before .before .before .before .before .args in
-    let l = c .before .before .before .before .before .before .loop in
+    let at-if1 = c .before .before .before in
+    let at-loop-test = at-if1 .before .before in
+    let at-loop = at-loop-test .before in
+    let at-args = at-loop .before .before .before .before .before in
+    let a = at-args .args in
+    let l = at-loop .loop in
     let rules : List R.Rule = rulesOf (a .rules .now) (a .count) in
     let es : List Edge = edgesOf (a .edges .now) (a .graph .edges) in
     let from : State = standing (l .stack) (Onward (l .at)) in
-    let over = all-read rules es (bytes 31 (a .block .now)) (a .graph .last) (2 * a .n - 1) (l .i) from (l .bit) (c .before .before .before .before .before .loop-test .left) in
-    let end = at-end (l .stack) (l .at) (a .graph .last) (c .before .before .before .if1 .taken) (l .inv .2) in
+    let over = all-read rules es (bytes 31 (a .block .now)) (a .graph .last) (2 * a .n - 1) (l .i) from (l .bit) (at-loop-test .loop-test .left) in
+    let end = at-end (l .stack) (l .at) (a .graph .last) (at-if1 .if1 .taken) (l .inv .2) in
     (sym (rw (ne-eqb (l .at .place) (a .graph .last) (c .if2 .left)) at end) ∙ sym over ∙ l .inv .7, tt)
 
 same-length-5 : tie.Need-same-length-5 Inv-loop μ-loop

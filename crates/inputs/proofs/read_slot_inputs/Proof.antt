@@ -37,8 +37,11 @@ same-length-3 c = search needs
 
 returns-2 : tie.Need-returns-2
 returns-2 c =
-    let e = c .before .before .before .before .before .before .before .before .before .before .read-block .ensures in
-    grammar-read asSlots _ _ (e .0) _ _ _ _ (e .3) (e .2) (c .before .before .before .before .before .before .sizes .given .1) (c .before .before .before .read-slots .ensures) (c .joined .ensures)
+    let at-read-slots = c .before .before .before in
+    let at-sizes = at-read-slots .before .before .before in
+    let at-read-block = at-sizes .before .before .before .before in
+    let e = at-read-block .read-block .ensures in
+    grammar-read asSlots _ _ (e .0) _ _ _ _ (e .3) (e .2) (at-sizes .sizes .given .1) (at-read-slots .read-slots .ensures) (c .joined .ensures)
 
 pub read-slot-inputs-spec : {M : Type 1} → statement M
 read-slot-inputs-spec =

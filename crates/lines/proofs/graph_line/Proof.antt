@@ -15,22 +15,42 @@ enum-told : tie.Need-enum-told
 enum-told c = search needs
 
 returns : tie.Need-returns
-returns c = (omega arith, graph-refused (c .before .before .before .before .before .before .args .rules .now) (c .before .before .before .before .before .before .args .s) (c .before .before .before .before .before .before .args .block .now) _ (c .before .before .read-head .ensures .0) (c .enum-told .given .1))
+returns c =
+    let at-args = c .before .before .before .before .before .before in (
+      omega arith,
+      graph-refused (at-args .args .rules .now) (at-args .args .s) (at-args .args .block .now) _ (c .before .before .read-head .ensures .0)
+          (c .enum-told .given .1),
+    )
 
 mul-nodes : tie.Need-mul-nodes
-mul-nodes c = let path = rw (c .before .before .head .given .1) at (c .before .before .before .before .read-head .ensures .1) in omega (arith, path .1, c .before .before .before .before .before .before .before .before .pre .0)
+mul-nodes c =
+    let path = rw (c .before .before .head .given .1) at (c .before .before .before .before .read-head .ensures .1) in
+    omega (arith, path .1, c .before .before .before .before .before .before .before .before .pre .0)
 
 sub-nodes : tie.Need-sub-nodes
 sub-nodes c = let path = rw (c .before .before .head .given .1) at (c .before .before .before .before .read-head .ensures .1) in omega (arith, path .0)
 
 read-walk-requires : tie.Need-read-walk-requires
-read-walk-requires c κs = let path = rw (c .before .before .before .head .given .1) at (c .before .before .before .before .before .read-head .ensures .1) in (c .before .before .before .before .before .before .before .before .before .pre .0 .some-rule, c .before .before .before .before .before .before .before .before .before .pre .0 .rules, omega (arith, path .1, c .before .before .before .before .before .before .before .before .before .pre .0), omega (arith, c .before .before .before .before .before .before .before .before .before .pre .1))
+read-walk-requires c κs =
+    let at-head = c .before .before .before in
+    let at-read-head = at-head .before .before in
+    let at-pre = at-read-head .before .before .before .before in
+    let path = rw (at-head .head .given .1) at (at-read-head .read-head .ensures .1) in
+    (at-pre .pre .0 .some-rule, at-pre .pre .0 .rules, omega (arith, path .1, at-pre .pre .0), omega (arith, at-pre .pre .1))
 
 same-length : tie.Need-same-length
 same-length c = search needs
 
 returns-2 : tie.Need-returns-2
-returns-2 c = let path = rw (c .before .before .before .before .before .before .head .given .1) at (c .before .before .before .before .before .before .before .before .read-head .ensures .1) in (omega (arith, path .1, c .before .before .before .before .before .before .before .before .before .before .before .before .pre .0), graph-read (c .before .before .before .before .before .before .before .before .before .before .before .before .args .rules .now) (c .before .before .before .before .before .before .before .before .before .before .before .before .args .s) (c .before .before .before .before .before .before .before .before .before .before .before .before .args .block .now) _ (c .before .before .before .before .before .before .before .before .read-head .ensures .0) (c .before .before .before .before .before .before .head .given .1) (c .before .before .read-walk .ensures))
+returns-2 c =
+    let at-head = c .before .before .before .before .before .before in
+    let at-read-head = at-head .before .before in
+    let at-pre = at-read-head .before .before .before .before in
+    let path = rw (at-head .head .given .1) at (at-read-head .read-head .ensures .1) in (
+      omega (arith, path .1, at-pre .pre .0),
+      graph-read (at-pre .args .rules .now) (at-pre .args .s) (at-pre .args .block .now) _
+          (at-read-head .read-head .ensures .0) (at-head .head .given .1) (c .before .before .read-walk .ensures),
+    )
 
 pub graph-line-spec : {M : Type 1} → statement M
 graph-line-spec =

@@ -27,7 +27,10 @@ shared-slice-read-show-rule : tie.Need-shared-slice-read-show-rule Inv-loop μ-l
 shared-slice-read-show-rule c = omega (arith, c .before .loop-test .taken, c .before .before .before .before .before .before .pre .0)
 
 show-rule-requires : tie.Need-show-rule-requires Inv-loop μ-loop
-show-rule-requires c κs = omega (arith, c .before .before .before .loop .inv .1, c .before .before .before .loop .inv .2, c .before .before .loop-test .taken, c .before .before .before .before .before .before .before .pre .1)
+show-rule-requires c κs =
+    let at-loop = c .before .before .before in
+    let at-pre = at-loop .before .before .before .before in
+    omega (arith, at-loop .loop .inv .1, at-loop .loop .inv .2, c .before .before .loop-test .taken, at-pre .pre .1)
 
 add-i : tie.Need-add-i Inv-loop μ-loop
 add-i c = search needs
@@ -36,23 +39,32 @@ loop-less : tie.Need-loop-less Inv-loop μ-loop
 loop-less c = omega (arith, c .before .before .before .before .before .loop-test .taken)
 
 loop-again : tie.Need-loop-again Inv-loop μ-loop
-loop-again c = (
-  omega (arith, c .before .before .before .before .before .loop-test .taken),
-  omega (arith, c .before .before .show-rule .ensures .1, c .before .before .before .before .before .before .loop .inv .1),
-  c .before .before .show-rule .kept .1 .1 .0 ∙ c .before .before .before .before .before .before .loop .inv .2,
-  one-more (c .before .before .before .before .before .before .before .before .before .before .args .marks .now) (c .before .before .before .before .before .before .before .before .before .before .args .walk .now) (c .before .before .before .before .before .before .loop .i) (c .before .before .before .before .before .before .loop .k) (c .before .before .show-rule .result) (c .before .before .before .before .before .before .loop .shown) (c .before .before .show-rule .last .1 .1 .0)
-      (omega (arith, c .before .before .before .before .before .loop-test .taken, c .before .before .before .before .before .before .before .before .before .before .pre .0)) (c .before .before .before .before .before .before .loop .inv .3) (c .before .before .show-rule .ensures .2),
-  further (c .before .before .before .before .before .before .loop .k) (c .before .before .show-rule .result) (c .before .before .before .before .before .before .loop .shown) (c .before .before .before .before .before .before .before .before .before .before .args .shown .now) (c .before .before .show-rule .last .1 .1 .0) (c .before .before .show-rule .ensures .0) (c .before .before .before .before .before .before .loop .inv .4) (c .before .before .show-rule .ensures .3),
-)
+loop-again c =
+    let at-loop-test = c .before .before .before .before .before in
+    let at-loop = at-loop-test .before in
+    let at-args = at-loop .before .before .before .before in (
+      omega (arith, at-loop-test .loop-test .taken),
+      omega (arith, c .before .before .show-rule .ensures .1, at-loop .loop .inv .1),
+      c .before .before .show-rule .kept .1 .1 .0 ∙ at-loop .loop .inv .2,
+      one-more (at-args .args .marks .now) (at-args .args .walk .now) (at-loop .loop .i) (at-loop .loop .k) (c .before .before .show-rule .result)
+          (at-loop .loop .shown) (c .before .before .show-rule .last .1 .1 .0)
+          (omega (arith, at-loop-test .loop-test .taken, at-args .pre .0)) (at-loop .loop .inv .3) (c .before .before .show-rule .ensures .2),
+      further (at-loop .loop .k) (c .before .before .show-rule .result) (at-loop .loop .shown) (at-args .args .shown .now)
+          (c .before .before .show-rule .last .1 .1 .0) (c .before .before .show-rule .ensures .0) (at-loop .loop .inv .4)
+          (c .before .before .show-rule .ensures .3),
+    )
 
 same-length : tie.Need-same-length Inv-loop μ-loop
 same-length c = c .before .loop .inv .2
 
 returns : tie.Need-returns Inv-loop μ-loop
 returns c =
-    let e : c .before .loop .i ≡ c .before .before .before .before .before .args .nodes = omega (arith, c .before .loop .inv .0, c .loop-test .left) in
-    let shows = all-shown (c .before .before .before .before .before .args .marks .now) (c .before .before .before .before .before .args .walk .now) (c .before .before .before .before .before .args .nodes) (c .before .loop .k) (c .before .before .before .before .before .args .shown .now) (c .before .loop .shown)
-    (omega (arith, c .before .loop .inv .0, c .before .loop .inv .1, c .before .loop .inv .2, c .before .before .before .before .before .pre .1)) (rw e at (c .before .loop .inv .3)) (c .before .loop .inv .4) in
+    let at-args = c .before .before .before .before .before in
+    let e : c .before .loop .i ≡ at-args .args .nodes = omega (arith, c .before .loop .inv .0, c .loop-test .left) in
+    let shows = all-shown (at-args .args .marks .now) (at-args .args .walk .now) (at-args .args .nodes) (c .before .loop .k) (at-args .args .shown .now)
+    (c .before .loop .shown)
+    (omega (arith, c .before .loop .inv .0, c .before .loop .inv .1, c .before .loop .inv .2, at-args .pre .1)) (rw e at (c .before .loop .inv .3))
+    (c .before .loop .inv .4) in
     (omega (arith, c .before .loop .inv .0, c .before .loop .inv .1), shows)
 
 pub leave-out-spec : {M : Type 1} → statement M

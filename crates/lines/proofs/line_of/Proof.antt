@@ -11,7 +11,13 @@ same-length : tie.Need-same-length
 same-length c = search needs
 
 returns : tie.Need-returns
-returns c = (c .before .before .graph-line .ensures .0, says-graph (c .before .before .before .before .before .before .before .before .args .rules .now) (c .before .before .before .before .before .before .before .before .args .s) (c .before .before .before .before .before .before .before .before .args .block .now) (c .before .before .graph-line .result) _ (c .before .before .before .before .if1 .taken) (c .before .before .graph-line .ensures .1))
+returns c =
+    let at-if1 = c .before .before .before .before in
+    let at-args = at-if1 .before .before .before .before in (
+      c .before .before .graph-line .ensures .0,
+      says-graph (at-args .args .rules .now) (at-args .args .s) (at-args .args .block .now)
+          (c .before .before .graph-line .result) _ (at-if1 .if1 .taken) (c .before .before .graph-line .ensures .1),
+    )
 
 slots-line-requires : tie.Need-slots-line-requires
 slots-line-requires c κs = search needs
@@ -20,7 +26,13 @@ same-length-2 : tie.Need-same-length-2
 same-length-2 c = search needs
 
 returns-2 : tie.Need-returns-2
-returns-2 c = (c .before .before .slots-line .ensures .0, says-slots (c .before .before .before .before .before .before .before .before .args .rules .now) (c .before .before .before .before .before .before .before .before .args .s) (c .before .before .before .before .before .before .before .before .args .block .now) (c .before .before .slots-line .result) _ (c .before .before .before .before .if1 .left) (c .before .before .slots-line .ensures .1))
+returns-2 c =
+    let at-if1 = c .before .before .before .before in
+    let at-args = at-if1 .before .before .before .before in (
+      c .before .before .slots-line .ensures .0,
+      says-slots (at-args .args .rules .now) (at-args .args .s) (at-args .args .block .now)
+          (c .before .before .slots-line .result) _ (at-if1 .if1 .left) (c .before .before .slots-line .ensures .1),
+    )
 
 pub line-of-spec : {M : Type 1} → statement M
 line-of-spec =

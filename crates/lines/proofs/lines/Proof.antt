@@ -35,9 +35,23 @@ slice-aggregate-write-rows-2 c = search needs
 
 write-rows-requires : tie.Need-write-rows-requires
 write-rows-requires c κs =
-    let bounded = c .before .before .before .before .before .before .before .before .before .before .before .before .before .before .before .before .shape-of .ensures .bounded in
-    let few : c .before .before .before .before .before .m .given .0 .0 ≤ 8 = found-few library _ _ 8 _ _ (c .before .before .before .before .before .before .before .before .before .before .before .listing .ensures .0) (c .before .before .before .before .before .m .given .1) in
-    (bounded, few, omega (arith, c .before .before .before .before .before .before .before .before .before .before .before .listing .kept, room-for (c .before .before .before .before .before .before .before .before .before .before .before .before .before .before .before .before .before .before .before .before .before .before .before .before .args .grammar .now) (c .before .before .before .before .before .before .before .before .before .before .before .before .before .before .before .before .before .before .before .before .before .before .before .before .args .heard .now) (c .before .before .before .before .before .before .before .before .before .before .before .before .before .before .before .before .shape-of .last .1 .1 .0) (c .before .before .before .before .before .before .before .before .before .before .before .before .before .before .before .before .shape-of .last .1 .1 .1 .0) (c .before .before .before .before .before .before .before .before .before .before .before .before .before .before .before .before .shape-of .result) (c .before .before .before .before .before .before .before .before .before .before .before .before .before .before .before .before .shape-of .ensures) (c .before .before .before .before .before .before .before .before .before .before .before .before .before .before .before .before .before .before .before .before .before .before .before .before .args .work .now) (c .before .before .before .before .before .before .before .before .before .before .before .before .before .before .before .before .before .before .before .before .before .before .before .before .args .out .now) (c .before .before .before .before .before .m .given .0 .0) (c .before .before .before .before .before .before .before .before .before .before .before .listing .result) (c .before .before .before .before .before .before .before .before .before .before .before .listing .ensures .0) (c .before .before .before .before .before .m .given .1) few), c .before .before .before .before .before .before .before .before .before .before .before .before .before .before .before .before .before .before .before .before .before .before .before .before .pre)
+    let at-m = c .before .before .before .before .before in
+    let at-listing = at-m .before .before .before .before .before .before in
+    let at-shape-of = at-listing .before .before .before .before .before in
+    let at-args = at-shape-of .before .before .before .before .before .before .before .before in
+    let bounded = at-shape-of .shape-of .ensures .bounded in
+    let few : at-m .m .given .0 .0 ≤ 8 = found-few library _ _ 8 _ _ (at-listing .listing .ensures .0) (at-m .m .given .1) in (
+      bounded,
+      few,
+      omega (
+        arith,
+        at-listing .listing .kept,
+        room-for (at-args .args .grammar .now) (at-args .args .heard .now) (at-shape-of .shape-of .last .1 .1 .0) (at-shape-of .shape-of .last .1 .1 .1 .0)
+            (at-shape-of .shape-of .result) (at-shape-of .shape-of .ensures) (at-args .args .work .now) (at-args .args .out .now) (at-m .m .given .0 .0)
+            (at-listing .listing .result) (at-listing .listing .ensures .0) (at-m .m .given .1) few,
+      ),
+      at-args .pre,
+    )
 
 same-length : tie.Need-same-length
 same-length c = search needs
@@ -61,9 +75,24 @@ same-length-5 c = search needs
 
 returns-2 : tie.Need-returns-2
 returns-2 c =
-    let l = c .before .before .before .before .before .before .before .before .before .before .before .before .before .before .listing .ensures in
-    let a = c .before .before .before .before .before .before .before .before .before .before .before .before .before .before .before .before .before .before .before .before .before .before .before .before .before .before .before .args in
-    (sym (c .before .before .before .before .before .before .before .before .m .given .1) ∙ l .0, (l .1 .0, (l .1 .1 .0, rows-told (a .grammar .now) (a .heard .now) (c .before .before .before .before .before .before .before .before .before .before .before .before .before .before .before .before .before .before .before .shape-of .last .1 .1 .0) (c .before .before .before .before .before .before .before .before .before .before .before .before .before .before .before .before .before .before .before .shape-of .last .1 .1 .1 .0) (c .before .before .before .before .before .before .before .before .before .before .before .before .before .before .before .before .before .before .before .shape-of .result) (c .before .before .before .before .before .before .before .before .before .before .before .before .before .before .before .before .before .before .before .shape-of .ensures) (a .work .now) (a .out .now) (c .before .before .before .before .before .before .before .before .m .given .0 .0) (c .before .before .before .before .before .before .before .before .before .before .before .before .before .before .listing .result) (l .0) (c .before .before .before .before .before .before .before .before .m .given .1) (c .before .before .before .before .before .before .before .before .before .before .before .before .before .before .listing .last .1 .1 .1 .0) (c .before .before .before .before .before .before .before .before .before .before .before .before .before .before .listing .last .1 .1 .1 .1 .0) (a .shown .now) (c .before .before .write-rows .last .1 .1 .1 .1 .1 .0) (l .1 .1 .1) (c .before .before .write-rows .ensures))))
+    let at-m = c .before .before .before .before .before .before .before .before in
+    let at-listing = at-m .before .before .before .before .before .before in
+    let at-shape-of = at-listing .before .before .before .before .before in
+    let at-args = at-shape-of .before .before .before .before .before .before .before .before in
+    let l = at-listing .listing .ensures in
+    let a = at-args .args in (
+      sym (at-m .m .given .1) ∙ l .0,
+      (
+        l .1 .0,
+        (
+          l .1 .1 .0,
+          rows-told (a .grammar .now) (a .heard .now) (at-shape-of .shape-of .last .1 .1 .0) (at-shape-of .shape-of .last .1 .1 .1 .0)
+              (at-shape-of .shape-of .result) (at-shape-of .shape-of .ensures) (a .work .now) (a .out .now) (at-m .m .given .0 .0) (at-listing .listing .result)
+              (l .0) (at-m .m .given .1) (at-listing .listing .last .1 .1 .1 .0) (at-listing .listing .last .1 .1 .1 .1 .0) (a .shown .now)
+              (c .before .before .write-rows .last .1 .1 .1 .1 .1 .0) (l .1 .1 .1) (c .before .before .write-rows .ensures),
+        ),
+      ),
+    )
 
 pub lines-spec : {M : Type 1} → statement M
 lines-spec =

@@ -50,11 +50,15 @@ same-length-4 c = search needs
 
 returns-2 : tie.Need-returns-2
 returns-2 c =
-    let a = c .before .before .before .before .before .before .before .before .before .before .before .before .before .before .before .before .before .before .before .args in
-    let r = c .before .before .before .before .before .before .before .before .before .before .before .before .read-marked-block in
-    let W = c .before .before .before .before .before .before .read .given .0 .0 .words in
-    no-heard (a .grammar .now) (a .utterance .now) (r .last .1 .0) (r .last .1 .1 .0) (sym (r .ensures .answer) ∙ c .before .before .before .before .before .before .read .given .1)
-    (heard.refused-told (heardBlock W (a .utterance .now)) (c .before .before .before .read-heard .ensures .answer) (c .enum-told2 .given .1))
+    let at-read-heard = c .before .before .before in
+    let at-read = at-read-heard .before .before .before in
+    let at-read-marked-block = at-read .before .before .before .before .before .before in
+    let at-args = at-read-marked-block .before .before .before .before .before .before .before in
+    let a = at-args .args in
+    let r = at-read-marked-block .read-marked-block in
+    let W = at-read .read .given .0 .0 .words in
+    no-heard (a .grammar .now) (a .utterance .now) (r .last .1 .0) (r .last .1 .1 .0) (sym (r .ensures .answer) ∙ at-read .read .given .1)
+    (heard.refused-told (heardBlock W (a .utterance .now)) (at-read-heard .read-heard .ensures .answer) (c .enum-told2 .given .1))
 
 cast-t17 : tie.Need-cast-t17
 cast-t17 c = search needs
@@ -67,13 +71,18 @@ same-length-6 c = search needs
 
 returns-3 : tie.Need-returns-3
 returns-3 c =
-    let a = c .before .before .before .before .before .before .before .before .before .before .before .before .before .before .before .before .before .before .before .before .before .args in
-    let r = c .before .before .before .before .before .before .before .before .before .before .before .before .before .before .read-marked-block in
-    let W = c .before .before .before .before .before .before .before .before .read .given .0 .0 .words in
-    let (h, w, y) = heard.accepted-told (heardBlock W (a .utterance .now)) (c .before .before .before .before .before .read-heard .ensures .answer) (c .before .before .heard .given .1) in
-    let bounded = rw (c .before .before .before .before .before .before .before .before .read .given .1) at (r .ensures .bounds) in
-    let sized = rw (c .before .before .heard .given .1) at (c .before .before .before .before .before .read-heard .ensures .sized) in
-    both-accepted (a .grammar .now) (a .utterance .now) (r .last .1 .0) (r .last .1 .1 .0) (sym (r .ensures .answer) ∙ c .before .before .before .before .before .before .before .before .read .given .1) h w y (sized .0) (sized .1)
+    let at-read-heard = c .before .before .before .before .before in
+    let at-read = at-read-heard .before .before .before in
+    let at-read-marked-block = at-read .before .before .before .before .before .before in
+    let at-args = at-read-marked-block .before .before .before .before .before .before .before in
+    let a = at-args .args in
+    let r = at-read-marked-block .read-marked-block in
+    let W = at-read .read .given .0 .0 .words in
+    let (h, w, y) = heard.accepted-told (heardBlock W (a .utterance .now)) (at-read-heard .read-heard .ensures .answer) (c .before .before .heard .given .1) in
+    let bounded = rw (at-read .read .given .1) at (r .ensures .bounds) in
+    let sized = rw (c .before .before .heard .given .1) at (at-read-heard .read-heard .ensures .sized) in
+    both-accepted (a .grammar .now) (a .utterance .now) (r .last .1 .0) (r .last .1 .1 .0) (sym (r .ensures .answer) ∙ at-read .read .given .1) h w y (sized .0)
+    (sized .1)
     (bounded .some-rule) (bounded .rules) (r .ensures .stands)
 
 pub shape-of-spec : {M : Type 1} → statement M

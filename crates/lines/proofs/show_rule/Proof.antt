@@ -28,14 +28,25 @@ same-length c = search needs
 
 returns : tie.Need-returns
 returns c =
-    let a = c .before .before .before .before .before .args in
-    let e = sym (rw (c .before .before .wide .ensures .0) at (c .before .narrow-at .ensures)) ∙ c .if1 .taken in
-    (omega arith, omega arith, shows (a .marks .now) (a .shown .now) (a .rule) (a .k) e (c .before .before .before .before .before .pre), drop-set-lt (a .k + 1) (a .shown .now) (a .k) (a .rule) (omega arith))
+    let at-args = c .before .before .before .before .before in
+    let a = at-args .args in
+    let e = sym (rw (c .before .before .wide .ensures .0) at (c .before .narrow-at .ensures)) ∙ c .if1 .taken in (
+      omega arith,
+      omega arith,
+      shows (a .marks .now) (a .shown .now) (a .rule) (a .k) e (at-args .pre),
+      drop-set-lt (a .k + 1) (a .shown .now) (a .k) (a .rule) (omega arith),
+    )
 
 returns-2 : tie.Need-returns-2
 returns-2 c =
-    let a = c .before .before .before .before .before .args in
-    (omega arith, omega arith, hides (a .marks .now) (a .shown .now) (a .rule) (a .k) (λ z. c .if1 .left (rw (c .before .before .wide .ensures .0) at (c .before .narrow-at .ensures) ∙ z)), refl)
+    let at-args = c .before .before .before .before .before in
+    let a = at-args .args in (
+      omega arith,
+      omega arith,
+      hides (a .marks .now) (a .shown .now) (a .rule) (a .k)
+          (λ z. c .if1 .left (rw (c .before .before .wide .ensures .0) at (c .before .narrow-at .ensures) ∙ z)),
+      refl,
+    )
 
 pub show-rule-spec : {M : Type 1} → statement M
 show-rule-spec =

@@ -1,19 +1,15 @@
+-- The length is the form's.
+use mathlib.Core.Path.{ap}
 use borrow.Author.Needs.{needs}
+use Rattle.traced_readings.specs.declared.Form.{Form}
 use Rattle.lines.proofs.size_of.Statement.{statement}
 use Rattle.lines.proofs.size_of.Tie as tie
 
-graph-reading-length-requires : tie.Need-graph-reading-length-requires
-graph-reading-length-requires c κs = search needs
+form-of-requires : tie.Need-form-of-requires
+form-of-requires c κs = search needs
 
 returns : tie.Need-returns
-returns c = rw (c .before .if1 .taken) (c .graph-reading-length .ensures)
-
-reading-length-requires : tie.Need-reading-length-requires
-reading-length-requires c κs = search needs
-
-returns-2 : tie.Need-returns-2
-returns-2 c = rw (c .before .if1 .left) (c .reading-length .ensures)
+returns c = ap (λ (f : Form). f .size) (c .form-of .ensures .0)
 
 pub size-of-spec : {M : Type 1} → statement M
-size-of-spec =
-    tie.close (tie.spec graph-reading-length-requires returns reading-length-requires returns-2)
+size-of-spec = tie.close (tie.spec form-of-requires returns)

@@ -24,13 +24,27 @@ same-length : tie.Need-same-length
 same-length c = search needs
 
 returns : tie.Need-returns
-returns c = (omega (arith, c .before .before .before .before .before .before .before .before .pre .0), slots-refused (c .before .before .before .before .before .before .before .before .args .s) (c .before .before .before .before .before .before .before .before .args .block .now) (c .before .before .before .before .read-reading .last .1 .1 .1 .0) (c .before .before .before .before .read-reading .result) (c .before .before .before .before .read-reading .ensures .0) (c .before .before .before .before .read-reading .ensures .1) (c .enum-told .given .1))
+returns c =
+    let at-read-reading = c .before .before .before .before in
+    let at-pre = at-read-reading .before .before .before .before in (
+      omega (arith, at-pre .pre .0),
+      slots-refused (at-pre .args .s) (at-pre .args .block .now) (at-read-reading .read-reading .last .1 .1 .1 .0)
+          (at-read-reading .read-reading .result) (at-read-reading .read-reading .ensures .0) (at-read-reading .read-reading .ensures .1)
+          (c .enum-told .given .1),
+    )
 
 same-length-2 : tie.Need-same-length-2
 same-length-2 c = search needs
 
 returns-2 : tie.Need-returns-2
-returns-2 c = (omega (arith, c .before .before .before .before .before .before .before .before .before .pre .0), slots-read (c .before .before .before .before .before .before .before .before .before .args .s) (c .before .before .before .before .before .before .before .before .before .args .block .now) (c .before .before .before .before .before .read-reading .last .1 .1 .1 .0) (c .before .before .before .before .before .read-reading .result) (c .before .before .before .before .before .read-reading .ensures .0) (c .before .before .before .before .before .read-reading .ensures .1) (c .before .read .given .1))
+returns-2 c =
+    let at-read-reading = c .before .before .before .before .before in
+    let at-pre = at-read-reading .before .before .before .before in (
+      omega (arith, at-pre .pre .0),
+      slots-read (at-pre .args .s) (at-pre .args .block .now) (at-read-reading .read-reading .last .1 .1 .1 .0)
+          (at-read-reading .read-reading .result) (at-read-reading .read-reading .ensures .0) (at-read-reading .read-reading .ensures .1)
+          (c .before .read .given .1),
+    )
 
 pub slots-line-spec : {M : Type 1} → statement M
 slots-line-spec =

@@ -54,14 +54,26 @@ same-length c = search needs
 
 returns : tie.Need-returns
 returns c =
-    let a = c .before .before .before .before .before .before .before .before .before .before .before .before .before .before .before .before .before .before .before .before .before .before .before .before .before .before .before .before .args in
-    let line = c .before .before .before .before .before .before .before .before .before .before .before .before .before .before .before .before .before .before .before .before .before .before .line-of .result in
-    let walked = c .before .before .before .before .before .before .before .before .before .before .before .before .before .before .before .before .before .before .before .before .before .before .line-of .last .1 .1 .1 .0 in
-    let n = c .before .before .before .before .before .before .before .before .before .before .before .before .before .before .leave-out .result in
-    let written = row-written (a .rank) (line .weight) n (a .row .now) (withoutMarked (a .marks .now) (take (line .nodes) walked)) (c .before .before .before .before .before .before .before .before .before .before .before .before .before .before .before .before .before .before .before .zero .last .0) (c .before .before .before .before .before .before .before .before .before .before .before .before .before .before .leave-out .last .1 .1 .1 .0) (c .before .before .before .before .before .before .before .before .before .before .store .last .0) (c .before .before .before .before .before .before .store2 .last .0) (c .before .before .store3 .last .0) (c .before .before .before .before .before .before .before .before .before .before .before .before .before .before .before .before .before .before .before .before .before .before .before .before .before .before .before .before .pre .1) (c .before .before .before .before .before .before .before .before .before .before .before .before .before .before .before .before .before .before .before .zero .ensures) (c .before .before .before .before .before .before .before .before .before .before .before .before .before .before .leave-out .ensures .1 .0) (omega (arith, c .before .before .before .before .before .before .before .before .before .before .before .before .before .before .leave-out .ensures .0, c .before .before .before .before .before .before .before .before .before .before .before .before .before .before .before .before .before .before .before .before .before .before .line-of .ensures .0)) (c .before .before .before .before .before .before .before .before .before .before .before .before .before .before .leave-out .ensures .1 .1) (c .before .before .before .before .before .before .before .before .before .before .store .ensures) (c .before .before .before .before .before .before .store2 .ensures) (c .before .before .store3 .ensures) in
+    let at-store2 = c .before .before .before .before .before .before in
+    let at-store = at-store2 .before .before .before .before in
+    let at-leave-out = at-store .before .before .before .before in
+    let at-zero = at-leave-out .before .before .before .before .before in
+    let at-line-of = at-zero .before .before .before in
+    let at-args = at-line-of .before .before .before .before .before .before in
+    let a = at-args .args in
+    let line = at-line-of .line-of .result in
+    let walked = at-line-of .line-of .last .1 .1 .1 .0 in
+    let n = at-leave-out .leave-out .result in
+    let written = row-written (a .rank) (line .weight) n (a .row .now) (withoutMarked (a .marks .now) (take (line .nodes) walked)) (at-zero .zero .last .0)
+    (at-leave-out .leave-out .last .1 .1 .1 .0) (at-store .store .last .0) (at-store2 .store2 .last .0) (c .before .before .store3 .last .0)
+    (at-args .pre .1) (at-zero .zero .ensures) (at-leave-out .leave-out .ensures .1 .0)
+    (omega (arith, at-leave-out .leave-out .ensures .0, at-line-of .line-of .ensures .0)) (at-leave-out .leave-out .ensures .1 .1)
+    (at-store .store .ensures) (at-store2 .store2 .ensures) (c .before .before .store3 .ensures) in
     λ m h t ok valid stand marked shape d is.
-    let (weighs, shows) = shown-of (a .rules .now) (a .marks .now) (a .s) (a .block .now) line walked (c .before .before .before .before .before .before .before .before .before .before .before .before .before .before .before .before .before .before .before .before .before .before .line-of .ensures .1) m h t ok valid stand marked shape d is in
-    written ∙ ap (λ (w : ℕ). row (a .rank) w (withoutMarked (a .marks .now) (take (line .nodes) walked))) weighs ∙ ap (row (a .rank) (weight (grammarOf m) (heardEdges h) t)) shows
+    let (weighs, shows) = shown-of (a .rules .now) (a .marks .now) (a .s) (a .block .now) line walked (at-line-of .line-of .ensures .1) m h t ok valid stand
+    marked shape d is in
+    written ∙ ap (λ (w : ℕ). row (a .rank) w (withoutMarked (a .marks .now) (take (line .nodes) walked))) weighs
+    ∙ ap (row (a .rank) (weight (grammarOf m) (heardEdges h) t)) shows
 
 pub write-row-spec : {M : Type 1} → statement M
 write-row-spec =

@@ -30,16 +30,40 @@ loop-holds : tie.Need-loop-holds Inv-loop μ-loop
 loop-holds c = (omega arith, refl, no-rows _ _ _ _ _)
 
 mul-from : tie.Need-mul-from Inv-loop μ-loop
-mul-from c = omega (arith, part-within (c .before .loop .k) (c .before .before .before .before .before .before .before .args .m) (c .before .before .size-of .result) (length (c .before .before .before .before .before .before .before .args .out .now)) (c .loop-test .taken) (rw (c .before .before .size-of .ensures) (c .before .before .before .before .before .before .before .pre .2)))
+mul-from c =
+    let at-args = c .before .before .before .before .before .before .before in
+    omega (
+      arith,
+      part-within (c .before .loop .k) (at-args .args .m) (c .before .before .size-of .result) (length (at-args .args .out .now))
+          (c .loop-test .taken) (rw (c .before .before .size-of .ensures) (at-args .pre .2)),
+    )
 
 add-upto : tie.Need-add-upto Inv-loop μ-loop
-add-upto c = omega (arith, part-within (c .before .loop .k) (c .before .before .before .before .before .before .before .args .m) (c .before .before .size-of .result) (length (c .before .before .before .before .before .before .before .args .out .now)) (c .loop-test .taken) (rw (c .before .before .size-of .ensures) (c .before .before .before .before .before .before .before .pre .2)))
+add-upto c =
+    let at-args = c .before .before .before .before .before .before .before in
+    omega (
+      arith,
+      part-within (c .before .loop .k) (at-args .args .m) (c .before .before .size-of .result) (length (at-args .args .out .now))
+          (c .loop-test .taken) (rw (c .before .before .size-of .ensures) (at-args .pre .2)),
+    )
 
 mul-at : tie.Need-mul-at Inv-loop μ-loop
-mul-at c = omega (arith, rows-within (c .before .loop .k) (c .before .before .before .before .before .before .before .args .m) (length (c .before .before .before .before .before .before .before .args .shown .now)) (c .loop-test .taken) (c .before .before .before .before .before .before .before .pre .1) (c .before .before .before .before .before .before .before .pre .3))
+mul-at c =
+    let at-args = c .before .before .before .before .before .before .before in
+    omega (
+      arith,
+      rows-within (c .before .loop .k) (at-args .args .m) (length (at-args .args .shown .now)) (c .loop-test .taken) (at-args .pre .1)
+          (at-args .pre .3),
+    )
 
 add-end : tie.Need-add-end Inv-loop μ-loop
-add-end c = omega (arith, rows-within (c .before .loop .k) (c .before .before .before .before .before .before .before .args .m) (length (c .before .before .before .before .before .before .before .args .shown .now)) (c .loop-test .taken) (c .before .before .before .before .before .before .before .pre .1) (c .before .before .before .before .before .before .before .pre .3))
+add-end c =
+    let at-args = c .before .before .before .before .before .before .before in
+    omega (
+      arith,
+      rows-within (c .before .loop .k) (at-args .args .m) (length (at-args .args .shown .now)) (c .loop-test .taken) (at-args .pre .1)
+          (at-args .pre .3),
+    )
 
 sub-write-row : tie.Need-sub-write-row Inv-loop μ-loop
 sub-write-row c = search needs
@@ -48,7 +72,13 @@ part-write-row-start : tie.Need-part-write-row-start Inv-loop μ-loop
 part-write-row-start c = search needs
 
 part-write-row-end : tie.Need-part-write-row-end Inv-loop μ-loop
-part-write-row-end c = omega (arith, part-within (c .before .loop .k) (c .before .before .before .before .before .before .before .args .m) (c .before .before .size-of .result) (length (c .before .before .before .before .before .before .before .args .out .now)) (c .loop-test .taken) (rw (c .before .before .size-of .ensures) (c .before .before .before .before .before .before .before .pre .2)))
+part-write-row-end c =
+    let at-args = c .before .before .before .before .before .before .before in
+    omega (
+      arith,
+      part-within (c .before .loop .k) (at-args .args .m) (c .before .before .size-of .result) (length (at-args .args .out .now))
+          (c .loop-test .taken) (rw (c .before .before .size-of .ensures) (at-args .pre .2)),
+    )
 
 add-write-row : tie.Need-add-write-row Inv-loop μ-loop
 add-write-row c = omega (arith, c .before .loop-test .taken)
@@ -66,10 +96,28 @@ part-write-row-start-2 : tie.Need-part-write-row-start-2 Inv-loop μ-loop
 part-write-row-start-2 c = search needs
 
 part-write-row-end-2 : tie.Need-part-write-row-end-2 Inv-loop μ-loop
-part-write-row-end-2 c = omega (arith, c .before .before .loop .inv .1, rows-within (c .before .before .loop .k) (c .before .before .before .before .before .before .before .before .args .m) (length (c .before .before .before .before .before .before .before .before .args .shown .now)) (c .before .loop-test .taken) (c .before .before .before .before .before .before .before .before .pre .1) (c .before .before .before .before .before .before .before .before .pre .3))
+part-write-row-end-2 c =
+    let at-args = c .before .before .before .before .before .before .before .before in
+    omega (
+      arith,
+      c .before .before .loop .inv .1,
+      rows-within (c .before .before .loop .k) (at-args .args .m) (length (at-args .args .shown .now))
+          (c .before .loop-test .taken) (at-args .pre .1) (at-args .pre .3),
+    )
 
 write-row-requires : tie.Need-write-row-requires Inv-loop μ-loop
-write-row-requires c κs = (c .before .before .before .before .before .before .before .before .before .pre .0, row-length (c .before .before .before .loop .k) (c .before .before .before .loop .shown) (omega (arith, c .before .before .before .loop .inv .1, rows-within (c .before .before .before .loop .k) (c .before .before .before .before .before .before .before .before .before .args .m) (length (c .before .before .before .before .before .before .before .before .before .args .shown .now)) (c .before .before .loop-test .taken) (c .before .before .before .before .before .before .before .before .before .pre .1) (c .before .before .before .before .before .before .before .before .before .pre .3))))
+write-row-requires c κs =
+    let at-loop = c .before .before .before in
+    let at-pre = at-loop .before .before .before .before .before .before in (
+      at-pre .pre .0,
+      row-length (at-loop .loop .k) (at-loop .loop .shown)
+          (omega (
+            arith,
+            at-loop .loop .inv .1,
+            rows-within (at-loop .loop .k) (at-pre .args .m) (length (at-pre .args .shown .now))
+                (c .before .before .loop-test .taken) (at-pre .pre .1) (at-pre .pre .3),
+          )),
+    )
 
 add-k : tie.Need-add-k Inv-loop μ-loop
 add-k c = omega (arith, c .before .before .before .before .before .loop-test .taken)
@@ -79,21 +127,34 @@ loop-less c = omega (arith, c .before .before .before .before .before .loop-test
 
 loop-again : tie.Need-loop-again Inv-loop μ-loop
 loop-again c =
-    let a = c .before .before .before .before .before .before .before .before .before .before .before .before .args in
-    let l = c .before .before .before .before .before .before .loop in
+    let at-loop-test = c .before .before .before .before .before in
+    let at-loop = at-loop-test .before in
+    let at-size-of = at-loop .before in
+    let at-args = at-size-of .before .before .before .before .before in
+    let a = at-args .args in
+    let l = at-loop .loop in
     let part = c .before .before .write-row .last .1 .1 .1 .1 .1 .0 in
-    let room : l .k * 50 + 50 ≤ length (l .shown) = omega (arith, l .inv .1, rows-within (c .before .before .before .before .before .before .loop .k) (c .before .before .before .before .before .before .before .before .before .before .before .before .args .m) (length (c .before .before .before .before .before .before .before .before .before .before .before .before .args .shown .now)) (c .before .before .before .before .before .loop-test .taken) (c .before .before .before .before .before .before .before .before .before .before .before .before .pre .1) (c .before .before .before .before .before .before .before .before .before .before .before .before .pre .3)) in
+    let room : l .k * 50 + 50 ≤ length (l .shown) = omega (
+      arith,
+      l .inv .1,
+      rows-within (at-loop .loop .k) (at-args .args .m) (length (at-args .args .shown .now)) (at-loop-test .loop-test .taken) (at-args .pre .1)
+          (at-args .pre .3),
+    ) in
     let size : length part ≡ 50 = c .before .before .write-row .kept .1 .1 .1 .1 .1 .0 ∙ row-length (l .k) (l .shown) room in (
-      omega (arith, c .before .before .before .before .before .loop-test .taken),
+      omega (arith, at-loop-test .loop-test .taken),
       same-len-mid (l .k * 50) (l .k * 50 + 50 - l .k * 50) (l .shown) part (c .before .before .write-row .kept .1 .1 .1 .1 .1 .0) ∙ l .inv .1,
-      rows-more (a .rules .now) (a .marks .now) (a .s) (a .out .now) (l .k) (c .before .before .before .before .before .before .before .size-of .result) (c .before .before .before .before .before .before .before .size-of .ensures) (a .shown .now) (l .shown) part (l .inv .2) size room (c .before .before .write-row .ensures),
+      rows-more (a .rules .now) (a .marks .now) (a .s) (a .out .now) (l .k) (at-size-of .size-of .result) (at-size-of .size-of .ensures) (a .shown .now)
+          (l .shown) part (l .inv .2) size room (c .before .before .write-row .ensures),
     )
 
 same-length : tie.Need-same-length Inv-loop μ-loop
 same-length c = c .before .loop .inv .1
 
 returns : tie.Need-returns Inv-loop μ-loop
-returns c = let all : c .before .loop .k ≡ c .before .before .before .before .before .before .before .args .m = omega (arith, c .loop-test .left, c .before .loop .inv .0) in rw all at (c .before .loop .inv .2)
+returns c =
+    let at-args = c .before .before .before .before .before .before .before in
+    let all : c .before .loop .k ≡ at-args .args .m = omega (arith, c .loop-test .left, c .before .loop .inv .0) in
+    rw all at (c .before .loop .inv .2)
 
 pub write-rows-spec : {M : Type 1} → statement M
 write-rows-spec =

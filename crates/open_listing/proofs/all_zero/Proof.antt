@@ -25,7 +25,10 @@ shared-slice-read-if1 : tie.Need-shared-slice-read-if1 Inv-loop μ-loop
 shared-slice-read-if1 c = search needs
 
 returns : tie.Need-returns Inv-loop μ-loop
-returns c = sym (c .before .before .before .loop .inv .1 ∙ not-zero (c .before .before .before .before .args .t .now) (c .before .before .before .loop .x) (omega arith) (c .if1 .taken))
+returns c =
+    let at-loop = c .before .before .before in
+    let start = at-loop .before in
+    sym (at-loop .loop .inv .1 ∙ not-zero (start .args .t .now) (at-loop .loop .x) (omega arith) (c .if1 .taken))
 
 add-x : tie.Need-add-x Inv-loop μ-loop
 add-x c = search needs
@@ -34,7 +37,10 @@ loop-less : tie.Need-loop-less Inv-loop μ-loop
 loop-less c = search needs
 
 loop-again : tie.Need-loop-again Inv-loop μ-loop
-loop-again c = (c .before .before .before .loop .inv .0, c .before .before .before .loop .inv .1 ∙ zero-on (c .before .before .before .before .args .t .now) (c .before .before .before .loop .x) (omega arith) (c .if1 .left))
+loop-again c =
+    let at-loop = c .before .before .before in
+    let start = at-loop .before in
+    (at-loop .loop .inv .0, at-loop .loop .inv .1 ∙ zero-on (start .args .t .now) (at-loop .loop .x) (omega arith) (c .if1 .left))
 
 returns-2 : tie.Need-returns-2 Inv-loop μ-loop
 returns-2 c = sym (c .before .loop .inv .1 ∙ none-left (c .before .before .args .t .now) (c .before .loop .x) (omega arith))

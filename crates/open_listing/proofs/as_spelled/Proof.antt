@@ -12,9 +12,11 @@ same-length c = search needs
 
 returns : tie.Need-returns
 returns c =
-    let a = c .before .before .before .before .before .before .before .before .before .args in (
-      spelled-settled (a .t .now) (a .rules .now) (a .edges .now) (a .plan) (a .rank) (c .before .before .before .before .before .before .before .before .before .pre .0) (c .before .before .before .hand-out .ensures .0) (c .if1 .taken),
-      output-by (a .t .now) (a .rules .now) (a .plan) (a .rank) (a .out .now) (c .before .before .before .hand-out .ensures .1) (c .if1 .taken),
+    let at-hand-out = c .before .before .before in
+    let start = at-hand-out .before .before .before .before .before .before in
+    let a = start .args in (
+      spelled-settled (a .t .now) (a .rules .now) (a .edges .now) (a .plan) (a .rank) (start .pre .0) (at-hand-out .hand-out .ensures .0) (c .if1 .taken),
+      output-by (a .t .now) (a .rules .now) (a .plan) (a .rank) (a .out .now) (at-hand-out .hand-out .ensures .1) (c .if1 .taken),
     )
 
 same-length-2 : tie.Need-same-length-2
@@ -22,9 +24,11 @@ same-length-2 c = search needs
 
 returns-2 : tie.Need-returns-2
 returns-2 c =
-    let a = c .before .before .before .before .before .before .before .before .before .args in (
-      spelled-settled (a .t .now) (a .rules .now) (a .edges .now) (a .plan) (a .rank) (c .before .before .before .before .before .before .before .before .before .pre .0) (c .before .before .before .hand-out .ensures .0) (c .if1 .left),
-      output-by (a .t .now) (a .rules .now) (a .plan) (a .rank) (a .out .now) (c .before .before .before .hand-out .ensures .1) (c .if1 .left),
+    let at-hand-out = c .before .before .before in
+    let start = at-hand-out .before .before .before .before .before .before in
+    let a = start .args in (
+      spelled-settled (a .t .now) (a .rules .now) (a .edges .now) (a .plan) (a .rank) (start .pre .0) (at-hand-out .hand-out .ensures .0) (c .if1 .left),
+      output-by (a .t .now) (a .rules .now) (a .plan) (a .rank) (a .out .now) (at-hand-out .hand-out .ensures .1) (c .if1 .left),
     )
 
 pub as-spelled-spec : {M : Type 1} → statement M

@@ -16,7 +16,9 @@ slice-reshare-prefix-all-zero : tie.Need-slice-reshare-prefix-all-zero
 slice-reshare-prefix-all-zero c = search needs
 
 slice-aggregate-all-zero : tie.Need-slice-aggregate-all-zero
-slice-aggregate-all-zero c = sym (length-take-le _ _ (c .before .before .before .before .before .before .before .pre .2))
+slice-aggregate-all-zero c =
+    let start = c .before .before .before .before .before .before .before in
+    sym (length-take-le _ _ (start .pre .2))
 
 all-zero-requires : tie.Need-all-zero-requires
 all-zero-requires c κs = search needs
@@ -25,7 +27,9 @@ slice-relend-prefix-enumerate : tie.Need-slice-relend-prefix-enumerate
 slice-relend-prefix-enumerate c = search needs
 
 slice-aggregate-enumerate : tie.Need-slice-aggregate-enumerate
-slice-aggregate-enumerate c = sym (length-take-le _ _ (c .before .before .before .before .before .before .before .before .before .before .pre .2))
+slice-aggregate-enumerate c =
+    let start = c .before .before .before .before .before .before .before .before .before .before in
+    sym (length-take-le _ _ (start .pre .2))
 
 enumerate-requires : tie.Need-enumerate-requires
 enumerate-requires c κs = search needs
@@ -44,23 +48,32 @@ same-length-2 c = search needs
 
 returns : tie.Need-returns
 returns c =
-    let a = c .before .before .before .before .before .before .before .before .before .before .before .before .before .before .before .before .before .before .before .before .args in
-    let planned = c .before .before .before .before .before .before .before .before .before .before .before .before .before .before .before .before .before .before .before .before .pre .0 in
-    let fits = c .before .before .before .before .before .before .before .before .before .before .before .before .before .before .before .before .before .before .before .before .pre .2 in
-    let made = c .before .before .before .before .before .before .before .before .before .enumerate .ensures .0 in
+    let at-settle = c .before .before .before .before in
+    let at-enumerate = at-settle .before .before .before .before .before in
+    let at-if1 = at-enumerate .before .before in
+    let at-all-zero = at-if1 .before in
+    let start = at-all-zero .before .before .before .before .before .before .before .before in
+    let a = start .args in
+    let planned = start .pre .0 in
+    let fits = start .pre .2 in
+    let made = at-enumerate .enumerate .ensures .0 in
     let table = firstTable (a .rules .now) (a .edges .now) (a .plan) (a .work .now) in
-    let first = table-first (a .rules .now) (a .edges .now) (a .plan) (a .work .now) (a .out .now) fits (c .before .before .before .before .before .before .before .before .before .before .before .before .all-zero .ensures) (c .before .before .before .before .before .before .before .before .before .before .before .if1 .taken) made in
-    promised (a .rules .now) (a .edges .now) (a .plan) (a .work .now) (a .out .now) fits (c .before .before .before .before .before .before .before .before .before .before .before .before .all-zero .ensures) (c .before .before .before .before .before .before .before .before .before .before .before .if1 .taken) made
-    (stays table (a .rules .now) (a .edges .now) (a .plan) 0 (a .work .now) (a .out .now) first (c .before .before .before .before .settle .ensures .0) (c .before .before .before .before .settle .ensures .1) (c .before .is-reading .ensures) (c .if2 .taken))
+    let first = table-first (a .rules .now) (a .edges .now) (a .plan) (a .work .now) (a .out .now) fits (at-all-zero .all-zero .ensures) (at-if1 .if1 .taken)
+    made in
+    promised (a .rules .now) (a .edges .now) (a .plan) (a .work .now) (a .out .now) fits (at-all-zero .all-zero .ensures) (at-if1 .if1 .taken) made
+    (stays table (a .rules .now) (a .edges .now) (a .plan) 0 (a .work .now) (a .out .now) first (at-settle .settle .ensures .0) (at-settle .settle .ensures .1)
+    (c .before .is-reading .ensures) (c .if2 .taken))
 
 slice-relend-prefix-zero : tie.Need-slice-relend-prefix-zero
 slice-relend-prefix-zero c = search needs
 
 slice-aggregate-zero : tie.Need-slice-aggregate-zero
 slice-aggregate-zero c =
-    let a = c .before .before .before .before .before .before .before .before .before .before .before .before .before .before .before .before .before .before .before .before .before .args in
+    let at-enumerate = c .before .before .before .before .before .before .before .before .before .before in
+    let start = at-enumerate .before .before .before .before .before .before .before .before .before .before .before in
+    let a = start .args in
     sym (length-take-le _ _ (rw length-append
-    (omega (arith, c .before .before .before .before .before .before .before .before .before .before .enumerate .kept .0, front-size (a .rules .now) (a .edges .now) (a .plan) (a .work .now) (a .out .now) (c .before .before .before .before .before .before .before .before .before .before .before .before .before .before .before .before .before .before .before .before .before .pre .2)))))
+    (omega (arith, at-enumerate .enumerate .kept .0, front-size (a .rules .now) (a .edges .now) (a .plan) (a .work .now) (a .out .now) (start .pre .2)))))
 
 zero-requires : tie.Need-zero-requires
 zero-requires c κs = search needs
@@ -73,15 +86,25 @@ same-length-4 c = search needs
 
 returns-2 : tie.Need-returns-2
 returns-2 c =
-    let a = c .before .before .before .before .before .before .before .before .before .before .before .before .before .before .before .before .before .before .before .before .before .before .before .before .args in
-    let planned = c .before .before .before .before .before .before .before .before .before .before .before .before .before .before .before .before .before .before .before .before .before .before .before .before .pre .0 in
-    let fits = c .before .before .before .before .before .before .before .before .before .before .before .before .before .before .before .before .before .before .before .before .before .before .before .before .pre .2 in
-    let made = c .before .before .before .before .before .before .before .before .before .before .before .before .before .enumerate .ensures .0 in
+    let at-if2 = c .before .before .before .before in
+    let at-is-reading = at-if2 .before in
+    let at-settle = at-is-reading .before .before .before in
+    let at-enumerate = at-settle .before .before .before .before .before in
+    let at-if1 = at-enumerate .before .before in
+    let at-all-zero = at-if1 .before in
+    let start = at-all-zero .before .before .before .before .before .before .before .before in
+    let a = start .args in
+    let planned = start .pre .0 in
+    let fits = start .pre .2 in
+    let made = at-enumerate .enumerate .ensures .0 in
     let table = firstTable (a .rules .now) (a .edges .now) (a .plan) (a .work .now) in
-    let first = table-first (a .rules .now) (a .edges .now) (a .plan) (a .work .now) (a .out .now) fits (c .before .before .before .before .before .before .before .before .before .before .before .before .before .before .before .before .all-zero .ensures) (c .before .before .before .before .before .before .before .before .before .before .before .before .before .before .before .if1 .taken) made in
-    promised (a .rules .now) (a .edges .now) (a .plan) (a .work .now) (a .out .now) fits (c .before .before .before .before .before .before .before .before .before .before .before .before .before .before .before .before .all-zero .ensures) (c .before .before .before .before .before .before .before .before .before .before .before .before .before .before .before .if1 .taken) made
-    (goes-back table (a .rules .now) (a .edges .now) (a .plan) 0 (a .work .now) (a .out .now) first (c .before .before .before .before .before .before .before .before .settle .ensures .0) (c .before .before .before .before .before .before .before .before .settle .ensures .1) (c .before .before .before .before .before .is-reading .ensures) (c .before .before .before .before .if2 .left)
-    (zeros-again (a .rules .now) (a .edges .now) (a .plan) (a .work .now) (a .out .now) fits (c .before .before .before .before .before .before .before .before .before .before .before .before .before .before .before .before .all-zero .ensures) (c .before .before .before .before .before .before .before .before .before .before .before .before .before .before .before .if1 .taken) made (c .before .before .before .before .before .before .before .before .before .before .before .before .before .enumerate .kept .0) (c .before .before .zero .ensures) refl))
+    let first = table-first (a .rules .now) (a .edges .now) (a .plan) (a .work .now) (a .out .now) fits (at-all-zero .all-zero .ensures) (at-if1 .if1 .taken)
+    made in
+    promised (a .rules .now) (a .edges .now) (a .plan) (a .work .now) (a .out .now) fits (at-all-zero .all-zero .ensures) (at-if1 .if1 .taken) made
+    (goes-back table (a .rules .now) (a .edges .now) (a .plan) 0 (a .work .now) (a .out .now) first (at-settle .settle .ensures .0)
+    (at-settle .settle .ensures .1) (at-is-reading .is-reading .ensures) (at-if2 .if2 .left)
+    (zeros-again (a .rules .now) (a .edges .now) (a .plan) (a .work .now) (a .out .now) fits (at-all-zero .all-zero .ensures) (at-if1 .if1 .taken) made
+    (at-enumerate .enumerate .kept .0) (c .before .before .zero .ensures) refl))
 
 as-spelled-requires : tie.Need-as-spelled-requires
 as-spelled-requires c κs = search needs
@@ -94,8 +117,12 @@ same-length-6 c = search needs
 
 returns-3 : tie.Need-returns-3
 returns-3 c =
-    let a = c .before .before .before .before .before .before .before .before .before .before .before .before .before .before .args in
-    not-zeros (a .rules .now) (a .edges .now) (a .plan) (a .work .now) (a .out .now) (c .before .before .before .before .before .before .before .before .before .before .before .before .before .before .pre .2) (c .before .before .before .before .before .before .all-zero .ensures) (c .before .before .before .before .before .if1 .left) (c .before .before .as-spelled .ensures .0) (c .before .before .as-spelled .ensures .1)
+    let at-if1 = c .before .before .before .before .before in
+    let at-all-zero = at-if1 .before in
+    let start = at-all-zero .before .before .before .before .before .before .before .before in
+    let a = start .args in
+    not-zeros (a .rules .now) (a .edges .now) (a .plan) (a .work .now) (a .out .now) (start .pre .2) (at-all-zero .all-zero .ensures) (at-if1 .if1 .left)
+    (c .before .before .as-spelled .ensures .0) (c .before .before .as-spelled .ensures .1)
 
 pub first-spec : {M : Type 1} → statement M
 first-spec =

@@ -38,13 +38,18 @@ same-length-2 c = search needs
 
 returns : tie.Need-returns
 returns c =
-    let a = c .before .before .before .before .before .before .before .before .before .before .before .before .before .before .before .before .before .before .before .before .before .before .args in
-    let planned = c .before .before .before .before .before .before .before .before .before .before .before .before .before .before .before .before .before .before .before .before .before .before .pre .0 in
+    let at-settle = c .before .before .before .before in
+    let at-step = at-settle .before .before .before .before .before .before in
+    let at-index-of = at-step .before .before .before .before .before in
+    let start = at-index-of .before .before .before .before .before .before .before in
+    let a = start .args in
+    let planned = start .pre .0 in
     let x = a .handed - 1 in
-    let made = c .before .before .before .before .before .before .before .before .before .before .before .before .before .before .before .index-of .ensures in
-    let next = table-next (a .rules .now) (a .edges .now) (a .plan) planned x (a .work .now) made (c .before .before .before .before .before .before .before .before .before .before .step .ensures .0) in
-    stays (nextTable (a .rules .now) (a .edges .now) (a .plan) x (a .work .now)) (a .rules .now) (a .edges .now) (a .plan) (a .handed) (a .work .now) (a .out .now)
-    next (c .before .before .before .before .settle .ensures .0) (c .before .before .before .before .settle .ensures .1) (c .before .is-reading .ensures) (c .if1 .taken)
+    let made = at-index-of .index-of .ensures in
+    let next = table-next (a .rules .now) (a .edges .now) (a .plan) planned x (a .work .now) made (at-step .step .ensures .0) in
+    stays (nextTable (a .rules .now) (a .edges .now) (a .plan) x (a .work .now)) (a .rules .now) (a .edges .now) (a .plan) (a .handed) (a .work .now)
+    (a .out .now)
+    next (at-settle .settle .ensures .0) (at-settle .settle .ensures .1) (c .before .is-reading .ensures) (c .if1 .taken)
 
 slice-aggregate-undo : tie.Need-slice-aggregate-undo
 slice-aggregate-undo c = search needs
@@ -60,14 +65,22 @@ same-length-4 c = search needs
 
 returns-2 : tie.Need-returns-2
 returns-2 c =
-    let a = c .before .before .before .before .before .before .before .before .before .before .before .before .before .before .before .before .before .before .before .before .before .before .before .before .before .before .before .args in
-    let planned = c .before .before .before .before .before .before .before .before .before .before .before .before .before .before .before .before .before .before .before .before .before .before .before .before .before .before .before .pre .0 in
+    let at-if1 = c .before .before .before .before .before in
+    let at-is-reading = at-if1 .before in
+    let at-settle = at-is-reading .before .before .before in
+    let at-step = at-settle .before .before .before .before .before .before in
+    let at-index-of = at-step .before .before .before .before .before in
+    let start = at-index-of .before .before .before .before .before .before .before in
+    let a = start .args in
+    let planned = start .pre .0 in
     let x = a .handed - 1 in
-    let made = c .before .before .before .before .before .before .before .before .before .before .before .before .before .before .before .before .before .before .before .before .index-of .ensures in
-    let next = table-next (a .rules .now) (a .edges .now) (a .plan) planned x (a .work .now) made (c .before .before .before .before .before .before .before .before .before .before .before .before .before .before .before .step .ensures .0) in
-    goes-back (nextTable (a .rules .now) (a .edges .now) (a .plan) x (a .work .now)) (a .rules .now) (a .edges .now) (a .plan) (a .handed) (a .work .now) (a .out .now)
-    next (c .before .before .before .before .before .before .before .before .before .settle .ensures .0) (c .before .before .before .before .before .before .before .before .before .settle .ensures .1) (c .before .before .before .before .before .before .is-reading .ensures) (c .before .before .before .before .before .if1 .left)
-    (put-back (a .rules .now) (a .edges .now) (a .plan) planned x (a .work .now) made (c .before .before .before .before .before .before .before .before .before .before .before .before .before .before .before .step .ensures .0) (c .before .before .before .before .before .before .before .before .before .before .before .before .before .before .before .step .ensures .1) (c .before .before .undo .ensures))
+    let made = at-index-of .index-of .ensures in
+    let next = table-next (a .rules .now) (a .edges .now) (a .plan) planned x (a .work .now) made (at-step .step .ensures .0) in
+    goes-back (nextTable (a .rules .now) (a .edges .now) (a .plan) x (a .work .now)) (a .rules .now) (a .edges .now) (a .plan) (a .handed) (a .work .now)
+    (a .out .now)
+    next (at-settle .settle .ensures .0) (at-settle .settle .ensures .1) (at-is-reading .is-reading .ensures) (at-if1 .if1 .left)
+    (put-back (a .rules .now) (a .edges .now) (a .plan) planned x (a .work .now) made (at-step .step .ensures .0) (at-step .step .ensures .1)
+    (c .before .before .undo .ensures))
 
 pub later-spec : {M : Type 1} → statement M
 later-spec =

@@ -26,7 +26,10 @@ slice-aggregate-next-read-2 : tie.Need-slice-aggregate-next-read-2
 slice-aggregate-next-read-2 c = search needs
 
 plan-of-requires : tie.Need-plan-of-requires
-plan-of-requires c κs = let k = rw (c .before .before .before .inputs .given .1) at (c .before .before .before .before .before .before .before .read-inputs .ensures) in k .bounds
+plan-of-requires c κs =
+    let at-inputs = c .before .before .before in
+    let at-read-inputs = at-inputs .before .before .before .before in
+    let k = rw (at-inputs .inputs .given .1) at (at-read-inputs .read-inputs .ensures) in k .bounds
 
 next-read-requires : tie.Need-next-read-requires
 next-read-requires c κs = search needs
@@ -45,9 +48,13 @@ same-length-2 c = search needs
 
 returns-2 : tie.Need-returns-2
 returns-2 c =
-    let k = rw (c .before .before .before .before .before .before .before .before .before .before .before .inputs .given .1) at (c .before .before .before .before .before .before .before .before .before .before .before .before .before .before .before .read-inputs .ensures) in
-    let p = read-called k _ (c .before .before .before .before .before .before .before .plan-of .ensures .0) (c .before .before .before .before .before .before .before .plan-of .ensures .1) _ _ _ (c .before .before .before .before .next-read .ensures) in
-    (p .0, (p .1, read-next k _ (c .before .before .before .before .before .before .before .plan-of .ensures .0) _ _ _ (c .before .before .before .before .next-read .ensures)))
+    let at-next-read = c .before .before .before .before in
+    let at-plan-of = at-next-read .before .before .before in
+    let at-inputs = at-plan-of .before .before .before .before in
+    let at-read-inputs = at-inputs .before .before .before .before in
+    let k = rw (at-inputs .inputs .given .1) at (at-read-inputs .read-inputs .ensures) in
+    let p = read-called k _ (at-plan-of .plan-of .ensures .0) (at-plan-of .plan-of .ensures .1) _ _ _ (at-next-read .next-read .ensures) in
+    (p .0, (p .1, read-next k _ (at-plan-of .plan-of .ensures .0) _ _ _ (at-next-read .next-read .ensures)))
 
 pub next-spec : {M : Type 1} → statement M
 next-spec =

@@ -1,7 +1,8 @@
 -- What is short, what was handed out and whether the place was opened decide between the refusals and the search.
 use native.Mathlib.Omega.{arith}
 use Rattle.open_listing.proofs.Plans.{front-fits}
-use Rattle.open_listing.proofs.Calls.{short-table, short-output, full, not-opened, first-call, later-call}
+use Rattle.open_listing.proofs.Searched.{as-it-stands}
+use Rattle.open_listing.proofs.Calls.{short-table, short-output, full, unopened-call, first-call, later-call}
 use borrow.Author.Needs.{needs}
 use Rattle.open_listing.proofs.next_read.Statement.{statement}
 use Rattle.open_listing.proofs.next_read.Tie as tie
@@ -16,25 +17,32 @@ returns c =
 
 returns-2 : tie.Need-returns-2
 returns-2 c =
-    let a = c .before .before .before .before .before .before .before .before .args in
-    short-output (a .rules .now) (a .edges .now) (a .plan) (a .place) (a .work .now) (a .out .now) (c .before .before .before .table-numbers .ensures .0) (omega (arith, c .before .before .if1 .left)) (c .if2 .taken)
+    let t = c .before .before .before in
+    let a = t .before .before .before .before .before .args in
+    short-output (a .rules .now) (a .edges .now) (a .plan) (a .place) (a .work .now) (a .out .now) (t .table-numbers .ensures .0)
+    (omega (arith, c .before .before .if1 .left)) (c .if2 .taken)
 
 cast-handed : tie.Need-cast-handed
 cast-handed c = search needs
 
 returns-3 : tie.Need-returns-3
 returns-3 c =
-    let a = c .before .before .before .before .before .before .before .before .before .before .args in
-    full (a .rules .now) (a .edges .now) (a .plan) (a .place) (a .work .now) (a .out .now) (c .before .before .before .before .before .table-numbers .ensures .0) (omega (arith, c .before .before .before .before .if1 .left)) (omega (arith, c .before .before .if2 .left)) (c .if3 .taken)
+    let t = c .before .before .before .before .before in
+    let a = t .before .before .before .before .before .args in
+    full (a .rules .now) (a .edges .now) (a .plan) (a .place) (a .work .now) (a .out .now) (t .table-numbers .ensures .0)
+    (omega (arith, c .before .before .before .before .if1 .left)) (omega (arith, c .before .before .if2 .left)) (c .if3 .taken)
 
-returns-4 : tie.Need-returns-4
-returns-4 c =
-    let a = c .before .before .before .before .before .before .before .before .before .before .before .before .args in
-    not-opened (a .rules .now) (a .edges .now) (a .plan) (a .place) (a .work .now) (a .out .now) (c .before .before .before .before .before .before .before .table-numbers .ensures .0) (omega (arith, c .before .before .before .before .before .before .if1 .left)) (omega (arith, c .before .before .before .before .if2 .left)) (omega (arith, c .before .before .if3 .left)) (c .if4 .taken)
+-- where nothing is short and more can be handed out: the test of the table's length, and the entry
+abbrev short : tie.Else3 → tie.After-table-numbers
+short e = e .before .before .before .before .before
 
-first-requires : tie.Need-first-requires
-first-requires c κs =
-    (c .before .before .before .before .before .before .before .before .before .before .before .before .before .before .before .pre, omega (arith, c .before .before .before .before .before .before .before .if2 .left), front-fits (c .before .before .before .before .before .before .before .before .before .before .before .before .before .before .before .args .plan) (c .before .before .before .before .before .before .before .before .before .before .before .before .before .before .before .pre) (c .before .before .before .before .before .before .before .before .before .before .table-numbers .ensures .0) (omega (arith, c .before .before .before .before .before .before .before .before .before .if1 .left)))
+abbrev start : tie.Else3 → tie.Start
+start e = short e .before .before .before .before .before
+
+as-spelled-requires : tie.Need-as-spelled-requires
+as-spelled-requires c κs =
+    let e = c .before .before .before .before in
+    (start e .pre, omega (arith, start e .pre .all-ranks, e .if3 .left), omega (arith, e .before .before .if2 .left))
 
 same-length : tie.Need-same-length
 same-length c = search needs
@@ -42,14 +50,28 @@ same-length c = search needs
 same-length-2 : tie.Need-same-length-2
 same-length-2 c = search needs
 
-returns-5 : tie.Need-returns-5
-returns-5 c =
-    let a = c .before .before .before .before .before .before .before .before .before .before .before .before .before .before .before .before .before .before .before .before .args in
-    first-call (a .rules .now) (a .edges .now) (a .plan) (a .place) (a .work .now) (a .out .now) (c .before .before .before .before .before .before .before .before .before .before .before .before .before .before .before .table-numbers .ensures .0) (omega (arith, c .before .before .before .before .before .before .before .before .before .before .before .before .before .before .if1 .left)) (omega (arith, c .before .before .before .before .before .before .before .before .before .before .before .before .if2 .left)) (omega (arith, c .before .before .before .before .before .before .before .before .before .before .if3 .left)) (c .before .before .before .before .before .before .before .before .if4 .left) (c .before .before .before .before .before .before .before .if5 .taken) (c .before .before .before .before .first .ensures)
+returns-4 : tie.Need-returns-4
+returns-4 c =
+    let at-if4 = c .before .before .before .before .before in
+    let at-before = at-if4 .before in
+    let e = at-before .before in
+    let a = start e .args in
+    let told = c .before .before .as-spelled .ensures in
+    unopened-call (a .rules .now) (a .edges .now) (a .plan) (a .place) (a .work .now) (a .out .now) (short e .table-numbers .ensures .0)
+    (omega (arith, e .before .before .before .before .if1 .left)) (omega (arith, e .before .before .if2 .left)) (omega (arith, e .if3 .left))
+    (at-if4 .if4 .taken)
+    (as-it-stands (a .rules .now) (a .edges .now) (a .plan) (a .work .now) (a .out .now) (a .place .handed) (told .0) (told .1))
 
-later-requires : tie.Need-later-requires
-later-requires c κs =
-    (c .before .before .before .before .before .before .before .before .before .before .before .before .before .before .before .pre, omega (arith, c .before .before .if5 .left), omega (arith, c .before .before .before .before .before .before .before .before .before .before .before .before .before .before .before .pre .all-ranks, c .before .before .before .before .before .if3 .left), omega (arith, c .before .before .before .before .before .before .before .if2 .left))
+first-requires : tie.Need-first-requires
+first-requires c κs =
+    let at-before = c .before .before .before .before in
+    let e = at-before .before in
+    let s = start e in (
+      s .pre,
+      omega (arith, e .before .before .if2 .left),
+      front-fits (s .args .plan) (s .pre) (short e .table-numbers .ensures .0)
+          (omega (arith, e .before .before .before .before .if1 .left)),
+    )
 
 same-length-3 : tie.Need-same-length-3
 same-length-3 c = search needs
@@ -57,10 +79,41 @@ same-length-3 c = search needs
 same-length-4 : tie.Need-same-length-4
 same-length-4 c = search needs
 
+returns-5 : tie.Need-returns-5
+returns-5 c =
+    let at-first = c .before .before .before .before in
+    let at-if5 = at-first .before .before .before in
+    let at-if4 = at-if5 .before in
+    let at-before = at-if4 .before in
+    let e = at-before .before in
+    let a = start e .args in
+    first-call (a .rules .now) (a .edges .now) (a .plan) (a .place) (a .work .now) (a .out .now) (short e .table-numbers .ensures .0)
+    (omega (arith, e .before .before .before .before .if1 .left)) (omega (arith, e .before .before .if2 .left)) (omega (arith, e .if3 .left))
+    (at-if4 .if4 .left) (at-if5 .if5 .taken) (at-first .first .ensures)
+
+later-requires : tie.Need-later-requires
+later-requires c κs =
+    let e = c .before .before .before .before .before in
+    let s = start e in
+    (s .pre, omega (arith, c .before .before .if5 .left), omega (arith, s .pre .all-ranks, e .if3 .left), omega (arith, e .before .before .if2 .left))
+
+same-length-5 : tie.Need-same-length-5
+same-length-5 c = search needs
+
+same-length-6 : tie.Need-same-length-6
+same-length-6 c = search needs
+
 returns-6 : tie.Need-returns-6
 returns-6 c =
-    let a = c .before .before .before .before .before .before .before .before .before .before .before .before .before .before .before .before .before .before .before .before .args in
-    later-call (a .rules .now) (a .edges .now) (a .plan) (a .place) (a .work .now) (a .out .now) (c .before .before .before .before .before .before .before .before .before .before .before .before .before .before .before .table-numbers .ensures .0) (omega (arith, c .before .before .before .before .before .before .before .before .before .before .before .before .before .before .if1 .left)) (omega (arith, c .before .before .before .before .before .before .before .before .before .before .before .before .if2 .left)) (omega (arith, c .before .before .before .before .before .before .before .before .before .before .if3 .left)) (c .before .before .before .before .before .before .before .before .if4 .left) (omega (arith, c .before .before .before .before .before .before .before .if5 .left)) (c .before .before .before .before .later .ensures)
+    let at-later = c .before .before .before .before in
+    let at-if5 = at-later .before .before .before in
+    let at-if4 = at-if5 .before in
+    let at-before = at-if4 .before in
+    let e = at-before .before in
+    let a = start e .args in
+    later-call (a .rules .now) (a .edges .now) (a .plan) (a .place) (a .work .now) (a .out .now) (short e .table-numbers .ensures .0)
+    (omega (arith, e .before .before .before .before .if1 .left)) (omega (arith, e .before .before .if2 .left)) (omega (arith, e .if3 .left))
+    (at-if4 .if4 .left) (omega (arith, at-if5 .if5 .left)) (at-later .later .ensures)
 
 pub next-read-spec : {M : Type 1} → statement M
 next-read-spec =
@@ -71,12 +124,15 @@ next-read-spec =
     returns-2
     cast-handed
     returns-3
-    returns-4
-    first-requires
+    as-spelled-requires
     same-length
     same-length-2
-    returns-5
-    later-requires
+    returns-4
+    first-requires
     same-length-3
     same-length-4
+    returns-5
+    later-requires
+    same-length-5
+    same-length-6
     returns-6)

@@ -28,7 +28,9 @@ table-numbers-requires c κs = search needs
 
 returns : tie.Need-returns
 returns c =
-    let k = rw (c .before .before .before .before .inputs .given .1) at (c .before .before .before .before .before .before .before .before .read-inputs .ensures) in
+    let at-inputs = c .before .before .before .before in
+    let at-read-inputs = at-inputs .before .before .before .before in
+    let k = rw (at-inputs .inputs .given .1) at (at-read-inputs .read-inputs .ensures) in
     not-opened-short k (c .before .before .plan-of .ensures .0) (c .before .table-numbers .ensures .0) _ (c .if1 .taken)
 
 zero-requires : tie.Need-zero-requires
@@ -42,8 +44,15 @@ same-length c = search needs
 
 returns-3 : tie.Need-returns-3
 returns-3 c =
-    let k = rw (c .before .before .before .before .before .before .before .before .inputs .given .1) at (c .before .before .before .before .before .before .before .before .before .before .before .before .read-inputs .ensures) in
-    opened-zeros k (c .before .before .before .before .before .before .plan-of .ensures .0) (c .before .before .before .before .before .table-numbers .ensures .0) (c .before .before .before .before .before .before .before .before .before .before .before .before .before .before .before .before .before .before .args .work .now) (omega (arith, c .before .before .before .before .if1 .left)) (c .before .before .zero .ensures)
+    let at-if1 = c .before .before .before .before in
+    let at-table-numbers = at-if1 .before in
+    let at-plan-of = at-table-numbers .before in
+    let at-inputs = at-plan-of .before .before in
+    let at-read-inputs = at-inputs .before .before .before .before in
+    let start = at-read-inputs .before .before .before .before .before .before in
+    let k = rw (at-inputs .inputs .given .1) at (at-read-inputs .read-inputs .ensures) in
+    opened-zeros k (at-plan-of .plan-of .ensures .0) (at-table-numbers .table-numbers .ensures .0) (start .args .work .now) (omega (arith, at-if1 .if1 .left))
+    (c .before .before .zero .ensures)
 
 pub open-spec : {M : Type 1} → statement M
 open-spec =

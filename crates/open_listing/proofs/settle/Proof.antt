@@ -16,13 +16,20 @@ same-length c = search needs
 
 returns : tie.Need-returns
 returns c =
-    let a = c .before .before .before .before .before .before .before .before .before .before .args in
-    (found-settled (a .t .now) (a .rules .now) (a .edges .now) (a .plan) (a .rank) (c .before .before .before .before .before .before .before .before .before .before .pre .0) (c .before .before .before .before .before .root-found .ensures) (c .before .before .before .before .if1 .taken) (c .before .before .as-spelled .ensures .0), c .before .before .as-spelled .ensures .1)
+    let at-if1 = c .before .before .before .before in
+    let at-root-found = at-if1 .before in
+    let start = at-root-found .before .before .before .before .before in
+    let a = start .args in (
+      found-settled (a .t .now) (a .rules .now) (a .edges .now) (a .plan) (a .rank) (start .pre .0) (at-root-found .root-found .ensures) (at-if1 .if1 .taken)
+          (c .before .before .as-spelled .ensures .0),
+      c .before .before .as-spelled .ensures .1,
+    )
 
 returns-2 : tie.Need-returns-2
 returns-2 c =
-    let a = c .before .before .before .before .before .before .args in
-    (not-found-settled (a .t .now) (a .rules .now) (a .edges .now) (a .plan) (a .rank) (c .before .before .before .before .before .before .pre .0) (c .before .root-found .ensures) (c .if1 .left), refl)
+    let start = c .before .before .before .before .before .before in
+    let a = start .args in
+    (not-found-settled (a .t .now) (a .rules .now) (a .edges .now) (a .plan) (a .rank) (start .pre .0) (c .before .root-found .ensures) (c .if1 .left), refl)
 
 pub settle-spec : {M : Type 1} → statement M
 settle-spec =

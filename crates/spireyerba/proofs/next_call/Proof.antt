@@ -7,6 +7,10 @@ use borrow.Author.Needs.{needs}
 use Rattle.spireyerba.proofs.next_call.Statement.{statement}
 use Rattle.spireyerba.proofs.next_call.Tie as tie
 
+-- where the call was made, the entry
+abbrev start : tie.After-next → tie.Start
+start t = t .before .before .before .before .before .before .before
+
 next-requires : tie.Need-next-requires
 next-requires c κs = search needs
 
@@ -15,11 +19,14 @@ enum-told c = search needs
 
 add-t15 : tie.Need-add-t15
 add-t15 c =
-    let a = c .before .before .before .before .before .before .before .before .before .before .before .before .before .args in
-    let p = placeAt (a .handed) (a .opened) in
-    let e = c .before .before .before .before .before .before .next .ensures in
-    let size = c .before .before .before .before .before .before .next .kept .1 .1 .1 .0 in
-    omega (arith, call-reading (a .grammar .now) (a .utterance .now) p (a .work .now) (a .out .now) (e .0) (e .1 .0) size (c .enum-told .given .1))
+    let t = c .before .before .before .before .before .before in
+    let a = start t .args in
+    let e = t .next .ensures in
+    omega (
+      arith,
+      call-reading (a .grammar .now) (a .utterance .now) (placeAt (a .handed) (a .opened)) (a .work .now) (a .out .now)
+          (e .0) (e .1 .0) (e .1 .1) (t .next .kept .1 .1 .1 .0) (c .enum-told .given .1),
+    )
 
 enum-told-2 : tie.Need-enum-told-2
 enum-told-2 c = search needs
@@ -32,11 +39,11 @@ enum-known-answer c = search needs
 
 refusal-requires : tie.Need-refusal-requires
 refusal-requires c κs =
-    let a = c .before .before .before .before .before .before .before .before .before .before .before .before .before .before .args in
-    let p = placeAt (a .handed) (a .opened) in
-    let e = c .before .before .before .before .before .before .before .next .ensures in
-    let size = c .before .before .before .before .before .before .before .next .kept .1 .1 .1 .0 in
-    call-refusal (a .grammar .now) (a .utterance .now) p (a .work .now) (a .out .now) (e .0) (e .1 .0) size (c .before .answer .given .1)
+    let t = c .before .before .before .before .before .before .before in
+    let a = start t .args in
+    let e = t .next .ensures in
+    call-refusal (a .grammar .now) (a .utterance .now) (placeAt (a .handed) (a .opened)) (a .work .now) (a .out .now)
+    (e .0) (e .1 .0) (e .1 .1) (t .next .kept .1 .1 .1 .0) (c .before .answer .given .1)
 
 same-length : tie.Need-same-length
 same-length c = search needs
@@ -46,11 +53,11 @@ same-length-2 c = search needs
 
 returns : tie.Need-returns
 returns c =
-    let a = c .before .before .before .before .before .before .before .before .before .before .before .before .before .args in
-    let p = placeAt (a .handed) (a .opened) in
-    let e = c .before .before .before .before .before .before .next .ensures in
-    let size = c .before .before .before .before .before .before .next .kept .1 .1 .1 .0 in
-    answered (a .grammar .now) (a .utterance .now) p (a .work .now) (a .out .now) (e .0) (e .1 .0) size Reading (c .enum-told .given .1)
+    let t = c .before .before .before .before .before .before in
+    let a = start t .args in
+    let e = t .next .ensures in
+    answered (a .grammar .now) (a .utterance .now) (placeAt (a .handed) (a .opened)) (a .work .now) (a .out .now)
+    (e .0) (e .1 .0) (e .1 .1) (t .next .kept .1 .1 .1 .0) Reading (c .enum-told .given .1)
 
 same-length-3 : tie.Need-same-length-3
 same-length-3 c = search needs
@@ -60,11 +67,11 @@ same-length-4 c = search needs
 
 returns-2 : tie.Need-returns-2
 returns-2 c =
-    let a = c .before .before .before .before .before .before .before .before .before .before .before .before .before .args in
-    let p = placeAt (a .handed) (a .opened) in
-    let e = c .before .before .before .before .before .before .next .ensures in
-    let size = c .before .before .before .before .before .before .next .kept .1 .1 .1 .0 in
-    answered (a .grammar .now) (a .utterance .now) p (a .work .now) (a .out .now) (e .0) (e .1 .0) size NoMore (c .enum-told2 .given .1)
+    let t = c .before .before .before .before .before .before in
+    let a = start t .args in
+    let e = t .next .ensures in
+    answered (a .grammar .now) (a .utterance .now) (placeAt (a .handed) (a .opened)) (a .work .now) (a .out .now)
+    (e .0) (e .1 .0) (e .1 .1) (t .next .kept .1 .1 .1 .0) NoMore (c .enum-told2 .given .1)
 
 same-length-5 : tie.Need-same-length-5
 same-length-5 c = search needs
@@ -74,11 +81,11 @@ same-length-6 c = search needs
 
 returns-3 : tie.Need-returns-3
 returns-3 c =
-    let a = c .before .before .before .before .before .before .before .before .before .before .before .before .before .args in
-    let p = placeAt (a .handed) (a .opened) in
-    let e = c .before .before .before .before .before .before .next .ensures in
-    let size = c .before .before .before .before .before .before .next .kept .1 .1 .1 .0 in
-    answered (a .grammar .now) (a .utterance .now) p (a .work .now) (a .out .now) (e .0) (e .1 .0) size Full (c .enum-told3 .given .1)
+    let t = c .before .before .before .before .before .before in
+    let a = start t .args in
+    let e = t .next .ensures in
+    answered (a .grammar .now) (a .utterance .now) (placeAt (a .handed) (a .opened)) (a .work .now) (a .out .now)
+    (e .0) (e .1 .0) (e .1 .1) (t .next .kept .1 .1 .1 .0) Full (c .enum-told3 .given .1)
 
 same-length-7 : tie.Need-same-length-7
 same-length-7 c = search needs
@@ -88,11 +95,11 @@ same-length-8 c = search needs
 
 returns-4 : tie.Need-returns-4
 returns-4 c =
-    let a = c .before .before .before .before .before .before .before .before .before .before .before .before .before .before .before .args in
-    let p = placeAt (a .handed) (a .opened) in
-    let e = c .before .before .before .before .before .before .before .before .next .ensures in
-    let size = c .before .before .before .before .before .before .before .before .next .kept .1 .1 .1 .0 in
-    turned-away (a .grammar .now) (a .utterance .now) p (a .work .now) (a .out .now) (e .0) (e .1 .0) size (c .before .before .answer .given .1) (c .refusal .ensures)
+    let t = c .before .before .before .before .before .before .before .before in
+    let a = start t .args in
+    let e = t .next .ensures in
+    turned-away (a .grammar .now) (a .utterance .now) (placeAt (a .handed) (a .opened)) (a .work .now) (a .out .now)
+    (e .0) (e .1 .0) (e .1 .1) (t .next .kept .1 .1 .1 .0) (c .before .before .answer .given .1) (c .refusal .ensures)
 
 pub next-call-spec : {M : Type 1} → statement M
 next-call-spec =

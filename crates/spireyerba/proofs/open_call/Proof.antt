@@ -16,8 +16,10 @@ enum-known-answer c = search needs
 
 refusal-requires : tie.Need-refusal-requires
 refusal-requires c κs =
-    let a = c .before .before .before .before .before .before .before .before .before .before .args in
-    let e = c .before .before .before .before .before .«open» .ensures in
+    let at-open = c .before .before .before .before .before in
+    let start = at-open .before .before .before .before .before in
+    let a = start .args in
+    let e = at-open .«open» .ensures in
     not-opened-small (a .grammar .now) (a .utterance .now) (a .work .now) (placeAt (a .handed) (a .opened)) (e .0) (e .1) (c .before .answer .given .1)
 
 same-length : tie.Need-same-length
@@ -25,8 +27,10 @@ same-length c = search needs
 
 returns : tie.Need-returns
 returns c =
-    let a = c .before .before .before .before .before .before .before .before .before .args in
-    let e = c .before .before .before .before .«open» .ensures in
+    let at-open = c .before .before .before .before in
+    let start = at-open .before .before .before .before .before in
+    let a = start .args in
+    let e = at-open .«open» .ensures in
     opened (a .grammar .now) (a .utterance .now) (a .work .now) (placeAt (a .handed) (a .opened)) (e .0) (e .1) (c .enum-told .given .1)
 
 same-length-2 : tie.Need-same-length-2
@@ -34,9 +38,12 @@ same-length-2 c = search needs
 
 returns-2 : tie.Need-returns-2
 returns-2 c =
-    let a = c .before .before .before .before .before .before .before .before .before .before .before .args in
-    let e = c .before .before .before .before .before .before .«open» .ensures in
-    not-opened (a .grammar .now) (a .utterance .now) (a .work .now) (placeAt (a .handed) (a .opened)) (e .0) (e .1) (c .before .before .answer .given .1) (c .refusal .ensures)
+    let at-open = c .before .before .before .before .before .before in
+    let start = at-open .before .before .before .before .before in
+    let a = start .args in
+    let e = at-open .«open» .ensures in
+    not-opened (a .grammar .now) (a .utterance .now) (a .work .now) (placeAt (a .handed) (a .opened)) (e .0) (e .1) (c .before .before .answer .given .1)
+    (c .refusal .ensures)
 
 pub open-call-spec : {M : Type 1} → statement M
 open-call-spec =

@@ -17,8 +17,10 @@ use prog.Wp.{Heap, Calls, Loops, WpFn, Tables}
 use ghost.Atoms.{Atoms}
 use contract.Monad.{Fun, fact}
 use contract.Running.{givenOf, tables, tablesOf}
-use types.Kit.{Given, ‵, raw, some, later, _⊛_, ⋆, _$_, _∵_, !, qed, by, move, keep, drop, use1, use2, split, join, pick, rewrite, fsplit, fsplit3, fjoin, fjoin3, feqL, feqI, suffices, frame, await, done}
-use types.Run.{look, init, forget, stop, hop, fld, from, load, addr, of-opd, and-then, no-more, assigns, land, returns, enter, alloc1, alloc0, params1, pass1, pass0, free1, free0}
+use types.Kit.{Given, ‵, raw, some, later, _⊛_, ⋆, _$_, _∵_, !, qed, by, move, keep, drop}
+use types.Kit.{use1, use2, split, join, pick, rewrite, fsplit, fsplit3, fjoin, fjoin3, feqL, feqI, suffices, frame, await, done}
+use types.Run.{look, init, forget, stop, hop, fld, from, load, addr, of-opd, and-then}
+use types.Run.{no-more, assigns, land, returns, enter, alloc1, alloc0, params1, pass1, pass0, free1, free0}
 use types.Part.{agg, whole, sub, look-in, store-in}
 use types.SemTy.{Body}
 use sound.WpLaws.{FmC, fmOf, WpFn-mono}
@@ -39,10 +41,12 @@ use denote.Triple.Statement.{Contract, Triple}
 use denote.Triple.Call.{calls-at}
 use denote.Triple.Clauses.{ensured, lasts}
 use denote.Triple.Table.{entered, cited}
-use denote.Triple.Walked.{says, Stays, stay-none-slice, stay-ref, gave-slice, walkOf, goes-none-slice, goes-ref, goes-gave-slice, Walks, ends-at, walked, walk-meets}
+use denote.Triple.Walked.{says, Stays, stay-none-slice, stay-ref, gave-slice, walkOf}
+use denote.Triple.Walked.{goes-none-slice, goes-ref, goes-gave-slice, Walks, ends-at, walked, walk-meets}
 use denote.Exit.{yes}
 use denote.Signature.{Slot, plain}
-use Rattle.spireyerba.specs.OneByOne.{placeAt, Open}
+use Rattle.spireyerba.specs.OneByOne.{placeAt, returned}
+use Rattle.spireyerba.proofs.OpenCalls.{OpenTold}
 use Rattle.open_listing.specs.declared.Place.{Place}
 use Rattle.spireyerba.specs.declared.Moved.{Moved}
 use Rattle.open_listing.proofs.Place as T
@@ -74,7 +78,8 @@ stayed = (stay-none-slice (0 ∷ []) tt U8S yes, (stay-none-slice (1 ∷ []) tt 
 abbrev CallT : {M : Type 1} (𝓤 : URA M) (H : Heap 𝓤) (A : Atoms 𝓤) (mem : Memory → SProp 𝓤) (run : Routine → Fun 𝓤) → Contract 𝓤
 CallT 𝓤 H A mem run = tripleOf 𝓤 H A call.signature (call.spec 𝓤 H A mem run)
 
-module _ {M : Type 1} (𝓤 : URA M) (H : Heap 𝓤) (A : Atoms 𝓤) (W : Given 𝓤 H A) (at-mem : Memory → SProp 𝓤) (run : Routine → Fun 𝓤) (κ₀ κ₁ κ₂ κ₃ : Lft) (q₀ q₁ q₂ q₃ : Share) (b o : ℕ) (γ : GName) (h : Place) (g u t : RefT (List ℕ)) where
+module _ {M : Type 1} (𝓤 : URA M) (H : Heap 𝓤) (A : Atoms 𝓤) (W : Given 𝓤 H A) (at-mem : Memory → SProp 𝓤) (run : Routine → Fun 𝓤) (κ₀ κ₁ κ₂ κ₃ : Lft)
+    (q₀ q₁ q₂ q₃ : Share) (b o : ℕ) (γ : GName) (h : Place) (g u t : RefT (List ℕ)) where
   -- the machine values: a slice's pointer and count, and a place's
   abbrev val : RefT (List ℕ) → Val
   val x = sliceVal (x .ptr) (length (x .now))
@@ -93,14 +98,26 @@ module _ {M : Type 1} (𝓤 : URA M) (H : Heap 𝓤) (A : Atoms 𝓤) (W : Given
 
   -- what `open_call` ensures of its result and the last list, and the place that is left
   abbrev Said : Moved → List ℕ → Type 0
-  Said r xs = Open (g .now) (u .now) (placeAt (h .handed) (h .opened)) (t .now) (r .code) (placeAt (r .handed) (r .opened)) xs
+  Said r xs = OpenTold (g .now) (u .now) (t .now) (placeAt (h .handed) (h .opened)) (returned (r .code) (placeAt (r .handed) (r .opened)) xs)
 
   -- what `open_call` is passed, and what its triple binds outside: the slices' own borrows
   abbrev passed : RefT (List ℕ) × (RefT (List ℕ) × (RefT (List ℕ) × (ℕ × (ℕ × Unit {0}))))
   passed = (g, (u, (t, (h .handed, (h .opened, tt)))))
 
   abbrev to-call : CallT 𝓤 H A at-mem run .Ghost
-  to-call = (((κ₀, (κ₁, (κ₃, tt))), (q₀, (q₁, (q₃, tt))), tt, passed, (val g ∷ [], (val u ∷ [], (val t ∷ [], (vint w32 (h .handed) ∷ [], (vint w32 (h .opened) ∷ [], tt)))))), tt)
+  to-call = (
+    (
+      (κ₀, (κ₁, (κ₃, tt))),
+      (q₀, (q₁, (q₃, tt))),
+      tt,
+      passed,
+      (
+        val g ∷ [],
+        (val u ∷ [], (val t ∷ [], (vint w32 (h .handed) ∷ [], (vint w32 (h .opened) ∷ [], tt)))),
+      ),
+    ),
+    tt,
+  )
 
   -- what each slice owns
   abbrev OwnG : Fml
@@ -110,23 +127,32 @@ module _ {M : Type 1} (𝓤 : URA M) (H : Heap 𝓤) (A : Atoms 𝓤) (W : Given
   OwnU = ShrSlice (named 1) κ₁ u8 .own u (val u ∷ [])
 
   abbrev Slices : Fml
-  Slices = owns (ShrSlice (named 0) κ₀ u8 ∷ ShrSlice (named 1) κ₁ u8 ∷ MutSlice (named 3) κ₃ u32 ∷ []) (g, (u, (t, tt))) (val g ∷ [], (val u ∷ [], (val t ∷ [], tt)))
+  Slices = owns (ShrSlice (named 0) κ₀ u8 ∷ ShrSlice (named 1) κ₁ u8 ∷ MutSlice (named 3) κ₃ u32 ∷ []) (g, (u, (t, tt)))
+      (val g ∷ [], (val u ∷ [], (val t ∷ [], tt)))
 
-  goes : h .handed < 2 ^ 32 → h .opened < 2 ^ 32 → ent 𝓤 (⋆ 𝓤 H A ((‵ (flft κ₀ q₀) ⊛ ‵ (flft κ₁ q₁) ⊛ ‵ (flft κ₃ q₃) ⊛ ‵ ftrue) ∷ ‵ Slices ∷ [])) (CallT 𝓤 H A at-mem run .pre to-call)
+  goes : h .handed < 2 ^ 32 → h .opened < 2 ^ 32 → ent 𝓤 (⋆ 𝓤 H A ((‵ (flft κ₀ q₀) ⊛ ‵ (flft κ₁ q₁) ⊛ ‵ (flft κ₃ q₃) ⊛ ‵ ftrue) ∷ ‵ Slices ∷ []))
+      (CallT 𝓤 H A at-mem run .pre to-call)
   goes fh fo =
-      qed W ((‵ (flft κ₀ q₀) ⊛ ‵ (flft κ₁ q₁) ⊛ ‵ (flft κ₃ q₃) ⊛ ‵ ftrue) ∷ ‵ Slices ∷ []) ∵ move ! (1 ∷ []) $ fsplit ! $ move ! (1 ∷ []) $ fsplit ! $ move ! (1 ∷ []) $ fsplit ! $
+      qed W ((‵ (flft κ₀ q₀) ⊛ ‵ (flft κ₁ q₁) ⊛ ‵ (flft κ₃ q₃) ⊛ ‵ ftrue) ∷ ‵ Slices ∷ []) ∵ move ! (1 ∷ []) $ fsplit ! $ move ! (1 ∷ []) $ fsplit ! $
+      move ! (1 ∷ []) $ fsplit ! $
       -- [table; true; u; g; the tokens]
-      owned ! u32 (Is u32) (uint-makes 𝓤 H A W w32) (h .opened) _ (refl, fo) $ move ! (0 ∷ 2 ∷ []) $ fjoin ! $ owned ! u32 (Is u32) (uint-makes 𝓤 H A W w32) (h .handed) _ (refl, fh) $ fjoin ! $
+      owned ! u32 (Is u32) (uint-makes 𝓤 H A W w32) (h .opened) _ (refl, fo) $ move ! (0 ∷ 2 ∷ []) $ fjoin ! $
+      owned ! u32 (Is u32) (uint-makes 𝓤 H A W w32) (h .handed) _ (refl, fh) $ fjoin ! $
       move ! (1 ∷ 0 ∷ []) $ fjoin ! $ move ! (1 ∷ 0 ∷ []) $ fjoin ! $ move ! (1 ∷ 0 ∷ []) $ fjoin ! $ move ! (1 ∷ 0 ∷ []) $ join ! $ frame ! $ done !
 
   exits : (r : Moved) (xs : List ℕ) → Said r xs → length xs ≡ length (t .now) → mag (r .code) < 2 ^ hbits w32
-      → ent 𝓤 (⋆ 𝓤 H A (‵ (fobs γ (T.the-row .coded .code (placeAt (r .handed) (r .opened)))) ∷ ‵ (fbor κ₂ (Body (mem T.the-row) b o γ)) ∷ ‵ (flft κ₂ q₂) ∷ (‵ (flft κ₀ q₀) ⊛ ‵ (flft κ₁ q₁) ⊛ ‵ (flft κ₃ q₃) ⊛ ‵ ftrue) ∷ ‵ (finally u32 (t .name) xs) ∷ ‵ OwnG ∷ ‵ OwnU ∷ [])) (Post (vint w32 (ofZ w32 (r .code))))
+      → ent 𝓤 (⋆ 𝓤 H A (‵ (fobs γ (T.the-row .coded .code (placeAt (r .handed) (r .opened)))) ∷ ‵ (fbor κ₂ (Body (mem T.the-row) b o γ)) ∷ ‵ (flft κ₂ q₂) ∷
+      (‵ (flft κ₀ q₀) ⊛ ‵ (flft κ₁ q₁) ⊛ ‵ (flft κ₃ q₃) ⊛ ‵ ftrue) ∷ ‵ (finally u32 (t .name) xs) ∷ ‵ OwnG ∷ ‵ OwnU ∷ [])) (Post (vint w32 (ofZ w32 (r .code))))
   exits r xs e lx fits =
-      qed W (‵ (fobs γ (T.the-row .coded .code (placeAt (r .handed) (r .opened)))) ∷ ‵ (fbor κ₂ (Body (mem T.the-row) b o γ)) ∷ ‵ (flft κ₂ q₂) ∷ (‵ (flft κ₀ q₀) ⊛ ‵ (flft κ₁ q₁) ⊛ ‵ (flft κ₃ q₃) ⊛ ‵ ftrue) ∷ ‵ (finally u32 (t .name) xs) ∷ ‵ OwnG ∷ ‵ OwnU ∷ []) ∵
-      suffices ! _ (ends-at 𝓤 H A opening.ended stayed (opening.clauses 𝓤 H A at-mem run) W (((κ₀, (κ₁, (κ₂, (κ₃, tt)))), (q₀, (q₁, (q₂, (q₃, tt)))), tt, a, vals), tt) (vint w32 (ofZ w32 (r .code))) (r .code) (tt, (tt, (placeAt (r .handed) (r .opened), (xs, tt)))) (tt, (tt, (tt, (lx, tt))))) $
+      qed W (‵ (fobs γ (T.the-row .coded .code (placeAt (r .handed) (r .opened)))) ∷ ‵ (fbor κ₂ (Body (mem T.the-row) b o γ)) ∷ ‵ (flft κ₂ q₂) ∷
+      (‵ (flft κ₀ q₀) ⊛ ‵ (flft κ₁ q₁) ⊛ ‵ (flft κ₃ q₃) ⊛ ‵ ftrue) ∷ ‵ (finally u32 (t .name) xs) ∷ ‵ OwnG ∷ ‵ OwnU ∷ []) ∵
+      suffices ! _ (ends-at 𝓤 H A opening.ended stayed (opening.clauses 𝓤 H A at-mem run) W
+      (((κ₀, (κ₁, (κ₂, (κ₃, tt)))), (q₀, (q₁, (q₂, (q₃, tt)))), tt, a, vals), tt) (vint w32 (ofZ w32 (r .code))) (r .code)
+      (tt, (tt, (placeAt (r .handed) (r .opened), (xs, tt)))) (tt, (tt, (tt, (lx, tt))))) $
       says ! e $
       -- the tokens
-      move ! (3 ∷ []) $ split ! $ move ! (1 ∷ []) $ split ! $ move ! (5 ∷ 1 ∷ []) $ join ! $ move ! (1 ∷ 0 ∷ []) $ join ! $ move ! (1 ∷ 0 ∷ []) $ join ! $ frame ! $
+      move ! (3 ∷ []) $ split ! $ move ! (1 ∷ []) $ split ! $ move ! (5 ∷ 1 ∷ []) $ join ! $ move ! (1 ∷ 0 ∷ []) $ join ! $ move ! (1 ∷ 0 ∷ []) $ join ! $
+      frame ! $
       -- [obs; the borrow; table's last; g; u]
       nothing ! $ move ! (3 ∷ 0 ∷ []) $ fjoin ! $ move ! (1 ∷ 2 ∷ []) $ feqI ! (List Val) (vptr b o ∷ []) (vptr b o ∷ []) refl $ fjoin3 ! $ fjoin ! $
       move ! (2 ∷ 0 ∷ []) $ fjoin ! $ move ! (1 ∷ 0 ∷ []) $ fjoin ! $ frame ! $
@@ -134,56 +160,99 @@ module _ {M : Type 1} (𝓤 : URA M) (H : Heap 𝓤) (A : Atoms 𝓤) (W : Given
 
   module _ (C : Calls 𝓤 H) (Λ : Loops 𝓤 H) (fm : FmC 𝓤 H (W .laws) C) (known : Triple 𝓤 (C #spireyerba·open-call) (CallT 𝓤 H A at-mem run)) where
     walk : Is (ShrSlice (named 0) κ₀ u8) g (val g ∷ []) → Is (ShrSlice (named 1) κ₁ u8) u (val u ∷ []) → Is (MutSlice (named 3) κ₃ u32) t (val t ∷ [])
-        → ent 𝓤 (onEntry 𝓤 H A opening.signature (κ₀, (κ₁, (κ₂, (κ₃, tt)))) (q₀, (q₁, (q₂, (q₃, tt)))) a vals) (WpFn 𝓤 H C Λ code.function (val g ∷ val u ∷ vptr b o ∷ val t ∷ []) Post)
+        → ent 𝓤 (onEntry 𝓤 H A opening.signature (κ₀, (κ₁, (κ₂, (κ₃, tt)))) (q₀, (q₁, (q₂, (q₃, tt)))) a vals)
+        (WpFn 𝓤 H C Λ code.function (val g ∷ val u ∷ vptr b o ∷ val t ∷ []) Post)
     walk pg pu pt =
-        qed W ((‵ (flft κ₀ q₀) ⊛ ‵ (flft κ₁ q₁) ⊛ ‵ (flft κ₂ q₂) ⊛ ‵ (flft κ₃ q₃) ⊛ ‵ ftrue) ∷ ‵ (owns (ShrSlice (named 0) κ₀ u8 ∷ ShrSlice (named 1) κ₁ u8 ∷ MutRef (named 2) κ₂ T.the-row ∷ MutSlice (named 3) κ₃ u32 ∷ []) a vals) ∷ []) ∵ enter ! C Λ code.function (val g ∷ val u ∷ vptr b o ∷ val t ∷ []) _ $
-        alloc1 ! (λ l0. alloc1 ! (λ l1. alloc1 ! (λ l2. alloc1 ! (λ l3. alloc1 ! (λ l4. alloc1 ! (λ l5. alloc1 ! (λ l6. alloc1 ! (λ l7. alloc1 ! (λ l8. alloc1 ! (λ l9. alloc0 ! $ params1 ! $
-        pass1 ! (init ! 16 refl (tt, (tt, (record { fits = pg .0 .1 .0 }, tt)))) $ pass1 ! (init ! 14 refl (tt, (tt, (record { fits = pu .0 .1 .0 }, tt)))) $ pass1 ! (init ! 12 refl (tt, tt)) $
+        qed W ((‵ (flft κ₀ q₀) ⊛ ‵ (flft κ₁ q₁) ⊛ ‵ (flft κ₂ q₂) ⊛ ‵ (flft κ₃ q₃) ⊛ ‵ ftrue) ∷ ‵
+        (owns (ShrSlice (named 0) κ₀ u8 ∷ ShrSlice (named 1) κ₁ u8 ∷ MutRef (named 2) κ₂ T.the-row ∷ MutSlice (named 3) κ₃ u32 ∷ []) a vals) ∷ []) ∵ enter ! C Λ
+        code.function (val g ∷ val u ∷ vptr b o ∷ val t ∷ []) _ $
+        alloc1 ! (λ l0. alloc1 ! (λ l1. alloc1 ! (λ l2. alloc1 ! (λ l3. alloc1
+        ! (λ l4. alloc1 ! (λ l5. alloc1 ! (λ l6. alloc1 ! (λ l7. alloc1 ! (λ l8. alloc1 ! (λ l9. alloc0 ! $ params1 ! $
+        pass1 ! (init ! 16 refl (tt, (tt, (record { fits = pg .0 .1 .0 }, tt)))) $ pass1 ! (init ! 14 refl (tt, (tt, (record { fits = pu .0 .1 .0 }, tt)))) $
+        pass1 ! (init ! 12 refl (tt, tt)) $
         pass1 ! (init ! 10 refl (tt, (tt, (record { fits = pt .0 .1 .0 }, tt)))) $ pass0 ! $
         -- the place's borrow is opened
         move ! (21 ∷ []) $ fsplit ! $ move ! (1 ∷ []) $ fsplit ! $ move ! (1 ∷ []) $ fsplit ! $ fsplit3 ! $ drop ! $
         move ! (25 ∷ []) $ split ! $ move ! (1 ∷ []) $ split ! $ move ! (1 ∷ []) $ split ! $ move ! (4 ∷ 5 ∷ 0 ∷ []) $
-        opens ! tt T.the-row {h = h} b o (λ vs. spelt ! T.the-row (Is T.the-row) (shows 𝓤 H A T.the-row) (LL.vals T.the-type T′.the-laws) (LL.tells T.the-type T′.the-laws) fullShare h vs b o $
-        move ! (1 ∷ []) $ peeks ! T.the-row (Is T.the-row) (shows 𝓤 H A T.the-row) h (mach (h .handed) (h .opened) ∷ []) (λ is-h. let fields = LL.owed T.the-type T′.the-laws h _ is-h in move ! (1 ∷ 0 ∷ []) $
+        opens ! tt T.the-row {h = h} b o (λ vs. spelt ! T.the-row (Is T.the-row) (shows 𝓤 H A T.the-row) (LL.vals T.the-type T′.the-laws)
+        (LL.tells T.the-type T′.the-laws) fullShare h vs b o $
+        move ! (1 ∷ []) $ peeks ! T.the-row (Is T.the-row) (shows 𝓤 H A T.the-row) h (mach (h .handed) (h .opened) ∷ [])
+        (λ is-h. let fields = LL.owed T.the-type T′.the-laws h _ is-h in move ! (1 ∷ 0 ∷ []) $
         -- [the place's cell; what a Place owns; the open borrow; obs; auth; table's token; u's; g's; what table owns; u; g; _9; …; room for _0; …]
-        assigns ! (of-opd ! (load ! (from ! (hop ! (look ! 23 refl) (fld ! refl (stop !)))) (look-in ! 0 (sub ! 0 refl (whole !))))) (from ! (stop !)) (init ! 19 refl (tt, record { fits = fields .0 .1 })) $
-        assigns ! (of-opd ! (load ! (from ! (hop ! (look ! 23 refl) (fld ! refl (stop !)))) (look-in ! 0 (sub ! 1 refl (whole !))))) (from ! (stop !)) (init ! 17 refl (tt, record { fits = fields .1 .0 .1 })) $
+        assigns ! (of-opd ! (load ! (from ! (hop ! (look ! 23 refl) (fld ! refl (stop !)))) (look-in ! 0 (sub ! 0 refl (whole !))))) (from ! (stop !))
+        (init ! 19 refl (tt, record { fits = fields .0 .1 })) $
+        assigns ! (of-opd ! (load ! (from ! (hop ! (look ! 23 refl) (fld ! refl (stop !)))) (look-in ! 0 (sub ! 1 refl (whole !))))) (from ! (stop !))
+        (init ! 17 refl (tt, record { fits = fields .1 .0 .1 })) $
         assigns ! (addr ! (from ! (fld ! refl (hop ! (look-in ! 21 (sub ! 0 refl (whole !))) (stop !))))) (from ! (stop !)) (init ! 13 refl (tt, tt)) $
-        assigns ! (agg ! (and-then ! (load ! (from ! (stop !)) (look ! 13 refl)) (and-then ! (load ! (from ! (fld ! refl (stop !))) (look-in ! 21 (sub ! 1 refl (whole !)))) (no-more !)))) (from ! (stop !)) (init ! 11 refl (tt, (tt, (record { fits = pt .0 .1 .0 }, tt)))) $
+        assigns ! (agg ! (and-then ! (load ! (from ! (stop !)) (look ! 13 refl))
+        (and-then ! (load ! (from ! (fld ! refl (stop !))) (look-in ! 21 (sub ! 1 refl (whole !)))) (no-more !)))) (from ! (stop !))
+        (init ! 11 refl (tt, (tt, (record { fits = pt .0 .1 .0 }, tt)))) $
         -- the tokens, and copies of g and u, go to `open_call`, and table for good
-        move ! (6 ∷ 5 ∷ []) $ join ! $ move ! (6 ∷ 0 ∷ []) $ join ! $ move ! (7 ∷ []) $ use1 W (‵ OwnU ⊛ ‵ OwnU) (shr-slice-copy 𝓤 H A W (named 1) κ₁ u8 .twice u (val u ∷ [])) $ split ! $
+        move ! (6 ∷ 5 ∷ []) $ join ! $ move ! (6 ∷ 0 ∷ []) $ join ! $ move ! (7 ∷ []) $
+        use1 W (‵ OwnU ⊛ ‵ OwnU) (shr-slice-copy 𝓤 H A W (named 1) κ₁ u8 .twice u (val u ∷ [])) $ split ! $
         move ! (9 ∷ []) $ use1 W (‵ OwnG ⊛ ‵ OwnG) (shr-slice-copy 𝓤 H A W (named 0) κ₀ u8 .twice g (val g ∷ [])) $ split ! $
-        move ! (2 ∷ 10 ∷ []) $ fjoin ! $ move ! (1 ∷ 0 ∷ []) $ fjoin ! $ move ! (3 ∷ 0 ∷ []) $ use2 W (raw (CallT 𝓤 H A at-mem run .pre to-call)) (goes (fields .0 .1) (fields .1 .0 .1)) $
-        calls-at ! fm (CallT 𝓤 H A at-mem run) known to-call (and-then ! (load ! (from ! (stop !)) (look ! 24 refl)) (and-then ! (load ! (from ! (stop !)) (look ! 22 refl)) (and-then ! (load ! (from ! (stop !)) (look ! 8 refl)) (and-then ! (load ! (from ! (stop !)) (look ! 16 refl)) (and-then ! (load ! (from ! (stop !)) (look ! 14 refl)) (no-more !)))))) (λ v.
-        use1 W (later (some (λ (r : Moved). ((‵ (flft κ₀ q₀) ⊛ ‵ (flft κ₁ q₁) ⊛ ‵ (flft κ₃ q₃) ⊛ ‵ ftrue) ⊛ ‵ (S.the-row .own r (v ∷ []))) ⊛ raw (ensured 𝓤 H A call.ended (call.clauses 𝓤 H A at-mem run) (κ₀, (κ₁, (κ₃, tt))) passed tt r)))) (id⊢ 𝓤 _) $ await ! tt $ pick ! (λ r.
-        split ! $ move ! (1 ∷ []) $ use1 W (some (λ (zs : Unit {0} × (Unit {0} × (List ℕ × (Unit {0} × (Unit {0} × Unit {0}))))). ‵ (lasts call.ended (κ₀, (κ₁, (κ₃, tt))) passed zs) ⊛ raw (fact 𝓤 (Said r (zs .1 .1 .0))))) (id⊢ 𝓤 _) $ pick ! (λ zs.
-        split ! $ move ! (1 ∷ []) $ heard ! (Said r (zs .1 .1 .0)) (λ e. fsplit ! $ drop ! $ fsplit ! $ drop ! $ fsplit ! $ fsplit ! $ move ! (1 ∷ []) $ feqL ! (λ lx. move ! (1 ∷ []) $ drop ! $
-        move ! (1 ∷ []) $ split ! $ move ! (1 ∷ []) $ peeks ! S.the-row (Is S.the-row) (shows 𝓤 H A S.the-row) r (v ∷ []) (λ is. let parts = LL.owed S.the-type S′.the-laws r _ is in
+        move ! (2 ∷ 10 ∷ []) $ fjoin ! $ move ! (1 ∷ 0 ∷ []) $ fjoin ! $ move ! (3 ∷ 0 ∷ []) $
+        use2 W (raw (CallT 𝓤 H A at-mem run .pre to-call)) (goes (fields .0 .1) (fields .1 .0 .1)) $
+        calls-at ! fm (CallT 𝓤 H A at-mem run) known to-call (and-then ! (load ! (from ! (stop !)) (look ! 24 refl))
+        (and-then ! (load ! (from ! (stop !)) (look ! 22 refl)) (and-then ! (load ! (from ! (stop !)) (look ! 8 refl))
+        (and-then ! (load ! (from ! (stop !)) (look ! 16 refl)) (and-then ! (load ! (from ! (stop !)) (look ! 14 refl)) (no-more !)))))) (λ v.
+        use1 W (later (some (λ (r : Moved). ((‵ (flft κ₀ q₀) ⊛ ‵ (flft κ₁ q₁) ⊛ ‵ (flft κ₃ q₃) ⊛ ‵ ftrue) ⊛ ‵ (S.the-row .own r (v ∷ []))) ⊛ raw
+        (ensured 𝓤 H A call.ended (call.clauses 𝓤 H A at-mem run) (κ₀, (κ₁, (κ₃, tt))) passed tt r)))) (id⊢ 𝓤 _) $ await ! tt $ pick ! (λ r.
+        split ! $ move ! (1 ∷ []) $ use1 W (some (λ (zs : Unit {0} × (Unit {0} × (List ℕ × (Unit {0} × (Unit {0} × Unit {0}))))). ‵
+        (lasts call.ended (κ₀, (κ₁, (κ₃, tt))) passed zs) ⊛ raw (fact 𝓤 (Said r (zs .1 .1 .0))))) (id⊢ 𝓤 _) $ pick ! (λ zs.
+        split ! $ move ! (1 ∷ []) $ heard ! (Said r (zs .1 .1 .0)) (λ e. fsplit ! $ drop ! $ fsplit ! $ drop ! $ fsplit ! $ fsplit ! $ move ! (1 ∷ []) $
+        feqL ! (λ lx. move ! (1 ∷ []) $ drop ! $
+        move ! (1 ∷ []) $ split ! $ move ! (1 ∷ []) $ peeks ! S.the-row (Is S.the-row) (shows 𝓤 H A S.the-row) r (v ∷ [])
+        (λ is. let parts = LL.owed S.the-type S′.the-laws r _ is in
         -- [what the result owns; the tokens; table's last; g; u; the place's cell; what a Place owns; the open borrow; obs; auth; _9; …]
-        land ! (from ! (stop !)) (init ! 14 refl (LL.lawful S.the-type S′.the-laws 𝓤 H A W .typed r _ is .0)) $ rewrite ! 14 (λ (x : Val). ‵ (fat fullShare S′.mir l7 0 x)) (ap only (LL.tells S.the-type S′.the-laws r (v ∷ []) is)) refl $
-        assigns ! (of-opd ! (load ! (from ! (fld ! refl (stop !))) (look-in ! 14 (sub ! 1 refl (whole !))))) (from ! (hop ! (look ! 22 refl) (fld ! refl (stop !)))) (store-in ! 5 (sub ! 0 refl (whole !)) (tt, record { fits = parts .1 .0 .1 })) $
-        assigns ! (of-opd ! (load ! (from ! (fld ! refl (stop !))) (look-in ! 14 (sub ! 2 refl (whole !))))) (from ! (hop ! (look ! 22 refl) (fld ! refl (stop !)))) (store-in ! 5 (sub ! 1 refl (whole !)) (tt, record { fits = parts .1 .1 .0 .1 })) $
-        assigns ! (of-opd ! (load ! (from ! (fld ! refl (stop !))) (look-in ! 14 (sub ! 0 refl (whole !))))) (from ! (stop !)) (init ! 28 refl (tt, ofZ-fits w32 (r .code) (record { sfits = parts .0 .1 }))) $
+        land ! (from ! (stop !)) (init ! 14 refl (LL.lawful S.the-type S′.the-laws 𝓤 H A W .typed r _ is .0)) $
+        rewrite ! 14 (λ (x : Val). ‵ (fat fullShare S′.mir l7 0 x)) (ap only (LL.tells S.the-type S′.the-laws r (v ∷ []) is)) refl $
+        assigns ! (of-opd ! (load ! (from ! (fld ! refl (stop !))) (look-in ! 14 (sub ! 1 refl (whole !)))))
+        (from ! (hop ! (look ! 22 refl) (fld ! refl (stop !)))) (store-in ! 5 (sub ! 0 refl (whole !)) (tt, record { fits = parts .1 .0 .1 })) $
+        assigns ! (of-opd ! (load ! (from ! (fld ! refl (stop !))) (look-in ! 14 (sub ! 2 refl (whole !)))))
+        (from ! (hop ! (look ! 22 refl) (fld ! refl (stop !)))) (store-in ! 5 (sub ! 1 refl (whole !)) (tt, record { fits = parts .1 .1 .0 .1 })) $
+        assigns ! (of-opd ! (load ! (from ! (fld ! refl (stop !))) (look-in ! 14 (sub ! 0 refl (whole !))))) (from ! (stop !))
+        (init ! 28 refl (tt, ofZ-fits w32 (r .code) (record { sfits = parts .0 .1 }))) $
         -- the place's borrow is closed at the new record
-        move ! (6 ∷ []) $ drop ! $ owned ! T.the-row (Is T.the-row) ((LL.makes T.the-type T′.the-plain) 𝓤 H A) (placeAt (r .handed) (r .opened)) _ (LL.owes T.the-type T′.the-laws (placeAt (r .handed) (r .opened)) (parts .1 .0, (parts .1 .1 .0, tt))) $
+        move ! (6 ∷ []) $ drop ! $ owned ! T.the-row (Is T.the-row) ((LL.makes T.the-type T′.the-plain) 𝓤 H A) (placeAt (r .handed) (r .opened)) _
+        (LL.owes T.the-type T′.the-laws (placeAt (r .handed) (r .opened)) (parts .1 .0, (parts .1 .1 .0, tt))) $
         move ! (6 ∷ 0 ∷ 7 ∷ 8 ∷ 9 ∷ []) $ closes ! tt T.the-row (placeAt (r .handed) (r .opened)) (mach (r .handed) (r .opened) ∷ []) b o $
         -- [obs; the borrow; the token; what the result owns; the tokens; table's last; g; u; _9; …]
-        returns ! (look ! 26 refl) $ forget ! 8 refl $ forget ! 10 refl $ forget ! 12 refl $ forget ! 14 refl $ forget ! 16 refl $ forget ! 18 refl $ forget ! 20 refl $ forget ! 22 refl $ forget ! 24 refl $ forget ! 26 refl $
-        move ! (26 ∷ 27 ∷ []) $ free1 ! $ move ! (24 ∷ 25 ∷ []) $ free1 ! $ move ! (22 ∷ 23 ∷ []) $ free1 ! $ move ! (20 ∷ 21 ∷ []) $ free1 ! $ move ! (18 ∷ 19 ∷ []) $ free1 ! $ move ! (16 ∷ 17 ∷ []) $ free1 ! $ move ! (14 ∷ 15 ∷ []) $ free1 ! $ move ! (12 ∷ 13 ∷ []) $ free1 ! $ move ! (10 ∷ 11 ∷ []) $ free1 ! $ move ! (8 ∷ 9 ∷ []) $ free1 ! $ free0 ! $
+        returns ! (look ! 26 refl) $ forget ! 8 refl $ forget ! 10 refl $ forget ! 12 refl $ forget ! 14 refl $ forget ! 16 refl $ forget ! 18 refl $
+        forget ! 20 refl $ forget ! 22 refl $ forget ! 24 refl $ forget ! 26 refl $
+        move ! (26 ∷ 27 ∷ []) $ free1 ! $ move ! (24 ∷ 25 ∷ []) $ free1 ! $ move ! (22 ∷ 23 ∷ []) $ free1 ! $ move ! (20 ∷ 21 ∷ []) $ free1 ! $
+        move ! (18 ∷ 19 ∷ []) $ free1 ! $ move ! (16 ∷ 17 ∷ []) $ free1 ! $ move ! (14 ∷ 15 ∷ []) $ free1 ! $ move ! (12 ∷ 13 ∷ []) $ free1 ! $
+        move ! (10 ∷ 11 ∷ []) $ free1 ! $ move ! (8 ∷ 9 ∷ []) $ free1 ! $ free0 ! $
         keep ! (0 ∷ 1 ∷ 2 ∷ 4 ∷ 5 ∷ 6 ∷ 7 ∷ []) $ by ! (exits r (zs .1 .1 .0) e lx (parts .0 .1))))))))))))))))))))
 
 module _ {M : Type 1} (𝓤 : URA M) (H : Heap 𝓤) (A : Atoms 𝓤) (W : Given 𝓤 H A) (mem : Memory → SProp 𝓤) (run : Routine → Fun 𝓤) where
-  opening-walks : (C : Calls 𝓤 H) (Λ : Loops 𝓤 H) → FmC 𝓤 H (W .laws) C → Triple 𝓤 (C #spireyerba·open-call) (CallT 𝓤 H A mem run) → Walks 𝓤 H A opening.ended stayed (WpFn 𝓤 H C Λ code.function) (opening.clauses 𝓤 H A mem run)
-  opening-walks C Λ fm known = walked 𝓤 H A opening.ended stayed (opening.clauses 𝓤 H A mem run) (WpFn 𝓤 H C Λ code.function) (λ κs. (slice-vals, (slice-vals, (ptr-vals, (slice-vals, tt)))))
-      (λ κs. (shr-slice-tells (named 0) (κs .0) u8, (shr-slice-tells (named 1) (κs .1 .0) u8, (mut-tells (named 2) (κs .1 .1 .0) T.the-row, (mut-slice-tells (named 3) (κs .1 .1 .1 .0) u32, tt)))))
-      (λ κs qs bounds a g are. via 𝓤 _ (fst∗ 𝓤 _ (emp 𝓤)) (walk 𝓤 H A W mem run (κs .0) (κs .1 .0) (κs .1 .1 .0) (κs .1 .1 .1 .0) (qs .0) (qs .1 .0) (qs .1 .1 .0) (qs .1 .1 .1 .0)
-      (a .1 .1 .0 .ptr .0) (a .1 .1 .0 .ptr .1) (a .1 .1 .0 .name) (a .1 .1 .0 .now) (a .0) (a .1 .0) (a .1 .1 .1 .0) C Λ fm known (are .0) (are .1 .0) (are .1 .1 .1 .0)))
+  opening-walks : (C : Calls 𝓤 H) (Λ : Loops 𝓤 H) → FmC 𝓤 H (W .laws) C → Triple 𝓤 (C #spireyerba·open-call) (CallT 𝓤 H A mem run)
+      → Walks 𝓤 H A opening.ended stayed (WpFn 𝓤 H C Λ code.function) (opening.clauses 𝓤 H A mem run)
+  opening-walks C Λ fm known = walked 𝓤 H A opening.ended stayed (opening.clauses 𝓤 H A mem run) (WpFn 𝓤 H C Λ code.function)
+      (λ κs. (slice-vals, (slice-vals, (ptr-vals, (slice-vals, tt)))))
+      (λ κs. (
+        shr-slice-tells (named 0) (κs .0) u8,
+        (
+          shr-slice-tells (named 1) (κs .1 .0) u8,
+          (mut-tells (named 2) (κs .1 .1 .0) T.the-row, (mut-slice-tells (named 3) (κs .1 .1 .1 .0) u32, tt)),
+        ),
+      ))
+      (λ κs qs bounds a g are. via 𝓤 _ (fst∗ 𝓤 _ (emp 𝓤)) (walk 𝓤 H A W mem run (κs .0) (κs .1 .0) (κs .1 .1 .0) (κs .1 .1 .1 .0) (qs .0) (qs .1 .0)
+      (qs .1 .1 .0) (qs .1 .1 .1 .0)
+      (a .1 .1 .0 .ptr .0) (a .1 .1 .0 .ptr .1) (a .1 .1 .0 .name) (a .1 .1 .0 .now) (a .0) (a .1 .0) (a .1 .1 .1 .0) C Λ fm known (are .0) (are .1 .0)
+      (are .1 .1 .1 .0)))
 
-opening-meets : {M : Type 1} (𝓤 : URA M) (H : Heap 𝓤) (A : Atoms 𝓤) → Given 𝓤 H A → (mem : Memory → SProp 𝓤) (run : Routine → Fun 𝓤) (𝓣 : Tables 𝓤 H) → Triple 𝓤 (𝓣 .C #spireyerba·open-call) (CallT 𝓤 H A mem run)
+opening-meets : {M : Type 1} (𝓤 : URA M) (H : Heap 𝓤) (A : Atoms 𝓤) → Given 𝓤 H A → (mem : Memory → SProp 𝓤) (run : Routine → Fun 𝓤) (𝓣 : Tables 𝓤 H)
+    → Triple 𝓤 (𝓣 .C #spireyerba·open-call) (CallT 𝓤 H A mem run)
     → Meets 𝓤 H A opening.signature (WpFn 𝓤 H (𝓣 .C) (𝓣 .Λ) code.function) (opening.spec 𝓤 H A mem run)
 opening-meets 𝓤 H A W mem run 𝓣 known =
-    walk-meets 𝓤 H A opening.ended stayed W
-    (goes-none-slice 𝓤 H A W 4 (0 ∷ []) tt U8S yes, (goes-none-slice 𝓤 H A W 4 (1 ∷ []) tt U8S yes, (goes-ref 𝓤 H A W 4 2 tt PlaceS, (goes-gave-slice 𝓤 H A W 4 3 tt U32S, tt)))) (opening.clauses 𝓤 H A mem run)
+    walk-meets 𝓤 H A opening.ended stayed W (
+      goes-none-slice 𝓤 H A W 4 (0 ∷ []) tt U8S yes,
+      (
+        goes-none-slice 𝓤 H A W 4 (1 ∷ []) tt U8S yes,
+        (goes-ref 𝓤 H A W 4 2 tt PlaceS, (goes-gave-slice 𝓤 H A W 4 3 tt U32S, tt)),
+      ),
+    ) (opening.clauses 𝓤 H A mem run)
     (WpFn 𝓤 H (𝓣 .C) (𝓣 .Λ) code.function) (WpFn-mono 𝓤 H (W .laws) 𝓣 code.function) (opening-walks 𝓤 H A W mem run (𝓣 .C) (𝓣 .Λ) (fmOf 𝓤 H (W .laws) 𝓣) known)
 
 pub spireyerba-open-spec : {M : Type 1} → stated.statement M
@@ -192,4 +261,5 @@ spireyerba-open-spec 𝓤 H 𝓜 𝓖 𝓡 =
     entered 𝓤 H (tripleOf 𝓤 H (𝓖 .A) opening.signature (opening.spec 𝓤 H (𝓖 .A) (𝓜 .mem) (𝓡 .run)))
     (tables 𝓤 H 𝓜 𝓡 code.env .C) (tables 𝓤 H 𝓜 𝓡 code.env .Λ) #spireyerba·spireyerba-open code.function (code.unfolded 𝓤 H 𝓜 𝓡)
     (opening-meets 𝓤 H (𝓖 .A) (givenOf 𝓤 H 𝓜 𝓖) (𝓜 .mem) (𝓡 .run) (tablesOf 𝓤 H 𝓜 (tables 𝓤 H 𝓜 𝓡 code.env))
-    (cited 𝓤 H (CallT 𝓤 H (𝓖 .A) (𝓜 .mem) (𝓡 .run)) 𝓜 𝓡 code.env #spireyerba·open-call call-def.routine code.calls-spireyerba·open-call (call-thm.met 𝓤 H 𝓜 𝓖 𝓡)))
+    (cited 𝓤 H (CallT 𝓤 H (𝓖 .A) (𝓜 .mem) (𝓡 .run)) 𝓜 𝓡 code.env #spireyerba·open-call call-def.routine code.calls-spireyerba·open-call
+    (call-thm.met 𝓤 H 𝓜 𝓖 𝓡)))

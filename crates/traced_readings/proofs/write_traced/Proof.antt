@@ -16,40 +16,49 @@ add-n c = search needs
 
 write-graph-reading-requires : tie.Need-write-graph-reading-requires
 write-graph-reading-requires c κs =
-    let a = c .before .before .before .before .before .before .before .before .args in
-    let form = c .before .before .before .before .before .before .before .before .pre .1 in
-    let edges = ap (λ (k : ℕ). (k / 2 + 1) / 2) (c .before .before .before .before .before .before .before .before .pre .5) in
-    let g = given (a .t .now) (a .rules .now) (a .d) (a .traced .rank) (form .some-place) (form .places) (a .form) form (c .before .before .if1 .taken) edges (c .before .before .before .before .before .before .before .before .pre .4) in
-    (g .some-edge, g .few, form .some-rule, form .rules, g .long, c .before .before .before .before .before .before .before .before .pre .3, g .room)
+    let at-args = c .before .before .before .before .before .before .before .before in
+    let a = at-args .args in
+    let form = at-args .pre .1 in
+    let edges = ap (λ (k : ℕ). (k / 2 + 1) / 2) (at-args .pre .5) in
+    let g = given (a .t .now) (a .rules .now) (a .d) (a .traced .rank) (form .some-place) (form .places) (a .form) form (c .before .before .if1 .taken) edges
+    (at-args .pre .4) in
+    (g .some-edge, g .few, form .some-rule, form .rules, g .long, at-args .pre .3, g .room)
 
 same-length : tie.Need-same-length
 same-length c = search needs
 
 returns : tie.Need-returns
 returns c =
-    let a = c .before .before .before .before .before .before .before .before .before .before .before .args in
-    let form = c .before .before .before .before .before .before .before .before .before .before .before .pre .1 in
-    let edges = ap (λ (k : ℕ). (k / 2 + 1) / 2) (c .before .before .before .before .before .before .before .before .before .before .before .pre .5) in
-    graph-written (a .t .now) (a .rules .now) (a .d) (a .traced .rank) (form .some-place) (form .places) (a .form) (a .out .now) (c .before .before .before .before .before .if1 .taken) edges
-    (c .before .before .before .before .before .before .root-weight .ensures) (c .before .before .before .before .before .before .before .before .before .before .before .pre .4) (c .before .before .write-graph-reading .ensures)
+    let at-if1 = c .before .before .before .before .before in
+    let at-root-weight = at-if1 .before in
+    let at-args = at-root-weight .before .before .before .before .before in
+    let a = at-args .args in
+    let form = at-args .pre .1 in
+    let edges = ap (λ (k : ℕ). (k / 2 + 1) / 2) (at-args .pre .5) in
+    graph-written (a .t .now) (a .rules .now) (a .d) (a .traced .rank) (form .some-place) (form .places) (a .form) (a .out .now) (at-if1 .if1 .taken) edges
+    (at-root-weight .root-weight .ensures) (at-args .pre .4) (c .before .before .write-graph-reading .ensures)
 
 write-reading-requires : tie.Need-write-reading-requires
 write-reading-requires c κs =
-    let a = c .before .before .before .before .before .before .before .args in
-    let form = c .before .before .before .before .before .before .before .pre .1 in
+    let at-args = c .before .before .before .before .before .before .before in
+    let a = at-args .args in
+    let form = at-args .pre .1 in
     let size : a .form .size ≡ readingLength (a .d .places) (a .form .rules) = rw (c .before .if1 .left) at (form .size) in
-    let long = trace-size (a .t .now) (a .rules .now) (a .d) (a .traced .rank) (form .some-place) (form .places) (c .before .before .before .before .before .before .before .pre .4) in
-    (form .some-place, form .places, form .some-rule, form .rules, omega (arith, long, form .places), omega (arith, size, c .before .before .before .before .before .before .before .pre .3))
+    let long = trace-size (a .t .now) (a .rules .now) (a .d) (a .traced .rank) (form .some-place) (form .places) (at-args .pre .4) in
+    (form .some-place, form .places, form .some-rule, form .rules, omega (arith, long, form .places), omega (arith, size, at-args .pre .3))
 
 same-length-2 : tie.Need-same-length-2
 same-length-2 c = search needs
 
 returns-2 : tie.Need-returns-2
 returns-2 c =
-    let a = c .before .before .before .before .before .before .before .before .before .before .args in
-    let form = c .before .before .before .before .before .before .before .before .before .before .pre .1 in
-    slots-written (a .t .now) (a .rules .now) (a .d) (a .traced .rank) (form .some-place) (form .places) (a .form) (a .out .now) form (c .before .before .before .before .if1 .left)
-    (c .before .before .before .before .before .root-weight .ensures) (c .before .before .before .before .before .before .before .before .before .before .pre .4) (c .before .before .write-reading .ensures)
+    let at-if1 = c .before .before .before .before in
+    let at-root-weight = at-if1 .before in
+    let at-args = at-root-weight .before .before .before .before .before in
+    let a = at-args .args in
+    let form = at-args .pre .1 in
+    slots-written (a .t .now) (a .rules .now) (a .d) (a .traced .rank) (form .some-place) (form .places) (a .form) (a .out .now) form (at-if1 .if1 .left)
+    (at-root-weight .root-weight .ensures) (at-args .pre .4) (c .before .before .write-reading .ensures)
 
 pub write-traced-spec : {M : Type 1} → statement M
 write-traced-spec =

@@ -23,13 +23,24 @@ store-requires : tie.Need-store-requires
 store-requires c κs = search needs
 
 returns : tie.Need-returns
-returns c = pair-unused (c .before .before .before .before .before .before .args .rules .now) (c .before .before .before .before .before .before .args .used .now) (c .before .before .before .before .before .before .args .rule) (c .before .before .before .before .before .before .args .edge) (c .before .before .rule-at .ensures) (c .before .before .before .wide .ensures .0) (c .enum-told .given .1)
+returns c =
+    let at-wide = c .before .before .before in
+    let at-args = at-wide .before .before .before in
+    pair-unused (at-args .args .rules .now) (at-args .args .used .now) (at-args .args .rule) (at-args .args .edge) (c .before .before .rule-at .ensures)
+    (at-wide .wide .ensures .0) (c .enum-told .given .1)
 
 same-length : tie.Need-same-length
 same-length c = search needs
 
 returns-2 : tie.Need-returns-2
-returns-2 c = word-used (c .before .before .before .before .before .before .before .before .before .before .before .args .rules .now) (c .before .before .before .before .before .before .before .before .before .before .before .args .used .now) (c .before .before .before .before .before .before .before .before .before .before .before .args .rule) (c .before .before .before .before .before .before .before .before .before .before .before .args .edge) (c .before .before .before .before .before .before .before .rule-at .ensures) (c .before .before .before .before .before .before .before .before .wide .ensures .0) (c .before .before .before .before .before .enum-told2 .given .1) (c .before .before .before .wide2 .ensures .0) (c .before .before .store .ensures)
+returns-2 c =
+    let at-wide2 = c .before .before .before in
+    let at-enum-told2 = at-wide2 .before .before in
+    let at-rule-at = at-enum-told2 .before .before in
+    let at-wide = at-rule-at .before in
+    let at-args = at-wide .before .before .before in
+    word-used (at-args .args .rules .now) (at-args .args .used .now) (at-args .args .rule) (at-args .args .edge) (at-rule-at .rule-at .ensures)
+    (at-wide .wide .ensures .0) (at-enum-told2 .enum-told2 .given .1) (at-wide2 .wide2 .ensures .0) (c .before .before .store .ensures)
 
 pub use-node-spec : {M : Type 1} → statement M
 use-node-spec =

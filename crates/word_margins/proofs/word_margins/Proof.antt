@@ -26,13 +26,20 @@ slice-aggregate-margins-read-2 : tie.Need-slice-aggregate-margins-read-2
 slice-aggregate-margins-read-2 c = search needs
 
 margins-read-requires : tie.Need-margins-read-requires
-margins-read-requires c κs = let k = rw (c .before .before .before .before .before .inputs .given .1) at (c .before .before .before .before .before .before .before .before .before .read-slot-inputs .ensures) in k .bounds
+margins-read-requires c κs =
+    let at-inputs = c .before .before .before .before .before in
+    let at-read-slot-inputs = at-inputs .before .before .before .before in
+    let k = rw (at-inputs .inputs .given .1) at (at-read-slot-inputs .read-slot-inputs .ensures) in
+    k .bounds
 
 returns : tie.Need-returns
 returns c =
-    let a = c .before .before .before .before .before .before .before .before .before .before .before .before .args in
+    let at-read-slot-inputs = c .before .before .before .before .before in
+    let at-args = at-read-slot-inputs .before .before .before .before .before .before .before in
+    let a = at-args .args in
     meant (a .grammar .now) (a .utterance .now) (a .work .now) (a .out .now)
-    (not-read (a .grammar .now) (a .utterance .now) (a .work .now) (a .out .now) (rw (c .before .n .given .1) at (c .before .before .before .before .before .read-slot-inputs .ensures)))
+    (not-read (a .grammar .now) (a .utterance .now) (a .work .now) (a .out .now)
+    (rw (c .before .n .given .1) at (at-read-slot-inputs .read-slot-inputs .ensures)))
 
 same-length : tie.Need-same-length
 same-length c = search needs
@@ -42,9 +49,13 @@ same-length-2 c = search needs
 
 returns-2 : tie.Need-returns-2
 returns-2 c =
-    let a = c .before .before .before .before .before .before .before .before .before .before .before .before .before .before .before .before .before .before .before .before .before .args in
-    let k = rw (c .before .before .before .before .before .before .before .before .before .before .inputs .given .1) at (c .before .before .before .before .before .before .before .before .before .before .before .before .before .before .read-slot-inputs .ensures) in
-    meant (a .grammar .now) (a .utterance .now) (a .work .now) (a .out .now) (c .before .before .before .before .margins-read .ensures _ _ _ _ k)
+    let at-margins-read = c .before .before .before .before in
+    let at-inputs = at-margins-read .before .before .before .before .before .before in
+    let at-read-slot-inputs = at-inputs .before .before .before .before in
+    let at-args = at-read-slot-inputs .before .before .before .before .before .before .before in
+    let a = at-args .args in
+    let k = rw (at-inputs .inputs .given .1) at (at-read-slot-inputs .read-slot-inputs .ensures) in
+    meant (a .grammar .now) (a .utterance .now) (a .work .now) (a .out .now) (at-margins-read .margins-read .ensures _ _ _ _ k)
 
 pub word-margins-spec : {M : Type 1} → statement M
 word-margins-spec =

@@ -38,18 +38,28 @@ same-length c = search needs
 
 returns : tie.Need-returns
 returns c =
-    let a = c .before .before .before .before .before .before .before .args in
-    let fit = sym (c .before .before .fitting .ensures) ∙ c .enum-told .given .1 in
-    (nothing-fits (rulesOf (a .rules .now) (a .count)) (slotsOf (a .slots .now) (a .at .left) (a .at .place)) (headsOf (a .stack .now) (a .at .height)) (a .at .weight) (a .r) fit, tt)
+    let at-args = c .before .before .before .before .before .before .before in
+    let a = at-args .args in
+    let fit = sym (c .before .before .fitting .ensures) ∙ c .enum-told .given .1 in (
+      nothing-fits (rulesOf (a .rules .now) (a .count)) (slotsOf (a .slots .now) (a .at .left) (a .at .place)) (headsOf (a .stack .now) (a .at .height))
+          (a .at .weight) (a .r) fit,
+      tt,
+    )
 
 same-length-2 : tie.Need-same-length-2
 same-length-2 c = search needs
 
 returns-2 : tie.Need-returns-2
 returns-2 c =
-    let a = c .before .before .before .before .before .before .before .before .before .before .before .before .args in
-    let fit = sym (c .before .before .before .before .before .before .before .fitting .ensures) ∙ c .before .before .before .before .before .first .given .1 in
-    (pair-fits (rulesOf (a .rules .now) (a .count)) (a .slots .now) (a .stack .now) (a .at) (a .r) (c .before .before .pair-step .last .0) (c .before .before .pair-step .result) fit (c .before .before .pair-step .ensures .0), c .before .before .pair-step .ensures .1)
+    let at-first = c .before .before .before .before .before in
+    let at-fitting = at-first .before .before in
+    let at-args = at-fitting .before .before .before .before .before in
+    let a = at-args .args in
+    let fit = sym (at-fitting .fitting .ensures) ∙ at-first .first .given .1 in (
+      pair-fits (rulesOf (a .rules .now) (a .count)) (a .slots .now) (a .stack .now) (a .at) (a .r) (c .before .before .pair-step .last .0)
+          (c .before .before .pair-step .result) fit (c .before .before .pair-step .ensures .0),
+      c .before .before .pair-step .ensures .1,
+    )
 
 same-length-3 : tie.Need-same-length-3
 same-length-3 c = search needs

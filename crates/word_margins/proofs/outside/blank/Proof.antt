@@ -12,7 +12,8 @@ use Rattle.word_margins.proofs.outside.blank.Statement.{statement}
 use Rattle.word_margins.proofs.outside.blank.Tie as tie
 
 abbrev Inv-loop : tie.InvT-loop
-Inv-loop t₀ count c₀ t c = (count ≡ length t₀ / 4) × (c ≤ count) × (length t ≡ length t₀) × (plain t ≡ plain t₀) × (fourths t ≡ replicate c 0 ++ drop c (fourths t₀))
+Inv-loop t₀ count c₀ t c = (count ≡ length t₀ / 4) × (c ≤ count) × (length t ≡ length t₀) × (plain t ≡ plain t₀)
+    × (fourths t ≡ replicate c 0 ++ drop c (fourths t₀))
 
 abbrev μ-loop : tie.MeasureT-loop
 μ-loop t₀ count c₀ t c = count - c
@@ -39,13 +40,26 @@ loop-less : tie.Need-loop-less Inv-loop μ-loop
 loop-less c = omega (arith, c .loop-test .taken)
 
 loop-again : tie.Need-loop-again Inv-loop μ-loop
-loop-again c = (c .before .loop .inv .0, omega (arith, c .loop-test .taken), simp length-set (c .before .loop .inv .2), plain-set (c .before .loop .t) (c .before .loop .c) 0 ∙ c .before .loop .inv .3, fourth-set (c .before .loop .t) (c .before .loop .c) 0 ∙ rw (c .before .loop .inv .4) (zeros-more (fourths (c .before .before .args .t .now)) (c .before .loop .c) (omega (arith, fourths-length (c .before .before .args .t .now), c .before .loop .inv .0, c .loop-test .taken))))
+loop-again c = (
+  c .before .loop .inv .0,
+  omega (arith, c .loop-test .taken),
+  simp length-set (c .before .loop .inv .2),
+  plain-set (c .before .loop .t) (c .before .loop .c) 0 ∙ c .before .loop .inv .3,
+  fourth-set (c .before .loop .t) (c .before .loop .c) 0
+      ∙ rw (c .before .loop .inv .4) (zeros-more (fourths (c .before .before .args .t .now)) (c .before .loop .c)
+      (omega (arith, fourths-length (c .before .before .args .t .now), c .before .loop .inv .0, c .loop-test .taken))),
+)
 
 same-length : tie.Need-same-length Inv-loop μ-loop
 same-length c = c .before .loop .inv .2
 
 returns : tie.Need-returns Inv-loop μ-loop
-returns c = let long = fourths-length (c .before .before .args .t .now) in (c .before .loop .inv .4 ∙ zeros-end (fourths (c .before .before .args .t .now)) (c .before .loop .c) (omega (arith, long, c .before .loop .inv .0, c .before .loop .inv .1)) (omega (arith, long, c .before .loop .inv .0, c .loop-test .left)) ∙ rw long, c .before .loop .inv .3)
+returns c =
+    let long = fourths-length (c .before .before .args .t .now) in (
+      c .before .loop .inv .4 ∙ zeros-end (fourths (c .before .before .args .t .now)) (c .before .loop .c)
+          (omega (arith, long, c .before .loop .inv .0, c .before .loop .inv .1)) (omega (arith, long, c .before .loop .inv .0, c .loop-test .left)) ∙ rw long,
+      c .before .loop .inv .3,
+    )
 
 pub blank-spec : {M : Type 1} → statement M
 blank-spec =

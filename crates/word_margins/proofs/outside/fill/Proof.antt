@@ -12,7 +12,8 @@ use Rattle.word_margins.proofs.outside.fill.Statement.{statement}
 use Rattle.word_margins.proofs.outside.fill.Tie as tie
 
 abbrev Inv-loop : tie.InvT-loop
-Inv-loop t₀ rules pass places x₀ t x = (x ≤ pass .table .places) × (length t ≡ length t₀) × (plain t ≡ plain t₀) × (fourths t ≡ iter (λ u y. overSpans u (plain t₀) rules pass (pass .table .places - y)) (fourths t₀) x)
+Inv-loop t₀ rules pass places x₀ t x = (x ≤ pass .table .places) × (length t ≡ length t₀) × (plain t ≡ plain t₀)
+    × (fourths t ≡ iter (λ u y. overSpans u (plain t₀) rules pass (pass .table .places - y)) (fourths t₀) x)
 
 abbrev μ-loop : tie.MeasureT-loop
 μ-loop t₀ rules pass places x₀ t x = pass .table .places - x
@@ -24,7 +25,13 @@ root-requires : tie.Need-root-requires Inv-loop μ-loop
 root-requires c κs = search needs
 
 cell-number-requires : tie.Need-cell-number-requires Inv-loop μ-loop
-cell-number-requires c κs = (c .before .before .before .before .before .before .before .before .before .pre .sized, rw (c .root .ensures) (omega arith), rw (c .root .ensures) (c .before .before .before .before .before .before .before .before .before .pre .some-place), rw (c .root .ensures) (c .before .before .before .before .before .before .before .before .before .pre .sized .places))
+cell-number-requires c κs =
+    let at-pre = c .before .before .before .before .before .before .before .before .before in (
+      at-pre .pre .sized,
+      rw (c .root .ensures) (omega arith),
+      rw (c .root .ensures) (at-pre .pre .some-place),
+      rw (c .root .ensures) (at-pre .pre .sized .places),
+    )
 
 lower-requires : tie.Need-lower-requires Inv-loop μ-loop
 lower-requires c κs = (c .cell-number .ensures .1, omega arith)
@@ -37,23 +44,58 @@ sub-over-spans : tie.Need-sub-over-spans Inv-loop μ-loop
 sub-over-spans c = omega (arith, c .before .loop-test .taken)
 
 over-spans-requires : tie.Need-over-spans-requires Inv-loop μ-loop
-over-spans-requires c κs = (c .before .before .before .before .before .before .before .before .before .before .before .before .before .before .before .before .pre, omega (arith, c .before .loop-test .taken), omega arith)
+over-spans-requires c κs =
+    let before-8 = c .before .before .before .before .before .before .before .before in
+    let at-pre = before-8 .before .before .before .before .before .before .before .before in
+    (at-pre .pre, omega (arith, c .before .loop-test .taken), omega arith)
 
 add-x : tie.Need-add-x Inv-loop μ-loop
-add-x c = omega (arith, c .before .before .before .before .before .before .before .before .before .before .before .before .before .before .before .before .before .before .before .pre .sized .places, c .before .before .before .before .loop-test .taken)
+add-x c =
+    let at-loop-test = c .before .before .before .before in
+    let before-12 = at-loop-test .before .before .before .before .before .before .before .before in
+    let at-pre = before-12 .before .before .before .before .before .before .before in
+    omega (arith, at-pre .pre .sized .places, at-loop-test .loop-test .taken)
 
 loop-less : tie.Need-loop-less Inv-loop μ-loop
 loop-less c = omega (arith, c .before .before .before .before .loop-test .taken)
 
 loop-again : tie.Need-loop-again Inv-loop μ-loop
-loop-again c = (omega (arith, c .before .before .before .before .loop-test .taken), c .before .before .over-spans .kept .0 ∙ c .before .before .before .before .before .loop .inv .1, c .before .before .over-spans .ensures .1 ∙ c .before .before .before .before .before .loop .inv .2, c .before .before .over-spans .ensures .0 ∙ rw (iter-more, ← c .before .before .before .before .before .loop .inv .3, c .before .before .before .before .before .loop .inv .2))
+loop-again c =
+    let at-loop-test = c .before .before .before .before in
+    let at-loop = at-loop-test .before in (
+      omega (arith, at-loop-test .loop-test .taken),
+      c .before .before .over-spans .kept .0 ∙ at-loop .loop .inv .1,
+      c .before .before .over-spans .ensures .1
+          ∙ at-loop .loop .inv .2,
+      c .before .before .over-spans .ensures .0 ∙ rw (iter-more, ← at-loop .loop .inv .3, at-loop .loop .inv .2),
+    )
 
 same-length : tie.Need-same-length Inv-loop μ-loop
-same-length c = c .before .loop .inv .1 ∙ c .before .before .before .before .lower .kept .0 ∙ c .before .before .before .before .before .before .before .before .before .before .blank .kept .0
+same-length c =
+    let at-lower = c .before .before .before .before in
+    let at-blank = at-lower .before .before .before .before .before .before in
+    c .before .loop .inv .1 ∙ at-lower .lower .kept .0 ∙ at-blank .blank .kept .0
 
 returns : tie.Need-returns Inv-loop μ-loop
 unfolding fill
-returns c = (c .before .loop .inv .3 ∙ iter-end _ _ _ _ (c .before .loop .inv .0) (c .loop-test .left) ∙ rw (c .before .before .before .before .lower .ensures .0, c .before .before .before .before .lower .ensures .1, c .before .before .before .before .before .before .before .before .before .before .blank .ensures .0, c .before .before .before .before .before .before .before .before .before .before .blank .ensures .1, c .before .before .before .before .before .cell-number .ensures .0, c .before .before .before .before .before .before .root .ensures, lower-zeros), c .before .loop .inv .2 ∙ c .before .before .before .before .lower .ensures .1 ∙ c .before .before .before .before .before .before .before .before .before .before .blank .ensures .1)
+returns c =
+    let at-lower = c .before .before .before .before in
+    let at-cell-number = at-lower .before in
+    let at-root = at-cell-number .before in
+    let at-blank = at-root .before .before .before .before in (
+      c .before .loop .inv .3 ∙ iter-end _ _ _ _ (c .before .loop .inv .0) (c .loop-test .left)
+          ∙ rw (
+            at-lower .lower .ensures .0,
+            at-lower .lower .ensures .1,
+            at-blank .blank .ensures .0,
+            at-blank .blank .ensures .1,
+            at-cell-number .cell-number .ensures .0,
+            at-root .root .ensures,
+            lower-zeros,
+          ),
+      c .before .loop .inv .2 ∙ at-lower .lower .ensures .1
+          ∙ at-blank .blank .ensures .1,
+    )
 
 pub fill-spec : {M : Type 1} → statement M
 fill-spec =

@@ -11,7 +11,12 @@ price-at-requires : tie.Need-price-at-requires
 price-at-requires c κs = search needs
 
 returns : tie.Need-returns
-returns c = (inside-none (c .before .before .before .args .t .now) (c .before .before .before .args .d) (c .before .before .before .args .c) (c .before .price-at .ensures .0) (c .if1 .taken) ∙ sym (inside-plain (c .before .before .before .args .t .now) (c .before .before .before .args .d) (c .before .before .before .args .c)), omega arith)
+returns c =
+    let at-args = c .before .before .before in (
+      inside-none (at-args .args .t .now) (at-args .args .d) (at-args .args .c) (c .before .price-at .ensures .0) (c .if1 .taken)
+          ∙ sym (inside-plain (at-args .args .t .now) (at-args .args .d) (at-args .args .c)),
+      omega arith,
+    )
 
 sub-result : tie.Need-sub-result
 sub-result c = search needs
@@ -20,7 +25,12 @@ add-result : tie.Need-add-result
 add-result c = search needs
 
 returns-2 : tie.Need-returns-2
-returns-2 c = (inside-some (c .before .before .before .args .t .now) (c .before .before .before .args .d) (c .before .before .before .args .c) (c .before .price-at .ensures .0) (c .if1 .left) ∙ sym (inside-plain (c .before .before .before .args .t .now) (c .before .before .before .args .d) (c .before .before .before .args .c)), omega (arith, c .before .price-at .ensures .1))
+returns-2 c =
+    let at-args = c .before .before .before in (
+      inside-some (at-args .args .t .now) (at-args .args .d) (at-args .args .c) (c .before .price-at .ensures .0) (c .if1 .left)
+          ∙ sym (inside-plain (at-args .args .t .now) (at-args .args .d) (at-args .args .c)),
+      omega (arith, c .before .price-at .ensures .1),
+    )
 
 pub inside-at-spec : {M : Type 1} → statement M
 inside-at-spec = tie.close (tie.spec price-at-requires returns sub-result add-result returns-2)

@@ -13,7 +13,12 @@ outside-at-requires : tie.Need-outside-at-requires
 outside-at-requires c κs = search needs
 
 returns : tie.Need-returns
-returns c = (join-no-outer (fourths (c .before .before .before .before .args .t .now)) (plain (c .before .before .before .before .args .t .now)) (c .before .before .before .before .args .d) (c .before .before .before .before .args .node) (c .before .before .before .before .args .other) (c .before .before .before .before .args .weight) (c .before .before .cell-number .ensures .0) (c .before .outside-at .ensures .0) (c .if1 .taken), omega arith)
+returns c =
+    let at-args = c .before .before .before .before in (
+      join-no-outer (fourths (at-args .args .t .now)) (plain (at-args .args .t .now)) (at-args .args .d) (at-args .args .node) (at-args .args .other)
+          (at-args .args .weight) (c .before .before .cell-number .ensures .0) (c .before .outside-at .ensures .0) (c .if1 .taken),
+      omega arith,
+    )
 
 cell-number-requires-2 : tie.Need-cell-number-requires-2
 cell-number-requires-2 c κs = search needs
@@ -22,7 +27,16 @@ inside-at-requires : tie.Need-inside-at-requires
 inside-at-requires c κs = search needs
 
 returns-2 : tie.Need-returns-2
-returns-2 c = (join-no-inner (fourths (c .before .before .before .before .before .before .before .args .t .now)) (plain (c .before .before .before .before .before .before .before .args .t .now)) (c .before .before .before .before .before .before .before .args .d) (c .before .before .before .before .before .before .before .args .node) (c .before .before .before .before .before .before .before .args .other) (c .before .before .before .before .before .before .before .args .weight) (c .before .before .before .before .before .cell-number .ensures .0) (c .before .before .before .before .outside-at .ensures .0) (c .before .before .before .if1 .left) (c .before .before .cell-number2 .ensures .0) (c .before .inside-at .ensures .0) (c .if2 .taken), omega arith)
+returns-2 c =
+    let at-if1 = c .before .before .before in
+    let at-outside-at = at-if1 .before in
+    let at-cell-number = at-outside-at .before in
+    let at-args = at-cell-number .before .before in (
+      join-no-inner (fourths (at-args .args .t .now)) (plain (at-args .args .t .now)) (at-args .args .d) (at-args .args .node) (at-args .args .other)
+          (at-args .args .weight) (at-cell-number .cell-number .ensures .0) (at-outside-at .outside-at .ensures .0) (at-if1 .if1 .left)
+          (c .before .before .cell-number2 .ensures .0) (c .before .inside-at .ensures .0) (c .if2 .taken),
+      omega arith,
+    )
 
 wide-requires : tie.Need-wide-requires
 wide-requires c κs = search needs
@@ -37,7 +51,17 @@ add-result-2 : tie.Need-add-result-2
 add-result-2 c = search needs
 
 returns-3 : tie.Need-returns-3
-returns-3 c = (join-both (fourths (c .before .before .before .before .before .before .before .before .args .t .now)) (plain (c .before .before .before .before .before .before .before .before .args .t .now)) (c .before .before .before .before .before .before .before .before .args .d) (c .before .before .before .before .before .before .before .before .args .node) (c .before .before .before .before .before .before .before .before .args .other) (c .before .before .before .before .before .before .before .before .args .weight) (c .before .before .before .before .before .before .cell-number .ensures .0) (c .before .before .before .before .before .outside-at .ensures .0) (c .before .before .before .before .if1 .left) (c .before .before .before .cell-number2 .ensures .0) (c .before .before .inside-at .ensures .0) (c .before .if2 .left) (c .wide .ensures .0), omega (arith, c .before .before .before .before .before .outside-at .ensures .1, c .before .before .inside-at .ensures .1, c .wide .ensures .1))
+returns-3 c =
+    let at-cell-number2 = c .before .before .before in
+    let at-if1 = at-cell-number2 .before in
+    let at-outside-at = at-if1 .before in
+    let at-cell-number = at-outside-at .before in
+    let at-args = at-cell-number .before .before in (
+      join-both (fourths (at-args .args .t .now)) (plain (at-args .args .t .now)) (at-args .args .d) (at-args .args .node) (at-args .args .other)
+          (at-args .args .weight) (at-cell-number .cell-number .ensures .0) (at-outside-at .outside-at .ensures .0) (at-if1 .if1 .left)
+          (at-cell-number2 .cell-number2 .ensures .0) (c .before .before .inside-at .ensures .0) (c .before .if2 .left) (c .wide .ensures .0),
+      omega (arith, at-outside-at .outside-at .ensures .1, c .before .before .inside-at .ensures .1, c .wide .ensures .1),
+    )
 
 pub join-at-spec : {M : Type 1} → statement M
 join-at-spec =

@@ -27,7 +27,12 @@ same-length : tie.Need-same-length
 same-length c = search needs
 
 returns : tie.Need-returns
-returns c = lower-told (c .before .before .before .before .before .before .before .before .args .t .now) (c .before .before .before .before .before .before .before .before .args .c) (c .before .before .before .before .before .before .before .before .args .x) (c .before .before .before .before .before .outside-at .ensures .0) (c .before .before .before .before .lesser .ensures .0) (c .before .before .store .ensures)
+returns c =
+    let at-lesser = c .before .before .before .before in
+    let at-outside-at = at-lesser .before in
+    let at-args = at-outside-at .before .before .before in
+    lower-told (at-args .args .t .now) (at-args .args .c) (at-args .args .x) (at-outside-at .outside-at .ensures .0) (at-lesser .lesser .ensures .0)
+    (c .before .before .store .ensures)
 
 pub lower-spec : {M : Type 1} → statement M
 lower-spec =

@@ -14,10 +14,14 @@ enum-known-rule : tie.Need-enum-known-rule
 enum-known-rule c = search needs
 
 lower-left-requires : tie.Need-lower-left-requires
-lower-left-requires c κs = (c .before .before .before .before .before .before .before .pre .0, record { from = c .before .before .before .before .before .before .before .pre .2; some = c .before .before .before .before .before .before .before .pre .3; to = omega (arith, c .before .before .before .before .before .before .before .pre .0 .places, c .before .before .before .before .before .before .before .pre .4) }, c .before .before .before .before .before .before .before .pre .4)
+lower-left-requires c κs =
+    let at-pre = c .before .before .before .before .before .before .before in
+    (at-pre .pre .0, record { from = at-pre .pre .2; some = at-pre .pre .3; to = omega (arith, at-pre .pre .0 .places, at-pre .pre .4) }, at-pre .pre .4)
 
 lower-right-requires : tie.Need-lower-right-requires
-lower-right-requires c κs = (c .before .before .before .before .before .before .before .before .before .before .before .pre .0, record { from = c .before .before .before .before .before .before .before .before .before .before .before .pre .2; some = c .before .before .before .before .before .before .before .before .before .before .before .pre .3; to = omega (arith, c .before .before .before .before .before .before .before .before .before .before .before .pre .0 .places, c .before .before .before .before .before .before .before .before .before .before .before .pre .4) })
+lower-right-requires c κs =
+    let at-pre = c .before .before .before .before .before .before .before .before .before .before .before in
+    (at-pre .pre .0, record { from = at-pre .pre .2; some = at-pre .pre .3; to = omega (arith, at-pre .pre .0 .places, at-pre .pre .4) })
 
 enum-told : tie.Need-enum-told
 enum-told c = search needs
@@ -26,10 +30,25 @@ same-length : tie.Need-same-length
 same-length c = search needs
 
 returns : tie.Need-returns
-returns c = (pair-lowered (fourths (c .before .before .before .before .before .before .before .before .before .before .before .before .before .before .args .t .now)) (plain (c .before .before .before .before .before .before .before .before .before .before .before .before .before .before .args .t .now)) (c .before .before .before .before .before .before .before .before .before .before .before .before .before .before .args .rules .now) (c .before .before .before .before .before .before .before .before .before .before .before .before .before .before .args .d) (c .before .before .before .before .before .before .before .before .before .before .before .before .before .before .args .from) (c .before .before .before .before .before .before .before .before .before .before .before .before .before .before .args .to) (c .before .before .before .before .before .before .before .before .before .before .before .before .before .before .args .r) (c .before .before .before .before .before .before .before .before .before .before .before .rule-at .ensures) (c .before .before .before .before .before .before .before .before .before .rule .given .1) (c .before .before .before .before .before .before .lower-left .ensures .0) (c .before .before .lower-right .ensures .0 ∙ rw (c .before .before .before .before .before .before .lower-left .ensures .1)), c .before .before .lower-right .ensures .1 ∙ c .before .before .before .before .before .before .lower-left .ensures .1)
+returns c =
+    let at-lower-left = c .before .before .before .before .before .before in
+    let at-rule = at-lower-left .before .before .before in
+    let at-rule-at = at-rule .before .before in
+    let at-args = at-rule-at .before .before .before in (
+      pair-lowered (fourths (at-args .args .t .now)) (plain (at-args .args .t .now)) (at-args .args .rules .now) (at-args .args .d) (at-args .args .from)
+          (at-args .args .to) (at-args .args .r) (at-rule-at .rule-at .ensures) (at-rule .rule .given .1) (at-lower-left .lower-left .ensures .0)
+          (c .before .before .lower-right .ensures .0 ∙ rw (at-lower-left .lower-left .ensures .1)),
+      c .before .before .lower-right .ensures .1
+          ∙ at-lower-left .lower-left .ensures .1,
+    )
 
 returns-2 : tie.Need-returns-2
-returns-2 c = (word-lowered (fourths (c .before .before .before .before .before .args .t .now)) (plain (c .before .before .before .before .before .args .t .now)) (c .before .before .before .before .before .args .rules .now) (c .before .before .before .before .before .args .d) (c .before .before .before .before .before .args .from) (c .before .before .before .before .before .args .to) (c .before .before .before .before .before .args .r) (c .before .before .rule-at .ensures) (c .enum-told .given .1), refl)
+returns-2 c =
+    let at-args = c .before .before .before .before .before in (
+      word-lowered (fourths (at-args .args .t .now)) (plain (at-args .args .t .now)) (at-args .args .rules .now) (at-args .args .d) (at-args .args .from)
+          (at-args .args .to) (at-args .args .r) (c .before .before .rule-at .ensures) (c .enum-told .given .1),
+      refl,
+    )
 
 pub lower-parts-spec : {M : Type 1} → statement M
 lower-parts-spec =

@@ -16,7 +16,13 @@ same-length : tie.Need-same-length
 same-length c = search needs
 
 returns : tie.Need-returns
-returns c = (right-passed (fourths (c .before .before .before .before .before .args .t .now)) (plain (c .before .before .before .before .before .args .t .now)) (c .before .before .before .before .before .args .d) (c .before .before .before .before .before .args .part) (c .before .before .before .before .before .args .head) (c .before .before .before .before .before .args .left) (c .before .before .before .before .before .args .weight) (c .before .before .before .cell-number .ensures .0) (c .before .inside-at .ensures .0) (c .if1 .taken), refl)
+returns c =
+    let at-cell-number = c .before .before .before in
+    let at-args = at-cell-number .before .before in (
+      right-passed (fourths (at-args .args .t .now)) (plain (at-args .args .t .now)) (at-args .args .d) (at-args .args .part) (at-args .args .head)
+          (at-args .args .left) (at-args .args .weight) (at-cell-number .cell-number .ensures .0) (c .before .inside-at .ensures .0) (c .if1 .taken),
+      refl,
+    )
 
 right-least-requires : tie.Need-right-least-requires
 right-least-requires c κs = (c .before .before .before .before .before .before .pre .0, c .before .before .before .before .before .before .pre .1)
@@ -28,7 +34,17 @@ same-length-2 : tie.Need-same-length-2
 same-length-2 c = search needs
 
 returns-2 : tie.Need-returns-2
-returns-2 c = (right-lowered (fourths (c .before .before .before .before .before .before .before .before .before .before .before .args .t .now)) (plain (c .before .before .before .before .before .before .before .before .before .before .before .args .t .now)) (c .before .before .before .before .before .before .before .before .before .before .before .args .d) (c .before .before .before .before .before .before .before .before .before .before .before .args .part) (c .before .before .before .before .before .before .before .before .before .before .before .args .head) (c .before .before .before .before .before .before .before .before .before .before .before .args .left) (c .before .before .before .before .before .before .before .before .before .before .before .args .weight) (c .before .before .before .before .before .before .before .before .before .cell-number .ensures .0) (c .before .before .before .before .before .before .before .inside-at .ensures .0) (c .before .before .before .before .before .before .if1 .left) (c .before .before .before .before .right-least .ensures .0) (c .before .before .lower .ensures .0), c .before .before .lower .ensures .1)
+returns-2 c =
+    let at-right-least = c .before .before .before .before in
+    let at-if1 = at-right-least .before .before in
+    let at-inside-at = at-if1 .before in
+    let at-cell-number = at-inside-at .before .before in
+    let at-args = at-cell-number .before .before in (
+      right-lowered (fourths (at-args .args .t .now)) (plain (at-args .args .t .now)) (at-args .args .d) (at-args .args .part) (at-args .args .head)
+          (at-args .args .left) (at-args .args .weight) (at-cell-number .cell-number .ensures .0) (at-inside-at .inside-at .ensures .0) (at-if1 .if1 .left)
+          (at-right-least .right-least .ensures .0) (c .before .before .lower .ensures .0),
+      c .before .before .lower .ensures .1,
+    )
 
 pub lower-right-spec : {M : Type 1} → statement M
 lower-right-spec =

@@ -11,7 +11,8 @@ use Rattle.word_margins.proofs.outside.over_rules.Statement.{statement}
 use Rattle.word_margins.proofs.outside.over_rules.Tie as tie
 
 abbrev Inv-loop : tie.InvT-loop
-Inv-loop t₀ rules count d from to r₀ t r = (r ≤ count) × (length t ≡ length t₀) × (plain t ≡ plain t₀) × (fourths t ≡ iter (λ u y. lowerParts u (plain t₀) d from to (ruleAt rules y)) (fourths t₀) r)
+Inv-loop t₀ rules count d from to r₀ t r = (r ≤ count) × (length t ≡ length t₀) × (plain t ≡ plain t₀)
+    × (fourths t ≡ iter (λ u y. lowerParts u (plain t₀) d from to (ruleAt rules y)) (fourths t₀) r)
 
 abbrev μ-loop : tie.MeasureT-loop
 μ-loop t₀ rules count d from to r₀ t r = count - r
@@ -21,7 +22,9 @@ unfolding iter
 loop-holds c = (omega arith, refl, refl, refl)
 
 lower-parts-requires : tie.Need-lower-parts-requires Inv-loop μ-loop
-lower-parts-requires c κs = (c .before .before .before .before .before .pre .0, omega (arith, c .before .before .before .before .before .pre .1, c .before .loop-test .taken), c .before .before .before .before .before .pre .2, c .before .before .before .before .before .pre .3, c .before .before .before .before .before .pre .4)
+lower-parts-requires c κs =
+    let at-pre = c .before .before .before .before .before in
+    (at-pre .pre .0, omega (arith, at-pre .pre .1, c .before .loop-test .taken), at-pre .pre .2, at-pre .pre .3, at-pre .pre .4)
 
 add-r : tie.Need-add-r Inv-loop μ-loop
 add-r c = omega (arith, c .before .before .before .before .before .before .before .before .pre .1, c .before .before .before .before .loop-test .taken)
@@ -30,7 +33,15 @@ loop-less : tie.Need-loop-less Inv-loop μ-loop
 loop-less c = omega (arith, c .before .before .before .before .loop-test .taken)
 
 loop-again : tie.Need-loop-again Inv-loop μ-loop
-loop-again c = (omega (arith, c .before .before .before .before .loop-test .taken), c .before .before .lower-parts .kept .0 ∙ c .before .before .before .before .before .loop .inv .1, c .before .before .lower-parts .ensures .1 ∙ c .before .before .before .before .before .loop .inv .2, c .before .before .lower-parts .ensures .0 ∙ rw (iter-more, ← c .before .before .before .before .before .loop .inv .3, c .before .before .before .before .before .loop .inv .2))
+loop-again c =
+    let at-loop-test = c .before .before .before .before in
+    let at-loop = at-loop-test .before in (
+      omega (arith, at-loop-test .loop-test .taken),
+      c .before .before .lower-parts .kept .0 ∙ at-loop .loop .inv .1,
+      c .before .before .lower-parts .ensures .1
+          ∙ at-loop .loop .inv .2,
+      c .before .before .lower-parts .ensures .0 ∙ rw (iter-more, ← at-loop .loop .inv .3, at-loop .loop .inv .2),
+    )
 
 same-length : tie.Need-same-length Inv-loop μ-loop
 same-length c = c .before .loop .inv .1
