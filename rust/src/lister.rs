@@ -123,11 +123,11 @@ impl Lister {
 
     /// How many readings to ask for first; a number that is refused is asked for as it is.
     fn few(&self, wanted: u32) -> u32 {
-        let above_last = (self.last as u32 + 1).next_power_of_two();
-        match wanted {
-            _ if wanted > self.most => wanted,
-            _ => wanted.min(above_last.max(FEW)),
+        if wanted > self.most {
+            return wanted;
         }
+        let above_last = (self.last as u32 + 1).next_power_of_two();
+        wanted.min(above_last.max(FEW))
     }
 
     /// Lists so many readings, of which the longest has so many words and bytes.

@@ -33,8 +33,8 @@ impl Source {
     pub fn pass_over(&mut self, lines: usize) -> std::io::Result<Result<(), usize>> {
         while self.taken < lines {
             let Some(mut piece) = self.next()? else { return Ok(Err(self.taken)) };
-            let ends = piece.text.iter().enumerate().filter(|(_, byte)| **byte == b'\n').map(|(at, _)| at + 1);
-            let Some(end) = { ends }.nth(lines - piece.before - 1) else {
+            let mut ends = piece.text.iter().enumerate().filter(|(_, byte)| **byte == b'\n').map(|(at, _)| at + 1);
+            let Some(end) = ends.nth(lines - piece.before - 1) else {
                 // the last line of all may have no end
                 self.taken += usize::from(!piece.text.ends_with(b"\n"));
                 continue;
@@ -50,18 +50,19 @@ impl Source {
     /// The next lines, as many as can be read at once, and at least one; nothing if there are none.
     pub fn next(&mut self) -> std::io::Result<Option<Piece>> {
         let mut text = std::mem::take(&mut self.rest);
-        loop {
+        let mut end = lines_end(&text, 0);
+        while end.is_none() {
             let known = text.len();
             text.resize(known + BYTES_AT_A_TIME, 0);
             let read = read_some(&mut self.file, &mut text[known..])?;
             text.truncate(known + read);
-            let end = text[known..].iter().rposition(|byte| *byte == b'\n').map(|at| known + at + 1);
-            match end {
-                Some(end) => self.rest = text.split_off(end),
-                None if read > 0 => continue,
-                None => {}
+            if read == 0 {
+                break;
             }
-            break;
+            end = lines_end(&text, known);
+        }
+        if let Some(end) = end {
+            self.rest = text.split_off(end);
         }
         if self.taken == 0 && text.starts_with(BYTE_ORDER_MARK) {
             text.drain(..BYTE_ORDER_MARK.len());
@@ -71,6 +72,11 @@ impl Source {
         self.taken += piece.text.iter().filter(|byte| **byte == b'\n').count();
         Ok((!piece.text.is_empty()).then_some(piece))
     }
+}
+
+/// Where the last whole line ends, if that is behind so many bytes.
+fn lines_end(text: &[u8], known: usize) -> Option<usize> {
+    text[known..].iter().rposition(|byte| *byte == b'\n').map(|at| known + at + 1)
 }
 
 /// Reads what there is, and tries again if it was interrupted.
