@@ -1,5 +1,6 @@
 //! The text of a word graph.
 
+use super::formats::Format;
 use super::lattice::is_lattice;
 use super::scan::{digits, weight, Token, Tokens, UTTERANCE};
 use super::utterance::UtteranceReader;
@@ -37,6 +38,10 @@ struct Lines {
 impl UtteranceReader<'_> {
     /// Reads the text of a word graph, or a lattice in any format.
     pub fn read_graph(&self, text: &str) -> Result<Graph, Error> {
+        let format = self.format.unwrap_or_else(|| Format::of(text));
+        if matches!(format, Format::Slots) {
+            return self.read_plain_graph(without_mark(text));
+        }
         match self.read_heard(text)?.heard {
             Heard::Graph(graph) => Ok(graph),
             Heard::Slots(utterance) => Ok(Graph::from(&utterance)),
@@ -167,9 +172,9 @@ fn place(token: Token, tokens: &Tokens) -> Result<u32, Error> {
 }
 
 impl NamedGrammar {
-    /// Reads the text of a word graph over this grammar's words, as [`UtteranceReader::read_graph`] does.
+    /// Reads the text of a word graph of whole numbers over this grammar's words.
     pub fn parse_graph(&self, text: &str) -> Result<Graph, Error> {
-        UtteranceReader::new(self).read_graph(text)
+        UtteranceReader::new(self).read_plain_graph(without_mark(text))
     }
 
     /// The text of a word graph over this grammar's words, from which [`parse_graph`](Self::parse_graph) reads it again:

@@ -14,7 +14,7 @@ use crate::{Error, Position};
 use std::collections::HashMap;
 
 /// The labels that say nothing.
-const EMPTY_LABELS: [&str; 3] = ["<eps>", "<epsilon>", "-"];
+const EMPTY_LABELS: [&str; 2] = ["<eps>", "<epsilon>"];
 /// What stands in texts of slots and graphs, and not in these.
 const OTHER_MARKS: [char; 4] = ['|', ';', '"', '#'];
 /// The seconds of a frame of Kaldi.

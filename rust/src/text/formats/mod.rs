@@ -191,7 +191,9 @@ impl UtteranceReader<'_> {
         };
         let fault = plain.as_ref().err().and_then(Error::fault);
         let is_wide = matches!(fault, Some(Fault::TooMany { within: "a slot", .. } | Fault::Deletion));
-        let is_other_fst = self.format.is_none() && fault.is_some_and(is_plain_fault) && fst::is_fst(text);
+        // where states are numbered otherwise, and only there, it is OpenFst's
+        let is_fst = || fst::is_fst(text) && fst::parse_openfst(text).and_then(|draft| draft.recognised(self)).is_ok();
+        let is_other_fst = self.format.is_none() && fault.is_some_and(is_plain_fault) && is_fst();
         (!is_wide && !is_other_fst).then_some(plain)
     }
 
