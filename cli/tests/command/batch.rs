@@ -153,7 +153,7 @@ door 1;\tfour 2; oak 3
     let begins = [
         format!(r#"{{"line":1,"id":"utt-1",{reading}"#),
         format!(r#"{{"line":2,"id":"17",{reading}"#),
-        r#"{"line":3,"error":"<stdin>:3:6: "#.into(),
+        r#"{"line":3,"error":"<stdin>:3:1: refused 14: the grammar has no word `odd`"}"#.into(),
         r#"{"line":4,"id":"b\\c","error":"<stdin>:4:13: refused 14: the grammar has no word `green`"}"#.into(),
         format!(r#"{{"line":5,{reading}"#),
         format!(r#"{{"line":6,{reading}"#),
@@ -171,10 +171,11 @@ fn equal_messages_are_counted() {
     let text = "door 1; green 2\n".repeat(15) + &"door x\n".repeat(11) + "door 1; blue 2\n";
     let run = run_with(&doors(), "batch grammar.txt - -n 1", text.as_bytes());
     let green = |line| format!("<stdin>:{line}:9: refused 14: the grammar has no word `green`\n");
-    let number = |line| format!("<stdin>:{line}:6: `x` is not a whole number\n");
+    let no_cost = "`x` is no cost: a cost is 0 to 65535, digits only, and between slots stands `;`";
+    let number = |line| format!("<stdin>:{line}:6: {no_cost}\n");
     let mut expected: String = (1..=10).map(green).chain((16..=25).map(number)).collect();
     expected += "<stdin>:27:9: refused 14: the grammar has no word `blue`\n";
-    expected += "<stdin>: 1 more lines: `x` is not a whole number\n";
+    expected += &format!("<stdin>: 1 more lines: {no_cost}\n");
     expected += "<stdin>: 5 more lines: refused 14: the grammar has no word `green`\n";
     expected += "27 of 27 utterances refused\n";
     assert_eq!(run.err, expected);
