@@ -22,8 +22,8 @@ use line::Line;
 use sink::{Answers, Refused, Sink};
 use source::{Piece, Source};
 use spireyerba::limits::MAX_READINGS;
-use spireyerba::text::{is_graph, NamedGrammar, UtteranceReader};
-use spireyerba::{Distinct, Error, Found, Graph, Heard, Lister, Reading, Refusal};
+use spireyerba::text::{is_graph, Lattice, NamedGrammar, UtteranceReader};
+use spireyerba::{Distinct, Error, Found, Heard, Lister, Reading, Refusal};
 use std::borrow::Cow;
 use std::sync::Mutex;
 
@@ -208,9 +208,11 @@ impl<'a> Worker<'a> {
     fn answer(&mut self, line: &Line, json: &mut Vec<u8>) -> Result<(), Error> {
         let name = self.batch.name;
         let in_file = |error: Error| error.in_file(name).after_columns(line.columns()).after_lines(line.before);
-        let graph = self.read(line.heard).map_err(in_file)?.map(Heard::Graph);
-        let answered = self.answer_heard(graph.as_ref(), |json| line.begin(json), json);
+        let lattice = self.read(line.heard).map_err(in_file)?;
+        let heard = lattice.as_ref().map(|lattice| &lattice.heard);
+        let answered = self.answer_heard(heard, |json| line.begin(json), json);
         answered.map_err(|refusal| in_file(refusal.into()))?;
+        lattice.iter().for_each(|lattice| push_notes(json, lattice));
         json.extend_from_slice(b"}\n");
         Ok(())
     }
@@ -249,10 +251,10 @@ impl<'a> Worker<'a> {
     }
 
     /// Reads a line: a word graph, or else slots, whose block is then at hand.
-    fn read(&mut self, line: &str) -> Result<Option<Graph>, Error> {
+    fn read(&mut self, line: &str) -> Result<Option<Lattice>, Error> {
         let reader = &self.batch.reader;
         if line.trim_start().starts_with(|first: char| first.is_ascii_digit()) && is_graph(line) {
-            return reader.read_graph(line).map(Some);
+            return reader.read_heard(line).map(Some);
         }
         reader.read_block(line, &mut self.sheet, &mut self.block)?;
         Ok(None)

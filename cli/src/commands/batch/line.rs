@@ -57,6 +57,7 @@ fn is_name(text: &str) -> bool {
 /// a word that was heard, or a place.
 fn is_number_alone(text: &str) -> bool {
     let is_number = |item: &str| item.bytes().all(|byte| byte.is_ascii_digit());
-    let mut items = text.split_whitespace();
+    let mut items =
+        text.split(|letter: char| letter.is_whitespace() || "|;".contains(letter)).filter(|item| !item.is_empty());
     items.next().is_some_and(is_number) && !items.next().is_some_and(is_number)
 }
