@@ -100,7 +100,7 @@ module _ (grammar heard : List ℕ) (p : Place) (work out : List ℕ) where
     pub answered : (b : A.Answer) → a ≡ b → NextTold search (returned (nextCode b) (S.placeAfter b p) work′) out′
     answered b same =
         let due : b ≡ made .answer = sym same ∙ is .answer in
-        let place = λ (x : A.Answer). S.placeAfter x p in (
+        let place : A.Answer → Place = λ x. S.placeAfter x p in (
           record { code = ap nextCode due; place = ap place due; table = is .table; output = is .output },
           record {
             answer = a;
