@@ -67,8 +67,10 @@ module _ (grammar heard reading : List ℕ) (bytes : Bytes reading) where
 
   shown-once : {shares : List ℕ} {x y : Float} → Shown grammar heard reading shares x → Shown grammar heard reading shares y → y ≡ x
   shown-once {shares} a b =
-      let there : check grammar heard reading ≡ accepted (a .t) = accepts grammar heard reading bytes (a .g) (a .h) (a .grammar-accepted) (a .heard-accepted) (a .t) .1 (a .derivation, a .packing) in
-      let here : check grammar heard reading ≡ accepted (b .t) = accepts grammar heard reading bytes (b .g) (b .h) (b .grammar-accepted) (b .heard-accepted) (b .t) .1 (b .derivation, b .packing) in
+      let there : check grammar heard reading ≡ accepted (a .t) =
+      accepts grammar heard reading bytes (a .g) (a .h) (a .grammar-accepted) (a .heard-accepted) (a .t) .1 (a .derivation, a .packing) in
+      let here : check grammar heard reading ≡ accepted (b .t) =
+      accepts grammar heard reading bytes (b .g) (b .h) (b .grammar-accepted) (b .heard-accepted) (b .t) .1 (b .derivation, b .packing) in
       b .product ∙ ap (λ (t : Tree). productOf one (sharesOf shares (walk t))) (accepted-is (sym here ∙ there)) ∙ sym (a .product)
 
   pub chance-once : {shares : List ℕ} {float after after′ : Float} {code code′ : ℤ} → D.Chance grammar heard reading shares float code after

@@ -25,6 +25,13 @@ module _ (grammar utterance work out : List ℕ) where
   margins-told ec ew eo = record {
     demand-1 = asked-first length (askedMargins grammar utterance (length work) (length out)) (λ b. marginsOf (b .0) (b .1))
         (margins-asked grammar utterance (length work) (length out)) (margins-row grammar utterance (length work) (length out)) ec
-        (λ b p q. (marginsOf (b .0) (b .1), margins-listed grammar utterance work out (length work) (length out) p, refl, eo ∙ ap (λ (v : Verdict (List Entry)). outputAfter v out) q, ew ∙ ap (λ (v : Verdict (List Entry)). workAfter v work) q))
+        (λ b p q. (
+          marginsOf (b .0) (b .1),
+          margins-listed grammar utterance work out (length work) (length out) p,
+          refl,
+          eo
+              ∙ ap (λ (v : Verdict (List Entry)). outputAfter v out) q,
+          ew ∙ ap (λ (v : Verdict (List Entry)). workAfter v work) q,
+        ))
         (λ n p. (ew ∙ ap (λ (v : Verdict (List Entry)). workAfter v work) p, eo ∙ ap (λ (v : Verdict (List Entry)). outputAfter v out) p));
   }

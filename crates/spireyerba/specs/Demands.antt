@@ -15,7 +15,23 @@ use Rattle.packing.specs.Meaning.{Grammar, Heard}
 use Rattle.packing.specs.Parse.{Verdict, accepted, refused}
 use Rattle.packing.specs.Grammar.{markedBlock, grammarBlock}
 use Rattle.packing.specs.Conversion.{grammarToBlock, grammarToSheet, utteranceToBlock, utteranceToSheet, fitting, TurnsBack}
-use Rattle.packing.specs.Rows.{_∪_, GrammarBlockRow, UtteranceBlockRow, HeardBlockRow, ListingRow, PanelRow, SpecimenRow, ReadingBlockRow, SharesRow, RangesRow, GrammarSheetRow, UtteranceSheetRow, OfficeSheetRow, OfficeSizeRow, OutputRow}
+use Rattle.packing.specs.Rows.{
+  _∪_,
+  GrammarBlockRow,
+  UtteranceBlockRow,
+  HeardBlockRow,
+  ListingRow,
+  PanelRow,
+  SpecimenRow,
+  ReadingBlockRow,
+  SharesRow,
+  RangesRow,
+  GrammarSheetRow,
+  UtteranceSheetRow,
+  OfficeSheetRow,
+  OfficeSizeRow,
+  OutputRow,
+}
 use Rattle.office.specs.Office.{Office}
 use Rattle.office.specs.Sheet.{officeSheet}
 use Rattle.office.specs.Conversion.{convert, convertMarked}
