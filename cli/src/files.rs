@@ -5,10 +5,11 @@
 //! do blocks of utterances and readings.
 
 use crate::failure::Failure;
-use crate::options::{Arguments, DROP_DELETES, DROP_UNKNOWN, EMPTY, FILE, SCALE};
+use crate::options::{Arguments, DROP_DELETES, DROP_UNKNOWN, EMPTY, EXACT, FILE, FORMAT, PATHS, SCALE};
 use crate::output::Output;
+use spireyerba::lattice::Keep;
 use spireyerba::services::check;
-use spireyerba::text::{is_graph, NamedGrammar, Places, UtteranceReader};
+use spireyerba::text::{binary_kind, Format, Lattice, NamedGrammar, Places, UtteranceReader};
 use spireyerba::{Error, Heard, PackedGrammar, Reading, Refusal};
 use std::io::Read;
 
@@ -65,9 +66,10 @@ impl File {
         match (accepted, text_of(&self.bytes)) {
             (Ok(value), _) => Ok(value),
             (Err(_), Ok(text)) => Ok(parse(text).map_err(|error| error.in_file(&self.name))?),
-            (Err(refusal), Err(at)) => {
-                Err(Failure::Refused(format!("{}: {refusal}; and {}", self.name, self.no_text(at))))
-            }
+            (Err(refusal), Err(at)) => Err(match self.binary() {
+                Some(kind) => Failure::Refused(kind),
+                None => Failure::Refused(format!("{}: {refusal}; and {}", self.name, self.no_text(at))),
+            }),
         }
     }
 
@@ -77,6 +79,11 @@ impl File {
             Ok(text) => Ok(parse(text).map_err(|error| error.in_file(&self.name))?),
             Err(at) => Err(Failure::Refused(format!("{}: {}", self.name, self.no_text(at)))),
         }
+    }
+
+    /// That the file is of a kind that is printed as a text first, if it is.
+    fn binary(&self) -> Option<String> {
+        binary_kind(&self.bytes).map(|kind| format!("{}: {}", self.name, kind.replace("FILE", &self.name)))
     }
 
     /// That the file is no text, for a byte of it.
@@ -121,6 +128,9 @@ pub fn utterance_reader<'a>(arguments: &Arguments, grammar: &'a NamedGrammar) ->
     reader.drop_unknown = arguments.has(&DROP_UNKNOWN);
     reader.drop_deletes = arguments.has(&DROP_DELETES);
     reader.empty_words = arguments.values(&EMPTY).map(str::to_owned).collect();
+    reader.format = format(arguments)?;
+    reader.keep = if arguments.has(&PATHS) { Keep::Paths } else { Keep::Strings };
+    reader.exact = arguments.has(&EXACT);
     Ok(reader)
 }
 
@@ -132,17 +142,24 @@ pub fn scale(arguments: &Arguments) -> Result<Option<f64>, Failure> {
     }
 }
 
-/// Reads an utterance or a word graph over the words of a grammar.
-pub fn heard(arguments: &Arguments, grammar: &GrammarFile, operand: &str) -> Result<Heard, Failure> {
+/// The format that texts have, if the command line has one.
+fn format(arguments: &Arguments) -> Result<Option<Format>, Failure> {
+    let named = |name: &str| {
+        let names = Format::names().collect::<Vec<_>>().join(", ");
+        Format::named(name).ok_or_else(|| arguments.wrong(format!("--format: `{name}` is none of {names}")))
+    };
+    arguments.value(&FORMAT).map(named).transpose()
+}
+
+/// Reads an utterance, a word graph or a lattice in any format over the words of a grammar, and says on standard error what
+/// was pruned or left out.
+pub fn heard(arguments: &Arguments, grammar: &GrammarFile, operand: &str) -> Result<Lattice, Failure> {
     let reader = utterance_reader(arguments, &grammar.named)?;
     let file = File::read(operand)?;
-    file.block_or_text(Heard::from_block(grammar.packed.block(), &file.bytes), |text| {
-        if is_graph(text) {
-            reader.read_graph(text).map(Heard::Graph)
-        } else {
-            reader.read(text).map(Heard::Slots)
-        }
-    })
+    let accepted = Heard::from_block(grammar.packed.block(), &file.bytes).map(Lattice::from);
+    let lattice = file.block_or_text(accepted, |text| reader.read_heard(text))?;
+    lattice.notes().iter().for_each(|note| eprintln!("{}: {note}", file.name));
+    Ok(lattice)
 }
 
 /// The lines of a text file, each with how many stand before it, but for those that are empty or a comment.

@@ -184,10 +184,6 @@ fn mistakes_in_files() {
         ("lint kind", "kind: refused 2: the grammar block's kind is not 1 or 4; and no text, for byte 0x00 in line 1"),
         ("list g slots", &format!("slots: {}; and no text, for byte 0xff in line 1", Refusal::UtteranceRange)),
         ("list g network", "network:1:7: a confusion network needs a scale by which posteriors become costs"),
-        (
-            "list g network --scale 100",
-            "network:1:13: `*DELETE*`: a word is said in every slot, so no slot can hold this",
-        ),
         ("list g u -n 0", "refused 21: the number of readings wanted is not 1 to 256"),
         ("list g u -n 257", "refused 21: the number of readings wanted is not 1 to 256"),
         ("pack g -o no/folder", "no/folder: No such file or directory (os error 2)"),

@@ -109,7 +109,7 @@ round-err a c L C e N =
         (linear (kept 53 n c * u) u n (closest-half n u (mul-pos C (pow-pos k))) unit)
 
 -- a factor is exact
-factor-val : (s : ℕ) → Share s → HasValue (factorOf s) false s 1024
+pub factor-val : (s : ℕ) → Share s → HasValue (factorOf s) false s 1024
 unfolding factorOf
 factor-val s h =
     round-exact binary64 false s 1024 s 1064 (lit< tt) (omega (arith, h)) (lt-of-le-of-lt (mul-le-mul-right (2 ^ 1064) (h .1)) (lit< tt))
