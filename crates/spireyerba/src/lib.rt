@@ -135,7 +135,8 @@ pub extern "C" fn spireyerba_utterance_to_block(
     out: &mut [u8],
 ) -> i32
     ensures { λ r. ⌜ r ≡ lengthCode (fitting (utteranceToBlock (now (grammar .entry)) (now (sheet .entry))) (now (out .entry))) ⌝ }
-    ensures { λ r. ⌜ now (out .exit) ≡ written (fitting (utteranceToBlock (now (grammar .entry)) (now (sheet .entry))) (now (out .entry))) (now (out .entry)) ⌝ }
+    ensures { λ r. ⌜ now (out .exit)
+        ≡ written (fitting (utteranceToBlock (now (grammar .entry)) (now (sheet .entry))) (now (out .entry))) (now (out .entry)) ⌝ }
     ensures { λ r. ⌜ demands.UtteranceToBlock (now (grammar .entry)) (now (sheet .entry)) (now (out .entry)) r (now (out .exit)) ⌝ }
 {
     written_code(utterance_conversion::utterance_to_block(grammar, sheet, out))
@@ -149,7 +150,8 @@ pub extern "C" fn spireyerba_utterance_to_sheet(
     out: &mut [u32],
 ) -> i32
     ensures { λ r. ⌜ r ≡ lengthCode (fitting (utteranceToSheet (now (grammar .entry)) (now (block .entry))) (now (out .entry))) ⌝ }
-    ensures { λ r. ⌜ now (out .exit) ≡ written (fitting (utteranceToSheet (now (grammar .entry)) (now (block .entry))) (now (out .entry))) (now (out .entry)) ⌝ }
+    ensures { λ r. ⌜ now (out .exit)
+        ≡ written (fitting (utteranceToSheet (now (grammar .entry)) (now (block .entry))) (now (out .entry))) (now (out .entry)) ⌝ }
     ensures { λ r. ⌜ demands.UtteranceToSheet (now (grammar .entry)) (now (block .entry)) (now (out .entry)) r (now (out .exit)) ⌝ }
 {
     written_code(utterance_conversion::utterance_to_sheet(grammar, block, out))
@@ -164,8 +166,8 @@ pub extern "C" fn spireyerba_listing(
     work: &mut [u32],
     out: &mut [u8],
 ) -> i32
-    ensures { λ r. ⌜ r ≡ listCode (list library (now (grammar .entry)) (now (utterance .entry)) wanted (length (now (work .entry))) (length (now (out .entry))))
-        ⌝ }
+    ensures { λ r. ⌜ r ≡ listCode
+        (list library (now (grammar .entry)) (now (utterance .entry)) wanted (length (now (work .entry))) (length (now (out .entry)))) ⌝ }
     ensures { λ r. ⌜ now (work .exit) ≡ workAfter
         (list library (now (grammar .entry)) (now (utterance .entry)) wanted (length (now (work .entry))) (length (now (out .entry)))) (now (work .entry)) ⌝ }
     ensures { λ r. ⌜ now (out .exit) ≡ outputAfter
@@ -185,7 +187,8 @@ pub extern "C" fn spireyerba_panel_listing(
     work: &mut [u32],
     out: &mut [u8],
 ) -> i32
-    ensures { λ r. ⌜ r ≡ listCode (list panel (now (grammar .entry)) (now (utterance .entry)) wanted (length (now (work .entry))) (length (now (out .entry)))) ⌝ }
+    ensures { λ r. ⌜ r ≡ listCode
+        (list panel (now (grammar .entry)) (now (utterance .entry)) wanted (length (now (work .entry))) (length (now (out .entry)))) ⌝ }
     ensures { λ r. ⌜ now (work .exit) ≡ workAfter
         (list panel (now (grammar .entry)) (now (utterance .entry)) wanted (length (now (work .entry))) (length (now (out .entry)))) (now (work .entry)) ⌝ }
     ensures { λ r. ⌜ now (out .exit) ≡ outputAfter
@@ -316,7 +319,8 @@ pub extern "C" fn spireyerba_word_margins(
     work: &mut [u32],
     out: &mut [u32],
 ) -> i32
-    ensures { λ r. ⌜ r ≡ marginsCode (again.margins (now (grammar .entry)) (now (utterance .entry)) (length (now (work .entry))) (length (now (out .entry)))) ⌝ }
+    ensures { λ r. ⌜ r ≡ marginsCode
+        (again.margins (now (grammar .entry)) (now (utterance .entry)) (length (now (work .entry))) (length (now (out .entry)))) ⌝ }
     ensures { λ r. ⌜ now (work .exit) ≡ workAfter
         (again.margins (now (grammar .entry)) (now (utterance .entry)) (length (now (work .entry))) (length (now (out .entry)))) (now (work .entry)) ⌝ }
     ensures { λ r. ⌜ now (out .exit) ≡ again.outputAfter
