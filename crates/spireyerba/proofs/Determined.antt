@@ -17,7 +17,7 @@ use Rattle.checker.specs.Check.{check}
 use Rattle.checker.proofs.Theorems.{accepts, judged-once}
 use Rattle.chance.specs.Chance.{sharesOf, one, productOf, askedChance, Shown}
 use Rattle.cost_changes.specs.Ranges.{Answer}
-use Rattle.cost_changes.specs.Margins.{Entry, listNumbers}
+use Rattle.cost_changes.specs.Margins.{MarginEntry, listNumbers}
 use Rattle.cost_changes.proofs.Theorems.{answer-unique}
 use Rattle.cost_changes.proofs.Listed.{margins-unique}
 use Rattle.phrases.specs.Phrases.{Phrase}
@@ -103,7 +103,7 @@ module _ {grammar utterance work out after written after′ written′ : List �
       once {Same = SameSlices after after′ written written′} refl (a .demand-1) (b .demand-1) (λ g m n p (x, margins, nx, wx, zx) (y, margins′, ny, wy, zy).
       let same : y ≡ x = margins-unique (g .0) (g .1) y x margins′ margins in (
         ny ∙ ap length same ∙ sym nx,
-        (zy ∙ sym zx, wy ∙ ap (λ (k : List Entry). listNumbers k ++ drop (length (listNumbers k)) out) same ∙ sym wx),
+        (zy ∙ sym zx, wy ∙ ap (λ (k : List MarginEntry). listNumbers k ++ drop (length (listNumbers k)) out) same ∙ sym wx),
       ))
       (λ u u′. (u′ .0 ∙ sym (u .0), u′ .1 ∙ sym (u .1)))
 
