@@ -138,7 +138,9 @@ impl<'a> UtteranceReader<'a> {
             let mark = tokens.mark();
             slots.begin_slot().map_err(|fault| tokens.fault(fault))?;
             next = self.slot(slots, first, tokens)?;
-            slots.finish_slot().map_err(|fault| Error::at(tokens.position_of(mark), fault))?;
+            if !self.keep_unknown {
+                slots.finish_slot().map_err(|fault| Error::at(tokens.position_of(mark), fault))?;
+            }
         }
         Ok(())
     }
@@ -206,7 +208,7 @@ impl<'a> UtteranceReader<'a> {
     /// The number of a word; nothing if the grammar does not have it and such words are left out.
     pub(super) fn number(&self, word: &str) -> Result<Option<u32>, Fault> {
         match self.words.get(word) {
-            None if self.drop_unknown => Ok(None),
+            None if self.drop_unknown || self.keep_unknown => Ok(None),
             None => Err(Fault::UnknownWord(word.to_owned())),
             Some(&number) => Ok(Some(number)),
         }

@@ -31,7 +31,8 @@ list-read-requires : tie.Need-list-read-requires
 list-read-requires c κs =
     let at-inputs = c .before .before .before .before .before in
     let at-read-inputs = at-inputs .before .before .before .before in
-    let k = rw (at-inputs .inputs .given .1) at (at-read-inputs .read-inputs .ensures) in k .bounds
+    let k = rw (at-inputs .inputs .given .1) at (at-read-inputs .read-inputs .ensures) in
+    k .bounds
 
 returns : tie.Need-returns
 returns c =
