@@ -5,7 +5,8 @@
 //! do blocks of utterances and readings.
 
 use crate::failure::Failure;
-use crate::options::{Arguments, DROP_DELETES, DROP_UNKNOWN, EMPTY, FILE, SCALE};
+use crate::names::path;
+use crate::options::{Arguments, DROP_DELETES, DROP_UNKNOWN, EMPTY, FILE, FOLD, SCALE};
 use crate::output::Output;
 use spireyerba::services::check;
 use spireyerba::text::{is_graph, NamedGrammar, Places, UtteranceReader};
@@ -18,6 +19,12 @@ const STANDARD_INPUT_NAME: &str = "<stdin>";
 
 /// The control characters that texts have.
 const TEXT_CONTROLS: &[char] = &['\t', '\n', '\r', '\x0c'];
+
+/// What files are that begin with these bytes, and how to make a text of them.
+const KINDS: &[(&[u8], &str)] = &[
+    (b"\x1f\x8b", "compressed by gzip: `gunzip` it, or give `zcat FILE` by a pipe"),
+    (b"\xd6\xfd\xb2\x7e", "a binary of OpenFst: print it as text by `fstprint`"),
+];
 
 /// A file that was read.
 pub struct File {
@@ -40,7 +47,7 @@ pub fn open(operand: &str) -> Result<Box<dyn Read + Send>, Failure> {
     if operand == STANDARD_INPUT {
         return Ok(Box::new(std::io::stdin()));
     }
-    match std::fs::File::open(operand) {
+    match std::fs::File::open(path(operand)) {
         Ok(file) => Ok(Box::new(file)),
         Err(error) => Err(Failure::file(operand, &error)),
     }
@@ -65,10 +72,23 @@ impl File {
         match (accepted, text_of(&self.bytes)) {
             (Ok(value), _) => Ok(value),
             (Err(_), Ok(text)) => Ok(parse(text).map_err(|error| error.in_file(&self.name))?),
-            (Err(refusal), Err(at)) => {
-                Err(Failure::Refused(format!("{}: {refusal}; and {}", self.name, self.no_text(at))))
-            }
+            (Err(refusal), Err(at)) => Err(Failure::Refused(match self.is_block() {
+                true => format!("{}: {refusal}; and {}", self.name, self.no_text(at)),
+                false => format!("{}: {}", self.name, self.no_text(at)),
+            })),
         }
+    }
+
+    /// Whether the file has bytes that no text has in any encoding, or few that all have, and is not of a kind that is known.
+    fn is_block(&self) -> bool {
+        let is_foreign = |byte: &u8| byte.is_ascii_control() && !TEXT_CONTROLS.contains(&char::from(*byte));
+        let known = self.bytes.iter().filter(|byte| byte.is_ascii()).count();
+        self.known_kind().is_none() && (self.bytes.iter().any(is_foreign) || 2 * known < self.bytes.len())
+    }
+
+    /// What the file is, if its first bytes say so.
+    fn known_kind(&self) -> Option<&'static str> {
+        KINDS.iter().find(|(bytes, _)| self.bytes.starts_with(bytes)).map(|(_, kind)| *kind)
     }
 
     /// What is made of the file's text.
@@ -82,7 +102,12 @@ impl File {
     /// That the file is no text, for a byte of it.
     fn no_text(&self, at: usize) -> String {
         let line = self.bytes[..at].iter().filter(|byte| **byte == b'\n').count() + 1;
-        format!("no text, for byte 0x{:02x} in line {line}", self.bytes[at])
+        let byte = self.bytes[at];
+        match (self.known_kind(), self.is_block() || byte.is_ascii()) {
+            (Some(kind), _) => kind.to_owned(),
+            (None, true) => format!("no text, for byte 0x{byte:02x} in line {line}"),
+            (None, false) => format!("not UTF-8 (byte 0x{byte:02x}, line {line}): save it as UTF-8"),
+        }
     }
 }
 
@@ -118,6 +143,7 @@ pub fn grammar(operand: &str) -> Result<GrammarFile, Failure> {
 pub fn utterance_reader<'a>(arguments: &Arguments, grammar: &'a NamedGrammar) -> Result<UtteranceReader<'a>, Failure> {
     let mut reader = UtteranceReader::new(grammar);
     reader.scale = scale(arguments)?;
+    reader.fold = arguments.has(&FOLD);
     reader.drop_unknown = arguments.has(&DROP_UNKNOWN);
     reader.drop_deletes = arguments.has(&DROP_DELETES);
     reader.empty_words = arguments.values(&EMPTY).map(str::to_owned).collect();
@@ -190,7 +216,7 @@ pub fn shares(grammar: &GrammarFile, operand: &str) -> Result<Vec<u32>, Failure>
 pub fn write(arguments: &Arguments, output: &mut Output, bytes: &[u8]) -> Result<(), Failure> {
     match arguments.value(&FILE) {
         Some(operand) if operand != STANDARD_INPUT => {
-            std::fs::write(operand, bytes).map_err(|error| Failure::file(operand, &error))
+            std::fs::write(path(operand), bytes).map_err(|error| Failure::file(operand, &error))
         }
         _ => output.bytes(bytes),
     }

@@ -5,8 +5,8 @@ use crate::failure::Failure;
 use crate::files;
 use crate::json;
 use crate::no_reading::NoReading;
-use crate::options::{Arguments, DISTINCT, DROP_UNKNOWN, JOBS, WANTED};
-use crate::output::Output;
+use crate::options::{Arguments, DISTINCT, DROP_UNKNOWN, FOLD, JOBS, WANTED};
+use crate::output::{is_dumb, Output};
 use spireyerba::limits::MAX_READINGS;
 use spireyerba::text::{is_graph, NamedGrammar, UtteranceReader};
 use spireyerba::{Distinct, Error, Found, Graph, Heard, Lister, Reading, Refusal};
@@ -20,7 +20,7 @@ pub const COMMAND: Command = Command {
     name: "batch",
     operands: &["GRAMMAR", "FILE"],
     needed: 2,
-    options: &[WANTED, DISTINCT, JOBS, DROP_UNKNOWN],
+    options: &[WANTED, DISTINCT, JOBS, FOLD, DROP_UNKNOWN],
     summary: "list the readings of many utterances or word graphs, one a line, on all cores",
     details: "\
 A line of the file has an utterance, with semicolons between its slots: `door 4 | four 61 ; twenty 12`, or a word graph,
@@ -380,7 +380,7 @@ struct Progress {
 
 impl Progress {
     fn begin(output: &Output) -> Self {
-        let shown = stderr().is_terminal() && !output.is_terminal();
+        let shown = stderr().is_terminal() && !output.is_terminal() && !is_dumb();
         Self { shown, begin: Instant::now(), drawn: None, pieces: 0, utterances: 0 }
     }
 

@@ -5,7 +5,7 @@ use super::Command;
 use crate::failure::Failure;
 use crate::files;
 use crate::json;
-use crate::options::{Arguments, DROP_DELETES, DROP_UNKNOWN, EMPTY, JSON, SAID, SCALE, SKIP, WANTED};
+use crate::options::{Arguments, DROP_DELETES, DROP_UNKNOWN, EMPTY, FOLD, JSON, SAID, SCALE, SKIP, WANTED};
 use crate::output::{Output, Style};
 use spireyerba::text::NamedGrammar;
 use spireyerba::{Error, Reading, Refusal};
@@ -14,7 +14,7 @@ pub const COMMAND: Command = Command {
     name: "chance",
     operands: &["GRAMMAR", "UTTERANCE", "SHARES", "READING"],
     needed: 3,
-    options: &[WANTED, JSON, SAID, SKIP, SCALE, DROP_UNKNOWN, DROP_DELETES, EMPTY],
+    options: &[WANTED, JSON, SAID, SKIP, SCALE, FOLD, DROP_UNKNOWN, DROP_DELETES, EMPTY],
     summary: "print the chances of readings: the products of the shares of their rules",
     details: "\
 SHARES has a whole number from 1 to 1024 for each rule, in the order of the rules; of 1024 uses of its head so many are by

@@ -10,7 +10,8 @@ use crate::heard::{HeardWords, Taken};
 use crate::json;
 use crate::no_reading::NoReading;
 use crate::options::{
-    Arguments, DISTINCT, DROP_DELETES, DROP_UNKNOWN, EMPTY, JSON, RULES, SAID, SAY, SCALE, SKIP, TREE, WANTED, WORDS,
+    Arguments, DISTINCT, DROP_DELETES, DROP_UNKNOWN, EMPTY, FOLD, JSON, RULES, SAID, SAY, SCALE, SKIP, TREE, WANTED,
+    WORDS,
 };
 use crate::output::{Output, Style};
 use crate::skip;
@@ -22,7 +23,7 @@ pub const COMMAND: Command = Command {
     name: "list",
     operands: &["GRAMMAR", "UTTERANCE"],
     needed: 1,
-    options: &[WANTED, WORDS, SAY, DISTINCT, TREE, RULES, JSON, SAID, SKIP, SCALE, DROP_UNKNOWN, DROP_DELETES, EMPTY],
+    options: &[WANTED, WORDS, SAY, DISTINCT, TREE, RULES, JSON, SAID, SKIP, SCALE, FOLD, DROP_UNKNOWN, DROP_DELETES, EMPTY],
     summary: "list the readings of least weight, the least first",
     details: "\
 A line has rank, weight and words. Fewer readings than were asked for are all that there are; where there is none, a message

@@ -3,7 +3,7 @@
 use super::Command;
 use crate::failure::Failure;
 use crate::files::{self, GrammarFile};
-use crate::options::{Arguments, DROP_DELETES, DROP_UNKNOWN, EMPTY, FILE, LATTICE, NETWORK, SCALE};
+use crate::options::{Arguments, DROP_DELETES, DROP_UNKNOWN, EMPTY, FILE, FOLD, LATTICE, NETWORK, SCALE};
 use crate::output::Output;
 use spireyerba::Heard;
 
@@ -11,7 +11,7 @@ pub const COMMAND: Command = Command {
     name: "unpack",
     operands: &["GRAMMAR", "UTTERANCE", "READING"],
     needed: 1,
-    options: &[FILE, NETWORK, LATTICE, SCALE, DROP_UNKNOWN, DROP_DELETES, EMPTY],
+    options: &[FILE, NETWORK, LATTICE, SCALE, FOLD, DROP_UNKNOWN, DROP_DELETES, EMPTY],
     summary: "turn a block into a text: the last file, under those before it",
     details: "\
 A block has no names: those of an utterance come from the grammar's text, and if the grammar is a block too, symbols

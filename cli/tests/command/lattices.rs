@@ -70,7 +70,7 @@ fn mistakes() {
     ];
     let folder = folder("lattice_mistakes", &files);
     for (words, message) in [
-        ("scores", "scores:4:1: a lattice needs a scale by which scores become costs"),
+        ("scores", "scores:4:1: a lattice needs a scale by which scores become costs: add --scale X, such as 100"),
         (
             "scores --scale 100",
             "scores:4:1: refused 42: `-700` gives a cost that passes 65534: a smaller scale is needed",

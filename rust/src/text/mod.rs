@@ -140,6 +140,7 @@
 mod expansion;
 mod fault;
 mod finish;
+mod fold;
 mod grammar;
 mod graph;
 mod lattice;
@@ -156,6 +157,7 @@ mod scan;
 mod score;
 mod sentence;
 mod shares;
+mod shorten;
 mod source;
 mod translation;
 mod utterance;
