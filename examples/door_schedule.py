@@ -22,6 +22,7 @@ for name in sys.argv[3:]:
     except TextFault as fault:
         print(f"{name}: {fault}", file=sys.stderr)
         continue
+    print(*(f"{name}: {note}\n" for note in heard.notes), sep="", end="", file=sys.stderr)
     readings = grammar.list(heard, 2)
     if not readings:
         print(f"{name}: no reading", file=sys.stderr)

@@ -84,8 +84,8 @@ typedef struct {
 
 /*
 ** HEARD. Reads the text of an utterance, of a confusion network, of a word graph or of a
-** lattice under a grammar. The answer is one line: the block in hexadecimal digits. Faults
-** are as for a grammar.
+** lattice under a grammar. The answer is the block in hexadecimal digits, and behind it what a
+** user is to be told, a line each, such as what was left out. Faults are as for a grammar.
 */
 int32_t spireyerba_text_heard(
     const spireyerba_text_grammar *grammar,

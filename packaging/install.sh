@@ -105,4 +105,6 @@ python_package() {
 
 libraries
 the_command
+# The loader looks into folders that it knows by a list, which is made anew.
+if [ -z "$DESTDIR" ] && [ "$(id -u)" = 0 ] && command -v ldconfig >/dev/null; then ldconfig || true; fi
 if [ -n "$PYTHONDIR" ]; then python_package; else echo 'there is no python3: the Python package is left out'; fi

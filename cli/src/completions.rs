@@ -16,6 +16,11 @@ pub fn of_shell(name: &str) -> Option<String> {
     SHELLS.iter().find(|(shell, _)| *shell == name).map(|(_, made)| made())
 }
 
+/// The names of the shells.
+pub fn shells() -> impl Iterator<Item = &'static str> {
+    SHELLS.iter().map(|(shell, _)| *shell)
+}
+
 /// The names of all commands, with a blank between two.
 fn names() -> String {
     COMMANDS.iter().map(|command| command.name).collect::<Vec<_>>().join(" ")

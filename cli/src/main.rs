@@ -54,14 +54,20 @@ const COMPLETIONS: &str = "--completions";
 
 /// Prints the file with a name that belongs to an installed command; without a name, those of all manual pages.
 fn installed(kind: &str, name: Option<&String>, output: &mut Output) -> Result<(), Failure> {
-    let text = match (kind, name) {
-        (MANUAL, None) => Some(manual::names().join("\n") + "\n"),
-        (MANUAL, Some(name)) => manual::page(name),
-        (_, name) => name.and_then(|name| completions::of_shell(name)),
+    let (text, advice) = match (kind, name) {
+        (MANUAL, None) => (Some(manual::names().join("\n") + "\n"), String::new()),
+        (MANUAL, Some(name)) => {
+            let none = format!("there is no page `{name}`: `spireyerba help {MANUAL}` names them all");
+            (manual::page(name), none)
+        }
+        (_, name) => {
+            let shells = completions::shells().collect::<Vec<_>>().join(", ");
+            (name.and_then(|name| completions::of_shell(name)), format!("{COMPLETIONS} needs one of {shells}"))
+        }
     };
     match text {
         Some(text) => output.bytes(text.as_bytes()),
-        None => Err(Failure::usage(format!("help {kind}: there is none for this"), "spireyerba")),
+        None => Err(Failure::usage(advice, "spireyerba")),
     }
 }
 

@@ -178,7 +178,7 @@ class Grammar:
         empty_words: "Iterable[str]" = (),
     ) -> Heard:
         """Reads the text of an utterance, a confusion network, a word graph or a lattice, as the command does with the options
-        of these names.
+        of these names. What the command would tell of it stands in the answer's ``notes``.
 
         >>> doors = Grammar.from_text('Entry -> "door" Number\\nNumber -> "four" | "five"')
         >>> doors.read("door 3; four 9 | five 5")
@@ -186,8 +186,10 @@ class Grammar:
         """
         lent, empty = text.encode(), "\n".join(empty_words).encode()
         options = lib.TextOptions(scale or 0.0, drop_unknown, drop_deletes, lib.lent_text(empty))
-        [line] = lib.read_text("heard", self._named, byref(lib.lent_text(lent)), byref(options))
-        return self.heard(bytes.fromhex(line))
+        block, *notes = lib.read_text("heard", self._named, byref(lib.lent_text(lent)), byref(options))
+        heard = self.heard(bytes.fromhex(block))
+        heard.notes = tuple(notes)
+        return heard
 
     def heard(self, block: bytes) -> Heard:
         """Unpacks the block of slots or of a word graph."""
@@ -321,12 +323,13 @@ class Grammar:
 
     def tree(self, walk: "Sequence[int]", places: "Sequence[int]") -> Tree:
         """The tree of a reading's rule numbers in the rules as they are written, with where each word was heard."""
+        words, symbols = self.words, self.symbols
 
         def part(numbers: "Sequence[Any]") -> "Union[Tree, Leaf]":
             if len(numbers) == LEAF_NUMBERS:
-                return Leaf(self.words[numbers[0]], places[numbers[1]])
+                return Leaf(words[numbers[0]], places[numbers[1]])
             rule, symbol, weight, below = numbers
-            return Tree(self.symbols[symbol], rule, weight, tuple(map(part, below)))
+            return Tree(symbols[symbol], rule, weight, tuple([part(each) for each in below]))
 
         tree = part(json.loads(self._drawn(walk)[0]))
         assert isinstance(tree, Tree)

@@ -47,8 +47,14 @@ class Packed:
 class _Heard:
     """What slots and graphs share: a block for the grammar under which it was asked for last."""
 
-    __slots__ = ("_packed",)
+    __slots__ = ("_packed", "notes")
     _packed: "Packed | None"
+    #: What is to be told of a text that this was read from: what was left out of it, and what that means.
+    notes: "tuple[str, ...]"
+
+    def __init__(self) -> None:
+        self._packed = None
+        self.notes = ()
 
     def packed(self, grammar: "Grammar") -> Packed:
         """The block under a grammar, packed once."""
@@ -78,8 +84,8 @@ class Utterance(_Heard):
     __slots__ = ("slots",)
 
     def __init__(self, slots: "Iterable[Mapping[str, int]]") -> None:
+        super().__init__()
         self.slots: "tuple[dict[str, int], ...]" = tuple(map(dict, slots))
-        self._packed = None
 
     @classmethod
     def from_block(cls, grammar: "Grammar", block: bytes) -> "Utterance":
@@ -137,9 +143,9 @@ class Graph(_Heard):
     __slots__ = ("edges", "places")
 
     def __init__(self, edges: "Iterable[tuple[int, int, str, int]]", places: "int | None" = None) -> None:
+        super().__init__()
         self.edges = tuple(Edge(*edge) for edge in edges)
         self.places = max((edge.end for edge in self.edges), default=0) + 1 if places is None else places
-        self._packed = None
 
     @classmethod
     def from_block(cls, grammar: "Grammar", block: bytes) -> "Graph":

@@ -28,6 +28,26 @@ fn help_at_every_level() {
     assert!(answer("--version").starts_with("spireyerba 0."));
 }
 
+/// What `make install` asks for.
+#[test]
+fn manual_pages_and_completions() {
+    let pages = answer("help --manual");
+    assert_eq!(pages.lines().count(), COMMANDS.len() + 2);
+    for page in pages.lines() {
+        let text = answer(&format!("help --manual {page}"));
+        assert!(text.starts_with(".TH SPIREYERBA") && text.contains("\n.SH NAME\nspireyerba"), "{page}: {text}");
+    }
+    for shell in ["bash", "zsh", "fish"] {
+        let script = answer(&format!("help --completions {shell}"));
+        assert!(script.contains("drop-unknown") && script.contains("specimen"), "{script}");
+    }
+    expect_usage(&[
+        ("help --manual list", "spireyerba", "there is no page `list`: `spireyerba help --manual` names them all"),
+        ("help --completions", "spireyerba", "--completions needs one of bash, zsh, fish"),
+        ("help --completions tcsh", "spireyerba", "--completions needs one of bash, zsh, fish"),
+    ]);
+}
+
 /// A copy of the door schedule, in which files can be written.
 fn copied_doors(name: &str) -> std::path::PathBuf {
     let folder = folder(name, &[]);
