@@ -6,10 +6,11 @@
 
 use crate::failure::Failure;
 use crate::names::path;
-use crate::options::{Arguments, DROP_DELETES, DROP_UNKNOWN, EMPTY, FILE, FOLD, SCALE};
+use crate::options::{Arguments, DROP_DELETES, DROP_UNKNOWN, EMPTY, EXACT, FILE, FOLD, FORMAT, PATHS, SCALE};
 use crate::output::Output;
+use spireyerba::lattice::Keep;
 use spireyerba::services::check;
-use spireyerba::text::{is_graph, NamedGrammar, Places, UtteranceReader};
+use spireyerba::text::{binary_kind, Format, Lattice, NamedGrammar, Places, UtteranceReader};
 use spireyerba::{Error, Heard, PackedGrammar, Reading, Refusal};
 use std::io::Read;
 
@@ -19,12 +20,6 @@ const STANDARD_INPUT_NAME: &str = "<stdin>";
 
 /// The control characters that texts have.
 const TEXT_CONTROLS: &[char] = &['\t', '\n', '\r', '\x0c'];
-
-/// What files are that begin with these bytes, and how to make a text of them.
-const KINDS: &[(&[u8], &str)] = &[
-    (b"\x1f\x8b", "compressed by gzip: `gunzip` it, or give `zcat FILE` by a pipe"),
-    (b"\xd6\xfd\xb2\x7e", "a binary of OpenFst: print it as text by `fstprint`"),
-];
 
 /// A file that was read.
 pub struct File {
@@ -72,23 +67,19 @@ impl File {
         match (accepted, text_of(&self.bytes)) {
             (Ok(value), _) => Ok(value),
             (Err(_), Ok(text)) => Ok(parse(text).map_err(|error| error.in_file(&self.name))?),
-            (Err(refusal), Err(at)) => Err(Failure::Refused(match self.is_block() {
-                true => format!("{}: {refusal}; and {}", self.name, self.no_text(at)),
-                false => format!("{}: {}", self.name, self.no_text(at)),
+            (Err(refusal), Err(at)) => Err(Failure::Refused(match (self.binary(), self.is_block()) {
+                (Some(kind), _) => kind,
+                (None, true) => format!("{}: {refusal}; and {}", self.name, self.no_text(at)),
+                (None, false) => format!("{}: {}", self.name, self.no_text(at)),
             })),
         }
     }
 
-    /// Whether the file has bytes that no text has in any encoding, or few that all have, and is not of a kind that is known.
+    /// Whether the file has bytes that no text has in any encoding, or few that all have.
     fn is_block(&self) -> bool {
         let is_foreign = |byte: &u8| byte.is_ascii_control() && !TEXT_CONTROLS.contains(&char::from(*byte));
         let known = self.bytes.iter().filter(|byte| byte.is_ascii()).count();
-        self.known_kind().is_none() && (self.bytes.iter().any(is_foreign) || 2 * known < self.bytes.len())
-    }
-
-    /// What the file is, if its first bytes say so.
-    fn known_kind(&self) -> Option<&'static str> {
-        KINDS.iter().find(|(bytes, _)| self.bytes.starts_with(bytes)).map(|(_, kind)| *kind)
+        self.bytes.iter().any(is_foreign) || 2 * known < self.bytes.len()
     }
 
     /// What is made of the file's text.
@@ -99,14 +90,18 @@ impl File {
         }
     }
 
+    /// That the file is of a kind that is printed as a text first, if it is.
+    fn binary(&self) -> Option<String> {
+        binary_kind(&self.bytes).map(|kind| format!("{}: {}", self.name, kind.replace("FILE", &self.name)))
+    }
+
     /// That the file is no text, for a byte of it.
     fn no_text(&self, at: usize) -> String {
         let line = self.bytes[..at].iter().filter(|byte| **byte == b'\n').count() + 1;
         let byte = self.bytes[at];
-        match (self.known_kind(), self.is_block() || byte.is_ascii()) {
-            (Some(kind), _) => kind.to_owned(),
-            (None, true) => format!("no text, for byte 0x{byte:02x} in line {line}"),
-            (None, false) => format!("not UTF-8 (byte 0x{byte:02x}, line {line}): save it as UTF-8"),
+        match self.is_block() || byte.is_ascii() {
+            true => format!("no text, for byte 0x{byte:02x} in line {line}"),
+            false => format!("not UTF-8 (byte 0x{byte:02x}, line {line}): save it as UTF-8"),
         }
     }
 }
@@ -147,6 +142,9 @@ pub fn utterance_reader<'a>(arguments: &Arguments, grammar: &'a NamedGrammar) ->
     reader.drop_unknown = arguments.has(&DROP_UNKNOWN);
     reader.drop_deletes = arguments.has(&DROP_DELETES);
     reader.empty_words = arguments.values(&EMPTY).map(str::to_owned).collect();
+    reader.format = format(arguments)?;
+    reader.keep = if arguments.has(&PATHS) { Keep::Paths } else { Keep::Strings };
+    reader.exact = arguments.has(&EXACT);
     Ok(reader)
 }
 
@@ -158,17 +156,24 @@ pub fn scale(arguments: &Arguments) -> Result<Option<f64>, Failure> {
     }
 }
 
-/// Reads an utterance or a word graph over the words of a grammar.
-pub fn heard(arguments: &Arguments, grammar: &GrammarFile, operand: &str) -> Result<Heard, Failure> {
+/// The format that texts have, if the command line has one.
+fn format(arguments: &Arguments) -> Result<Option<Format>, Failure> {
+    let named = |name: &str| {
+        let names = Format::names().collect::<Vec<_>>().join(", ");
+        Format::named(name).ok_or_else(|| arguments.wrong(format!("--format: `{name}` is none of {names}")))
+    };
+    arguments.value(&FORMAT).map(named).transpose()
+}
+
+/// Reads an utterance, a word graph or a lattice in any format over the words of a grammar, and says on standard error what
+/// was pruned or left out.
+pub fn heard(arguments: &Arguments, grammar: &GrammarFile, operand: &str) -> Result<Lattice, Failure> {
     let reader = utterance_reader(arguments, &grammar.named)?;
     let file = File::read(operand)?;
-    file.block_or_text(Heard::from_block(grammar.packed.block(), &file.bytes), |text| {
-        if is_graph(text) {
-            reader.read_graph(text).map(Heard::Graph)
-        } else {
-            reader.read(text).map(Heard::Slots)
-        }
-    })
+    let accepted = Heard::from_block(grammar.packed.block(), &file.bytes).map(Lattice::from);
+    let lattice = file.block_or_text(accepted, |text| reader.read_heard(text))?;
+    lattice.notes().iter().for_each(|note| eprintln!("{}: {note}", file.name));
+    Ok(lattice)
 }
 
 /// The lines of a text file, each with how many stand before it, but for those that are empty or a comment.

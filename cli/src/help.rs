@@ -52,7 +52,9 @@ A confusion network as SRILM writes it, whose posteriors become costs by --scale
   align 0 door 0.96 four 0.54
   align 1 twenty 0.89 forty 0.82
 
-A word graph, where an utterance may stand: an edge a line, from place to place, as OpenFst and Kaldi print lattices.
+Where one of its slots has *DELETE*, perhaps nothing was said there; --drop-deletes leaves that out.
+
+A word graph, where an utterance may stand: an edge a line, from place to place.
 
   0 1 door 4                                 # up to 96 edges, numbered as they stand
   1 3 forty 24                               # up to 25 places
@@ -65,7 +67,19 @@ A lattice in HTK's standard format (SLF) is a word graph too, whose scores becom
   I=1 t=0.31
   J=0 S=0 E=1 W=door a=-0.03 l=-0.01         # links; nothing is said on one with !NULL, <s>, </s> or no word
 
-Its links without words go to the word before them, of two alike the cheapest stays, and what is on no path is left out.
+Other formats of recognisers stand where an utterance may too, told by what is in them, or by --format NAME:
+
+  slf       HTK's lattices, of HTK, SRILM, PocketSphinx or Julius; links with p= alone have posteriors
+  openfst   what fstprint writes: acceptors and transducers (their output words), <eps>, final weights, any numbers
+  kaldi     lattices as text, many in one file: a name in a line, then arcs with graph,acoustic,ids
+  network   SRILM's confusion networks
+  nbest     a score and words a line; SRILM's and Kaldi's lists too
+  ctm       NIST's time-marked words, with <ALT_BEGIN>, <ALT> and <ALT_END>
+  json      Vosk, AWS Transcribe, Google, Azure
+
+A lattice becomes a word graph: its links without words go to the word before them, each sentence has one path, at its least
+cost (--paths keeps them all), and what does not fit into 25 places and 96 edges is pruned by the widest beam. A message
+says then up to which weight every reading is in the list, and JSON has it as \"complete_up_to\"; --exact refuses instead.
 
 A reading: its weight, and the rule number of each node, a node before its left part and that before its right part.
 

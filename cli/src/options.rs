@@ -103,6 +103,25 @@ pub const EMPTY: Opt = Opt {
     value: Some("WORD"),
     help: "lattices: nobody says this word, such as one for silence; it is as !NULL",
 };
+pub const FORMAT: Opt = Opt {
+    long: "format",
+    short: None,
+    value: Some("NAME"),
+    help:
+        "what the text is: slots, graph, slf, openfst, kaldi, network, nbest, ctm or json; told by itself unless given",
+};
+pub const PATHS: Opt = Opt {
+    long: "paths",
+    short: None,
+    value: None,
+    help: "lattices: keep every alignment of a sentence that fits, not each sentence once",
+};
+pub const EXACT: Opt = Opt {
+    long: "exact",
+    short: None,
+    value: None,
+    help: "lattices: refuse what does not fit into a word graph in place of pruning it",
+};
 pub const HIGH: Opt = Opt {
     long: "high",
     short: None,

@@ -76,6 +76,14 @@ impl Error {
         }
     }
 
+    /// What is wrong in the text, if a text cannot be read.
+    pub fn fault(&self) -> Option<&Fault> {
+        match self {
+            Self::Refused { .. } => None,
+            Self::Text { fault, .. } => Some(fault),
+        }
+    }
+
     /// The same error, known to be in a file.
     pub fn in_file(mut self, name: &str) -> Self {
         let (Self::Refused { file, .. } | Self::Text { file, .. }) = &mut self;

@@ -1,8 +1,9 @@
 //! HTK's lattices: which word graph they are, and every mistake that one can make in them.
 
+use spireyerba::lattice::Keep;
 use spireyerba::limits::NOT_HEARD;
 use spireyerba::text::{is_graph, NamedGrammar, UtteranceReader};
-use spireyerba::{Edge, Error, Graph};
+use spireyerba::{Edge, Error, Graph, Heard};
 
 const GRAMMAR: &str = "A -> A A | \"x\" | \"y\" | \"z\"";
 
@@ -13,7 +14,7 @@ fn grammar() -> NamedGrammar {
 fn read_at(scale: Option<f64>, text: &str) -> Result<Graph, Error> {
     let grammar = grammar();
     let mut reader = UtteranceReader::new(&grammar);
-    reader.scale = scale;
+    (reader.scale, reader.keep) = (scale, Keep::Paths);
     assert!(is_graph(text), "{text}");
     reader.read_graph(text)
 }
@@ -81,9 +82,10 @@ fn scores_by_scales_penalty_and_base() {
     let likelihoods =
         "VERSION=1.0\nbase=0.0\n".to_owned() + &lattice(2, &["S=0 E=1 W=x a=0.5 l=0.25", "S=0 E=1 W=y a=0"]);
     let cost = (-10.0 * 0.125_f64.ln()).round() as u32;
-    assert_eq!(read(&likelihoods), Ok(graph(2, &[(0, 1, 0, cost), (0, 1, 1, NOT_HEARD)])));
+    assert_eq!(read(&likelihoods), Ok(graph(2, &[(0, 1, 0, cost)])));
+    // what was not heard is on no path
     let zeros = lattice(2, &["S=0 E=1 W=x a=-1e10 l=-3", "S=0 E=1 W=y a=-inf", "S=0 E=1 W=z"]);
-    let expected = graph(2, &[(0, 1, 0, NOT_HEARD), (0, 1, 1, NOT_HEARD), (0, 1, 2, 0)]);
+    let expected = graph(2, &[(0, 1, 2, 0)]);
     assert_eq!(read(&zeros).as_ref(), Ok(&expected));
     // what costs nothing, or was not heard, needs no scale
     assert_eq!(read_at(None, &zeros), Ok(expected));
@@ -93,7 +95,7 @@ fn scores_by_scales_penalty_and_base() {
 #[test]
 fn alike_links() {
     let text = lattice(2, &["S=0 E=1 W=x v=1 a=-2", "S=0 E=1 W=y", "S=0 E=1 W=x v=2 a=-1", "S=0 E=1 W=x v=3 a=-3"]);
-    assert_eq!(read(&text), Ok(graph(2, &[(0, 1, 0, 10), (0, 1, 1, 0)])));
+    assert_eq!(read(&text), Ok(graph(2, &[(0, 1, 1, 0), (0, 1, 0, 10)])));
 }
 
 /// Nodes are ordered by links first, then by time, then as they stand.
@@ -132,7 +134,7 @@ fn words_that_need_not_be_said() {
     let middle = lattice(4, &["S=0 E=1 W=x", "S=1 E=2 W=y a=-1", "S=1 E=2 W=!NULL a=-2", "S=2 E=3 W=z"]);
     assert_eq!(read(&middle), Ok(graph(4, &[(0, 1, 0, 0), (0, 2, 0, 20), (1, 2, 1, 10), (2, 3, 2, 0)])));
     let first = lattice(3, &["S=0 E=1 W=x a=-1", "S=0 E=1 W=!NULL a=-2", "S=1 E=2 W=y"]);
-    assert_eq!(read(&first), Ok(graph(3, &[(0, 1, 0, 10), (1, 2, 1, 0), (0, 2, 1, 20)])));
+    assert_eq!(read(&first), Ok(graph(3, &[(0, 1, 0, 10), (0, 2, 1, 20), (1, 2, 1, 0)])));
     let last = lattice(3, &["S=0 E=1 W=x", "S=1 E=2 W=y a=-1", "S=1 E=2 a=-2"]);
     assert_eq!(read(&last), Ok(graph(3, &[(0, 1, 0, 0), (0, 2, 0, 20), (1, 2, 1, 10)])));
     // the best way past counts, here over two links
@@ -196,21 +198,26 @@ fn mistakes_in_lattices() {
         ("start=0 end=1", &["S=0 E=1 W=x", "S=1 E=1 W=y"], "7:1: links go round in a circle, and this is one of them"),
         ("start=0 end=1", &["S=0 E=1"], "6:1: refused 13: there is no word on a path to the end"),
         ("start=1 end=0", &["S=0 E=1 W=x"], "6:1: refused 13: there is no word on a path to the end"),
-        (
-            "",
-            &["S=0 E=1 W=x a=-6553.5"],
-            "6:1: refused 42: `-6553.5` gives a cost that passes 65534: a smaller scale is needed",
-        ),
-        (
-            "",
-            &["S=0 E=1 W=x a=0.5"],
-            "6:1: `0.5` gives a cost below 0: a score is the logarithm of a likelihood of at most 1",
-        ),
         ("base=0", &["S=0 E=1 W=x a=-0.5"], "6:17: `-0.5` is not a number that can stand here"),
     ] {
         let text = format!("VERSION=1.0\n{header}\n{}", lattice(2, links));
         expect(read(&text), &text, message);
     }
+}
+
+/// What no edge can hold is taken off every path alike.
+#[test]
+fn scores_beyond_costs() {
+    let of = |links: &[&str]| {
+        let grammar = grammar();
+        let mut reader = UtteranceReader::new(&grammar);
+        reader.scale = Some(10.0);
+        let lattice = reader.read_heard(&lattice(2, links)).expect("a lattice");
+        let Heard::Graph(graph) = lattice.heard else { panic!("a graph") };
+        (lattice.taken_off, graph.edges.iter().map(|edge| edge.cost).collect::<Vec<_>>())
+    };
+    assert_eq!(of(&["S=0 E=1 W=x a=-6553.5", "S=0 E=1 W=y a=-6553.6"]), (2, vec![65_533, 65_534]));
+    assert_eq!(of(&["S=0 E=1 W=x a=0.5", "S=0 E=1 W=y a=-1"]), (-5, vec![0, 15]));
 }
 
 #[test]
@@ -241,8 +248,13 @@ fn what_a_graph_has_no_room_for() {
         lattice(count + 1, &links.iter().map(String::as_str).collect::<Vec<_>>())
     };
     assert_eq!(read(&chain(24)).map(|graph| (graph.places, graph.edges.len())), Ok((25, 24)));
-    let message = "27:1: refused 13: one too many: a word graph has at most 25 places";
-    expect(read(&chain(25)), "26 places", message);
+    let advice = "a word graph has 25 places and 96 edges: cut the utterance in two, or give words different scores";
+    let message = |line, places, edges| {
+        format!(
+            "{line}:1: refused 13: even what weighs the least takes {places} places and {edges} edges, and {advice}"
+        )
+    };
+    expect(read(&chain(25)), "26 places", &message(52, 26, 25));
     // three words over each of 24 steps, and one more
     let every_word = |from: usize, to| ["x", "y", "z"].map(|word| format!("S={from} E={to} W={word}"));
     let mut links: Vec<String> = (0..24).flat_map(|from| every_word(from, from + 1)).collect();
@@ -250,8 +262,7 @@ fn what_a_graph_has_no_room_for() {
     let text = |links: &[String]| lattice(25, &links.iter().map(String::as_str).collect::<Vec<_>>());
     assert_eq!(read(&text(&links)).map(|graph| graph.edges.len()), Ok(96));
     links.push("S=9 E=11 W=x".to_owned());
-    let message = "123:1: refused 13: one too many: a word graph has at most 96 edges";
-    expect(read(&text(&links)), "97 edges", message);
+    expect(read(&text(&links)), "97 edges", &message(123, 25, 97));
     // so many nodes, of which most are on no path or between links without words
     let mut silent: Vec<String> = (1..=200).map(|to| format!("S={} E={to}", to - 1)).collect();
     silent[100].push_str(" W=x");
@@ -272,8 +283,11 @@ fn what_is_no_lattice() {
 fn graphs_that_no_lattice_can_say() {
     let grammar = NamedGrammar::parse("A -> A A | \"x\" | \"!NULL\" | \"new york\"").unwrap();
     let text = |edges: &[(u32, u32, u32, u32)], scale| grammar.lattice_text(&graph(3, edges), scale);
-    let whole = text(&[(0, 1, 0, 4), (1, 2, 2, NOT_HEARD)], 100.0).expect("a lattice");
-    assert!(whole.ends_with("J=0 S=0 E=1 W=x a=-0.04\nJ=1 S=1 E=2 W=\"new york\" a=-1e10\n"), "{whole}");
+    let whole = text(&[(0, 1, 0, 4), (1, 2, 2, 7)], 100.0).expect("a lattice");
+    assert!(whole.ends_with("J=0 S=0 E=1 W=x a=-0.04\nJ=1 S=1 E=2 W=\"new york\" a=-0.07\n"), "{whole}");
+    // what was not heard is written, and read as nothing
+    let unheard = text(&[(0, 1, 0, 4), (1, 2, 0, 7), (1, 2, 2, NOT_HEARD)], 100.0).expect("a lattice");
+    assert!(unheard.ends_with(" a=-1e10\n") && text(&[(0, 1, 0, 4), (1, 2, 2, NOT_HEARD)], 100.0).is_none());
     assert_eq!(text(&[(0, 1, 0, 4), (1, 2, 1, 0)], 100.0), None);
     assert_eq!(text(&[(0, 2, 0, 4)], 100.0), None);
     assert_eq!(text(&[(0, 2, 0, 4), (0, 1, 0, 4)], 100.0), None);

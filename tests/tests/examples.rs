@@ -1,5 +1,6 @@
 //! The files of examples/ belong together: texts and sheets, blocks, and lists of readings.
 
+use spireyerba::lattice::Keep;
 use spireyerba::limits::{PANEL_OUTPUT_MAX, PANEL_WORK_MAX};
 use spireyerba::text::{parse_sheet, print_list, NamedGrammar, UtteranceReader};
 use spireyerba::{services, Grammar, Graph, Heard, Reading, Utterance, WordMargin};
@@ -102,8 +103,10 @@ fn the_door_schedule_as_a_graph() {
     assert_eq!(named.grammar.list(&graph, 8), Ok(list));
     expect_panel(&grammar_block, &block);
     let mut reader = UtteranceReader::new(&named);
-    reader.scale = Some(100.0);
-    assert_eq!(reader.read_graph(&text(FOLDER, "lattice.slf")), Ok(graph.clone()));
+    (reader.scale, reader.keep) = (Some(100.0), Keep::Paths);
+    let heard = graph.edges.iter().copied().filter(|edge| edge.is_offered()).collect();
+    let heard = Graph { edges: heard, ..graph };
+    assert_eq!(reader.read_graph(&text(FOLDER, "lattice.slf")), Ok(heard));
     expect_chances(FOLDER, &named.grammar, &Heard::Graph(graph));
 }
 

@@ -1,6 +1,7 @@
 //! The texts of the crate `spireyerba`, on random grammars, utterances and word graphs: what is written is read again, and
 //! packed to the same block.
 
+use spireyerba::lattice::Keep;
 use spireyerba::text::{is_graph, parse_reading, reading_text, NamedGrammar, UtteranceReader};
 use spireyerba::{Body, Error, Grammar, Graph, Lister, Reading, Rule};
 use spireyerba_tests::compare::over_seeds;
@@ -175,16 +176,17 @@ fn lattices() {
         named.words = names(rng, named.grammar.words, &['a', 'b', 'é', '=', '\'', '"', '\\', ' ', '#']);
         let size = rng.pick(&SIZES);
         let graph = graph(rng, size, named.grammar.words);
+        let heard = Graph { edges: graph.edges.iter().copied().filter(|edge| edge.is_offered()).collect(), ..graph };
         let scale = rng.pick(&[0.5, 100.0, 1_000.0]);
         let Some(text) = named.lattice_text(&graph, scale) else {
-            assert!(!is_on_paths(&graph), "{graph:?}");
+            assert!(!is_on_paths(&heard), "{graph:?}");
             dead += 1;
             return;
         };
-        assert!(is_graph(&text) && is_on_paths(&graph), "{text}");
+        assert!(is_graph(&text) && is_on_paths(&heard), "{text}");
         let mut reader = UtteranceReader::new(&named);
-        reader.scale = Some(scale);
-        assert_eq!(reader.read_graph(&text), Ok(graph), "{text}");
+        (reader.scale, reader.keep) = (Some(scale), Keep::Paths);
+        assert_eq!(reader.read_graph(&text), Ok(heard), "{text}");
         written += 1;
     });
     assert!(written > 100 && dead > 100, "{written} lattices, {dead} graphs without");

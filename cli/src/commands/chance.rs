@@ -5,16 +5,18 @@ use super::Command;
 use crate::failure::Failure;
 use crate::files;
 use crate::json;
-use crate::options::{Arguments, DROP_DELETES, DROP_UNKNOWN, EMPTY, FOLD, JSON, SAID, SCALE, SKIP, WANTED};
+use crate::options::{
+    Arguments, DROP_DELETES, DROP_UNKNOWN, EMPTY, EXACT, FOLD, FORMAT, JSON, PATHS, SAID, SCALE, SKIP, WANTED,
+};
 use crate::output::{Output, Style};
-use spireyerba::text::NamedGrammar;
+use spireyerba::text::{Lattice, NamedGrammar};
 use spireyerba::{Error, Reading, Refusal};
 
 pub const COMMAND: Command = Command {
     name: "chance",
     operands: &["GRAMMAR", "UTTERANCE", "SHARES", "READING"],
     needed: 3,
-    options: &[WANTED, JSON, SAID, SKIP, SCALE, FOLD, DROP_UNKNOWN, DROP_DELETES, EMPTY],
+    options: &[WANTED, JSON, SAID, SKIP, SCALE, FOLD, DROP_UNKNOWN, DROP_DELETES, EMPTY, FORMAT, PATHS, EXACT],
     summary: "print the chances of readings: the products of the shares of their rules",
     details: "\
 SHARES has a whole number from 1 to 1024 for each rule, in the order of the rules; of 1024 uses of its head so many are by
@@ -68,7 +70,7 @@ fn of_ranks(arguments: &Arguments, listed: &Listed, first: usize, output: &mut O
 /// The chance of a reading that a file has.
 fn of_file(arguments: &Arguments, file: &str, output: &mut Output) -> Result<(), Failure> {
     let grammar = files::grammar(arguments.operands[0])?;
-    let (heard, _) = heard(arguments, &grammar)?;
+    let (Lattice { heard, .. }, _) = heard(arguments, &grammar)?;
     let reading = files::reading(&grammar, &heard, file)?.reading;
     let shares = files::shares(&grammar, arguments.operands[2])?;
     let chance = written(grammar.packed.chance(&heard, &reading, &shares).map_err(Error::from)?);

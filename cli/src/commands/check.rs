@@ -3,14 +3,14 @@
 use super::Command;
 use crate::failure::Failure;
 use crate::files;
-use crate::options::{Arguments, DROP_DELETES, DROP_UNKNOWN, EMPTY, FOLD, SCALE};
+use crate::options::{Arguments, DROP_DELETES, DROP_UNKNOWN, EMPTY, EXACT, FOLD, FORMAT, PATHS, SCALE};
 use crate::output::Output;
 
 pub const COMMAND: Command = Command {
     name: "check",
     operands: &["GRAMMAR", "UTTERANCE", "READING"],
     needed: 3,
-    options: &[SCALE, FOLD, DROP_UNKNOWN, DROP_DELETES, EMPTY],
+    options: &[SCALE, FOLD, DROP_UNKNOWN, DROP_DELETES, EMPTY, FORMAT, PATHS, EXACT],
     summary: "say whether a reading is that of a derivation, with its true weight",
     details: "\
 A reading's text is its weight and the rule number of each node: a node, its left part, its right part. `list
@@ -22,7 +22,7 @@ A reading's text is its weight and the rule number of each node: a node, its lef
 
 fn run(arguments: &Arguments, output: &mut Output) -> Result<(), Failure> {
     let grammar = files::grammar(arguments.operands[0])?;
-    let heard = files::heard(arguments, &grammar, arguments.operands[1])?;
+    let heard = files::heard(arguments, &grammar, arguments.operands[1])?.heard;
     let reading = files::reading(&grammar, &heard, arguments.operands[2])?.reading;
     output.line(&format!("passes: {}  {}", reading.weight, grammar.named.sentence(&reading)))
 }

@@ -10,12 +10,13 @@ use crate::heard::{HeardWords, Taken};
 use crate::json;
 use crate::no_reading::NoReading;
 use crate::options::{
-    Arguments, DISTINCT, DROP_DELETES, DROP_UNKNOWN, EMPTY, FOLD, JSON, RULES, SAID, SAY, SCALE, SKIP, TREE, WANTED,
-    WORDS,
+    Arguments, DISTINCT, DROP_DELETES, DROP_UNKNOWN, EMPTY, EXACT, FOLD, FORMAT, JSON, PATHS, RULES, SAID, SAY, SCALE,
+    SKIP, TREE, WANTED, WORDS,
 };
 use crate::output::{Output, Style};
 use crate::skip;
 use spireyerba::limits::MAX_READINGS;
+use spireyerba::text::Lattice;
 use spireyerba::{Distinct, Error, Heard, Reading, Refusal, Tree};
 use std::ops::RangeInclusive;
 
@@ -23,7 +24,7 @@ pub const COMMAND: Command = Command {
     name: "list",
     operands: &["GRAMMAR", "UTTERANCE"],
     needed: 1,
-    options: &[WANTED, WORDS, SAY, DISTINCT, TREE, RULES, JSON, SAID, SKIP, SCALE, FOLD, DROP_UNKNOWN, DROP_DELETES, EMPTY],
+    options: &[WANTED, WORDS, SAY, DISTINCT, TREE, RULES, JSON, SAID, SKIP, SCALE, FOLD, DROP_UNKNOWN, DROP_DELETES, EMPTY, FORMAT, PATHS, EXACT],
     summary: "list the readings of least weight, the least first",
     details: "\
 A line has rank, weight and words. Fewer readings than were asked for are all that there are; where there is none, a message
@@ -42,6 +43,8 @@ const TREE_MARGIN: &str = "   ";
 pub struct Listed {
     pub grammar: GrammarFile,
     pub heard: Heard,
+    /// The weight up to which every reading is there, if what was heard had to be pruned.
+    pub complete_up_to: Option<i64>,
     pub readings: Vec<Reading>,
     /// How many more readings have the words of each, if each sentence stands once.
     pub others: Option<Vec<u32>>,
@@ -66,16 +69,17 @@ impl Listed {
     /// What a list is of, and no reading yet.
     pub fn none_yet(arguments: &Arguments) -> Result<Self, Failure> {
         let grammar = files::grammar(arguments.operands[0])?;
-        let (heard, slots) = heard(arguments, &grammar)?;
+        let (lattice, slots) = heard(arguments, &grammar)?;
         Ok(Self {
+            complete_up_to: lattice.complete_up_to(),
+            left_out: lattice.notes(),
+            times: lattice.times,
+            heard: lattice.heard,
             grammar,
-            heard,
             readings: Vec::new(),
             others: None,
             used_up: false,
             slots,
-            times: None,
-            left_out: Vec::new(),
         })
     }
 
@@ -169,16 +173,16 @@ pub fn used_up(found: usize) -> String {
 }
 
 /// What was heard, as the command line asks for it, and the slot of each edge, if slots may be passed over.
-pub fn heard(arguments: &Arguments, grammar: &GrammarFile) -> Result<(Heard, Option<Vec<u32>>), Failure> {
-    let mut heard = match (arguments.operands.get(1), arguments.value(&WORDS)) {
+pub fn heard(arguments: &Arguments, grammar: &GrammarFile) -> Result<(Lattice, Option<Vec<u32>>), Failure> {
+    let mut lattice = match (arguments.operands.get(1), arguments.value(&WORDS)) {
         (Some(_), Some(_)) => return Err(arguments.wrong("UTTERANCE and --words: only one of them")),
         (None, None) => return Err(arguments.wrong("UTTERANCE is missing")),
         (Some(operand), None) => files::heard(arguments, grammar, operand)?,
-        (None, Some(words)) => files::words(arguments, grammar, words)?,
+        (None, Some(words)) => files::words(arguments, grammar, words)?.into(),
     };
-    let known = anchor::apply(arguments, &grammar.named, &mut heard)?;
-    let slots = skip::apply(arguments, &known, &mut heard)?;
-    Ok((heard, slots))
+    let known = anchor::apply(arguments, &grammar.named, &mut lattice.heard)?;
+    let slots = skip::apply(arguments, &known, &mut lattice.heard)?;
+    Ok((lattice, slots))
 }
 
 fn run(arguments: &Arguments, output: &mut Output) -> Result<(), Failure> {
@@ -230,6 +234,10 @@ pub fn json_of(listed: &Listed, ranks: RangeInclusive<usize>) -> Vec<u8> {
         json::end_reading(&mut line);
     }
     json::end_list(&mut line);
+    if let Some(weight) = listed.complete_up_to {
+        json::push_key(&mut line, "complete_up_to");
+        line.extend(weight.to_string().bytes());
+    }
     if listed.used_up {
         line.extend(b",\"used_up\":true");
     }

@@ -6,16 +6,16 @@ use crate::failure::Failure;
 use crate::files;
 use crate::json;
 use crate::no_reading::NO_READING;
-use crate::options::{Arguments, DROP_DELETES, DROP_UNKNOWN, EMPTY, FOLD, JSON, SAID, SCALE};
+use crate::options::{Arguments, DROP_DELETES, DROP_UNKNOWN, EMPTY, EXACT, FOLD, FORMAT, JSON, PATHS, SAID, SCALE};
 use crate::output::{Output, Style};
-use spireyerba::text::NamedGrammar;
+use spireyerba::text::{Lattice, NamedGrammar};
 use spireyerba::{Error, Heard, WordMargin};
 
 pub const COMMAND: Command = Command {
     name: "margins",
     operands: &["GRAMMAR", "UTTERANCE"],
     needed: 2,
-    options: &[JSON, SAID, SCALE, FOLD, DROP_UNKNOWN, DROP_DELETES, EMPTY],
+    options: &[JSON, SAID, SCALE, FOLD, DROP_UNKNOWN, DROP_DELETES, EMPTY, FORMAT, PATHS, EXACT],
     summary: "say which words to listen to again: by how little their costs must fall for another reading to come first",
     details: "\
 A line has an amount, a slot, a word of it that the first reading does not use, and a weight. If the cost of that word alone
@@ -27,7 +27,7 @@ now. The least amounts come first. Words that bring no other reading, however ch
 
 fn run(arguments: &Arguments, output: &mut Output) -> Result<(), Failure> {
     let grammar = files::grammar(arguments.operands[0])?;
-    let (Heard::Slots(utterance), _) = heard(arguments, &grammar)? else {
+    let (Lattice { heard: Heard::Slots(utterance), .. }, _) = heard(arguments, &grammar)? else {
         return Err(arguments.wrong("margins are for slots, not for word graphs"));
     };
     let named = &grammar.named;

@@ -4,7 +4,7 @@ use super::list::{print, Listed, Shown};
 use super::Command;
 use crate::failure::Failure;
 use crate::files;
-use crate::options::{Arguments, DROP_DELETES, DROP_UNKNOWN, EMPTY, FOLD, SCALE, TREE, WANTED};
+use crate::options::{Arguments, DROP_DELETES, DROP_UNKNOWN, EMPTY, EXACT, FOLD, FORMAT, PATHS, SCALE, TREE, WANTED};
 use crate::output::Output;
 use spireyerba::{Error, Lister};
 
@@ -12,7 +12,7 @@ pub const COMMAND: Command = Command {
     name: "panel",
     operands: &["GRAMMAR", "UTTERANCE"],
     needed: 2,
-    options: &[WANTED, TREE, SCALE, FOLD, DROP_UNKNOWN, DROP_DELETES, EMPTY],
+    options: &[WANTED, TREE, SCALE, FOLD, DROP_UNKNOWN, DROP_DELETES, EMPTY, FORMAT, PATHS, EXACT],
     summary: "list as a desk panel does: at most 12 slots and 16 readings",
     details: "\
 Within the panel's limits this is what `list` prints; beyond them the panel refuses. Of a word graph it takes 13 places.",
@@ -22,13 +22,15 @@ Within the panel's limits this is what `list` prints; beyond them the panel refu
 
 fn run(arguments: &Arguments, output: &mut Output) -> Result<(), Failure> {
     let grammar = files::grammar(arguments.operands[0])?;
-    let heard = files::heard(arguments, &grammar, arguments.operands[1])?;
+    let lattice = files::heard(arguments, &grammar, arguments.operands[1])?;
+    let (complete_up_to, heard) = (lattice.complete_up_to(), lattice.heard);
     let wanted = arguments.wanted()?;
     let mut lister = Lister::of(grammar.packed.clone()).panel();
     let readings = lister.list(&heard, wanted).map_err(Error::from)?;
     let listed = Listed {
         grammar,
         heard,
+        complete_up_to,
         readings,
         others: None,
         used_up: false,

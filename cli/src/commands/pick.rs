@@ -4,7 +4,8 @@ use super::list::{drawn, json_of, line, used_up, Listed};
 use super::Command;
 use crate::failure::Failure;
 use crate::options::{
-    Arguments, DISTINCT, DROP_DELETES, DROP_UNKNOWN, EMPTY, EVERY_TREE, FOLD, JSON, SAID, SCALE, SKIP, TREE,
+    Arguments, DISTINCT, DROP_DELETES, DROP_UNKNOWN, EMPTY, EVERY_TREE, EXACT, FOLD, FORMAT, JSON, PATHS, SAID, SCALE,
+    SKIP, TREE,
 };
 use crate::output::Output;
 use spireyerba::limits::MAX_READINGS;
@@ -15,7 +16,22 @@ pub const COMMAND: Command = Command {
     name: "pick",
     operands: &["GRAMMAR", "UTTERANCE"],
     needed: 2,
-    options: &[DISTINCT, EVERY_TREE, TREE, JSON, SAID, SKIP, SCALE, FOLD, DROP_UNKNOWN, DROP_DELETES, EMPTY],
+    options: &[
+        DISTINCT,
+        EVERY_TREE,
+        TREE,
+        JSON,
+        SAID,
+        SKIP,
+        SCALE,
+        FOLD,
+        DROP_UNKNOWN,
+        DROP_DELETES,
+        EMPTY,
+        FORMAT,
+        PATHS,
+        EXACT,
+    ],
     summary: "show one reading after another until one is taken",
     details: "\
 Shows the sentences on standard error, each by its first reading, the least first; with --every-tree all readings. They

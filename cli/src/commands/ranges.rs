@@ -3,7 +3,7 @@
 use super::Command;
 use crate::failure::Failure;
 use crate::files;
-use crate::options::{Arguments, DROP_DELETES, DROP_UNKNOWN, EMPTY, FOLD, SCALE};
+use crate::options::{Arguments, DROP_DELETES, DROP_UNKNOWN, EMPTY, EXACT, FOLD, FORMAT, PATHS, SCALE};
 use crate::output::Output;
 use spireyerba::{Error, Heard, Utterance};
 
@@ -11,7 +11,7 @@ pub const COMMAND: Command = Command {
     name: "ranges",
     operands: &["GRAMMAR", "LOW", "HIGH"],
     needed: 3,
-    options: &[SCALE, FOLD, DROP_UNKNOWN, DROP_DELETES, EMPTY],
+    options: &[SCALE, FOLD, DROP_UNKNOWN, DROP_DELETES, EMPTY, FORMAT, PATHS, EXACT],
     summary: "say how the first weight varies where costs are known within ranges, and whether the first reading stands",
     details: "\
 LOW and HIGH are two utterances of slots, alike but for their costs, of which none falls. Each word costs from what LOW
@@ -25,7 +25,7 @@ derive the utterance, nothing is printed, and a message says so.",
 fn run(arguments: &Arguments, output: &mut Output) -> Result<(), Failure> {
     let grammar = files::grammar(arguments.operands[0])?;
     let slots = |operand: &str| -> Result<Utterance, Failure> {
-        match files::heard(arguments, &grammar, operand)? {
+        match files::heard(arguments, &grammar, operand)?.heard {
             Heard::Slots(utterance) => Ok(utterance),
             Heard::Graph(_) => Err(arguments.wrong("ranges of costs are for slots, not for word graphs")),
         }

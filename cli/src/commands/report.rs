@@ -6,7 +6,8 @@ use crate::anchor;
 use crate::failure::Failure;
 use crate::files;
 use crate::options::{
-    Arguments, DISTINCT, DROP_DELETES, DROP_UNKNOWN, EMPTY, EVERY_TREE, FILE, FOLD, HIGH, SAID, SCALE, SKIP, WANTED,
+    Arguments, DISTINCT, DROP_DELETES, DROP_UNKNOWN, EMPTY, EVERY_TREE, EXACT, FILE, FOLD, FORMAT, HIGH, PATHS, SAID,
+    SCALE, SKIP, WANTED,
 };
 use crate::output::Output;
 use crate::page::{page, CostChanges, Ranges, Source};
@@ -16,7 +17,7 @@ pub const COMMAND: Command = Command {
     name: "report",
     operands: &["GRAMMAR", "UTTERANCE"],
     needed: 2,
-    options: &[FILE, WANTED, DISTINCT, EVERY_TREE, HIGH, SAID, SKIP, SCALE, FOLD, DROP_UNKNOWN, DROP_DELETES, EMPTY],
+    options: &[FILE, WANTED, DISTINCT, EVERY_TREE, HIGH, SAID, SKIP, SCALE, FOLD, DROP_UNKNOWN, DROP_DELETES, EMPTY, FORMAT, PATHS, EXACT],
     summary: "write a page with what was heard, the readings as drawn trees, and which words to listen to again",
     details: "\
 The page is one file of HTML that needs no other, to be looked at in a browser or printed. Of slots it says which words to
@@ -50,7 +51,7 @@ fn cost_changes(arguments: &Arguments, listed: &Listed, utterance: &Utterance) -
     let Some(operand) = arguments.value(&HIGH) else {
         return Ok(CostChanges { margins, ranges: None });
     };
-    let mut heard = files::heard(arguments, &listed.grammar, operand)?;
+    let mut heard = files::heard(arguments, &listed.grammar, operand)?.heard;
     anchor::apply(arguments, named, &mut heard)?;
     let Heard::Slots(high) = heard else {
         return Err(arguments.wrong("ranges of costs are for slots, not for word graphs"));

@@ -3,7 +3,9 @@
 use super::Command;
 use crate::failure::Failure;
 use crate::files::{self, GrammarFile};
-use crate::options::{Arguments, DROP_DELETES, DROP_UNKNOWN, EMPTY, FILE, FOLD, LATTICE, NETWORK, SCALE};
+use crate::options::{
+    Arguments, DROP_DELETES, DROP_UNKNOWN, EMPTY, EXACT, FILE, FOLD, FORMAT, LATTICE, NETWORK, PATHS, SCALE,
+};
 use crate::output::Output;
 use spireyerba::Heard;
 
@@ -11,7 +13,7 @@ pub const COMMAND: Command = Command {
     name: "unpack",
     operands: &["GRAMMAR", "UTTERANCE", "READING"],
     needed: 1,
-    options: &[FILE, NETWORK, LATTICE, SCALE, FOLD, DROP_UNKNOWN, DROP_DELETES, EMPTY],
+    options: &[FILE, NETWORK, LATTICE, SCALE, FOLD, DROP_UNKNOWN, DROP_DELETES, EMPTY, FORMAT, PATHS, EXACT],
     summary: "turn a block into a text: the last file, under those before it",
     details: "\
 A block has no names: those of an utterance come from the grammar's text, and if the grammar is a block too, symbols
@@ -24,9 +26,9 @@ fn run(arguments: &Arguments, output: &mut Output) -> Result<(), Failure> {
     let grammar = files::grammar(arguments.operands[0])?;
     let text = match arguments.operands[1..] {
         [] => grammar.named.to_text(),
-        [heard] => heard_text(arguments, &grammar, &files::heard(arguments, &grammar, heard)?)?,
+        [heard] => heard_text(arguments, &grammar, &files::heard(arguments, &grammar, heard)?.heard)?,
         [heard, reading, ..] => {
-            let heard = files::heard(arguments, &grammar, heard)?;
+            let heard = files::heard(arguments, &grammar, heard)?.heard;
             let reading = files::reading(&grammar, &heard, reading)?.reading;
             grammar.named.reading_text(&reading)
         }

@@ -153,9 +153,7 @@ fn wrong_usage_of_others() {
 }
 
 /// Two files that are as they should be, and others.
-const WITH_MISTAKES: [(&str, &[u8]); 13] = [
-    ("gzip", b"\x1f\x8b\x08\x00"),
-    ("openfst", b"\xd6\xfd\xb2\x7e\x06\x00"),
+const WITH_MISTAKES: [(&str, &[u8]); 11] = [
     ("case", b"X 1; x 2"),
     ("g", b"A -> B B [3]\nB -> \"x\"\n"),
     ("u", b"x 1\nx 2"),
@@ -181,8 +179,6 @@ fn mistakes_in_files() {
         ("list weight u", "weight:1:11: refused 42: 65536 is too large: a weight is at most 65535"),
         ("list g word", "word:2:1: refused 14: the grammar has no word `y`"),
         ("lint latin", "latin: not UTF-8 (byte 0xfc, line 1): save it as UTF-8"),
-        ("list g gzip", "gzip: compressed by gzip: `gunzip` it, or give `zcat FILE` by a pipe"),
-        ("list g openfst", "openfst: a binary of OpenFst: print it as text by `fstprint`"),
         ("list g case", "case:1:1: refused 14: the grammar has no word `X`, but `x`, of another case: --fold takes both for one"),
         (
             "lint cut",
@@ -190,10 +186,9 @@ fn mistakes_in_files() {
         ),
         ("lint kind", "kind: refused 2: the grammar block's kind is not 1 or 4; and no text, for byte 0x00 in line 1"),
         ("list g slots", &format!("slots: {}; and no text, for byte 0xff in line 1", Refusal::UtteranceRange)),
-        ("list g network", "network:1:7: a confusion network needs a scale by which posteriors become costs: add --scale X, such as 100"),
         (
-            "list g network --scale 100",
-            "network:1:13: `*DELETE*`: a word is said in every slot, and --drop-deletes leaves this out",
+            "list g network",
+            "network:1:7: a confusion network needs a scale by which posteriors become costs: add --scale X, such as 100",
         ),
         ("pack g -o no/folder", "no/folder: No such file or directory (os error 2)"),
     ] {
@@ -326,13 +321,4 @@ fn words_that_differ_in_case_or_composition() {
     assert_eq!(refused(run_in(&folder, "list g u"), 1), message);
     assert_eq!(answer_in(&folder, "list g u --fold"), "1  1  étage\n");
     assert_eq!(answer_in(&folder, "list g v --fold"), "1  2  Seven\n");
-}
-
-/// A message is of a length that a person reads.
-#[test]
-fn long_words_are_cut() {
-    let word = "x".repeat(1_000_000);
-    let folder = folder("long", &[("g", b"A -> \"x\""), ("u", word.as_bytes())]);
-    let message = refused(run_in(&folder, "list g u"), 1);
-    assert_eq!(message, format!("u:1:1: refused 14: the grammar has no word `{}…\n", "x".repeat(119)));
 }

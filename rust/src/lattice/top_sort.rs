@@ -3,7 +3,7 @@
 //! Law: every arc goes from a state to one that stands behind it; of those that may come next the earliest does, then the one
 //! with the lower number. States have such an order if and only if no arcs go round in a cycle.
 
-use super::State;
+use super::{Arc, State};
 use std::cmp::{Ordering, Reverse};
 use std::collections::BinaryHeap;
 
@@ -14,6 +14,8 @@ pub struct Cycle {
     pub state: u32,
     /// The arc's number among those that leave the state.
     pub arc: usize,
+    /// The arc's source.
+    pub source: u32,
 }
 
 /// A state that is next, the earliest first; one without a time comes before those with one.
@@ -65,13 +67,13 @@ pub(super) fn top_sort(states: &[State]) -> Result<Vec<u32>, Cycle> {
 fn cycle(states: &[State], entering: &[u32]) -> Cycle {
     let mut before: Vec<Option<Cycle>> = vec![None; states.len()];
     for (state, of) in (0..).zip(states) {
-        for (arc, to) in of.arcs.iter().map(|arc| arc.to).enumerate() {
+        for (arc, &Arc { to, source, .. }) in of.arcs.iter().enumerate() {
             if entering[state as usize] > 0 && entering[to as usize] > 0 {
-                before[to as usize].get_or_insert(Cycle { state, arc });
+                before[to as usize].get_or_insert(Cycle { state, arc, source });
             }
         }
     }
-    let mut at = before.iter().flatten().next().copied().unwrap_or(Cycle { state: 0, arc: 0 });
+    let mut at = before.iter().flatten().next().copied().unwrap_or(Cycle { state: 0, arc: 0, source: 0 });
     // after as many steps as there are states the walk is on a cycle
     for _ in 0..states.len() {
         at = before[at.state as usize].unwrap_or(at);
@@ -83,7 +85,6 @@ fn cycle(states: &[State], entering: &[u32]) -> Cycle {
 mod tests {
     use super::super::testing::{random_states, Rng};
     use super::*;
-    use crate::lattice::Arc;
 
     #[test]
     fn arcs_go_to_states_behind() {
@@ -109,7 +110,7 @@ mod tests {
             states[from as usize].arcs.push(Arc { label: 1, to, weight: 0, source: 0 });
             match top_sort(&states) {
                 Ok(_) => assert!(!reaches(&states, to, from)),
-                Err(Cycle { state, arc }) => {
+                Err(Cycle { state, arc, .. }) => {
                     let end = states[state as usize].arcs[arc].to;
                     assert!(reaches(&states, end, state), "seed {seed}");
                 }

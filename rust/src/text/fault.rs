@@ -1,8 +1,8 @@
 //! What can be wrong at a place of a text.
 
-use super::shorten::shortened;
+use super::formats::MAX_LINKS;
 use super::RuleFault;
-use crate::limits::{MAX_SHARE, MAX_WEIGHT, NOT_HEARD};
+use crate::limits::{MAX_EDGES, MAX_PLACES, MAX_SHARE, MAX_WEIGHT, NOT_HEARD};
 use crate::Refusal;
 use std::fmt::{Display, Formatter};
 
@@ -177,6 +177,26 @@ pub enum Fault {
         /// The two nodes.
         nodes: [u32; 2],
     },
+    /// More links than a lattice is read with.
+    Links,
+    /// A lattice of which even what weighs the least does not fit into a word graph.
+    DoesNotFit {
+        /// So many places that takes.
+        places: usize,
+        /// So many edges that takes.
+        edges: usize,
+    },
+    /// A lattice that does not fit into a word graph, where nothing is to be left out.
+    NotExact {
+        /// So many edges it takes.
+        edges: usize,
+    },
+    /// Not one lattice where one is read.
+    ManyLattices(usize),
+    /// Values of JSON within values, too deep.
+    JsonDepth,
+    /// JSON, but not that of a known recogniser.
+    OtherJson,
 }
 
 impl Fault {
@@ -185,6 +205,7 @@ impl Fault {
         match self {
             Self::TooMany { refusal, .. } | Self::None { refusal, .. } => Some(*refusal),
             Self::Rule(fault) => fault.refusal(),
+            Self::Links | Self::DoesNotFit { .. } | Self::NotExact { .. } => Some(Refusal::UtteranceRange),
             Self::TooLarge { .. } | Self::CostTooLarge(_) => Some(Refusal::SheetValue),
             Self::RepeatedRule { .. } => Some(Refusal::GrammarRepeat),
             Self::Share(_) => Some(Refusal::ShareRange),
@@ -300,6 +321,35 @@ impl Fault {
             Self::TwoEnds { field, nodes: [one, other] } => {
                 write!(formatter, "there is no {field}=, and it could be node {one} or node {other}")
             }
+            _ => self.format_words(formatter),
+        }
+    }
+
+    /// What is wrong in what a recogniser wrote, whatever its format.
+    fn format_words(&self, formatter: &mut Formatter) -> std::fmt::Result {
+        let limits = format!("a word graph has {MAX_PLACES} places and {MAX_EDGES} edges");
+        match self {
+            Self::Links => {
+                let how = "`lattice-prune --beam`, `lattice-tool -posterior-prune` or `HLRescore -t`";
+                write!(formatter, "more than {MAX_LINKS} links: prune the lattice where it is made, such as by {how}")
+            }
+            Self::DoesNotFit { places, edges } => {
+                let takes = format!("even what weighs the least takes {places} places and {edges} edges, and {limits}");
+                write!(formatter, "{takes}: cut the utterance in two, or give words different scores")
+            }
+            Self::NotExact { edges } => {
+                let without =
+                    "without --exact the readings of least weight are kept, and it is said up to which weight";
+                write!(formatter, "the lattice takes {edges} edges, and {limits}: {without}")
+            }
+            Self::ManyLattices(count) => {
+                write!(formatter, "the text has {count} utterances, and one is read here: `batch` takes many")
+            }
+            Self::JsonDepth => write!(formatter, "values of JSON within values go too deep"),
+            Self::OtherJson => {
+                let known = "Vosk (text, result, alternatives), AWS Transcribe (results.items), Google (results) or Azure (NBest)";
+                write!(formatter, "JSON, but not in a form of {known}")
+            }
             _ => unreachable!("the other faults are worded before"),
         }
     }
@@ -311,20 +361,33 @@ impl From<RuleFault> for Fault {
     }
 }
 
-/// A fault, to be worded without the number.
-struct InWords<'a>(&'a Fault);
-
-impl Display for InWords<'_> {
-    fn fmt(&self, formatter: &mut Formatter) -> std::fmt::Result {
-        self.0.words(formatter)
-    }
-}
+/// A message has at most so many characters, of which so many stand before what is left out of its middle.
+const LONGEST: usize = 400;
+const BEFORE: usize = 200;
 
 impl Display for Fault {
     fn fmt(&self, formatter: &mut Formatter) -> std::fmt::Result {
         if let Some(refusal) = self.refusal() {
             write!(formatter, "refused {}: ", refusal.number())?;
         }
-        write!(formatter, "{}", shortened(&InWords(self).to_string()))
+        let words = Words(self).to_string();
+        let mut cuts = words.char_indices().map(|(at, _)| at);
+        match (cuts.clone().nth(BEFORE), cuts.clone().nth(LONGEST)) {
+            // a word may be as long as a file
+            (Some(before), Some(_)) => {
+                let behind = cuts.nth_back(LONGEST - BEFORE - 1).unwrap_or(before);
+                write!(formatter, "{} .. {}", &words[..before], &words[behind..])
+            }
+            _ => formatter.write_str(&words),
+        }
+    }
+}
+
+/// What is wrong, however long it is.
+struct Words<'a>(&'a Fault);
+
+impl Display for Words<'_> {
+    fn fmt(&self, formatter: &mut Formatter) -> std::fmt::Result {
+        self.0.words(formatter)
     }
 }

@@ -1,14 +1,15 @@
 //! The text of a word graph.
 
+use super::formats::Format;
 use super::lattice::is_lattice;
 use super::scan::{digits, weight, Token, Tokens, UTTERANCE};
 use super::utterance::UtteranceReader;
 use super::{without_mark, Fault, NamedGrammar};
 use crate::limits::{MAX_EDGES, MAX_PLACES};
-use crate::{Candidate, Edge, Error, Graph, Position, Refusal};
+use crate::{Candidate, Edge, Error, Graph, Heard, Position, Refusal};
 
 /// Whether a text is a word graph: it has a line with two numbers and a word, which no text of slots can have, or it is a
-/// lattice.
+/// lattice of HTK.
 pub fn is_graph(text: &str) -> bool {
     let text = without_mark(text);
     text.lines().any(begins_with_edge) || is_lattice(text)
@@ -35,12 +36,20 @@ struct Lines {
 }
 
 impl UtteranceReader<'_> {
-    /// Reads the text of a word graph, or a lattice.
+    /// Reads the text of a word graph, or a lattice in any format.
     pub fn read_graph(&self, text: &str) -> Result<Graph, Error> {
-        let text = without_mark(text);
-        if is_lattice(text) {
-            return self.read_lattice(text);
+        let format = self.format.unwrap_or_else(|| Format::of(text));
+        if matches!(format, Format::Slots) {
+            return self.read_plain_graph(without_mark(text));
         }
+        match self.read_heard(text)?.heard {
+            Heard::Graph(graph) => Ok(graph),
+            Heard::Slots(utterance) => Ok(Graph::from(&utterance)),
+        }
+    }
+
+    /// Reads a word graph of whole numbers.
+    pub(super) fn read_plain_graph(&self, text: &str) -> Result<Graph, Error> {
         let mut graph = Lines::default();
         let mut end = Position { line: 1, column: 1 };
         for (before, line) in text.lines().enumerate() {
@@ -137,8 +146,17 @@ impl Lines {
     }
 }
 
-pub(super) fn too_many(what: &'static str, limit: u32) -> Fault {
-    Fault::TooMany { what, within: "a word graph", limit, refusal: Refusal::UtteranceRange }
+/// Whether what is wrong in a word graph of whole numbers need not be wrong in an FST: how its states are numbered, how many
+/// there are, and that arcs are alike.
+pub(super) fn is_plain_fault(fault: &Fault) -> bool {
+    let too_large = matches!(fault, Fault::TooMany { within: GRAPH, .. });
+    too_large || matches!(fault, Fault::EdgePlaces { .. } | Fault::EarlyEnd { .. } | Fault::RepeatedEdge { .. })
+}
+
+const GRAPH: &str = "a word graph";
+
+fn too_many(what: &'static str, limit: u32) -> Fault {
+    Fault::TooMany { what, within: GRAPH, limit, refusal: Refusal::UtteranceRange }
 }
 
 /// The number of a place.
@@ -154,9 +172,9 @@ fn place(token: Token, tokens: &Tokens) -> Result<u32, Error> {
 }
 
 impl NamedGrammar {
-    /// Reads the text of a word graph over this grammar's words, as [`UtteranceReader::read_graph`] does.
+    /// Reads the text of a word graph of whole numbers over this grammar's words.
     pub fn parse_graph(&self, text: &str) -> Result<Graph, Error> {
-        UtteranceReader::new(self).read_graph(text)
+        UtteranceReader::new(self).read_plain_graph(without_mark(text))
     }
 
     /// The text of a word graph over this grammar's words, from which [`parse_graph`](Self::parse_graph) reads it again:

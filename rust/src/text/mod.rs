@@ -81,7 +81,7 @@
 //! 3
 //! ```
 //!
-//! An edge a line, as OpenFst and Kaldi print lattices: the place where a word starts, the one where it ends, the word, and its
+//! An edge a line: the place where a word starts, the one where it ends, the word, and its
 //! cost, which is 0 if it is left out. Edges are numbered as they stand. A line with one number has the last place; without
 //! it that is the last one that an edge reaches. A semicolon ends an edge too, so that a graph can stand in one line. Lattices
 //! in HTK's standard lattice format (SLF) are word graphs too:
@@ -104,9 +104,17 @@
 //! say nothing. Its score is `a=` times `acscale=`, `l=` times `lmscale=`, `r=` times `prscale=`, and for a word `wdpenalty=`,
 //! all of them logarithms to `base=` (e unless given, and 0 for likelihoods), and its cost is minus the natural logarithm
 //! times the reader's scale, rounded. HTK's logarithm of 0, -1e10, says that the word was not heard. Other fields are passed
-//! over. The graph has no links without words: their scores go to the word before them, or at the beginning to that behind
-//! them. Of links with one word between the same places, such as pronunciations, the cheapest stays, and what is on no path
-//! from the start to the end is left out. Places are numbered so that edges go up, the earlier first.
+//! over; links with `p=` alone have posteriors. Words of silence, such as `<sil>`, `[noise]` or `++um++`, say nothing unless
+//! the grammar has them.
+//!
+//! # Other formats
+//!
+//! [`UtteranceReader::read_heard`] reads what recognisers write in any [`Format`], told by what stands in it: HTK's lattices,
+//! OpenFst's acceptors and transducers, Kaldi's lattices, confusion networks, lists of the best sentences, CTM, and the JSON of
+//! Vosk, AWS Transcribe, Google and Azure. Scores become costs by the reader's scale, rounded link by link. From there on
+//! everything is exact ([`lattice`](crate::lattice)): the graph has each word string of the lattice at its least cost, or, with
+//! [`Keep::Paths`](crate::lattice::Keep), every path. What does not fit is pruned by the widest beam, and [`Lattice`] says up to
+//! which weight every reading is there. Places are numbered so that edges go up, the earlier first.
 //!
 //! # Readings
 //!
@@ -141,8 +149,10 @@ mod expansion;
 mod fault;
 mod finish;
 mod fold;
+mod formats;
 mod grammar;
 mod graph;
+mod items;
 mod lattice;
 mod names;
 mod nearest;
@@ -157,12 +167,12 @@ mod scan;
 mod score;
 mod sentence;
 mod shares;
-mod shorten;
 mod source;
 mod translation;
 mod utterance;
 
 pub use fault::Fault;
+pub use formats::{binary_kind, Format, Lattice, Recognised};
 pub use grammar::Places;
 pub use graph::is_graph;
 pub use names::NamedGrammar;

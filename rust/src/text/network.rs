@@ -1,6 +1,7 @@
 //! Confusion networks as SRILM writes them (wlat-format(5)): lines `numaligns COUNT`, `posterior SUM` and, for each
 //! alignment, `align NUMBER WORD POSTERIOR WORD POSTERIOR ..`. Other lines are passed over.
 
+use super::items::{lines, Item, Line};
 use super::score::{scaled, shortest};
 use super::utterance::{Slots, UtteranceReader};
 use super::{Fault, NamedGrammar};
@@ -16,6 +17,9 @@ const DELETION: &str = "*DELETE*";
 /// The words at the ends of a sentence, which nobody says.
 const SENTENCE_ENDS: [&str; 2] = ["<s>", "</s>"];
 
+/// A share may pass 1 by so much.
+const ROUNDING: f64 = 1e-3;
+
 /// Lesser posteriors are written with an exponent.
 const LEAST_PLAIN: f64 = 1e-4;
 
@@ -29,32 +33,11 @@ pub(super) fn is_network(text: &str) -> bool {
     })
 }
 
-/// A piece of a line without blanks, and where it stands.
-struct Item<'a> {
-    text: &'a str,
-    position: Position,
-}
-
 impl Item<'_> {
-    fn fault(&self, fault: Fault) -> Error {
-        Error::at(self.position, fault)
+    /// Whether it says that perhaps nothing was said.
+    pub(super) fn is_deletion(&self) -> bool {
+        self.text == DELETION
     }
-
-    /// A number of the network itself, such as how many alignments it has.
-    fn count(&self) -> Result<usize, Error> {
-        self.text.parse().map_err(|_| self.fault(Fault::Number(self.text.to_owned())))
-    }
-
-    fn posterior(&self) -> Result<f64, Error> {
-        let number = self.text.parse().ok().filter(|number: &f64| number.is_finite() && *number >= 0.0);
-        number.ok_or_else(|| self.fault(Fault::Posterior(self.text.to_owned())))
-    }
-}
-
-fn items(line: &str, number: usize) -> Vec<Item<'_>> {
-    let offset = |item: &str| item.as_ptr() as usize - line.as_ptr() as usize;
-    let position = |item: &str| Position { line: number, column: line[..offset(item)].chars().count() + 1 };
-    line.split_whitespace().map(|text| Item { text, position: position(text) }).collect()
 }
 
 /// A network as it is written.
@@ -70,16 +53,16 @@ impl<'a> Alignments<'a> {
     pub(super) fn parse(text: &'a str) -> Result<Self, Error> {
         let mut network = Self { alignments: Vec::new(), posterior: 1.0, end: Position { line: 1, column: 1 } };
         let mut said = None;
-        for (before, line) in text.lines().enumerate() {
-            network.end.line = before + 1;
-            let mut items = items(line, before + 1).into_iter();
+        for line in lines(text) {
+            network.end.line = line.number;
+            let mut items = line.items();
             let kind = items.next();
             match kind.as_ref().map(|item| item.text) {
-                Some(COUNT) => said = Some(needed(items.next(), line, before + 1, "how many alignments there are")?),
+                Some(COUNT) => said = Some(items.next().ok_or_else(|| line.ends("how many alignments there are"))?),
                 Some(POSTERIOR) => {
-                    network.posterior = needed(items.next(), line, before + 1, "a posterior")?.posterior()?
+                    network.posterior = items.next().ok_or_else(|| line.ends("a posterior"))?.posterior()?
                 }
-                Some(ALIGNMENT) => network.alignment(line, before + 1, items)?,
+                Some(ALIGNMENT) => network.alignment(line, items)?,
                 _ => {}
             }
         }
@@ -92,18 +75,39 @@ impl<'a> Alignments<'a> {
         Ok(network)
     }
 
-    fn alignment(&mut self, line: &str, number: usize, mut items: impl Iterator<Item = Item<'a>>) -> Result<(), Error> {
-        let first = needed(items.next(), line, number, "an alignment's number")?;
+    fn alignment(&mut self, line: Line<'a>, mut items: impl Iterator<Item = Item<'a>>) -> Result<(), Error> {
+        let first = items.next().ok_or_else(|| line.ends("an alignment's number"))?;
         let expected = self.alignments.len();
         if first.count()? != expected {
             return Err(first.fault(Fault::AlignmentOrder { expected, found: first.text.to_owned() }));
         }
         let mut words = Vec::new();
         while let Some(word) = items.next() {
-            words.push([word, needed(items.next(), line, number, "a posterior")?]);
+            words.push([word, items.next().ok_or_else(|| line.ends("a posterior"))?]);
         }
         self.alignments.push((first.position, words));
         Ok(())
+    }
+
+    /// The alignments that are slots. Those of marks of a sentence's ends are none.
+    pub(super) fn said(&self) -> impl Iterator<Item = &(Position, Vec<[Item<'a>; 2]>)> {
+        let is_end = |words: &[[Item; 2]]| words.iter().all(|[word, _]| SENTENCE_ENDS.contains(&word.text));
+        self.alignments.iter().filter(move |(_, words)| words.is_empty() || !is_end(words))
+    }
+
+    /// The share of the network's posterior that a word has.
+    pub(super) fn share(&self, posterior: &Item) -> Result<f64, Error> {
+        let share = posterior.posterior()? / self.posterior;
+        // rounded posteriors may pass the whole by a little
+        match share <= 1.0 + ROUNDING {
+            true => Ok(share.min(1.0)),
+            false => Err(posterior.fault(Fault::Posterior(posterior.text.to_owned()))),
+        }
+    }
+
+    /// Where the network's text ends.
+    pub(super) fn end(&self) -> Position {
+        self.end
     }
 
     /// The network as slots. Marks of a sentence's ends are no slots.
@@ -113,10 +117,7 @@ impl<'a> Alignments<'a> {
         let scale = reader.scale.ok_or(Error::at(begin, no_scale))?;
         let mut numbers = Vec::new();
         let mut slots = Slots::begin(&mut numbers);
-        for (position, words) in &self.alignments {
-            if !words.is_empty() && words.iter().all(|[word, _]| SENTENCE_ENDS.contains(&word.text)) {
-                continue;
-            }
+        for (position, words) in self.said() {
             let at = |fault| Error::at(*position, fault);
             slots.begin_slot().map_err(at)?;
             for [word, posterior] in words {
@@ -135,7 +136,7 @@ impl<'a> Alignments<'a> {
         [word, posterior]: [&Item; 2],
         scale: f64,
     ) -> Result<(), Error> {
-        if word.text == DELETION {
+        if word.is_deletion() {
             return if reader.drop_deletes { Ok(()) } else { Err(word.fault(Fault::Deletion)) };
         }
         let share = posterior.posterior()? / self.posterior;
@@ -146,14 +147,6 @@ impl<'a> Alignments<'a> {
         }
         Ok(())
     }
-}
-
-/// An item that has to stand in a line.
-fn needed<'a>(item: Option<Item<'a>>, line: &str, number: usize, wanted: &'static str) -> Result<Item<'a>, Error> {
-    item.ok_or_else(|| {
-        let position = Position { line: number, column: line.trim_end().chars().count() + 1 };
-        Error::at(position, Fault::Expected { wanted, found: None })
-    })
 }
 
 /// The cost of a word with this share of the network's posterior. A word whose posterior is 0 was not heard.

@@ -1,10 +1,12 @@
 //! The text of an utterance of slots.
 
 use super::fold::{difference, folded};
+use super::formats::Format;
 use super::network::{is_network, Alignments};
 use super::plain::PlainWords;
 use super::scan::{is_bare, quoted, weight, Token, Tokens, UTTERANCE};
 use super::{without_mark, Fault, NamedGrammar};
+use crate::lattice::Keep;
 use crate::limits::{MAX_CANDIDATES, MAX_SLOTS};
 use crate::utterance::pack_accepted;
 use crate::{Candidate, Error, Position, Refusal, Utterance};
@@ -45,6 +47,15 @@ pub struct UtteranceReader<'a> {
     pub drop_deletes: bool,
     /// Words that nobody says in lattices, such as those for silence, beside `!NULL` and the marks of a sentence's ends.
     pub empty_words: Vec<String>,
+    /// The format that texts have; told by what stands in them unless given.
+    pub format: Option<Format>,
+    /// What is kept of lattices.
+    pub keep: Keep,
+    /// Refuse a lattice that a word graph has no room for in place of pruning it.
+    pub exact: bool,
+    /// Keep words that the grammar does not have, as [`UNKNOWN`](crate::lattice::UNKNOWN), in
+    /// [`recognised`](Self::recognised).
+    pub keep_unknown: bool,
 }
 
 impl<'a> UtteranceReader<'a> {
@@ -64,12 +75,17 @@ impl<'a> UtteranceReader<'a> {
             drop_unknown: false,
             drop_deletes: false,
             empty_words: Vec::new(),
+            format: None,
+            keep: Keep::default(),
+            exact: false,
+            keep_unknown: false,
         }
     }
 
     /// Reads the text of an utterance, or a confusion network.
     pub fn read(&self, text: &str) -> Result<Utterance, Error> {
         let text = without_mark(text);
+        let is_network = |text| self.format.map_or_else(|| is_network(text), |format| format == Format::Network);
         if is_network(text) {
             return Alignments::parse(text)?.utterance(self);
         }
@@ -189,6 +205,12 @@ impl<'a> UtteranceReader<'a> {
             }
             number => Ok(number),
         }
+    }
+
+    /// The number of a word, if the grammar has it.
+    pub(super) fn known(&self, word: &str) -> Option<u32> {
+        let other = || self.fold.then(|| self.folded.get(&folded(word)).copied()).flatten();
+        self.words.get(word).copied().or_else(other)
     }
 
     /// The number of a word; nothing if the grammar does not have it and such words are left out.

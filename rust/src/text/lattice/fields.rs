@@ -7,6 +7,7 @@ use crate::{Error, Position};
 /// A line that begins with it is a comment.
 const COMMENT: char = '#';
 const QUOTES: [u8; 2] = [b'"', b'\''];
+const APOSTROPHE: u8 = b'\'';
 const ESCAPE: u8 = b'\\';
 /// Behind a backslash so many octal digits are a byte.
 const OCTAL_DIGITS: usize = 3;
@@ -42,8 +43,12 @@ pub(super) fn fields(line: &str, number: usize) -> Result<Vec<Field<'_>>, Error>
     if rest.starts_with(COMMENT) {
         return Ok(list);
     }
+    // up to where columns are counted, so that a long line is counted once
+    let (mut counted, mut column) = (0, 1);
     while !rest.is_empty() {
-        let column = line[..line.len() - rest.len()].chars().count() + 1;
+        let at = line.len() - rest.len();
+        column += line[counted..at].chars().count();
+        counted = at;
         let position = Position { line: number, column };
         let item = rest.split_whitespace().next().unwrap_or(rest);
         let Some((name, _)) = item.split_once('=') else {
@@ -61,7 +66,9 @@ pub(super) fn fields(line: &str, number: usize) -> Result<Vec<Field<'_>>, Error>
 /// The value at the front of a text, quoted or not, and how many bytes it takes.
 fn value(text: &str) -> Result<(String, usize), Fault> {
     let bytes = text.as_bytes();
-    let quote = bytes.first().copied().filter(|first| QUOTES.contains(first));
+    // a word may begin with an apostrophe, and then no other one ends it
+    let is_quote = |first: &u8| QUOTES.contains(first) && (*first != APOSTROPHE || text[1..].contains('\''));
+    let quote = bytes.first().copied().filter(is_quote);
     let (mut at, mut value) = (usize::from(quote.is_some()), Vec::new());
     loop {
         match (bytes.get(at), quote) {

@@ -8,15 +8,15 @@
 
 mod fields;
 mod parse;
-mod paths;
 
+use super::formats::Draft;
 use super::score::{scaled, shortest};
 use super::utterance::UtteranceReader;
 use super::{without_mark, NamedGrammar};
+use crate::lattice::Keep;
 use crate::limits::NOT_HEARD;
 use crate::{Edge, Error, Graph};
 use fields::written;
-use parse::Lattice;
 
 /// How HTK writes the logarithm of 0.
 const LOGARITHM_OF_ZERO: &str = "-1e10";
@@ -35,19 +35,20 @@ pub(super) fn is_lattice(text: &str) -> bool {
 }
 
 impl UtteranceReader<'_> {
-    /// Reads a lattice.
-    pub(super) fn read_lattice(&self, text: &str) -> Result<Graph, Error> {
-        let lattice = Lattice::parse(text, &self.empty_words)?;
-        paths::graph(&lattice, self)
+    /// Reads a lattice as it is written.
+    pub(super) fn slf_draft(&self, text: &str) -> Result<Draft, Error> {
+        parse::parse(text, &self.empty_words)
     }
 }
 
 impl NamedGrammar {
-    /// The lattice of a word graph over this grammar's words, from which an [`UtteranceReader`] with the same scale reads it
-    /// again. Nothing if that is not possible: a word means something else in lattices, a place or an edge is on no path from
-    /// the first place to the last, or a cost is so great beside the scale that its score cannot be told from another's.
+    /// The lattice of a word graph over this grammar's words, from which an [`UtteranceReader`] with the same scale that keeps
+    /// all paths reads it again, but for edges whose word was not heard, which are on no path of a lattice. Nothing if that is
+    /// not possible: a word means something else in lattices, a place or another edge is on no path from the first place to
+    /// the last, or a cost is so great beside the scale that its score cannot be told from another's.
     ///
     /// ```
+    /// use spireyerba::lattice::Keep;
     /// use spireyerba::text::{NamedGrammar, UtteranceReader};
     ///
     /// let doors = NamedGrammar::parse("Entry -> Door Number\nDoor -> \"door\"\nNumber -> \"four\" | \"five\"")?;
@@ -55,7 +56,7 @@ impl NamedGrammar {
     /// let lattice = doors.lattice_text(&graph, 100.0).ok_or("on a path, and the costs are small")?;
     /// assert!(lattice.ends_with("J=2 S=1 E=2 W=four a=-0.09\n"));
     /// let mut reader = UtteranceReader::new(&doors);
-    /// reader.scale = Some(100.0);
+    /// (reader.scale, reader.keep) = (Some(100.0), Keep::Paths);
     /// assert_eq!(reader.read_graph(&lattice)?, graph);
     /// # Ok::<(), Box<dyn std::error::Error>>(())
     /// ```
@@ -69,8 +70,9 @@ impl NamedGrammar {
             text += &format!("J={number} S={from} E={to} W={word} a={}\n", score(cost, scale)?);
         }
         let mut reader = UtteranceReader::new(self);
-        reader.scale = Some(scale);
-        (reader.read_graph(without_mark(&text)).as_ref() == Ok(graph)).then_some(text)
+        (reader.scale, reader.keep) = (Some(scale), Keep::Paths);
+        let heard = edges.iter().copied().filter(|edge| edge.is_offered()).collect();
+        (reader.read_graph(without_mark(&text)) == Ok(Graph { places: *places, edges: heard })).then_some(text)
     }
 }
 

@@ -1,10 +1,14 @@
 //! The nodes and links of a lattice as they are written.
 
 use super::fields::{fields, Field};
+use crate::text::formats::{Draft, Link, MAX_LINKS};
+use crate::text::score::LEAST_LOGARITHM;
 use crate::text::Fault;
 use crate::{Error, Position};
 use std::collections::HashMap;
 
+/// A posterior may pass 1 by so much, as rounded ones do.
+const ROUNDING: f64 = 1e-3;
 /// The words that nobody says.
 const EMPTY_WORDS: [&str; 5] = ["!NULL", "<s>", "</s>", "!SENT_START", "!SENT_END"];
 
@@ -13,6 +17,8 @@ type Placed = (u32, Position);
 
 /// What stands before the nodes.
 struct Header {
+    /// The name of the utterance.
+    utterance: Option<String>,
     nodes: Option<Placed>,
     links: Option<Placed>,
     start: Option<Placed>,
@@ -28,7 +34,7 @@ struct Header {
 impl Default for Header {
     fn default() -> Self {
         let [nodes, links, start, end] = [None; 4];
-        Self { nodes, links, start, end, base: Some(1.0), scales: [1.0; 3], penalty: None }
+        Self { utterance: None, nodes, links, start, end, base: Some(1.0), scales: [1.0; 3], penalty: None }
     }
 }
 
@@ -36,6 +42,7 @@ impl Header {
     fn take(&mut self, field: &Field) -> Result<(), Error> {
         let placed = || field.number().map(|number| Some((number, field.position)));
         match field.name {
+            "UTTERANCE" | "U" => self.utterance = Some(field.value.clone()),
             "N" | "NODES" => self.nodes = placed()?,
             "L" | "LINKS" => self.links = placed()?,
             "start" => self.start = placed()?,
@@ -74,19 +81,8 @@ fn base(field: &Field) -> Result<Option<f64>, Error> {
 #[derive(Debug)]
 pub(super) struct Node {
     pub(super) number: u32,
-    pub(super) time: f64,
+    pub(super) time: Option<f64>,
     word: Option<String>,
-    pub(super) position: Position,
-}
-
-/// A link between nodes, which are numbered as they stand.
-pub(super) struct Link {
-    pub(super) from: usize,
-    pub(super) to: usize,
-    /// What is said on it, if anything is.
-    pub(super) word: Option<String>,
-    /// The natural logarithm of its likelihood.
-    pub(super) score: f64,
     pub(super) position: Position,
 }
 
@@ -97,6 +93,8 @@ struct Written {
     word: Option<String>,
     /// Acoustic, of the language model and of the pronunciation, and where each stands.
     scores: [Option<(f64, Position)>; 3],
+    /// The share of all paths that go over it.
+    posterior: Option<(f64, Position)>,
 }
 
 /// A lattice that is being read.
@@ -111,37 +109,27 @@ struct Parser {
     lines: usize,
 }
 
-pub(super) struct Lattice {
-    pub(super) nodes: Vec<Node>,
-    pub(super) links: Vec<Link>,
-    pub(super) start: usize,
-    pub(super) end: usize,
-    pub(super) end_of_text: Position,
-}
-
-impl Lattice {
-    /// Reads a lattice in which nobody says these words either.
-    pub(super) fn parse(text: &str, empty_words: &[String]) -> Result<Self, Error> {
-        let mut parser = Parser::default();
-        for (before, line) in text.lines().enumerate() {
-            parser.lines = before + 1;
-            let fields = fields(line, parser.lines)?;
-            match fields.first().map(|field| field.name) {
-                Some("I") => parser.node(&fields)?,
-                Some("J") => parser.link(&fields, line)?,
-                _ => fields.iter().try_for_each(|field| parser.header.take(field))?,
-            }
+/// Reads a lattice in which nobody says these words either.
+pub(super) fn parse(text: &str, empty_words: &[String]) -> Result<Draft, Error> {
+    let mut parser = Parser::default();
+    for (before, line) in text.lines().enumerate() {
+        parser.lines = before + 1;
+        let fields = fields(line, parser.lines)?;
+        match fields.first().map(|field| field.name) {
+            Some("I") => parser.node(&fields)?,
+            Some("J") => parser.link(&fields, line)?,
+            _ => fields.iter().try_for_each(|field| parser.header.take(field))?,
         }
-        parser.finish(empty_words)
     }
+    parser.finish(empty_words)
 }
 
 impl Parser {
     fn node(&mut self, fields: &[Field]) -> Result<(), Error> {
-        let mut node = Node { number: fields[0].number()?, time: 0.0, word: None, position: fields[0].position };
+        let mut node = Node { number: fields[0].number()?, time: None, word: None, position: fields[0].position };
         for field in &fields[1..] {
             match field.name {
-                "t" | "time" => node.time = finite(field)?,
+                "t" | "time" => node.time = Some(finite(field)?),
                 "W" | "WORD" => node.word = Some(field.value.clone()),
                 "L" => return Err(field.fault(Fault::Sublattice)),
                 _ => {}
@@ -166,6 +154,7 @@ impl Parser {
                 "a" | "acoustic" => link.scores[0] = score()?,
                 "l" | "language" => link.scores[1] = score()?,
                 "r" => link.scores[2] = score()?,
+                "p" => link.posterior = score()?,
                 _ => {}
             }
         }
@@ -175,25 +164,39 @@ impl Parser {
                 return Err(Error::at(position, Fault::Expected { wanted, found: None }));
             }
         }
+        if self.links.len() == MAX_LINKS {
+            return Err(fields[0].fault(Fault::Links));
+        }
         self.links.push((link, fields[0].position));
         Ok(())
     }
 
-    fn finish(self, empty_words: &[String]) -> Result<Lattice, Error> {
+    fn finish(self, empty_words: &[String]) -> Result<Draft, Error> {
         self.count("nodes", self.header.nodes, self.nodes.len())?;
         self.count("links", self.header.links, self.links.len())?;
         let said = |word: &&String| !EMPTY_WORDS.contains(&word.as_str()) && !empty_words.contains(word);
-        let links = self.links.iter().map(|(written, position)| self.finish_link(written, *position, said));
-        let links = links.collect::<Result<Vec<Link>, Error>>()?;
+        // posteriors count where nothing else does
+        let is_scored = self.links.iter().any(|(written, _)| written.scores.iter().any(Option::is_some));
+        let link = |(written, position): &(Written, Position)| self.finish_link(written, *position, said, is_scored);
+        let links = self.links.iter().map(link).collect::<Result<Vec<Link>, Error>>()?;
         let end_of_text = Position { line: self.lines.max(1), column: 1 };
-        let without = |end: fn(&Link) -> usize| {
+        let without = |end: fn(&Link) -> u32| {
             let mut is_free = vec![true; self.nodes.len()];
-            links.iter().for_each(|link| is_free[end(link)] = false);
+            links.iter().for_each(|link| is_free[end(link) as usize] = false);
             is_free
         };
         let start = self.end("start", self.header.start, &without(|link| link.to), end_of_text)?;
         let end = self.end("end", self.header.end, &without(|link| link.from), end_of_text)?;
-        Ok(Lattice { nodes: self.nodes, links, start, end, end_of_text })
+        Ok(Draft {
+            id: self.header.utterance,
+            times: self.nodes.iter().map(|node| node.time).collect(),
+            links,
+            start: start as u32,
+            ends: vec![(end as u32, 0.0)],
+            end_of_text: Some(end_of_text),
+            scored: Some(("lattice", "scores")),
+            is_written_out: false,
+        })
     }
 
     /// Refuses a lattice that has not as many nodes or links as it says.
@@ -212,12 +215,13 @@ impl Parser {
         found.ok_or_else(|| Error::at(position, Fault::NoNode(number.to_string())))
     }
 
-    /// The link between nodes with the word that is said on it, and its score.
+    /// The link between nodes with the word that is said on it, and its cost.
     fn finish_link(
         &self,
         written: &Written,
         position: Position,
         said: impl Fn(&&String) -> bool,
+        is_scored: bool,
     ) -> Result<Link, Error> {
         let [from, to] = written.ends.map(|end| self.find(end.expect("a link that was read has both ends")));
         let (from, to) = (from?, to?);
@@ -232,7 +236,11 @@ impl Parser {
         for (part, scale) in written.scores.iter().zip(self.header.scales) {
             score += self.term(*part, scale)?;
         }
-        Ok(Link { from, to, word, score, position })
+        if !is_scored {
+            score += posterior(written.posterior)?;
+        }
+        let cost = if score < LEAST_LOGARITHM { f64::INFINITY } else { -score };
+        Ok(Link { from: from as u32, to: to as u32, word, cost, position })
     }
 
     /// What a likelihood adds to a score; one that is not written adds nothing.
@@ -270,5 +278,14 @@ impl Parser {
             }
             (None, _) => Err(Error::at(self.links[0].1, Fault::Circle)),
         }
+    }
+}
+
+/// The natural logarithm of a posterior; one that is not written adds nothing.
+fn posterior(written: Option<(f64, Position)>) -> Result<f64, Error> {
+    match written {
+        None => Ok(0.0),
+        Some((share, _)) if (0.0..=1.0 + ROUNDING).contains(&share) => Ok(share.min(1.0).ln()),
+        Some((share, position)) => Err(Error::at(position, Fault::Posterior(share.to_string()))),
     }
 }

@@ -1,0 +1,126 @@
+//! Time-marked words as NIST's CTM has them: file, channel, beginning, duration, word and, if it is known, a confidence from 0 to 1.
+//! Lines `* * <ALT_BEGIN>`, `<ALT>` and `<ALT_END>` in the place of times and word stand around alternatives. The word `@`
+//! says nothing. Each file and channel is an utterance.
+
+use super::{Draft, Link};
+use crate::text::items::{end_of, lines, Item, Line};
+use crate::text::Fault;
+use crate::Error;
+
+/// A line that begins with it is a comment.
+const COMMENT: &str = ";;";
+const BEGIN: &str = "<ALT_BEGIN>";
+const NEXT: &str = "<ALT>";
+const END: &str = "<ALT_END>";
+/// What stands for a time that is not known.
+const NO_TIME: &str = "*";
+/// A confidence that is not known.
+const NO_CONFIDENCE: &str = "NA";
+/// File, channel, beginning, duration and word.
+const NEEDED: usize = 5;
+
+fn is_line(line: &Line) -> bool {
+    let line = line.text.trim_start();
+    !line.is_empty() && !line.starts_with(COMMENT)
+}
+
+/// Whether every line of a text has two names, two times and a word.
+pub(super) fn is_ctm(text: &str) -> bool {
+    let is_time = |item: &Item| item.text == NO_TIME || item.is_number();
+    let is_word = |line: Line| {
+        let items: Vec<Item> = line.items().take(NEEDED).collect();
+        items.len() == NEEDED && items[2..4].iter().all(is_time) && !items[4].text.starts_with(['|', ';', '#'])
+    };
+    let mut words = lines(text).filter(is_line).peekable();
+    words.peek().is_some() && words.all(is_word)
+}
+
+/// Reads the utterances of a text.
+pub(super) fn parse(text: &str) -> Result<Vec<Draft>, Error> {
+    let mut utterances: Vec<Utterance> = Vec::new();
+    for line in lines(text).filter(is_line) {
+        let items: Vec<Item> = line.items().take(NEEDED + 1).collect();
+        let [file, channel, begin, duration, word, ..] = items[..] else {
+            return Err(line.ends("file, channel, beginning, duration and word"));
+        };
+        let name = format!("{} {}", file.text, channel.text);
+        if utterances.last().is_none_or(|last| last.draft.id.as_deref() != Some(&name)) {
+            utterances.push(Utterance::new(name));
+        }
+        if let Some(utterance) = utterances.last_mut() {
+            utterance.take(begin, duration, word, items.get(NEEDED))?;
+        }
+    }
+    if utterances.is_empty() {
+        let fault = Fault::None { what: "word", refusal: crate::Refusal::UtteranceRange };
+        return Err(Error::at(end_of(text), fault));
+    }
+    utterances.into_iter().map(|utterance| utterance.finish(text)).collect()
+}
+
+/// An utterance that is being read.
+struct Utterance {
+    draft: Draft,
+    /// Where the next word begins.
+    at: u32,
+    /// Where alternatives begin and end, if some are being read.
+    fork: Option<[u32; 2]>,
+}
+
+impl Utterance {
+    fn new(name: String) -> Self {
+        let mut draft = Draft { id: Some(name), scored: Some(("CTM", "confidences")), ..Draft::default() };
+        let at = draft.node(None);
+        Self { draft, at, fork: None }
+    }
+
+    fn take(&mut self, begin: Item, duration: Item, word: Item, confidence: Option<&Item>) -> Result<(), Error> {
+        match (word.text, self.fork) {
+            (BEGIN, None) => {
+                let end = self.draft.node(None);
+                self.fork = Some([self.at, end]);
+                Ok(())
+            }
+            (NEXT | END, Some([first, end])) => {
+                self.draft.link(Link { from: self.at, to: end, word: None, cost: 0.0, position: word.position })?;
+                (self.at, self.fork) = if word.text == NEXT { (first, self.fork) } else { (end, None) };
+                Ok(())
+            }
+            (BEGIN | NEXT | END, _) => {
+                let wanted = if self.fork.is_some() { "<ALT> or <ALT_END>" } else { "<ALT_BEGIN> or a word" };
+                Err(word.fault(Fault::Expected { wanted, found: Some(word.text.to_owned()) }))
+            }
+            _ => self.word([begin, duration], word, confidence),
+        }
+    }
+
+    fn word(&mut self, [begin, duration]: [Item; 2], word: Item, confidence: Option<&Item>) -> Result<(), Error> {
+        let confidence = confidence.filter(|item| item.text != NO_CONFIDENCE && !item.text.starts_with(COMMENT));
+        let share = confidence.map_or(Ok(1.0), |item| {
+            let share = item.posterior()?;
+            if share > 1.0 {
+                Err(item.fault(Fault::Posterior(item.text.to_owned())))
+            } else {
+                Ok(share)
+            }
+        })?;
+        let times = if begin.text == NO_TIME { None } else { Some([begin.finite()?, duration.finite()?]) };
+        if let Some([begin, _]) = times {
+            self.draft.times[self.at as usize].get_or_insert(begin);
+        }
+        let to = self.draft.node(times.map(|[begin, duration]| begin + duration));
+        let (word, position) = (Some(word.text.to_owned()), word.position);
+        self.draft.link(Link { from: self.at, to, word, cost: -share.ln(), position })?;
+        self.at = to;
+        Ok(())
+    }
+
+    fn finish(mut self, text: &str) -> Result<Draft, Error> {
+        let end = end_of(text);
+        if self.fork.is_some() {
+            return Err(Error::at(end, Fault::Expected { wanted: END, found: None }));
+        }
+        (self.draft.ends, self.draft.end_of_text) = (vec![(self.at, 0.0)], Some(end));
+        Ok(self.draft)
+    }
+}

@@ -1,0 +1,174 @@
+//! Damaged files of every format: never a panic, always an answer or a message with a place, and none takes long.
+
+use spireyerba::text::{Format, NamedGrammar, UtteranceReader};
+use std::path::{Path, PathBuf};
+use std::time::Duration;
+
+/// So many damaged files are read, of all formats together.
+const FILES: usize = 100_000;
+/// No message is longer.
+const LONGEST_MESSAGE: usize = 600;
+
+/// SplitMix64.
+struct Rng(u64);
+
+impl Rng {
+    fn below(&mut self, count: usize) -> usize {
+        self.0 = self.0.wrapping_add(0x9e37_79b9_7f4a_7c15);
+        let mut z = self.0;
+        z = (z ^ (z >> 30)).wrapping_mul(0xbf58_476d_1ce4_e5b9);
+        z = (z ^ (z >> 27)).wrapping_mul(0x94d0_49bb_1331_11eb);
+        ((z ^ (z >> 31)) % count.max(1) as u64) as usize
+    }
+}
+
+fn examples() -> PathBuf {
+    Path::new(env!("CARGO_MANIFEST_DIR")).join("../examples")
+}
+
+/// The examples of formats, and those of slots and of a word graph.
+fn texts() -> Vec<String> {
+    let folder = std::fs::read_dir(examples().join("formats")).expect("examples/formats");
+    let mut paths: Vec<PathBuf> = folder.map(|entry| entry.expect("an entry").path()).collect();
+    paths.retain(|path| path.file_name().is_some_and(|name| name != "grammar.txt"));
+    let others = ["doors/utterance.txt", "doors/network.txt", "doors_graph/graph.txt", "doors_graph/lattice.slf"];
+    paths.extend(others.map(|name| examples().join(name)));
+    paths.sort();
+    paths.iter().map(|path| std::fs::read_to_string(path).expect("a text")).collect()
+}
+
+/// What stands in a damaged file in the place of something else.
+const PIECES: [&str; 28] = [
+    "",
+    " ",
+    "\n",
+    "\t",
+    "0",
+    "-1",
+    "nan",
+    "inf",
+    "-inf",
+    "1e400",
+    "99999999999",
+    "0.5",
+    ",",
+    ",,",
+    "=",
+    "|",
+    ";",
+    "\"",
+    "\\",
+    "(",
+    ")",
+    "{",
+    "[",
+    "}",
+    "]",
+    "<eps>",
+    "ü",
+    "\u{feff}",
+];
+
+/// A text with some damage: cut off, with pieces in other places, or with lines twice or missing.
+fn damaged(text: &str, rng: &mut Rng) -> String {
+    let mut letters: Vec<char> = text.chars().collect();
+    for _ in 0..1 + rng.below(4) {
+        let (at, other) = (rng.below(letters.len() + 1), rng.below(letters.len() + 1));
+        match rng.below(6) {
+            0 => letters.truncate(at),
+            1 => letters.splice(at..at, PIECES[rng.below(PIECES.len())].chars()).for_each(drop),
+            2 => {
+                let end = (at + 1 + rng.below(6)).min(letters.len());
+                letters.splice(at..end, PIECES[rng.below(PIECES.len())].chars()).for_each(drop);
+            }
+            3 => {
+                let copy: Vec<char> = letters[at.min(other)..at.max(other)].iter().copied().take(60).collect();
+                letters.splice(at..at, copy).for_each(drop);
+            }
+            4 => letters.drain(at.min(other)..at.max(other).min(at.min(other) + 40)).for_each(drop),
+            _ => {
+                let (one, two) = (rng.below(10) as u8, rng.below(10) as u8);
+                let digit = |number: u8| char::from(b'0' + number);
+                letters
+                    .iter_mut()
+                    .filter(|letter| **letter == digit(one))
+                    .take(2)
+                    .for_each(|letter| *letter = digit(two));
+            }
+        }
+    }
+    letters.into_iter().collect()
+}
+
+#[test]
+fn damaged_files_are_answered_or_refused() {
+    let grammar = std::fs::read_to_string(examples().join("formats/grammar.txt")).expect("a grammar");
+    let grammar = NamedGrammar::parse(&grammar).expect("a grammar");
+    let (texts, mut rng) = (texts(), Rng(20));
+    let (mut read, mut refused) = (0, 0);
+    for number in 0..FILES {
+        let text = damaged(&texts[number % texts.len()], &mut rng);
+        let mut reader = UtteranceReader::new(&grammar);
+        reader.scale = Some(100.0).filter(|_| rng.below(8) > 0);
+        reader.drop_unknown = rng.below(2) == 0;
+        reader.format = Format::named(Format::names().nth(rng.below(30)).unwrap_or_default());
+        match reader.read_all_heard(&text) {
+            Ok(lattices) => {
+                read += 1;
+                let block = grammar.to_block().expect("a block");
+                lattices
+                    .iter()
+                    .for_each(|lattice| drop(lattice.heard.to_block(&block).expect("what is read has a block")));
+            }
+            Err(error) => {
+                refused += 1;
+                let position = error.position().expect("a place");
+                assert!(position.line >= 1 && position.line <= text.lines().count().max(1) + 1, "{error}\n{text}");
+                assert!(error.to_string().len() < LONGEST_MESSAGE, "{error}");
+            }
+        }
+    }
+    assert!(read > FILES / 10 && refused > FILES / 10, "{read} read, {refused} refused");
+}
+
+/// The time that this thread has had a core, where the system says it, for a machine may have other work too.
+fn clock() -> Duration {
+    let taken = std::fs::read_to_string("/proc/thread-self/schedstat").ok();
+    let taken = taken.and_then(|line| line.split_whitespace().next()?.parse().ok());
+    taken.map_or_else(|| Duration::from_millis(0), Duration::from_nanos)
+}
+
+/// What is enormous is refused within a second, and so is a name of a megabyte; the message is short.
+#[test]
+fn enormous_files() {
+    const LINKS: usize = 1_000_000;
+    let long = "x".repeat(1 << 20);
+    let grammar = NamedGrammar::parse("A -> A A | \"x\"").expect("a grammar");
+    let slf = || {
+        let nodes: String = (0..1_000).map(|node| format!("I={node}\n")).collect();
+        let link = |number: usize| format!("J={number} S={} E={} W=x a=-1\n", number % 999, number % 999 + 1);
+        format!("VERSION=1.0\n{nodes}{}", (0..LINKS).map(link).collect::<String>())
+    };
+    let fst = || (0..LINKS).map(|number| format!("{} {} x 0.5\n", number % 999, number % 999 + 1)).collect::<String>();
+    let json = || format!("{{\"result\": [{}]}}", vec!["{\"word\": \"x\", \"conf\": 0.5}"; LINKS].join(","));
+    let texts: [(&str, String); 9] = [
+        ("SLF", slf()),
+        ("OpenFst", fst()),
+        ("Kaldi", format!("u\n{}", fst().replace("0.5", "0.5,1,"))),
+        ("JSON", json()),
+        ("sentences", format!("-1.5 {}\n", "x ".repeat(LINKS))),
+        ("CTM", "a A 0 1 x 0.5\n".repeat(LINKS)),
+        ("network", format!("align 0{}\n", " x 0.5".repeat(LINKS))),
+        ("name", format!("u\n0 1 {long} 1,2,\n1\n")),
+        ("word", format!("-1.5 {long}\n")),
+    ];
+    for (name, text) in texts {
+        let mut reader = UtteranceReader::new(&grammar);
+        reader.scale = Some(1.0);
+        let begin = clock();
+        let message = reader.read_all_heard(&text).expect_err(name).to_string();
+        let taken = clock() - begin;
+        assert!(taken < Duration::from_secs(1), "{name} took {taken:?}");
+        assert!(message.len() < LONGEST_MESSAGE, "{name}: {} bytes", message.len());
+    }
+}
