@@ -2,6 +2,7 @@
 
 pub mod batch;
 pub mod conversions;
+pub mod few_first;
 pub mod free;
 pub mod inputs;
 pub mod listing;

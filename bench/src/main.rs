@@ -1,13 +1,14 @@
 //! Prints Markdown tables of times in microseconds, medians of alternating calls in one process, and of their ratios: those
 //! that the command line names, or all.
 
-use spireyerba_bench::{batch, conversions, listing, margins, next_phrase, one_by_one, specimen};
+use spireyerba_bench::{batch, conversions, few_first, listing, margins, next_phrase, one_by_one, specimen};
 
-const TABLES: [(&str, fn()); 11] = [
+const TABLES: [(&str, fn()); 12] = [
     ("office", listing::print_office),
     ("free", listing::print_beside_free),
     ("graphs", listing::print_graphs),
     ("panel", listing::print_panel),
+    ("few_first", few_first::print_table),
     ("one_by_one", one_by_one::print_table),
     ("margins", margins::print_table),
     ("conversions", conversions::print_table),

@@ -6,17 +6,22 @@ use spireyerba::limits::NOT_HEARD;
 use spireyerba::text::NamedGrammar;
 use spireyerba::{Candidate, Heard};
 
+/// The slot and the word of `SLOT=WORD`.
+pub fn slot_and_word(said: &str) -> Option<(usize, &str)> {
+    let (number, word) = said.split_once('=')?;
+    Some((number.parse().ok()?, word))
+}
+
 /// Strikes out, slot by slot, what stands beside the words that the command line says were said: they were not heard. Answers
 /// the slots of those words.
 pub fn apply(arguments: &Arguments, grammar: &NamedGrammar, heard: &mut Heard) -> Result<Vec<usize>, Failure> {
     let mut known = Vec::new();
     for said in arguments.values(&SAID) {
+        let Some((number, word)) = slot_and_word(said) else { continue };
         let Heard::Slots(utterance) = heard else {
-            return Err(Failure::Refused(format!("--said {said}: a word graph has no slots")));
+            let instead = "only slots have numbers; --said WORD keeps the paths that have a word";
+            return Err(Failure::Refused(format!("--said {said}: {instead}")));
         };
-        let not_understood = || arguments.wrong(format!("--said {said}: not SLOT=WORD"));
-        let (number, word) = said.split_once('=').ok_or_else(not_understood)?;
-        let number: usize = number.parse().map_err(|_| not_understood())?;
         let slots = utterance.slots.len();
         let slot = utterance.slots.get_mut(number).ok_or_else(|| {
             Failure::Refused(format!("--said {said}: the utterance has {slots} slots, numbered from 0"))

@@ -38,6 +38,14 @@ impl Failure {
         }
     }
 
+    /// Why, in words.
+    pub fn message(&self) -> &str {
+        match self {
+            Self::Refused(message) | Self::Usage { message, .. } => message,
+            Self::NoReader => "nobody reads the output any more",
+        }
+    }
+
     /// Says on standard error what went wrong, and answers the exit status.
     pub fn report(&self) -> ExitCode {
         match self {

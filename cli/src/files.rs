@@ -10,9 +10,10 @@ use crate::options::{Arguments, DROP_DELETES, DROP_UNKNOWN, EMPTY, EXACT, FILE, 
 use crate::output::Output;
 use spireyerba::lattice::Keep;
 use spireyerba::services::check;
-use spireyerba::text::{binary_kind, Format, Lattice, NamedGrammar, Places, UtteranceReader};
+use spireyerba::text::{binary_kind, Format, Lattice, NamedGrammar, Places, Recognised, UtteranceReader};
 use spireyerba::{Error, Heard, PackedGrammar, Reading, Refusal};
 use std::io::Read;
+use std::os::fd::AsFd;
 
 /// The operand that means standard input, and its name in messages.
 const STANDARD_INPUT: &str = "-";
@@ -46,6 +47,16 @@ pub fn open(operand: &str) -> Result<Box<dyn Read + Send>, Failure> {
         Ok(file) => Ok(Box::new(file)),
         Err(error) => Err(Failure::file(operand, &error)),
     }
+}
+
+/// Whether this is a file whose bytes are all there, and not a pipe or a terminal.
+pub fn is_still(operand: &str) -> bool {
+    let metadata = if operand == STANDARD_INPUT {
+        std::io::stdin().as_fd().try_clone_to_owned().and_then(|stdin| std::fs::File::from(stdin).metadata())
+    } else {
+        std::fs::metadata(operand)
+    };
+    metadata.is_ok_and(|metadata| metadata.is_file())
 }
 
 impl File {
@@ -83,7 +94,7 @@ impl File {
     }
 
     /// What is made of the file's text.
-    fn text<T>(&self, parse: impl FnOnce(&str) -> Result<T, Error>) -> Result<T, Failure> {
+    pub fn text<T>(&self, parse: impl FnOnce(&str) -> Result<T, Error>) -> Result<T, Failure> {
         match text_of(&self.bytes) {
             Ok(text) => Ok(parse(text).map_err(|error| error.in_file(&self.name))?),
             Err(at) => Err(Failure::Refused(format!("{}: {}", self.name, self.no_text(at)))),
@@ -174,6 +185,32 @@ pub fn heard(arguments: &Arguments, grammar: &GrammarFile, operand: &str) -> Res
     let lattice = file.block_or_text(accepted, |text| reader.read_heard(text))?;
     lattice.notes().iter().for_each(|note| eprintln!("{}: {note}", file.name));
     Ok(lattice)
+}
+
+/// What a file has before it is made fit for the library.
+pub enum Written {
+    /// Slots or a word graph as they stand. Slots may have no word if words that the grammar does not have are passed over.
+    Plain(Heard),
+    /// What a recogniser wrote otherwise.
+    Lattice(Recognised),
+}
+
+/// Reads an utterance, a word graph or a lattice in any format; if words may be passed over, those that the grammar does not have
+/// are not refused.
+pub fn written(
+    arguments: &Arguments,
+    grammar: &GrammarFile,
+    operand: &str,
+    may_skip: bool,
+) -> Result<Written, Failure> {
+    let mut reader = utterance_reader(arguments, &grammar.named)?;
+    reader.keep_unknown = may_skip;
+    let file = File::read(operand)?;
+    let accepted = Heard::from_block(grammar.packed.block(), &file.bytes).map(Written::Plain);
+    file.block_or_text(accepted, |text| match reader.read_plain(text) {
+        Some(plain) => plain.map(Written::Plain),
+        None => reader.recognised_alone(text).map(Written::Lattice),
+    })
 }
 
 /// The lines of a text file, each with how many stand before it, but for those that are empty or a comment.

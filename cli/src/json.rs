@@ -55,6 +55,16 @@ pub fn push_numbers(json: &mut Vec<u8>, key: &str, numbers: impl Iterator<Item =
     end_list(json);
 }
 
+/// Adds a list of strings.
+pub fn push_words<'a>(json: &mut Vec<u8>, words: impl Iterator<Item = &'a str>) {
+    json.push(b'[');
+    for word in words {
+        push_string(json, word);
+        json.push(b',');
+    }
+    end_list(json);
+}
+
 /// Ends a list in which a comma stands behind each item.
 pub fn end_list(json: &mut Vec<u8>) {
     if json.last() == Some(&b',') {

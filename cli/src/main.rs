@@ -9,7 +9,7 @@
 //! | `heard` | slots or a word graph, whichever it is |
 //! | `reach` | which symbols of a grammar are of use |
 //! | `rows` | a schedule as CSV and as a page |
-//! | `anchor`, `skip` | words that are known for certain, and words too many |
+//! | `anchor`, `words` | words that are known for certain, and words too many |
 //! | `alignment`, `no_reading` | which words of two sentences differ; why there is no reading |
 //! | `drawing`, `page`, `json` | readings drawn in a terminal, on a page, and for programs |
 //! | `output`, `failure` | where answers and messages go |
@@ -32,7 +32,7 @@ mod output;
 mod page;
 mod reach;
 mod rows;
-mod skip;
+mod words;
 
 use failure::Failure;
 use output::Output;
@@ -71,6 +71,11 @@ fn installed(kind: &str, name: Option<&String>, output: &mut Output) -> Result<(
     }
 }
 
+/// The version of the command, and that of the library that it is linked with.
+fn version() -> String {
+    format!("spireyerba {} (library {})", env!("CARGO_PKG_VERSION"), spireyerba::LIBRARY_VERSION)
+}
+
 /// Runs what the words of the command line ask for.
 fn run(words: &[String], output: &mut Output) -> Result<(), Failure> {
     match words.first().map(String::as_str) {
@@ -81,7 +86,7 @@ fn run(words: &[String], output: &mut Output) -> Result<(), Failure> {
             Some(name) => output.line(&help::of_command(commands::find(name)?)),
             None => output.line(&help::of_program()),
         },
-        Some("-V" | "--version") => output.line(concat!("spireyerba ", env!("CARGO_PKG_VERSION"))),
+        Some("-V" | "--version") => output.line(&version()),
         Some(name) => {
             let command = commands::find(name)?;
             if options::asks_for_help(&words[1..]) {

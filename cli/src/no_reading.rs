@@ -83,21 +83,13 @@ impl<'a> NoReading<'a> {
     /// Adds it to a line of JSON, behind other values.
     pub fn push_json(&self, json: &mut Vec<u8>) {
         let Prefix { place, next, may_end, .. } = &self.prefix;
-        let push_words = |json: &mut Vec<u8>, words: &mut dyn Iterator<Item = &str>| {
-            json.push(b'[');
-            for word in words {
-                json::push_string(json, word);
-                json.push(b',');
-            }
-            json::end_list(json);
-        };
         json::push_key(json, "prefix");
         json.extend_from_slice(b"{\"words\":");
-        push_words(json, &mut self.words.iter().copied());
+        json::push_words(json, self.words.iter().copied());
         json::push_key(json, "place");
         json::push_number(json, *place);
         json::push_key(json, "next");
-        push_words(json, &mut next.iter().map(|word| self.named.word(*word)));
+        json::push_words(json, next.iter().map(|word| self.named.word(*word)));
         json::push_key(json, "may_end");
         json.extend_from_slice(may_end.to_string().as_bytes());
         json.push(b'}');

@@ -25,14 +25,14 @@ pub const JSON: Opt = Opt { long: "json", short: None, value: None, help: "print
 pub const SAID: Opt = Opt {
     long: "said",
     short: None,
-    value: Some("SLOT=WORD"),
-    help: "the word is known for certain: strike out the slot's others; slots count from 0",
+    value: Some("[SLOT=]WORD"),
+    help: "the word is known for certain: strike out the slot's others, slots count from 0; or keep the paths that have it",
 };
 pub const SKIP: Opt = Opt {
     long: "skip",
     short: None,
     value: Some("COST"),
-    help: "words too many: slots may be passed over, each at this cost",
+    help: "words too many: each may be passed over at this cost, and words that the grammar does not have are",
 };
 pub const DISTINCT: Opt = Opt {
     long: "distinct",
@@ -128,11 +128,29 @@ pub const HIGH: Opt = Opt {
     value: Some("FILE"),
     help: "costs known within ranges: the same utterance with the greatest costs",
 };
+pub const FILES: Opt = Opt {
+    long: "files",
+    short: None,
+    value: Some("LIST"),
+    help: "in place of FILE: a list of files with lattices in any format, one a line",
+};
 pub const JOBS: Opt = Opt {
     long: "jobs",
     short: Some('j'),
     value: Some("N"),
     help: "use so many threads; one for each core unless given",
+};
+pub const LINE: Opt = Opt {
+    long: "line",
+    short: None,
+    value: None,
+    help: "answer each line before the next is waited for, as always where FILE is a pipe or a terminal",
+};
+pub const RESUME: Opt = Opt {
+    long: "resume",
+    short: None,
+    value: Some("FILE"),
+    help: "write to this file, behind the answers that an interrupted run left in it",
 };
 
 /// What every command has beside its own.

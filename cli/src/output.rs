@@ -1,7 +1,8 @@
-//! Standard output: plain to a pipe, with colours on a terminal.
+//! Where answers go: standard output, plain to a pipe and with colours on a terminal, or a file.
 
 use crate::failure::Failure;
-use std::io::{stdout, BufWriter, IsTerminal, Stdout, Write};
+use std::fs::File;
+use std::io::{stdout, BufWriter, IsTerminal, Write};
 
 /// The name of standard output in messages.
 const NAME: &str = "<stdout>";
@@ -38,20 +39,30 @@ pub fn is_dumb() -> bool {
 
 /// Where answers go.
 pub struct Output {
-    stream: BufWriter<Stdout>,
+    stream: BufWriter<Box<dyn Write + Send>>,
+    /// Its name in messages.
+    name: String,
+    is_terminal: bool,
     coloured: bool,
 }
 
 impl Output {
     /// Standard output, with colours if it is a terminal and nobody has asked for none (no-color.org).
     pub fn standard() -> Self {
+        let is_terminal = stdout().is_terminal();
         let is_asked_for = std::env::var_os("NO_COLOR").is_none_or(|value| value.is_empty());
-        let coloured = stdout().is_terminal() && is_asked_for && !is_dumb();
-        Self { stream: BufWriter::new(stdout()), coloured }
+        let coloured = is_terminal && is_asked_for && !is_dumb();
+        Self { stream: BufWriter::new(Box::new(stdout())), name: NAME.to_owned(), is_terminal, coloured }
+    }
+
+    /// A file that is open to be written.
+    pub fn file(name: &str, file: File) -> Self {
+        let stream = BufWriter::new(Box::new(file) as Box<dyn Write + Send>);
+        Self { stream, name: name.to_owned(), is_terminal: false, coloured: false }
     }
 
     pub fn is_terminal(&self) -> bool {
-        stdout().is_terminal()
+        self.is_terminal
     }
 
     /// The text in a style, or as it is if there are no colours.
@@ -64,7 +75,7 @@ impl Output {
     }
 
     pub fn bytes(&mut self, bytes: &[u8]) -> Result<(), Failure> {
-        self.stream.write_all(bytes).map_err(|error| Failure::file(NAME, &error))
+        self.stream.write_all(bytes).map_err(|error| Failure::file(&self.name, &error))
     }
 
     pub fn text(&mut self, text: &str) -> Result<(), Failure> {
@@ -77,6 +88,6 @@ impl Output {
     }
 
     pub fn flush(&mut self) -> Result<(), Failure> {
-        self.stream.flush().map_err(|error| Failure::file(NAME, &error))
+        self.stream.flush().map_err(|error| Failure::file(&self.name, &error))
     }
 }

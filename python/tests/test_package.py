@@ -84,6 +84,14 @@ class Doors(unittest.TestCase):
         self.assertIsInstance(graph, Graph)
         self.assertTrue(grammar.list(graph))
 
+    def test_formats_of_recognisers_are_read(self) -> None:
+        formats = EXAMPLES / "formats"
+        grammar = Grammar.from_file(formats / "grammar.txt")
+        heard = grammar.read((formats / "pocketsphinx.slf").read_text(), scale=1)
+        self.assertEqual(grammar.list(heard)[0].sentence, "door twenty")
+        heard = grammar.read("-1.5 door four\n-1.7 door fifty\n", scale=100, drop_unknown=True)
+        self.assertTrue(any("fifty" in note for note in heard.notes), heard.notes)
+
     def test_threads_have_memory_of_their_own(self) -> None:
         alone = [reading.block for reading in self.grammar.list(self.heard, 8)]
         with ThreadPoolExecutor(4) as pool:

@@ -91,6 +91,22 @@ impl Error {
         self
     }
 
+    /// What is wrong, without where.
+    pub fn reason(&self) -> String {
+        match self {
+            Self::Refused { refusal, .. } => refusal.to_string(),
+            Self::Text { fault, .. } => fault.to_string(),
+        }
+    }
+
+    /// The same error in a line of which this was the end, with so many characters before it.
+    pub fn after_columns(mut self, before: usize) -> Self {
+        if let Self::Text { position: Position { line: 1, column }, .. } = &mut self {
+            *column += before;
+        }
+        self
+    }
+
     /// The same error in a text of which this was one line, with so many lines before it.
     pub fn after_lines(mut self, before: usize) -> Self {
         if let Self::Text { position, .. } = &mut self {

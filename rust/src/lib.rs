@@ -1,5 +1,21 @@
 //! The least readings of a spoken utterance under a weighted grammar, cheapest first, none left out.
 //!
+//! ```
+//! use spireyerba::text::NamedGrammar;
+//!
+//! // how an office says the number of a door, with a weight on each rule
+//! let doors = NamedGrammar::parse(
+//!     r#"Entry  -> "door" Number [1]
+//!        Number -> "four" | "five" [2]"#,
+//! )?;
+//! // what a recogniser heard: two slots, each with words and their costs
+//! let heard = doors.parse_utterance("door 3 ; four 9 | five 5")?;
+//! let readings = doors.grammar.list(&heard, 8)?;
+//! assert_eq!((readings[0].weight, doors.sentence(&readings[0]).as_str()), (11, "door five"));
+//! assert_eq!((readings[1].weight, doors.sentence(&readings[1]).as_str()), (13, "door four"));
+//! # Ok::<(), spireyerba::Error>(())
+//! ```
+//!
 //! A recogniser hears an utterance: slots, each with candidate words and their costs; a cost of 65,535 says that the word
 //! was not heard, and no reading uses it there. An office has a weighted grammar in Chomsky normal form. A reading is a
 //! derivation of the utterance: which rule made each phrase, and so which word was said in each slot. Its weight is the sum
@@ -8,7 +24,8 @@
 //!
 //! This crate calls the library that the repository proves, `target/staticlib/libspireyerba.a`. Whatever is searched,
 //! weighed or checked, the library does it: here are its functions for Rust, values in place of numbers, and texts.
-//! `rt staticlib spireyerba` builds the library, which has to stand there before this crate is linked.
+//! `rt staticlib spireyerba` builds the library, which has to stand there before this crate is linked; where it is installed,
+//! `SPIREYERBA_LIB_DIR` names its folder. [`LIBRARY_VERSION`] is its version.
 //!
 //! | module | has |
 //! |---|---|
@@ -33,7 +50,10 @@
 //! | [`text`] | grammars, utterances, word graphs, confusion networks and lattices with names |
 //! | [`Error`] | a refusal, or a fault of a text with its file, line and column |
 //!
-//! # Example
+//! # Numbers
+//!
+//! Names are for people: the library knows symbols and words by number, and so do [`Grammar`] and its kin. What comes from a program
+//! need not be written down as a text.
 //!
 //! ```
 //! use spireyerba::{Body, Candidate, Grammar, Rule, Utterance};
@@ -56,6 +76,9 @@
 #![warn(missing_docs)]
 
 pub mod lattice;
+/// The version of the library that this crate was linked with, as its header or its package says it.
+pub const LIBRARY_VERSION: &str = env!("SPIREYERBA_LIBRARY_VERSION");
+
 pub mod limits;
 pub mod services;
 pub mod text;

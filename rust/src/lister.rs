@@ -3,11 +3,15 @@
 use crate::fields::Fields;
 use crate::graph::KIND as GRAPH_KIND;
 use crate::limits::{graph_reading_length, reading_length, work_length, MAX_READINGS};
-use crate::limits::{KIND_WIDTH, MAX_SLOTS, PLACES_WIDTH, SLOTS_WIDTH};
+use crate::limits::{KIND_WIDTH, MAX_SLOTS, PANEL_MAX_READINGS, PLACES_WIDTH, SLOTS_WIDTH};
 use crate::services::{listing, panel_listing};
 use crate::{Grammar, HeardRef, PackedGrammar, Reading, Refusal};
 
 /// A grammar that was packed once, and the memory that its listings need, which is kept from one to the next.
+///
+/// The library clears a table with room for all readings that are wanted, and most utterances have few. So few are asked for
+/// first, and all only if so many came: fewer than were asked for are all that there are, so the list is the same. Few are 16,
+/// or as many as the last list had.
 ///
 /// ```
 /// use spireyerba::text::NamedGrammar;
@@ -27,7 +31,14 @@ pub struct Lister {
     work: Vec<u32>,
     out: Vec<u8>,
     service: Service,
+    /// The greatest number that the service takes.
+    most: u32,
+    /// How many readings the last list had.
+    last: usize,
 }
+
+/// So many readings are asked for first.
+const FEW: u32 = 16;
 
 /// [`listing`] or [`panel_listing`].
 type Service = fn(&[u8], &[u8], u32, &mut [u32], &mut [u8]) -> Result<usize, Refusal>;
@@ -40,7 +51,7 @@ impl Lister {
 
     /// Lists under a grammar that is packed already.
     pub fn of(grammar: PackedGrammar) -> Self {
-        Self { grammar, work: Vec::new(), out: Vec::new(), service: listing }
+        Self { grammar, work: Vec::new(), out: Vec::new(), service: listing, most: MAX_READINGS, last: 0 }
     }
 
     /// Lists within the limits of a desk panel from now on, those of [`panel_listing`].
@@ -58,7 +69,7 @@ impl Lister {
     /// # Ok::<(), spireyerba::Error>(())
     /// ```
     pub fn panel(self) -> Self {
-        Self { service: panel_listing, ..self }
+        Self { service: panel_listing, most: PANEL_MAX_READINGS, ..self }
     }
 
     /// The grammar.
@@ -100,14 +111,33 @@ impl Lister {
     /// # Ok::<(), spireyerba::Error>(())
     /// ```
     pub fn find_in_block(&mut self, block: &[u8], wanted: u32) -> Result<Found<'_>, Refusal> {
-        let grammar = self.grammar.grammar();
-        let (words, length) = longest(block, grammar.rules.len());
+        let (words, length) = longest(block, self.grammar.grammar().rules.len());
+        let few = self.few(wanted);
+        let mut count = self.call(block, few, (words, length))?;
+        if count == few as usize && few < wanted {
+            count = self.call(block, wanted, (words, length))?;
+        }
+        self.last = count;
+        Ok(Found { grammar: self.grammar.grammar(), blocks: &self.out, length, count })
+    }
+
+    /// How many readings to ask for first; a number that is refused is asked for as it is.
+    fn few(&self, wanted: u32) -> u32 {
+        if wanted > self.most {
+            return wanted;
+        }
+        let above_last = (self.last as u32 + 1).next_power_of_two();
+        wanted.min(above_last.max(FEW))
+    }
+
+    /// Lists so many readings, of which the longest has so many words and bytes.
+    fn call(&mut self, block: &[u8], wanted: u32, (words, length): (usize, usize)) -> Result<usize, Refusal> {
         let most = wanted.min(MAX_READINGS) as usize;
-        let work = lent(&mut self.work, work_length(grammar.symbols as usize, words, most));
+        let symbols = self.grammar.grammar().symbols as usize;
+        let work = lent(&mut self.work, work_length(symbols, words, most));
         // room to look a few bytes past the last reading
         lent(&mut self.out, most * length + size_of::<u64>());
-        let count = (self.service)(self.grammar.block(), block, wanted, work, &mut self.out[..most * length])?;
-        Ok(Found { grammar, blocks: &self.out, length, count })
+        (self.service)(self.grammar.block(), block, wanted, work, &mut self.out[..most * length])
     }
 }
 

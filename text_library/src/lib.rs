@@ -3,7 +3,7 @@
 
 #![warn(missing_docs)]
 
-use spireyerba::text::{is_graph, NamedGrammar, UtteranceReader};
+use spireyerba::text::{NamedGrammar, UtteranceReader};
 use spireyerba::{Error, Part, Position, Reading, Refusal, Tree};
 use std::fmt::Write;
 
@@ -136,19 +136,17 @@ fn name_grammar(block: &[u8], symbols: &[u8], words: &[u8]) -> Result<TextGramma
     Ok(TextGrammar { named, block: block.to_vec() })
 }
 
-/// The block of what was heard.
+/// The block of what was heard, and what is to be told of it.
 fn heard_line(grammar: &TextGrammar, heard: &[u8], options: &Options, empty: &[u8]) -> Result<String, Wrong> {
     let mut reader = UtteranceReader::new(&grammar.named);
     reader.scale = Some(options.scale).filter(|scale| *scale > 0.0);
     reader.drop_unknown = options.drop_unknown != 0;
     reader.drop_deletes = options.drop_deletes != 0;
     reader.empty_words = lines(empty)?;
-    let heard = text(heard)?;
-    let block = match is_graph(heard) {
-        true => reader.read_graph(heard)?.to_block(&grammar.block),
-        false => reader.read(heard)?.to_block(&grammar.block),
-    };
-    Ok(hex(&block.map_err(Error::from)?) + "\n")
+    let lattice = reader.read_heard(text(heard)?)?;
+    let block = lattice.heard.to_block(&grammar.block).map_err(Error::from)?;
+    let notes = lattice.notes().into_iter().map(|note| note.replace('\n', " ") + "\n");
+    Ok(hex(&block) + "\n" + &notes.collect::<String>())
 }
 
 /// The tree of a reading's rules, and its translation.

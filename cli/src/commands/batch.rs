@@ -1,60 +1,86 @@
 //! `batch`: many utterances, a line each, on all cores.
 
+mod lattices;
+mod line;
+mod messages;
+mod resume;
+mod sink;
+mod source;
+
 use super::Command;
 use crate::failure::Failure;
 use crate::files;
 use crate::json;
 use crate::no_reading::NoReading;
-use crate::options::{Arguments, DISTINCT, DROP_UNKNOWN, FOLD, JOBS, WANTED};
-use crate::output::{is_dumb, Output};
+use crate::options::{
+    Arguments, DISTINCT, DROP_DELETES, DROP_UNKNOWN, EMPTY, EXACT, FILES, FOLD, FORMAT, JOBS, LINE, PATHS, RESUME,
+    SCALE, WANTED,
+};
+use crate::output::Output;
+use lattices::{push_notes, Lines};
+use line::Line;
+use sink::{Answers, Refused, Sink};
+use source::{Piece, Source};
 use spireyerba::limits::MAX_READINGS;
-use spireyerba::text::{is_graph, NamedGrammar, UtteranceReader};
-use spireyerba::{Distinct, Error, Found, Graph, Heard, Lister, Reading, Refusal};
+use spireyerba::text::{is_graph, Lattice, NamedGrammar, UtteranceReader};
+use spireyerba::{Distinct, Error, Found, Heard, Lister, Reading, Refusal};
 use std::borrow::Cow;
-use std::collections::BTreeMap;
-use std::io::{stderr, ErrorKind, IsTerminal, Read};
-use std::sync::{Condvar, Mutex};
-use std::time::{Duration, Instant};
+use std::sync::Mutex;
 
 pub const COMMAND: Command = Command {
     name: "batch",
     operands: &["GRAMMAR", "FILE"],
-    needed: 2,
-    options: &[WANTED, DISTINCT, JOBS, FOLD, DROP_UNKNOWN],
-    summary: "list the readings of many utterances or word graphs, one a line, on all cores",
+    needed: 1,
+    options: &[
+        WANTED, DISTINCT, FILES, JOBS, LINE, RESUME, SCALE, FOLD, DROP_UNKNOWN, DROP_DELETES, EMPTY, FORMAT, PATHS, EXACT,
+    ],
+    summary: "list the readings of many utterances, word graphs or lattices on all cores",
     details: "\
 A line of the file has an utterance, with semicolons between its slots: `door 4 | four 61 ; twenty 12`, or a word graph,
 with semicolons between its edges: `0 1 door 4 ; 1 3 twenty 12 ; 3`. Empty lines and comments are passed over. The
 answers are lines of JSON in the same order, with the number of the line; what is refused has \"error\" in place of
-\"readings\", and a message on standard error. With --distinct \"others\" counts the readings with the same words among the
-first 256, and \"used_up\" says that these do not have N sentences, though there may be more. Where there is no reading,
-\"prefix\" has the words that begin a sentence, the place or slot where they end, and what could follow there.",
-    example: "spireyerba batch grammar.txt utterances.txt -n 1 > readings.jsonl",
+\"readings\", and a message on standard error, of which those that say the same are counted after the tenth. With
+--distinct \"others\" counts the readings with the same words among the first 256, and \"used_up\" says that these do not
+have N sentences, though there may be more. Where there is no reading, \"prefix\" has the words that begin a sentence, the
+place or slot where they end, and what could follow there.
+A name without blanks and a tab may stand before what was heard: the name comes back as \"id\". Where a number alone
+follows the tab, such as a cost, it is a blank like any other.
+Lattices stand in files of their own: --files names a list of them, one a line, also with a name and a tab before it. A file
+in HTK's format or of Kaldi's may be FILE itself, and one in another with --format. Each lattice is an answer, with its own
+name as \"id\", or the line's, or the file's; \"complete_up_to\" says that it was pruned and up to which weight every reading
+is there, and \"dropped\" has the words that --drop-unknown left out.
+With --resume a run that was interrupted goes on: no line is answered twice, and none is left out.",
+    example: "spireyerba batch grammar.txt utterances.txt -n 1 --resume readings.jsonl",
     run,
 };
 
-/// A thread takes at most so many bytes at a time, or one line that is longer.
-const BYTES_AT_A_TIME: usize = 1 << 15;
 /// Pieces that a thread may be ahead of what is written.
 const AHEAD: usize = 4;
-/// The progress line is drawn anew at most so often.
-const PROGRESS_EVERY: Duration = Duration::from_millis(100);
 
 fn run(arguments: &Arguments, output: &mut Output) -> Result<(), Failure> {
     let cores = std::thread::available_parallelism().map_or(1, usize::from);
     let jobs = arguments.number(&JOBS)?.unwrap_or(cores).max(1);
     let grammar = files::grammar(arguments.operands[0])?;
+    let reader = files::utterance_reader(arguments, &grammar.named)?;
+    let Lines { operand, are_files, file } = Lines::open(arguments, reader.format)?;
+    if are_files && arguments.has(&RESUME) {
+        return Err(arguments.wrong("--resume goes on behind a line, and a file of lattices may have several answers"));
+    }
     let batch = Batch {
-        name: files::name_of(arguments.operands[1]),
+        name: files::name_of(operand),
+        are_files,
         wanted: arguments.wanted()?,
         distinct: arguments.has(&DISTINCT),
         named: &grammar.named,
-        reader: files::utterance_reader(arguments, &grammar.named)?,
+        reader,
         lister: Lister::of(grammar.packed.clone()),
         names: json::Names::new(&grammar.named),
     };
-    let source = Mutex::new(Source::new(files::open(arguments.operands[1])?));
-    let sink = Sink::new(output, AHEAD * jobs);
+    let mut source = Source::new(file);
+    let mut resumed = arguments.value(&RESUME).map(|out| resume(out, &mut source, batch.name)).transpose()?;
+    let by_line = arguments.has(&LINE) || !files::is_still(operand);
+    let sink = Sink::new(resumed.as_mut().unwrap_or(output), by_line, AHEAD * jobs);
+    let source = Mutex::new(source);
     std::thread::scope(|scope| {
         // this thread is one of them
         for _ in 1..jobs {
@@ -62,70 +88,21 @@ fn run(arguments: &Arguments, output: &mut Output) -> Result<(), Failure> {
         }
         batch.work(&source, &sink);
     });
-    sink.finish()
+    sink.finish(batch.name)?;
+    resumed.map_or(Ok(()), |mut output| output.flush())
 }
 
-/// Where the lines come from.
-struct Source {
-    file: Box<dyn Read + Send>,
-    /// The front of a line whose end was not read yet.
-    rest: Vec<u8>,
-    /// The pieces and the lines that were taken.
-    pieces: usize,
-    taken: usize,
-}
-
-/// Some lines of the file.
-struct Piece {
-    /// How many lines stand before them.
-    before: usize,
-    text: Vec<u8>,
-}
-
-impl Source {
-    fn new(file: Box<dyn Read + Send>) -> Self {
-        Self { file, rest: Vec::new(), pieces: 0, taken: 0 }
+/// The file of answers behind which to go on; what it answers of the input is passed over.
+fn resume(out: &str, source: &mut Source, name: &str) -> Result<Output, Failure> {
+    let (file, lines) = resume::open(out)?;
+    if let Err(found) = source.pass_over(lines).map_err(|error| Failure::file(name, &error))? {
+        let other = format!("{out}: answers line {lines} of another input: {name} has {found} lines");
+        return Err(Failure::Refused(other));
     }
-
-    /// The next lines, as many as can be read at once, and at least one; nothing if there are none.
-    fn next(&mut self) -> std::io::Result<Option<Piece>> {
-        let mut text = std::mem::take(&mut self.rest);
-        loop {
-            let known = text.len();
-            text.resize(known + BYTES_AT_A_TIME, 0);
-            let read = read_some(&mut self.file, &mut text[known..])?;
-            text.truncate(known + read);
-            let end = text[known..].iter().rposition(|byte| *byte == b'\n').map(|at| known + at + 1);
-            match end {
-                Some(end) => self.rest = text.split_off(end),
-                None if read > 0 => continue,
-                None => {}
-            }
-            break;
-        }
-        let piece = Piece { before: self.taken, text };
-        self.pieces += 1;
-        self.taken += piece.text.iter().filter(|byte| **byte == b'\n').count();
-        Ok((!piece.text.is_empty()).then_some(piece))
+    if lines > 0 {
+        eprintln!("{out}: goes on behind line {lines}");
     }
-}
-
-/// Reads what there is, and tries again if it was interrupted.
-fn read_some(file: &mut impl Read, into: &mut [u8]) -> std::io::Result<usize> {
-    loop {
-        match file.read(into) {
-            Err(error) if error.kind() == ErrorKind::Interrupted => {}
-            read => return read,
-        }
-    }
-}
-
-/// What became of some lines.
-struct Answers {
-    json: Vec<u8>,
-    /// The messages about lines that were refused.
-    messages: Vec<String>,
-    utterances: usize,
+    Ok(Output::file(out, file))
 }
 
 struct Batch<'a> {
@@ -137,6 +114,8 @@ struct Batch<'a> {
     wanted: u32,
     /// Whether each sentence stands once.
     distinct: bool,
+    /// Whether each line is the name of a file with lattices.
+    are_files: bool,
 }
 
 impl Batch<'_> {
@@ -180,7 +159,7 @@ impl<'a> Worker<'a> {
 
     /// The answers of some lines, in memory of others.
     fn answers(&mut self, piece: &Piece, memory: Vec<u8>) -> Answers {
-        let mut answers = Answers { json: memory, messages: Vec::new(), utterances: 0 };
+        let mut answers = Answers { json: memory, refused: Vec::new(), utterances: 0 };
         // that a text is all right is found faster than where it is not
         let text =
             std::str::from_utf8(&piece.text).map_or_else(|_| String::from_utf8_lossy(&piece.text), Cow::Borrowed);
@@ -189,26 +168,69 @@ impl<'a> Worker<'a> {
             if first.is_none_or(|first| first == '#') {
                 continue;
             }
-            answers.utterances += 1;
-            if let Err(error) = self.answer(line, piece.before + number, &mut answers.json) {
-                refuse(&mut answers, &error, piece.before + number + 1);
+            let line = Line::new(line, piece.before + number);
+            if self.batch.are_files {
+                self.answer_file(&line, &mut answers);
+            } else {
+                answers.utterances += 1;
+                if let Err(error) = self.answer(&line, &mut answers.json) {
+                    refuse(&mut answers, error.into(), &line);
+                }
             }
         }
         answers
     }
 
-    /// Adds the answer of a line with so many before it, or nothing if it is refused.
-    fn answer(&mut self, line: &str, before: usize, json: &mut Vec<u8>) -> Result<(), Error> {
-        let Batch { name, names, named, wanted, .. } = self.batch;
-        let in_file = |error: Error| error.in_file(name).after_lines(before);
-        let asked = self.sentences.as_ref().filter(|_| *wanted <= MAX_READINGS).map_or(*wanted, |_| MAX_READINGS);
-        let graph = self.read(line).map_err(in_file)?;
-        let found = match &graph {
-            Some(graph) => self.lister.find(graph, asked),
-            None => self.lister.find_in_block(&self.block, asked),
+    /// Adds the answer of each lattice of a file that a line names.
+    fn answer_file(&mut self, line: &Line, answers: &mut Answers) {
+        let lattices = match lattices::read(&self.batch.reader, line.heard.trim()) {
+            Ok(lattices) => lattices,
+            Err(refused) => {
+                answers.utterances += 1;
+                return refuse(answers, refused, line);
+            }
         };
-        let found = found.map_err(|refusal| in_file(refusal.into()))?;
-        begin_line(json, before + 1);
+        let is_alone = lattices.len() == 1;
+        for lattice in &lattices {
+            answers.utterances += 1;
+            let begin = |json: &mut Vec<u8>| line.begin_lattice(json, lattice.id.as_deref(), is_alone);
+            match self.answer_heard(Some(&lattice.heard), begin, &mut answers.json) {
+                Ok(()) => {
+                    push_notes(&mut answers.json, lattice);
+                    answers.json.extend_from_slice(b"}\n");
+                }
+                Err(refusal) => refuse(answers, Error::from(refusal).in_file(line.heard.trim()).into(), line),
+            }
+        }
+    }
+
+    /// Adds the answer of a line, or nothing if it is refused.
+    fn answer(&mut self, line: &Line, json: &mut Vec<u8>) -> Result<(), Error> {
+        let name = self.batch.name;
+        let in_file = |error: Error| error.in_file(name).after_columns(line.columns()).after_lines(line.before);
+        let lattice = self.read(line.heard).map_err(in_file)?;
+        let heard = lattice.as_ref().map(|lattice| &lattice.heard);
+        let answered = self.answer_heard(heard, |json| line.begin(json), json);
+        answered.map_err(|refusal| in_file(refusal.into()))?;
+        lattice.iter().for_each(|lattice| push_notes(json, lattice));
+        json.extend_from_slice(b"}\n");
+        Ok(())
+    }
+
+    /// Adds the answer of what was heard, or of the slots whose block is at hand, but for its end; nothing if it is refused.
+    fn answer_heard(
+        &mut self,
+        heard: Option<&Heard>,
+        begin: impl Fn(&mut Vec<u8>),
+        json: &mut Vec<u8>,
+    ) -> Result<(), Refusal> {
+        let Batch { names, named, wanted, .. } = self.batch;
+        let asked = self.sentences.as_ref().filter(|_| *wanted <= MAX_READINGS).map_or(*wanted, |_| MAX_READINGS);
+        let found = match heard {
+            Some(heard) => self.lister.find(heard, asked),
+            None => self.lister.find_in_block(&self.block, asked),
+        }?;
+        begin(json);
         json.extend_from_slice(b",\"readings\":[");
         let mut used_up = false;
         if let Some(sentences) = &mut self.sentences {
@@ -222,29 +244,33 @@ impl<'a> Worker<'a> {
         let is_none = found.is_empty();
         json::end_list(json);
         if is_none {
-            self.push_why(json, graph).map_err(|refusal| in_file(refusal.into()))?;
+            self.push_why(json, heard)?;
         }
-        json.extend_from_slice(if used_up { b",\"used_up\":true}\n" } else { b"}\n" });
+        json.extend_from_slice(if used_up { b",\"used_up\":true" } else { b"" });
         Ok(())
     }
 
     /// Reads a line: a word graph, or else slots, whose block is then at hand.
-    fn read(&mut self, line: &str) -> Result<Option<Graph>, Error> {
+    fn read(&mut self, line: &str) -> Result<Option<Lattice>, Error> {
         let reader = &self.batch.reader;
         if line.trim_start().starts_with(|first: char| first.is_ascii_digit()) && is_graph(line) {
-            return reader.read_graph(line).map(Some);
+            return reader.read_heard(line).map(Some);
         }
         reader.read_block(line, &mut self.sheet, &mut self.block)?;
         Ok(None)
     }
 
-    /// Adds why the graph, or the slots whose block is at hand, has no reading.
-    fn push_why(&self, json: &mut Vec<u8>, graph: Option<Graph>) -> Result<(), Refusal> {
-        let heard = match graph {
-            Some(graph) => graph.into(),
-            None => Heard::from_block(self.lister.grammar().block(), &self.block)?,
+    /// Adds why what was heard, or the slots whose block is at hand, has no reading.
+    fn push_why(&self, json: &mut Vec<u8>, heard: Option<&Heard>) -> Result<(), Refusal> {
+        let slots;
+        let heard = match heard {
+            Some(heard) => heard,
+            None => {
+                slots = Heard::from_block(self.lister.grammar().block(), &self.block)?;
+                &slots
+            }
         };
-        NoReading::new(self.batch.named, &heard)?.push_json(json);
+        NoReading::new(self.batch.named, heard)?.push_json(json);
         Ok(())
     }
 }
@@ -276,127 +302,11 @@ fn begin_reading(json: &mut Vec<u8>, names: &json::Names, before: usize, reading
     }
 }
 
-/// Begins the answer of a line.
-fn begin_line(json: &mut Vec<u8>, line: usize) {
-    json.extend_from_slice(b"{\"line\":");
-    json::push_number(json, line as u32);
-}
-
 /// Adds the answer of a line that is refused.
-fn refuse(answers: &mut Answers, error: &Error, line: usize) {
-    let message = error.to_string();
-    begin_line(&mut answers.json, line);
+fn refuse(answers: &mut Answers, refused: Refused, line: &Line) {
+    line.begin(&mut answers.json);
     json::push_key(&mut answers.json, "error");
-    json::push_string(&mut answers.json, &message);
+    json::push_string(&mut answers.json, &refused.message);
     answers.json.extend_from_slice(b"}\n");
-    answers.messages.push(message);
-}
-
-/// Where answers go, in the order of the lines. Whose turn it is writes its own, which are still near its core.
-struct Sink<'a> {
-    writer: Mutex<Writer<'a>>,
-    /// The pieces that may wait to be written.
-    most: usize,
-    written: Condvar,
-}
-
-struct Writer<'a> {
-    output: &'a mut Output,
-    progress: Progress,
-    /// Answers before which others are missing.
-    early: BTreeMap<usize, Result<Answers, Failure>>,
-    refused: usize,
-    /// Why nothing more is written.
-    failure: Option<Failure>,
-}
-
-impl<'a> Sink<'a> {
-    fn new(output: &'a mut Output, most: usize) -> Self {
-        let progress = Progress::begin(output);
-        let writer = Writer { output, progress, early: BTreeMap::new(), refused: 0, failure: None };
-        Self { writer: Mutex::new(writer), most, written: Condvar::new() }
-    }
-
-    /// Takes the answers of a piece, and writes all that are next. Gives memory for others, or nothing if none are wanted.
-    fn put(&self, number: usize, answers: Result<Answers, Failure>) -> Option<Vec<u8>> {
-        let is_far_ahead =
-            |writer: &mut Writer| writer.failure.is_none() && number >= writer.progress.pieces + self.most;
-        let mut writer = self.written.wait_while(self.writer.lock().ok()?, is_far_ahead).ok()?;
-        writer.early.insert(number, answers);
-        let memory = writer.write_next();
-        self.written.notify_all();
-        writer.failure.is_none().then_some(memory)
-    }
-
-    fn finish(self) -> Result<(), Failure> {
-        let Ok(writer) = self.writer.into_inner() else { unreachable!("no thread ends while it writes") };
-        writer.progress.clear();
-        match (writer.failure, writer.refused) {
-            (Some(failure), _) => Err(failure),
-            (None, 0) => Ok(()),
-            (None, refused) => {
-                Err(Failure::Refused(format!("{refused} of {} utterances refused", writer.progress.utterances)))
-            }
-        }
-    }
-}
-
-impl Writer<'_> {
-    /// Writes the answers that are next, if they are there; gives the memory of the first.
-    fn write_next(&mut self) -> Vec<u8> {
-        let mut memory = Vec::new();
-        while self.failure.is_none() {
-            let Some(answers) = self.early.remove(&self.progress.pieces) else { break };
-            match answers.and_then(|answers| self.write(answers)) {
-                Ok(json) if memory.capacity() == 0 => memory = json,
-                Ok(_) => {}
-                Err(failure) => self.failure = Some(failure),
-            }
-        }
-        memory.clear();
-        memory
-    }
-
-    fn write(&mut self, answers: Answers) -> Result<Vec<u8>, Failure> {
-        self.output.bytes(&answers.json)?;
-        if !answers.messages.is_empty() {
-            self.progress.clear();
-            answers.messages.iter().for_each(|message| eprintln!("{message}"));
-            self.refused += answers.messages.len();
-        }
-        self.progress.advance(answers.utterances);
-        Ok(answers.json)
-    }
-}
-
-/// A line that says how far the work is, if it would not stand among the answers.
-struct Progress {
-    shown: bool,
-    begin: Instant,
-    drawn: Option<Instant>,
-    pieces: usize,
-    utterances: usize,
-}
-
-impl Progress {
-    fn begin(output: &Output) -> Self {
-        let shown = stderr().is_terminal() && !output.is_terminal() && !is_dumb();
-        Self { shown, begin: Instant::now(), drawn: None, pieces: 0, utterances: 0 }
-    }
-
-    fn advance(&mut self, utterances: usize) {
-        self.pieces += 1;
-        self.utterances += utterances;
-        if self.shown && self.drawn.unwrap_or(self.begin).elapsed() >= PROGRESS_EVERY {
-            let speed = self.utterances as f64 / self.begin.elapsed().as_secs_f64();
-            eprint!("\r{} utterances, {speed:.0} a second\x1b[K", self.utterances);
-            self.drawn = Some(Instant::now());
-        }
-    }
-
-    fn clear(&self) {
-        if self.drawn.is_some() {
-            eprint!("\r\x1b[K");
-        }
-    }
+    answers.refused.push(refused);
 }

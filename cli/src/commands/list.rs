@@ -2,7 +2,6 @@
 
 use super::Command;
 use crate::alignment::differing;
-use crate::anchor;
 use crate::drawing::Drawing;
 use crate::failure::Failure;
 use crate::files::{self, GrammarFile};
@@ -14,7 +13,7 @@ use crate::options::{
     SKIP, TREE, WANTED, WORDS,
 };
 use crate::output::{Output, Style};
-use crate::skip;
+use crate::words::{self, Input};
 use spireyerba::limits::MAX_READINGS;
 use spireyerba::text::Lattice;
 use spireyerba::{Distinct, Error, Heard, Reading, Refusal, Tree};
@@ -24,7 +23,10 @@ pub const COMMAND: Command = Command {
     name: "list",
     operands: &["GRAMMAR", "UTTERANCE"],
     needed: 1,
-    options: &[WANTED, WORDS, SAY, DISTINCT, TREE, RULES, JSON, SAID, SKIP, SCALE, FOLD, DROP_UNKNOWN, DROP_DELETES, EMPTY, FORMAT, PATHS, EXACT],
+    options: &[
+        WANTED, WORDS, SAY, DISTINCT, TREE, RULES, JSON, SAID, SKIP, SCALE, FOLD, DROP_UNKNOWN, DROP_DELETES, EMPTY, FORMAT, PATHS,
+        EXACT,
+    ],
     summary: "list the readings of least weight, the least first",
     details: "\
 A line has rank, weight and words. Fewer readings than were asked for are all that there are; where there is none, a message
@@ -70,17 +72,24 @@ impl Listed {
     pub fn none_yet(arguments: &Arguments) -> Result<Self, Failure> {
         let grammar = files::grammar(arguments.operands[0])?;
         let (lattice, slots) = heard(arguments, &grammar)?;
-        Ok(Self {
-            complete_up_to: lattice.complete_up_to(),
-            left_out: lattice.notes(),
-            times: lattice.times,
-            heard: lattice.heard,
+        Ok(Self::of(grammar, lattice, slots))
+    }
+
+    /// No reading yet of what was heard, with the slot of each edge if slots may be passed over.
+    pub fn of(grammar: GrammarFile, lattice: Lattice, slots: Option<Vec<u32>>) -> Self {
+        let (complete_up_to, left_out) = (lattice.complete_up_to(), lattice.notes());
+        let Lattice { heard, times, .. } = lattice;
+        Self {
             grammar,
+            heard,
+            complete_up_to,
             readings: Vec::new(),
             others: None,
             used_up: false,
             slots,
-        })
+            times,
+            left_out,
+        }
     }
 
     /// Finds so many readings, or the first ones of so many sentences.
@@ -174,15 +183,13 @@ pub fn used_up(found: usize) -> String {
 
 /// What was heard, as the command line asks for it, and the slot of each edge, if slots may be passed over.
 pub fn heard(arguments: &Arguments, grammar: &GrammarFile) -> Result<(Lattice, Option<Vec<u32>>), Failure> {
-    let mut lattice = match (arguments.operands.get(1), arguments.value(&WORDS)) {
+    let input = match (arguments.operands.get(1), arguments.value(&WORDS)) {
         (Some(_), Some(_)) => return Err(arguments.wrong("UTTERANCE and --words: only one of them")),
         (None, None) => return Err(arguments.wrong("UTTERANCE is missing")),
-        (Some(operand), None) => files::heard(arguments, grammar, operand)?,
-        (None, Some(words)) => files::words(arguments, grammar, words)?.into(),
+        (Some(operand), None) => Input::File(operand),
+        (None, Some(words)) => Input::Words(words),
     };
-    let known = anchor::apply(arguments, &grammar.named, &mut lattice.heard)?;
-    let slots = skip::apply(arguments, &known, &mut lattice.heard)?;
-    Ok((lattice, slots))
+    words::heard(arguments, grammar, input)
 }
 
 fn run(arguments: &Arguments, output: &mut Output) -> Result<(), Failure> {
@@ -234,12 +241,12 @@ pub fn json_of(listed: &Listed, ranks: RangeInclusive<usize>) -> Vec<u8> {
         json::end_reading(&mut line);
     }
     json::end_list(&mut line);
+    if listed.used_up {
+        line.extend(b",\"used_up\":true");
+    }
     if let Some(weight) = listed.complete_up_to {
         json::push_key(&mut line, "complete_up_to");
         line.extend(weight.to_string().bytes());
-    }
-    if listed.used_up {
-        line.extend(b",\"used_up\":true");
     }
     if let Some(none) = listed.no_reading() {
         none.push_json(&mut line);

@@ -23,20 +23,10 @@ Within the panel's limits this is what `list` prints; beyond them the panel refu
 fn run(arguments: &Arguments, output: &mut Output) -> Result<(), Failure> {
     let grammar = files::grammar(arguments.operands[0])?;
     let lattice = files::heard(arguments, &grammar, arguments.operands[1])?;
-    let (complete_up_to, heard) = (lattice.complete_up_to(), lattice.heard);
     let wanted = arguments.wanted()?;
     let mut lister = Lister::of(grammar.packed.clone()).panel();
-    let readings = lister.list(&heard, wanted).map_err(Error::from)?;
-    let listed = Listed {
-        grammar,
-        heard,
-        complete_up_to,
-        readings,
-        others: None,
-        used_up: false,
-        slots: None,
-        times: None,
-        left_out: Vec::new(),
-    };
+    let readings = lister.list(&lattice.heard, wanted).map_err(Error::from)?;
+    let mut listed = Listed::of(grammar, lattice, None);
+    listed.readings = readings;
     print(&listed, Shown { with_trees: arguments.has(&TREE), says: false }, output)
 }

@@ -17,7 +17,9 @@ pub const COMMAND: Command = Command {
     name: "report",
     operands: &["GRAMMAR", "UTTERANCE"],
     needed: 2,
-    options: &[FILE, WANTED, DISTINCT, EVERY_TREE, HIGH, SAID, SKIP, SCALE, FOLD, DROP_UNKNOWN, DROP_DELETES, EMPTY, FORMAT, PATHS, EXACT],
+    options: &[
+        FILE, WANTED, DISTINCT, EVERY_TREE, HIGH, SAID, SKIP, SCALE, FOLD, DROP_UNKNOWN, DROP_DELETES, EMPTY, FORMAT, PATHS, EXACT,
+    ],
     summary: "write a page with what was heard, the readings as drawn trees, and which words to listen to again",
     details: "\
 The page is one file of HTML that needs no other, to be looked at in a browser or printed. Of slots it says which words to

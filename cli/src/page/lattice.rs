@@ -31,6 +31,8 @@ const RADIUS: f64 = 11.0;
 const TIME_LINE: f64 = 28.0;
 /// Between words in a lane.
 const GAP: f64 = 4.0;
+/// What a label hides of lines behind it.
+const LABEL_HEIGHT: f64 = 17.0;
 /// From the middle of a label to its baseline.
 const BASELINE: f64 = 4.5;
 
@@ -204,9 +206,9 @@ impl Drawing<'_> {
             true => format!("<tspan class=\"small\" dx=\"4\">{cost}</tspan>"),
             false => String::new(),
         };
-        let (width, top) = (self.label_width(segment.edge), y - LANE / 2.0);
+        let (width, top) = (self.label_width(segment.edge), y - LABEL_HEIGHT / 2.0);
         let left = x - width / 2.0;
-        put(svg, format_args!("<rect x=\"{left:.1}\" y=\"{top:.1}\" width=\"{width:.1}\" height=\"{LANE}\"/>"));
+        put(svg, format_args!("<rect x=\"{left:.1}\" y=\"{top:.1}\" width=\"{width:.1}\" height=\"{LABEL_HEIGHT}\"/>"));
         let (y, number) = (y + BASELINE, segment.number);
         let title = format!("edge {number}: {from} to {to}");
         put(svg, format_args!("<text{class} x=\"{x:.1}\" y=\"{y:.1}\"><title>{title}</title>{name}{cost}</text>"));

@@ -1,6 +1,11 @@
 //! Many utterances on all cores.
 
-use crate::common::{answer, answer_with, doors, doors_graph, run_with};
+use crate::common::{answer, answer_in, answer_with, doors, doors_graph, folder, refused, run_in, run_with, PROGRAM};
+use std::io::{BufRead, BufReader, Write};
+use std::path::{Path, PathBuf};
+use std::process::{Command, Stdio};
+use std::sync::mpsc::channel;
+use std::time::Duration;
 
 #[test]
 fn batch_of_utterances() {
@@ -99,4 +104,165 @@ fn batch_of_any_lines() {
     let numbers: Vec<&str> = run.out.lines().map(|line| &line[8..line.find([',', '}']).expect("a number")]).collect();
     assert!(numbers.windows(2).all(|pair| pair[0].parse::<u32>().unwrap() < pair[1].parse().unwrap()), "{numbers:?}");
     assert_eq!(numbers.last(), Some(&"2013"));
+}
+
+/// Whoever waits for an answer before it says the next line gets it.
+#[test]
+fn each_line_is_answered_before_the_next_is_waited_for() {
+    let mut command = Command::new(PROGRAM);
+    let command = command.current_dir(doors()).args(["batch", "grammar.txt", "-", "-n", "1"]);
+    let mut child = command.stdin(Stdio::piped()).stdout(Stdio::piped()).spawn().expect("a run");
+    let (mut stdin, stdout) = (child.stdin.take().expect("a pipe"), child.stdout.take().expect("a pipe"));
+    let (sender, answers) = channel();
+    let reader = std::thread::spawn(move || {
+        for answer in BufReader::new(stdout).lines() {
+            sender.send(answer.expect("a line")).expect("somebody who waits");
+        }
+    });
+    for number in 1..=20 {
+        stdin.write_all(format!("door {number} ; four 1 ; oak 2\n").as_bytes()).expect("a line is taken");
+        let answer = answers.recv_timeout(Duration::from_secs(60)).expect("an answer while the input is open");
+        let begin = format!("{{\"line\":{number},\"readings\":[{{\"rank\":1,\"weight\":{},", number + 38);
+        assert!(answer.starts_with(&begin), "{answer}");
+    }
+    drop(stdin);
+    reader.join().expect("the end of the answers");
+    assert!(child.wait().expect("an end").success());
+}
+
+#[test]
+fn a_file_may_be_answered_line_by_line_too() {
+    let expected = answer("batch grammar.txt utterances.txt -n 2");
+    assert_eq!(answer("batch grammar.txt utterances.txt -n 2 --line"), expected);
+}
+
+/// A name before a tab comes back. Where a number alone follows, the tab is a blank.
+#[test]
+fn names_of_lines() {
+    let text = "\
+utt-1\tdoor 1; four 2; oak 3
+17\t0 1 door 1 ; 1 2 four 2 ; 2 3 oak 3
+\"odd\"\tdoor 1; four 2; oak 3
+b\\c\tdoor 1; green 2
+door\t1; four\t2; oak\t3
+0\t1\tdoor\t1 ; 1 2 four 2 ; 2 3 oak 3
+door 1;\tfour 2; oak 3
+";
+    let run = run_with(&doors(), "batch grammar.txt - -n 1", text.as_bytes());
+    let reading = r#""readings":[{"rank":1,"weight":41,"#;
+    let begins = [
+        format!(r#"{{"line":1,"id":"utt-1",{reading}"#),
+        format!(r#"{{"line":2,"id":"17",{reading}"#),
+        r#"{"line":3,"error":"<stdin>:3:1: refused 14: the grammar has no word `odd`"}"#.into(),
+        r#"{"line":4,"id":"b\\c","error":"<stdin>:4:13: refused 14: the grammar has no word `green`"}"#.into(),
+        format!(r#"{{"line":5,{reading}"#),
+        format!(r#"{{"line":6,{reading}"#),
+        format!(r#"{{"line":7,{reading}"#),
+    ];
+    assert_eq!(run.out.lines().count(), begins.len(), "{}", run.out);
+    for (line, begin) in run.out.lines().zip(&begins) {
+        assert!(line.starts_with(begin), "{line}\n{begin}");
+    }
+}
+
+/// Of messages that say the same the first ten are said, and the others counted; every answer says its own.
+#[test]
+fn equal_messages_are_counted() {
+    let text = "door 1; green 2\n".repeat(15) + &"door x\n".repeat(11) + "door 1; blue 2\n";
+    let run = run_with(&doors(), "batch grammar.txt - -n 1", text.as_bytes());
+    let green = |line| format!("<stdin>:{line}:9: refused 14: the grammar has no word `green`\n");
+    let no_cost = "`x` is no cost: a cost is 0 to 65535, digits only, and between slots stands `;`";
+    let number = |line| format!("<stdin>:{line}:6: {no_cost}\n");
+    let mut expected: String = (1..=10).map(green).chain((16..=25).map(number)).collect();
+    expected += "<stdin>:27:9: refused 14: the grammar has no word `blue`\n";
+    expected += &format!("<stdin>: 1 more lines: {no_cost}\n");
+    expected += "<stdin>: 5 more lines: refused 14: the grammar has no word `green`\n";
+    expected += "27 of 27 utterances refused\n";
+    assert_eq!(run.err, expected);
+    assert_eq!(run.out.matches("\"error\":").count(), 27);
+}
+
+#[test]
+fn a_byte_order_mark_is_passed_over() {
+    let text = "door 1; four 2; oak 3\ndoor 1; five 2; oak 3\n";
+    let marked = format!("\u{feff}{text}");
+    let run = |text: &str| answer_with(&doors(), "batch grammar.txt - -n 1", text.as_bytes());
+    assert_eq!(run(&marked), run(text));
+    // nowhere else
+    let later = run_with(&doors(), "batch grammar.txt - -n 1", format!("{text}{marked}").as_bytes());
+    assert_eq!(later.out.matches("\"error\":").count(), 1, "{}", later.out);
+}
+
+/// The folder of a test with the door schedule's grammar and some lines in it, of which some are refused and some none.
+fn resumed_folder(name: &str) -> PathBuf {
+    let grammar = std::fs::read(doors().join("grammar.txt")).expect("the example");
+    let lines = b"# doors\nu1\tdoor 1; four 2; oak 3\n\ndoor 1; green 2\n# more\ndoor 1; five 2; oak 3\ndoor 1; twenty 2; oak 3";
+    folder(name, &[("grammar.txt", &grammar), ("lines.txt", lines)])
+}
+
+/// Runs with an output that has these bytes, and says what it has then.
+fn resumed(folder: &Path, bytes: &[u8], words: &str) -> Vec<u8> {
+    let out = folder.join("out.jsonl");
+    std::fs::write(&out, bytes).expect("a file");
+    let run = run_in(folder, words);
+    assert!(run.out.is_empty() && run.status <= 1, "{run:?}");
+    std::fs::read(&out).expect("the output")
+}
+
+/// Wherever a run was interrupted, no line is answered twice and none is left out.
+#[test]
+fn an_interrupted_run_goes_on() {
+    const WORDS: &str = "batch grammar.txt lines.txt -n 1 --resume out.jsonl";
+    let folder = resumed_folder("batch_resumed");
+    let whole = run_in(&folder, "batch grammar.txt lines.txt -n 1").out;
+    assert_eq!(whole.lines().count(), 4);
+    let first = run_in(&folder, WORDS);
+    assert_eq!((first.status, first.out.as_str()), (1, ""), "{}", first.err);
+    assert_eq!(std::fs::read_to_string(folder.join("out.jsonl")).expect("a new file"), whole);
+    for length in (0..whole.len()).step_by(7).chain(whole.match_indices('\n').flat_map(|(at, _)| [at, at + 1])) {
+        let found = resumed(&folder, &whole.as_bytes()[..length], WORDS);
+        assert_eq!(String::from_utf8(found).as_deref(), Ok(whole.as_str()), "after {length} bytes");
+    }
+    let last = run_in(&folder, WORDS);
+    assert_eq!((last.status, last.err.as_str()), (0, "out.jsonl: goes on behind line 7\n"));
+}
+
+/// Long answers, many pieces, and standard input.
+#[test]
+fn a_long_run_goes_on() {
+    let text: String = (0..4_000).map(|number| format!("n{number}\tdoor {number} ; four 1 ; oak 2\n")).collect();
+    let folder = resumed_folder("batch_resumed_long");
+    std::fs::write(folder.join("lines.txt"), &text).expect("a file");
+    let whole = answer_in(&folder, "batch grammar.txt lines.txt");
+    for length in [1, 65_535, 65_536, 70_001, whole.len() / 2, whole.len() - 1, whole.len()] {
+        let found = resumed(&folder, &whole.as_bytes()[..length], "batch grammar.txt lines.txt --resume out.jsonl");
+        assert!(found == whole.as_bytes(), "after {length} bytes");
+    }
+    std::fs::write(folder.join("out.jsonl"), &whole.as_bytes()[..100_000]).expect("a file");
+    let run = run_with(&folder, "batch grammar.txt - --resume out.jsonl", text.as_bytes());
+    assert_eq!((run.status, run.out.as_str()), (0, ""), "{}", run.err);
+    assert!(std::fs::read(folder.join("out.jsonl")).expect("the output") == whole.as_bytes());
+}
+
+/// What is no file of answers, or not of this input, is refused and stays.
+#[test]
+fn what_cannot_be_resumed_stays() {
+    const WORDS: &str = "batch grammar.txt lines.txt --resume out.jsonl";
+    let folder = resumed_folder("batch_not_resumed");
+    let others = [
+        "door 1; four 2",
+        "door 1; four 2\n",
+        "{\"line\":1,\"readings\":[]}\nmine",
+        "{\"line\":x,}\n",
+        "{\"line\":2\n",
+    ];
+    for bytes in others {
+        std::fs::write(folder.join("out.jsonl"), bytes).expect("a file");
+        let message = "out.jsonl: not answers of `batch` to the end, and left as it is\n";
+        assert_eq!(refused(run_in(&folder, WORDS), 1), message, "{bytes}");
+        assert_eq!(std::fs::read(folder.join("out.jsonl")).expect("the file"), bytes.as_bytes());
+    }
+    std::fs::write(folder.join("out.jsonl"), "{\"line\":8,\"readings\":[]}\n").expect("a file");
+    let message = "out.jsonl: answers line 8 of another input: lines.txt has 7 lines\n";
+    assert_eq!(refused(run_in(&folder, WORDS), 1), message);
 }

@@ -40,9 +40,31 @@ fn list_as_trees_and_for_programs() {
 #[test]
 fn a_graph_has_no_slots() {
     let said = refused(run_in(&doors_graph(), "list grammar.txt graph.txt --said 0=door"), 1);
-    assert_eq!(said, "--said 0=door: a word graph has no slots\n");
+    let instead = "only slots have numbers; --said WORD keeps the paths that have a word";
+    assert_eq!(said, format!("--said 0=door: {instead}\n"));
     let network = refused(run_in(&doors_graph(), "unpack grammar.txt utterance.bin --network --scale 100"), 1);
     assert_eq!(network, "utterance.bin: --network: a word graph is no confusion network\n");
+}
+
+/// A word that is known for certain is on every path that is left.
+#[test]
+fn a_word_that_was_said() {
+    let said = |words: &str| run_in(&doors_graph(), &format!("list grammar.txt {words} -n 3"));
+    let forty = "1  80  door forty oak fire thirty\n2  88  door forty oak fire sixty\n3  96  door forty oak right\n";
+    assert_eq!(said("graph.txt --said forty").out, forty);
+    assert_eq!(said("lattice.slf --scale 100 --said forty").out, forty);
+    assert_eq!(said("graph.txt --said forty --said sixty").out, "1  88  door forty oak fire sixty\n");
+    // of slots the ones that have it somewhere
+    let slots = said("../doors/utterance.txt --said sixty").out;
+    assert!(
+        slots.starts_with("1   80  door twenty four oak fire sixty\n2   88  door forty four oak fire sixty\n"),
+        "{slots}"
+    );
+    // a word that was said is not passed over
+    let skipped = said("graph.txt --said glass --skip 5").out;
+    assert!(skipped.lines().count() == 3 && skipped.lines().all(|line| line.contains(" glass")), "{skipped}");
+    assert_eq!(refused(said("graph.txt --said steel"), 1), "--said steel: no path has it\n");
+    assert_eq!(refused(said("graph.txt --said green"), 1), "--said green: the grammar has no such word\n");
 }
 
 #[test]

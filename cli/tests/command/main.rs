@@ -13,6 +13,7 @@ mod offices;
 mod picks;
 mod random_skips;
 mod readme;
+mod recognisers;
 mod report;
 mod schedules;
 mod skips;

@@ -49,22 +49,18 @@ impl Case {
         run_in(&folder, &words)
     }
 
-    /// The slots that are not passed over, in every way in which at most so many in a row are.
-    fn choices(&self, most: usize) -> Vec<Vec<usize>> {
+    /// The slots that are not passed over, in every way.
+    fn choices(&self) -> Vec<Vec<usize>> {
         let slots = self.utterance.slots.len();
         let kept = |choice: u32| (0..slots).filter(|slot| choice >> slot & 1 == 1).collect::<Vec<_>>();
-        let is_allowed = |kept: &Vec<usize>| {
-            let ends = [vec![0], kept.iter().map(|slot| slot + 1).collect()].concat();
-            let runs = ends.iter().zip(kept.iter().chain([&slots])).map(|(end, next)| next - end);
-            runs.max() <= Some(most) && self.known.iter().all(|known| kept.contains(known))
-        };
+        let is_allowed = |kept: &Vec<usize>| self.known.iter().all(|known| kept.contains(known));
         (1..1 << slots).map(kept).filter(is_allowed).collect()
     }
 
     /// Whether the edges that all choices need have room in a word graph, and their costs in an edge.
-    fn has_room(&self, most: usize) -> bool {
+    fn has_room(&self) -> bool {
         let mut edges = BTreeSet::new();
-        for kept in self.choices(most) {
+        for kept in self.choices() {
             for (number, &slot) in kept.iter().enumerate() {
                 let from = if number == 0 { 0 } else { slot };
                 let to = kept.get(number + 1).copied().unwrap_or(self.utterance.slots.len());
@@ -81,10 +77,10 @@ impl Case {
     }
 
     /// The least weight of each reading over all choices. Two in which only the slot of the first word differs are one.
-    fn least(&self, most: usize) -> HashMap<(Vec<u32>, Vec<usize>), u32> {
+    fn least(&self) -> HashMap<(Vec<u32>, Vec<usize>), u32> {
         let mut lister = Lister::new(&self.named.grammar).expect("an accepted grammar");
         let mut least = HashMap::new();
-        for kept in self.choices(most) {
+        for kept in self.choices() {
             let slots = kept.iter().map(|slot| self.utterance.slots[*slot].clone()).collect();
             let passed = (self.utterance.slots.len() - kept.len()) as u32 * self.cost;
             for reading in lister.list(&Utterance { slots }, WANTED).expect("a list") {
@@ -137,41 +133,40 @@ fn found(json: &str) -> Vec<Found> {
     json.split("{\"rank\":").skip(1).map(reading).collect()
 }
 
-/// How many slots in a row may be passed over, as the command says.
-fn most(run: &Run, slots: usize) -> usize {
-    match run.err.split_once("at most ") {
-        Some((_, rest)) => rest.split(' ').next().and_then(|most| most.parse().ok()).expect("a number"),
-        None => {
-            assert!(run.err.contains("any number of slots in a row"), "{}", run.err);
-            slots - 1
-        }
-    }
+/// A number that the command's messages have behind some words.
+fn said(run: &Run, words: &str) -> Option<u32> {
+    let (_, rest) = run.err.split_once(words)?;
+    rest.split(' ').next().and_then(|number| number.parse().ok())
 }
 
 #[test]
 fn beside_all_choices_of_slots() {
-    let (mut readings, mut limited, mut merged) = (0, 0, 0);
+    let (mut readings, mut pruned, mut merged) = (0, 0, 0);
     over_seeds(0..150, |rng| {
         let case = Case::new(rng);
-        let (run, slots) = (case.run(), case.utterance.slots.len());
+        let run = case.run();
         assert_eq!(run.status, 0, "{}", run.err);
-        let most = most(&run, slots);
-        assert!(case.has_room(most) && (most + 1 == slots || !case.has_room(most + 1)), "{}", run.err);
-        let (least, list) = (case.least(most), found(&run.out));
-        let mut weights: Vec<u32> = least.values().copied().collect();
+        // what no edge can hold is taken off every weight
+        let off = said(&run, "every weight is ").unwrap_or(0);
+        let complete = said(&run, "every reading of weight up to ").map_or(u32::MAX, |weight| weight + off);
+        assert!(!case.has_room() || complete == u32::MAX && off == 0, "{}", run.err);
+        let (least, mut list) = (case.least(), found(&run.out));
+        list.iter_mut().for_each(|found| found.weight += off);
+        let mut weights: Vec<u32> = least.values().copied().filter(|weight| *weight <= complete).collect();
         weights.sort_unstable();
         weights.truncate(WANTED as usize);
-        assert!(list.iter().map(|found| found.weight).eq(weights), "{}", run.out);
+        let listed = list.iter().map(|found| found.weight).filter(|weight| *weight <= complete);
+        assert!(listed.eq(weights), "{}", run.out);
         let mut keys = BTreeSet::new();
         for Found { weight, walk, slots } in list {
             assert_eq!(case.weigh(&walk, &slots), weight, "{walk:?} {slots:?}");
             merged += u32::from(slots[0] > 0);
             let key = (walk, slots[1..].to_vec());
-            assert_eq!(least.get(&key), Some(&weight), "{key:?}");
+            assert!(weight > complete || least.get(&key) == Some(&weight), "{key:?}");
             assert!(keys.insert(key), "a reading twice");
         }
         readings += keys.len();
-        limited += u32::from(most + 1 < slots);
+        pruned += u32::from(complete < u32::MAX);
     });
-    assert!(readings > 3_000 && limited > 20 && merged > 300, "{readings} readings, {limited} limited, {merged} later");
+    assert!(readings > 3_000 && pruned > 20 && merged > 300, "{readings} readings, {pruned} pruned, {merged} later");
 }

@@ -1,8 +1,6 @@
 //! Slots that may be passed over.
 
-use crate::common::{doors, doors_graph, folder, refused, run, run_in, run_with, Run};
-
-const ANY: &str = "--skip 20: any number of slots in a row may be passed over\n";
+use crate::common::{doors, folder, refused, run, run_in, run_with, Run};
 
 /// What was said with a word too many in it.
 const TOO_MANY: &[u8] = b"door 4; four 9; twenty 12; four 9; oak 7; glass 3; fire 10; thirty 25";
@@ -21,7 +19,7 @@ fn words_too_many_are_passed_over() {
 3  120  door four oak fire thirty
 ";
     assert_eq!((with_skips.status, with_skips.out.as_str()), (0, lines), "{}", with_skips.err);
-    assert_eq!(with_skips.err, ANY);
+    assert_eq!(with_skips.err, "");
     // the least reading without a skip is the least with them, if they are dear
     let dear = run("list grammar.txt utterance.txt -n 1 --skip 1000");
     assert_eq!(dear.out, "1  72  door twenty four oak fire thirty\n");
@@ -33,7 +31,7 @@ fn the_first_and_the_last_slots_too() {
     assert_eq!(ends.out, "1  118  door four oak left\n", "{}", ends.err);
     let all_but_one =
         run_in(&folder("skip_one", &[("g", b"A -> \"x\""), ("u", b"x 5; x 1; x 9")]), "list g u --skip 20");
-    assert_eq!((all_but_one.out.as_str(), all_but_one.err.as_str()), ("1  41  x\n", ANY));
+    assert_eq!((all_but_one.out.as_str(), all_but_one.err.as_str()), ("1  41  x\n", ""));
 }
 
 #[test]
@@ -64,34 +62,78 @@ fn what_is_known_is_not_passed_over() {
     assert_eq!(both.out, "1  125  door twenty four oak glass fire thirty\n", "{}", both.err);
 }
 
+/// What has no room is pruned, and up to a weight all is there.
 #[test]
-fn as_many_in_a_row_as_there_is_room_for() {
-    let slot = "x 1 | y 2 | z 3";
+fn what_has_no_room_is_said() {
     let grammar = ("g", &b"A -> A A | \"x\" | \"y\" | \"z\""[..]);
-    let skips = |slots: usize, cost: &str| {
+    let skips = |slot: &str, slots: usize, words: &str| {
         let text = vec![slot; slots].join("\n");
-        run_in(&folder("skip_limits", &[grammar, ("u", text.as_bytes())]), &format!("list g u -n 1 --skip {cost}"))
+        run_in(&folder("skip_limits", &[grammar, ("u", text.as_bytes())]), &format!("list g u -n 2 --skip {words}"))
     };
-    let message = |most, why| format!("--skip 5: at most {most} slots in a row may be passed over: {why}\n");
-    let edges = "a word graph has at most 96 edges";
-    // edges alike count once: 29 spans of three words, with four skips 33; 32 spans of three words; 34 of three
-    assert_eq!(skips(8, "5").err, message(3, edges));
-    assert_eq!(skips(16, "5").err, message(1, edges));
-    assert_eq!(skips(17, "5").err, message(0, edges));
-    let dear = skips(3, "40000").err;
-    assert_eq!(dear, "--skip 40000: at most 0 slots in a row may be passed over: a cost is at most 65534\n");
+    let message = |kept, of, weight| {
+        let limits = "a word graph has 25 places and 96 edges";
+        format!("u: kept {kept} of {of} edges: every reading of weight up to {weight} is in the list ({limits})\n")
+    };
+    let run = skips("x 1 | y 4 | z 7", 16, "5");
+    assert_eq!(run.err, message(92, 408, 25));
+    assert_eq!(run.out.lines().map(|line| &line[..5]).collect::<Vec<_>>(), ["1  16", "2  16"]);
+    let json = skips("x 1 | y 4 | z 7", 16, "5 --json");
+    assert!(json.out.ends_with("],\"complete_up_to\":25}\n"), "{}", json.out);
+    let exact = skips("x 1 | y 4 | z 7", 16, "5 --exact");
+    assert_eq!(refused(exact, 1), "u: takes 408 edges and a word graph has 96: not --exact\n");
+    // costs that no edge holds are taken off every weight
+    let dear = skips("x 1", 3, "40000");
+    assert_eq!(dear.out, "1  3  x x x\n2  3  x x x\n", "{}", dear.err);
+}
+
+/// In word graphs and lattices likewise: a link that says nothing stands beside each word.
+#[test]
+fn in_word_graphs_and_lattices() {
+    let graph =
+        b"0 1 door 4\n1 2 four 9\n2 3 twenty 12\n3 4 four 9\n4 5 oak 7\n5 6 glass 3\n6 7 fire 10\n7 8 thirty 25";
+    let [slots, edges] = [TOO_MANY, graph].map(|heard| list("--skip 20 -n 8", heard));
+    assert_eq!((edges.status, &edges.out), (0, &slots.out), "{}", edges.err);
+    let mut lattice = String::from("VERSION=1.0\n");
+    lattice.extend((0..9).map(|node| format!("I={node} t={node}\n")));
+    let words = ["door -4", "four -9", "twenty -12", "four -9", "oak -7", "glass -3", "fire -10", "thirty -25"];
+    for (number, (word, score)) in words.iter().filter_map(|word| word.split_once(' ')).enumerate() {
+        lattice += &format!("J={number} S={number} E={} W={word} a={score}\n", number + 1);
+    }
+    let once = list("--skip 20 -n 8 --scale 1", lattice.as_bytes());
+    assert_eq!((once.status, once.err.as_str()), (0, ""));
+    let distinct = list("--skip 20 -n 8 --distinct", TOO_MANY).out.replace(" (+1 tree)", "");
+    assert_eq!(once.out.split_whitespace().collect::<Vec<_>>(), distinct.split_whitespace().collect::<Vec<_>>());
+    let json = list("--skip 20 -n 1 --json", graph).out;
+    assert!(!json.contains("\"slots\""), "{json}");
+}
+
+/// Words that the grammar does not have are passed over and not refused, in every form.
+#[test]
+fn words_that_the_grammar_does_not_have() {
+    let heard: [&[u8]; 4] = [
+        b"door 4; um 1; four 9; oak 7 | ok 2",
+        b"0 1 door 4\n1 2 um 1\n2 3 four 9\n3 4 oak 7\n3 4 ok 2",
+        b"VERSION=1.0\nI=0\nI=1\nI=2\nI=3\nI=4\nJ=0 S=0 E=1 W=door a=-4\nJ=1 S=1 E=2 W=um a=-1\nJ=2 S=2 E=3 W=four a=-9\nJ=3 S=3 E=4 W=oak a=-7\n",
+        b"numaligns 4\nposterior 1\nalign 0 door 0.018315638888734\nalign 1 um 0.5\nalign 2 four 0.00012340980408668\nalign 3 oak 0.000911881965554516\n",
+    ];
+    for text in heard {
+        let skipped = list("--skip 20 -n 1 --scale 1", text);
+        assert_eq!((skipped.status, skipped.out.as_str()), (0, "1  75  door four oak\n"), "{}", skipped.err);
+        let refused = list("--scale 1", text);
+        assert!(refused.status == 1 && refused.err.contains("the grammar has no word `um`"), "{}", refused.err);
+    }
+    let nothing = list("--skip 20", b"um 4; er 2");
+    assert_eq!(refused(nothing, 1), "<stdin>: no path has a word of the grammar\n");
 }
 
 #[test]
-fn mistakes() {
-    let graph = run_in(&doors_graph(), "list grammar.txt graph.txt --skip 5");
-    assert_eq!(refused(graph, 1), "--skip 5: a word graph has no slots\n");
+fn a_slot_has_any_number_of_words() {
     let words: Vec<String> = (0..5).map(|word| format!("A -> \"w{word}\"\n")).collect();
-    let slot: Vec<String> = (0..5).map(|word| format!("w{word} 1")).collect();
+    let slot: Vec<String> = (0..5).map(|word| format!("w{word} {word}")).collect();
     let text = vec![slot.join(" | "); 20].join("\n");
     let folder = folder("skip_full", &[("g", words.concat().as_bytes()), ("u", text.as_bytes())]);
-    let full = refused(run_in(&folder, "list g u --skip 5"), 1);
-    assert_eq!(full, "--skip 5: the slots cannot be redrawn: a word graph has at most 96 edges\n");
+    let full = run_in(&folder, "list g u --skip 5 -n 1");
+    assert!(full.status == 0 && full.err.starts_with("u: kept "), "{full:?}");
     let nothing = run_with(&doors(), "list grammar.txt - --skip 5 --rules", b"door 65535; four 65535");
     assert_eq!((nothing.status, nothing.out.as_str()), (0, "readings 0\n"));
 }

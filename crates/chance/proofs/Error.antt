@@ -4,7 +4,32 @@ use mathlib.Core.Path.{_≡_, refl, sym, ap, _∙_, subst}
 use mathlib.Core.Bool.{true, false, not, true≢false}
 use mathlib.Core.List.{List, [], _∷_}
 use Prim.Native.Nat.{ℕ, zero, suc, _+_, _-_, _*_, _/_, _%_, _^_, _<_, _≤_, compare, Ordering, Ordering·lt, Ordering·eq, Ordering·gt}
-use native.Mathlib.Nat.{add-zero, add-assoc, le-trans, le-of-eq, lt-of-lt-of-le, lt-of-le-of-lt, add-mul, suc-mul, mul-suc, zero-add, mul-one, one-mul, mul-pos, mul-assoc, mul-comm, mul-left-comm, mul-right-comm, mul-le-mul-right, mul-le-mul-left, mul-le-mul, le-of-mul-le-mul-right, mod-lt, div-add-mod', div-mul-le-self}
+use native.Mathlib.Nat.{
+  add-zero,
+  add-assoc,
+  le-trans,
+  le-of-eq,
+  lt-of-lt-of-le,
+  lt-of-le-of-lt,
+  add-mul,
+  suc-mul,
+  mul-suc,
+  zero-add,
+  mul-one,
+  one-mul,
+  mul-pos,
+  mul-assoc,
+  mul-comm,
+  mul-left-comm,
+  mul-right-comm,
+  mul-le-mul-right,
+  mul-le-mul-left,
+  mul-le-mul,
+  le-of-mul-le-mul-right,
+  mod-lt,
+  div-add-mod',
+  div-mul-le-self,
+}
 use native.Mathlib.Omega.{arith}
 use lib.Dec.{T, isLe, isEq, eqb, leb→le, nleb→lt, eqb→eq, eqb-refl, lit<, lit≤}
 use lib.Arith.{lt-of-le-ne}
@@ -69,19 +94,22 @@ round-err a c L C e N =
     subst (λ (l : ℕ). (grid binary64 a c * c * 2 ^ 53 ≤ a * l * 2 ^ 53 + a * l) × (a * l * 2 ^ 53 ≤ grid binary64 a c * c * 2 ^ 53 + a * l)) (sym e)
     (at (a * 2 ^ low binary64) N)
   where
-    at : (n : ℕ) → 53 ≤ size (n / c) → (kept 53 n c * 2 ^ drop 53 n c * c * 2 ^ 53 ≤ n * 2 ^ 53 + n) × (n * 2 ^ 53 ≤ kept 53 n c * 2 ^ drop 53 n c * c * 2 ^ 53 + n)
+    at : (n : ℕ) → 53 ≤ size (n / c) → (kept 53 n c * 2 ^ drop 53 n c * c * 2 ^ 53 ≤ n * 2 ^ 53 + n)
+        × (n * 2 ^ 53 ≤ kept 53 n c * 2 ^ drop 53 n c * c * 2 ^ 53 + n)
     at n N =
         let k = drop 53 n c in
         let u = c * 2 ^ k in
         let same : kept 53 n c * 2 ^ k * c ≡ kept 53 n c * u = simp (mul-assoc, mul-comm, mul-left-comm) in
         let reach : 2 ^ (52 + k) ≤ n / c = size-reaches (n / c) (52 + k) (more-than (size (n / c)) N) in
         let unit : u * 2 ^ 52 ≤ n =
-        le-trans (le-of-eq (mul-assoc c (2 ^ k) (2 ^ 52) ∙ mul-comm c (2 ^ k * 2 ^ 52) ∙ ap (λ (z : ℕ). z * c) (mul-comm (2 ^ k) (2 ^ 52) ∙ sym (pow-add 2 52 k))))
+        le-trans (le-of-eq (mul-assoc c (2 ^ k) (2 ^ 52) ∙ mul-comm c (2 ^ k * 2 ^ 52)
+        ∙ ap (λ (z : ℕ). z * c) (mul-comm (2 ^ k) (2 ^ 52) ∙ sym (pow-add 2 52 k))))
         (le-trans (mul-le-mul-right c reach) (div-mul-le-self n c)) in
-        subst (λ (z : ℕ). (z * 2 ^ 53 ≤ n * 2 ^ 53 + n) × (n * 2 ^ 53 ≤ z * 2 ^ 53 + n)) (sym same) (linear (kept 53 n c * u) u n (closest-half n u (mul-pos C (pow-pos k))) unit)
+        subst (λ (z : ℕ). (z * 2 ^ 53 ≤ n * 2 ^ 53 + n) × (n * 2 ^ 53 ≤ z * 2 ^ 53 + n)) (sym same)
+        (linear (kept 53 n c * u) u n (closest-half n u (mul-pos C (pow-pos k))) unit)
 
 -- a factor is exact
-factor-val : (s : ℕ) → Share s → HasValue (factorOf s) false s 1024
+pub factor-val : (s : ℕ) → Share s → HasValue (factorOf s) false s 1024
 unfolding factorOf
 factor-val s h =
     round-exact binary64 false s 1024 s 1064 (lit< tt) (omega (arith, h)) (lt-of-le-of-lt (mul-le-mul-right (2 ^ 1064) (h .1)) (lit< tt))
@@ -152,7 +180,8 @@ module _ (a c g s P m E L : ℕ) (C : 0 < c) (small : m ≤ 2 ^ 52)
 
   -- the common factor c goes
   out : (x y z w : ℕ) → x * c ≤ y * c + z * c + w * c → x ≤ y + (z + w)
-  out x y z w h = le-of-mul-le-mul-right (le-trans h (le-of-eq (sym (add-mul y (z + w) c ∙ ap (λ (n : ℕ). y * c + n) (add-mul z w c) ∙ sym (add-assoc (y * c) (z * c) (w * c)))))) C
+  out x y z w h = le-of-mul-le-mul-right (le-trans h
+      (le-of-eq (sym (add-mul y (z + w) c ∙ ap (λ (n : ℕ). y * c + n) (add-mul z w c) ∙ sym (add-assoc (y * c) (z * c) (w * c)))))) C
 
   new-above : g * (E * 1024) * 2 ^ 52 ≤ P * s * L * 2 ^ 52 + P * s * L * suc m
   new-above =
@@ -242,7 +271,8 @@ module _ (x : Float) (s m P : ℕ) (sh : Share s) (few47 : m < 47) (P-pos : 0 < 
 
   is : mul binary64 x (factorOf s) ≡ round binary64 false (a * s) (c * 1024)
   is =
-      mul-at binary64 x (factorOf s) a c s 1024 (positive-of-value x a c (k .value) a-pos) (positive-of-value (factorOf s) s 1024 (factor-val s sh) (sh .0)) (k .c-pos) (lit< tt) (k .value) (factor-val s sh)
+      mul-at binary64 x (factorOf s) a c s 1024 (positive-of-value x a c (k .value) a-pos) (positive-of-value (factorOf s) s 1024 (factor-val s sh) (sh .0))
+      (k .c-pos) (lit< tt) (k .value) (factor-val s sh)
 
   one-more : Close (mul binary64 x (factorOf s)) (suc m) (P * s)
   unfolding g
@@ -251,8 +281,10 @@ module _ (x : Float) (s m P : ℕ) (sh : Share s) (few47 : m < 47) (P-pos : 0 < 
     c = L;
     c-pos = pow-pos (low binary64);
     value = subst (λ (z : Float). HasValue z false g L) (sym is) (round-val binary64 (a * s) (c * 1024) (lt-of-le-of-lt g-le (lit< tt)));
-    above = subst (λ (e : ℕ). g * e * 2 ^ 52 ≤ P * s * L * 2 ^ 52 + P * s * L * suc m) (sym (tens m)) (new-above a c g s P m E L (k .c-pos) (omega arith) (k .above) (k .under) err);
-    under = subst (λ (e : ℕ). P * s * L * 2 ^ 52 ≤ g * e * 2 ^ 52 + P * s * L * suc m) (sym (tens m)) (new-under a c g s P m E L (k .c-pos) (omega arith) (k .above) (k .under) err);
+    above = subst (λ (e : ℕ). g * e * 2 ^ 52 ≤ P * s * L * 2 ^ 52 + P * s * L * suc m) (sym (tens m))
+        (new-above a c g s P m E L (k .c-pos) (omega arith) (k .above) (k .under) err);
+    under = subst (λ (e : ℕ). P * s * L * 2 ^ 52 ≤ g * e * 2 ^ 52 + P * s * L * suc m) (sym (tens m))
+        (new-under a c g s P m E L (k .c-pos) (omega arith) (k .above) (k .under) err);
   }
 
 -- all the factors
@@ -292,7 +324,8 @@ single : (s : ℕ) → Share s → HasValue (mul binary64 one (factorOf s)) fals
 unfolding factorOf
 single s h =
     subst (λ (z : Float). HasValue z false s 1024)
-    (sym (mul-at binary64 one (factorOf s) 1 1 s 1024 tt (positive-of-value (factorOf s) s 1024 (factor-val s h) (h .0)) (lit< tt) (lit< tt) (refl, refl) (factor-val s h) ∙ same))
+    (sym (mul-at binary64 one (factorOf s) 1 1 s 1024 tt (positive-of-value (factorOf s) s 1024 (factor-val s h) (h .0)) (lit< tt) (lit< tt) (refl, refl)
+    (factor-val s h) ∙ same))
     (factor-val s h)
   where
     same : round binary64 false (1 * s) (1 * 1024) ≡ factorOf s

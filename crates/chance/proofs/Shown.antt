@@ -4,7 +4,7 @@ use mathlib.Core.Path.{_≡_, refl, sym, ap, _∙_}
 use mathlib.Core.Bool.{Bool, true, false}
 use mathlib.Core.Logic.{inl}
 use mathlib.Core.List.{List, [], _∷_, _++_}
-use Prim.Native.Nat.{ℕ, suc, _-_, _≤_, _<_}
+use Prim.Native.Nat.{ℕ, suc, _≤_, _<_}
 use native.Mathlib.Omega.{arith}
 use borrow.Author.Tests.{eqb-true}
 use lib.Dec.{eqb}
@@ -24,7 +24,7 @@ use Rattle.packing.proofs.Whole.{grammar-block-out}
 use Rattle.packing.proofs.Heard.{heard-block-out}
 use Rattle.packing.specs.declared.Sym.{Sym}
 use Rattle.derivation.specs.Derivation.{Tree, Derives, by-word, by-pair, walk}
-use Rattle.derivation.proofs.Ranges.{All}
+use Rattle.derivation.proofs.Ranges.{All, all-at}
 use Rattle.derivation.proofs.Paths.{walk-path}
 use Rattle.derivation.proofs.HeardReadings.{heard-last, path}
 use Rattle.derivation.proofs.Lists.{at-length}
@@ -37,7 +37,7 @@ use Rattle.chance.specs.Answer.{sharedBy, chance, chanceOf}
 use Rattle.chance.specs.Chance.{areShares, sharesOf, one, productOf, Shown, withShares, askedChance}
 use Rattle.chance.specs.declared.Outcome.{Outcome}
 use Rattle.chance.specs.declared.Outcome.the-variants.{Product, Refused}
-use Rattle.chance.proofs.Error.{Share, product-near, product-exact}
+use Rattle.chance.proofs.Error.{Share, factor-val, product-near, product-exact}
 use Rattle.chance.proofs.Shares.{share-at}
 
 -- as many shares as nodes, and each is one
@@ -139,6 +139,7 @@ module _ (grammar heard reading shares : List ℕ) where
           one-share-a-rule = n;
           product = is;
           nodes = omega (arith, walk-path t);
+          factors = λ k s at. factor-val s (all-at Share ss k each at);
           near = rw (is, ← many) (product-near ss few each);
           exact = λ m. rw is (product-exact ss (many ∙ m) each);
         }

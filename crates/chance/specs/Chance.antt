@@ -14,7 +14,7 @@ use Rattle.packing.specs.Meaning.{Grammar, Heard}
 use Rattle.packing.specs.Parse.{Verdict, accepted, refused, _then_}
 use Rattle.packing.specs.Grammar.{grammarBlock}
 use Rattle.packing.specs.Heard.{heardBlock}
-use Rattle.derivation.specs.Derivation.{Tree, walk, Derivation}
+use Rattle.derivation.specs.Derivation.{At, Tree, walk, Derivation}
 use Rattle.derivation.specs.Heard.{pathLength, ownBlock}
 
 -- "shares for their rules, whole numbers from 1 to 1,024"
@@ -34,7 +34,7 @@ sharesOf shares (r ∷ rs) = getD shares r 0 ∷ sharesOf shares rs
 abbrev pub one : Float
 one = fin false 1 (pos 0)
 
--- "each a share over 1,024": the nearest float, which is that fraction itself
+-- "each a share over 1,024": the nearest float
 unfoldable pub factorOf : ℕ → Float
 factorOf s = round binary64 false s 1024
 
@@ -82,5 +82,7 @@ pub record Shown (grammar heard reading shares : List ℕ) (x : Float) : Type 0 
   pub one-share-a-rule : length shares ≡ length (g .rules)
   pub product : x ≡ productOf one (sharesOf shares (walk t))
   pub nodes : length (walk t) ≡ 2 * pathLength t - 1
+  -- "each factor exact": a share over 1,024 is a float
+  pub factors : (k s : ℕ) → At (sharesOf shares (walk t)) k s → HasValue (factorOf s) false s 1024
   pub near : Near x (length (walk t)) (exactOf (sharesOf shares (walk t)))
   pub exact : length (walk t) ≡ 1 → HasValue x false (exactOf (sharesOf shares (walk t))) 1024

@@ -60,7 +60,8 @@ module _ (t u : List ℕ) (q : ℕ) (same : SameBut q t u) where
           )
       go (no other) h = rw (same .trees n other .price) (between (eqb (priceIn t (n * 4)) 0) h)
         where
-          between : (b : Bool) → foundAmong u n ≤ foundAmong t n + 1 → pick b (foundAmong u n) (foundAmong u n + 1) ≤ pick b (foundAmong t n) (foundAmong t n + 1) + 1
+          between : (b : Bool) → foundAmong u n ≤ foundAmong t n + 1
+              → pick b (foundAmong u n) (foundAmong u n + 1) ≤ pick b (foundAmong t n) (foundAmong t n + 1) + 1
           between true h = h
           between false h = omega arith
 

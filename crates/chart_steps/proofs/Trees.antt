@@ -13,7 +13,19 @@ use Rattle.bits.specs.Bits.{pick}
 use Rattle.chart_keys.specs.Keys.{backPointer, keyUnit, noKey}
 use Rattle.chart_table.specs.declared.Layout.{Layout}
 use Rattle.chart_table.specs.Table.{priceIn, entryOf, besideAt, lastRank, putBeside, putFound, putLastRank, putKey}
-use Rattle.chart_queue.specs.Queue.{isInitial, queuedKey, queueLength, leastPlace, keepInitial, putQueued, moveQueued, putQueueLength, replace, push, extractMin}
+use Rattle.chart_queue.specs.Queue.{
+  isInitial,
+  queuedKey,
+  queueLength,
+  leastPlace,
+  keepInitial,
+  putQueued,
+  moveQueued,
+  putQueueLength,
+  replace,
+  push,
+  extractMin,
+}
 
 -- the tree of entry e is the same: its price, and its back pointer
 pub record SameTree (t u : List ℕ) (e : ℕ) : Type 0 where
@@ -176,7 +188,8 @@ module _ (d : Layout) (c : ℕ) where
       inner true = but-same (but-same (key-but t rank key) (replaced-same _ rank m y lo)) (pushed-same _ rank m hi)
       inner false = pushed
 
-      outer : (b : Bool) → SameBut (fourth d c rank .quarter) t (pick b (pick (ltb key lo) (push (replace (putKey t d c rank key) d c rank m y lo) d c rank m hi)
+      outer : (b : Bool) → SameBut (fourth d c rank .quarter) t
+          (pick b (pick (ltb key lo) (push (replace (putKey t d c rank key) d c rank m y lo) d c rank m hi)
           (push (putKey t d c rank lo) d c rank m hi)) (push (putKey t d c rank lo) d c rank m hi))
       outer true = inner (ltb key lo)
       outer false = pushed

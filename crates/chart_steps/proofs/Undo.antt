@@ -20,7 +20,21 @@ use Rattle.chart_table.specs.Table.{leftPart, rightPart, root, cellNumber, entr
 use Rattle.chart_table.specs.Journal.{keepFour, putBack}
 use Rattle.chart_queue.specs.Queue.{queueLength, leastPlace, keepWritten, keepMin}
 use Rattle.chart_ranks.specs.Ranks.{nextRank}
-use Rattle.chart_search.specs.Search.{Finder, Keeper, extend, extendParts, advancePairing, backBefore, nextOfSpan, nextOfRoot, keepExtend, keepParts, keepPairing, keepOfSpan, keepOfRoot}
+use Rattle.chart_search.specs.Search.{
+  Finder,
+  Keeper,
+  extend,
+  extendParts,
+  advancePairing,
+  backBefore,
+  nextOfSpan,
+  nextOfRoot,
+  keepExtend,
+  keepParts,
+  keepPairing,
+  keepOfSpan,
+  keepOfRoot,
+}
 use Rattle.chart_steps.proofs.Bounds.{most, mostOfParts}
 use Rattle.chart_steps.proofs.Saved.{Saved, undo, Kept, kept-more, kept-none, put-back}
 use Rattle.chart_steps.proofs.Written.{writtenAt, extract-writes, all-undone}
@@ -110,7 +124,8 @@ module _ (rules : List ℕ) (d : Layout) (next : Finder) (keep : Keeper) (finds 
       on-left = extend-undone u j left (b .left + 1) after (omega arith)
 
       go : (z : Bool) → Undoes (4 * mostOfParts c) t k (pick z (extend d next u left (b .left + 1)) u) (pick z (keepExtend d keep u j left (b .left + 1)) j)
-      go true = undoes-more (4 * most right + 4 * most left) (4 * mostOfParts c) t k _ _ (omega arith) (undoes-trans (4 * most right) (4 * most left) t k u j _ _ on-right on-left)
+      go true = undoes-more (4 * most right + 4 * most left) (4 * mostOfParts c) t k _ _ (omega arith)
+          (undoes-trans (4 * most right) (4 * most left) t k u j _ _ on-right on-left)
       go false = undoes-more (4 * most right) (4 * mostOfParts c) t k u j (omega arith) on-right
 
   pairing-undone : (t k : List ℕ) (c : Cell) (b : BackPointer)

@@ -15,7 +15,19 @@ use Rattle.bits.specs.Bits.{pick}
 use Rattle.chart_keys.specs.Keys.{backPointer, keyUnit, noKey}
 use Rattle.chart_table.specs.declared.Layout.{Layout}
 use Rattle.chart_table.specs.Table.{entryOf, besideAt, lastRank, putBeside, putFound, putLastRank, putKey}
-use Rattle.chart_queue.specs.Queue.{isInitial, queuedKey, queueLength, leastPlace, keepInitial, putQueued, moveQueued, putQueueLength, replace, push, extractMin}
+use Rattle.chart_queue.specs.Queue.{
+  isInitial,
+  queuedKey,
+  queueLength,
+  leastPlace,
+  keepInitial,
+  putQueued,
+  moveQueued,
+  putQueueLength,
+  replace,
+  push,
+  extractMin,
+}
 use Rattle.chart_steps.proofs.Saved.{saved, restore, undo}
 
 -- place z is in no entry that starts at one of these places
@@ -170,7 +182,8 @@ extract-writes t d c rank lo hi = outer (ltb 0 m)
     inner true = replaced
     inner false = pushed
 
-    outer : (b : Bool) → But es t (pick b (pick (ltb (queuedKey t d c y) lo) (push (replace (putKey t d c rank (queuedKey t d c y)) d c rank m y lo) d c rank m hi)
+    outer : (b : Bool) → But es t (pick b (pick (ltb (queuedKey t d c y) lo)
+        (push (replace (putKey t d c rank (queuedKey t d c y)) d c rank m y lo) d c rank m hi)
         (push (putKey t d c rank lo) d c rank m hi)) (push (putKey t d c rank lo) d c rank m hi))
     outer true = inner (ltb (queuedKey t d c y) lo)
     outer false = pushed

@@ -12,7 +12,7 @@ use lib.ListN.{length, getElem?}
 use borrow.Author.Tests.{leb-true, ltb-true, eqb-true, eqb-false, le-leb, lt-ltb}
 use Rattle.bits.specs.Bits.{pick}
 use Rattle.packing.specs.declared.Word as W
-use Rattle.packing.specs.Meaning.{notHeard, symbolOf, word, Grammar, Utterance, Edge, edge, edges}
+use Rattle.packing.specs.Meaning.{notHeard, symbolOf, word, Grammar, Utterance, Candidate, candidate, Edge, edge, edges}
 use Rattle.packing.specs.Valid.{ValidUtterance}
 use Rattle.derivation.specs.Derivation.{At, Tree, weight}
 use Rattle.derivation.specs.Rank.{_∈_}
@@ -21,13 +21,13 @@ use Rattle.derivation.proofs.Ranges.{Ascending, valid-ascending}
 use Rattle.derivation.proofs.Slots.{edges-in}
 use Rattle.cost_changes.specs.Costs.{edgesOf, Uses, First}
 use Rattle.cost_changes.specs.Passes.{firstOf}
-use Rattle.cost_changes.specs.Margins.{Overtaken, Margin, Entry, entry, Ascends, Margins}
+use Rattle.cost_changes.specs.Margins.{UsesWord, Overtaken, Margin, Entry, entry, Ascends, Margins}
 use Rattle.cost_changes.specs.Outside.{Cells, outside, through}
 use Rattle.cost_changes.specs.Listed.{has, placeIf, entryFrom, entryOf, listed, listedFor, marginsOf}
 use Rattle.cost_changes.proofs.First.{place-first, none-derives}
 use Rattle.cost_changes.proofs.EdgeOrder.{edges-before}
 use Rattle.cost_changes.proofs.Placed.{place-mem, place-length, placeOrder, place-ascends, ascends-unique}
-use Rattle.cost_changes.proofs.Margins.{lightens, margin-is, no-margin}
+use Rattle.cost_changes.proofs.Margins.{lightens, margin-is, never-through, no-margin}
 
 -- a number is in a list or not
 has-cases : (e : ℕ) (l : List ℕ) → ((e ∈ l) × (has e l ≡ true)) ⊎ (¬ (e ∈ l) × (has e l ≡ false))
@@ -231,23 +231,49 @@ margins-are words g u valid = go (firstOf g (edges u) (length u)) refl
     go (some t) e = listed-are g u (valid-ascending words u valid) t (place-first g u e)
 
 -- "each entry must hold when the cost is changed and the listing run afresh, and a fall smaller by one must bring none": of all falls within
--- the cost those from the amount on bring a lighter first reading, and no others
-pub margin-lightens : (words : ℕ) (g : Grammar) (u : Utterance) → ValidUtterance words u → (s d v : ℕ) (x : W.Word) (m : Margin g u s x d v) (f : ℕ)
-    → f ≤ m .cost → Overtaken g u s x f ↔ (d ≤ f)
-margin-lightens words g u valid s d v x m f h =
-    let asc = valid-ascending words u valid in
-    let (t, first, q) = m .overtaken .today-is in
-    let (e, p) = mem-at (edges-in 0 u s (m .there) (m .offers)) in
-    let z : 0 + s ≡ s = omega arith in
-    let at = subst (λ i. At (edges u) e (edge i (suc i) x (m .cost))) z p in
-    go asc t first e at (through g (outside g (edges u) (symbolOf 0) (length u)) (edge s (suc s) x (m .cost))) refl
-  where
-    go : Ascending u → (t : Tree) → First g u t → (e : ℕ) → At (edges u) e (edge s (suc s) x (m .cost)) → (o : Option ℕ)
-        → through g (outside g (edges u) (symbolOf 0) (length u)) (edge s (suc s) x (m .cost)) ≡ o → Overtaken g u s x f ↔ (d ≤ f)
-    go asc t first e p none r = absurd (no-margin g u asc e s (suc s) (m .cost) x p (m .heard) t first r d v m)
-    go asc t first e p (some v′) r =
-        let (n, hd, l, hv) = margin-is g u asc e s (suc s) (m .cost) x p (m .heard) t first v′ r d v .0 m in
-        rw hd (lightens g u asc e s (suc s) (m .cost) x p (m .heard) t first v′ r f h)
+-- the cost of a word that a slot offers those from its entry's amount on bring a lighter first reading, and no others; of a word without an entry, which
+-- the first reading does not use there, none does
+module _ (words : ℕ) (g : Grammar) (u : Utterance) (valid : ValidUtterance words u) (s c : ℕ) (x : W.Word) {slot : List Candidate}
+    (there : At u s slot) (offers : candidate x c ∈ slot) (heard : c < notHeard) where
+  abbrev leastThrough : Option ℕ
+  leastThrough = through g (outside g (edges u) (symbolOf 0) (length u)) (edge s (suc s) x c)
+
+  asc : Ascending u
+  asc = valid-ascending words u valid
+
+  its-edge : (e : ℕ) × At (edges u) e (edge s (suc s) x c)
+  its-edge =
+      let (e, p) = mem-at (edges-in 0 u s there offers) in
+      let z : 0 + s ≡ s = omega arith in
+      (e, subst (λ i. At (edges u) e (edge i (suc i) x c)) z p)
+
+  pub margin-lightens : {d v : ℕ} → Margin g u s x d v → (f : ℕ) → f ≤ c → Overtaken g u s x f ↔ (d ≤ f)
+  margin-lightens {d} {v} m f h =
+      let (t, first, q) = m .overtaken .today-is in
+      let (e, p) = its-edge in
+      go t first e p leastThrough refl
+    where
+      go : (t : Tree) → First g u t → (e : ℕ) → At (edges u) e (edge s (suc s) x c) → (o : Option ℕ) → leastThrough ≡ o
+          → Overtaken g u s x f ↔ (d ≤ f)
+      go t first e p none r = absurd (no-margin g u asc e s (suc s) c x p heard t first r d v m)
+      go t first e p (some v′) r =
+          let (n, hd, l, hv) = margin-is g u asc e s (suc s) c x p heard t first v′ r d v .0 m in
+          rw hd (lightens g u asc e s (suc s) c x p heard t first v′ r f h)
+
+  pub never-lightens : ((t : Tree) → First g u t → ¬ UsesWord u t s x) → ((d v : ℕ) → ¬ Margin g u s x d v) → (f : ℕ) → f ≤ c
+      → ¬ Overtaken g u s x f
+  never-lightens unused no-entry f h overtaken =
+      let (t, first, q) = overtaken .today-is in
+      let (e, p) = its-edge in
+      go t first e p leastThrough refl
+    where
+      go : (t : Tree) → First g u t → (e : ℕ) → At (edges u) e (edge s (suc s) x c) → (o : Option ℕ) → leastThrough ≡ o → ⊥
+      go t first e p none r = never-through g u asc e s (suc s) c x p heard t first r f h overtaken
+      go t first e p (some v) r =
+          let l = lightens g u asc e s (suc s) c x p heard t first v r f h .0 overtaken in
+          no-entry (v + 1 - weight g (edges u) t) v
+          (margin-is g u asc e s (suc s) c x p heard t first v r (v + 1 - weight g (edges u) t) v .1
+          ((λ y. unused t first (e, c, y, p)), refl, omega arith, refl))
 
 -- and no other list has
 pub margins-unique : (g : Grammar) (u : Utterance) (l m : List Entry) → Margins g u l → Margins g u m → l ≡ m

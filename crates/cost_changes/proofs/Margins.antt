@@ -16,7 +16,7 @@ use Rattle.derivation.proofs.Lists.{none≢some, mem-at}
 use Rattle.derivation.proofs.Ranges.{Ascending}
 use Rattle.derivation.proofs.Slots.{edge-slot, edges-in, edges-short, edges-apart}
 use Rattle.cost_changes.specs.Costs.{costAt, edgesOf, Uses, First, FirstWeight}
-use Rattle.cost_changes.specs.Margins.{lowerWord, UsesWord, Overtaken, Margin}
+use Rattle.cost_changes.specs.Margins.{lowerWord, UsesWord, Overtaken, OtherLighter, Margin}
 use Rattle.cost_changes.specs.Outside.{outside, through}
 use Rattle.cost_changes.proofs.Sums.{in-or-not}
 use Rattle.cost_changes.proofs.Alike.{alike-turn, alike-derives}
@@ -51,7 +51,7 @@ module _ (g : Grammar) (u : Utterance) (ascending : Ascending u) (e s k c : ℕ)
       (subst (λ n. Derives g (edges (changed d)) (symbolOf 0) 0 n t) (lower-length d s x u) p)
 
   -- the word is the edge, and no other edge has its slot and word
-  candidate-cost : (slot : List Candidate) (b : ℕ) → At u s slot → candidate x b ∈ slot → b ≡ c
+  pub candidate-cost : (slot : List Candidate) (b : ℕ) → At u s slot → candidate x b ∈ slot → b ≡ c
   candidate-cost slot b q m =
       let (f, r) = mem-at (edges-in 0 u s q m) in
       let z : 0 + s ≡ s = omega arith in
@@ -107,27 +107,31 @@ module _ (g : Grammar) (u : Utterance) (ascending : Ascending u) (e s k c : ℕ)
 
     -- "for some other reading to be strictly lighter than the first": where the first does not use the word its weight stays, and what gets
     -- lighter is another
-    pub another : ¬ Uses t₁ e → (d : ℕ) → Overtaken g u s x d
-        ↔ ((t : Tree) × ¬ (t ≡ t₁) × Derivation g (slots (changed d)) t
-        × (weight g (edges (changed d)) t < weight g (edges (changed d)) t₁))
-    another n d = (
-      (λ o. let (t, f, q) = o .afresh-is in
-          let less : weight g (edges (changed d)) t < weight g (edges (changed d)) t₁ =
-          omega (arith, first-weight (o .today) (o .today-is), o .lighter, keeps g d e (edges u) (edges (changed d)) (lowered d) t₁ n) in
-          (t, (λ r. let z = ap (weight g (edges (changed d))) r in omega arith), f .derivation, less)),
-      (λ (t, r, p, l). let (t′, f) = derives-first g (changed d) p in
-          record {
-            today = w₁;
-            afresh = weight g (edges (changed d)) t′;
-            today-is = (t₁, first, refl);
-            afresh-is = (t′, f, refl);
-            lighter = omega (
-              arith,
-              first-least g (changed d) f t p,
-              keeps g d e (edges u) (edges (changed d)) (lowered d) t₁ n,
-            );
-          }),
-    )
+    another : ¬ Uses t₁ e → (d : ℕ) → Overtaken g u s x d ↔ OtherLighter g u s x d
+    another n d = (to, from)
+      where
+        stays : weight g (edges (changed d)) t₁ ≡ w₁
+        stays = keeps g d e (edges u) (edges (changed d)) (lowered d) t₁ n
+
+        to : Overtaken g u s x d → OtherLighter g u s x d
+        to o t₂ second =
+            let (t, f, q) = o .afresh-is in
+            let same : t₂ ≡ t₁ = first-unique g u second first in
+            let less : weight g (edges (changed d)) t < weight g (edges (changed d)) t₁ =
+            omega (arith, first-weight (o .today) (o .today-is), o .lighter, stays) in
+            rw same (t, (λ r. let z = ap (weight g (edges (changed d))) r in omega arith), f .derivation, less)
+
+        from : OtherLighter g u s x d → Overtaken g u s x d
+        from other =
+            let (t, r, p, l) = other t₁ first in
+            let (t′, f) = derives-first g (changed d) p in
+            record {
+              today = w₁;
+              afresh = weight g (edges (changed d)) t′;
+              today-is = (t₁, first, refl);
+              afresh-is = (t′, f, refl);
+              lighter = omega (arith, first-least g (changed d) f t p, stays);
+            }
 
     -- w(e)
     abbrev least-through : Option ℕ
@@ -188,14 +192,20 @@ module _ (g : Grammar) (u : Utterance) (ascending : Ascending u) (e s k c : ℕ)
                 can = h;
                 overtaken = o;
                 none-less = λ b l z. omega (arith, lightens b (omega arith) .0 z);
+                other = another n;
                 lighter = t;
                 lighter-first = f;
                 present-is = present d h q o t f ∙ sym r;
               }
 
-    -- nor is there one where no reading uses the word
+    -- where no reading uses the word no fall brings a lighter one, and there is no entry
+    pub never-through : least-through ≡ none → (d : ℕ) → d ≤ c → ¬ Overtaken g u s x d
+    never-through is d h o =
+        let (t, f, _) = o .afresh-is in
+        let (q, y, l) = overtaken-first d h o t f in
+        none≢some (sym is ∙ through-is .finds t (q, y) .1)
+
     pub no-margin : least-through ≡ none → (d p : ℕ) → ¬ Margin g u s x d p
     no-margin is d p m =
         let b = candidate-cost (m .slot) (m .cost) (m .there) (m .offers) in
-        let (q, y, l) = overtaken-first d (omega (arith, m .can)) (m .overtaken) (m .lighter) (m .lighter-first) in
-        none≢some (sym is ∙ through-is .finds (m .lighter) (q, y) .1)
+        never-through is d (omega (arith, m .can)) (m .overtaken)

@@ -14,7 +14,7 @@ use Rattle.derivation.specs.Derivation.{Tree, Derives, Derivation, weight}
 use Rattle.derivation.proofs.Slots.{edges-short}
 use Rattle.derivation.proofs.Paths.{Forward}
 use Rattle.cost_changes.specs.Costs.{First, FirstWeight}
-use Rattle.cost_changes.specs.Ranges.{rises, LeastFirst, GreatestFirst, Outweighed, Answer, nothing, outweighed, stands, Answers, OwnHigh, HasLeast}
+use Rattle.cost_changes.specs.Ranges.{rises, LeastFirst, GreatestFirst, Outweighed, Answer, nothing, outweighed, stands, Answers, OwnHigh, HasLeast, Decided}
 use Rattle.cost_changes.specs.Passes.{firstOf, weightOf, answerOf, answer}
 use Rattle.cost_changes.proofs.Alike.{alike-turn, alike-derives}
 use Rattle.cost_changes.proofs.Weights.{weight-mono, weight-same}
@@ -77,6 +77,9 @@ module _ (g : Grammar) (low high : Utterance) (risen : rises low high ≡ true) 
               p .lighter-is,
             )
 
+    pub own-decides : Decided g low high t
+    own-decides = record { own-high = m; own-high-is = o; exactly-if = never-outweighed }
+
     -- which a first pass over those costs decides
     decided : Derivation g (slots low) t → (w : ℕ) → FirstWeight g m w → ¬ Outweighed g low high t ↔ (weight g (edges high) t ≡ w)
     decided d w f =
@@ -120,12 +123,12 @@ module _ (g : Grammar) (low high : Utterance) (risen : rises low high ≡ true) 
       go m o true e = (
         all-low _ (t, first, refl),
         all-high _ (pass-weight high risen d),
-        (t, first, decided t m o d _ (pass-weight m (o .choice .above) d) .1 (eqb-true _ _ e)),
+        (t, first, decided t m o d _ (pass-weight m (o .choice .above) d) .1 (eqb-true _ _ e), own-decides t m o),
       )
       go m o false e = (
         all-low _ (t, first, refl),
         all-high _ (pass-weight high risen d),
-        (t, first, lighter t m o d _ (pass-weight m (o .choice .above) d) (eqb-false _ _ e)),
+        (t, first, lighter t m o d _ (pass-weight m (o .choice .above) d) (eqb-false _ _ e), own-decides t m o),
       )
 
   -- three passes find the answer
@@ -147,11 +150,11 @@ module _ (g : Grammar) (low high : Utterance) where
 
   pub answer-unique : (a b : Answer) → Answers g low high a → Answers g low high b → a ≡ b
   answer-unique nothing nothing p q = refl
-  answer-unique nothing (outweighed l h) p (_, _, (t, f, o)) = absurd (p t (f .derivation))
-  answer-unique nothing (stands l h) p (_, _, (t, f, o)) = absurd (p t (f .derivation))
-  answer-unique (outweighed l h) nothing (_, _, (t, f, o)) q = absurd (q t (f .derivation))
-  answer-unique (stands l h) nothing (_, _, (t, f, o)) q = absurd (q t (f .derivation))
+  answer-unique nothing (outweighed l h) p (_, _, (t, f, o, _)) = absurd (p t (f .derivation))
+  answer-unique nothing (stands l h) p (_, _, (t, f, o, _)) = absurd (p t (f .derivation))
+  answer-unique (outweighed l h) nothing (_, _, (t, f, o, _)) q = absurd (q t (f .derivation))
+  answer-unique (stands l h) nothing (_, _, (t, f, o, _)) q = absurd (q t (f .derivation))
   answer-unique (outweighed l h) (outweighed l′ h′) (a, b, _) (a′, b′, _) = rw (least-unique l l′ a a′, greatest-unique h h′ b b′)
   answer-unique (stands l h) (stands l′ h′) (a, b, _) (a′, b′, _) = rw (least-unique l l′ a a′, greatest-unique h h′ b b′)
-  answer-unique (outweighed l h) (stands l′ h′) (_, _, (t, f, o)) (_, _, (s, f′, n)) = absurd (n (rw (first-unique g low f′ f) o))
-  answer-unique (stands l h) (outweighed l′ h′) (_, _, (t, f, n)) (_, _, (s, f′, o)) = absurd (n (rw (first-unique g low f f′) o))
+  answer-unique (outweighed l h) (stands l′ h′) (_, _, (t, f, o, _)) (_, _, (s, f′, n, _)) = absurd (n (rw (first-unique g low f′ f) o))
+  answer-unique (stands l h) (outweighed l′ h′) (_, _, (t, f, n, _)) (_, _, (s, f′, o, _)) = absurd (n (rw (first-unique g low f f′) o))

@@ -6,8 +6,8 @@ use Prim.Native.Nat.{ℕ, zero, suc, _-_, _≤_, _<_, compare, Ordering, Orderin
 use lib.Dec.{eqb}
 use Rattle.bits.specs.Bits.{pick}
 use Rattle.packing.specs.declared.Word as W
-use Rattle.packing.specs.Meaning.{notHeard, word, Grammar, Utterance, Candidate, candidate, edge, edges}
-use Rattle.derivation.specs.Derivation.{At, Tree, weight}
+use Rattle.packing.specs.Meaning.{notHeard, word, Grammar, Utterance, Candidate, candidate, edge, edges, slots}
+use Rattle.derivation.specs.Derivation.{At, Tree, Derivation, weight}
 use Rattle.derivation.specs.Order.{_▸_}
 use Rattle.derivation.specs.Rank.{_∈_}
 use Rattle.cost_changes.specs.Costs.{Uses, First, FirstWeight}
@@ -37,6 +37,12 @@ module _ (g : Grammar) (u : Utterance) (s : ℕ) (x : W.Word) where
     pub afresh-is : FirstWeight g (lowerWord d s x u) afresh
     pub lighter : afresh < today
 
+  -- "some other reading": with the cost lowered by d, a reading other than the one that is first now weighs less than that one
+  abbrev pub OtherLighter : ℕ → Type 0
+  OtherLighter d = (first : Tree) → First g u first
+      → (t : Tree) × ¬ (t ≡ first) × Derivation g (slots (lowerWord d s x u)) t
+      × (weight g (edges (lowerWord d s x u)) t < weight g (edges (lowerWord d s x u)) first)
+
   -- what an entry says: its amount, and its weight
   pub record Margin (amount present : ℕ) : Type 0 where
     -- "For each slot's offered word"
@@ -52,6 +58,8 @@ module _ (g : Grammar) (u : Utterance) (s : ℕ) (x : W.Word) where
     pub can : amount ≤ cost
     pub overtaken : Overtaken amount
     pub none-less : (d : ℕ) → d < amount → ¬ Overtaken d
+    -- "for some other reading to be strictly lighter than the first": of any fall it is one thing
+    pub other : (d : ℕ) → Overtaken d ↔ OtherLighter d
     -- "each with the lighter reading's present weight"
     pub lighter : Tree
     pub lighter-first : First g (lowerWord amount s x u) lighter

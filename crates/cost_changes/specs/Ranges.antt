@@ -1,5 +1,6 @@
 -- Costs known within ranges: document 02, N11, over all choices of costs between low and high. Stands on Costs.
 use mathlib.Core.Path.{_≡_}
+use mathlib.Core.Logic.{_↔_}
 use mathlib.Core.Bool.{Bool, true, false, _&&_}
 use mathlib.Core.List.{List, [], _∷_}
 use Prim.Native.Nat.{ℕ, _≤_, _<_}
@@ -53,6 +54,22 @@ module _ (g : Grammar) (low high : Utterance) where
     pub derivation : Derivation g (slots costs) lighter
     pub lighter-is : weight g (edges costs) lighter < weight g (edges costs) t
 
+-- "with its own words high and all others low"
+pub record OwnHigh (t : Tree) (low high m : Utterance) : Type 0 where
+  pub choice : Choice low high m
+  pub own : (e : ℕ) → Uses t e → costAt (edges m) e ≡ costAt (edges high) e
+  pub other : (e : ℕ) → ¬ Uses t e → costAt (edges m) e ≡ costAt (edges low) e
+
+-- "it has least weight"
+abbrev pub HasLeast : Grammar → Utterance → Tree → Type 0
+HasLeast g u t = (s : Tree) → Derivation g (slots u) s → weight g (edges u) t ≤ weight g (edges u) s
+
+-- t is "outweighed under no choice: that is so exactly if it has least weight with its own words high and all others low"
+pub record Decided (g : Grammar) (low high : Utterance) (t : Tree) : Type 0 where
+  pub own-high : Utterance
+  pub own-high-is : OwnHigh t low high own-high
+  pub exactly-if : ¬ Outweighed g low high t ↔ HasLeast g own-high t
+
 -- what is answered: none; or the least and the greatest first weight, where the first reading for the low costs is outweighed under some
 -- choice, or under none
 pub data Answer : Type 0 where
@@ -64,16 +81,8 @@ pub data Answer : Type 0 where
 abbrev pub Answers : Grammar → Utterance → Utterance → Answer → Type 0
 Answers g low high nothing = (t : Tree) → ¬ Derivation g (slots low) t
 Answers g low high (outweighed least greatest) =
-    LeastFirst g low high least × GreatestFirst g low high greatest × ((t : Tree) × First g low t × Outweighed g low high t)
+    LeastFirst g low high least × GreatestFirst g low high greatest
+    × ((t : Tree) × First g low t × Outweighed g low high t × Decided g low high t)
 Answers g low high (stands least greatest) =
-    LeastFirst g low high least × GreatestFirst g low high greatest × ((t : Tree) × First g low t × ¬ Outweighed g low high t)
-
--- "with its own words high and all others low"
-pub record OwnHigh (t : Tree) (low high m : Utterance) : Type 0 where
-  pub choice : Choice low high m
-  pub own : (e : ℕ) → Uses t e → costAt (edges m) e ≡ costAt (edges high) e
-  pub other : (e : ℕ) → ¬ Uses t e → costAt (edges m) e ≡ costAt (edges low) e
-
--- "it has least weight"
-abbrev pub HasLeast : Grammar → Utterance → Tree → Type 0
-HasLeast g u t = (s : Tree) → Derivation g (slots u) s → weight g (edges u) t ≤ weight g (edges u) s
+    LeastFirst g low high least × GreatestFirst g low high greatest
+    × ((t : Tree) × First g low t × ¬ Outweighed g low high t × Decided g low high t)

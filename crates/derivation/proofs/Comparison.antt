@@ -1,7 +1,24 @@
 -- Comparisons with three answers: what makes one a strict total order, numbers, and one comparison after another.
 use mathlib.Core.Path.{_≡_, refl, sym, ap, _∙_}
 use mathlib.Core.Logic.{_⊎_, inl, inr, ⊎-elim}
-use Prim.Native.Nat.{ℕ, zero, suc, _≤_, _<_, zero-le, suc-le-suc, compare, Ordering, Ordering·lt, Ordering·eq, Ordering·gt, compare·zero-zero, compare·zero-suc, compare·suc-zero, compare·suc-suc}
+use Prim.Native.Nat.{
+  ℕ,
+  zero,
+  suc,
+  _≤_,
+  _<_,
+  zero-le,
+  suc-le-suc,
+  compare,
+  Ordering,
+  Ordering·lt,
+  Ordering·eq,
+  Ordering·gt,
+  compare·zero-zero,
+  compare·zero-suc,
+  compare·suc-zero,
+  compare·suc-suc,
+}
 use native.Mathlib.Nat.{not-suc-le-zero, le-of-suc-le-suc}
 use native.Mathlib.Omega.{arith}
 use Rattle.derivation.specs.Order.{_▸_}

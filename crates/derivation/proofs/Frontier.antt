@@ -19,7 +19,23 @@ use Rattle.derivation.proofs.Comparison.{compare-self, compare-lt, comp
 use Rattle.derivation.proofs.Order.{order-lawful, order-price}
 use Rattle.derivation.proofs.Lists.{at-length, length-at}
 use Rattle.derivation.proofs.Cell.{ranked-order, derives-place}
-use Rattle.derivation.proofs.Rows.{Price, price, joined, Row, row, rowPrice, rowOrder, RowOf, leaf-row, node-row, row-price, row-derives, row-order, RowAt, place-row}
+use Rattle.derivation.proofs.Rows.{
+  Price,
+  price,
+  joined,
+  Row,
+  row,
+  rowPrice,
+  rowOrder,
+  RowOf,
+  leaf-row,
+  node-row,
+  row-price,
+  row-derives,
+  row-order,
+  RowAt,
+  place-row,
+}
 
 at-pred : {A : Type 0} {x : A} (l : List A) (n : ℕ) → At l (suc n) x → (y : A) × At l n y
 at-pred l n e = length-at l n (omega (arith, at-length l (suc n) e))

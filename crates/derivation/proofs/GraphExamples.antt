@@ -61,5 +61,6 @@ pub examples :
     × (readings G one-edge ≡ accepted ((96 ∷ 64 ∷ 0 ∷ 1 ∷ 224 ∷ 0 ∷ 0 ∷ []) ∷ []))
     × (readings G no-path ≡ accepted [])
     × (readings two-words one-heard ≡ accepted ((96 ∷ 64 ∷ 0 ∷ 0 ∷ 224 ∷ 64 ∷ []) ∷ []))
-unfolding num bitsOf pack ended widthOf widthFrom bitsOfAll inRange fieldAt anyLike unlikeFrom ruleFrom markedRuleFrom grammarFrom blockBy markedBlock grammarBlock edgeFrom graphFrom graphBlock heardBlock traceEntries graphReadingEntries blockOfGraphReading graphReadingLength padded ranked graphReading
+unfolding num bitsOf pack ended widthOf widthFrom bitsOfAll inRange fieldAt anyLike unlikeFrom ruleFrom markedRuleFrom grammarFrom blockBy markedBlock
+    grammarBlock edgeFrom graphFrom graphBlock heardBlock traceEntries graphReadingEntries blockOfGraphReading graphReadingLength padded ranked graphReading
 examples = (refl, refl, refl, refl, refl)

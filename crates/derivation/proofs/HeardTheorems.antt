@@ -29,7 +29,16 @@ use Rattle.derivation.proofs.Cell.{derives-place}
 use Rattle.derivation.proofs.Ranks.{number-all, number-before, place-number}
 use Rattle.derivation.proofs.Paths.{walk-path}
 use Rattle.derivation.proofs.Trace.{trace-one}
-use Rattle.derivation.proofs.HeardReadings.{heard-one-edge, path, heard-weight, graph-own-length, own-decided, packed-decided, packed-length, output-small}
+use Rattle.derivation.proofs.HeardReadings.{
+  heard-one-edge,
+  path,
+  heard-weight,
+  graph-own-length,
+  own-decided,
+  packed-decided,
+  packed-length,
+  output-small,
+}
 
 -- "slots .. redrawn as a graph, give the same derivations in the same order".
 module _ (g : Grammar) (u : Utterance) where

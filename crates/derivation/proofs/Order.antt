@@ -6,7 +6,24 @@ use Prim.Native.Nat.{_≤_, compare, Ordering, Ordering·lt, Ordering·eq}
 use Rattle.packing.specs.Meaning.{Grammar, Edge}
 use Rattle.derivation.specs.Derivation.{Tree, leaf, node, weight}
 use Rattle.derivation.specs.Order.{_▸_, costSum, order}
-use Rattle.derivation.proofs.Comparison.{Lawful, turned, lt≢eq, lt≢gt, eq≢gt, compare-self, compare-same, compare-turn, compare-lawful, ▸-turn, ▸-eq, ▸-chain, number-turn, number-chain, weigh, ▸-rest}
+use Rattle.derivation.proofs.Comparison.{
+  Lawful,
+  turned,
+  lt≢eq,
+  lt≢gt,
+  eq≢gt,
+  compare-self,
+  compare-same,
+  compare-turn,
+  compare-lawful,
+  ▸-turn,
+  ▸-eq,
+  ▸-chain,
+  number-turn,
+  number-chain,
+  weigh,
+  ▸-rest,
+}
 
 module _ (g : Grammar) (es : List Edge) where
   order-self : (t : Tree) → order g es t t ≡ Ordering·eq

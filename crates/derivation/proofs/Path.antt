@@ -26,7 +26,22 @@ use Rattle.packing.proofs.Taken.{Taken, all, more, taken-join, taken-split, tak
 use Rattle.packing.proofs.GraphReading.{trace-fits, trace-decided}
 use Rattle.derivation.specs.Derivation.{At, Offered, Tree, node, Derives, by-word, by-pair, weight, walk}
 use Rattle.derivation.specs.Heard.{pathLength, trace}
-use Rattle.derivation.specs.Path.{State, onward, astray, edgeStep, pairStep, wordStep, step, nodeBy, nodeFrom, rulesRead, runFrom, finished, weightAt, pathWeight}
+use Rattle.derivation.specs.Path.{
+  State,
+  onward,
+  astray,
+  edgeStep,
+  pairStep,
+  wordStep,
+  step,
+  nodeBy,
+  nodeFrom,
+  rulesRead,
+  runFrom,
+  finished,
+  weightAt,
+  pathWeight,
+}
 use Rattle.derivation.proofs.Lists.{none≢some}
 use Rattle.derivation.proofs.Rows.{leaf-weight, node-weight}
 use Rattle.derivation.proofs.Trees.{same-sym, same-word}
@@ -128,12 +143,15 @@ module _ (g : Grammar) (es : List Edge) (src : Source) where
       also : {A : Sym} {heads : List Sym} {i j n at mid w : ℕ} {t : Tree} → Derives g es A i j t → Taken src at (traceEntries count (trace t)) mid
           → Covers heads j n mid w → Covers (A ∷ heads) i (pathLength t + n) at (weight g es t + w)
 
-    cover-pair : {A B C : Sym} {heads : List Sym} {i n at mid v w : ℕ} (r : ℕ) → At (g .rules) r (Pair A B C v) → Taken src at (nodeEntries count (byPair r)) mid
+    cover-pair : {A B C : Sym} {heads : List Sym} {i n at mid v w : ℕ} (r : ℕ) → At (g .rules) r (Pair A B C v)
+        → Taken src at (nodeEntries count (byPair r)) mid
         → Covers (B ∷ C ∷ heads) i n mid w → Covers (A ∷ heads) i n at (v + w)
     unfolding trace traceEntries pathLength
     cover-pair {i = i} {at = at} {v = v} r p q (also {j = j} {t = s} d₁ t₁ (also {j = k} {n = n} {mid = end} {w = w} {t = t} d₂ t₂ c)) =
-        let nodes : Taken src at (traceEntries count (trace (node r j s t))) end = rw (trace-append count (trace s) (trace t)) (taken-join q (taken-join t₁ t₂)) in
-        let whole = also (by-pair {i = i} {j = j} {k = k} p (omega (arith, path-bound g es forward d₁)) (omega (arith, path-bound g es forward d₂)) d₁ d₂) nodes c in
+        let nodes : Taken src at (traceEntries count (trace (node r j s t))) end =
+        rw (trace-append count (trace s) (trace t)) (taken-join q (taken-join t₁ t₂)) in
+        let whole = also (by-pair {i = i} {j = j} {k = k} p (omega (arith, path-bound g es forward d₁)) (omega (arith, path-bound g es forward d₂)) d₁ d₂) nodes
+        c in
         let l : pathLength s + pathLength t + n ≡ pathLength s + (pathLength t + n) = omega arith in
         let m : weight g es (node r j s t) + w ≡ v + (weight g es s + (weight g es t + w)) = rw (node-weight g es r j s t p) (omega arith) in
         rw (l, m) at whole
@@ -214,7 +232,8 @@ module _ (g : Grammar) (es : List Edge) (src : Source) where
     unfolding runFrom
     run-node m from at p q = rw (p, q)
 
-    complete : {A : Sym} {i k : ℕ} {t : Tree} → Derives g es A i k t → {at mid : ℕ} → Taken src at (traceEntries count (trace t)) mid → (heads : List Sym) (w n m : ℕ)
+    complete : {A : Sym} {i k : ℕ} {t : Tree} → Derives g es A i k t → {at mid : ℕ} → Taken src at (traceEntries count (trace t)) mid
+        → (heads : List Sym) (w n m : ℕ)
         → length heads ≤ n
         → runs (length (trace t) + m) (onward i (pathLength t + n) (A ∷ heads) w) at ≡ runs m (onward k n heads (w + weight g es t)) mid
     unfolding trace traceEntries pathLength
@@ -225,7 +244,8 @@ module _ (g : Grammar) (es : List Edge) (src : Source) where
         rw (a, b, leaf-weight g es r e p o, sum) (run-node m (onward i (suc n) (_ ∷ heads) w) at (word-read at p q s) (word-step i n r e heads w p o))
     complete (by-pair {A} {B} {C} {r} {w = v} {i} {j} {k} {s} {t} p h₁ h₂ d₁ d₂) {at = at} {mid = end} (more {mid = mid} q rest) heads w n m room =
         let (split, t₁, t₂) = taken-split (traceEntries count (trace s)) (rw (trace-append count (trace s) (trace t)) at rest) in
-        let steps : suc (length (trace s ++ trace t)) + m ≡ suc (length (trace s) + (length (trace t) + m)) = rw (length-append (trace s) (trace t)) (omega arith) in
+        let steps : suc (length (trace s ++ trace t)) + m ≡ suc (length (trace s) + (length (trace t) + m)) =
+        rw (length-append (trace s) (trace t)) (omega arith) in
         let edges : pathLength s + pathLength t + n ≡ pathLength s + (pathLength t + n) = omega arith in
         let sum : w + v + weight g es s + weight g es t ≡ w + weight g es (node r j s t) = rw (node-weight g es r j s t p) (omega arith) in
         let l₁ = path-bound g es forward d₁ in

@@ -55,10 +55,14 @@ Within S W (Word a x w) = (a .0 < S) × (x .0 < W)
 rules-within : (S W : ℕ) → 1 ≤ S → 1 ≤ W → (rs : List R.Rule) → Fits (rulesEntries S W rs) → All (Within S W) rs
 unfolding rulesEntries
 rules-within S W hs hw [] h = tt
-rules-within S W hs hw (Pair a b c w ∷ rs) h =
-    ((omega (arith, h .1 .0 .1), omega (arith, h .1 .1 .1 .0 .1), omega (arith, h .1 .1 .1 .1 .0 .1)), rules-within S W hs hw rs (each-right InRange (ruleEntries S W (Pair a b c w)) (rulesEntries S W rs) h))
-rules-within S W hs hw (Word a x w ∷ rs) h =
-    ((omega (arith, h .1 .0 .1), omega (arith, h .1 .1 .1 .0 .1)), rules-within S W hs hw rs (each-right InRange (ruleEntries S W (Word a x w)) (rulesEntries S W rs) h))
+rules-within S W hs hw (Pair a b c w ∷ rs) h = (
+  (omega (arith, h .1 .0 .1), omega (arith, h .1 .1 .1 .0 .1), omega (arith, h .1 .1 .1 .1 .0 .1)),
+  rules-within S W hs hw rs (each-right InRange (ruleEntries S W (Pair a b c w)) (rulesEntries S W rs) h),
+)
+rules-within S W hs hw (Word a x w ∷ rs) h = (
+  (omega (arith, h .1 .0 .1), omega (arith, h .1 .1 .1 .0 .1)),
+  rules-within S W hs hw rs (each-right InRange (ruleEntries S W (Word a x w)) (rulesEntries S W rs) h),
+)
 
 candidates-cheap : (W least : ℕ) (slot : List Candidate) → Fits (candidatesEntries W least slot) → All Cheap slot
 unfolding candidatesEntries

@@ -4,7 +4,20 @@
 use mathlib.Core.Path.{_≡_, refl, sym, ap, _∙_}
 use mathlib.Core.Logic.{_⊎_, inl, inr, ⊎-elim, _↔_}
 use mathlib.Core.List.{List, [], _∷_, List·Memᴰ·head, List·Memᴰ·tail, List·Memᴰ·cases-cons, List·Memᴰ·not-nil}
-use Prim.Native.Nat.{ℕ, zero, suc, compare, Ordering, Ordering·lt, Ordering·eq, Ordering·gt, compare·zero-zero, compare·zero-suc, compare·suc-zero, compare·suc-suc}
+use Prim.Native.Nat.{
+  ℕ,
+  zero,
+  suc,
+  compare,
+  Ordering,
+  Ordering·lt,
+  Ordering·eq,
+  Ordering·gt,
+  compare·zero-zero,
+  compare·zero-suc,
+  compare·suc-zero,
+  compare·suc-suc,
+}
 use lib.ListN.{length, take}
 use Rattle.derivation.specs.Derivation.{At}
 use Rattle.derivation.specs.Rank.{_∈_, Distinct, Number}

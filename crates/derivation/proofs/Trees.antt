@@ -16,7 +16,24 @@ use Rattle.derivation.specs.Derivation.{At, Offered, Tree, leaf, node, D
 use Rattle.derivation.specs.Rank.{_∈_, Distinct}
 use Rattle.derivation.specs.List.{leafOf, leavesOfRule, combined, nodesOfRule, treesWithin, trees}
 use Rattle.derivation.proofs.Lists.{distinct-append}
-use Rattle.derivation.proofs.Joined.{each-out, each-in, each-distinct, below-out, below-in, below-distinct, only-out, only-in, only-distinct, keep-out, keep-in, keep-distinct, single, joined-out, joined-in, joined-distinct}
+use Rattle.derivation.proofs.Joined.{
+  each-out,
+  each-in,
+  each-distinct,
+  below-out,
+  below-in,
+  below-distinct,
+  only-out,
+  only-in,
+  only-distinct,
+  keep-out,
+  keep-in,
+  keep-distinct,
+  single,
+  joined-out,
+  joined-in,
+  joined-distinct,
+}
 
 -- a symbol and a word are their numbers
 pub same-sym : (A B : Sym) → A .0 ≡ B .0 → A ≡ B

@@ -12,19 +12,19 @@ use Rattle.office.specs.Office.{Office}
 use Rattle.office.specs.Conversion.{convert, marks, convertMarked}
 use Rattle.office.proofs.Marked.{marked-grammar, marked-marks}
 use Rattle.office_theory.specs.Derivations.{OfficeTree, officeWeight, officeWalk}
-use Rattle.office_theory.specs.Matching.{OfficeDerivation, toGrammar, toOffice, Match, withoutMarked}
+use Rattle.office_theory.specs.Matching.{OfficeDerivation, Match, withoutMarked}
 use Rattle.lines.specs.Rows.{row, rowOf, kthRow, Rows}
 
 module _ (o : Office) (matching : (h : Heard) → Match o h) where
   -- of a derivation of the converted grammar: the row has the office derivation's weight and its own rule numbers
   office-row : (k : ℕ) (h : Heard) (s : Tree) → Derivation (convert o) h s
       → row k (weight (convert o) (heardEdges h) s) (withoutMarked (marks o) (walk s))
-      ≡ row k (officeWeight o (heardEdges h) (toOffice o s)) (officeWalk (toOffice o s))
+      ≡ row k (officeWeight o (heardEdges h) (matching h .toOffice s)) (officeWalk (matching h .toOffice s))
   office-row k h s d =
       let m = matching h in
-      let t = toOffice o s in
+      let t = m .toOffice s in
       let own = m .back s d in
-      let again : toGrammar o t ≡ s = m .back-out s d in
+      let again : m .toGrammar t ≡ s = m .back-out s d in
       let weighs : weight (convert o) (heardEdges h) s ≡ officeWeight o (heardEdges h) t = rw again at (m .weighs t own) in
       let walks : withoutMarked (marks o) (walk s) ≡ officeWalk t = rw again at (m .walks t own) in
       ap (λ (w : ℕ). row k w (withoutMarked (marks o) (walk s))) weighs ∙ ap (row k (officeWeight o (heardEdges h) t)) walks
@@ -39,7 +39,7 @@ module _ (o : Office) (matching : (h : Heard) → Match o h) where
       let d : Derivation (convert o) (rows .h) s =
       subst (λ (g : Grammar). Derivation g (rows .h) s) (ap grammarOf same ∙ marked-grammar o) (ranked .derivation) in
       let whole : kthRow k shown′ ≡ rowOf k (convertMarked o) (rows .h) s = stands ∙ ap (λ (m : Marked). rowOf k m (rows .h) s) same in (
-        toOffice o s,
+        matching (rows .h) .toOffice s,
         matching (rows .h) .back s d,
         rw (marked-grammar o, marked-marks o) at whole ∙ office-row k (rows .h) s d,
       )

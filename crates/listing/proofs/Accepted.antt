@@ -89,7 +89,8 @@ asked-out l grammar heard N work out {g} {h} e =
     granted (grammarBlock grammar) _ e λ f p e.
     granted (heardBlock (f .words) heard) _ e λ k q e.
     let (asks, same) = conditions-asks l f k N work out e in
-    subst (λ (b : Grammar × Heard). (grammarBlock grammar ≡ accepted (b .0)) × (heardBlock (b .0 .words) heard ≡ accepted (b .1)) × Asks (b .0) (b .1) N work out)
+    subst (λ (b : Grammar × Heard). (grammarBlock grammar ≡ accepted (b .0)) × (heardBlock (b .0 .words) heard ≡ accepted (b .1))
+    × Asks (b .0) (b .1) N work out)
     same (p, q, asks)
 
 -- what is due is made of what is asked

@@ -59,7 +59,8 @@ module _ (g : Grammar) (h : Heard) (okg : ValidGrammar g) (okh : ValidHeard (g .
       )
 
 -- the ways out of inputs that were read
-module _ (rules edges : List ℕ) (z : Inputs) (asked : Asked) (work out : List ℕ) {f : Form} (formed : f ≡ formOf (z .heard .graph) (z .heard .last) (z .sizes .rules)) where
+module _ (rules edges : List ℕ) (z : Inputs) (asked : Asked) (work out : List ℕ) {f : Form}
+    (formed : f ≡ formOf (z .heard .graph) (z .heard .last) (z .sizes .rules)) where
   pub read-refused : {x : ℕ} → x ≡ shortage asked (z .sizes .symbols) (z .heard .last) (f .size) (length work) (length out) → (x ≡ 0 → ⊥)
       → ReadListed rules edges z asked work out (Refused x) work out
   unfolding list
@@ -70,7 +71,8 @@ module _ (rules edges : List ℕ) (z : Inputs) (asked : Asked) (work out : List 
       rw (k .grammar-is, k .heard-is, short asked g h (length work) (length out) (λ none. short-of (is ∙ none)), is) (refl, (refl, refl))
 
   pub read-found : {m : ℕ} {d : Layout} {work′ out′ : List ℕ}
-      → shortage asked (z .sizes .symbols) (z .heard .last) (f .size) (length work) (length out) ≡ 0 → d ≡ layOut (z .sizes .symbols) (z .heard .last) (asked .wanted)
+      → shortage asked (z .sizes .symbols) (z .heard .last) (f .size) (length work) (length out) ≡ 0 → d
+      ≡ layOut (z .sizes .symbols) (z .heard .last) (asked .wanted)
       → Filled rules f edges (z .heard .edges) d work out m work′ out′ → ReadListed rules edges z asked work out (Found m) work′ out′
   unfolding list
   read-found {m} {work′ = work′} {out′} none e-layout filled grammar heard rules₀ edges₀ k =

@@ -55,7 +55,8 @@ module _ (Row : ℕ → Type 0) (l : Limits) where
       go false false false false false true p q r s t u =
           rw (p, q, r, s, t, u) (denied {n = 23} (turned .room (ltb-false _ _ p) (ltb-false _ _ s) (ltb-true _ _ u)))
       go false false false false false false p q r s t u =
-          rw (listing-accepts g h N l work out (ltb-false _ _ p) (ltb-false _ _ s) (ltb-false _ _ q) (ltb-false _ _ r) (ltb-false _ _ t) (ltb-false _ _ u)) granted
+          rw (listing-accepts g h N l work out (ltb-false _ _ p) (ltb-false _ _ s) (ltb-false _ _ q) (ltb-false _ _ r) (ltb-false _ _ t) (ltb-false _ _ u))
+          granted
 
   -- "a refusal is a number of its row"
   list-row : (grammar heard : List ℕ) (N work out : ℕ)

@@ -67,10 +67,12 @@ pub record Met (asked : Asked) (S n L work out : ℕ) : Type 0 where
 pub all-met : (asked : Asked) (S n L work out : ℕ) → shortage asked S n L work out ≡ 0 → Met asked S n L work out
 unfolding shortage
 all-met asked S n L work out =
-    go (ltb (asked .limits .slots) n) (ltb (asked .wanted) 1) (ltb 256 (asked .wanted)) (ltb (asked .limits .readings) (asked .wanted)) (ltb work (tableSize S n (asked .wanted))) (ltb out (asked .wanted * L))
+    go (ltb (asked .limits .slots) n) (ltb (asked .wanted) 1) (ltb 256 (asked .wanted)) (ltb (asked .limits .readings) (asked .wanted))
+    (ltb work (tableSize S n (asked .wanted))) (ltb out (asked .wanted * L))
     refl refl refl refl refl refl
   where
-    go : (a b c d e f : Bool) → ltb (asked .limits .slots) n ≡ a → ltb (asked .wanted) 1 ≡ b → ltb 256 (asked .wanted) ≡ c → ltb (asked .limits .readings) (asked .wanted) ≡ d
+    go : (a b c d e f : Bool) → ltb (asked .limits .slots) n ≡ a → ltb (asked .wanted) 1 ≡ b → ltb 256 (asked .wanted) ≡ c
+        → ltb (asked .limits .readings) (asked .wanted) ≡ d
         → ltb work (tableSize S n (asked .wanted)) ≡ e → ltb out (asked .wanted * L) ≡ f → firstRefusal a b c d e f ≡ 0 → Met asked S n L work out
     go true b c d e f p q r s t u none = absurd (omega arith)
     go false true c d e f p q r s t u none = absurd (omega arith)

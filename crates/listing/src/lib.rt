@@ -116,7 +116,8 @@ fn fill(
     out: &mut [u8],
 ) -> usize
     requires { ⌜ (Sized d) × (FormFor (d .places) form) × (arcs ≤ 256) × (d .ranks * form .size ≤ length (now out)) ⌝ }
-    ensures { λ r. ⌜ Filled (now (rules .entry)) form (now (edges .entry)) arcs d (now (work .entry)) (now (out .entry)) r (now (work .exit)) (now (out .exit)) ⌝ }
+    ensures { λ r. ⌜ Filled (now (rules .entry)) form (now (edges .entry)) arcs d (now (work .entry)) (now (out .entry)) r (now (work .exit)) (now (out .exit))
+        ⌝ }
 {
     let m = chart::enumerate(work, rules, form.rules, edges, arcs, d);
     write_readings(&work[..], rules, form, d, m, out);
@@ -134,7 +135,8 @@ fn list_read(
     out: &mut [u8],
 ) -> Listed
     requires { ⌜ Bounds inputs ⌝ }
-    ensures { λ r. ⌜ ReadListed (now (rules .entry)) (now (edges .entry)) inputs asked (now (work .entry)) (now (out .entry)) r (now (work .exit)) (now (out .exit)) ⌝ }
+    ensures { λ r. ⌜ ReadListed (now (rules .entry)) (now (edges .entry)) inputs asked (now (work .entry)) (now (out .entry)) r (now (work .exit))
+        (now (out .exit)) ⌝ }
 {
     let symbols = inputs.sizes.symbols as usize;
     let last = inputs.heard.last;
@@ -158,9 +160,13 @@ pub fn listing_within(
     out: &mut [u8],
 ) -> Listed
     ensures { λ r. ⌜ r ≡ listedOf (list limits (now (grammar .entry)) (now (heard .entry)) wanted (length (now (work .entry))) (length (now (out .entry)))) ⌝ }
-    ensures { λ r. ⌜ now (work .exit) ≡ workAfter (list limits (now (grammar .entry)) (now (heard .entry)) wanted (length (now (work .entry))) (length (now (out .entry)))) (now (work .entry)) ⌝ }
-    ensures { λ r. ⌜ now (out .exit) ≡ outputAfter (list limits (now (grammar .entry)) (now (heard .entry)) wanted (length (now (work .entry))) (length (now (out .entry)))) (now (out .entry)) ⌝ }
-    ensures { λ r. ⌜ (Within limits (now (grammar .entry)) (now (heard .entry)) wanted → Demand3 (now (grammar .entry)) (now (heard .entry)) wanted (now (work .entry)) (now (out .entry)) (λ m. r ≡ Listed.Found m) (now (work .exit)) (now (out .exit))) ⌝ }
+    ensures { λ r. ⌜ now (work .exit) ≡ workAfter
+        (list limits (now (grammar .entry)) (now (heard .entry)) wanted (length (now (work .entry))) (length (now (out .entry)))) (now (work .entry)) ⌝ }
+    ensures { λ r. ⌜ now (out .exit) ≡ outputAfter
+        (list limits (now (grammar .entry)) (now (heard .entry)) wanted (length (now (work .entry))) (length (now (out .entry)))) (now (out .entry)) ⌝ }
+    ensures { λ r. ⌜ (Within limits (now (grammar .entry)) (now (heard .entry)) wanted
+        → Demand3 (now (grammar .entry)) (now (heard .entry)) wanted (now (work .entry)) (now (out .entry)) (λ m. r ≡ Listed.Found m) (now (work .exit))
+        (now (out .exit))) ⌝ }
 {
     let mut rules = [0u32; RULES_LENGTH];
     let mut edges = [0u32; EDGES_LENGTH];
@@ -181,9 +187,12 @@ pub fn listing(
     out: &mut [u8],
 ) -> Listed
     ensures { λ r. ⌜ r ≡ listedOf (list library (now (grammar .entry)) (now (heard .entry)) wanted (length (now (work .entry))) (length (now (out .entry)))) ⌝ }
-    ensures { λ r. ⌜ now (work .exit) ≡ workAfter (list library (now (grammar .entry)) (now (heard .entry)) wanted (length (now (work .entry))) (length (now (out .entry)))) (now (work .entry)) ⌝ }
-    ensures { λ r. ⌜ now (out .exit) ≡ outputAfter (list library (now (grammar .entry)) (now (heard .entry)) wanted (length (now (work .entry))) (length (now (out .entry)))) (now (out .entry)) ⌝ }
-    ensures { λ r. ⌜ Demand3 (now (grammar .entry)) (now (heard .entry)) wanted (now (work .entry)) (now (out .entry)) (λ m. r ≡ Listed.Found m) (now (work .exit)) (now (out .exit)) ⌝ }
+    ensures { λ r. ⌜ now (work .exit) ≡ workAfter
+        (list library (now (grammar .entry)) (now (heard .entry)) wanted (length (now (work .entry))) (length (now (out .entry)))) (now (work .entry)) ⌝ }
+    ensures { λ r. ⌜ now (out .exit) ≡ outputAfter
+        (list library (now (grammar .entry)) (now (heard .entry)) wanted (length (now (work .entry))) (length (now (out .entry)))) (now (out .entry)) ⌝ }
+    ensures { λ r. ⌜ Demand3 (now (grammar .entry)) (now (heard .entry)) wanted (now (work .entry)) (now (out .entry)) (λ m. r ≡ Listed.Found m)
+        (now (work .exit)) (now (out .exit)) ⌝ }
 {
     listing_within(LIBRARY, grammar, heard, wanted, work, out)
 }

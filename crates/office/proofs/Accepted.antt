@@ -1,6 +1,6 @@
 -- An accepted sheet is a valid office grammar, whose rules stand in the sheet from place 3 on.
 use mathlib.Core.Path.{_≡_, refl, sym, ap, _∙_}
-use mathlib.Core.Bool.{Bool, true, false}
+use mathlib.Core.Bool.{Bool, true, false, true≢false}
 use mathlib.Core.Option.{some}
 use mathlib.Core.List.{List, [], _∷_, _++_}
 use Prim.Native.Nat.{ℕ, zero, suc, _+_}
@@ -51,16 +51,13 @@ not-among r (p ∷ qs) n {q} e h = go (ruleAlike r p) refl h n e (λ n e h. not-
     go false t h zero e f = let z : p ≡ q = cc in rw (← z) t
     go false t h (suc n) e f = f n e h
 
-true≢false : {b : Bool} → b ≡ true → b ≡ false → ⊥
-true≢false t f = let z : _≡_ {A = ℕ} 0 1 = cc in omega arith
-
 unlike-snoc : (qs : List OfficeRule) (x : OfficeRule) → OfficeUnlike qs → anyLike ruleAlike x qs ≡ false → OfficeUnlike (qs ++ (x ∷ []))
 unlike-snoc qs x h new q r u w A l a b =
     at-snoc qs x q a (λ c. at-snoc qs x r b (λ d. h q r u w A l c d) (λ n e. absurd (clash q u w c e)))
     (λ n e. at-snoc qs x r b (λ d. absurd (clash r w u d e)) (λ m f. n ∙ sym m))
   where
     clash : (n v z : ℕ) → getElem? qs n ≡ some (rule A v l) → x ≡ rule A z l → ⊥
-    clash n v z c e = true≢false (rule-self A z v l) (rw e at (not-among x qs n c new))
+    clash n v z c e = true≢false (sym (rule-self A z v l) ∙ rw e at (not-among x qs n c new))
 
 unlike-read : (s : List ℕ) (S W n at : ℕ) (qs : List OfficeRule) {rs : List OfficeRule} {next : ℕ} → officeRulesFrom s S W n at qs ≡ parsed rs next
     → OfficeUnlike qs → OfficeUnlike rs

@@ -8,7 +8,8 @@ use Rattle.derivation.specs.Derivation.{leaf, node}
 use Rattle.office.specs.Office.{Item, symbol, spoken, OfficeRule, rule, OfficeWithin}
 use Rattle.office_theory.specs.Derivations.{OfficeTree, heard, ruled, parted, OfficeDerives, by-edge, by-rule, by-parts, officeWeight}
 use Rattle.office.specs.Conversion.{convert, marks}
-use Rattle.office_theory.specs.Matching.{unlessMarked, reduced, leftOf, rightOf, helperNumber, expandedBy, toGrammar, toOffice, withoutMarked}
+use Rattle.office_theory.specs.Maps.{unlessMarked, reduced, leftOf, rightOf, helperNumber, expandedBy, toGrammar, toOffice}
+use Rattle.office_theory.specs.Matching.{withoutMarked}
 use Rattle.office.proofs.Examples.{desk}
 
 desk-within : OfficeWithin desk

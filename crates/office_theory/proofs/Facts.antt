@@ -16,7 +16,7 @@ use Rattle.office.specs.Office.{Item, symbol, spoken, OfficeRule, rule, Office,
 use Rattle.office_theory.specs.Derivations.{OfficeTree, ruled}
 use Rattle.office.proofs.Steps.{rules-length}
 use Rattle.office.specs.Conversion.{Helper, forWord, joins, helper, rulesBehind, helpers, helperRule, helperRules, convert, marks}
-use Rattle.office_theory.specs.Matching.{unlessMarked, helperNumber}
+use Rattle.office_theory.specs.Maps.{unlessMarked, helperNumber}
 use Rattle.office_theory.proofs.Places.{at-left, at-right, at-cases, getD-at}
 use Rattle.office_theory.proofs.Spelled.{Spells, a-symbol, a-word, several, Becomes, word-rule, pair-rule, Meant, behind-meant, rules-become}
 

@@ -26,18 +26,8 @@ use Rattle.office_theory.specs.Derivations.{
   officeWalk,
 }
 use Rattle.office.specs.Conversion.{helper, helpers, convert, marks}
-use Rattle.office_theory.specs.Matching.{
-  unlessMarked,
-  reduced,
-  leftOf,
-  rightOf,
-  helperNumber,
-  expandedBy,
-  OfficeDerivation,
-  toGrammar,
-  toOffice,
-  OneToOne,
-}
+use Rattle.office_theory.specs.Maps.{unlessMarked, reduced, leftOf, rightOf, helperNumber, expandedBy, toGrammar, toOffice}
+use Rattle.office_theory.specs.Matching.{OfficeDerivation, OneToOne}
 use Rattle.office_theory.proofs.Walks.{walk-reduced}
 use Rattle.office_theory.proofs.Spelled.{Spells, a-symbol, a-word, several, word-rule, pair-rule}
 use Rattle.office_theory.proofs.Facts.{
@@ -201,6 +191,8 @@ module _ (o : Office) (v : OfficeWithin o) (es : List Edge) where
 
   pub one-to-one : (A : Sym) (i k : ℕ) → A .0 < o .symbols → OneToOne o es A i k
   one-to-one A i k h = record {
+    toGrammar = toGrammar o;
+    toOffice = toOffice o;
     out = λ t d. rw (any-number d 0 (helperNumber o A)) (out d (a-symbol h) .derives);
     back = λ s d. back d (a-symbol h) .derives;
     out-back = λ t d. returns d;

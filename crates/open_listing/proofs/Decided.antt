@@ -22,7 +22,7 @@ use Rattle.derivation.specs.Heard.{outputLength, packed}
 use Rattle.derivation.proofs.Lists.{none≢some}
 use Rattle.derivation.proofs.HeardReadings.{heard-one-edge}
 use Rattle.chart.specs.WorkTable.{tableSize}
-use Rattle.open_listing.specs.Stands.{Entry, entry, Spelled, leaf-spelled, node-spelled, SpelledReading}
+use Rattle.open_listing.specs.Stands.{TableEntry, entry, Spelled, leaf-spelled, node-spelled, SpelledReading}
 use Rattle.open_listing.specs.Open as S
 use Rattle.open_listing.specs.declared.Answer as A
 use Rattle.open_listing.specs.declared.Answer.the-variants.{Reading, NoMore, Full, Refused}
@@ -43,7 +43,7 @@ module _ (search : S.Search) (l : S.Lent) where
   data Case (b : S.Blocks) : A.Answer → Type 0 where
     strays : S.Astray (b .grammar) (b .heard) (l .place) (l .work) (S.made search b l) → Case b (Refused 53)
     misses : S.Missing (b .grammar) (b .heard) (l .place) (l .work) (S.made search b l) → Case b NoMore
-    hands : (e : Entry) → entry (b .grammar) (b .heard) (S.made search b l) (symbolOf 0) 0 (lastPlace (b .heard)) (l .place .handed) ≡ some e
+    hands : (e : TableEntry) → entry (b .grammar) (b .heard) (S.made search b l) (symbolOf 0) 0 (lastPlace (b .heard)) (l .place .handed) ≡ some e
         → (S.Astray (b .grammar) (b .heard) (l .place) (l .work) (S.made search b l) → ⊥) → Case b Reading
 
   stray-found : {b : S.Blocks} → S.Astray (b .grammar) (b .heard) (l .place) (l .work) (S.made search b l)

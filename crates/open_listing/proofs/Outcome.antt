@@ -129,7 +129,7 @@ module _ (grammar heard : List ℕ) (g : Grammar) (h : Heard) (eg : grammarBlock
     unfolding layOut
     clear-front front = ap zeros front ∙ zeros-all (4 * d .cells)
 
-    is-sought : seeks (plan g h) p work ≡ true → S.Sought g h p work
+    is-sought : seeks (plan g h) p work ≡ true → S.LooksFor g h p work
     unfolding seeks
     is-sought z =
         let (opened, clear) = go (eqb (p .opened) 1) (eqb (p .handed) 0) z in
@@ -140,7 +140,7 @@ module _ (grammar heard : List ℕ) (g : Grammar) (h : Heard) (eg : grammarBlock
         go true false e = (refl, λ z. absurd (false≢true z))
         go true true e = (refl, λ z. e)
 
-    tests : S.Sought g h p work → seeks (plan g h) p work ≡ true
+    tests : S.LooksFor g h p work → seeks (plan g h) p work ≡ true
     unfolding seeks
     tests s = rw (eq-eqb (p .opened) 1 (s .opened)) (go (eqb (p .handed) 0) (λ z. clear-front (s .front-zero (eqb-true _ _ z))))
       where
@@ -165,7 +165,7 @@ module _ (grammar heard : List ℕ) (g : Grammar) (h : Heard) (eg : grammarBlock
         some other = omega (arith, other)
 
     -- a place and a table as they were left are looked into
-    left-sought : S.AsLeft search read (p .handed) p work → S.Sought g h p work
+    left-sought : S.AsLeft search read (p .handed) p work → S.LooksFor g h p work
     left-sought left = record {
       opened = ap (λ (x : Place). x .opened) (left .place);
       front-zero = λ first.

@@ -136,8 +136,8 @@ module _ (search : S.Search) (grammar heard : List ℕ) (g : Grammar) (h : Heard
         go true true is hands e = S.one-more calls below e (one-more e made looked hands)
 
   -- where the rank was looked for or not, as the test says: whatever the table held
-  module _ (below : p .handed < 256) (table : List ℕ) (sought : Bool) (is-sought : sought ≡ true → S.Sought g h p work)
-      (tests : S.Sought g h p work → sought ≡ true)
+  module _ (below : p .handed < 256) (table : List ℕ) (sought : Bool) (is-sought : sought ≡ true → S.LooksFor g h p work)
+      (tests : S.LooksFor g h p work → sought ≡ true)
       {r : A.Answer} {work′ out′ : List ℕ}
       (answered : Answered (pick sought (rootFound table (layout g h 256) (p .handed)) true) table rules edges (plan g h) (p .handed) work out r work′ out′)
     where

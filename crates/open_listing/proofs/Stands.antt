@@ -24,7 +24,7 @@ use Rattle.chart_table.specs.Table.{cell, cellNumber, entryOf, priceAt, backAt}
 use Rattle.chart.specs.Chart.{layOut}
 use Rattle.chart_theory.specs.Spelled as chart
 use Rattle.chart_theory.specs.Spelled.{namesEdges, EdgeNamed, FoundWith}
-use Rattle.open_listing.specs.Stands.{Entry, byWord, byPair, weightIn, costsIn, madeBy, firstNumber}
+use Rattle.open_listing.specs.Stands.{TableEntry, byWord, byPair, weightIn, costsIn, madeBy, firstNumber}
 use Rattle.open_listing.specs.Stands.{priceNumber, number, entry, SameEdge, Spelled, leaf-spelled, node-spelled, SpelledReading}
 
 module _ (g : Grammar) (h : Heard) where
@@ -54,7 +54,7 @@ module _ (g : Grammar) (h : Heard) where
     back = backAt table d (numberOf A i k) x
 
     -- the entry of a price plus 1 and a back pointer
-    abbrev pub made : ℕ → ℕ → Entry
+    abbrev pub made : ℕ → ℕ → TableEntry
     made p b = madeBy (getElem? (g .rules) (b / 2097152)) (b / 2097152) (b / 65536 % 32) (b / 256 % 256) (b % 256) ((p - 1) / 1572864) ((p - 1) % 1572864)
 
     pub entry-is : entry g h table A i k x ≡ pick (eqb price 0) none (some (made price back))
@@ -67,7 +67,7 @@ module _ (g : Grammar) (h : Heard) where
     pub no-entry : price ≡ 0 → entry g h table A i k x ≡ none
     no-entry z = entry-is ∙ rw (eq-eqb price 0 z)
 
-    pub entry-found : {e : Entry} → entry g h table A i k x ≡ some e → (0 < price) × (e ≡ made price back)
+    pub entry-found : {e : TableEntry} → entry g h table A i k x ≡ some e → (0 < price) × (e ≡ made price back)
     entry-found {e} is = go (eqb price 0) refl (sym entry-is ∙ is)
       where
         go : (b : Bool) → eqb price 0 ≡ b → pick b none (some (made price back)) ≡ some e → (0 < price) × (e ≡ made price back)
@@ -91,10 +91,10 @@ module _ (g : Grammar) (h : Heard) where
     costs-by (some (Word A x v)) r j p q w s = refl
     costs-by none r j p q w s = refl
 
-    pub entry-weight : {e : Entry} → entry g h table A i k x ≡ some e → weightIn e ≡ (price - 1) / 1572864
+    pub entry-weight : {e : TableEntry} → entry g h table A i k x ≡ some e → weightIn e ≡ (price - 1) / 1572864
     entry-weight is = rw (entry-found is .1) (weight-by (getElem? (g .rules) (back / 2097152)) _ _ _ _ _ _)
 
-    pub entry-costs : {e : Entry} → entry g h table A i k x ≡ some e → costsIn e ≡ (price - 1) % 1572864
+    pub entry-costs : {e : TableEntry} → entry g h table A i k x ≡ some e → costsIn e ≡ (price - 1) % 1572864
     entry-costs is = rw (entry-found is .1) (costs-by (getElem? (g .rules) (back / 2097152)) _ _ _ _ _ _)
 
   -- a table that has the tree of a rank as another has it

@@ -41,7 +41,7 @@ module _ (g : Grammar) (h : Heard) (okg : ValidGrammar g) (okh : ValidHeard (g .
   below over = cell-below refl (in-chart over)
 
   -- a first call that looks for a rank
-  module _ (p : Place) (sought : S.Sought g h p work) (none : p .handed ≡ 0) where
+  module _ (p : Place) (sought : S.LooksFor g h p work) (none : p .handed ≡ 0) where
     pub first-looked : S.Looked g h p work (firstTable rules edges (plan g h) work)
     unfolding firstTable layOut
     first-looked =
@@ -67,7 +67,7 @@ module _ (g : Grammar) (h : Heard) (okg : ValidGrammar g) (okh : ValidHeard (g .
   }
 
   -- a later call
-  pub later-looked : (p : Place) → S.Sought g h p work → 1 ≤ p .handed → S.Looked g h p work (nextTable rules edges (plan g h) (p .handed - 1) work)
+  pub later-looked : (p : Place) → S.LooksFor g h p work → 1 ≤ p .handed → S.Looked g h p work (nextTable rules edges (plan g h) (p .handed - 1) work)
   unfolding nextTable layOut
   later-looked p sought some = record {
     stays = λ A i k x over y is.

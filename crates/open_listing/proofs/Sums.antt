@@ -18,7 +18,7 @@ use Rattle.chart_table.proofs.Cells.{spans, spans-suc}
 use Rattle.chart_steps.specs.Found as chart
 use Rattle.chart_steps.specs.Found.{foundAmong}
 use Rattle.chart.specs.Chart.{layOut}
-use Rattle.open_listing.specs.Stands.{Entry, entry, one, sumBelow, foundOver, foundRanks}
+use Rattle.open_listing.specs.Stands.{TableEntry, entry, foundOnce, sumBelow, foundOver, foundRanks}
 use Rattle.open_listing.proofs.Stands.{d, numberOf, entry-is}
 
 sum-same : (n : ℕ) {f g : ℕ → ℕ} → ((x : ℕ) → x < n → f x ≡ g x) → sumBelow n f ≡ sumBelow n g
@@ -78,10 +78,10 @@ count-sum f (suc n) = rw (count-sum f n) (go (eqb (f n) 0) (sumBelow n (λ x. pi
     go false m = refl
 
 module _ (g : Grammar) (h : Heard) (table : List ℕ) where
-  one-is : (A : Sym) (i k x : ℕ) → one (entry g h table A i k x) ≡ pick (eqb (priceAt table (d g h) (numberOf g h A i k) x) 0) 0 1
+  one-is : (A : Sym) (i k x : ℕ) → foundOnce (entry g h table A i k x) ≡ pick (eqb (priceAt table (d g h) (numberOf g h A i k) x) 0) 0 1
   one-is A i k x = rw (entry-is g h table A i k x) (go (eqb (priceAt table (d g h) (numberOf g h A i k) x) 0) _)
     where
-      go : (b : Bool) (e : Entry) → one (pick b none (some e)) ≡ pick b 0 1
+      go : (b : Bool) (e : TableEntry) → foundOnce (pick b none (some e)) ≡ pick b 0 1
       go true e = refl
       go false e = refl
 

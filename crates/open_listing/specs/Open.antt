@@ -17,7 +17,7 @@ use Rattle.derivation.specs.Heard.{outputLength, packed}
 use Rattle.derivation.specs.Rank.{Number}
 use Rattle.chart.specs.WorkTable.{tableSize}
 use Rattle.traced_readings.specs.Ranked.{Ranked}
-use Rattle.open_listing.specs.Stands.{Entry, front, entry, Found, Over, foundOver, foundRanks, SpelledReading, Standing}
+use Rattle.open_listing.specs.Stands.{TableEntry, front, entry, Found, Over, foundOver, foundRanks, SpelledReading, Standing}
 use Rattle.open_listing.specs.declared.Place.{Place}
 use Rattle.open_listing.specs.declared.Opened.{Opened}
 use Rattle.open_listing.specs.declared.Opened.the-variants as O
@@ -68,7 +68,7 @@ FrontZero g h work = take (front g h) work ≡ replicate (front g h) 0
 
 -- That rank is looked for at an opened place, by a first call if the table's front is zeros. Elsewhere the table is taken as it stands: a mark other than 1
 -- and a front that is not zeros are altered numbers like others
-pub record Sought (g : Grammar) (h : Heard) (p : Place) (work : List ℕ) : Type 0 where
+pub record LooksFor (g : Grammar) (h : Heard) (p : Place) (work : List ℕ) : Type 0 where
   pub opened : p .opened ≡ 1
   pub front-zero : p .handed ≡ 0 → FrontZero g h work
 
@@ -77,12 +77,12 @@ module _ (g : Grammar) (h : Heard) (p : Place) (work table : List ℕ) where
   -- what looking for one more leaves and what it adds
   pub record Looked : Type 0 where
     -- a rank that is found stays as it is
-    pub stays : (A : Sym) (i k x : ℕ) → Over g h A i k → (e : Entry) → entry g h work A i k x ≡ some e → entry g h table A i k x ≡ some e
+    pub stays : (A : Sym) (i k x : ℕ) → Over g h A i k → (e : TableEntry) → entry g h work A i k x ≡ some e → entry g h table A i k x ≡ some e
     -- "The call that gives the first reading adds at most one found rank for each span and head."
     pub first-adds : p .handed ≡ 0 → (A : Sym) (i k : ℕ) → Over g h A i k → foundOver g h table A i k ≤ foundOver g h work A i k + 1
     -- "After it, a call adds at most 2n−1 found ranks (n being P−1 in a graph) over all spans and heads, counted from the table itself."
     pub later-adds : 1 ≤ p .handed → foundRanks g h table ≤ foundRanks g h work + (2 * lastPlace h - 1)
-    pub as-it-stands : (Sought g h p work → ⊥) → table ≡ work
+    pub as-it-stands : (LooksFor g h p work → ⊥) → table ≡ work
 
   -- the rank that is asked for is found
   abbrev pub AskedFound : Type 0
@@ -92,12 +92,12 @@ module _ (g : Grammar) (h : Heard) (p : Place) (work table : List ℕ) where
   pub record Astray : Type 0 where
     pub looked : Looked
     pub none-passes : (z : Tree) → Derivation g h z → SpelledReading g h table (p .handed) z → ⊥
-    pub found : Sought g h p work → AskedFound
+    pub found : LooksFor g h p work → AskedFound
 
   -- that rank was looked for and is not found
   pub record Missing : Type 0 where
     pub looked : Looked
-    pub sought : Sought g h p work
+    pub sought : LooksFor g h p work
     pub missing : entry g h table (symbolOf 0) 0 (lastPlace h) (p .handed) ≡ none
 
 -- what a call is lent, and what it answers and leaves

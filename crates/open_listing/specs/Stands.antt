@@ -18,20 +18,20 @@ use Rattle.derivation.specs.Rank.{Number}
 
 -- how a tree was made, with its weight and the sum of its words' costs: by a word rule and an edge, or by a pair rule, the place where both parts meet and
 -- the ranks of the parts in their own spans
-pub data Entry : Type 0 where
-  byWord : (rule edge weight costs : ℕ) → Entry
-  byPair : (rule split leftRank rightRank weight costs : ℕ) → Entry
+pub data TableEntry : Type 0 where
+  byWord : (rule edge weight costs : ℕ) → TableEntry
+  byPair : (rule split leftRank rightRank weight costs : ℕ) → TableEntry
 
-abbrev pub weightIn : Entry → ℕ
+abbrev pub weightIn : TableEntry → ℕ
 weightIn (byWord r e w s) = w
 weightIn (byPair r j p q w s) = w
 
-abbrev pub costsIn : Entry → ℕ
+abbrev pub costsIn : TableEntry → ℕ
 costsIn (byWord r e w s) = s
 costsIn (byPair r j p q w s) = s
 
 -- which of both, the rule says that the grammar has by that number
-abbrev pub madeBy : Option R.Rule → (rule split left right weight costs : ℕ) → Entry
+abbrev pub madeBy : Option R.Rule → (rule split left right weight costs : ℕ) → TableEntry
 madeBy (some (Pair A B C v)) r j p q w s = byPair r j p q w s
 madeBy (some (Word A x v)) r j p q w s = byWord r p w s
 madeBy none r j p q w s = byWord r p w s
@@ -58,7 +58,7 @@ module _ (g : Grammar) (h : Heard) (table : List ℕ) (A : Sym) (i k x : ℕ) wh
   priceNumber = pick (ltb x 256) (number 1 % 2048 * 4294967296 + getD table (firstNumber g h A i k x) 0) 0
 
   -- the third: the rule, then 5 bits of split, 8 of the left part's rank or the edge, and 8 of the right part's rank
-  unfoldable pub entry : Option Entry
+  unfoldable pub entry : Option TableEntry
   entry =
       let w = (priceNumber - 1) / 1572864 in
       let s = (priceNumber - 1) % 1572864 in
@@ -68,7 +68,7 @@ module _ (g : Grammar) (h : Heard) (table : List ℕ) (A : Sym) (i k x : ℕ) wh
 
   -- a tree stands there
   abbrev pub Found : Type 0
-  Found = (e : Entry) × (entry ≡ some e)
+  Found = (e : TableEntry) × (entry ≡ some e)
 
 -- A is a head of the grammar, and from i to k there is a span
 pub record Over (g : Grammar) (h : Heard) (A : Sym) (i k : ℕ) : Type 0 where
@@ -81,12 +81,12 @@ unfoldable pub sumBelow : ℕ → (ℕ → ℕ) → ℕ
 sumBelow zero f = 0
 sumBelow (suc n) f = sumBelow n f + f n
 
-abbrev pub one : Option Entry → ℕ
-one none = 0
-one (some e) = 1
+abbrev pub foundOnce : Option TableEntry → ℕ
+foundOnce none = 0
+foundOnce (some e) = 1
 
 unfoldable pub foundOver : Grammar → Heard → List ℕ → Sym → (i k : ℕ) → ℕ
-foundOver g h table A i k = sumBelow 256 (λ x. one (entry g h table A i k x))
+foundOver g h table A i k = sumBelow 256 (λ x. foundOnce (entry g h table A i k x))
 
 unfoldable pub foundRanks : Grammar → Heard → List ℕ → ℕ
 foundRanks g h table = sumBelow (suc (lastPlace h)) (λ k. sumBelow k (λ i. sumBelow (g .symbols) (λ a. foundOver g h table (symbolOf a) i k)))
@@ -107,13 +107,13 @@ pub data Spelled (g : Grammar) (h : Heard) (table : List ℕ) : Tree → Sym →
 module _ (g : Grammar) (h : Heard) (table : List ℕ) where
   -- rank x of the whole spells the tree z, and its entry has the weight of z
   pub record SpelledReading (x : ℕ) (z : Tree) : Type 0 where
-    pub stands : Entry
+    pub stands : TableEntry
     pub found : entry g h table (symbolOf 0) 0 (lastPlace h) x ≡ some stands
     pub tree : Spelled g h table z (symbolOf 0) 0 (lastPlace h) x
     pub weighs : weightIn stands ≡ weight g (heardEdges h) z
 
   -- entry e at rank x of head A over a span is right: a tree is spelled, with e's weight and costs, before which exactly x trees of that head and span come
-  pub record Right (A : Sym) (i k x : ℕ) (e : Entry) : Type 0 where
+  pub record Right (A : Sym) (i k x : ℕ) (e : TableEntry) : Type 0 where
     pub tree : Tree
     pub derives : Derives g (heardEdges h) A i k tree
     pub before : Number (λ s. Derives g (heardEdges h) A i k s × Before g (heardEdges h) s tree) x
@@ -123,6 +123,6 @@ module _ (g : Grammar) (h : Heard) (table : List ℕ) where
 
   -- a table as calls leave it: what is found is right, found ranks have no gaps, and where nothing is found nothing is kept
   pub record Standing : Type 0 where
-    pub right : (A : Sym) (i k x : ℕ) → Over g h A i k → (e : Entry) → entry g h table A i k x ≡ some e → Right A i k x e
+    pub right : (A : Sym) (i k x : ℕ) → Over g h A i k → (e : TableEntry) → entry g h table A i k x ≡ some e → Right A i k x e
     pub no-gaps : (A : Sym) (i k x : ℕ) → Over g h A i k → Found g h table A i k (suc x) → Found g h table A i k x
     pub nothing : (A : Sym) (i k x : ℕ) → Over g h A i k → x < 256 → entry g h table A i k x ≡ none → (y : ℕ) → y < 4 → number g h table A i k x y ≡ 0

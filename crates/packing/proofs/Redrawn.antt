@@ -1,7 +1,7 @@
 -- An utterance redrawn as a graph is valid: its edges go one place on, words ascend in each slot, and other slots have other places.
 -- Assumes nothing.
 use mathlib.Core.Path.{_≡_, refl, ap}
-use mathlib.Core.Bool.{Bool, true, false, _&&_}
+use mathlib.Core.Bool.{false, and-false}
 use mathlib.Core.List.{List, [], _∷_, _++_}
 use Prim.Native.Nat.{ℕ, suc, _+_, _-_, _*_, _≤_, _<_}
 use native.Mathlib.Omega.{arith}
@@ -34,10 +34,6 @@ module _ (W P : ℕ) where
       (slots-fit (suc i) u a (omega arith) (each-right InRange es fs h))
 
 -- an edge is not like one that starts at another place, nor like one with another word
-and-false : (a : Bool) → (a && false) ≡ false
-and-false true = refl
-and-false false = refl
-
 other-start : (i k c j l d : ℕ) (x y : Word) → (i ≡ j → ⊥) → edgesAlike (edge i k x c) (edge j l y d) ≡ false
 other-start i k c j l d x y n = rw (ne-eqb i j n)
 

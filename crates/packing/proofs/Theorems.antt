@@ -10,7 +10,7 @@ use Prim.Native.Nat.{ℕ, _+_, _≤_}
 use lib.ListN.{length}
 use Rattle.bits.specs.Bits.{pick, ended}
 use Rattle.bits.specs.Fields.{widths}
-use Rattle.packing.specs.Meaning.{Marked, grammarOf, Utterance, Reading}
+use Rattle.packing.specs.Meaning.{Marked, Utterance, Reading}
 use Rattle.packing.specs.Parse.{parsed, failed, accepted, refused}
 use Rattle.packing.specs.Source.{flds}
 use Rattle.packing.specs.Grammar.{markedBlock, markedSheet, grammarBlock, blockOfMarked, sheetOfMarked}
@@ -18,7 +18,7 @@ use Rattle.packing.specs.Utterance.{utteranceBlock, utteranceSheet, bloc
 use Rattle.packing.specs.Reading.{readingFrom, readingEntries, blockOfReading}
 use Rattle.packing.specs.Conversion.{grammarToBlock, grammarToSheet, utteranceToBlock, utteranceToSheet}
 use Rattle.packing.specs.Rows.{GrammarBlockRow, UtteranceBlockRow, ReadingFieldsRow, GrammarSheetRow, UtteranceSheetRow}
-use Rattle.packing.specs.Valid.{Bytes, ValidGrammar, ValidMarked, ValidUtterance, ValidReading}
+use Rattle.packing.specs.Valid.{Bytes, ValidMarked, ValidUtterance, ValidReading}
 use Rattle.packing.proofs.Parse.{granted, accepted-is}
 use Rattle.packing.proofs.Refusals.{
   refusal-number,
@@ -29,7 +29,6 @@ use Rattle.packing.proofs.Refusals.{
   utterance-sheet-row,
   reading-row,
 }
-use Rattle.packing.proofs.Grammar.{valid-unmarked}
 use Rattle.packing.proofs.Widths.{grammar-length, utterance-length, reading-length, valid-words}
 use Rattle.packing.proofs.Whole.{
   grammar-block-out,
@@ -54,10 +53,6 @@ grammar-block-accepted s m y =
 
 pub grammar-sheet-accepted : (t : List ℕ) (m : Marked) → (markedSheet t ≡ accepted m) ↔ (ValidMarked m × (t ≡ sheetOfMarked m))
 grammar-sheet-accepted t m = (marked-sheet-out t m, λ (v, p). ap markedSheet p ∙ marked-sheet-back m v)
-
--- The grammar of a valid one is valid without its marks.
-pub unmarked-valid : (m : Marked) → ValidMarked m → ValidGrammar (grammarOf m)
-unmarked-valid = valid-unmarked
 
 -- The same of utterances, under a grammar of W words.
 module _ (W : ℕ) where

@@ -3,7 +3,7 @@
 -- Assumes nothing.
 use mathlib.Core.Path.{_≡_, refl, sym, _∙_}
 use mathlib.Core.Logic.{_⊎_, inl, inr, ⊎-elim}
-use mathlib.Core.Bool.{Bool, true, false}
+use mathlib.Core.Bool.{Bool, true, false, true≢false}
 use mathlib.Core.List.{List, [], _∷_}
 use Prim.Native.Nat.{ℕ, zero, suc, _+_, _-_, _<_}
 use native.Mathlib.Decide.{ℕ-discrete}
@@ -25,7 +25,6 @@ use Rattle.derivation.proofs.Trees.{same-sym}
 use Rattle.phrases.specs.Recursion.{headOf, made, byRule, byRules}
 use Rattle.phrases.proofs.Yields.{Yields, one, two, yields-derives}
 use Rattle.phrases.proofs.Least.{Property, Joined}
-use Rattle.phrases.proofs.Enumeration.{true≢false}
 
 -- A derives t, of length m
 abbrev pub Of : Grammar → Sym → ℕ → Property

@@ -2,7 +2,7 @@
 -- a test keeps the order; and the test `says` tells what the grammar derives. Each holds by recursion on the list.
 use mathlib.Core.Path.{_≡_, refl, sym, ap, _∙_}
 use mathlib.Core.Logic.{⊎-elim, _↔_}
-use mathlib.Core.Bool.{Bool, true, false}
+use mathlib.Core.Bool.{Bool, true, false, true≢false}
 use mathlib.Core.Option.{none}
 use mathlib.Core.List.{
   List,
@@ -36,9 +36,6 @@ use Rattle.derivation.proofs.Trees.{trees-derive}
 use Rattle.phrases.specs.Phrases.{plain, Says, wordOrder, Precedes}
 use Rattle.phrases.specs.Enumeration.{anyTree, says, strings, passing, isLess}
 use Rattle.phrases.proofs.Order.{order-lawful}
-
-pub true≢false : true ≡ false → ⊥
-true≢false e = let z : _≡_ {A = ℕ} 0 1 = cc in omega arith
 
 -- what passes a test
 pub passing-mem : (f : List ℕ → Bool) (l : List (List ℕ)) (z : List ℕ) → z ∈ passing f l ↔ (z ∈ l × (f z ≡ true))

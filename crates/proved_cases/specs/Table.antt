@@ -1,83 +1,128 @@
--- The cases of document 01 that are marked P, "Checked examples", and those of document 02's requests, as one table. A row says what a
--- service answers by its definition; proofs/Cases has the one theorem, that all rows hold. Assumes nothing.
+-- The cases of document 01 that are marked P, "Checked examples", and those of document 02's requests, as one table. A row says what a service comes to
+-- by its definition, which can be run, and what that means, in the documents' own terms: `Ranked`, `OfDerivation`, `Least`, `Answers`, `Margins`,
+-- `Match`. proofs/Cases has the one theorem, that all rows hold. Nobody need believe this page: it shows the definitions at work.
 use mathlib.Core.Path.{_≡_}
+use mathlib.Core.Option.{Option, none, some}
 use mathlib.Core.List.{List, [], _∷_, _++_, map}
-use Prim.Native.Nat.{ℕ}
-use lib.ListN.{length, drop, replicate}
+use Prim.Native.Nat.{ℕ, zero, suc, min}
+use lib.ListN.{length, take, drop, replicate}
 use Rattle.packing.specs.declared.Rule as R
 use Rattle.packing.specs.declared.Rule.the-variants.{Pair, Word}
-use Rattle.packing.specs.Meaning.{symbolOf, word, Grammar, Utterance, Candidate, candidate, Reading}
+use Rattle.packing.specs.Meaning.{symbolOf, word, Grammar, Utterance, Candidate, candidate, Edge, edge, Heard, slots, graph, redrawn, Reading}
 use Rattle.packing.specs.Parse.{Verdict, accepted, refused}
 use Rattle.packing.specs.Grammar.{blockOfGrammar}
 use Rattle.packing.specs.Utterance.{blockOfUtterance}
+use Rattle.packing.specs.Heard.{blockOfHeard}
 use Rattle.packing.specs.Reading.{blockOfReading}
+use Rattle.derivation.specs.Derivation.{At, Tree, Derivation}
+use Rattle.derivation.specs.Heard.{packed}
+use Rattle.derivation.specs.Rank.{Number}
 use Rattle.listing.specs.Conditions as Conditions
 use Rattle.listing.specs.Conditions.{library}
+use Rattle.traced_readings.specs.Ranked.{Ranked}
 use Rattle.inputs.specs.Answer.{listedOf}
 use Rattle.listing.specs.Listing.{list, outputAfter}
 use Rattle.inputs.specs.declared.Listed.{Listed}
 use Rattle.inputs.specs.declared.Listed.the-variants as L
 use Rattle.inputs.specs.declared.Listed.the-variants.{Found}
+use Rattle.checker.specs.Judgement.{OfDerivation, Judgement}
 use Rattle.checker.specs.Check.{check, checkedOf}
-use Rattle.checker.specs.declared.Checked.{Checked}
-use Rattle.checker.specs.declared.Checked.the-variants.{Passes, Refused}
+use Rattle.checker.specs.declared.Checked.the-variants.{Passes}
+use Rattle.phrases.specs.Phrases.{Phrase, Precedes, Least}
 use Rattle.specimen.specs.Specimen as Specimen
-use Rattle.specimen.specs.Specimen.{answeredOf, outputOf}
-use Rattle.specimen.specs.declared.Answered.{Answered}
+use Rattle.specimen.specs.Specimen.{outputOf}
 use Rattle.next_phrase.specs.NextPhrase as NextPhrase
-use Rattle.cost_changes.specs.Margins.{Entry, entry}
+use Rattle.cost_changes.specs.Ranges as Ranges
+use Rattle.cost_changes.specs.Ranges.{Answers, outweighed, stands}
+use Rattle.cost_changes.specs.Margins.{Entry, entry, Margins}
 use Rattle.word_margins.specs.WordMargins as WordMargins
 use Rattle.cost_ranges.specs.CostRanges as CostRanges
-use Rattle.cost_ranges.specs.CostRanges.{rangedOf}
-use Rattle.cost_ranges.specs.declared.Ranged.{Ranged}
-use Rattle.cost_ranges.specs.declared.Ranged.the-variants as Ranged
-use Rattle.cost_ranges.specs.declared.Ranged.the-variants.{Outweighed, Stands}
-use Rattle.specimen.specs.declared.Answered.the-variants.{Written, Nothing}
+use Rattle.office.specs.Office.{Office}
+use Rattle.office.specs.Sheet.{officeSheet}
+use Rattle.office_block.specs.Block.{officeToBlock}
+use Rattle.office_theory.specs.Matching.{Match}
 
--- a row: the block of a grammar and of an utterance; the readings that the listing finds, with the lister's work table and
--- output; its answer m, and the bytes that it writes in front of the output; a reading block that passes the check, and one that it
--- refuses; what the specimen and the next phrase answer, and the output before and after; what the panel answers, lent so many numbers of work
--- table and bytes of output; what is answered for costs between low and high, with a work table of so many numbers; the words to listen to
--- again, with a work table and an output of so many numbers
+-- a row: the block of a grammar and of what was heard; the readings that the listing finds, with the lister's work table and output; its answer m, and
+-- the bytes that it writes in front of the output; a reading block that passes the check, and one that it refuses; the string that the specimen and the
+-- next phrase find, and the output before and after; what the panel answers, lent so many numbers of work table and bytes of output; what is answered
+-- for costs between low and high, with a work table of so many numbers; the words to listen to again, with a work table and an output of so many
+-- numbers; the block of an office's sheet
 pub data Case : Type 0 where
   grammar : (g : Grammar) (block : List ℕ) → Case
-  utterance : (g : Grammar) (u : Utterance) (block : List ℕ) → Case
-  lists : (g : Grammar) (u : Utterance) (wanted : ℕ) (readings : List Reading) → Case
-  finds : (g : Grammar) (u : Utterance) (wanted m : ℕ) (bytes : List ℕ) → Case
-  passes : (g : Grammar) (u : Utterance) (block : List ℕ) (reading : Reading) → Case
-  refuses : (g : Grammar) (u : Utterance) (block : List ℕ) (number : ℕ) → Case
-  specimen : (g : Grammar) (n : ℕ) (out : List ℕ) (answer : Answered) (after : List ℕ) → Case
-  next : (g : Grammar) (n call : ℕ) (out : List ℕ) (answer : Answered) (after : List ℕ) → Case
-  panel : (g : Grammar) (u : Utterance) (wanted work out : ℕ) (answer : Listed) → Case
-  ranges : (g : Grammar) (low high : Utterance) (work : ℕ) (answer : Ranged) → Case
+  heard : (g : Grammar) (h : Heard) (block : List ℕ) → Case
+  lists : (g : Grammar) (h : Heard) (wanted : ℕ) (readings : List (List ℕ)) → Case
+  finds : (g : Grammar) (h : Heard) (wanted m : ℕ) (bytes : List ℕ) → Case
+  passes : (g : Grammar) (h : Heard) (block : List ℕ) → Case
+  refuses : (g : Grammar) (h : Heard) (block : List ℕ) (number : ℕ) → Case
+  specimen : (g : Grammar) (n : ℕ) (out : List ℕ) (found : Option (List ℕ)) (after : List ℕ) → Case
+  next : (g : Grammar) (n call : ℕ) (out : List ℕ) (found : Option (List ℕ)) (after : List ℕ) → Case
+  panel : (g : Grammar) (h : Heard) (wanted work out : ℕ) (answer : Listed) → Case
+  ranges : (g : Grammar) (low high : Utterance) (work : ℕ) (answer : Verdict Ranges.Answer) → Case
   margins : (g : Grammar) (u : Utterance) (work out : ℕ) (answer : Verdict (List Entry)) → Case
+  office : (sheet block : List ℕ) → Case
 
-abbrev pub listedFor : Grammar → Utterance → ℕ → Verdict (List (List ℕ))
-listedFor g u wanted = list library (blockOfGrammar g) (blockOfUtterance (g .words) u) wanted 8192 1024
+abbrev pub listedFor : Grammar → Heard → ℕ → Verdict (List (List ℕ))
+listedFor g h wanted = list library (blockOfGrammar g) (blockOfHeard (g .words) h) wanted 8192 1024
 
-abbrev pub checkedFor : Grammar → Utterance → List ℕ → Checked
-checkedFor g u block = checkedOf (check (blockOfGrammar g) (blockOfUtterance (g .words) u) block)
+abbrev pub checkedFor : Grammar → Heard → List ℕ → Verdict Tree
+checkedFor g h block = check (blockOfGrammar g) (blockOfHeard (g .words) h) block
+
+abbrev pub rangesOf : Grammar → (low high : Utterance) (work : ℕ) → Verdict Ranges.Answer
+rangesOf g low high work = CostRanges.ranges (blockOfGrammar g) (blockOfUtterance (g .words) low) (blockOfUtterance (g .words) high) work
+
+abbrev pub marginsFor : Grammar → Utterance → (work out : ℕ) → Verdict (List Entry)
+marginsFor g u work out = WordMargins.margins (blockOfGrammar g) (blockOfUtterance (g .words) u) work out
+
+-- these are the readings of the derivations by rank, as many as are wanted or as there are
+pub record ByRank (g : Grammar) (h : Heard) (wanted : ℕ) (readings : List (List ℕ)) : Type 0 where
+  pub derivations : ℕ
+  pub finitely-many : Number (Derivation g h) derivations
+  pub as-many : length readings ≡ min wanted derivations
+  pub each : (k : ℕ) (block : List ℕ) → At readings k block → (t : Tree) × Ranked g h (suc k) t × (block ≡ packed g h t)
+
+-- the least string with a property, or that there is none
+abbrev pub LeastOf : (List ℕ → Type 0) → Option (List ℕ) → Type 0
+LeastOf P none = (s : List ℕ) → ¬ P s
+LeastOf P (some s) = Least P s
+
+-- what a first call looks for, and a later one, with 0 for `call`
+abbrev pub Sought : Grammar → (n call : ℕ) (out : List ℕ) → List ℕ → Type 0
+Sought g n zero out s = Phrase g n s × Precedes (take n out) s
+Sought g n (suc call) out s = Phrase g n s
+
+-- what an answer means; of a refusal its number is all
+abbrev pub Meaning : {A : Type 0} → (A → Type 0) → Verdict A → Type 0
+Meaning P (accepted a) = P a
+Meaning P (refused n) = Unit {0}
 
 abbrev pub Holds : Case → Type 0
 Holds (grammar g block) = blockOfGrammar g ≡ block
-Holds (utterance g u block) = blockOfUtterance (g .words) u ≡ block
-Holds (lists g u wanted readings) = listedFor g u wanted ≡ accepted (map (blockOfReading (length (g .rules))) readings)
-Holds (finds g u wanted m bytes) =
-    (listedOf (listedFor g u wanted) ≡ Found m) × ((out : List ℕ) → outputAfter (listedFor g u wanted) out ≡ bytes ++ drop (length bytes) out)
-Holds (passes g u block reading) = (checkedFor g u block ≡ Passes) × (block ≡ blockOfReading (length (g .rules)) reading)
-Holds (refuses g u block number) = checkedFor g u block ≡ Refused number
-Holds (specimen g n out answer after) =
-    (answeredOf (Specimen.specimen (blockOfGrammar g) n (length out)) ≡ answer) × (outputOf (Specimen.specimen (blockOfGrammar g) n (length out)) out ≡ after)
-Holds (next g n call out answer after) =
-    (answeredOf (NextPhrase.next (blockOfGrammar g) n call out) ≡ answer) × (outputOf (NextPhrase.next (blockOfGrammar g) n call out) out ≡ after)
-Holds (panel g u wanted work out answer) = listedOf (list Conditions.panel (blockOfGrammar g) (blockOfUtterance (g .words) u) wanted work out) ≡ answer
-Holds (ranges g low high work answer) =
-    rangedOf (CostRanges.ranges (blockOfGrammar g) (blockOfUtterance (g .words) low) (blockOfUtterance (g .words) high) work) ≡ answer
-Holds (margins g u work out answer) = WordMargins.margins (blockOfGrammar g) (blockOfUtterance (g .words) u) work out ≡ answer
+Holds (heard g h block) = blockOfHeard (g .words) h ≡ block
+Holds (lists g h wanted readings) = (listedFor g h wanted ≡ accepted readings) × ByRank g h wanted readings
+Holds (finds g h wanted m bytes) =
+    (listedOf (listedFor g h wanted) ≡ Found m) × ((out : List ℕ) → outputAfter (listedFor g h wanted) out ≡ bytes ++ drop (length bytes) out)
+Holds (passes g h block) =
+    (checkedOf (checkedFor g h block) ≡ Passes) × OfDerivation (blockOfGrammar g) (blockOfHeard (g .words) h) block
+Holds (refuses g h block number) =
+    (checkedFor g h block ≡ refused number) × Judgement (blockOfGrammar g) (blockOfHeard (g .words) h) block (refused number)
+Holds (specimen g n out found after) =
+    (Specimen.specimen (blockOfGrammar g) n (length out) ≡ accepted found) × (outputOf (accepted found) out ≡ after) × LeastOf (Phrase g n) found
+Holds (next g n call out found after) =
+    (NextPhrase.next (blockOfGrammar g) n call out ≡ accepted found) × (outputOf (accepted found) out ≡ after) × LeastOf (Sought g n call out) found
+Holds (panel g h wanted work out answer) = listedOf (list Conditions.panel (blockOfGrammar g) (blockOfHeard (g .words) h) wanted work out) ≡ answer
+Holds (ranges g low high work answer) = (rangesOf g low high work ≡ answer) × Meaning (Answers g low high) answer
+Holds (margins g u work out answer) = (marginsFor g u work out ≡ answer) × Meaning (Margins g u) answer
+Holds (office sheet block) =
+    (officeToBlock sheet ≡ accepted block) × ((o : Office) × (officeSheet sheet ≡ accepted o) × ((h : Heard) → Match o h))
 
-abbrev pub AllHold : List Case → Type 0
-AllHold [] = Unit {0}
-AllHold (row ∷ rows) = Holds row × AllHold rows
+-- a row that holds, and rows that all do
+pub data Row : Case → Type 0 where
+  row : (c : Case) → Holds c → Row c
+
+infixr 10 _and_
+pub data AllHold : List Case → Type 0 where
+  all : AllHold []
+  _and_ : {c : Case} {rows : List Case} → Row c → AllHold rows → AllHold (c ∷ rows)
 
 abbrev pub pairRule : ℕ → ℕ → ℕ → ℕ → R.Rule
 pairRule A B C w = Pair (symbolOf A) (symbolOf B) (symbolOf C) w
@@ -90,6 +135,10 @@ offer x cost = candidate (word x) cost
 
 abbrev pub readingWith : ℕ → ℕ → List ℕ → Reading
 readingWith n w numbers = record { slots = n; weight = w; walk = numbers }
+
+-- readings of slots, as blocks
+abbrev pub walked : Grammar → List Reading → List (List ℕ)
+walked g readings = map (blockOfReading (length (g .rules))) readings
 
 -- grammar G of document 01, and n slots of word 0 at cost 0, of which U has four
 abbrev pub G : Grammar
@@ -154,24 +203,24 @@ heard-twice = (offer 0 2 ∷ offer 1 1 ∷ []) ∷ (offer 0 2 ∷ offer 1 1 ∷ 
 
 abbrev pub N6-cases : List Case
 N6-cases =
-    lists heard-better ((offer 0 2 ∷ offer 1 1 ∷ []) ∷ []) 8 (readingWith 1 2 (1 ∷ []) ∷ readingWith 1 2 (0 ∷ []) ∷ [])
-    ∷ lists heard-better heard-twice 8
-    (readingWith 2 4 (2 ∷ 1 ∷ 1 ∷ []) ∷ readingWith 2 4 (2 ∷ 1 ∷ 0 ∷ []) ∷ readingWith 2 4 (2 ∷ 0 ∷ 1 ∷ []) ∷ readingWith 2 4 (2 ∷ 0 ∷ 0 ∷ []) ∷ [])
+    lists heard-better (slots ((offer 0 2 ∷ offer 1 1 ∷ []) ∷ [])) 8 (walked heard-better (readingWith 1 2 (1 ∷ []) ∷ readingWith 1 2 (0 ∷ []) ∷ []))
+    ∷ lists heard-better (slots heard-twice) 8 (walked heard-better
+    (readingWith 2 4 (2 ∷ 1 ∷ 1 ∷ []) ∷ readingWith 2 4 (2 ∷ 1 ∷ 0 ∷ []) ∷ readingWith 2 4 (2 ∷ 0 ∷ 1 ∷ []) ∷ readingWith 2 4 (2 ∷ 0 ∷ 0 ∷ []) ∷ []))
     ∷ []
 
 -- N8's, of the panel: within its limits, and each of its refusals; that 12 slots have 16 readings, among 58,786, the program `cases` says
 abbrev pub N8-cases : List Case
 N8-cases =
-    panel G (U 4) 16 640 96 (Found 5)
-    ∷ panel G (U 12) 16 4991 128 (L.Refused 22)
-    ∷ panel G (U 12) 16 4992 127 (L.Refused 23)
-    ∷ panel G (U 12) 17 8192 1024 (L.Refused 58)
-    ∷ panel G (U 12) 256 8192 1024 (L.Refused 58)
-    ∷ panel G (U 12) 0 8192 1024 (L.Refused 21)
-    ∷ panel G (U 12) 257 8192 1024 (L.Refused 21)
-    ∷ panel G (U 13) 16 8192 1024 (L.Refused 57)
-    ∷ panel G (U 13) 0 8192 1024 (L.Refused 57)
-    ∷ panel G (U 13) 300 8192 1024 (L.Refused 57)
+    panel G (slots (U 4)) 16 640 96 (Found 5)
+    ∷ panel G (slots (U 12)) 16 4991 128 (L.Refused 22)
+    ∷ panel G (slots (U 12)) 16 4992 127 (L.Refused 23)
+    ∷ panel G (slots (U 12)) 17 8192 1024 (L.Refused 58)
+    ∷ panel G (slots (U 12)) 256 8192 1024 (L.Refused 58)
+    ∷ panel G (slots (U 12)) 0 8192 1024 (L.Refused 21)
+    ∷ panel G (slots (U 12)) 257 8192 1024 (L.Refused 21)
+    ∷ panel G (slots (U 13)) 16 8192 1024 (L.Refused 57)
+    ∷ panel G (slots (U 13)) 0 8192 1024 (L.Refused 57)
+    ∷ panel G (slots (U 13)) 300 8192 1024 (L.Refused 57)
     ∷ []
 
 -- N11's: words 0 and 1 in slot 0, words 2 and 3 in slot 1, at these costs
@@ -180,13 +229,13 @@ costing a b c d = (offer 0 a ∷ offer 1 b ∷ []) ∷ (offer 2 c ∷ offer 3 d 
 
 abbrev pub N11-cases : List Case
 N11-cases =
-    ranges two-parts (costing 0 0 0 0) (costing 0 0 0 0) 36 (Stands (record { least = 4; greatest = 4 }))
-    ∷ ranges two-parts (costing 0 0 0 0) (costing 9 1 1 9) 36 (Stands (record { least = 4; greatest = 6 }))
-    ∷ ranges two-parts (costing 0 0 0 0) (costing 9 2 2 9) 36 (Stands (record { least = 4; greatest = 8 }))
-    ∷ ranges two-parts (costing 0 0 0 0) (costing 9 3 2 9) 36 (Outweighed (record { least = 4; greatest = 9 }))
-    ∷ ranges two-parts (costing 0 65534 0 0) (costing 0 65535 0 0) 36 (Ranged.Refused 59)
-    ∷ ranges two-parts ((offer 0 65535 ∷ []) ∷ (offer 2 0 ∷ []) ∷ []) ((offer 0 65535 ∷ []) ∷ (offer 2 0 ∷ []) ∷ []) 36 Ranged.Nothing
-    ∷ ranges two-parts (costing 0 0 0 0) (costing 0 0 0 0) 35 (Ranged.Refused 22)
+    ranges two-parts (costing 0 0 0 0) (costing 0 0 0 0) 36 (accepted (stands 4 4))
+    ∷ ranges two-parts (costing 0 0 0 0) (costing 9 1 1 9) 36 (accepted (stands 4 6))
+    ∷ ranges two-parts (costing 0 0 0 0) (costing 9 2 2 9) 36 (accepted (stands 4 8))
+    ∷ ranges two-parts (costing 0 0 0 0) (costing 9 3 2 9) 36 (accepted (outweighed 4 9))
+    ∷ ranges two-parts (costing 0 65534 0 0) (costing 0 65535 0 0) 36 (refused 59)
+    ∷ ranges two-parts ((offer 0 65535 ∷ []) ∷ (offer 2 0 ∷ []) ∷ []) ((offer 0 65535 ∷ []) ∷ (offer 2 0 ∷ []) ∷ []) 36 (accepted Ranges.nothing)
+    ∷ ranges two-parts (costing 0 0 0 0) (costing 0 0 0 0) 35 (refused 22)
     ∷ []
 
 -- N12's, with their bytes
@@ -194,15 +243,15 @@ abbrev pub N12-cases : List Case
 N12-cases =
     grammar two-parts
     (0x10 ∷ 0xc1 ∷ 0x00 ∷ 0xa0 ∷ 0x00 ∷ 0x01 ∷ 0xa8 ∷ 0x00 ∷ 0x29 ∷ 0x40 ∷ 0x00 ∷ 0xdc ∷ 0x00 ∷ 0x03 ∷ 0x60 ∷ 0x00 ∷ 0x3c ∷ [])
-    ∷ utterance two-parts (costing 4 7 3 2) (0x20 ∷ 0x90 ∷ 0x00 ∷ 0x08 ∷ 0x80 ∷ 0x03 ∷ 0xa8 ∷ 0x00 ∷ 0x0f ∷ 0x00 ∷ 0x02 ∷ [])
+    ∷ heard two-parts (slots (costing 4 7 3 2)) (0x20 ∷ 0x90 ∷ 0x00 ∷ 0x08 ∷ 0x80 ∷ 0x03 ∷ 0xa8 ∷ 0x00 ∷ 0x0f ∷ 0x00 ∷ 0x02 ∷ [])
     ∷ margins two-parts (costing 4 7 3 2) 36 16 (accepted (entry 2 0 1 14 ∷ entry 2 1 3 14 ∷ []))
     ∷ margins two-parts (costing 4 7 3 2) 35 16 (refused 22)
     ∷ margins two-parts (costing 4 7 3 2) 36 15 (refused 43)
-    ∷ utterance two-parts (costing 4 3 0 9) (0x20 ∷ 0x90 ∷ 0x00 ∷ 0x08 ∷ 0x80 ∷ 0x01 ∷ 0xa8 ∷ 0x00 ∷ 0x03 ∷ 0x00 ∷ 0x09 ∷ [])
+    ∷ heard two-parts (slots (costing 4 3 0 9)) (0x20 ∷ 0x90 ∷ 0x00 ∷ 0x08 ∷ 0x80 ∷ 0x01 ∷ 0xa8 ∷ 0x00 ∷ 0x03 ∷ 0x00 ∷ 0x09 ∷ [])
     ∷ margins two-parts (costing 4 3 0 9) 36 16 (accepted (entry 4 0 0 10 ∷ []))
-    ∷ utterance two-parts (costing 4 65535 3 2) (0x20 ∷ 0x90 ∷ 0x00 ∷ 0x08 ∷ 0xff ∷ 0xff ∷ 0xa8 ∷ 0x00 ∷ 0x0f ∷ 0x00 ∷ 0x02 ∷ [])
+    ∷ heard two-parts (slots (costing 4 65535 3 2)) (0x20 ∷ 0x90 ∷ 0x00 ∷ 0x08 ∷ 0xff ∷ 0xff ∷ 0xa8 ∷ 0x00 ∷ 0x0f ∷ 0x00 ∷ 0x02 ∷ [])
     ∷ margins two-parts (costing 4 65535 3 2) 36 16 (accepted (entry 2 1 3 14 ∷ []))
-    ∷ utterance two-parts ((offer 0 5 ∷ offer 2 8 ∷ []) ∷ (offer 2 0 ∷ offer 3 9 ∷ []) ∷ [])
+    ∷ heard two-parts (slots ((offer 0 5 ∷ offer 2 8 ∷ []) ∷ (offer 2 0 ∷ offer 3 9 ∷ []) ∷ []))
     (0x20 ∷ 0x90 ∷ 0x00 ∷ 0x0b ∷ 0x00 ∷ 0x04 ∷ 0x28 ∷ 0x00 ∷ 0x03 ∷ 0x00 ∷ 0x09 ∷ [])
     ∷ margins two-parts ((offer 0 5 ∷ offer 2 8 ∷ []) ∷ (offer 2 0 ∷ offer 3 9 ∷ []) ∷ []) 36 16 (accepted [])
     ∷ []
@@ -210,36 +259,88 @@ N12-cases =
 abbrev pub P-cases : List Case
 P-cases =
     grammar G (0x10 ∷ 0x40 ∷ 0x40 ∷ 0x40 ∷ 0x00 ∷ 0x09 ∷ 0x00 ∷ 0x00 ∷ 0x00 ∷ [])
-    ∷ utterance G (U 4) (0x21 ∷ 0x08 ∷ 0x00 ∷ 0x00 ∷ 0x80 ∷ 0x00 ∷ 0x08 ∷ 0x00 ∷ 0x00 ∷ 0x80 ∷ 0x00 ∷ 0x00 ∷ [])
-    ∷ lists G (U 4) 8 (first-reading ∷ second-reading ∷ third-reading ∷ fourth-reading ∷ fifth-reading ∷ [])
-    ∷ finds G (U 4) 5 5
+    ∷ heard G (slots (U 4)) (0x21 ∷ 0x08 ∷ 0x00 ∷ 0x00 ∷ 0x80 ∷ 0x00 ∷ 0x08 ∷ 0x00 ∷ 0x00 ∷ 0x80 ∷ 0x00 ∷ 0x00 ∷ [])
+    ∷ lists G (slots (U 4)) 8 (walked G (first-reading ∷ second-reading ∷ third-reading ∷ fourth-reading ∷ fifth-reading ∷ []))
+    ∷ finds G (slots (U 4)) 5 5
     (0x31 ∷ 0x00 ∷ 0x00 ∷ 0x00 ∷ 0xD5 ∷ 0x80 ∷ 0x31 ∷ 0x00 ∷ 0x00 ∷ 0x00 ∷ 0xD3 ∷ 0x80 ∷ 0x31 ∷ 0x00 ∷ 0x00 ∷ 0x00 ∷ 0xCD ∷ 0x80
     ∷ 0x31 ∷ 0x00 ∷ 0x00 ∷ 0x00 ∷ 0xCB ∷ 0x80 ∷ 0x31 ∷ 0x00 ∷ 0x00 ∷ 0x00 ∷ 0xC7 ∷ 0x80 ∷ [])
-    ∷ lists G (U 4) 3 (first-reading ∷ second-reading ∷ third-reading ∷ [])
-    ∷ lists G (U 1) 8 (readingWith 1 0 (1 ∷ []) ∷ [])
-    ∷ lists G (U 2) 8 (readingWith 2 1 (0 ∷ 1 ∷ 1 ∷ []) ∷ [])
-    ∷ lists G (U 3) 8 (readingWith 3 2 (0 ∷ 1 ∷ 0 ∷ 1 ∷ 1 ∷ []) ∷ readingWith 3 2 (0 ∷ 0 ∷ 1 ∷ 1 ∷ 1 ∷ []) ∷ [])
-    ∷ passes G (U 4) (0x31 ∷ 0x00 ∷ 0x00 ∷ 0x00 ∷ 0xD5 ∷ 0x80 ∷ []) first-reading
-    ∷ refuses G (U 4) (0x31 ∷ 0x00 ∷ 0x00 ∷ 0x01 ∷ 0x15 ∷ 0x80 ∷ []) 35
-    ∷ lists two-words ((offer 0 0 ∷ offer 1 2 ∷ []) ∷ []) 8 (readingWith 1 5 (0 ∷ []) ∷ readingWith 1 5 (1 ∷ []) ∷ [])
-    ∷ lists two-parts ((offer 0 0 ∷ offer 1 0 ∷ []) ∷ (offer 2 0 ∷ offer 3 0 ∷ []) ∷ []) 8
-    (readingWith 2 4 (0 ∷ 2 ∷ 3 ∷ []) ∷ readingWith 2 6 (0 ∷ 2 ∷ 4 ∷ []) ∷ readingWith 2 6 (0 ∷ 1 ∷ 3 ∷ []) ∷ readingWith 2 8 (0 ∷ 1 ∷ 4 ∷ []) ∷ [])
-    ∷ specimen G 3 (9 ∷ 9 ∷ 9 ∷ 9 ∷ []) Written (0 ∷ 0 ∷ 0 ∷ 9 ∷ [])
-    ∷ specimen one-rule 2 (9 ∷ 9 ∷ []) Nothing (9 ∷ 9 ∷ [])
+    ∷ lists G (slots (U 4)) 3 (walked G (first-reading ∷ second-reading ∷ third-reading ∷ []))
+    ∷ lists G (slots (U 1)) 8 (walked G (readingWith 1 0 (1 ∷ []) ∷ []))
+    ∷ lists G (slots (U 2)) 8 (walked G (readingWith 2 1 (0 ∷ 1 ∷ 1 ∷ []) ∷ []))
+    ∷ lists G (slots (U 3)) 8 (walked G (readingWith 3 2 (0 ∷ 1 ∷ 0 ∷ 1 ∷ 1 ∷ []) ∷ readingWith 3 2 (0 ∷ 0 ∷ 1 ∷ 1 ∷ 1 ∷ []) ∷ []))
+    ∷ passes G (slots (U 4)) (0x31 ∷ 0x00 ∷ 0x00 ∷ 0x00 ∷ 0xD5 ∷ 0x80 ∷ [])
+    ∷ refuses G (slots (U 4)) (0x31 ∷ 0x00 ∷ 0x00 ∷ 0x01 ∷ 0x15 ∷ 0x80 ∷ []) 35
+    ∷ lists two-words (slots ((offer 0 0 ∷ offer 1 2 ∷ []) ∷ [])) 8 (walked two-words (readingWith 1 5 (0 ∷ []) ∷ readingWith 1 5 (1 ∷ []) ∷ []))
+    ∷ lists two-parts (slots ((offer 0 0 ∷ offer 1 0 ∷ []) ∷ (offer 2 0 ∷ offer 3 0 ∷ []) ∷ [])) 8 (walked two-parts
+    (readingWith 2 4 (0 ∷ 2 ∷ 3 ∷ []) ∷ readingWith 2 6 (0 ∷ 2 ∷ 4 ∷ []) ∷ readingWith 2 6 (0 ∷ 1 ∷ 3 ∷ []) ∷ readingWith 2 8 (0 ∷ 1 ∷ 4 ∷ []) ∷ []))
+    ∷ specimen G 3 (9 ∷ 9 ∷ 9 ∷ 9 ∷ []) (some (0 ∷ 0 ∷ 0 ∷ [])) (0 ∷ 0 ∷ 0 ∷ 9 ∷ [])
+    ∷ specimen one-rule 2 (9 ∷ 9 ∷ []) none (9 ∷ 9 ∷ [])
     ∷ grammar falling-words (0x10 ∷ 0x40 ∷ 0x80 ∷ 0x50 ∷ 0x00 ∷ 0x06 ∷ 0x00 ∷ 0x00 ∷ 0x00 ∷ [])
-    ∷ specimen falling-words 1 (9 ∷ []) Written (0 ∷ [])
+    ∷ specimen falling-words 1 (9 ∷ []) (some (0 ∷ [])) (0 ∷ [])
     ∷ grammar longer-left
     (0x10 ∷ 0xc0 ∷ 0x80 ∷ 0xa0 ∷ 0x00 ∷ 0x01 ∷ 0xa8 ∷ 0x00 ∷ 0x04 ∷ 0x80 ∷ 0x00 ∷ 0x4e ∷ 0x00 ∷ 0x00 ∷ 0x20 ∷ 0x00 ∷ 0x0a ∷ [])
-    ∷ specimen longer-left 3 (9 ∷ 9 ∷ 9 ∷ []) Written (0 ∷ 1 ∷ 0 ∷ [])
-    ∷ specimen longer-left 4 (9 ∷ 9 ∷ 9 ∷ 9 ∷ 9 ∷ []) Written (0 ∷ 0 ∷ 1 ∷ 0 ∷ 9 ∷ [])
-    ∷ specimen longer-left 1 (9 ∷ []) Nothing (9 ∷ [])
+    ∷ specimen longer-left 3 (9 ∷ 9 ∷ 9 ∷ []) (some (0 ∷ 1 ∷ 0 ∷ [])) (0 ∷ 1 ∷ 0 ∷ [])
+    ∷ specimen longer-left 4 (9 ∷ 9 ∷ 9 ∷ 9 ∷ 9 ∷ []) (some (0 ∷ 0 ∷ 1 ∷ 0 ∷ [])) (0 ∷ 0 ∷ 1 ∷ 0 ∷ 9 ∷ [])
+    ∷ specimen longer-left 1 (9 ∷ []) none (9 ∷ [])
     ∷ grammar any-tail
     (0x10 ∷ 0x80 ∷ 0xc0 ∷ 0xa0 ∷ 0x00 ∷ 0x0b ∷ 0x00 ∷ 0x00 ∷ 0x58 ∷ 0x00 ∷ 0x01 ∷ 0x80 ∷ 0x00 ∷ 0x50 ∷ 0x00 ∷ 0x1a ∷ [])
-    ∷ next any-tail 2 1 (9 ∷ 9 ∷ 9 ∷ []) Written (1 ∷ 0 ∷ 9 ∷ [])
-    ∷ next any-tail 2 0 (1 ∷ 0 ∷ 9 ∷ []) Written (1 ∷ 2 ∷ 9 ∷ [])
-    ∷ next any-tail 2 0 (1 ∷ 2 ∷ 9 ∷ []) Written (2 ∷ 0 ∷ 9 ∷ [])
-    ∷ next any-tail 2 0 (2 ∷ 0 ∷ 9 ∷ []) Written (2 ∷ 2 ∷ 9 ∷ [])
-    ∷ next any-tail 2 0 (2 ∷ 2 ∷ 9 ∷ []) Nothing (2 ∷ 2 ∷ 9 ∷ [])
-    ∷ next any-tail 3 0 (1 ∷ 1 ∷ 9 ∷ []) Written (1 ∷ 2 ∷ 0 ∷ [])
-    ∷ next any-tail 3 0 (1 ∷ 255 ∷ 255 ∷ []) Written (2 ∷ 0 ∷ 0 ∷ [])
+    ∷ next any-tail 2 1 (9 ∷ 9 ∷ 9 ∷ []) (some (1 ∷ 0 ∷ [])) (1 ∷ 0 ∷ 9 ∷ [])
+    ∷ next any-tail 2 0 (1 ∷ 0 ∷ 9 ∷ []) (some (1 ∷ 2 ∷ [])) (1 ∷ 2 ∷ 9 ∷ [])
+    ∷ next any-tail 2 0 (1 ∷ 2 ∷ 9 ∷ []) (some (2 ∷ 0 ∷ [])) (2 ∷ 0 ∷ 9 ∷ [])
+    ∷ next any-tail 2 0 (2 ∷ 0 ∷ 9 ∷ []) (some (2 ∷ 2 ∷ [])) (2 ∷ 2 ∷ 9 ∷ [])
+    ∷ next any-tail 2 0 (2 ∷ 2 ∷ 9 ∷ []) none (2 ∷ 2 ∷ 9 ∷ [])
+    ∷ next any-tail 3 0 (1 ∷ 1 ∷ 9 ∷ []) (some (1 ∷ 2 ∷ 0 ∷ [])) (1 ∷ 2 ∷ 0 ∷ [])
+    ∷ next any-tail 3 0 (1 ∷ 255 ∷ 255 ∷ []) (some (2 ∷ 0 ∷ 0 ∷ [])) (2 ∷ 0 ∷ 0 ∷ [])
     ∷ []
+
+-- N1's: U redrawn; four places, with an edge over two of the three steps, so that a path of two edges has zeros behind its reading; of three places one
+-- edge from the first to the last at cost 7, and one that goes only to the second; N3's, a graph in which the first of two words was not heard
+abbrev pub edgeOf : ℕ → ℕ → ℕ → ℕ → Edge
+edgeOf i k x c = edge i k (word x) c
+
+abbrev pub four-places : Heard
+four-places = graph (record { places = 4; edges = edgeOf 0 1 0 0 ∷ edgeOf 1 2 0 0 ∷ edgeOf 0 2 0 3 ∷ edgeOf 2 3 0 0 ∷ [] })
+
+abbrev pub one-edge : Heard
+one-edge = graph (record { places = 3; edges = edgeOf 0 2 0 7 ∷ [] })
+
+abbrev pub no-path : Heard
+no-path = graph (record { places = 3; edges = edgeOf 0 1 0 0 ∷ [] })
+
+abbrev pub one-heard : Heard
+one-heard = graph (record { places = 2; edges = edgeOf 0 1 0 65535 ∷ edgeOf 0 1 1 0 ∷ [] })
+
+abbrev pub N1-cases : List Case
+N1-cases =
+    heard G (graph (redrawn (U 4))) (82 ∷ 132 ∷ 0 ∷ 64 ∷ 0 ∷ 1 ∷ 16 ∷ 0 ∷ 0 ∷ 67 ∷ 0 ∷ 0 ∷ 12 ∷ 128 ∷ 0 ∷ 0 ∷ [])
+    ∷ lists G (graph (redrawn (U 4))) 8
+    ((97 ∷ 0 ∷ 0 ∷ 0 ∷ 208 ∷ 8 ∷ 20 ∷ 20 ∷ 24 ∷ [])
+    ∷ (97 ∷ 0 ∷ 0 ∷ 0 ∷ 208 ∷ 4 ∷ 12 ∷ 20 ∷ 24 ∷ [])
+    ∷ (97 ∷ 0 ∷ 0 ∷ 0 ∷ 200 ∷ 8 ∷ 20 ∷ 20 ∷ 24 ∷ [])
+    ∷ (97 ∷ 0 ∷ 0 ∷ 0 ∷ 200 ∷ 4 ∷ 12 ∷ 20 ∷ 24 ∷ [])
+    ∷ (97 ∷ 0 ∷ 0 ∷ 0 ∷ 196 ∷ 4 ∷ 12 ∷ 20 ∷ 24 ∷ []) ∷ [])
+    ∷ heard G four-places (82 ∷ 4 ∷ 0 ∷ 64 ∷ 0 ∷ 1 ∷ 16 ∷ 0 ∷ 0 ∷ 2 ∷ 0 ∷ 1 ∷ 136 ∷ 96 ∷ 0 ∷ 0 ∷ [])
+    ∷ lists G four-places 8
+    ((96 ∷ 192 ∷ 0 ∷ 0 ∷ 144 ∷ 8 ∷ 24 ∷ 48 ∷ []) ∷ (96 ∷ 192 ∷ 0 ∷ 0 ∷ 136 ∷ 8 ∷ 24 ∷ 48 ∷ [])
+    ∷ (96 ∷ 128 ∷ 0 ∷ 1 ∷ 16 ∷ 80 ∷ 96 ∷ 0 ∷ []) ∷ [])
+    ∷ passes G four-places (96 ∷ 128 ∷ 0 ∷ 1 ∷ 16 ∷ 80 ∷ 96 ∷ [])
+    ∷ refuses G four-places (96 ∷ 128 ∷ 0 ∷ 1 ∷ 16 ∷ 80 ∷ 96 ∷ 0 ∷ []) 36
+    ∷ refuses G four-places (96 ∷ 128 ∷ 0 ∷ 1 ∷ 80 ∷ 80 ∷ 96 ∷ []) 35
+    ∷ refuses G four-places (96 ∷ 128 ∷ 0 ∷ 1 ∷ 16 ∷ 16 ∷ 96 ∷ []) 34
+    ∷ lists G one-edge 8 ((96 ∷ 64 ∷ 0 ∷ 1 ∷ 224 ∷ 0 ∷ 0 ∷ []) ∷ [])
+    ∷ lists G no-path 8 []
+    ∷ lists two-words one-heard 8 ((96 ∷ 64 ∷ 0 ∷ 0 ∷ 224 ∷ 64 ∷ []) ∷ [])
+    ∷ []
+
+-- N5's: a sheet of four rules, and its block, with seven helpers
+abbrev pub N5-cases : List Case
+N5-cases =
+    office
+    (2 ∷ 4 ∷ 4 ∷ 0 ∷ 5 ∷ 3 ∷ 1 ∷ 0 ∷ 0 ∷ 1 ∷ 1 ∷ 2 ∷ 1 ∷ 1 ∷ 1 ∷ 1 ∷ 1 ∷ 1 ∷ 2 ∷ 2 ∷ 1 ∷ 3 ∷ 1 ∷ 1 ∷ 0 ∷ 7 ∷ 4 ∷ 1 ∷ 0 ∷ 0 ∷ 1 ∷ 1 ∷ 2 ∷ 1 ∷ 2 ∷ [])
+    (66 ∷ 65 ∷ 1 ∷ 96 ∷ 0 ∷ 5 ∷ 36 ∷ 68 ∷ 0 ∷ 5 ∷ 4 ∷ 0 ∷ 9 ∷ 88 ∷ 0 ∷ 0 ∷ 114 ∷ 116 ∷ 128 ∷ 0 ∷ 12 ∷ 192 ∷ 0 ∷ 41 ∷ 0 ∷ 0 ∷ 4 ∷ 245 ∷ 0 ∷ 0 ∷ 246 ∷ 0 ∷ 0
+    ∷ 103 ∷ 0 ∷ 0 ∷ 24 ∷ 160 ∷ 0 ∷ 0 ∷ 206 ∷ [])
+    ∷ []
+
+-- the table
+abbrev pub cases : List Case
+cases = P-cases ++ N1-cases ++ N5-cases ++ N6-cases ++ N8-cases ++ N11-cases ++ N12-cases

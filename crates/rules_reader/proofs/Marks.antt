@@ -1,15 +1,15 @@
 -- A rule and then its mark, as the definition has them: each way out over plain values. Assumes nothing.
-use mathlib.Core.Path.{_≡_, sym, _∙_}
+use mathlib.Core.Path.{_≡_}
 use mathlib.Core.Bool.{Bool, true, false}
 use Prim.Native.Nat.{ℕ, _+_, _≤_}
 use native.Mathlib.Omega.{arith}
 use Rattle.packing.specs.Parse.{parsed}
 use Rattle.packing.specs.Source.{Source}
-use Rattle.packing.specs.Read.{readOf}
+use Rattle.packing.specs.Read.{readOf, refusalOf}
 use Rattle.packing.specs.Grammar.{markField, ruleFrom, markFrom, markedRuleFrom}
 use Rattle.packing.specs.declared.Cursor.{Cursor}
 use Rattle.packing.specs.declared.Read as read
-use Rattle.packing.proofs.Parse.{number-told, refused-out, same-parsed}
+use Rattle.packing.proofs.Parse.{number-told, refusal-told, same-parsed}
 use Rattle.rules_reader.specs.Rules.{ruleRead, Sound, markedRead, MarkedNear}
 use Rattle.rules_reader.specs.declared.RuleNumbers.{RuleNumbers}
 use Rattle.rules_reader.specs.declared.RuleRead as rule
@@ -32,9 +32,9 @@ module _ (b : Bool) (src : Source) (S W at : ℕ) where
     rule-refused e = (rw (← told, e), tt)
 
     module _ {n : RuleNumbers} {c : Cursor} (e : r ≡ rule.the-variants.Rule n c) {m : read.Read} (mark : m ≡ readOf (markFrom b src (c .at))) where
-      pub mark-refused : {k : ℕ} → m ≡ read.the-variants.Refused k → MarkedTold (marking.the-variants.Refused k)
+      pub mark-refused : {k n : ℕ} → m ≡ read.the-variants.Refused k → n ≡ refusalOf m → MarkedTold (marking.the-variants.Refused n)
       unfolding markedRuleFrom
-      mark-refused f = (rw (← told, e, refused-out (markFrom b src (c .at)) (sym mark ∙ f)), tt)
+      mark-refused f g = (rw (← told, e, refusal-told (markFrom b src (c .at)) mark f g), tt)
 
       pub mark-read : {v : ℕ} {d : Cursor} → m ≡ read.the-variants.Number v d → Sound n × (c .at ≤ at + 41) → MarkedTold (marking.the-variants.Rule n v d)
       unfolding markedRuleFrom

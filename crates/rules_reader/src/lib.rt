@@ -176,10 +176,10 @@ fn read_marked(
         RuleRead::Rule(numbers, c) => {
             let at = c.at;
             let read = read_mark(src, block, sheet, at, marked);
-            match read {
-                Read::Refused(n) => MarkedRead::Refused(n),
-                Read::Number(mark, c) => MarkedRead::Rule(numbers, mark, c),
-            }
+            let Read::Number(mark, c) = read else {
+                return MarkedRead::Refused(packing::refusal(read));
+            };
+            MarkedRead::Rule(numbers, mark, c)
         }
     }
 }

@@ -34,7 +34,7 @@ use Rattle.open_listing.specs.declared.Answer as A
 use Rattle.open_listing.specs.declared.Answer.the-variants.{Reading, NoMore, Full, Refused}
 use Rattle.spireyerba.specs.Demands as D
 use Rattle.spireyerba.specs.Demands.{answers, refuses}
-use Rattle.spireyerba.specs.OneByOne.{placeAt, nextCode, returned, Open, Next, Sequence, Calls, HandsOut, Idle, Room, OneByOne}
+use Rattle.spireyerba.specs.OneByOne.{placeAt, nextCode, returned, Open, Next, Sequence, CallsInTurn, HandsOut, Idle, Room, OneByOne}
 use Rattle.spireyerba.specs.OneByOne.{EveryReading, EveryCall, EveryReadingPasses, EveryListAgrees}
 use Rattle.spireyerba.proofs.Demands.{low-code}
 use Rattle.spireyerba.proofs.OpenCalls.{low-open, low-call}
@@ -114,7 +114,8 @@ module _ {search : S.Search} {l : S.Lent} {r : S.Left} where
   handed-out (S.no-more e below missing is same) f = let z : _≡_ {A = ℕ} 0 1 = cc in absurd (omega arith)
   handed-out (S.one-more {b = b} e below is more) f = (b, e, more)
 
-module _ (search : S.Search) (s : Sequence) (calls : Calls search s) (opened : Opens (s .grammar) (s .heard) (calls .work-before) (s .place 0) (s .work 0))
+module _ (search : S.Search) (s : Sequence) (calls : CallsInTurn search s)
+    (opened : Opens (s .grammar) (s .heard) (calls .work-before) (s .place 0) (s .work 0))
   where
     abbrev b : S.Blocks
     b = opened .blocks

@@ -67,7 +67,7 @@ pub record Sequence : Type 0 where
   pub written : ℕ → List ℕ
   pub code : ℕ → ℤ
 
-pub record Calls (search : Search) (s : Sequence) : Type 0 where
+pub record CallsInTurn (search : Search) (s : Sequence) : Type 0 where
   pub place-before : Place
   pub work-before : List ℕ
   pub opens : Open (s .grammar) (s .heard) place-before work-before (returned (pos 0) (s .place 0) (s .work 0))
@@ -111,7 +111,7 @@ pub record OneByOne (b : Blocks) (s : Sequence) : Type 0 where
 -- so of every sequence of calls, whatever their search
 abbrev pub EveryReading : Type 0
 EveryReading =
-    (search : Search) (s : Sequence) → Calls search s → (b : Blocks) × (opening (s .grammar) (s .heard) (length (s .work 0)) ≡ accepted b) × OneByOne b s
+    (search : Search) (s : Sequence) → CallsInTurn search s → (b : Blocks) × (opening (s .grammar) (s .heard) (length (s .work 0)) ≡ accepted b) × OneByOne b s
 
 -- What is promised of a call leaves nothing open, whatever place and table are: not the number, not the place and no byte of what was lent.
 abbrev pub EveryCall : Type 0
@@ -137,7 +137,7 @@ EveryReadingPasses =
 -- the kth reading that is handed out is the kth of the list, byte for byte
 abbrev pub EveryListAgrees : Type 0
 EveryListAgrees =
-    (search : Search) (s : Sequence) → Calls search s → (b : Blocks) → opening (s .grammar) (s .heard) (length (s .work 0)) ≡ accepted b
+    (search : Search) (s : Sequence) → CallsInTurn search s → (b : Blocks) → opening (s .grammar) (s .heard) (length (s .work 0)) ≡ accepted b
     → (N m : ℕ) (work out work′ out′ : List ℕ) → Listing (s .grammar) (s .heard) N work out (pos m) work′ out′
     → (k : ℕ) → k < s .calls → s .code k ≡ pos 1 → s .place k .handed < m
     → take (outputLength (b .grammar) (b .heard)) (s .written k) ≡ kthBytes (outputLength (b .grammar) (b .heard)) (suc (s .place k .handed)) out′

@@ -15,6 +15,7 @@
 //! | [`Acceptor::one_final`] | the same strings at the same costs, but the empty one; one end, of weight 0, that no arc leaves |
 //! | [`Acceptor::prune`] | every path whose weight is at most the least one's and the beam is kept, and no arc that is on none |
 //! | [`Acceptor::intersect`] | the strings that an [`Automaton`] accepts too, at both costs |
+//! | [`Acceptor::skip`] | any part of a path's words is passed over, each at a cost in the place of its own |
 //! | [`reduce`](reduce()) | a word graph: all strings at their costs, or, if that does not fit, all up to a cost that is said |
 //!
 //! ```
@@ -46,6 +47,7 @@ mod push;
 mod reduce;
 mod rm_epsilon;
 mod shortest_distance;
+mod skip;
 #[cfg(test)]
 mod testing;
 mod top_sort;

@@ -204,8 +204,8 @@ impl Fault {
     pub fn refusal(&self) -> Option<Refusal> {
         match self {
             Self::TooMany { refusal, .. } | Self::None { refusal, .. } => Some(*refusal),
-            Self::Rule(fault) => fault.refusal(),
             Self::Links | Self::DoesNotFit { .. } | Self::NotExact { .. } => Some(Refusal::UtteranceRange),
+            Self::Rule(fault) => fault.refusal(),
             Self::TooLarge { .. } | Self::CostTooLarge(_) => Some(Refusal::SheetValue),
             Self::RepeatedRule { .. } => Some(Refusal::GrammarRepeat),
             Self::Share(_) => Some(Refusal::ShareRange),

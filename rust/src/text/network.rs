@@ -123,7 +123,9 @@ impl<'a> Alignments<'a> {
             for [word, posterior] in words {
                 self.candidate(reader, &mut slots, [word, posterior], scale)?;
             }
-            slots.finish_slot().map_err(at)?;
+            if !reader.keep_unknown {
+                slots.finish_slot().map_err(at)?;
+            }
         }
         slots.finish().map_err(|fault| Error::at(self.end, fault))?;
         Ok(Utterance::of_accepted(&numbers))

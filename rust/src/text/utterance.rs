@@ -147,7 +147,9 @@ impl<'a> UtteranceReader<'a> {
             let mark = tokens.mark();
             slots.begin_slot().map_err(|fault| tokens.fault(fault))?;
             next = self.slot(slots, first, tokens)?;
-            slots.finish_slot().map_err(|fault| Error::at(tokens.position_of(mark), fault))?;
+            if !self.keep_unknown {
+                slots.finish_slot().map_err(|fault| Error::at(tokens.position_of(mark), fault))?;
+            }
         }
         Ok(())
     }
@@ -220,7 +222,7 @@ impl<'a> UtteranceReader<'a> {
         }
         match self.folded.get(&folded(word)) {
             Some(&number) if self.fold => Ok(Some(number)),
-            _ if self.drop_unknown => Ok(None),
+            _ if self.drop_unknown || self.keep_unknown => Ok(None),
             Some(number) => Err(self.other_spelling(word, *number)),
             None => Err(Fault::UnknownWord(word.to_owned())),
         }

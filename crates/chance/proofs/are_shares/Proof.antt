@@ -25,10 +25,18 @@ shared-slice-read-share : tie.Need-shared-slice-read-share Inv-loop μ-loop
 shared-slice-read-share c = omega arith
 
 returns : tie.Need-returns Inv-loop μ-loop
-returns c = sym (too-small (c .before .before .before .before .args .shares .now) (c .before .before .before .loop .i) (c .before .before .loop-test .taken) (c .if1 .taken)) ∙ c .before .before .before .loop .inv .1
+returns c =
+    let at-loop = c .before .before .before in
+    let at-args = at-loop .before in
+    sym (too-small (at-args .args .shares .now) (at-loop .loop .i) (c .before .before .loop-test .taken) (c .if1 .taken)) ∙ at-loop .loop .inv .1
 
 returns-2 : tie.Need-returns-2 Inv-loop μ-loop
-returns-2 c = sym (too-great (c .before .before .before .before .before .args .shares .now) (c .before .before .before .before .loop .i) (c .before .before .before .loop-test .taken) (c .before .if1 .left) (c .if2 .taken)) ∙ c .before .before .before .before .loop .inv .1
+returns-2 c =
+    let at-loop-test = c .before .before .before in
+    let at-loop = at-loop-test .before in
+    let at-args = at-loop .before in
+    sym (too-great (at-args .args .shares .now) (at-loop .loop .i) (at-loop-test .loop-test .taken) (c .before .if1 .left) (c .if2 .taken))
+    ∙ at-loop .loop .inv .1
 
 add-i : tie.Need-add-i Inv-loop μ-loop
 add-i c = omega arith
@@ -37,7 +45,14 @@ loop-less : tie.Need-loop-less Inv-loop μ-loop
 loop-less c = omega arith
 
 loop-again : tie.Need-loop-again Inv-loop μ-loop
-loop-again c = (omega arith, is-share (c .before .before .before .before .before .args .shares .now) (c .before .before .before .before .loop .i) (c .before .before .before .loop-test .taken) (c .before .if1 .left) (c .if2 .left) ∙ c .before .before .before .before .loop .inv .1)
+loop-again c =
+    let at-loop-test = c .before .before .before in
+    let at-loop = at-loop-test .before in
+    let at-args = at-loop .before in (
+      omega arith,
+      is-share (at-args .args .shares .now) (at-loop .loop .i) (at-loop-test .loop-test .taken) (c .before .if1 .left) (c .if2 .left)
+          ∙ at-loop .loop .inv .1,
+    )
 
 returns-3 : tie.Need-returns-3 Inv-loop μ-loop
 returns-3 c = sym (none-left (c .before .before .args .shares .now) (c .before .loop .i) (c .loop-test .left)) ∙ c .before .loop .inv .1

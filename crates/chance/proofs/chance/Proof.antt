@@ -37,7 +37,9 @@ slice-aggregate-check-heard-2 c = search needs
 
 check-heard-requires : tie.Need-check-heard-requires
 check-heard-requires c κs =
-    let bounded = rw (c .before .before .before .before .sizes .given .1) at (c .before .before .before .before .before .before .before .read-block .ensures .2) in
+    let at-sizes = c .before .before .before .before in
+    let at-read-block = at-sizes .before .before .before in
+    let bounded = rw (at-sizes .sizes .given .1) at (at-read-block .read-block .ensures .2) in
     omega arith
 
 slice-aggregate-shared : tie.Need-slice-aggregate-shared
@@ -45,27 +47,40 @@ slice-aggregate-shared c = search needs
 
 shared-requires : tie.Need-shared-requires
 shared-requires c κs =
-    let a = c .before .before .before .before .before .before .before .before .before .before .before .before .before .before .before .before .args in
-    let size = c .before .before .before .before .before .before .before .sizes .given .0 .0 in
-    held (underRules (size .words) (rulesOf (c .before .before .before .before .before .before .before .before .before .before .read-block .last .1 .0) (size .rules)) (a .heard .now) (a .reading .now)) (c .before .before .check-heard .result)
+    let at-sizes = c .before .before .before .before .before .before .before in
+    let at-read-block = at-sizes .before .before .before in
+    let at-args = at-read-block .before .before .before .before .before .before in
+    let a = at-args .args in
+    let size = at-sizes .sizes .given .0 .0 in
+    held (underRules (size .words) (rulesOf (at-read-block .read-block .last .1 .0) (size .rules)) (a .heard .now) (a .reading .now))
+    (c .before .before .check-heard .result)
     (c .before .before .check-heard .last .1 .1 .1 .1 .1 .0) (c .before .before .check-heard .ensures)
 
 returns : tie.Need-returns
 returns c =
-    let a = c .before .before .before .before .before .before .before .before .before .before .args in
-    promised (a .grammar .now) (a .heard .now) (a .reading .now) (a .shares .now) (λ i. c .before .before .before .before .before .before .before .shared-slice-known3 .given i .fits)
+    let at-read-block = c .before .before .before .before in
+    let at-shared-slice-known3 = at-read-block .before .before .before in
+    let at-args = at-shared-slice-known3 .before .before .before in
+    let a = at-args .args in
+    promised (a .grammar .now) (a .heard .now) (a .reading .now) (a .shares .now) (λ i. at-shared-slice-known3 .shared-slice-known3 .given i .fits)
     (grammar-refused (a .grammar .now) (a .heard .now) (a .reading .now) (a .shares .now)
-    (refused-told (grammarBlock (a .grammar .now)) (c .before .before .before .before .read-block .ensures .0) (c .before .m .given .1)))
+    (refused-told (grammarBlock (a .grammar .now)) (at-read-block .read-block .ensures .0) (c .before .m .given .1)))
 
 returns-2 : tie.Need-returns-2
 returns-2 c =
-    let a = c .before .before .before .before .before .before .before .before .before .before .before .before .before .before .before .before .before .args in
-    let read = c .before .before .before .before .before .before .before .before .before .before .before .read-block in
-    let (g, p, z) = accepted-told (grammarBlock (a .grammar .now)) (read .ensures .0) (c .before .before .before .before .before .before .before .before .sizes .given .1) in
+    let at-check-heard = c .before .before .before in
+    let at-sizes = at-check-heard .before .before .before .before .before in
+    let at-read-block = at-sizes .before .before .before in
+    let at-shared-slice-known3 = at-read-block .before .before .before in
+    let at-args = at-shared-slice-known3 .before .before .before in
+    let a = at-args .args in
+    let read = at-read-block .read-block in
+    let (g, p, z) = accepted-told (grammarBlock (a .grammar .now)) (read .ensures .0) (at-sizes .sizes .given .1) in
     let rules = rules-of g (read .last .1 .0) (rw p at (read .ensures .1)) in
-    let size = c .before .before .before .before .before .before .before .before .sizes .given .0 .0 in
-    promised (a .grammar .now) (a .heard .now) (a .reading .now) (a .shares .now) (λ i. c .before .before .before .before .before .before .before .before .before .before .before .before .before .before .shared-slice-known3 .given i .fits)
-    (c .shared .ensures (underRules (size .words) (rulesOf (read .last .1 .0) (size .rules)) (a .heard .now) (a .reading .now)) (c .before .before .before .check-heard .ensures)
+    let size = at-sizes .sizes .given .0 .0 in
+    promised (a .grammar .now) (a .heard .now) (a .reading .now) (a .shares .now) (λ i. at-shared-slice-known3 .shared-slice-known3 .given i .fits)
+    (c .shared .ensures (underRules (size .words) (rulesOf (read .last .1 .0) (size .rules)) (a .heard .now) (a .reading .now))
+    (at-check-heard .check-heard .ensures)
     ∙ rw (z, rules) (ap chanceOf (by-walk (a .grammar .now) (a .heard .now) (a .reading .now) (a .shares .now) p)))
 
 pub chance-spec : {M : Type 1} → statement M

@@ -33,7 +33,9 @@ narrow-at-requires : tie.Need-narrow-at-requires Inv-loop μ-loop
 narrow-at-requires c κs = search needs
 
 factor-requires : tie.Need-factor-requires Inv-loop μ-loop
-factor-requires c κs = rw (c .narrow-at .ensures) (at-most (c .before .before .before .before .before .before .args .shares .now) (c .before .before .before .before .before .before .pre .0) _)
+factor-requires c κs =
+    let at-args = c .before .before .before .before .before .before in
+    rw (c .narrow-at .ensures) (at-most (at-args .args .shares .now) (at-args .pre .0) _)
 
 sub-left : tie.Need-sub-left Inv-loop μ-loop
 sub-left c = omega arith
@@ -43,14 +45,21 @@ loop-less c = omega arith
 
 loop-again : tie.Need-loop-again Inv-loop μ-loop
 loop-again c =
-    let a = c .before .before .before .before .before .before .before .args in
+    let at-loop-test = c .before .before .before in
+    let at-loop = at-loop-test .before in
+    let at-args = at-loop .before .before .before in
+    let a = at-args .args in
     let share = c .before .narrow-at .ensures ∙ ap (λ r. getD (a .shares .now) r 0) (c .before .before .number-at .ensures .0) in
-    let node = one-node (a .shares .now) (a .walk .now) (a .nodes) (c .before .before .before .before .loop .left) (c .before .before .before .before .loop .p) (c .factor .result) (c .before .before .before .before .before .before .before .pre .1) (c .before .before .before .loop-test .taken) (c .before .before .before .before .loop .inv .0)
+    let node = one-node (a .shares .now) (a .walk .now) (a .nodes) (at-loop .loop .left) (at-loop .loop .p) (c .factor .result) (at-args .pre .1)
+    (at-loop-test .loop-test .taken) (at-loop .loop .inv .0)
     (c .factor .ensures ∙ ap factorOf share) in
-    (omega arith, node ∙ c .before .before .before .before .loop .inv .1)
+    (omega arith, node ∙ at-loop .loop .inv .1)
 
 returns : tie.Need-returns Inv-loop μ-loop
-returns c = sym (all-done (c .before .before .before .before .args .shares .now) (c .before .before .before .before .args .walk .now) (c .before .before .before .before .args .nodes) (c .before .loop .left) (c .before .loop .p) (c .before .before .before .before .pre .1) (c .loop-test .left)) ∙ c .before .loop .inv .1
+returns c =
+    let at-args = c .before .before .before .before in
+    sym (all-done (at-args .args .shares .now) (at-args .args .walk .now) (at-args .args .nodes) (c .before .loop .left) (c .before .loop .p) (at-args .pre .1)
+    (c .loop-test .left)) ∙ c .before .loop .inv .1
 
 pub product-spec : {M : Type 1} → statement M
 product-spec =

@@ -16,15 +16,22 @@ are-shares-requires : tie.Need-are-shares-requires
 are-shares-requires c κs = search needs
 
 product-requires : tie.Need-product-requires
-product-requires c κs = (sym (c .before .are-shares .ensures) ∙ c .if2 .taken, rw (c .before .before .before .before .found2 .given .1) at (c .before .before .before .before .before .before .before .before .pre))
+product-requires c κs =
+    let at-found2 = c .before .before .before .before in
+    let at-pre = at-found2 .before .before .before .before in
+    (sym (c .before .are-shares .ensures) ∙ c .if2 .taken, rw (at-found2 .found2 .given .1) at (at-pre .pre))
 
 returns : tie.Need-returns
 returns c =
-    let a = c .before .before .before .before .before .before .before .before .before .args in
-    let n = c .before .before .before .before .before .found2 .given .0 .0 in
-    rw (c .before .before .before .before .before .found2 .given .1, c .product .ensures)
+    let at-if1 = c .before .before .before in
+    let at-found2 = at-if1 .before .before in
+    let at-args = at-found2 .before .before .before .before in
+    let a = at-args .args in
+    let n = at-found2 .found2 .given .0 .0 in
+    rw (at-found2 .found2 .given .1, c .product .ensures)
     (shared-nodes (a .count) (a .shares .now) (a .walk .now) n
-    (all-shares (a .count) (a .shares .now) (take n (a .walk .now)) (c .before .before .before .if1 .taken) (sym (c .before .before .are-shares .ensures) ∙ c .before .if2 .taken)))
+    (all-shares (a .count) (a .shares .now) (take n (a .walk .now)) (at-if1 .if1 .taken)
+    (sym (c .before .before .are-shares .ensures) ∙ c .before .if2 .taken)))
 
 returns-2 : tie.Need-returns-2
 returns-2 c =

@@ -28,13 +28,20 @@ slice-aggregate-list-read-2 : tie.Need-slice-aggregate-list-read-2
 slice-aggregate-list-read-2 c = search needs
 
 list-read-requires : tie.Need-list-read-requires
-list-read-requires c κs = let k = rw (c .before .before .before .before .before .inputs .given .1) at (c .before .before .before .before .before .before .before .before .before .read-inputs .ensures) in k .bounds
+list-read-requires c κs =
+    let at-inputs = c .before .before .before .before .before in
+    let at-read-inputs = at-inputs .before .before .before .before in
+    let k = rw (at-inputs .inputs .given .1) at (at-read-inputs .read-inputs .ensures) in
+    k .bounds
 
 returns : tie.Need-returns
 returns c =
-    let a = c .before .before .before .before .before .before .before .before .before .before .before .before .args in
+    let at-read-inputs = c .before .before .before .before .before in
+    let at-args = at-read-inputs .before .before .before .before .before .before .before in
+    let a = at-args .args in
     promised (a .limits) (a .grammar .now) (a .heard .now) (a .wanted) (a .work .now) (a .out .now) _ _ _
-    (not-read (a .limits) (a .grammar .now) (a .heard .now) (a .wanted) (a .work .now) (a .out .now) (rw (c .before .n .given .1) at (c .before .before .before .before .before .read-inputs .ensures)))
+    (not-read (a .limits) (a .grammar .now) (a .heard .now) (a .wanted) (a .work .now) (a .out .now)
+    (rw (c .before .n .given .1) at (at-read-inputs .read-inputs .ensures)))
 
 same-length : tie.Need-same-length
 same-length c = search needs
@@ -44,9 +51,13 @@ same-length-2 c = search needs
 
 returns-2 : tie.Need-returns-2
 returns-2 c =
-    let a = c .before .before .before .before .before .before .before .before .before .before .before .before .before .before .before .before .before .before .before .before .before .args in
-    let k = rw (c .before .before .before .before .before .before .before .before .before .before .inputs .given .1) at (c .before .before .before .before .before .before .before .before .before .before .before .before .before .before .read-inputs .ensures) in
-    promised (a .limits) (a .grammar .now) (a .heard .now) (a .wanted) (a .work .now) (a .out .now) _ _ _ (c .before .before .before .before .list-read .ensures _ _ _ _ k)
+    let at-list-read = c .before .before .before .before in
+    let at-inputs = at-list-read .before .before .before .before .before .before in
+    let at-read-inputs = at-inputs .before .before .before .before in
+    let at-args = at-read-inputs .before .before .before .before .before .before .before in
+    let a = at-args .args in
+    let k = rw (at-inputs .inputs .given .1) at (at-read-inputs .read-inputs .ensures) in
+    promised (a .limits) (a .grammar .now) (a .heard .now) (a .wanted) (a .work .now) (a .out .now) _ _ _ (at-list-read .list-read .ensures _ _ _ _ k)
 
 pub listing-within-spec : {M : Type 1} → statement M
 listing-within-spec =

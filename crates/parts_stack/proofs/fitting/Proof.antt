@@ -37,11 +37,16 @@ enum-known-head c = search needs
 
 returns-3 : tie.Need-returns-3
 returns-3 c =
-    let a = c .before .before .before .before .before .before .before .before .before .before .before .args in
-    let is = sym (c .before .before .before .before .before .rule-at .ensures) ∙ c .before .before .before .head .given .1 in
-    let there = rule-of (a .rules .now) (a .count) (a .r) (c .before .before .before .before .before .before .before .if2 .left) ∙ ap some is in
+    let at-head = c .before .before .before in
+    let at-rule-at = at-head .before .before in
+    let at-narrow-at = at-rule-at .before in
+    let at-if2 = at-narrow-at .before in
+    let at-args = at-if2 .before .before .before .before in
+    let a = at-args .args in
+    let is = sym (at-rule-at .rule-at .ensures) ∙ at-head .head .given .1 in
+    let there = rule-of (a .rules .now) (a .count) (a .r) (at-if2 .if2 .left) ∙ ap some is in
     let fit = rule-fit (rulesOf (a .rules .now) (a .count)) (a .stack .now) (a .height) (a .r) (omega arith) there in
-    let test = eq-eqb (c .before .before .before .head .given .0 .0 .0) (getD (a .stack .now) (a .height - 1) 0) (c .if3 .taken ∙ c .before .before .before .before .before .before .narrow-at .ensures) in
+    let test = eq-eqb (at-head .head .given .0 .0 .0) (getD (a .stack .now) (a .height - 1) 0) (c .if3 .taken ∙ at-narrow-at .narrow-at .ensures) in
     sym (rw test at fit)
 
 enum-known-head-2 : tie.Need-enum-known-head-2
@@ -49,29 +54,46 @@ enum-known-head-2 c = search needs
 
 returns-4 : tie.Need-returns-4
 returns-4 c =
-    let a = c .before .before .before .before .before .before .before .before .before .before .before .args in
-    let is = sym (c .before .before .before .before .before .rule-at .ensures) ∙ c .before .before .before .head2 .given .1 in
-    let there = rule-of (a .rules .now) (a .count) (a .r) (c .before .before .before .before .before .before .before .if2 .left) ∙ ap some is in
+    let at-head2 = c .before .before .before in
+    let at-rule-at = at-head2 .before .before in
+    let at-narrow-at = at-rule-at .before in
+    let at-if2 = at-narrow-at .before in
+    let at-args = at-if2 .before .before .before .before in
+    let a = at-args .args in
+    let is = sym (at-rule-at .rule-at .ensures) ∙ at-head2 .head2 .given .1 in
+    let there = rule-of (a .rules .now) (a .count) (a .r) (at-if2 .if2 .left) ∙ ap some is in
     let fit = rule-fit (rulesOf (a .rules .now) (a .count)) (a .stack .now) (a .height) (a .r) (omega arith) there in
-    let test = eq-eqb (c .before .before .before .head2 .given .0 .0 .0) (getD (a .stack .now) (a .height - 1) 0) (c .if4 .taken ∙ c .before .before .before .before .before .before .narrow-at .ensures) in
+    let test = eq-eqb (at-head2 .head2 .given .0 .0 .0) (getD (a .stack .now) (a .height - 1) 0) (c .if4 .taken ∙ at-narrow-at .narrow-at .ensures) in
     sym (rw test at fit)
 
 returns-5 : tie.Need-returns-5
 returns-5 c =
-    let a = c .before .before .before .before .before .before .before .before .before .before .before .args in
-    let is = sym (c .before .before .before .before .before .rule-at .ensures) ∙ c .before .before .before .head .given .1 in
-    let there = rule-of (a .rules .now) (a .count) (a .r) (c .before .before .before .before .before .before .before .if2 .left) ∙ ap some is in
+    let at-head = c .before .before .before in
+    let at-rule-at = at-head .before .before in
+    let at-narrow-at = at-rule-at .before in
+    let at-if2 = at-narrow-at .before in
+    let at-args = at-if2 .before .before .before .before in
+    let a = at-args .args in
+    let is = sym (at-rule-at .rule-at .ensures) ∙ at-head .head .given .1 in
+    let there = rule-of (a .rules .now) (a .count) (a .r) (at-if2 .if2 .left) ∙ ap some is in
     let fit = rule-fit (rulesOf (a .rules .now) (a .count)) (a .stack .now) (a .height) (a .r) (omega arith) there in
-    let test = ne-eqb (c .before .before .before .head .given .0 .0 .0) (getD (a .stack .now) (a .height - 1) 0) (λ e. c .if3 .left (e ∙ sym (c .before .before .before .before .before .before .narrow-at .ensures))) in
+    let test = ne-eqb (at-head .head .given .0 .0 .0) (getD (a .stack .now) (a .height - 1) 0)
+    (λ e. c .if3 .left (e ∙ sym (at-narrow-at .narrow-at .ensures))) in
     sym (rw test at fit)
 
 returns-6 : tie.Need-returns-6
 returns-6 c =
-    let a = c .before .before .before .before .before .before .before .before .before .before .before .args in
-    let is = sym (c .before .before .before .before .before .rule-at .ensures) ∙ c .before .before .before .head2 .given .1 in
-    let there = rule-of (a .rules .now) (a .count) (a .r) (c .before .before .before .before .before .before .before .if2 .left) ∙ ap some is in
+    let at-head2 = c .before .before .before in
+    let at-rule-at = at-head2 .before .before in
+    let at-narrow-at = at-rule-at .before in
+    let at-if2 = at-narrow-at .before in
+    let at-args = at-if2 .before .before .before .before in
+    let a = at-args .args in
+    let is = sym (at-rule-at .rule-at .ensures) ∙ at-head2 .head2 .given .1 in
+    let there = rule-of (a .rules .now) (a .count) (a .r) (at-if2 .if2 .left) ∙ ap some is in
     let fit = rule-fit (rulesOf (a .rules .now) (a .count)) (a .stack .now) (a .height) (a .r) (omega arith) there in
-    let test = ne-eqb (c .before .before .before .head2 .given .0 .0 .0) (getD (a .stack .now) (a .height - 1) 0) (λ e. c .if4 .left (e ∙ sym (c .before .before .before .before .before .before .narrow-at .ensures))) in
+    let test = ne-eqb (at-head2 .head2 .given .0 .0 .0) (getD (a .stack .now) (a .height - 1) 0)
+    (λ e. c .if4 .left (e ∙ sym (at-narrow-at .narrow-at .ensures))) in
     sym (rw test at fit)
 
 pub fitting-spec : {M : Type 1} → statement M

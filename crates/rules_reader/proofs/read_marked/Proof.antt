@@ -31,18 +31,22 @@ read-mark-requires c κs = omega (arith, near c .1, c .before .before .before .b
 enum-known-read : tie.Need-enum-known-read
 enum-known-read c = search needs
 
-enum-known-read-2 : tie.Need-enum-known-read-2
-enum-known-read-2 c = search needs
+enum-told : tie.Need-enum-told
+enum-told c = search needs
+
+refusal-requires : tie.Need-refusal-requires
+refusal-requires c κs = search needs
 
 returns : tie.Need-returns
-returns c = rule-refused _ _ _ _ _ (c .before .before .before .read-rule .ensures .0) (c .before .rule .given .1)
-
-returns-2 : tie.Need-returns-2
-returns-2 c =
+returns c =
     let at-read-mark = c .before .before .before in
     let at-rule2 = at-read-mark .before .before in
     let at-read-rule = at-rule2 .before .before in
-    mark-refused _ _ _ _ _ (at-read-rule .read-rule .ensures .0) (at-rule2 .rule2 .given .1) (at-read-mark .read-mark .ensures) (c .before .read .given .1)
+    mark-refused _ _ _ _ _ (at-read-rule .read-rule .ensures .0) (at-rule2 .rule2 .given .1) (at-read-mark .read-mark .ensures)
+    (c .before .enum-told .given .1) (c .refusal .ensures)
+
+returns-2 : tie.Need-returns-2
+returns-2 c = rule-refused _ _ _ _ _ (c .before .before .before .read-rule .ensures .0) (c .before .rule .given .1)
 
 returns-3 : tie.Need-returns-3
 returns-3 c =
@@ -50,7 +54,7 @@ returns-3 c =
     let before-4 = at-read-mark .before in
     let at-rule2 = before-4 .before in
     let at-read-rule = at-rule2 .before .before in
-    mark-read _ _ _ _ _ (at-read-rule .read-rule .ensures .0) (at-rule2 .rule2 .given .1) (at-read-mark .read-mark .ensures) (c .before .read2 .given .1)
+    mark-read _ _ _ _ _ (at-read-rule .read-rule .ensures .0) (at-rule2 .rule2 .given .1) (at-read-mark .read-mark .ensures) (c .before .read .given .1)
     (near (before-4))
 
 pub read-marked-spec : {M : Type 1} → statement M
@@ -62,7 +66,8 @@ read-marked-spec =
     enum-known-rule-2
     read-mark-requires
     enum-known-read
-    enum-known-read-2
+    enum-told
+    refusal-requires
     returns
     returns-2
     returns-3)

@@ -151,16 +151,17 @@ impl UtteranceReader<'_> {
     /// # Ok::<(), spireyerba::Error>(())
     /// ```
     pub fn read_heard(&self, text: &str) -> Result<Lattice, Error> {
-        let mut all = self.read_all_heard(text)?;
-        match (all.len(), all.pop()) {
-            (1, Some(only)) => Ok(only),
-            (count, _) => Err(Error::at(super::items::end_of(text), Fault::ManyLattices(count))),
-        }
+        alone(self.read_all_heard(text)?, text)
+    }
+
+    /// Reads the one lattice of a text as an acceptor, over the labels of the grammar's words.
+    pub fn recognised_alone(&self, text: &str) -> Result<Recognised, Error> {
+        alone(self.recognised(text)?, text)
     }
 
     /// Reads all that a text has, of which only some formats have several.
     pub fn read_all_heard(&self, text: &str) -> Result<Vec<Lattice>, Error> {
-        match self.plain(without_mark(text)) {
+        match self.read_plain(text) {
             Some(plain) => Ok(vec![Lattice::from(plain?)]),
             None => self.recognised(text)?.iter().map(|recognised| recognised.reduce(self.keep, self.exact)).collect(),
         }
@@ -172,9 +173,17 @@ impl UtteranceReader<'_> {
         drafts.into_iter().map(|draft| draft.recognised(self)).collect()
     }
 
-    /// What a text in one of the formats says that take no lattice: slots, a network that is slots, or a plain word graph.
-    fn plain(&self, text: &str) -> Option<Result<Heard, Error>> {
+    /// Reads a text in one of the formats that take no lattice: slots, a network that is slots, or a plain word graph; nothing if
+    /// it is another. If words that the grammar does not have are kept, a slot of such words is empty, and a graph with one is
+    /// a lattice.
+    pub fn read_plain(&self, text: &str) -> Option<Result<Heard, Error>> {
+        let text = without_mark(text);
         let format = self.format.unwrap_or_else(|| Format::of(text));
+        if format == Format::Graph && self.keep_unknown {
+            let mut strict = self.clone();
+            (strict.keep_unknown, strict.drop_unknown) = (false, false);
+            return strict.read_plain(text).filter(|plain| !is_unknown(plain));
+        }
         let plain = match format {
             Format::Slots | Format::Network => self.read(text).map(Heard::Slots),
             Format::Graph => self.read_plain_graph(text).map(Heard::Graph),
@@ -200,5 +209,18 @@ impl UtteranceReader<'_> {
             Format::Ctm => ctm::parse(text),
             Format::Json => recogniser_json::parse(text).map(one),
         }
+    }
+}
+
+/// Whether a word is not known.
+fn is_unknown(plain: &Result<Heard, Error>) -> bool {
+    matches!(plain.as_ref().err().and_then(Error::fault), Some(Fault::UnknownWord(_)))
+}
+
+/// The only one of some that a text has.
+fn alone<T>(mut all: Vec<T>, text: &str) -> Result<T, Error> {
+    match (all.len(), all.pop()) {
+        (1, Some(only)) => Ok(only),
+        (count, _) => Err(Error::at(super::items::end_of(text), Fault::ManyLattices(count))),
     }
 }

@@ -1,0 +1,72 @@
+//! Files of lattices, in any format, of which some have several.
+
+use super::sink::Refused;
+use crate::failure::Failure;
+use crate::files::{self, File};
+use crate::json;
+use crate::options::{Arguments, FILES};
+use spireyerba::text::{Format, Lattice, UtteranceReader};
+use std::io::{Cursor, Read};
+
+/// So much of a file is looked at to tell whether its lines are a lattice's.
+const FRONT: u64 = 1 << 16;
+
+/// Where lines come from.
+pub struct Lines<'a> {
+    /// The name of what has them, in messages.
+    pub operand: &'a str,
+    /// Whether each is the name of a file with lattices.
+    pub are_files: bool,
+    pub file: Box<dyn Read + Send>,
+}
+
+impl<'a> Lines<'a> {
+    /// The lines that the command line names: a list of files, utterances, or a file of lattices, which is a list of one.
+    pub fn open(arguments: &Arguments<'a>, format: Option<Format>) -> Result<Self, Failure> {
+        let (operand, are_files) = match (arguments.value(&FILES), arguments.operands.get(1)) {
+            (Some(list), None) => (list, true),
+            (None, Some(file)) => (*file, false),
+            (Some(_), Some(_)) => return Err(arguments.wrong("--files and FILE: only one of them")),
+            (None, None) => return Err(arguments.wrong("FILE is missing")),
+        };
+        if !are_files && is_of_lattices(operand, format)? {
+            let file = Box::new(Cursor::new(operand.to_owned().into_bytes()));
+            return Ok(Self { operand, are_files: true, file });
+        }
+        Ok(Self { operand, are_files, file: files::open(operand)? })
+    }
+}
+
+/// Whether a file is lattices and not utterances, one a line: the command line says so, or its front is a lattice in HTK's
+/// format or one of Kaldi's.
+fn is_of_lattices(operand: &str, format: Option<Format>) -> Result<bool, Failure> {
+    if let Some(format) = format {
+        return Ok(!matches!(format, Format::Slots | Format::Graph));
+    }
+    // what is taken from standard input is gone
+    if files::name_of(operand) != operand || !files::is_still(operand) {
+        return Ok(false);
+    }
+    let mut front = Vec::new();
+    files::open(operand)?.take(FRONT).read_to_end(&mut front).map_err(|error| Failure::file(operand, &error))?;
+    let format = Format::of(&String::from_utf8_lossy(&front));
+    Ok(matches!(format, Format::Slf | Format::Kaldi))
+}
+
+/// The lattices of a file.
+pub fn read(reader: &UtteranceReader, name: &str) -> Result<Vec<Lattice>, Refused> {
+    let lattices = File::read(name).and_then(|file| file.text(|text| reader.read_all_heard(text)));
+    lattices.map_err(|failure| Refused::of_file(failure, name))
+}
+
+/// Adds what is to be said of a lattice to its answer: the weight up to which every reading is there, and words left out.
+pub fn push_notes(json: &mut Vec<u8>, lattice: &Lattice) {
+    if let Some(weight) = lattice.complete_up_to() {
+        json::push_key(json, "complete_up_to");
+        json.extend_from_slice(weight.to_string().as_bytes());
+    }
+    if !lattice.dropped.is_empty() {
+        json::push_key(json, "dropped");
+        json::push_words(json, lattice.dropped.iter().map(String::as_str));
+    }
+}

@@ -1,0 +1,63 @@
+//! A line of the input, with its name.
+
+use super::resume::BEGIN;
+use crate::json;
+
+/// A line of the input.
+pub struct Line<'a> {
+    /// The lines before it.
+    pub before: usize,
+    /// What stands before a tab.
+    name: Option<&'a str>,
+    pub heard: &'a str,
+}
+
+impl<'a> Line<'a> {
+    pub fn new(line: &'a str, before: usize) -> Self {
+        let named = line.split_once('\t').filter(|(name, heard)| is_name(name) && !is_number_alone(heard));
+        match named {
+            Some((name, heard)) => Self { before, name: Some(name), heard },
+            None => Self { before, name: None, heard: line },
+        }
+    }
+
+    /// The columns before what was heard.
+    pub fn columns(&self) -> usize {
+        self.name.map_or(0, |name| name.chars().count() + 1)
+    }
+
+    /// Begins its answer.
+    pub fn begin(&self, json: &mut Vec<u8>) {
+        self.begin_as(json, self.name);
+    }
+
+    /// Begins the answer of a lattice of the file that it names: one of several has its own name, and one alone the line's, or its
+    /// own, or that of the file.
+    pub fn begin_lattice(&self, json: &mut Vec<u8>, own: Option<&str>, is_alone: bool) {
+        let [first, second] = if is_alone { [self.name, own] } else { [own, self.name] };
+        self.begin_as(json, first.or(second).or(Some(self.heard.trim())));
+    }
+
+    fn begin_as(&self, json: &mut Vec<u8>, name: Option<&str>) {
+        json.extend_from_slice(BEGIN);
+        json::push_number(json, self.before as u32 + 1);
+        if let Some(name) = name {
+            json::push_key(json, "id");
+            json::push_string(json, name);
+        }
+    }
+}
+
+/// Whether this can be a line's name: it has no blank and nothing that stands between words.
+fn is_name(text: &str) -> bool {
+    !text.is_empty() && !text.contains(|letter: char| letter.is_whitespace() || "|;\"".contains(letter))
+}
+
+/// Whether a text begins with a number, as a cost or a place is one, and no other number follows: then what stands before it is
+/// a word that was heard, or a place.
+fn is_number_alone(text: &str) -> bool {
+    let is_number = |item: &str| item.bytes().all(|byte| byte.is_ascii_digit());
+    let mut items =
+        text.split(|letter: char| letter.is_whitespace() || "|;".contains(letter)).filter(|item| !item.is_empty());
+    items.next().is_some_and(is_number) && !items.next().is_some_and(is_number)
+}

@@ -1,0 +1,135 @@
+//! Lattices as recognisers write them: those of examples/recogniser, which PocketSphinx heard, and archives of several.
+
+use crate::common::{answer_in, answer_with, example, folder, refused, run_in, run_with, Run};
+use std::collections::HashMap;
+use std::path::PathBuf;
+
+/// The lattices over the office's words and those over the whole vocabulary.
+const OFFICE: usize = 60;
+const GENERAL: usize = 12;
+
+fn recorded() -> PathBuf {
+    example("recogniser/recorded")
+}
+
+/// A list of files, a line each.
+fn list(kind: &str, count: usize) -> String {
+    (0..count).map(|number| format!("u{number}\t{kind}/u{number}.slf\n")).collect()
+}
+
+/// Words that the grammar does not have are passed over; then each lattice is answered, by readings or by why there is none.
+#[test]
+fn the_whole_vocabulary_is_answered_with_skips() {
+    for number in 0..GENERAL {
+        let general = format!("list grammar.txt general/u{number}.slf --scale 1 -n 4");
+        assert!(refused(run_in(&recorded(), &general), 1).contains("the grammar has no word `"), "u{number}");
+        let Run { status, out, err } = run_in(&recorded(), &format!("{general} --skip 300"));
+        assert_eq!(status, 0, "u{number}: {err}");
+        let is_none = err.contains("no reading: the grammar derives nothing of what was heard\n  goes along with it: ");
+        assert!(is_none == out.is_empty() && (is_none || out.starts_with("1  ")), "u{number}: {out}{err}");
+    }
+}
+
+/// Skips find a reading where a word of another office stands between those of this one.
+#[test]
+fn a_lattice_with_a_word_too_many() {
+    let said = std::fs::read_to_string(recorded().join("office/u1.slf")).expect("a recorded lattice");
+    let other = said.replace("W=painted\t", "W=varnished\t");
+    let skipped = run_with(&recorded(), "list grammar.txt - --scale 1 -n 1 --skip 300", other.as_bytes());
+    let pruned = "<stdin>: kept 96 of 157 edges: every reading of weight up to 1612 is in the list";
+    assert!(skipped.status == 0 && skipped.err.starts_with(pruned), "{}", skipped.err);
+    assert_eq!(skipped.out, "1  1147  door one oak fire thirty\n");
+}
+
+#[test]
+fn a_list_of_files() {
+    let list = list("office", OFFICE);
+    let answers = answer_with(&recorded(), "batch grammar.txt --files - --scale 1 -n 3 --distinct", list.as_bytes());
+    let said = std::fs::read_to_string(recorded().join("said.txt")).expect("what was said");
+    let said: HashMap<&str, &str> = said.lines().filter_map(|line| line.split_once(' ')).collect();
+    let mut right = 0;
+    for (number, answer) in answers.lines().enumerate() {
+        let name = format!("u{number}");
+        let begin = format!("{{\"line\":{},\"id\":\"{name}\",\"readings\":[", number + 1);
+        assert!(answer.starts_with(&begin), "{answer}");
+        let words: Vec<String> = said[name.as_str()].split(' ').map(|word| format!("\"{word}\"")).collect();
+        let first = answer.split("\"words\":[").nth(1).and_then(|rest| rest.split(']').next());
+        right += usize::from(first == Some(words.join(",").as_str()));
+        assert!(first.is_some() || answer.contains("\"prefix\":{\"words\":["), "{answer}");
+    }
+    assert!(answers.lines().count() == OFFICE && right >= 31, "{right}");
+    assert_eq!(answers.matches("\"complete_up_to\":").count(), 10);
+}
+
+/// Without a name the file's own stands there, and of several lattices each one's.
+#[test]
+fn archives() {
+    let [first, second] = [
+        r#","id":"house-0017","readings":[{"rank":1,"weight":50,"words":["door","twenty","four"],"rules":[0,1,5,7],"edges":[0,1,3]}]}"#,
+        r#","id":"house-0018","readings":[{"rank":1,"weight":32,"words":["door","four"],"rules":[0,4],"edges":[0,1]}]}"#,
+    ];
+    let kaldi = answer_in(&example("formats"), "batch grammar.txt kaldi.txt --scale 1 -n 1");
+    assert_eq!(kaldi, format!("{{\"line\":1{first}\n{{\"line\":1{second}\n"));
+    let files = b"kaldi.txt\n# and once more\nagain\tkaldi.txt\nmine\tpocketsphinx.slf\nopenfst.txt";
+    let list = answer_with(&example("formats"), "batch grammar.txt --files - --scale 1 -n 1", files);
+    let lines: Vec<&str> = list.lines().collect();
+    assert_eq!(
+        lines[..4].concat(),
+        format!("{{\"line\":1{first}{{\"line\":1{second}{{\"line\":3{first}{{\"line\":3{second}")
+    );
+    assert!(lines[4].starts_with(r#"{"line":4,"id":"mine","readings":["#), "{}", lines[4]);
+    assert!(lines[5].starts_with(r#"{"line":5,"id":"openfst.txt","readings":["#), "{}", lines[5]);
+    let ctm = answer_in(&example("formats"), "batch grammar.txt words.ctm --format ctm --scale 100 -n 1");
+    assert!(ctm.starts_with(r#"{"line":1,"id":"house-0017 A","readings":[{"rank":1,"weight":98,"#), "{ctm}");
+}
+
+#[test]
+fn files_that_cannot_be_answered() {
+    let files: [(&str, &[u8]); 4] = [
+        ("g", b"A -> A A | \"x\""),
+        ("l", b"VERSION=1.0\nI=0\nI=1\nI=2\nJ=0 S=0 E=1 W=x a=-7\nJ=1 S=1 E=2 W=um a=-1\nJ=2 S=1 E=2 W=x a=-2\n"),
+        ("cut", b"VERSION=1.0\nI=0\nI=1\nJ=0 S=0 E=9 W=x a=-7\n"),
+        ("list", b"l\nnone\ncut\n"),
+    ];
+    let folder = folder("batch_files", &files);
+    let run = run_in(&folder, "batch g --files list --scale 1 --drop-unknown");
+    let missing = "none: No such file or directory (os error 2)";
+    let errors = format!("{missing}\ncut:4:9: there is no node `9`\n2 of 3 utterances refused\n");
+    assert_eq!((run.status, run.err.as_str()), (1, errors.as_str()));
+    let lines: Vec<&str> = run.out.lines().collect();
+    assert_eq!(
+        lines[0],
+        r#"{"line":1,"id":"l","readings":[{"rank":1,"weight":9,"words":["x","x"],"rules":[0,1,1],"edges":[0,1]}],"dropped":["um"]}"#
+    );
+    assert_eq!(lines[1], format!("{{\"line\":2,\"error\":\"{missing}\"}}"));
+    for (words, message) in [
+        ("g l --files list", "--files and FILE: only one of them"),
+        ("g", "FILE is missing"),
+        (
+            "g --files list --resume out",
+            "--resume goes on behind a line, and a file of lattices may have several answers",
+        ),
+    ] {
+        let usage = refused(run_in(&folder, &format!("batch {words}")), 2);
+        assert_eq!(usage, format!("spireyerba batch: {message}\ntry `spireyerba batch --help`\n"));
+    }
+}
+
+/// What was pruned or left out stands on the page.
+#[test]
+fn the_page_says_what_is_missing() {
+    let pruned = run_in(&recorded(), "batch grammar.txt --files /dev/stdin --scale 1 -n 1");
+    assert_eq!(pruned.out, "");
+    let folder = folder(
+        "page_dropped",
+        &[
+            ("g", b"A -> A A | \"x\""),
+            ("l", b"VERSION=1.0\nI=0 t=0\nI=1 t=0.5\nJ=0 S=0 E=1 W=x a=-7\nJ=1 S=0 E=1 W=um a=-1\n"),
+        ],
+    );
+    let page = run_in(&folder, "report g l --scale 1 --drop-unknown");
+    let note = "left out, for the grammar does not have them: um";
+    assert_eq!((page.status, page.err.as_str()), (0, format!("l: {note}\n").as_str()));
+    assert!(page.out.contains(&format!("<p class=\"left-out\">{note}.</p>")), "{}", page.out);
+    assert!(page.out.contains(">0.50 s</text>"), "{}", page.out);
+}

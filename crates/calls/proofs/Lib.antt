@@ -1,0 +1,4 @@
+pub mod Answered
+pub mod Listings
+pub mod Entries
+pub mod ChangedCalls
