@@ -40,7 +40,7 @@ fn lists_are_those_of_one_call() {
             }
         }
     });
-    assert!(few > 300 && many > 100 && full > 300, "{few} lists of few, {many} of more, {full} full ones");
+    assert!(few > 300 && many > 50 && full > 300, "{few} lists of few, {many} of more, {full} full ones");
 }
 
 /// A number that is refused is refused whatever the list before it was like.

@@ -225,9 +225,10 @@ impl Fitted {
         if size.0 > MAX_PLACES as usize || size.1 > MAX_EDGES as usize {
             return Err(size);
         }
-        // as near to the lattice's own as can be, and the whole weight before that
+        // as near to the lattice's own as can be, and the whole weight before that, as late as it can stand
         let bounded = wanted.iter().map(|wanted| (*wanted).clamp(0, least.max(0))).collect();
-        let tried = [wanted, bounded].map(|wanted: Vec<i64>| minimal.within(&wanted, GREATEST_COST));
+        let late = vec![least.max(0); wanted.len()];
+        let tried = [wanted, bounded, late].map(|wanted: Vec<i64>| minimal.within(&wanted, GREATEST_COST));
         let nearest = tried.into_iter().flatten().min_by_key(|(_, weight)| (least - weight).abs());
         let (acceptor, weight) = nearest.ok_or(size)?;
         Ok(Self { acceptor, taken_off: least - weight })
