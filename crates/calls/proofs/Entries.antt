@@ -9,11 +9,11 @@ use lib.ListN.{length, take, drop}
 use Rattle.packing.specs.Meaning.{word, Grammar, Utterance}
 use Rattle.derivation.specs.Derivation.{At}
 use Rattle.derivation.proofs.Lists.{none≢some, at-mem, mem-at, at-length, length-at}
-use Rattle.cost_changes.specs.Margins.{Margin, Entry, entry, entryNumbers, listNumbers, Margins}
+use Rattle.cost_changes.specs.Margins.{Margin, MarginEntry, entry, entryNumbers, listNumbers, Margins}
 use Rattle.calls.specs.ChangedCalls.{MarginsCall, HasEntry}
 use Rattle.calls.proofs.Answered.{answered, low-margins, asked-margins}
 
-entry-stands : (l : List Entry) (rest : List ℕ) (k : ℕ) {a : Entry} → At l k a → take 4 (drop (4 * k) (listNumbers l ++ rest)) ≡ entryNumbers a
+entry-stands : (l : List MarginEntry) (rest : List ℕ) (k : ℕ) {a : MarginEntry} → At l k a → take 4 (drop (4 * k) (listNumbers l ++ rest)) ≡ entryNumbers a
 unfolding listNumbers entryNumbers
 entry-stands [] rest k e = absurd (none≢some e)
 entry-stands (entry d s x v ∷ l) rest zero {a} e = let same : entry d s x v ≡ a = cc in ap entryNumbers same
@@ -21,7 +21,7 @@ entry-stands (entry d s x v ∷ l) rest (suc k) {a} e =
     let more : 4 * suc k ≡ suc (suc (suc (suc (4 * k)))) = omega arith in
     rw more (entry-stands l rest k e)
 
-entry-is : (a b : Entry) → entryNumbers a ≡ entryNumbers b → a ≡ b
+entry-is : (a b : MarginEntry) → entryNumbers a ≡ entryNumbers b → a ≡ b
 unfolding entryNumbers
 entry-is (entry d s x v) (entry d′ s′ x′ v′) e =
     let hd : d ≡ d′ = cc in
@@ -32,7 +32,7 @@ entry-is (entry d s x v) (entry d′ s′ x′ v′) e =
 
 module _ {g : Grammar} {u : Utterance} {m : ℕ} {written : List ℕ} (call : MarginsCall g u m written) where
   -- the list that the output holds
-  list-held : (l : List Entry) × Margins g u l × (m ≡ length l) × (written ≡ listNumbers l ++ drop (length (listNumbers l)) (call .out))
+  list-held : (l : List MarginEntry) × Margins g u l × (m ≡ length l) × (written ≡ listNumbers l ++ drop (length (listNumbers l)) (call .out))
   list-held =
       let (b, due, (l, margins, count, holds, _)) = answered low-margins (call .call .demand-1) in
       let same = asked-margins (call .grammar) (call .utterance) (call .grammar-is) (call .utterance-is) (length (call .work)) (length (call .out)) due in
@@ -41,7 +41,7 @@ module _ {g : Grammar} {u : Utterance} {m : ℕ} {written : List ℕ} (call : Ma
   pub has-entry : (s x d : ℕ) → HasEntry m written s x d ↔ ((v : ℕ) × Margin g u s (word x) d v)
   has-entry s x d = let (l, margins, count, holds) = list-held in go l margins count holds
     where
-      go : (l : List Entry) → Margins g u l → m ≡ length l → written ≡ listNumbers l ++ drop (length (listNumbers l)) (call .out)
+      go : (l : List MarginEntry) → Margins g u l → m ≡ length l → written ≡ listNumbers l ++ drop (length (listNumbers l)) (call .out)
           → HasEntry m written s x d ↔ ((v : ℕ) × Margin g u s (word x) d v)
       go l margins count holds = (
         (λ (k, v, below, stands).

@@ -92,7 +92,8 @@ fn shared(found: Walked, count: usize, shares: &[u32], walk: &[u32]) -> Outcome
 // The chance of a reading that passes the check, by the share of each rule.
 pub fn chance(grammar: &[u8], heard: &[u8], reading: &[u8], shares: &[u32]) -> Outcome
     ensures { λ r. ⌜ r ≡ chanceOf (definition.chance (now (grammar .entry)) (now (heard .entry)) (now (reading .entry)) (now (shares .entry))) ⌝ }
-    ensures { λ r. ⌜ ((x : Float) → r ≡ Outcome.Product x → Shown (now (grammar .entry)) (now (heard .entry)) (now (reading .entry)) (now (shares .entry)) x) ⌝ }
+    ensures { λ r. ⌜ ((x : Float) → r ≡ Outcome.Product x
+        → Shown (now (grammar .entry)) (now (heard .entry)) (now (reading .entry)) (now (shares .entry)) x) ⌝ }
 {
     let mut rules = [0u32; RULES_LENGTH];
     let mut walk = [0u32; WALK_LENGTH];

@@ -21,7 +21,7 @@ use Rattle.derivation.proofs.Ranges.{Ascending, valid-ascending}
 use Rattle.derivation.proofs.Slots.{edges-in}
 use Rattle.cost_changes.specs.Costs.{edgesOf, Uses, First}
 use Rattle.cost_changes.specs.Passes.{firstOf}
-use Rattle.cost_changes.specs.Margins.{UsesWord, Overtaken, Margin, Entry, entry, Ascends, Margins}
+use Rattle.cost_changes.specs.Margins.{UsesWord, Overtaken, Margin, MarginEntry, entry, Ascends, Margins}
 use Rattle.cost_changes.specs.Outside.{Cells, outside, through}
 use Rattle.cost_changes.specs.Listed.{has, placeIf, entryFrom, entryOf, listed, listedFor, marginsOf}
 use Rattle.cost_changes.proofs.First.{place-first, none-derives}
@@ -54,11 +54,11 @@ module _ (g : Grammar) (es : List Edge) (used : ℕ → Bool) (w : ℕ) (outer :
     pub amount-is : d ≡ v + 1 - w
     pub can : d ≤ cost
 
-  pick-true : (b : Bool) (a : Option Entry) {z : Entry} → pick b a none ≡ some z → (b ≡ true) × (a ≡ some z)
+  pick-true : (b : Bool) (a : Option MarginEntry) {z : MarginEntry} → pick b a none ≡ some z → (b ≡ true) × (a ≡ some z)
   pick-true true a e = (refl, e)
   pick-true false a e = absurd (none≢some e)
 
-  pick-false : (b : Bool) (a : Option Entry) {z : Entry} → pick b none a ≡ some z → (b ≡ false) × (a ≡ some z)
+  pick-false : (b : Bool) (a : Option MarginEntry) {z : MarginEntry} → pick b none a ≡ some z → (b ≡ false) × (a ≡ some z)
   pick-false true a e = absurd (none≢some e)
   pick-false false a e = (refl, e)
 
@@ -101,13 +101,13 @@ module _ (g : Grammar) (es : List Edge) (used : ℕ → Bool) (w : ℕ) (outer :
       rw (m .at, lt-ltb (m .cost) notHeard (m .heard), m .unused, m .through-is, le-leb (v + 1 - w) (m .cost) l, m .amount-is)
 
   -- what is listed is the entry of an edge, and each entry is listed
-  listed-out : (m : ℕ) (z : Entry) → z ∈ listed g es used w outer m
+  listed-out : (m : ℕ) (z : MarginEntry) → z ∈ listed g es used w outer m
       → (e : ℕ) × (e < m) × (entryOf g es used w outer e (getElem? es e) ≡ some z)
   unfolding listed placeIf
   listed-out zero z i = absurd (List·Memᴰ·not-nil i)
   listed-out (suc m) z i = go (entryOf g es used w outer m (getElem? es m)) refl (λ j. listed-out m z j) i
     where
-      go : (o : Option Entry) → entryOf g es used w outer m (getElem? es m) ≡ o
+      go : (o : Option MarginEntry) → entryOf g es used w outer m (getElem? es m) ≡ o
           → (z ∈ listed g es used w outer m → (e : ℕ) × (e < m) × (entryOf g es used w outer e (getElem? es e) ≡ some z))
           → z ∈ placeIf o (listed g es used w outer m)
           → (e : ℕ) × (e < suc m) × (entryOf g es used w outer e (getElem? es e) ≡ some z)
@@ -116,12 +116,12 @@ module _ (g : Grammar) (es : List Edge) (used : ℕ → Bool) (w : ℕ) (outer :
           ⊎-elim (λ r. (m, omega arith, p ∙ ap some (sym r))) (λ j. let (e, h, q) = before j in (e, omega arith, q))
           (place-mem a (listed g es used w outer m) z .0 i)
 
-  listed-in : (m e : ℕ) (z : Entry) → e < m → entryOf g es used w outer e (getElem? es e) ≡ some z → z ∈ listed g es used w outer m
+  listed-in : (m e : ℕ) (z : MarginEntry) → e < m → entryOf g es used w outer e (getElem? es e) ≡ some z → z ∈ listed g es used w outer m
   unfolding listed placeIf
   listed-in zero e z h p = absurd (omega arith)
   listed-in (suc m) e z h p = go (ℕ-discrete e m) (entryOf g es used w outer m (getElem? es m)) refl (λ l. listed-in m e z l p)
     where
-      go : Dec (e ≡ m) → (o : Option Entry) → entryOf g es used w outer m (getElem? es m) ≡ o
+      go : Dec (e ≡ m) → (o : Option MarginEntry) → entryOf g es used w outer m (getElem? es m) ≡ o
           → (e < m → z ∈ listed g es used w outer m) → z ∈ placeIf o (listed g es used w outer m)
       go (yes r) o q before =
           let s : o ≡ some z = sym q ∙ (rw r at p) in
@@ -135,7 +135,7 @@ module _ (g : Grammar) (es : List Edge) (used : ℕ → Bool) (w : ℕ) (outer :
   listed-length zero = omega arith
   listed-length (suc m) = go (entryOf g es used w outer m (getElem? es m)) (listed-length m)
     where
-      go : (o : Option Entry) → length (listed g es used w outer m) ≤ m → length (placeIf o (listed g es used w outer m)) ≤ suc m
+      go : (o : Option MarginEntry) → length (listed g es used w outer m) ≤ m → length (placeIf o (listed g es used w outer m)) ≤ suc m
       go none h = omega arith
       go (some a) h = omega (arith, place-length a (listed g es used w outer m))
 
@@ -147,7 +147,7 @@ listed-ascends g u asc used w outer zero = tt
 listed-ascends g u asc used w outer (suc m) =
     go (entryOf g (edges u) used w outer m (getElem? (edges u) m)) refl (listed-ascends g u asc used w outer m)
   where
-    behind : (a b : Entry) → entryOf g (edges u) used w outer m (getElem? (edges u) m) ≡ some a → b ∈ listed g (edges u) used w outer m
+    behind : (a b : MarginEntry) → entryOf g (edges u) used w outer m (getElem? (edges u) m) ≡ some a → b ∈ listed g (edges u) used w outer m
         → placeOrder b a ≡ Ordering·lt
     behind (entry d s x v) (entry d′ s′ x′ v′) p i =
         let (e, h, q) = listed-out g (edges u) used w outer m (entry d′ s′ x′ v′) i in
@@ -155,7 +155,7 @@ listed-ascends g u asc used w outer (suc m) =
         let k = entry-out g (edges u) used w outer m d s x v (getElem? (edges u) m) refl p in
         edges-before u asc e m h (f .at) (k .at)
 
-    go : (o : Option Entry) → entryOf g (edges u) used w outer m (getElem? (edges u) m) ≡ o → Ascends (listed g (edges u) used w outer m)
+    go : (o : Option MarginEntry) → entryOf g (edges u) used w outer m (getElem? (edges u) m) ≡ o → Ascends (listed g (edges u) used w outer m)
         → Ascends (placeIf o (listed g (edges u) used w outer m))
     go none p r = r
     go (some a) p r = place-ascends a (listed g (edges u) used w outer m) r (λ b i. behind a b p i)
@@ -276,10 +276,10 @@ module _ (words : ℕ) (g : Grammar) (u : Utterance) (valid : ValidUtterance wor
           ((λ y. unused t first (e, c, y, p)), refl, omega arith, refl))
 
 -- and no other list has
-pub margins-unique : (g : Grammar) (u : Utterance) (l m : List Entry) → Margins g u l → Margins g u m → l ≡ m
+pub margins-unique : (g : Grammar) (u : Utterance) (l m : List MarginEntry) → Margins g u l → Margins g u m → l ≡ m
 margins-unique g u l m p q = ascends-unique l m (p .ascends) (q .ascends) same
   where
-    same : (z : Entry) → z ∈ l ↔ z ∈ m
+    same : (z : MarginEntry) → z ∈ l ↔ z ∈ m
     same (entry d s x v) = (
       (λ i. q .those d s x v .1 (p .those d s x v .0 i)),
       (λ i. p .those d s x v .1 (q .those d s x v .0 i)),

@@ -14,7 +14,20 @@ use Rattle.derivation.specs.Derivation.{Tree, Derives, Derivation, weight}
 use Rattle.derivation.proofs.Slots.{edges-short}
 use Rattle.derivation.proofs.Paths.{Forward}
 use Rattle.cost_changes.specs.Costs.{First, FirstWeight}
-use Rattle.cost_changes.specs.Ranges.{rises, LeastFirst, GreatestFirst, Outweighed, Answer, nothing, outweighed, stands, Answers, OwnHigh, HasLeast, Decided}
+use Rattle.cost_changes.specs.Ranges.{
+  rises,
+  LeastFirst,
+  GreatestFirst,
+  Outweighed,
+  Answer,
+  nothing,
+  outweighed,
+  stands,
+  Answers,
+  OwnHigh,
+  HasLeast,
+  Decided,
+}
 use Rattle.cost_changes.specs.Passes.{firstOf, weightOf, answerOf, answer}
 use Rattle.cost_changes.proofs.Alike.{alike-turn, alike-derives}
 use Rattle.cost_changes.proofs.Weights.{weight-mono, weight-same}

@@ -66,28 +66,28 @@ module _ (g : Grammar) (u : Utterance) (s : ℕ) (x : W.Word) where
     pub present-is : weight g (edges u) lighter ≡ present
 
 -- "An entry is four 32-bit numbers: amount, slot, word, weight."
-pub data Entry : Type 0 where
-  entry : (amount slot word weight : ℕ) → Entry
+pub data MarginEntry : Type 0 where
+  entry : (amount slot word weight : ℕ) → MarginEntry
 
-unfoldable pub entryNumbers : Entry → List ℕ
+unfoldable pub entryNumbers : MarginEntry → List ℕ
 entryNumbers (entry d s x v) = d ∷ s ∷ x ∷ v ∷ []
 
-unfoldable pub listNumbers : List Entry → List ℕ
+unfoldable pub listNumbers : List MarginEntry → List ℕ
 unfolding entryNumbers
 listNumbers [] = []
 listNumbers (a ∷ l) = entryNumbers a ++ listNumbers l
 
 -- "List by amount, then slot, then word"
-unfoldable pub entryOrder : Entry → Entry → Ordering
+unfoldable pub entryOrder : MarginEntry → MarginEntry → Ordering
 unfolding _▸_
 entryOrder (entry a s x w) (entry b t y v) = compare a b ▸ compare s t ▸ compare x y
 
-abbrev pub Ascends : List Entry → Type 0
+abbrev pub Ascends : List MarginEntry → Type 0
 Ascends [] = Unit {0}
-Ascends (a ∷ l) = ((b : Entry) → b ∈ l → entryOrder a b ≡ Ordering·lt) × Ascends l
+Ascends (a ∷ l) = ((b : MarginEntry) → b ∈ l → entryOrder a b ≡ Ordering·lt) × Ascends l
 
 -- l is the list: each entry that there is, in this order, and no other. "Leave out a word whose cost cannot fall so far, or that no reading
 -- uses", for there is no entry; "An utterance without readings gives an empty list", for there is none at all
-pub record Margins (g : Grammar) (u : Utterance) (l : List Entry) : Type 0 where
+pub record Margins (g : Grammar) (u : Utterance) (l : List MarginEntry) : Type 0 where
   pub ascends : Ascends l
   pub those : (d s x v : ℕ) → entry d s x v ∈ l ↔ Margin g u s (word x) d v

@@ -1,4 +1,5 @@
--- Rules that are alike stand at one place of a filter, since the place is made from head and items alone. The turns of the loop over the items. Assumes nothing.
+-- Rules that are alike stand at one place of a filter, since the place is made from head and items alone. The turns of the loop over the items. Assumes
+-- nothing.
 use mathlib.Core.Path.{_≡_, refl, sym, ap, _∙_}
 use mathlib.Core.Bool.{Bool, true, false, _&&_, false≢true}
 use mathlib.Core.List.{List, [], _∷_}

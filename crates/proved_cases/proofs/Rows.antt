@@ -39,7 +39,7 @@ use Rattle.next_phrase.specs.NextPhrase as NextPhrase
 use Rattle.cost_changes.specs.Ranges as Ranges
 use Rattle.cost_changes.specs.Ranges.{rises, Answers}
 use Rattle.cost_changes.specs.Passes.{answer}
-use Rattle.cost_changes.specs.Margins.{Entry, Margins}
+use Rattle.cost_changes.specs.Margins.{MarginEntry, Margins}
 use Rattle.cost_changes.specs.Listed.{marginsOf}
 use Rattle.cost_changes.proofs.Theorems.{answer-sound}
 use Rattle.cost_changes.proofs.Listed.{margins-are}
@@ -168,7 +168,7 @@ ranges-row {g} {low} {high} {work} {a} runs risen is =
 pub ranges-refused : {g : Grammar} {low high : Utterance} {work n : ℕ} → rangesOf g low high work ≡ refused n → Row (ranges g low high work (refused n))
 ranges-refused {g} {low} {high} {work} {n} runs = row (ranges g low high work (refused n)) (runs, tt)
 
-pub margins-row : {g : Grammar} {u : Utterance} {work out : ℕ} {l : List Entry} → marginsFor g u work out ≡ accepted l
+pub margins-row : {g : Grammar} {u : Utterance} {work out : ℕ} {l : List MarginEntry} → marginsFor g u work out ≡ accepted l
     → utteranceBlock (g .words) (blockOfUtterance (g .words) u) ≡ accepted u → marginsOf g u ≡ l → Row (margins g u work out (accepted l))
 margins-row {g} {u} {work} {out} {l} runs read is =
     let valid = utterance-block-out (g .words) (blockOfUtterance (g .words) u) u read .0 in

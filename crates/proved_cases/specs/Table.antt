@@ -34,7 +34,7 @@ use Rattle.specimen.specs.Specimen.{outputOf}
 use Rattle.next_phrase.specs.NextPhrase as NextPhrase
 use Rattle.cost_changes.specs.Ranges as Ranges
 use Rattle.cost_changes.specs.Ranges.{Answers, outweighed, stands}
-use Rattle.cost_changes.specs.Margins.{Entry, entry, Margins}
+use Rattle.cost_changes.specs.Margins.{MarginEntry, entry, Margins}
 use Rattle.word_margins.specs.WordMargins as WordMargins
 use Rattle.cost_ranges.specs.CostRanges as CostRanges
 use Rattle.office.specs.Office.{Office}
@@ -58,7 +58,7 @@ pub data Case : Type 0 where
   next : (g : Grammar) (n call : ℕ) (out : List ℕ) (found : Option (List ℕ)) (after : List ℕ) → Case
   panel : (g : Grammar) (h : Heard) (wanted work out : ℕ) (answer : Listed) → Case
   ranges : (g : Grammar) (low high : Utterance) (work : ℕ) (answer : Verdict Ranges.Answer) → Case
-  margins : (g : Grammar) (u : Utterance) (work out : ℕ) (answer : Verdict (List Entry)) → Case
+  margins : (g : Grammar) (u : Utterance) (work out : ℕ) (answer : Verdict (List MarginEntry)) → Case
   office : (sheet block : List ℕ) → Case
 
 abbrev pub listedFor : Grammar → Heard → ℕ → Verdict (List (List ℕ))
@@ -70,7 +70,7 @@ checkedFor g h block = check (blockOfGrammar g) (blockOfHeard (g .words) h) bloc
 abbrev pub rangesOf : Grammar → (low high : Utterance) (work : ℕ) → Verdict Ranges.Answer
 rangesOf g low high work = CostRanges.ranges (blockOfGrammar g) (blockOfUtterance (g .words) low) (blockOfUtterance (g .words) high) work
 
-abbrev pub marginsFor : Grammar → Utterance → (work out : ℕ) → Verdict (List Entry)
+abbrev pub marginsFor : Grammar → Utterance → (work out : ℕ) → Verdict (List MarginEntry)
 marginsFor g u work out = WordMargins.margins (blockOfGrammar g) (blockOfUtterance (g .words) u) work out
 
 -- these are the readings of the derivations by rank, as many as are wanted or as there are

@@ -74,7 +74,8 @@ pub fn read_number(block: &[u8], at: usize, rules: usize) -> Read
 // The fields of a reading block of n slots, with the rule numbers at the front of `walk`.
 pub fn read_reading(block: &[u8], n: usize, rules: usize, walk: &mut [u32]) -> ReadingRead
     requires { do ⌜ (1 ≤ n) × (n ≤ (← ⟦MAX_SLOTS⟧)) × (1 ≤ rules) × (rules ≤ (← ⟦MAX_RULES⟧)) × (2 * n - 1 ≤ length (now walk)) ⌝ }
-    ensures { λ r. ⌜ (r ≡ answerOf (readingFrom n rules (now (block .entry)))) × WalkIn (readingFrom n rules (now (block .entry))) (now (walk .exit)) × Near r ⌝ }
+    ensures { λ r. ⌜ (r ≡ answerOf (readingFrom n rules (now (block .entry))))
+        × WalkIn (readingFrom n rules (now (block .entry))) (now (walk .exit)) × Near r ⌝ }
 {
     let head = read_head(block, n);
     let Read::Number(weight, c) = head else {

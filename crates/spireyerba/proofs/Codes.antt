@@ -115,11 +115,13 @@ module _ {v : Verdict Float} (small : Small (λ x. 0) v) {r s : P.Outcome} (e : 
   shown-number p = told-number (λ x. 0) Chance.chanceOf shownCode v (shown-same v) small e told p
 
 -- and what is written
-pub written-float : (v : Verdict Float) {r : P.Outcome} {x : Float} (before : Float) → r ≡ Chance.chanceOf v → r ≡ P.the-variants.Product x → x ≡ chanceAfter v before
+pub written-float : (v : Verdict Float) {r : P.Outcome} {x : Float} (before : Float) → r ≡ Chance.chanceOf v → r ≡ P.the-variants.Product x → x
+    ≡ chanceAfter v before
 written-float (accepted y) before e told = cc
 written-float (refused n) before e told = let z : _≡_ {A = ℕ} 0 1 = cc in absurd (omega arith)
 
-pub kept-float : (v : Verdict Float) {r : P.Outcome} {n : ℕ} (before : Float) → r ≡ Chance.chanceOf v → r ≡ P.the-variants.Refused n → before ≡ chanceAfter v before
+pub kept-float : (v : Verdict Float) {r : P.Outcome} {n : ℕ} (before : Float) → r ≡ Chance.chanceOf v → r ≡ P.the-variants.Refused n → before
+    ≡ chanceAfter v before
 kept-float (accepted y) before e told = let z : _≡_ {A = ℕ} 0 1 = cc in absurd (omega arith)
 kept-float (refused m) before e told = refl
 

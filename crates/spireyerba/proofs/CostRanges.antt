@@ -139,8 +139,22 @@ module _ (grammar low high work : List ℕ) where
                   record {
                     demand-1 = asked-first rangesNumber (askedRanges grammar low high (length work)) (λ b. answer (b .0) (b .1) (b .2))
                         (ranges-asked grammar low high (length work)) (ranges-row grammar low high (length work)) ec
-                        (λ b p q. (answer (b .0) (b .1) (b .2), answers-asked grammar low high work (length work) p, refl, l ∙ ap (λ (v : Verdict Answer). leastAfter v least) q, h ∙ ap (λ (v : Verdict Answer). greatestAfter v greatest) q, ew ∙ ap (λ (v : Verdict Answer). workAfter v work) q))
-                        (λ n p. (ew ∙ ap (λ (v : Verdict Answer). workAfter v work) p, l ∙ ap (λ (v : Verdict Answer). leastAfter v least) p, h ∙ ap (λ (v : Verdict Answer). greatestAfter v greatest) p));
+                        (λ b p q. (
+                          answer (b .0) (b .1) (b .2),
+                          answers-asked grammar low high work (length work) p,
+                          refl,
+                          l
+                              ∙ ap (λ (v : Verdict Answer). leastAfter v least) q,
+                          h ∙ ap (λ (v : Verdict Answer). greatestAfter v greatest) q,
+                          ew
+                              ∙ ap (λ (v : Verdict Answer). workAfter v work) q,
+                        ))
+                        (λ n p. (
+                          ew ∙ ap (λ (v : Verdict Answer). workAfter v work) p,
+                          l ∙ ap (λ (v : Verdict Answer). leastAfter v least) p,
+                          h
+                              ∙ ap (λ (v : Verdict Answer). greatestAfter v greatest) p,
+                        ));
                   },
                 ),
               ),

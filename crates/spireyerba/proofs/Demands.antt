@@ -19,7 +19,17 @@ use Rattle.packing.specs.Grammar.{markedBlock, grammarBlock, blockOfMarked}
 use Rattle.packing.specs.Rows.{Between, _∪_, GrammarBlockRow, HeardBlockRow, ListingRow, PanelRow}
 use Rattle.packing.proofs.Parse.{refused≢accepted, accepted-is, accepted-else}
 use Rattle.packing.proofs.Parse as P
-use Rattle.packing.proofs.Refusals.{Refuses, granted, denied, refusal-number, Low, grammar-to-block-row, grammar-to-sheet-row, utterance-to-block-row, utterance-to-sheet-row}
+use Rattle.packing.proofs.Refusals.{
+  Refuses,
+  granted,
+  denied,
+  refusal-number,
+  Low,
+  grammar-to-block-row,
+  grammar-to-sheet-row,
+  utterance-to-block-row,
+  utterance-to-sheet-row,
+}
 use Rattle.sheet_writer.specs.Answer.{writtenOf}
 use Rattle.packing.specs.declared.Written as W
 use Rattle.office.specs.Office.{Office}
@@ -57,7 +67,14 @@ use Rattle.listing.proofs.Within.{asked-alike}
 use Rattle.spireyerba.specs.Code.{codeOf, chanceAfter}
 use Rattle.spireyerba.specs.Demands as D
 use Rattle.spireyerba.specs.Demands.{Demand1, answers, refuses, Converts, Result, RoundTrip, Demand2, EqualWithinPanel, PanelRoom}
-use Rattle.spireyerba.proofs.Small.{low-grammar-to-block, low-grammar-to-sheet, low-office-to-block, low-utterance-to-block, low-utterance-to-sheet, low-check}
+use Rattle.spireyerba.proofs.Small.{
+  low-grammar-to-block,
+  low-grammar-to-sheet,
+  low-office-to-block,
+  low-utterance-to-block,
+  low-utterance-to-sheet,
+  low-check,
+}
 
 -- the code of an answer is not a refusal's, and the other way round
 pub low-code : (m n : ℕ) → 1 ≤ m → negℤ (pos m) ≡ pos n → ⊥
@@ -100,7 +117,8 @@ module _ {A B : Type 0} (size : B → ℕ) {code : ℤ} (v : Verdict A) (f : A �
       go (refused n) p q = rw (e ∙ ap (codeOf size) q) (refuses {n = n} refl (refusal-number rows q) (unchanged n q))
 
 -- the conversions
-converts : (turn : List ℕ → Verdict (List ℕ)) {back : List ℕ → Verdict (List ℕ)} {Row : ℕ → Type 0} (given out : List ℕ) {out′ : List ℕ} {code : ℤ} {r : W.Written}
+converts : (turn : List ℕ → Verdict (List ℕ)) {back : List ℕ → Verdict (List ℕ)} {Row : ℕ → Type 0} (given out : List ℕ) {out′ : List ℕ} {code : ℤ}
+    {r : W.Written}
     → Refuses Row (fitting (turn given) out) → Refuses Low (fitting (turn given) out)
     → code ≡ codeOf length (fitting (turn given) out) → out′ ≡ written (fitting (turn given) out) out
     → r ≡ writtenOf (fitting (turn given) out) → TurnsBack back given (λ n. r ≡ W.the-variants.Length n) out′
@@ -126,8 +144,12 @@ unfolding officeToBlock grammarBlock
 office-result sheet e =
     P.granted (officeGrammar sheet) _ e λ o p q.
     let l = limited sheet p in
-    let marked : markedBlock (blockOfMarked (convertMarked o)) ≡ accepted (convertMarked o) = result-accepted o (l .valid) (l .symbols) (l .rules) in
-    (o, l .read, rw (← accepted-is q) (record { marked = marked; grammar = rw marked (ap accepted (marked-grammar o)); matching = derivations-match o (l .valid) }))
+    let marked : markedBlock (blockOfMarked (convertMarked o)) ≡ accepted (convertMarked o) = result-accepted o (l .valid) (l .symbols) (l .rules) in (
+      o,
+      l .read,
+      rw (← accepted-is q) (record
+          { marked = marked; grammar = rw marked (ap accepted (marked-grammar o)); matching = derivations-match o (l .valid) }),
+    )
 
 pub office-to-block : (sheet out : List ℕ) {out′ : List ℕ} {code : ℤ} → code ≡ codeOf length (fitting (officeToBlock sheet) out)
     → out′ ≡ written (fitting (officeToBlock sheet) out) out → D.OfficeToBlock sheet out code out′
@@ -218,8 +240,11 @@ pub one-list : {g : Grammar} {h : Heard} {N m m′ : ℕ} {work out after writte
     → RankedList g h N work out (λ n. n ≡ m) after written → RankedList g h N work out (λ n. n ≡ m′) after′ written′
     → (m′ ≡ m) × (after′ ≡ after) × (written′ ≡ written)
 one-list {g} {h} {after = after} {written} {after′} {written′} there here =
-    let same : here .m ≡ there .m = sym (found here) ∙ found there in
-    (sym (here .accepts) ∙ same ∙ there .accepts, here .zeros ∙ sym (there .zeros), same-output (outputLength g h) (there .m) written′ written (each same) (rest same))
+    let same : here .m ≡ there .m = sym (found here) ∙ found there in (
+      sym (here .accepts) ∙ same ∙ there .accepts,
+      here .zeros ∙ sym (there .zeros),
+      same-output (outputLength g h) (there .m) written′ written (each same) (rest same),
+    )
   where
     each : here .m ≡ there .m → (k : ℕ) → 1 ≤ k → k ≤ there .m → kthBytes (outputLength g h) k written′ ≡ kthBytes (outputLength g h) k written
     each same k l n =
@@ -268,9 +293,12 @@ no-room (refuses {n = k} p r u) rows n l never e = never (refusal-number rows (p
 pub panel-room : PanelRoom
 unfolding tableSize
 panel-room grammar heard N work out code work′ out′ call numbers bytes =
-    let rows = asked-row (askedListing panel grammar heard N (length work) (length out)) (readingsOf N) (list-asked panel grammar heard N (length work) (length out))
-    (enough-row grammar heard N (length work) (length out) panel numbers bytes) in
-    (no-room (call .demand-1) rows 22 (omega arith) (short 22 (omega arith) (omega arith)), no-room (call .demand-1) rows 23 (omega arith) (short 23 (omega arith) (omega arith)))
+    let rows = asked-row (askedListing panel grammar heard N (length work) (length out)) (readingsOf N)
+    (list-asked panel grammar heard N (length work) (length out))
+    (enough-row grammar heard N (length work) (length out) panel numbers bytes) in (
+      no-room (call .demand-1) rows 22 (omega arith) (short 22 (omega arith) (omega arith)),
+      no-room (call .demand-1) rows 23 (omega arith) (short 23 (omega arith) (omega arith)),
+    )
   where
     short : (n : ℕ) → 22 ≤ n → n ≤ 23 → (GrammarBlockRow ∪ HeardBlockRow ∪ (Between 21 21 ∪ Between 57 58)) n → ⊥
     short n l m =

@@ -17,7 +17,7 @@ use Rattle.checker.specs.Check.{check}
 use Rattle.checker.proofs.Theorems.{accepts, judged-once}
 use Rattle.chance.specs.Chance.{sharesOf, one, productOf, askedChance, Shown}
 use Rattle.cost_changes.specs.Ranges.{Answer}
-use Rattle.cost_changes.specs.Margins.{Entry, listNumbers}
+use Rattle.cost_changes.specs.Margins.{MarginEntry, listNumbers}
 use Rattle.cost_changes.proofs.Theorems.{answer-unique}
 use Rattle.cost_changes.proofs.Listed.{margins-unique}
 use Rattle.phrases.specs.Phrases.{Phrase}
@@ -67,8 +67,10 @@ module _ (grammar heard reading : List ℕ) (bytes : Bytes reading) where
 
   shown-once : {shares : List ℕ} {x y : Float} → Shown grammar heard reading shares x → Shown grammar heard reading shares y → y ≡ x
   shown-once {shares} a b =
-      let there : check grammar heard reading ≡ accepted (a .t) = accepts grammar heard reading bytes (a .g) (a .h) (a .grammar-accepted) (a .heard-accepted) (a .t) .1 (a .derivation, a .packing) in
-      let here : check grammar heard reading ≡ accepted (b .t) = accepts grammar heard reading bytes (b .g) (b .h) (b .grammar-accepted) (b .heard-accepted) (b .t) .1 (b .derivation, b .packing) in
+      let there : check grammar heard reading ≡ accepted (a .t) =
+      accepts grammar heard reading bytes (a .g) (a .h) (a .grammar-accepted) (a .heard-accepted) (a .t) .1 (a .derivation, a .packing) in
+      let here : check grammar heard reading ≡ accepted (b .t) =
+      accepts grammar heard reading bytes (b .g) (b .h) (b .grammar-accepted) (b .heard-accepted) (b .t) .1 (b .derivation, b .packing) in
       b .product ∙ ap (λ (t : Tree). productOf one (sharesOf shares (walk t))) (accepted-is (sym here ∙ there)) ∙ sym (a .product)
 
   pub chance-once : {shares : List ℕ} {float after after′ : Float} {code code′ : ℤ} → D.Chance grammar heard reading shares float code after
@@ -101,7 +103,7 @@ module _ {grammar utterance work out after written after′ written′ : List �
       once {Same = SameSlices after after′ written written′} refl (a .demand-1) (b .demand-1) (λ g m n p (x, margins, nx, wx, zx) (y, margins′, ny, wy, zy).
       let same : y ≡ x = margins-unique (g .0) (g .1) y x margins′ margins in (
         ny ∙ ap length same ∙ sym nx,
-        (zy ∙ sym zx, wy ∙ ap (λ (k : List Entry). listNumbers k ++ drop (length (listNumbers k)) out) same ∙ sym wx),
+        (zy ∙ sym zx, wy ∙ ap (λ (k : List MarginEntry). listNumbers k ++ drop (length (listNumbers k)) out) same ∙ sym wx),
       ))
       (λ u u′. (u′ .0 ∙ sym (u .0), u′ .1 ∙ sym (u .1)))
 

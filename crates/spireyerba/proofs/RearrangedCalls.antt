@@ -51,7 +51,8 @@ module _ (grammar heard : List ℕ) {g : Grammar} {h : Heard} (p : grammarBlock 
   answered-enough {work} {out} {after} {written} {m} call = go (call .demand-1) refl
     where
       go : {Answer : Grammar × Heard → ℕ → Type 0} {Unchanged : Type 0} {z : ℤ}
-          → Demand1 (askedListing library grammar heard N (length work) (length out)) Answer (GrammarBlockRow ∪ HeardBlockRow ∪ ListingRow) Unchanged z → z ≡ pos m
+          → Demand1 (askedListing library grammar heard N (length work) (length out)) Answer (GrammarBlockRow ∪ HeardBlockRow ∪ ListingRow) Unchanged z → z
+          ≡ pos m
           → Asks g h N (length work) (length out)
       go (answers due a) e = accepted-enough (length work) (length out) due
       go (refuses {n} due row u) e = absurd (low-code n m (low-listing n row .0) e)

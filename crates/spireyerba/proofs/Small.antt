@@ -19,7 +19,18 @@ use Rattle.packing.specs.Valid.{ValidMarked, ValidUtterance}
 use Rattle.packing.proofs.Bounds.{length-slots}
 use Rattle.packing.proofs.Widths.{grammar-length, utterance-length, valid-words}
 use Rattle.packing.proofs.Whole.{grammar-block-out, marked-block-out, marked-sheet-out, sheet-length, utterance-block-out, utterance-sheet-out}
-use Rattle.packing.proofs.Refusals.{Refuses, granted, denied, Low, wider, low-both, grammar-to-block-row, grammar-to-sheet-row, utterance-to-block-row, utterance-to-sheet-row}
+use Rattle.packing.proofs.Refusals.{
+  Refuses,
+  granted,
+  denied,
+  Low,
+  wider,
+  low-both,
+  grammar-to-block-row,
+  grammar-to-sheet-row,
+  utterance-to-block-row,
+  utterance-to-sheet-row,
+}
 use Rattle.office.specs.Conversion.{convertMarked}
 use Rattle.office_conversion.specs.Limits.{officeGrammar}
 use Rattle.office_conversion.proofs.Limits.{limited}
@@ -210,7 +221,8 @@ unfolding Again.margins Again.listed marginsConditions
 margins-small grammar utterance work out =
     small
     (then-short (grammarBlock grammar) _ (λ g e. then-short (utteranceBlock (g .words) utterance) _ (λ u f.
-    go (ltb work (tableSize (g .symbols) (length u) 1)) (ltb out (4 * length (edges u))) (g, u) (few-margins (g .words) g u (utterance-block-out (g .words) utterance u f .0)))))
+    go (ltb work (tableSize (g .symbols) (length u) 1)) (ltb out (4 * length (edges u))) (g, u)
+    (few-margins (g .words) g u (utterance-block-out (g .words) utterance u f .0)))))
     (wider (low-three (λ n r. omega (arith, r)) (low-both (λ n r. omega (arith, r)) (λ n r. omega (arith, r)))) (margins-row grammar utterance work out))
   where
     go : (b c : Bool) (x : Grammar × Utterance) → length (marginsOf (x .0) (x .1)) ≤ 168

@@ -5,7 +5,7 @@ use lib.IntN.{ℤ}
 use lib.ListN.{length}
 use Prim.Native.Nat.{ℕ}
 use Rattle.packing.specs.Parse.{Verdict}
-use Rattle.cost_changes.specs.Margins.{Entry}
+use Rattle.cost_changes.specs.Margins.{MarginEntry}
 use Rattle.cost_changes.specs.Listed.{marginsOf}
 use Rattle.chart.specs.WorkTable.{workAfter}
 use Rattle.word_margins.specs.Conditions.{askedMargins}
@@ -17,7 +17,7 @@ use Rattle.spireyerba.specs.Demands as D
 use Rattle.spireyerba.proofs.Demands.{asked-first}
 
 module _ (grammar utterance work out : List ℕ) where
-  abbrev due : Verdict (List Entry)
+  abbrev due : Verdict (List MarginEntry)
   due = margins grammar utterance (length work) (length out)
 
   pub margins-told : {code : ℤ} {work′ out′ : List ℕ} → code ≡ marginsCode due → work′ ≡ workAfter due work → out′ ≡ outputAfter due out
@@ -25,6 +25,13 @@ module _ (grammar utterance work out : List ℕ) where
   margins-told ec ew eo = record {
     demand-1 = asked-first length (askedMargins grammar utterance (length work) (length out)) (λ b. marginsOf (b .0) (b .1))
         (margins-asked grammar utterance (length work) (length out)) (margins-row grammar utterance (length work) (length out)) ec
-        (λ b p q. (marginsOf (b .0) (b .1), margins-listed grammar utterance work out (length work) (length out) p, refl, eo ∙ ap (λ (v : Verdict (List Entry)). outputAfter v out) q, ew ∙ ap (λ (v : Verdict (List Entry)). workAfter v work) q))
-        (λ n p. (ew ∙ ap (λ (v : Verdict (List Entry)). workAfter v work) p, eo ∙ ap (λ (v : Verdict (List Entry)). outputAfter v out) p));
+        (λ b p q. (
+          marginsOf (b .0) (b .1),
+          margins-listed grammar utterance work out (length work) (length out) p,
+          refl,
+          eo
+              ∙ ap (λ (v : Verdict (List MarginEntry)). outputAfter v out) q,
+          ew ∙ ap (λ (v : Verdict (List MarginEntry)). workAfter v work) q,
+        ))
+        (λ n p. (ew ∙ ap (λ (v : Verdict (List MarginEntry)). workAfter v work) p, eo ∙ ap (λ (v : Verdict (List MarginEntry)). outputAfter v out) p));
   }

@@ -10,7 +10,7 @@ use lib.ListN.{length}
 use Rattle.packing.specs.Parse.{Verdict, accepted, refused}
 use Rattle.derivation.specs.Derivation.{Tree}
 use Rattle.cost_changes.specs.Ranges.{Answer}
-use Rattle.cost_changes.specs.Margins.{Entry}
+use Rattle.cost_changes.specs.Margins.{MarginEntry}
 use Rattle.open_listing.specs.Open.{Blocks, tableOpened, placeAfter, Left}
 use Rattle.open_listing.specs.declared.Place.{Place}
 use Rattle.spireyerba.specs.Demands.{rangesNumber, leastOf, greatestOf}
@@ -42,7 +42,7 @@ abbrev pub listCode : Verdict (List (List ℕ)) → ℤ
 listCode v = codeOf length v
 
 -- the words to listen to again: the number of entries
-abbrev pub marginsCode : Verdict (List Entry) → ℤ
+abbrev pub marginsCode : Verdict (List MarginEntry) → ℤ
 marginsCode v = codeOf length v
 
 -- the specimen and the next phrase: the length of the string that was written, 0 for none

@@ -15,7 +15,23 @@ use Rattle.packing.specs.Meaning.{Grammar, Heard}
 use Rattle.packing.specs.Parse.{Verdict, accepted, refused}
 use Rattle.packing.specs.Grammar.{markedBlock, grammarBlock}
 use Rattle.packing.specs.Conversion.{grammarToBlock, grammarToSheet, utteranceToBlock, utteranceToSheet, fitting, TurnsBack}
-use Rattle.packing.specs.Rows.{_∪_, GrammarBlockRow, UtteranceBlockRow, HeardBlockRow, ListingRow, PanelRow, SpecimenRow, ReadingBlockRow, SharesRow, RangesRow, GrammarSheetRow, UtteranceSheetRow, OfficeSheetRow, OfficeSizeRow, OutputRow}
+use Rattle.packing.specs.Rows.{
+  _∪_,
+  GrammarBlockRow,
+  UtteranceBlockRow,
+  HeardBlockRow,
+  ListingRow,
+  PanelRow,
+  SpecimenRow,
+  ReadingBlockRow,
+  SharesRow,
+  RangesRow,
+  GrammarSheetRow,
+  UtteranceSheetRow,
+  OfficeSheetRow,
+  OfficeSizeRow,
+  OutputRow,
+}
 use Rattle.office.specs.Office.{Office}
 use Rattle.office.specs.Sheet.{officeSheet}
 use Rattle.office.specs.Conversion.{convert, convertMarked}
@@ -30,7 +46,7 @@ use Rattle.listing.specs.declared.Limits.{Limits}
 use Rattle.listing.specs.Demand3.{RankedList, Demand3}
 use Rattle.cost_changes.specs.Ranges as ranges
 use Rattle.cost_changes.specs.Ranges.{nothing, outweighed, stands, Answers}
-use Rattle.cost_changes.specs.Margins.{Entry, listNumbers, Margins}
+use Rattle.cost_changes.specs.Margins.{MarginEntry, listNumbers, Margins}
 use Rattle.cost_ranges.specs.Conditions.{askedRanges}
 use Rattle.word_margins.specs.Conditions.{MarginsRow, askedMargins}
 use Rattle.phrases.specs.Phrases.{Phrase, Precedes, Least}
@@ -158,7 +174,7 @@ pub record CostRanges (grammar low high work : List ℕ) (least greatest : ℕ) 
 -- afresh, and a fall smaller by one must bring none".
 pub record WordMargins (grammar utterance work out : List ℕ) (code : ℤ) (work′ out′ : List ℕ) : Type 0 where
   pub demand-1 : Demand1 (askedMargins grammar utterance (length work) (length out))
-      (λ b n. (l : List Entry) × Margins (b .0) (b .1) l × (n ≡ length l) × (out′ ≡ listNumbers l ++ drop (length (listNumbers l)) out)
+      (λ b n. (l : List MarginEntry) × Margins (b .0) (b .1) l × (n ≡ length l) × (out′ ≡ listNumbers l ++ drop (length (listNumbers l)) out)
       × (work′ ≡ replicate (length work) 0))
       (GrammarBlockRow ∪ UtteranceBlockRow ∪ MarginsRow) ((work′ ≡ work) × (out′ ≡ out)) code
 

@@ -27,7 +27,18 @@ ghost use Rattle.cost_ranges.specs.CostRanges.{ranges};
 ghost use Rattle.word_margins.specs.WordMargins as again;
 ghost use Rattle.specimen.specs.Specimen.{specimen, outputOf};
 ghost use Rattle.next_phrase.specs.NextPhrase.{next};
-ghost use Rattle.spireyerba.specs.Code.{checkCode, chanceCode, chanceAfter, listCode, marginsCode, lengthCode, stringCode, rangesCode, leastAfter, greatestAfter};
+ghost use Rattle.spireyerba.specs.Code.{
+  checkCode,
+  chanceCode,
+  chanceAfter,
+  listCode,
+  marginsCode,
+  lengthCode,
+  stringCode,
+  rangesCode,
+  leastAfter,
+  greatestAfter,
+};
 ghost use Rattle.spireyerba.specs.Code.{OpenedAs, CalledAs};
 ghost use Rattle.spireyerba.specs.Demands as demands;
 ghost use Rattle.open_listing.specs.Open.{opening, lent};
@@ -124,7 +135,8 @@ pub extern "C" fn spireyerba_utterance_to_block(
     out: &mut [u8],
 ) -> i32
     ensures { λ r. ⌜ r ≡ lengthCode (fitting (utteranceToBlock (now (grammar .entry)) (now (sheet .entry))) (now (out .entry))) ⌝ }
-    ensures { λ r. ⌜ now (out .exit) ≡ written (fitting (utteranceToBlock (now (grammar .entry)) (now (sheet .entry))) (now (out .entry))) (now (out .entry)) ⌝ }
+    ensures { λ r. ⌜ now (out .exit)
+        ≡ written (fitting (utteranceToBlock (now (grammar .entry)) (now (sheet .entry))) (now (out .entry))) (now (out .entry)) ⌝ }
     ensures { λ r. ⌜ demands.UtteranceToBlock (now (grammar .entry)) (now (sheet .entry)) (now (out .entry)) r (now (out .exit)) ⌝ }
 {
     written_code(utterance_conversion::utterance_to_block(grammar, sheet, out))
@@ -138,7 +150,8 @@ pub extern "C" fn spireyerba_utterance_to_sheet(
     out: &mut [u32],
 ) -> i32
     ensures { λ r. ⌜ r ≡ lengthCode (fitting (utteranceToSheet (now (grammar .entry)) (now (block .entry))) (now (out .entry))) ⌝ }
-    ensures { λ r. ⌜ now (out .exit) ≡ written (fitting (utteranceToSheet (now (grammar .entry)) (now (block .entry))) (now (out .entry))) (now (out .entry)) ⌝ }
+    ensures { λ r. ⌜ now (out .exit)
+        ≡ written (fitting (utteranceToSheet (now (grammar .entry)) (now (block .entry))) (now (out .entry))) (now (out .entry)) ⌝ }
     ensures { λ r. ⌜ demands.UtteranceToSheet (now (grammar .entry)) (now (block .entry)) (now (out .entry)) r (now (out .exit)) ⌝ }
 {
     written_code(utterance_conversion::utterance_to_sheet(grammar, block, out))
@@ -153,10 +166,14 @@ pub extern "C" fn spireyerba_listing(
     work: &mut [u32],
     out: &mut [u8],
 ) -> i32
-    ensures { λ r. ⌜ r ≡ listCode (list library (now (grammar .entry)) (now (utterance .entry)) wanted (length (now (work .entry))) (length (now (out .entry)))) ⌝ }
-    ensures { λ r. ⌜ now (work .exit) ≡ workAfter (list library (now (grammar .entry)) (now (utterance .entry)) wanted (length (now (work .entry))) (length (now (out .entry)))) (now (work .entry)) ⌝ }
-    ensures { λ r. ⌜ now (out .exit) ≡ outputAfter (list library (now (grammar .entry)) (now (utterance .entry)) wanted (length (now (work .entry))) (length (now (out .entry)))) (now (out .entry)) ⌝ }
-    ensures { λ r. ⌜ demands.Listing (now (grammar .entry)) (now (utterance .entry)) wanted (now (work .entry)) (now (out .entry)) r (now (work .exit)) (now (out .exit)) ⌝ }
+    ensures { λ r. ⌜ r ≡ listCode
+        (list library (now (grammar .entry)) (now (utterance .entry)) wanted (length (now (work .entry))) (length (now (out .entry)))) ⌝ }
+    ensures { λ r. ⌜ now (work .exit) ≡ workAfter
+        (list library (now (grammar .entry)) (now (utterance .entry)) wanted (length (now (work .entry))) (length (now (out .entry)))) (now (work .entry)) ⌝ }
+    ensures { λ r. ⌜ now (out .exit) ≡ outputAfter
+        (list library (now (grammar .entry)) (now (utterance .entry)) wanted (length (now (work .entry))) (length (now (out .entry)))) (now (out .entry)) ⌝ }
+    ensures { λ r. ⌜ demands.Listing (now (grammar .entry)) (now (utterance .entry)) wanted (now (work .entry)) (now (out .entry)) r (now (work .exit))
+        (now (out .exit)) ⌝ }
 {
     listed_code(listing::listing(grammar, utterance, wanted, work, out))
 }
@@ -170,10 +187,14 @@ pub extern "C" fn spireyerba_panel_listing(
     work: &mut [u32],
     out: &mut [u8],
 ) -> i32
-    ensures { λ r. ⌜ r ≡ listCode (list panel (now (grammar .entry)) (now (utterance .entry)) wanted (length (now (work .entry))) (length (now (out .entry)))) ⌝ }
-    ensures { λ r. ⌜ now (work .exit) ≡ workAfter (list panel (now (grammar .entry)) (now (utterance .entry)) wanted (length (now (work .entry))) (length (now (out .entry)))) (now (work .entry)) ⌝ }
-    ensures { λ r. ⌜ now (out .exit) ≡ outputAfter (list panel (now (grammar .entry)) (now (utterance .entry)) wanted (length (now (work .entry))) (length (now (out .entry)))) (now (out .entry)) ⌝ }
-    ensures { λ r. ⌜ demands.PanelListing (now (grammar .entry)) (now (utterance .entry)) wanted (now (work .entry)) (now (out .entry)) r (now (work .exit)) (now (out .exit)) ⌝ }
+    ensures { λ r. ⌜ r ≡ listCode
+        (list panel (now (grammar .entry)) (now (utterance .entry)) wanted (length (now (work .entry))) (length (now (out .entry)))) ⌝ }
+    ensures { λ r. ⌜ now (work .exit) ≡ workAfter
+        (list panel (now (grammar .entry)) (now (utterance .entry)) wanted (length (now (work .entry))) (length (now (out .entry)))) (now (work .entry)) ⌝ }
+    ensures { λ r. ⌜ now (out .exit) ≡ outputAfter
+        (list panel (now (grammar .entry)) (now (utterance .entry)) wanted (length (now (work .entry))) (length (now (out .entry)))) (now (out .entry)) ⌝ }
+    ensures { λ r. ⌜ demands.PanelListing (now (grammar .entry)) (now (utterance .entry)) wanted (now (work .entry)) (now (out .entry)) r (now (work .exit))
+        (now (out .exit)) ⌝ }
 {
     listed_code(listing_within(PANEL, grammar, utterance, wanted, work, out))
 }
@@ -201,8 +222,10 @@ pub extern "C" fn spireyerba_chance(
     chance: &mut f64,
 ) -> i32
     ensures { λ r. ⌜ r ≡ chanceCode (definition.chance (now (grammar .entry)) (now (utterance .entry)) (now (reading .entry)) (now (shares .entry))) ⌝ }
-    ensures { λ r. ⌜ now (chance .exit) ≡ chanceAfter (definition.chance (now (grammar .entry)) (now (utterance .entry)) (now (reading .entry)) (now (shares .entry))) (now (chance .entry)) ⌝ }
-    ensures { λ r. ⌜ demands.Chance (now (grammar .entry)) (now (utterance .entry)) (now (reading .entry)) (now (shares .entry)) (now (chance .entry)) r (now (chance .exit)) ⌝ }
+    ensures { λ r. ⌜ now (chance .exit) ≡ chanceAfter
+        (definition.chance (now (grammar .entry)) (now (utterance .entry)) (now (reading .entry)) (now (shares .entry))) (now (chance .entry)) ⌝ }
+    ensures { λ r. ⌜ demands.Chance (now (grammar .entry)) (now (utterance .entry)) (now (reading .entry)) (now (shares .entry)) (now (chance .entry)) r
+        (now (chance .exit)) ⌝ }
 {
     let answer = chance::chance(grammar, utterance, reading, shares);
     match answer {
@@ -262,10 +285,14 @@ pub extern "C" fn spireyerba_cost_ranges(
     greatest: &mut u32,
 ) -> i32
     ensures { λ r. ⌜ r ≡ rangesCode (ranges (now (grammar .entry)) (now (low .entry)) (now (high .entry)) (length (now (work .entry)))) ⌝ }
-    ensures { λ r. ⌜ now (work .exit) ≡ workAfter (ranges (now (grammar .entry)) (now (low .entry)) (now (high .entry)) (length (now (work .entry)))) (now (work .entry)) ⌝ }
-    ensures { λ r. ⌜ now (least .exit) ≡ leastAfter (ranges (now (grammar .entry)) (now (low .entry)) (now (high .entry)) (length (now (work .entry)))) (now (least .entry)) ⌝ }
-    ensures { λ r. ⌜ now (greatest .exit) ≡ greatestAfter (ranges (now (grammar .entry)) (now (low .entry)) (now (high .entry)) (length (now (work .entry)))) (now (greatest .entry)) ⌝ }
-    ensures { λ r. ⌜ demands.CostRanges (now (grammar .entry)) (now (low .entry)) (now (high .entry)) (now (work .entry)) (now (least .entry)) (now (greatest .entry)) r (now (work .exit)) (now (least .exit)) (now (greatest .exit)) ⌝ }
+    ensures { λ r. ⌜ now (work .exit) ≡ workAfter (ranges (now (grammar .entry)) (now (low .entry)) (now (high .entry)) (length (now (work .entry))))
+        (now (work .entry)) ⌝ }
+    ensures { λ r. ⌜ now (least .exit) ≡ leastAfter (ranges (now (grammar .entry)) (now (low .entry)) (now (high .entry)) (length (now (work .entry))))
+        (now (least .entry)) ⌝ }
+    ensures { λ r. ⌜ now (greatest .exit) ≡ greatestAfter (ranges (now (grammar .entry)) (now (low .entry)) (now (high .entry)) (length (now (work .entry))))
+        (now (greatest .entry)) ⌝ }
+    ensures { λ r. ⌜ demands.CostRanges (now (grammar .entry)) (now (low .entry)) (now (high .entry)) (now (work .entry)) (now (least .entry))
+        (now (greatest .entry)) r (now (work .exit)) (now (least .exit)) (now (greatest .exit)) ⌝ }
 {
     let answer = cost_ranges::cost_ranges(grammar, low, high, work);
     match answer {
@@ -292,10 +319,14 @@ pub extern "C" fn spireyerba_word_margins(
     work: &mut [u32],
     out: &mut [u32],
 ) -> i32
-    ensures { λ r. ⌜ r ≡ marginsCode (again.margins (now (grammar .entry)) (now (utterance .entry)) (length (now (work .entry))) (length (now (out .entry)))) ⌝ }
-    ensures { λ r. ⌜ now (work .exit) ≡ workAfter (again.margins (now (grammar .entry)) (now (utterance .entry)) (length (now (work .entry))) (length (now (out .entry)))) (now (work .entry)) ⌝ }
-    ensures { λ r. ⌜ now (out .exit) ≡ again.outputAfter (again.margins (now (grammar .entry)) (now (utterance .entry)) (length (now (work .entry))) (length (now (out .entry)))) (now (out .entry)) ⌝ }
-    ensures { λ r. ⌜ demands.WordMargins (now (grammar .entry)) (now (utterance .entry)) (now (work .entry)) (now (out .entry)) r (now (work .exit)) (now (out .exit)) ⌝ }
+    ensures { λ r. ⌜ r ≡ marginsCode
+        (again.margins (now (grammar .entry)) (now (utterance .entry)) (length (now (work .entry))) (length (now (out .entry)))) ⌝ }
+    ensures { λ r. ⌜ now (work .exit) ≡ workAfter
+        (again.margins (now (grammar .entry)) (now (utterance .entry)) (length (now (work .entry))) (length (now (out .entry)))) (now (work .entry)) ⌝ }
+    ensures { λ r. ⌜ now (out .exit) ≡ again.outputAfter
+        (again.margins (now (grammar .entry)) (now (utterance .entry)) (length (now (work .entry))) (length (now (out .entry)))) (now (out .entry)) ⌝ }
+    ensures { λ r. ⌜ demands.WordMargins (now (grammar .entry)) (now (utterance .entry)) (now (work .entry)) (now (out .entry)) r (now (work .exit))
+        (now (out .exit)) ⌝ }
 {
     listed_code(word_margins::word_margins(grammar, utterance, work, out))
 }

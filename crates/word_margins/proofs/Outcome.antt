@@ -93,7 +93,7 @@ module _ (rules array : List ℕ) (z : Inputs) (work out : List ℕ) where
         rw (le-ltb _ _ room′, le-ltb _ _ wide′) (
           ap Found (em ∙ ap length same),
           ew,
-          eo ∙ ap (λ (l : List M.Entry). storeAll out 0 (listNumbers l)) same ∙ front ∙ rw zero-add,
+          eo ∙ ap (λ (l : List M.MarginEntry). storeAll out 0 (listNumbers l)) same ∙ front ∙ rw zero-add,
         )
       where
         pass-length : (p : Pass) → length (passList rules array p (length work)) ≤ p .edges

@@ -16,7 +16,7 @@ use Rattle.packing.specs.Valid.{ValidUtterance}
 use Rattle.packing.proofs.Refusals.{Refuses, granted, denied, wider, then-row, choose-row, grammar-block-row, utterance-block-row}
 use Rattle.derivation.specs.Derivation.{Tree, weight}
 use Rattle.cost_changes.specs.Costs.{edgesOf}
-use Rattle.cost_changes.specs.Margins.{Entry}
+use Rattle.cost_changes.specs.Margins.{MarginEntry}
 use Rattle.cost_changes.specs.Passes.{firstOf}
 use Rattle.cost_changes.specs.Outside.{outside}
 use Rattle.cost_changes.specs.Listed.{has, listedFor, marginsOf}
@@ -44,7 +44,7 @@ margins-asked grammar utterance work out =
     then-within (grammarBlock grammar) (λ g. utteranceBlock (g .words) utterance then λ u. marginsConditions g u work out) found λ g.
     then-within (utteranceBlock (g .words) utterance) (λ u. marginsConditions g u work out) found λ u. refl
   where
-    found : Grammar × Utterance → Verdict (List Entry)
+    found : Grammar × Utterance → Verdict (List MarginEntry)
     found b = accepted (marginsOf (b .0) (b .1))
 
 pub margins-row : (grammar utterance : List ℕ) (work out : ℕ) → Refuses (GrammarBlockRow ∪ UtteranceBlockRow ∪ MarginsRow) (margins grammar utterance work out)

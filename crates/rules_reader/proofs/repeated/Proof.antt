@@ -15,7 +15,8 @@ returns : tie.Need-returns
 returns c =
     let at-args = c .before .before .before .before .before in
     let a = at-args .args in
-    filters-miss _ _ (a .key) (take (a .n) (a .keys .now)) (a .filter .now) (at-args .pre .2) (rw (c .before .before .filter-place .ensures .0) at (c .if1 .taken))
+    filters-miss _ _ (a .key) (take (a .n) (a .keys .now)) (a .filter .now) (at-args .pre .2)
+    (rw (c .before .before .filter-place .ensures .0) at (c .if1 .taken))
 
 seen-requires : tie.Need-seen-requires
 seen-requires c κs = search needs

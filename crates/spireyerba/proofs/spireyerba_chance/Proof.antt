@@ -21,29 +21,38 @@ refusal-requires c κs = shown-small (chance-small _ _ _ _) (c .before .before .
 
 returns : tie.Need-returns
 returns c =
-    let a = c .before .before .before .before .before .before .before .before .args in
-    let answered = c .before .before .before .chance .ensures in
+    let at-chance = c .before .before .before in
+    let at-shared-slice-known3 = at-chance .before .before in
+    let at-args = at-shared-slice-known3 .before .before .before in
+    let a = at-args .args in
+    let answered = at-chance .chance .ensures in
     let code = shown-code (chance-small (a .grammar .now) (a .utterance .now) (a .reading .now) (a .shares .now)) (answered .0) (c .before .answer .given .1) in
-    let float = written-float (chance (a .grammar .now) (a .utterance .now) (a .reading .now) (a .shares .now)) (a .chance .now) (answered .0) (c .before .answer .given .1) in (
+    let float = written-float (chance (a .grammar .now) (a .utterance .now) (a .reading .now) (a .shares .now)) (a .chance .now) (answered .0)
+    (c .before .answer .given .1) in (
       code,
       (
         float,
         chances (a .grammar .now) (a .utterance .now) (a .reading .now) (a .shares .now)
-            (λ i. c .before .before .before .before .before .shared-slice-known3 .given i .fits) code float (answered .0) (answered .1),
+            (λ i. at-shared-slice-known3 .shared-slice-known3 .given i .fits) code float (answered .0) (answered .1),
       ),
     )
 
 returns-2 : tie.Need-returns-2
 returns-2 c =
-    let a = c .before .before .before .before .before .before .before .before .before .args in
-    let answered = c .before .before .before .before .chance .ensures in
-    let code = shown-number (chance-small (a .grammar .now) (a .utterance .now) (a .reading .now) (a .shares .now)) (answered .0) (c .before .before .answer2 .given .1) (c .refusal .ensures) in
-    let float = kept-float (chance (a .grammar .now) (a .utterance .now) (a .reading .now) (a .shares .now)) (a .chance .now) (answered .0) (c .before .before .answer2 .given .1) in (
+    let at-chance = c .before .before .before .before in
+    let at-shared-slice-known3 = at-chance .before .before in
+    let at-args = at-shared-slice-known3 .before .before .before in
+    let a = at-args .args in
+    let answered = at-chance .chance .ensures in
+    let code = shown-number (chance-small (a .grammar .now) (a .utterance .now) (a .reading .now) (a .shares .now)) (answered .0)
+    (c .before .before .answer2 .given .1) (c .refusal .ensures) in
+    let float = kept-float (chance (a .grammar .now) (a .utterance .now) (a .reading .now) (a .shares .now)) (a .chance .now) (answered .0)
+    (c .before .before .answer2 .given .1) in (
       code,
       (
         float,
         chances (a .grammar .now) (a .utterance .now) (a .reading .now) (a .shares .now)
-            (λ i. c .before .before .before .before .before .before .shared-slice-known3 .given i .fits) code float (answered .0) (answered .1),
+            (λ i. at-shared-slice-known3 .shared-slice-known3 .given i .fits) code float (answered .0) (answered .1),
       ),
     )
 

@@ -21,8 +21,10 @@ enum-known-answer-3 c = search needs
 
 refusal-requires : tie.Need-refusal-requires
 refusal-requires c κs =
-    let a = c .before .before .before .before .before .before .before .before .before .before .before .args in
-    ranged-small (a .grammar .now) (a .low .now) (a .high .now) (a .work .now) (c .before .before .before .before .before .cost-ranges .ensures .0) (c .before .answer3 .given .1)
+    let at-cost-ranges = c .before .before .before .before .before in
+    let at-args = at-cost-ranges .before .before .before .before .before .before in
+    let a = at-args .args in
+    ranged-small (a .grammar .now) (a .low .now) (a .high .now) (a .work .now) (at-cost-ranges .cost-ranges .ensures .0) (c .before .answer3 .given .1)
 
 same-length : tie.Need-same-length
 same-length c = search needs

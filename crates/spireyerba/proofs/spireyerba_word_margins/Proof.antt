@@ -11,7 +11,11 @@ word-margins-requires : tie.Need-word-margins-requires
 word-margins-requires c κs = search needs
 
 listed-code-requires : tie.Need-listed-code-requires
-listed-code-requires c κs = listed-small (margins-small (c .before .before .before .before .before .before .before .before .before .before .before .args .grammar .now) (c .before .before .before .before .before .before .before .before .before .before .before .args .utterance .now) (length (c .before .before .before .before .before .before .before .before .before .before .before .args .work .now)) (length (c .before .before .before .before .before .before .before .before .before .before .before .args .out .now))) (c .before .before .before .before .word-margins .ensures .0)
+listed-code-requires c κs =
+    let at-word-margins = c .before .before .before .before in
+    let at-args = at-word-margins .before .before .before .before .before .before .before in
+    listed-small (margins-small (at-args .args .grammar .now) (at-args .args .utterance .now) (length (at-args .args .work .now))
+    (length (at-args .args .out .now))) (at-word-margins .word-margins .ensures .0)
 
 same-length : tie.Need-same-length
 same-length c = search needs
@@ -20,7 +24,24 @@ same-length-2 : tie.Need-same-length-2
 same-length-2 c = search needs
 
 returns : tie.Need-returns
-returns c = let e = c .before .before .before .before .before .word-margins .ensures in let code = listed-number (margins-small (c .before .before .before .before .before .before .before .before .before .before .before .before .args .grammar .now) (c .before .before .before .before .before .before .before .before .before .before .before .before .args .utterance .now) (length (c .before .before .before .before .before .before .before .before .before .before .before .before .args .work .now)) (length (c .before .before .before .before .before .before .before .before .before .before .before .before .args .out .now))) (e .0) (c .listed-code .ensures) in (code, (e .1 .0, (e .1 .1 .0, margins-told (c .before .before .before .before .before .before .before .before .before .before .before .before .args .grammar .now) (c .before .before .before .before .before .before .before .before .before .before .before .before .args .utterance .now) (c .before .before .before .before .before .before .before .before .before .before .before .before .args .work .now) (c .before .before .before .before .before .before .before .before .before .before .before .before .args .out .now) code (e .1 .0) (e .1 .1 .0))))
+returns c =
+    let at-word-margins = c .before .before .before .before .before in
+    let at-args = at-word-margins .before .before .before .before .before .before .before in
+    let e = at-word-margins .word-margins .ensures in let code =
+    listed-number (margins-small (at-args .args .grammar .now) (at-args .args .utterance .now)
+    (length (at-args .args .work .now)) (length (at-args .args .out .now))) (e .0)
+    (c .listed-code .ensures) in (
+      code,
+      (
+        e .1 .0,
+        (
+          e .1 .1 .0,
+          margins-told (at-args .args .grammar .now)
+              (at-args .args .utterance .now) (at-args .args .work .now)
+              (at-args .args .out .now) code (e .1 .0) (e .1 .1 .0),
+        ),
+      ),
+    )
 
 pub spireyerba-word-margins-spec : {M : Type 1} → statement M
 spireyerba-word-margins-spec =
