@@ -1,5 +1,6 @@
 //! How a command ends that does not answer.
 
+use crate::names::shown;
 use std::io::ErrorKind;
 use std::process::ExitCode;
 
@@ -49,11 +50,11 @@ impl Failure {
     pub fn report(&self) -> ExitCode {
         match self {
             Self::Refused(message) => {
-                eprintln!("{message}");
+                eprintln!("{}", shown(message));
                 ExitCode::from(REFUSED)
             }
             Self::Usage { message, command } => {
-                eprintln!("{command}: {message}\ntry `{command} --help`");
+                eprintln!("{command}: {}\ntry `{command} --help`", shown(message));
                 ExitCode::from(WRONG_USAGE)
             }
             Self::NoReader => ExitCode::SUCCESS,

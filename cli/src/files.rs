@@ -5,7 +5,8 @@
 //! do blocks of utterances and readings.
 
 use crate::failure::Failure;
-use crate::options::{Arguments, DROP_DELETES, DROP_UNKNOWN, EMPTY, EXACT, FILE, FORMAT, PATHS, SCALE};
+use crate::names::path;
+use crate::options::{Arguments, DROP_DELETES, DROP_UNKNOWN, EMPTY, EXACT, FILE, FOLD, FORMAT, PATHS, SCALE};
 use crate::output::Output;
 use spireyerba::lattice::Keep;
 use spireyerba::services::check;
@@ -42,7 +43,7 @@ pub fn open(operand: &str) -> Result<Box<dyn Read + Send>, Failure> {
     if operand == STANDARD_INPUT {
         return Ok(Box::new(std::io::stdin()));
     }
-    match std::fs::File::open(operand) {
+    match std::fs::File::open(path(operand)) {
         Ok(file) => Ok(Box::new(file)),
         Err(error) => Err(Failure::file(operand, &error)),
     }
@@ -77,11 +78,19 @@ impl File {
         match (accepted, text_of(&self.bytes)) {
             (Ok(value), _) => Ok(value),
             (Err(_), Ok(text)) => Ok(parse(text).map_err(|error| error.in_file(&self.name))?),
-            (Err(refusal), Err(at)) => Err(match self.binary() {
-                Some(kind) => Failure::Refused(kind),
-                None => Failure::Refused(format!("{}: {refusal}; and {}", self.name, self.no_text(at))),
-            }),
+            (Err(refusal), Err(at)) => Err(Failure::Refused(match (self.binary(), self.is_block()) {
+                (Some(kind), _) => kind,
+                (None, true) => format!("{}: {refusal}; and {}", self.name, self.no_text(at)),
+                (None, false) => format!("{}: {}", self.name, self.no_text(at)),
+            })),
         }
+    }
+
+    /// Whether the file has bytes that no text has in any encoding, or few that all have.
+    fn is_block(&self) -> bool {
+        let is_foreign = |byte: &u8| byte.is_ascii_control() && !TEXT_CONTROLS.contains(&char::from(*byte));
+        let known = self.bytes.iter().filter(|byte| byte.is_ascii()).count();
+        self.bytes.iter().any(is_foreign) || 2 * known < self.bytes.len()
     }
 
     /// What is made of the file's text.
@@ -100,7 +109,11 @@ impl File {
     /// That the file is no text, for a byte of it.
     fn no_text(&self, at: usize) -> String {
         let line = self.bytes[..at].iter().filter(|byte| **byte == b'\n').count() + 1;
-        format!("no text, for byte 0x{:02x} in line {line}", self.bytes[at])
+        let byte = self.bytes[at];
+        match self.is_block() || byte.is_ascii() {
+            true => format!("no text, for byte 0x{byte:02x} in line {line}"),
+            false => format!("not UTF-8 (byte 0x{byte:02x}, line {line}): save it as UTF-8"),
+        }
     }
 }
 
@@ -136,6 +149,7 @@ pub fn grammar(operand: &str) -> Result<GrammarFile, Failure> {
 pub fn utterance_reader<'a>(arguments: &Arguments, grammar: &'a NamedGrammar) -> Result<UtteranceReader<'a>, Failure> {
     let mut reader = UtteranceReader::new(grammar);
     reader.scale = scale(arguments)?;
+    reader.fold = arguments.has(&FOLD);
     reader.drop_unknown = arguments.has(&DROP_UNKNOWN);
     reader.drop_deletes = arguments.has(&DROP_DELETES);
     reader.empty_words = arguments.values(&EMPTY).map(str::to_owned).collect();
@@ -244,7 +258,7 @@ pub fn shares(grammar: &GrammarFile, operand: &str) -> Result<Vec<u32>, Failure>
 pub fn write(arguments: &Arguments, output: &mut Output, bytes: &[u8]) -> Result<(), Failure> {
     match arguments.value(&FILE) {
         Some(operand) if operand != STANDARD_INPUT => {
-            std::fs::write(operand, bytes).map_err(|error| Failure::file(operand, &error))
+            std::fs::write(path(operand), bytes).map_err(|error| Failure::file(operand, &error))
         }
         _ => output.bytes(bytes),
     }

@@ -5,7 +5,7 @@
 //! | `commands` | what each subcommand does, a file each, and the table of them |
 //! | `options`, `help` | the command line and what is said about it |
 //! | `manual`, `completions` | the same as manual pages and for shells, when the command is installed |
-//! | `files` | texts and blocks, read and written |
+//! | `files`, `names` | texts and blocks, read and written; names of files that are no UTF-8 |
 //! | `heard` | slots or a word graph, whichever it is |
 //! | `reach` | which symbols of a grammar are of use |
 //! | `rows` | a schedule as CSV and as a page |
@@ -25,6 +25,7 @@ mod heard;
 mod help;
 mod json;
 mod manual;
+mod names;
 mod no_reading;
 mod options;
 mod output;
@@ -38,7 +39,7 @@ use output::Output;
 use std::process::ExitCode;
 
 fn main() -> ExitCode {
-    let words: Vec<String> = std::env::args_os().skip(1).map(|word| word.to_string_lossy().into_owned()).collect();
+    let words: Vec<String> = std::env::args_os().skip(1).map(|word| names::carried(&word)).collect();
     let mut output = Output::standard();
     let done = run(&words, &mut output).and_then(|()| output.flush());
     match done {

@@ -2,6 +2,8 @@
 
 use crate::commands::Command;
 use crate::failure::Failure;
+use spireyerba::limits::MAX_READINGS;
+use spireyerba::text::nearest;
 use std::str::FromStr;
 
 /// An option, as `--long`, and some as `-s` too.
@@ -84,6 +86,12 @@ pub const LATTICE: Opt = Opt {
     short: None,
     value: None,
     help: "write the word graph as a lattice in HTK's standard format; needs --scale",
+};
+pub const FOLD: Opt = Opt {
+    long: "fold",
+    short: None,
+    value: None,
+    help: "take words for one that differ only in case or in the composition of letters",
 };
 pub const DROP_UNKNOWN: Opt =
     Opt { long: "drop-unknown", short: None, value: None, help: "leave out words that the grammar does not have" };
@@ -187,7 +195,9 @@ impl<'a> Arguments<'a> {
     fn long(&mut self, option: &'a str, rest: &mut impl Iterator<Item = &'a str>) -> Result<(), Failure> {
         let (name, value) = option.split_once('=').map_or((option, None), |(name, value)| (name, Some(value)));
         let Some(known) = self.command.options.iter().find(|known| known.long == name) else {
-            return Err(self.wrong(format!("there is no option --{name}")));
+            let meant = nearest(name, self.command.options.iter().map(|known| known.long));
+            let meant = meant.map_or(String::new(), |meant| format!(": did you mean --{meant}?"));
+            return Err(self.wrong(format!("there is no option --{name}{meant}")));
         };
         match (known.value, value) {
             (None, Some(_)) => Err(self.wrong(format!("--{name} takes no value"))),
@@ -256,7 +266,20 @@ impl<'a> Arguments<'a> {
 
     /// The readings wanted.
     pub fn wanted(&self) -> Result<u32, Failure> {
-        Ok(self.number(&WANTED)?.unwrap_or(WANTED_UNLESS_GIVEN))
+        let wanted = self.number(&WANTED)?.unwrap_or(WANTED_UNLESS_GIVEN);
+        match (1..=MAX_READINGS).contains(&wanted) {
+            true => Ok(wanted),
+            false => Err(self.wrong(format!("--number is 1 to {MAX_READINGS}, not {wanted}"))),
+        }
+    }
+
+    /// An operand as a number from 1 to the greatest.
+    pub fn operand_up_to(&self, operand: usize, greatest: u32) -> Result<u32, Failure> {
+        let number = self.operand_number(operand)?;
+        match (1..=greatest).contains(&number) {
+            true => Ok(number),
+            false => Err(self.wrong(format!("{} is 1 to {greatest}, not {number}", self.command.operands[operand]))),
+        }
     }
 
     /// An operand as a number.

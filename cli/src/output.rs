@@ -32,6 +32,11 @@ impl Style {
 /// The sequence that switches a terminal back.
 const PLAIN: &str = "\x1b[0m";
 
+/// Whether the terminal says that it knows no sequences.
+pub fn is_dumb() -> bool {
+    std::env::var_os("TERM").is_some_and(|term| term == "dumb")
+}
+
 /// Where answers go.
 pub struct Output {
     stream: BufWriter<Box<dyn Write + Send>>,
@@ -45,7 +50,8 @@ impl Output {
     /// Standard output, with colours if it is a terminal and nobody has asked for none (no-color.org).
     pub fn standard() -> Self {
         let is_terminal = stdout().is_terminal();
-        let coloured = is_terminal && std::env::var_os("NO_COLOR").is_none_or(|value| value.is_empty());
+        let is_asked_for = std::env::var_os("NO_COLOR").is_none_or(|value| value.is_empty());
+        let coloured = is_terminal && is_asked_for && !is_dumb();
         Self { stream: BufWriter::new(Box::new(stdout())), name: NAME.to_owned(), is_terminal, coloured }
     }
 

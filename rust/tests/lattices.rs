@@ -234,7 +234,11 @@ fn mistakes_in_starts_ends_and_words() {
         expect(read(&text), &text, message);
     }
     let text = lattice(2, &["S=0 E=1 W=x a=-1"]);
-    expect(read_at(None, &text), &text, "4:1: a lattice needs a scale by which scores become costs");
+    expect(
+        read_at(None, &text),
+        &text,
+        "4:1: a lattice needs a scale by which scores become costs: add --scale X, such as 100",
+    );
 }
 
 #[test]

@@ -296,12 +296,19 @@ fn mistakes_in_networks() {
         ("align 0 x 0.5 x 0.5", "1:15: refused 15: the slot has `x` already"),
         ("align 0 <s> 1\nalign 1 </s> 1", "2:1: refused 13: there is no slot"),
         ("align 0 x 1\nalign 1", "2:7: refused 13: there is no word of the grammar in the slot"),
-        ("align 0 *DELETE* 0.5 x 0.5", "1:9: `*DELETE*`: a word is said in every slot, so no slot can hold this"),
+        (
+            "align 0 *DELETE* 0.5 x 0.5",
+            "1:9: `*DELETE*`: a word is said in every slot, and --drop-deletes leaves this out",
+        ),
     ] {
         expect(network(text), text, message);
     }
     let no_scale = grammar().parse_utterance("numaligns 1\nalign 0 x 1");
-    expect(no_scale, "no scale", "2:7: a confusion network needs a scale by which posteriors become costs");
+    expect(
+        no_scale,
+        "no scale",
+        "2:7: a confusion network needs a scale by which posteriors become costs: add --scale X, such as 100",
+    );
     let grammar = grammar();
     let mut reader = UtteranceReader::new(&grammar);
     reader.scale = Some(1e6);

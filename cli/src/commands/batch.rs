@@ -13,8 +13,8 @@ use crate::files;
 use crate::json;
 use crate::no_reading::NoReading;
 use crate::options::{
-    Arguments, DISTINCT, DROP_DELETES, DROP_UNKNOWN, EMPTY, EXACT, FILES, FORMAT, JOBS, LINE, PATHS, RESUME, SCALE,
-    WANTED,
+    Arguments, DISTINCT, DROP_DELETES, DROP_UNKNOWN, EMPTY, EXACT, FILES, FOLD, FORMAT, JOBS, LINE, PATHS, RESUME,
+    SCALE, WANTED,
 };
 use crate::output::Output;
 use lattices::{push_notes, Lines};
@@ -32,7 +32,7 @@ pub const COMMAND: Command = Command {
     operands: &["GRAMMAR", "FILE"],
     needed: 1,
     options: &[
-        WANTED, DISTINCT, FILES, JOBS, LINE, RESUME, SCALE, DROP_UNKNOWN, DROP_DELETES, EMPTY, FORMAT, PATHS, EXACT,
+        WANTED, DISTINCT, FILES, JOBS, LINE, RESUME, SCALE, FOLD, DROP_UNKNOWN, DROP_DELETES, EMPTY, FORMAT, PATHS, EXACT,
     ],
     summary: "list the readings of many utterances, word graphs or lattices on all cores",
     details: "\

@@ -6,7 +6,7 @@ use crate::failure::Failure;
 use crate::files;
 use crate::json;
 use crate::options::{
-    Arguments, DROP_DELETES, DROP_UNKNOWN, EMPTY, EXACT, FORMAT, JSON, PATHS, SAID, SCALE, SKIP, WANTED,
+    Arguments, DROP_DELETES, DROP_UNKNOWN, EMPTY, EXACT, FOLD, FORMAT, JSON, PATHS, SAID, SCALE, SKIP, WANTED,
 };
 use crate::output::{Output, Style};
 use spireyerba::text::{Lattice, NamedGrammar};
@@ -16,7 +16,7 @@ pub const COMMAND: Command = Command {
     name: "chance",
     operands: &["GRAMMAR", "UTTERANCE", "SHARES", "READING"],
     needed: 3,
-    options: &[WANTED, JSON, SAID, SKIP, SCALE, DROP_UNKNOWN, DROP_DELETES, EMPTY, FORMAT, PATHS, EXACT],
+    options: &[WANTED, JSON, SAID, SKIP, SCALE, FOLD, DROP_UNKNOWN, DROP_DELETES, EMPTY, FORMAT, PATHS, EXACT],
     summary: "print the chances of readings: the products of the shares of their rules",
     details: "\
 SHARES has a whole number from 1 to 1024 for each rule, in the order of the rules; of 1024 uses of its head so many are by

@@ -3,14 +3,14 @@
 use super::Command;
 use crate::failure::Failure;
 use crate::files;
-use crate::options::{Arguments, DROP_DELETES, DROP_UNKNOWN, EMPTY, EXACT, FORMAT, PATHS, SCALE};
+use crate::options::{Arguments, DROP_DELETES, DROP_UNKNOWN, EMPTY, EXACT, FOLD, FORMAT, PATHS, SCALE};
 use crate::output::Output;
 
 pub const COMMAND: Command = Command {
     name: "check",
     operands: &["GRAMMAR", "UTTERANCE", "READING"],
     needed: 3,
-    options: &[SCALE, DROP_UNKNOWN, DROP_DELETES, EMPTY, FORMAT, PATHS, EXACT],
+    options: &[SCALE, FOLD, DROP_UNKNOWN, DROP_DELETES, EMPTY, FORMAT, PATHS, EXACT],
     summary: "say whether a reading is that of a derivation, with its true weight",
     details: "\
 A reading's text is its weight and the rule number of each node: a node, its left part, its right part. `list

@@ -9,8 +9,8 @@ use crate::heard::{HeardWords, Taken};
 use crate::json;
 use crate::no_reading::NoReading;
 use crate::options::{
-    Arguments, DISTINCT, DROP_DELETES, DROP_UNKNOWN, EMPTY, EXACT, FORMAT, JSON, PATHS, RULES, SAID, SAY, SCALE, SKIP,
-    TREE, WANTED, WORDS,
+    Arguments, DISTINCT, DROP_DELETES, DROP_UNKNOWN, EMPTY, EXACT, FOLD, FORMAT, JSON, PATHS, RULES, SAID, SAY, SCALE,
+    SKIP, TREE, WANTED, WORDS,
 };
 use crate::output::{Output, Style};
 use crate::words::{self, Input};
@@ -24,7 +24,7 @@ pub const COMMAND: Command = Command {
     operands: &["GRAMMAR", "UTTERANCE"],
     needed: 1,
     options: &[
-        WANTED, WORDS, SAY, DISTINCT, TREE, RULES, JSON, SAID, SKIP, SCALE, DROP_UNKNOWN, DROP_DELETES, EMPTY, FORMAT, PATHS,
+        WANTED, WORDS, SAY, DISTINCT, TREE, RULES, JSON, SAID, SKIP, SCALE, FOLD, DROP_UNKNOWN, DROP_DELETES, EMPTY, FORMAT, PATHS,
         EXACT,
     ],
     summary: "list the readings of least weight, the least first",

@@ -6,7 +6,7 @@ use crate::failure::Failure;
 use crate::files;
 use crate::json;
 use crate::no_reading::NO_READING;
-use crate::options::{Arguments, DROP_DELETES, DROP_UNKNOWN, EMPTY, EXACT, FORMAT, JSON, PATHS, SAID, SCALE};
+use crate::options::{Arguments, DROP_DELETES, DROP_UNKNOWN, EMPTY, EXACT, FOLD, FORMAT, JSON, PATHS, SAID, SCALE};
 use crate::output::{Output, Style};
 use spireyerba::text::{Lattice, NamedGrammar};
 use spireyerba::{Error, Heard, WordMargin};
@@ -15,7 +15,7 @@ pub const COMMAND: Command = Command {
     name: "margins",
     operands: &["GRAMMAR", "UTTERANCE"],
     needed: 2,
-    options: &[JSON, SAID, SCALE, DROP_UNKNOWN, DROP_DELETES, EMPTY, FORMAT, PATHS, EXACT],
+    options: &[JSON, SAID, SCALE, FOLD, DROP_UNKNOWN, DROP_DELETES, EMPTY, FORMAT, PATHS, EXACT],
     summary: "say which words to listen to again: by how little their costs must fall for another reading to come first",
     details: "\
 A line has an amount, a slot, a word of it that the first reading does not use, and a weight. If the cost of that word alone

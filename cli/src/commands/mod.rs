@@ -21,6 +21,7 @@ mod why;
 use crate::failure::Failure;
 use crate::options::{Arguments, Opt};
 use crate::output::Output;
+use spireyerba::text::nearest;
 
 /// A subcommand: what its command line has, what it says of itself, and what it does.
 pub struct Command {
@@ -67,5 +68,9 @@ pub const COMMANDS: &[Command] = &[
 /// The command with a name.
 pub fn find(name: &str) -> Result<&'static Command, Failure> {
     let found = COMMANDS.iter().find(|command| command.name == name);
-    found.ok_or_else(|| Failure::usage(format!("there is no command `{name}`"), "spireyerba"))
+    found.ok_or_else(|| {
+        let meant = nearest(name, COMMANDS.iter().map(|command| command.name));
+        let meant = meant.map_or(String::new(), |meant| format!(": did you mean `{meant}`?"));
+        Failure::usage(format!("there is no command `{name}`{meant}"), "spireyerba")
+    })
 }

@@ -3,7 +3,7 @@
 use super::Command;
 use crate::failure::Failure;
 use crate::files;
-use crate::options::{Arguments, DROP_DELETES, DROP_UNKNOWN, EMPTY, EXACT, FILE, FORMAT, PATHS, SCALE};
+use crate::options::{Arguments, DROP_DELETES, DROP_UNKNOWN, EMPTY, EXACT, FILE, FOLD, FORMAT, PATHS, SCALE};
 use crate::output::Output;
 use spireyerba::Error;
 
@@ -11,7 +11,7 @@ pub const COMMAND: Command = Command {
     name: "pack",
     operands: &["GRAMMAR", "UTTERANCE", "READING"],
     needed: 1,
-    options: &[FILE, SCALE, DROP_UNKNOWN, DROP_DELETES, EMPTY, FORMAT, PATHS, EXACT],
+    options: &[FILE, SCALE, FOLD, DROP_UNKNOWN, DROP_DELETES, EMPTY, FORMAT, PATHS, EXACT],
     summary: "turn a text into a block: the last file, under those before it",
     details: "\
 A block is what the library's functions and the program lister take. It has numbers in place of names.",

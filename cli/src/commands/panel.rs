@@ -4,7 +4,7 @@ use super::list::{print, Listed, Shown};
 use super::Command;
 use crate::failure::Failure;
 use crate::files;
-use crate::options::{Arguments, DROP_DELETES, DROP_UNKNOWN, EMPTY, EXACT, FORMAT, PATHS, SCALE, TREE, WANTED};
+use crate::options::{Arguments, DROP_DELETES, DROP_UNKNOWN, EMPTY, EXACT, FOLD, FORMAT, PATHS, SCALE, TREE, WANTED};
 use crate::output::Output;
 use spireyerba::{Error, Lister};
 
@@ -12,7 +12,7 @@ pub const COMMAND: Command = Command {
     name: "panel",
     operands: &["GRAMMAR", "UTTERANCE"],
     needed: 2,
-    options: &[WANTED, TREE, SCALE, DROP_UNKNOWN, DROP_DELETES, EMPTY, FORMAT, PATHS, EXACT],
+    options: &[WANTED, TREE, SCALE, FOLD, DROP_UNKNOWN, DROP_DELETES, EMPTY, FORMAT, PATHS, EXACT],
     summary: "list as a desk panel does: at most 12 slots and 16 readings",
     details: "\
 Within the panel's limits this is what `list` prints; beyond them the panel refuses. Of a word graph it takes 13 places.",

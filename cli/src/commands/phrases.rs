@@ -5,6 +5,7 @@ use crate::failure::Failure;
 use crate::files;
 use crate::options::Arguments;
 use crate::output::Output;
+use spireyerba::limits::MAX_PHRASE;
 use spireyerba::Error;
 
 pub const COMMAND: Command = Command {
@@ -21,7 +22,7 @@ printed as soon as it is found. If there is none, nothing is printed, and a mess
 };
 
 fn run(arguments: &Arguments, output: &mut Output) -> Result<(), Failure> {
-    let length = arguments.operand_number(1)?;
+    let length = arguments.operand_up_to(1, MAX_PHRASE)?;
     let grammar = files::grammar(arguments.operands[0])?;
     let mut is_empty = true;
     for phrase in grammar.packed.phrases(length).map_err(Error::from)? {

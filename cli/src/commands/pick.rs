@@ -4,8 +4,8 @@ use super::list::{drawn, json_of, line, used_up, Listed};
 use super::Command;
 use crate::failure::Failure;
 use crate::options::{
-    Arguments, DISTINCT, DROP_DELETES, DROP_UNKNOWN, EMPTY, EVERY_TREE, EXACT, FORMAT, JSON, PATHS, SAID, SCALE, SKIP,
-    TREE,
+    Arguments, DISTINCT, DROP_DELETES, DROP_UNKNOWN, EMPTY, EVERY_TREE, EXACT, FOLD, FORMAT, JSON, PATHS, SAID, SCALE,
+    SKIP, TREE,
 };
 use crate::output::Output;
 use spireyerba::limits::MAX_READINGS;
@@ -24,6 +24,7 @@ pub const COMMAND: Command = Command {
         SAID,
         SKIP,
         SCALE,
+        FOLD,
         DROP_UNKNOWN,
         DROP_DELETES,
         EMPTY,

@@ -3,7 +3,7 @@
 use super::Command;
 use crate::failure::Failure;
 use crate::files;
-use crate::options::{Arguments, DROP_DELETES, DROP_UNKNOWN, EMPTY, EXACT, FORMAT, PATHS, SCALE};
+use crate::options::{Arguments, DROP_DELETES, DROP_UNKNOWN, EMPTY, EXACT, FOLD, FORMAT, PATHS, SCALE};
 use crate::output::Output;
 use spireyerba::{Error, Heard, Utterance};
 
@@ -11,7 +11,7 @@ pub const COMMAND: Command = Command {
     name: "ranges",
     operands: &["GRAMMAR", "LOW", "HIGH"],
     needed: 3,
-    options: &[SCALE, DROP_UNKNOWN, DROP_DELETES, EMPTY, FORMAT, PATHS, EXACT],
+    options: &[SCALE, FOLD, DROP_UNKNOWN, DROP_DELETES, EMPTY, FORMAT, PATHS, EXACT],
     summary: "say how the first weight varies where costs are known within ranges, and whether the first reading stands",
     details: "\
 LOW and HIGH are two utterances of slots, alike but for their costs, of which none falls. Each word costs from what LOW

@@ -6,8 +6,8 @@ use crate::anchor;
 use crate::failure::Failure;
 use crate::files;
 use crate::options::{
-    Arguments, DISTINCT, DROP_DELETES, DROP_UNKNOWN, EMPTY, EVERY_TREE, EXACT, FILE, FORMAT, HIGH, PATHS, SAID, SCALE,
-    SKIP, WANTED,
+    Arguments, DISTINCT, DROP_DELETES, DROP_UNKNOWN, EMPTY, EVERY_TREE, EXACT, FILE, FOLD, FORMAT, HIGH, PATHS, SAID,
+    SCALE, SKIP, WANTED,
 };
 use crate::output::Output;
 use crate::page::{page, CostChanges, Ranges, Source};
@@ -18,7 +18,7 @@ pub const COMMAND: Command = Command {
     operands: &["GRAMMAR", "UTTERANCE"],
     needed: 2,
     options: &[
-        FILE, WANTED, DISTINCT, EVERY_TREE, HIGH, SAID, SKIP, SCALE, DROP_UNKNOWN, DROP_DELETES, EMPTY, FORMAT, PATHS, EXACT,
+        FILE, WANTED, DISTINCT, EVERY_TREE, HIGH, SAID, SKIP, SCALE, FOLD, DROP_UNKNOWN, DROP_DELETES, EMPTY, FORMAT, PATHS, EXACT,
     ],
     summary: "write a page with what was heard, the readings as drawn trees, and which words to listen to again",
     details: "\

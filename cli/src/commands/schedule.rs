@@ -4,7 +4,7 @@ use super::Command;
 use crate::failure::Failure;
 use crate::files::{self, GrammarFile};
 use crate::no_reading::NoReading;
-use crate::options::{Arguments, CLOSE, COLUMNS, DROP_DELETES, DROP_UNKNOWN, EMPTY, FILE, HTML, SCALE};
+use crate::options::{Arguments, CLOSE, COLUMNS, DROP_DELETES, DROP_UNKNOWN, EMPTY, FILE, FOLD, HTML, SCALE};
 use crate::output::Output;
 use crate::rows::{csv, html, Row};
 use spireyerba::text::{is_graph, nearest, UtteranceReader};
@@ -14,7 +14,7 @@ pub const COMMAND: Command = Command {
     name: "schedule",
     operands: &["GRAMMAR", "FILE"],
     needed: 2,
-    options: &[COLUMNS, CLOSE, HTML, FILE, SCALE, DROP_UNKNOWN, DROP_DELETES, EMPTY],
+    options: &[COLUMNS, CLOSE, HTML, FILE, SCALE, FOLD, DROP_UNKNOWN, DROP_DELETES, EMPTY],
     summary: "write a table with a row for each utterance, the columns of which are symbols",
     details: "\
 A line of the file has an utterance or a word graph, as for `batch`; a file with a lattice or a confusion network is one

@@ -4,7 +4,7 @@ use super::Command;
 use crate::failure::Failure;
 use crate::files::{self, GrammarFile};
 use crate::no_reading::NoReading;
-use crate::options::Arguments;
+use crate::options::{Arguments, FOLD};
 use crate::output::Output;
 use spireyerba::text::{Sentence, UtteranceReader};
 use spireyerba::{Error, Heard, Utterance};
@@ -13,7 +13,7 @@ pub const COMMAND: Command = Command {
     name: "test",
     operands: &["GRAMMAR", "FILE"],
     needed: 2,
-    options: &[],
+    options: &[FOLD],
     summary: "test a grammar by sentences that it should derive and sentences that it should not",
     details: "\
 A line of the file has `+` or `-` and a sentence, which the grammar derives or does not: `+ door twenty four oak`. Behind it

@@ -4,7 +4,7 @@ use super::Command;
 use crate::failure::Failure;
 use crate::files::{self, GrammarFile};
 use crate::options::{
-    Arguments, DROP_DELETES, DROP_UNKNOWN, EMPTY, EXACT, FILE, FORMAT, LATTICE, NETWORK, PATHS, SCALE,
+    Arguments, DROP_DELETES, DROP_UNKNOWN, EMPTY, EXACT, FILE, FOLD, FORMAT, LATTICE, NETWORK, PATHS, SCALE,
 };
 use crate::output::Output;
 use spireyerba::Heard;
@@ -13,7 +13,7 @@ pub const COMMAND: Command = Command {
     name: "unpack",
     operands: &["GRAMMAR", "UTTERANCE", "READING"],
     needed: 1,
-    options: &[FILE, NETWORK, LATTICE, SCALE, DROP_UNKNOWN, DROP_DELETES, EMPTY, FORMAT, PATHS, EXACT],
+    options: &[FILE, NETWORK, LATTICE, SCALE, FOLD, DROP_UNKNOWN, DROP_DELETES, EMPTY, FORMAT, PATHS, EXACT],
     summary: "turn a block into a text: the last file, under those before it",
     details: "\
 A block has no names: those of an utterance come from the grammar's text, and if the grammar is a block too, symbols

@@ -4,7 +4,9 @@ use super::list::{line, Listed};
 use super::Command;
 use crate::failure::Failure;
 use crate::heard::{HeardWords, Taken};
-use crate::options::{Arguments, DISTINCT, DROP_DELETES, DROP_UNKNOWN, EMPTY, EXACT, FORMAT, PATHS, SAID, SCALE, SKIP};
+use crate::options::{
+    Arguments, DISTINCT, DROP_DELETES, DROP_UNKNOWN, EMPTY, EXACT, FOLD, FORMAT, PATHS, SAID, SCALE, SKIP,
+};
 use crate::output::{Output, Style};
 use spireyerba::{Candidate, Reading};
 use std::collections::BTreeSet;
@@ -13,7 +15,7 @@ pub const COMMAND: Command = Command {
     name: "why",
     operands: &["GRAMMAR", "UTTERANCE", "K"],
     needed: 3,
-    options: &[DISTINCT, SAID, SKIP, SCALE, DROP_UNKNOWN, DROP_DELETES, EMPTY, FORMAT, PATHS, EXACT],
+    options: &[DISTINCT, SAID, SKIP, SCALE, FOLD, DROP_UNKNOWN, DROP_DELETES, EMPTY, FORMAT, PATHS, EXACT],
     summary: "lay reading K beside the first: what differs, and what each difference costs",
     details: "K is a rank of the list, 2 to 256; with --distinct one of the list in which each sentence stands once. The last column adds up to the difference of both weights.",
     example: "spireyerba why grammar.txt utterance.txt 2",

@@ -217,8 +217,8 @@ fn specimen_of_a_length() {
     assert_eq!(none.err, "none: the grammar derives no string of 2 words\n");
     assert_eq!((none.status, none.out.as_str()), (0, ""));
     assert_eq!(
-        refused(run("specimen grammar.txt 25"), 1),
-        "refused 25: the length wanted is not 1 to 24, or for phrases not 1 to 6\n"
+        refused(run("specimen grammar.txt 25"), 2),
+        "spireyerba specimen: LENGTH is 1 to 24, not 25\ntry `spireyerba specimen --help`\n"
     );
 }
 
@@ -282,8 +282,9 @@ fn phrases_of_a_length() {
     assert_eq!(none.err, "none: the grammar derives no string of 2 words\n");
     assert_eq!((none.status, none.out.as_str()), (0, ""));
     for length in [0, 7] {
-        let refusal = refused(run(&format!("phrases grammar.txt {length}")), 1);
-        assert_eq!(refusal, "refused 25: the length wanted is not 1 to 24, or for phrases not 1 to 6\n");
+        let refusal = refused(run(&format!("phrases grammar.txt {length}")), 2);
+        let message = format!("LENGTH is 1 to 6, not {length}");
+        assert_eq!(refusal, format!("spireyerba phrases: {message}\ntry `spireyerba phrases --help`\n"));
     }
 }
 

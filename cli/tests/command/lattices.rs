@@ -130,7 +130,7 @@ fn mistakes() {
     ];
     let folder = folder("lattice_mistakes", &files);
     for (words, message) in [
-        ("scores", "scores:4:1: a lattice needs a scale by which scores become costs"),
+        ("scores", "scores:4:1: a lattice needs a scale by which scores become costs: add --scale X, such as 100"),
         ("count", "count:1:5: the lattice says 2 links and has 1"),
         ("node", "node:4:9: there is no node `5`"),
         ("circle", "circle:5:1: links go round in a circle, and this is one of them"),

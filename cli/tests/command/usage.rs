@@ -88,13 +88,17 @@ fn expect_usage(rows: &[(&str, &str, &str)]) {
 fn wrong_usage_of_list() {
     expect_usage(&[
         ("", "spireyerba", "no command"),
-        ("lst", "spireyerba", "there is no command `lst`"),
-        ("help lst", "spireyerba", "there is no command `lst`"),
+        ("lst", "spireyerba", "there is no command `lst`: did you mean `list`?"),
+        ("help lst", "spireyerba", "there is no command `lst`: did you mean `list`?"),
         ("list", "spireyerba list", "GRAMMAR is missing"),
         ("list grammar.txt", "spireyerba list", "UTTERANCE is missing"),
         ("list a b c", "spireyerba list", "`c` is one operand too many"),
         ("list - -", "spireyerba list", "only one operand can be - for standard input"),
-        ("list a b --trees", "spireyerba list", "there is no option --trees"),
+        ("list a b --trees", "spireyerba list", "there is no option --trees: did you mean --tree?"),
+        ("list a b --colours", "spireyerba list", "there is no option --colours"),
+        ("lsit", "spireyerba", "there is no command `lsit`: did you mean `list`?"),
+        ("list grammar.txt utterance.txt -n 0", "spireyerba list", "--number is 1 to 256, not 0"),
+        ("list grammar.txt utterance.txt -n 257", "spireyerba list", "--number is 1 to 256, not 257"),
         ("list a b -x", "spireyerba list", "there is no option -x"),
         ("list a b --tree=yes", "spireyerba list", "--tree takes no value"),
         ("list a b -n", "spireyerba list", "--number needs N"),
@@ -148,7 +152,8 @@ fn wrong_usage_of_others() {
 }
 
 /// Two files that are as they should be, and others.
-const WITH_MISTAKES: [(&str, &[u8]); 10] = [
+const WITH_MISTAKES: [(&str, &[u8]); 11] = [
+    ("case", b"X 1; x 2"),
     ("g", b"A -> B B [3]\nB -> \"x\"\n"),
     ("u", b"x 1\nx 2"),
     ("empty", b""),
@@ -172,19 +177,18 @@ fn mistakes_in_files() {
         ("check g u empty", "empty:1:1: the line ends where a weight should stand"),
         ("list weight u", "weight:1:11: refused 42: 65536 is too large: a weight is at most 65535"),
         ("list g word", "word:2:1: refused 14: the grammar has no word `y`"),
-        (
-            "lint latin",
-            "latin: refused 2: the grammar block's kind is not 1 or 4; and no text, for byte 0xfc in line 1",
-        ),
+        ("lint latin", "latin: not UTF-8 (byte 0xfc, line 1): save it as UTF-8"),
+        ("list g case", "case:1:1: refused 14: the grammar has no word `X`, but `x`, of another case: --fold takes both for one"),
         (
             "lint cut",
             "cut: refused 1: a field of the grammar block passes its end; and no text, for byte 0x10 in line 1",
         ),
         ("lint kind", "kind: refused 2: the grammar block's kind is not 1 or 4; and no text, for byte 0x00 in line 1"),
         ("list g slots", &format!("slots: {}; and no text, for byte 0xff in line 1", Refusal::UtteranceRange)),
-        ("list g network", "network:1:7: a confusion network needs a scale by which posteriors become costs"),
-        ("list g u -n 0", "refused 21: the number of readings wanted is not 1 to 256"),
-        ("list g u -n 257", "refused 21: the number of readings wanted is not 1 to 256"),
+        (
+            "list g network",
+            "network:1:7: a confusion network needs a scale by which posteriors become costs: add --scale X, such as 100",
+        ),
         ("pack g -o no/folder", "no/folder: No such file or directory (os error 2)"),
     ] {
         assert_eq!(refused(run_in(&folder, words), 1), format!("{message}\n"), "{words}");
@@ -284,4 +288,36 @@ fn output_that_cannot_be_written() {
     let run = Command::new(PROGRAM).args(words).current_dir(doors()).stdout(Stdio::from(full)).output().expect("a run");
     assert_eq!(run.status.code(), Some(1));
     assert_eq!(run.stderr, b"<stdout>: No space left on device (os error 28)\n");
+}
+
+/// A name that is not UTF-8 names the file that the system has, and a message shows what can be shown of it.
+#[test]
+fn names_that_are_not_utf_8() {
+    use std::os::unix::ffi::OsStrExt;
+    let folder = folder("names", &[("g", b"A -> \"x\""), ("u", b"x 3")]);
+    let name = std::ffi::OsStr::from_bytes(b"T\xfcr");
+    std::fs::copy(folder.join("g"), folder.join(name)).expect("a copy");
+    let page = std::ffi::OsStr::from_bytes(b"S\xfcd.html");
+    let run = |grammar: &std::ffi::OsStr| {
+        let mut command = Command::new(PROGRAM);
+        command.current_dir(&folder).arg("report").arg(grammar).arg("u").arg("-o").arg(page);
+        output(&mut command, b"")
+    };
+    assert!(run(name).status.success());
+    assert!(folder.join(page).exists());
+    let missing = run(std::ffi::OsStr::from_bytes(b"M\xfcll"));
+    assert_eq!(String::from_utf8_lossy(&missing.stderr), "M\u{fffd}ll: No such file or directory (os error 2)\n");
+}
+
+#[test]
+fn words_that_differ_in_case_or_composition() {
+    let folder = folder(
+        "fold",
+        &[("g", "A -> \"étage\" | \"Seven\"".as_bytes()), ("u", "e\u{301}tage 1".as_bytes()), ("v", b"SEVEN 2")],
+    );
+    let message = "u:1:1: refused 14: the grammar has no word `e\u{301}tage`, but `étage`, spelt with other code points: --fold takes both \
+                   for one\n";
+    assert_eq!(refused(run_in(&folder, "list g u"), 1), message);
+    assert_eq!(answer_in(&folder, "list g u --fold"), "1  1  étage\n");
+    assert_eq!(answer_in(&folder, "list g v --fold"), "1  2  Seven\n");
 }

@@ -80,6 +80,15 @@ pub enum Fault {
     },
     /// A word that the grammar does not have.
     UnknownWord(String),
+    /// A word that the grammar does not have, and one that it has and that differs only in case or in the composition of letters.
+    OtherSpelling {
+        /// What stands here.
+        word: String,
+        /// What the grammar has.
+        known: String,
+        /// In what they differ.
+        how: &'static str,
+    },
     /// A word that the slot has already.
     RepeatedWord(String),
     /// An edge of a word graph that does not go to a later place.
@@ -201,7 +210,7 @@ impl Fault {
             Self::RepeatedRule { .. } => Some(Refusal::GrammarRepeat),
             Self::Share(_) => Some(Refusal::ShareRange),
             Self::Shares { .. } => Some(Refusal::SharesCount),
-            Self::UnknownWord(_) => Some(Refusal::UtteranceWord),
+            Self::UnknownWord(_) | Self::OtherSpelling { .. } => Some(Refusal::UtteranceWord),
             Self::RepeatedWord(_) => Some(Refusal::UtteranceOrder),
             Self::EdgePlaces { .. } | Self::EarlyEnd { .. } => Some(Refusal::EdgePlaces),
             Self::RepeatedEdge { .. } => Some(Refusal::EdgeRepeat),
@@ -244,6 +253,9 @@ impl Fault {
                 write!(formatter, "not one share for each rule: {found} of them for {rules} rules")
             }
             Self::UnknownWord(word) => write!(formatter, "the grammar has no word `{word}`"),
+            Self::OtherSpelling { word, known, how } => {
+                write!(formatter, "the grammar has no word `{word}`, but `{known}`, {how}: --fold takes both for one")
+            }
             Self::RepeatedWord(word) => write!(formatter, "the slot has `{word}` already"),
             _ => self.graph_words(formatter),
         }
@@ -277,8 +289,12 @@ impl Fault {
             Self::CostTooLarge(item) => {
                 write!(formatter, "`{item}` gives a cost that passes {}: a smaller scale is needed", NOT_HEARD - 1)
             }
-            Self::Deletion => write!(formatter, "`*DELETE*`: a word is said in every slot, so no slot can hold this"),
-            Self::NoScale { text, what } => write!(formatter, "a {text} needs a scale by which {what} become costs"),
+            Self::Deletion => {
+                write!(formatter, "`*DELETE*`: a word is said in every slot, and --drop-deletes leaves this out")
+            }
+            Self::NoScale { text, what } => {
+                write!(formatter, "a {text} needs a scale by which {what} become costs: add --scale X, such as 100")
+            }
             _ => self.lattice_words(formatter),
         }
     }

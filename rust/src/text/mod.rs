@@ -148,6 +148,7 @@
 mod expansion;
 mod fault;
 mod finish;
+mod fold;
 mod formats;
 mod grammar;
 mod graph;

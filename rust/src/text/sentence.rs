@@ -63,7 +63,11 @@ impl UtteranceReader<'_> {
                 Some(weight) => sentence.weight = Some(weight.ok_or_else(|| tokens.fault(no_weight(&token)))?),
                 None if token == Token::Bare(BECOMES) => sentence.translation = Some(translation(&mut tokens)?),
                 None => match self.said(&mut slots, &token, &tokens) {
-                    Err(Error::Text { fault: Fault::UnknownWord(word), .. }) => unknown = unknown.or(Some(word)),
+                    Err(Error::Text {
+                        fault: Fault::UnknownWord(word) | Fault::OtherSpelling { word, .. }, ..
+                    }) => {
+                        unknown = unknown.or(Some(word));
+                    }
                     said => said?,
                 },
             }

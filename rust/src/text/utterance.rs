@@ -1,5 +1,6 @@
 //! The text of an utterance of slots.
 
+use super::fold::{difference, folded};
 use super::formats::Format;
 use super::network::{is_network, Alignments};
 use super::plain::PlainWords;
@@ -36,6 +37,10 @@ pub struct UtteranceReader<'a> {
     /// The cost of a word with a posterior of 1/e in a confusion network, or a likelihood of 1/e in a lattice; twice as much
     /// has one with 1/e².
     pub scale: Option<f64>,
+    /// The grammar's words without case and composition of letters.
+    folded: HashMap<String, u32>,
+    /// Take words for one that differ only in case or in the composition of letters.
+    pub fold: bool,
     /// Leave out words that the grammar does not have, which no reading could use, in place of refusing them.
     pub drop_unknown: bool,
     /// Leave `*DELETE*` out of confusion networks in place of refusing it: something was said in every slot.
@@ -58,11 +63,15 @@ impl<'a> UtteranceReader<'a> {
     pub fn new(grammar: &'a NamedGrammar) -> Self {
         let words = grammar.words.iter().zip(0..).map(|(word, number)| (word.as_str(), number)).collect();
         let (plain, count) = (PlainWords::new(&grammar.words), grammar.words.len() as u32);
+        // of two that differ only so the first
+        let folded = (0..count).rev().map(|number| (folded(grammar.word(number)), number)).collect();
         Self {
             words,
             plain,
             count,
             scale: None,
+            folded,
+            fold: false,
             drop_unknown: false,
             drop_deletes: false,
             empty_words: Vec::new(),
@@ -202,16 +211,27 @@ impl<'a> UtteranceReader<'a> {
 
     /// The number of a word, if the grammar has it.
     pub(super) fn known(&self, word: &str) -> Option<u32> {
-        self.words.get(word).copied()
+        let other = || self.fold.then(|| self.folded.get(&folded(word)).copied()).flatten();
+        self.words.get(word).copied().or_else(other)
     }
 
     /// The number of a word; nothing if the grammar does not have it and such words are left out.
     pub(super) fn number(&self, word: &str) -> Result<Option<u32>, Fault> {
-        match self.words.get(word) {
-            None if self.drop_unknown || self.keep_unknown => Ok(None),
-            None => Err(Fault::UnknownWord(word.to_owned())),
-            Some(&number) => Ok(Some(number)),
+        if let Some(&number) = self.words.get(word) {
+            return Ok(Some(number));
         }
+        match self.folded.get(&folded(word)) {
+            Some(&number) if self.fold => Ok(Some(number)),
+            _ if self.drop_unknown || self.keep_unknown => Ok(None),
+            Some(number) => Err(self.other_spelling(word, *number)),
+            None => Err(Fault::UnknownWord(word.to_owned())),
+        }
+    }
+
+    /// That the grammar has a word, but spelt otherwise.
+    fn other_spelling(&self, word: &str, number: u32) -> Fault {
+        let known = self.words.iter().find(|(_, known)| **known == number).map_or("", |(known, _)| *known);
+        Fault::OtherSpelling { word: word.to_owned(), known: known.to_owned(), how: difference(word, known) }
     }
 }
 

@@ -2,7 +2,7 @@
 
 use super::messages::Messages;
 use crate::failure::Failure;
-use crate::output::Output;
+use crate::output::{is_dumb, Output};
 use spireyerba::Error;
 use std::collections::BTreeMap;
 use std::io::{stderr, IsTerminal};
@@ -136,7 +136,7 @@ struct Progress {
 
 impl Progress {
     fn begin(output: &Output) -> Self {
-        let shown = stderr().is_terminal() && !output.is_terminal();
+        let shown = stderr().is_terminal() && !output.is_terminal() && !is_dumb();
         Self { shown, begin: Instant::now(), drawn: None, pieces: 0, utterances: 0 }
     }
 
