@@ -224,7 +224,7 @@ impl<'a> Worker<'a> {
         begin: impl Fn(&mut Vec<u8>),
         json: &mut Vec<u8>,
     ) -> Result<(), Refusal> {
-        let Batch { names, named, wanted, .. } = self.batch;
+        let Batch { named, wanted, .. } = self.batch;
         let asked = self.sentences.as_ref().filter(|_| *wanted <= MAX_READINGS).map_or(*wanted, |_| MAX_READINGS);
         let found = match heard {
             Some(heard) => self.lister.find(heard, asked),
@@ -236,10 +236,10 @@ impl<'a> Worker<'a> {
         if let Some(sentences) = &mut self.sentences {
             sentences.clear();
             sentences.walk(&named.grammar, found.readings());
-            push_sentences(json, names, sentences);
+            push_sentences(json, self.batch, sentences);
             used_up = found.len() == MAX_READINGS as usize && sentences.found().len() < *wanted as usize;
         } else {
-            push_readings(json, names, found, &mut self.reading);
+            push_readings(json, self.batch, found, &mut self.reading);
         }
         let is_none = found.is_empty();
         json::end_list(json);
@@ -276,18 +276,18 @@ impl<'a> Worker<'a> {
 }
 
 /// Adds readings, in the memory of another.
-fn push_readings(json: &mut Vec<u8>, names: &json::Names, found: Found, memory: &mut Reading) {
+fn push_readings(json: &mut Vec<u8>, batch: &Batch, found: Found, memory: &mut Reading) {
     for number in 0..found.len() {
         found.read(number, memory);
-        begin_reading(json, names, number, memory);
+        begin_reading(json, batch, number, memory);
         json::end_reading(json);
     }
 }
 
 /// Adds the first reading of each sentence, and how many others it has.
-fn push_sentences(json: &mut Vec<u8>, names: &json::Names, sentences: &Distinct) {
+fn push_sentences(json: &mut Vec<u8>, batch: &Batch, sentences: &Distinct) {
     for (number, sentence) in sentences.found().iter().enumerate() {
-        begin_reading(json, names, number, &sentence.first);
+        begin_reading(json, batch, number, &sentence.first);
         json::push_key(json, "others");
         json::push_number(json, sentence.others);
         json::end_reading(json);
@@ -295,10 +295,14 @@ fn push_sentences(json: &mut Vec<u8>, names: &json::Names, sentences: &Distinct)
 }
 
 /// Adds a reading with so many before it, but for its end.
-fn begin_reading(json: &mut Vec<u8>, names: &json::Names, before: usize, reading: &Reading) {
-    names.begin_reading(json, Some(before as u32 + 1), reading);
+fn begin_reading(json: &mut Vec<u8>, batch: &Batch, before: usize, reading: &Reading) {
+    batch.names.begin_reading(json, Some(before as u32 + 1), reading);
     if let Some(path) = &reading.path {
         json::push_numbers(json, "edges", path.iter().copied());
+    }
+    let tree = batch.named.has_translations().then(|| batch.named.tree(reading)).flatten();
+    if let Some(tree) = tree {
+        json::push_translation(json, batch.named, &tree);
     }
 }
 
