@@ -7,7 +7,7 @@ mod resume;
 mod sink;
 mod source;
 
-use super::Command;
+pub use super::Command;
 use crate::failure::Failure;
 use crate::files;
 use crate::json;
@@ -17,8 +17,9 @@ use crate::options::{
     SCALE, WANTED,
 };
 use crate::output::Output;
+pub use lattices::{are_lattices, named};
 use lattices::{push_notes, Lines};
-use line::Line;
+pub use line::Line;
 use sink::{Answers, Refused, Sink};
 use source::{Piece, Source};
 use spireyerba::limits::MAX_READINGS;
@@ -253,7 +254,9 @@ impl<'a> Worker<'a> {
     /// Reads a line: a word graph, or else slots, whose block is then at hand.
     fn read(&mut self, line: &str) -> Result<Option<Lattice>, Error> {
         let reader = &self.batch.reader;
-        if line.trim_start().starts_with(|first: char| first.is_ascii_digit()) && is_graph(line) {
+        // what is left out is said
+        if reader.drop_unknown || line.trim_start().starts_with(|first: char| first.is_ascii_digit()) && is_graph(line)
+        {
             return reader.read_heard(line).map(Some);
         }
         reader.read_block(line, &mut self.sheet, &mut self.block)?;
