@@ -215,11 +215,13 @@ pub fn written(
 
 /// The lines of a text file, each with how many stand before it, but for those that are empty or a comment.
 pub fn lines(operand: &str) -> Result<Vec<(usize, String)>, Failure> {
-    File::read(operand)?.text(|text| {
-        let lines = text.trim_start_matches('\u{feff}').lines().enumerate();
-        let said = lines.filter(|(_, line)| !matches!(line.trim_start().chars().next(), None | Some('#')));
-        Ok(said.map(|(before, line)| (before, line.to_owned())).collect())
-    })
+    File::read(operand)?.text(|text| Ok(lines_of(text).map(|(before, line)| (before, line.to_owned())).collect()))
+}
+
+/// The same of a text.
+pub fn lines_of(text: &str) -> impl Iterator<Item = (usize, &str)> {
+    let lines = text.trim_start_matches('\u{feff}').lines().enumerate();
+    lines.filter(|(_, line)| !matches!(line.trim_start().chars().next(), None | Some('#')))
 }
 
 /// Words that were said, as a command line has them.

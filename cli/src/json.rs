@@ -112,6 +112,14 @@ impl Piece {
     }
 }
 
+/// Adds what a tree becomes, if the grammar's rules say it.
+pub fn push_translation(json: &mut Vec<u8>, named: &NamedGrammar, tree: &Tree) {
+    if named.has_translations() {
+        push_key(json, "translation");
+        push_string(json, &named.translation(tree));
+    }
+}
+
 /// The word, if it has one, of each rule of a grammar and the numbers of the text's rules whose nodes it makes, as they stand in
 /// lists, written once for many readings.
 pub struct Names {

@@ -32,6 +32,7 @@ mod output;
 mod page;
 mod reach;
 mod rows;
+mod width;
 mod words;
 
 use failure::Failure;

@@ -285,7 +285,7 @@ fn mistakes_in_networks() {
         ("align 0 x 1 y", "1:14: the line ends where a posterior should stand"),
         ("align 0 x y", "1:11: `y` is not a posterior from 0 to the network's"),
         ("align 0 x -1", "1:11: `-1` is not a posterior from 0 to the network's"),
-        ("align 0 x 2", "1:11: `2` is not a posterior from 0 to the network's"),
+        ("align 0 x 2", "1:11: `2` is not a posterior from 0 to the network's, which is 1"),
         ("align 0 x inf", "1:11: `inf` is not a posterior from 0 to the network's"),
         ("align 1 x 1", "1:7: alignment `1` where alignment 0 should stand"),
         ("align 0 x 1\nalign 2 x 1", "2:7: alignment `2` where alignment 1 should stand"),

@@ -7,7 +7,7 @@ mod resume;
 mod sink;
 mod source;
 
-use super::Command;
+pub use super::Command;
 use crate::failure::Failure;
 use crate::files;
 use crate::json;
@@ -17,8 +17,9 @@ use crate::options::{
     SCALE, WANTED,
 };
 use crate::output::Output;
+pub use lattices::{are_lattices, named};
 use lattices::{push_notes, Lines};
-use line::Line;
+pub use line::Line;
 use sink::{Answers, Refused, Sink};
 use source::{Piece, Source};
 use spireyerba::limits::MAX_READINGS;
@@ -224,7 +225,7 @@ impl<'a> Worker<'a> {
         begin: impl Fn(&mut Vec<u8>),
         json: &mut Vec<u8>,
     ) -> Result<(), Refusal> {
-        let Batch { names, named, wanted, .. } = self.batch;
+        let Batch { named, wanted, .. } = self.batch;
         let asked = self.sentences.as_ref().filter(|_| *wanted <= MAX_READINGS).map_or(*wanted, |_| MAX_READINGS);
         let found = match heard {
             Some(heard) => self.lister.find(heard, asked),
@@ -236,10 +237,10 @@ impl<'a> Worker<'a> {
         if let Some(sentences) = &mut self.sentences {
             sentences.clear();
             sentences.walk(&named.grammar, found.readings());
-            push_sentences(json, names, sentences);
+            push_sentences(json, self.batch, sentences);
             used_up = found.len() == MAX_READINGS as usize && sentences.found().len() < *wanted as usize;
         } else {
-            push_readings(json, names, found, &mut self.reading);
+            push_readings(json, self.batch, found, &mut self.reading);
         }
         let is_none = found.is_empty();
         json::end_list(json);
@@ -253,7 +254,9 @@ impl<'a> Worker<'a> {
     /// Reads a line: a word graph, or else slots, whose block is then at hand.
     fn read(&mut self, line: &str) -> Result<Option<Lattice>, Error> {
         let reader = &self.batch.reader;
-        if line.trim_start().starts_with(|first: char| first.is_ascii_digit()) && is_graph(line) {
+        // what is left out is said
+        if reader.drop_unknown || line.trim_start().starts_with(|first: char| first.is_ascii_digit()) && is_graph(line)
+        {
             return reader.read_heard(line).map(Some);
         }
         reader.read_block(line, &mut self.sheet, &mut self.block)?;
@@ -276,18 +279,18 @@ impl<'a> Worker<'a> {
 }
 
 /// Adds readings, in the memory of another.
-fn push_readings(json: &mut Vec<u8>, names: &json::Names, found: Found, memory: &mut Reading) {
+fn push_readings(json: &mut Vec<u8>, batch: &Batch, found: Found, memory: &mut Reading) {
     for number in 0..found.len() {
         found.read(number, memory);
-        begin_reading(json, names, number, memory);
+        begin_reading(json, batch, number, memory);
         json::end_reading(json);
     }
 }
 
 /// Adds the first reading of each sentence, and how many others it has.
-fn push_sentences(json: &mut Vec<u8>, names: &json::Names, sentences: &Distinct) {
+fn push_sentences(json: &mut Vec<u8>, batch: &Batch, sentences: &Distinct) {
     for (number, sentence) in sentences.found().iter().enumerate() {
-        begin_reading(json, names, number, &sentence.first);
+        begin_reading(json, batch, number, &sentence.first);
         json::push_key(json, "others");
         json::push_number(json, sentence.others);
         json::end_reading(json);
@@ -295,10 +298,14 @@ fn push_sentences(json: &mut Vec<u8>, names: &json::Names, sentences: &Distinct)
 }
 
 /// Adds a reading with so many before it, but for its end.
-fn begin_reading(json: &mut Vec<u8>, names: &json::Names, before: usize, reading: &Reading) {
-    names.begin_reading(json, Some(before as u32 + 1), reading);
+fn begin_reading(json: &mut Vec<u8>, batch: &Batch, before: usize, reading: &Reading) {
+    batch.names.begin_reading(json, Some(before as u32 + 1), reading);
     if let Some(path) = &reading.path {
         json::push_numbers(json, "edges", path.iter().copied());
+    }
+    let tree = batch.named.has_translations().then(|| batch.named.tree(reading)).flatten();
+    if let Some(tree) = tree {
+        json::push_translation(json, batch.named, &tree);
     }
 }
 

@@ -234,10 +234,7 @@ pub fn json_of(listed: &Listed, ranks: RangeInclusive<usize>) -> Vec<u8> {
         json::push_key(&mut line, "tree");
         let tree = listed.tree(reading);
         json::push_tree(&mut line, named, &tree);
-        if named.has_translations() {
-            json::push_key(&mut line, "translation");
-            json::push_string(&mut line, &named.translation(&tree));
-        }
+        json::push_translation(&mut line, named, &tree);
         json::end_reading(&mut line);
     }
     json::end_list(&mut line);

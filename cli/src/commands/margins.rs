@@ -8,6 +8,7 @@ use crate::json;
 use crate::no_reading::NO_READING;
 use crate::options::{Arguments, DROP_DELETES, DROP_UNKNOWN, EMPTY, EXACT, FOLD, FORMAT, JSON, PATHS, SAID, SCALE};
 use crate::output::{Output, Style};
+use crate::width::{columns, padded};
 use spireyerba::text::{Lattice, NamedGrammar};
 use spireyerba::{Error, Heard, WordMargin};
 
@@ -68,12 +69,12 @@ fn print(named: &NamedGrammar, margins: &[WordMargin], output: &mut Output) -> R
     };
     let amount_width = width(|_, margin| margin.amount.to_string().len());
     let slot_width = width(|_, margin| margin.slot.to_string().len());
-    let word_width = width(|named, margin| named.word(margin.word).chars().count());
+    let word_width = width(|named, margin| columns(named.word(margin.word)));
     let weight_width = width(|_, margin| margin.weight.to_string().len());
     for WordMargin { amount, slot, word, weight } in margins {
         let amount = output.paint(Style::Strong, &format!("{amount:>amount_width$}"));
-        let word = named.word(*word);
-        output.line(&format!("{amount}  slot {slot:<slot_width$}  {word:<word_width$}  {weight:>weight_width$}"))?;
+        let word = padded(named.word(*word), word_width);
+        output.line(&format!("{amount}  slot {slot:<slot_width$}  {word}  {weight:>weight_width$}"))?;
     }
     Ok(())
 }

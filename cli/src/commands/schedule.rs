@@ -1,47 +1,65 @@
 //! `schedule`: a row for each utterance.
 
+use super::batch::{are_lattices, named, Line};
 use super::Command;
 use crate::failure::Failure;
-use crate::files::{self, GrammarFile};
+use crate::files::{self, File, GrammarFile};
 use crate::no_reading::NoReading;
-use crate::options::{Arguments, CLOSE, COLUMNS, DROP_DELETES, DROP_UNKNOWN, EMPTY, FILE, FOLD, HTML, SCALE};
+use crate::options::{
+    Arguments, CLOSE, COLUMNS, DROP_DELETES, DROP_UNKNOWN, EMPTY, EXACT, FILE, FILES, FOLD, FORMAT, HTML, PATHS, SCALE,
+};
 use crate::output::Output;
 use crate::rows::{csv, html, Row};
-use spireyerba::text::{is_graph, nearest, UtteranceReader};
-use spireyerba::{Error, Heard, Part, Reading, Tree};
+use spireyerba::text::{nearest, Lattice, UtteranceReader};
+use spireyerba::{Error, Part, Reading, Refusal, Tree};
 
 pub const COMMAND: Command = Command {
     name: "schedule",
     operands: &["GRAMMAR", "FILE"],
-    needed: 2,
-    options: &[COLUMNS, CLOSE, HTML, FILE, SCALE, FOLD, DROP_UNKNOWN, DROP_DELETES, EMPTY],
+    needed: 1,
+    options: &[
+        COLUMNS,
+        CLOSE,
+        HTML,
+        FILES,
+        FILE,
+        FORMAT,
+        SCALE,
+        FOLD,
+        DROP_UNKNOWN,
+        DROP_DELETES,
+        EMPTY,
+        PATHS,
+        EXACT,
+    ],
     summary: "write a table with a row for each utterance, the columns of which are symbols",
     details: "\
-A line of the file has an utterance or a word graph, as for `batch`; a file with a lattice or a confusion network is one
-utterance. A column has what the first node of its symbol becomes in the first reading, the last ones the weight and a
+A line of the file has an utterance or a word graph, with or without a name before a tab, as for `batch`; of a file with
+lattices, and of each that --files names, every lattice is a row. A column has what the first node of its symbol becomes in the first reading, the last ones the weight and a
 note: what another reading has in a column, if it weighs at most W more, or why there is no reading. Those are the rows to look at.",
     example: "spireyerba schedule grammar.txt utterances.txt --columns Number,Leaf --close 10",
     run,
 };
+
+/// The cells of a row, its weight, and the cells of another reading that is close.
+type Cells = (Vec<String>, u32, Option<Vec<String>>);
 
 /// Readings among which another row is looked for.
 const LOOKED_AT: u32 = 16;
 
 fn run(arguments: &Arguments, output: &mut Output) -> Result<(), Failure> {
     let grammar = files::grammar(arguments.operands[0])?;
-    let schedule = Schedule {
-        columns: columns(arguments, &grammar)?,
-        close: arguments.number(&CLOSE)?.unwrap_or(0),
-        reader: files::utterance_reader(arguments, &grammar.named)?,
-        grammar: &grammar,
-        name: files::name_of(arguments.operands[1]),
+    let reader = files::utterance_reader(arguments, &grammar.named)?;
+    let (operand, are_files) = named(arguments)?;
+    let name = files::name_of(operand);
+    let (columns, close) = (columns(arguments, &grammar)?, arguments.number(&CLOSE)?.unwrap_or(0));
+    let schedule = Schedule { columns, close, reader, grammar: &grammar, name };
+    let rows = match are_files {
+        true => files::lines(operand)?.iter().flat_map(|(before, line)| schedule.rows_of_file(*before, line)).collect(),
+        false => schedule.rows(&File::read(operand)?.text(|text| Ok(text.to_owned()))?),
     };
-    let rows = schedule.rows(arguments.operands[1])?;
     let names: Vec<&str> = schedule.columns.iter().map(|symbol| grammar.named.symbol(*symbol)).collect();
-    let text = match arguments.has(&HTML) {
-        true => html(&names, &rows, files::name_of(arguments.operands[1])),
-        false => csv(&names, &rows),
-    };
+    let text = if arguments.has(&HTML) { html(&names, &rows, name) } else { csv(&names, &rows) };
     files::write(arguments, output, text.as_bytes())
 }
 
@@ -73,48 +91,74 @@ struct Schedule<'a> {
 }
 
 impl Schedule<'_> {
-    /// The rows of a file: of its lines, or of the one utterance that a lattice or a network is.
-    fn rows(&self, operand: &str) -> Result<Vec<Row>, Failure> {
-        let lines = files::lines(operand)?;
-        let text: String = lines.iter().map(|(_, line)| format!("{line}\n")).collect();
-        let is_one = text.starts_with("numaligns") || text.starts_with("VERSION=") || text.starts_with("align ");
-        if is_one {
-            let row = self.heard(&text, true).and_then(|heard| self.row(1, &heard));
-            return Ok(vec![row.unwrap_or_else(|error| self.refused(1, error))]);
+    /// The rows of a text: of each lattice, or of each line.
+    fn rows(&self, text: &str) -> Vec<Row> {
+        if !are_lattices(text, self.reader.format) {
+            return files::lines_of(text).map(|(before, line)| self.row_of_line(&Line::new(line, before))).collect();
         }
-        let row = |(before, line): &(usize, String)| {
-            let row = self.heard(line, false).and_then(|heard| self.row(before + 1, &heard));
-            row.unwrap_or_else(|error| self.refused(before + 1, error))
-        };
-        Ok(lines.iter().map(row).collect())
-    }
-
-    fn heard(&self, text: &str, is_one: bool) -> Result<Heard, Error> {
-        match is_graph(text) {
-            true => self.reader.read_graph(text).map(Heard::Graph),
-            false if is_one => self.reader.read(text).map(Heard::Slots),
-            false => self.reader.read_line(text).map(Heard::Slots),
+        let line = Line::new(text, 0);
+        match self.reader.read_all_heard(text) {
+            Err(error) => vec![self.refused(&line, None, error.in_file(self.name).to_string())],
+            Ok(lattices) => lattices.iter().map(|lattice| self.row(&line, lattice.id.as_deref(), lattice)).collect(),
         }
     }
 
-    /// The row of what was heard in a line.
-    fn row(&self, line: usize, heard: &Heard) -> Result<Row, Error> {
-        let readings = self.grammar.packed.list(heard, LOOKED_AT)?;
+    fn row_of_line(&self, line: &Line) -> Row {
+        match self.reader.read_heard(line.heard) {
+            Ok(lattice) => self.row(line, line.name, &lattice),
+            Err(error) => {
+                let error = error.in_file(self.name).after_columns(line.columns()).after_lines(line.before);
+                self.refused(line, line.name, error.to_string())
+            }
+        }
+    }
+
+    /// The rows of the lattices of a file that a line names.
+    fn rows_of_file(&self, before: usize, line: &str) -> Vec<Row> {
+        let line = Line::new(line, before);
+        let read = File::read(line.heard.trim()).and_then(|file| file.text(|text| self.reader.read_all_heard(text)));
+        match read {
+            Err(failure) => vec![self.refused(&line, Some(line.name_of(None, true)), failure.message().to_owned())],
+            Ok(lattices) => {
+                let id = |lattice: &'_ Lattice| line.name_of(lattice.id.as_deref(), lattices.len() == 1).to_owned();
+                lattices.iter().map(|lattice| self.row(&line, Some(&id(lattice)), lattice)).collect()
+            }
+        }
+    }
+
+    /// The row of what was heard.
+    fn row(&self, line: &Line, id: Option<&str>, lattice: &Lattice) -> Row {
+        let missing = lattice.notes().join("; ");
+        match self.first_of(lattice) {
+            Ok(Ok((cells, weight, other))) => {
+                let note = other.as_ref().map_or(String::new(), |other| self.note(&cells, other));
+                Row { cells, weight: Some(weight), other, missing, ..self.refused(line, id, note) }
+            }
+            Ok(Err(none)) => Row { missing, ..self.refused(line, id, none) },
+            Err(refusal) => {
+                Row { missing, ..self.refused(line, id, Error::from(refusal).in_file(self.name).to_string()) }
+            }
+        }
+    }
+
+    /// The cells and the weight of the first reading, and the cells of another that is close; or why there is no reading.
+    fn first_of(&self, lattice: &Lattice) -> Result<Result<Cells, String>, Refusal> {
+        let readings = self.grammar.packed.list(&lattice.heard, LOOKED_AT)?;
         let Some(first) = readings.first() else {
-            let note = NoReading::new(&self.grammar.named, heard)?.message().replace("\n  ", "; ");
-            return Ok(Row { line, cells: vec![String::new(); self.columns.len()], weight: None, other: None, note });
+            let none = NoReading::new(&self.grammar.named, &lattice.heard)?;
+            return Ok(Err(none.message().replace("\n  ", "; ")));
         };
         let cells = self.cells(first);
         let close = readings.iter().skip(1).take_while(|other| other.weight - first.weight <= self.close);
         let other = close.map(|other| self.cells(other)).find(|other| *other != cells);
-        let note = other.as_ref().map_or(String::new(), |other| self.note(&cells, other));
-        Ok(Row { line, cells, weight: Some(first.weight), other, note })
+        Ok(Ok((cells, first.weight, other)))
     }
 
-    /// A row of a line that cannot be read.
-    fn refused(&self, line: usize, error: Error) -> Row {
-        let error = error.in_file(self.name).after_lines(line - 1);
-        Row { line, cells: vec![String::new(); self.columns.len()], weight: None, other: None, note: error.to_string() }
+    /// A row without a reading, with the reason.
+    fn refused(&self, line: &Line, id: Option<&str>, note: String) -> Row {
+        let cells = vec![String::new(); self.columns.len()];
+        let id = id.map(str::to_owned);
+        Row { line: line.before + 1, id, cells, weight: None, other: None, note, missing: String::new() }
     }
 
     /// What the first node of each column's symbol becomes in a reading.

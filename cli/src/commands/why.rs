@@ -8,6 +8,7 @@ use crate::options::{
     Arguments, DISTINCT, DROP_DELETES, DROP_UNKNOWN, EMPTY, EXACT, FOLD, FORMAT, PATHS, SAID, SCALE, SKIP,
 };
 use crate::output::{Output, Style};
+use crate::width::{columns, padded};
 use spireyerba::{Candidate, Reading};
 use std::collections::BTreeSet;
 
@@ -107,16 +108,17 @@ fn times(more: i64, text: String) -> String {
 fn print(rows: &[Row], rank: u32, sum: i64, output: &mut Output) -> Result<(), Failure> {
     let title = format!("reading {rank}");
     let width = |column: fn(&Row) -> &str, title: &str| {
-        rows.iter().map(|row| column(row).chars().count()).chain([title.len()]).max().unwrap_or(0)
+        rows.iter().map(|row| columns(column(row))).chain([title.len()]).max().unwrap_or(0)
     };
     let [place, first, other] =
         [width(|row| &row.place, ""), width(|row| &row.first, "first"), width(|row| &row.other, &title)];
     let head = format!("{:place$}  {:first$}  {title:other$}", "", "first");
     output.line(output.paint(Style::Faint, head.trim_end()).as_str())?;
     for row in rows {
-        let named = output.paint(Style::Faint, &format!("{:place$}", row.place));
+        let named = output.paint(Style::Faint, &padded(&row.place, place));
         let difference = output.paint(Style::Strong, &signed(row.difference));
-        output.line(&format!("{named}  {:first$}  {:other$}{difference}", row.first, row.other))?;
+        let (first, other) = (padded(&row.first, first), padded(&row.other, other));
+        output.line(&format!("{named}  {first}  {other}{difference}"))?;
     }
     let sum = output.paint(Style::Strong, &signed(sum));
     output.line(&format!("{:place$}  {:first$}  {:other$}{sum}", "", "", ""))

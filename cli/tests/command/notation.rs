@@ -133,3 +133,9 @@ fn words_in_place_of_an_utterance() {
         "--words:1:1: refused 14: the grammar has no word `window`\n"
     );
 }
+
+#[test]
+fn batch_translates() {
+    let out = answer_with(&door_schedule(), "batch grammar.txt - -n 1", b"door; five; steel; sixty\n");
+    assert!(out.contains(r#","translation":"5 steel FD60"}]"#), "{out}");
+}

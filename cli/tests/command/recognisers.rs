@@ -133,3 +133,19 @@ fn the_page_says_what_is_missing() {
     assert!(page.out.contains(&format!("<p class=\"left-out\">{note}.</p>")), "{}", page.out);
     assert!(page.out.contains(">0.50 s</text>"), "{}", page.out);
 }
+
+/// Words that are left out are said of slots and of plain word graphs too.
+#[test]
+fn what_is_left_out_of_slots_is_said() {
+    let files: [(&str, &[u8]); 3] = [
+        ("g", b"A -> A A | \"x\""),
+        ("slots", b"x 1 | um 2; x 3 | ah 4\n"),
+        ("graph", b"0 1 x 1\n0 1 um 2\n1 2 x 3\n"),
+    ];
+    let folder = folder("left_out", &files);
+    for (file, words) in [("slots", "um, ah"), ("graph", "um")] {
+        let note = format!("{file}: left out, for the grammar does not have them: {words}\n");
+        let run = run_in(&folder, &format!("list g {file} --drop-unknown"));
+        assert_eq!(run, Run { status: 0, out: "1  4  x x\n".to_owned(), err: note });
+    }
+}

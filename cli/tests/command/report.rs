@@ -92,7 +92,7 @@ fn names_are_text() {
 }
 
 /// The browser that is there; if there is none, this says so.
-fn browser() -> Option<&'static str> {
+pub fn browser() -> Option<&'static str> {
     let is_there = |name: &&&str| Command::new(name).arg("--version").output().is_ok_and(|run| run.status.success());
     let found = BROWSERS.iter().find(is_there).copied();
     if found.is_none() {
@@ -103,7 +103,7 @@ fn browser() -> Option<&'static str> {
 }
 
 /// Opens a page of a folder in a browser that nobody sees.
-fn open(browser: &str, folder: &Path, page: &str, options: &[&str]) -> Output {
+pub fn open(browser: &str, folder: &Path, page: &str, options: &[&str]) -> Output {
     let mut command = Command::new(browser);
     command.args(["--headless", "--no-sandbox", "--disable-gpu", "--disable-dev-shm-usage", "--hide-scrollbars"]);
     command.arg(format!("--user-data-dir={}", folder.join("profile").display()));

@@ -193,8 +193,9 @@ fn mistakes_in_files() {
     ] {
         assert_eq!(refused(run_in(&folder, words), 1), format!("{message}\n"), "{words}");
     }
-    let list = answer_in(&folder, "list g word --drop-unknown");
-    assert_eq!(list, "1  7  x x\n");
+    let list = run_in(&folder, "list g word --drop-unknown");
+    let note = "word: left out, for the grammar does not have them: y\n";
+    assert_eq!((list.status, list.out.as_str(), list.err.as_str()), (0, "1  7  x x\n", note));
     assert_eq!(run_in(&folder, "list g network --scale 100 --drop-deletes").status, 0);
 }
 

@@ -133,6 +133,13 @@ pub enum Fault {
     },
     /// A posterior that is not a number from 0 to that of the whole network.
     Posterior(String),
+    /// A posterior that is above that of the whole network.
+    PosteriorAbove {
+        /// The posterior.
+        posterior: String,
+        /// The network's.
+        most: f64,
+    },
     /// A posterior or a score whose cost passes 65,534, the greatest of a word that was heard.
     CostTooLarge(String),
     /// `*DELETE*`: perhaps nothing was said, which a slot cannot say.
@@ -286,6 +293,9 @@ impl Fault {
                 write!(formatter, "the {text} says {said} {what} and has {found}")
             }
             Self::Posterior(item) => write!(formatter, "`{item}` is not a posterior from 0 to the network's"),
+            Self::PosteriorAbove { posterior, most } => {
+                write!(formatter, "`{posterior}` is not a posterior from 0 to the network's, which is {most}")
+            }
             Self::CostTooLarge(item) => {
                 write!(formatter, "`{item}` gives a cost that passes {}: a smaller scale is needed", NOT_HEARD - 1)
             }

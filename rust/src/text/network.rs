@@ -101,7 +101,10 @@ impl<'a> Alignments<'a> {
         // rounded posteriors may pass the whole by a little
         match share <= 1.0 + ROUNDING {
             true => Ok(share.min(1.0)),
-            false => Err(posterior.fault(Fault::Posterior(posterior.text.to_owned()))),
+            false => {
+                let text = posterior.text.to_owned();
+                Err(posterior.fault(Fault::PosteriorAbove { posterior: text, most: self.posterior }))
+            }
         }
     }
 
@@ -141,8 +144,8 @@ impl<'a> Alignments<'a> {
         if word.is_deletion() {
             return if reader.drop_deletes { Ok(()) } else { Err(word.fault(Fault::Deletion)) };
         }
-        let share = posterior.posterior()? / self.posterior;
-        let cost = cost(share, scale).map_err(|fault| posterior.fault(fault(posterior.text.to_owned())))?;
+        let cost =
+            cost(self.share(posterior)?, scale).map_err(|fault| posterior.fault(fault(posterior.text.to_owned())))?;
         let taken = reader.take(slots, word.text).map_err(|fault| word.fault(fault))?;
         if let Some(word) = taken {
             slots.add(Candidate { word, cost });

@@ -23,12 +23,7 @@ pub struct Lines<'a> {
 impl<'a> Lines<'a> {
     /// The lines that the command line names: a list of files, utterances, or a file of lattices, which is a list of one.
     pub fn open(arguments: &Arguments<'a>, format: Option<Format>) -> Result<Self, Failure> {
-        let (operand, are_files) = match (arguments.value(&FILES), arguments.operands.get(1)) {
-            (Some(list), None) => (list, true),
-            (None, Some(file)) => (*file, false),
-            (Some(_), Some(_)) => return Err(arguments.wrong("--files and FILE: only one of them")),
-            (None, None) => return Err(arguments.wrong("FILE is missing")),
-        };
+        let (operand, are_files) = named(arguments)?;
         if !are_files && is_of_lattices(operand, format)? {
             let file = Box::new(Cursor::new(operand.to_owned().into_bytes()));
             return Ok(Self { operand, are_files: true, file });
@@ -37,20 +32,36 @@ impl<'a> Lines<'a> {
     }
 }
 
-/// Whether a file is lattices and not utterances, one a line: the command line says so, or its front is a lattice in HTK's
-/// format or one of Kaldi's.
-fn is_of_lattices(operand: &str, format: Option<Format>) -> Result<bool, Failure> {
-    if let Some(format) = format {
-        return Ok(!matches!(format, Format::Slots | Format::Graph));
+/// What the command line names, and whether it is a list of files.
+pub fn named<'a>(arguments: &Arguments<'a>) -> Result<(&'a str, bool), Failure> {
+    match (arguments.value(&FILES), arguments.operands.get(1)) {
+        (Some(list), None) => Ok((list, true)),
+        (None, Some(file)) => Ok((*file, false)),
+        (Some(_), Some(_)) => Err(arguments.wrong("--files and FILE: only one of them")),
+        (None, None) => Err(arguments.wrong("FILE is missing")),
     }
+}
+
+/// Whether a text is lattices and not utterances, one a line: the command line says so, or its front is a lattice in HTK's
+/// format, one of Kaldi's, or a confusion network.
+pub fn are_lattices(text: &str, format: Option<Format>) -> bool {
+    match format {
+        Some(format) => !matches!(format, Format::Slots | Format::Graph),
+        None => matches!(Format::of(text), Format::Slf | Format::Kaldi | Format::Network),
+    }
+}
+
+/// Whether a file has lattices.
+fn is_of_lattices(operand: &str, format: Option<Format>) -> Result<bool, Failure> {
     // what is taken from standard input is gone
-    if files::name_of(operand) != operand || !files::is_still(operand) {
+    if format.is_none() && (files::name_of(operand) != operand || !files::is_still(operand)) {
         return Ok(false);
     }
     let mut front = Vec::new();
-    files::open(operand)?.take(FRONT).read_to_end(&mut front).map_err(|error| Failure::file(operand, &error))?;
-    let format = Format::of(&String::from_utf8_lossy(&front));
-    Ok(matches!(format, Format::Slf | Format::Kaldi))
+    if format.is_none() {
+        files::open(operand)?.take(FRONT).read_to_end(&mut front).map_err(|error| Failure::file(operand, &error))?;
+    }
+    Ok(are_lattices(&String::from_utf8_lossy(&front), format))
 }
 
 /// The lattices of a file.

@@ -8,7 +8,7 @@ pub struct Line<'a> {
     /// The lines before it.
     pub before: usize,
     /// What stands before a tab.
-    name: Option<&'a str>,
+    pub name: Option<&'a str>,
     pub heard: &'a str,
 }
 
@@ -31,11 +31,16 @@ impl<'a> Line<'a> {
         self.begin_as(json, self.name);
     }
 
-    /// Begins the answer of a lattice of the file that it names: one of several has its own name, and one alone the line's, or its
-    /// own, or that of the file.
-    pub fn begin_lattice(&self, json: &mut Vec<u8>, own: Option<&str>, is_alone: bool) {
+    /// The name of a lattice of the file that it names: one of several has its own, and one alone the line's, or its own, or that
+    /// of the file.
+    pub fn name_of<'b>(&'b self, own: Option<&'b str>, is_alone: bool) -> &'b str {
         let [first, second] = if is_alone { [self.name, own] } else { [own, self.name] };
-        self.begin_as(json, first.or(second).or(Some(self.heard.trim())));
+        first.or(second).unwrap_or(self.heard.trim())
+    }
+
+    /// Begins the answer of a lattice of the file that it names.
+    pub fn begin_lattice(&self, json: &mut Vec<u8>, own: Option<&str>, is_alone: bool) {
+        self.begin_as(json, Some(self.name_of(own, is_alone)));
     }
 
     fn begin_as(&self, json: &mut Vec<u8>, name: Option<&str>) {

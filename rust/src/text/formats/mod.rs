@@ -162,8 +162,16 @@ impl UtteranceReader<'_> {
     /// Reads all that a text has, of which only some formats have several.
     pub fn read_all_heard(&self, text: &str) -> Result<Vec<Lattice>, Error> {
         match self.read_plain(text) {
-            Some(plain) => Ok(vec![Lattice::from(plain?)]),
+            Some(plain) => Ok(vec![Lattice { dropped: self.left_out(text), ..Lattice::from(plain?) }]),
             None => self.recognised(text)?.iter().map(|recognised| recognised.reduce(self.keep, self.exact)).collect(),
+        }
+    }
+
+    /// The words of a text that are left out, each once.
+    fn left_out(&self, text: &str) -> Vec<String> {
+        match self.drop_unknown {
+            true => self.recognised(text).into_iter().flatten().flat_map(|recognised| recognised.dropped).collect(),
+            false => Vec::new(),
         }
     }
 

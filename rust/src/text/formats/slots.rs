@@ -36,13 +36,14 @@ fn slot(draft: &mut Draft, from: u32, tokens: &mut Tokens) -> Result<Option<u32>
             Token::Quoted(word) => word.into_owned(),
             other => return tokens.expected("a word", Some(other)),
         };
-        let cost = match tokens.next()? {
-            Some(Token::Bare(item)) => weight(item, "cost").map_err(|fault| tokens.fault(fault))?,
-            other => return tokens.expected("a cost", other),
-        };
+        let (mut next, mut cost) = (tokens.next()?, 0);
+        if let Some(Token::Bare(item)) = next {
+            cost = weight(item, "cost").map_err(|fault| tokens.fault(fault))?;
+            next = tokens.next()?;
+        }
         let cost = if cost == NOT_HEARD { f64::INFINITY } else { f64::from(cost) };
         draft.link(Link { from, to, word: Some(said), cost, position })?;
-        word = match tokens.next()? {
+        word = match next {
             None | Some(Token::Mark(';')) => return Ok(Some(to)),
             Some(Token::Mark('|')) => match tokens.next()? {
                 Some(word) => word,
