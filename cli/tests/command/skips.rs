@@ -122,6 +122,9 @@ fn words_that_the_grammar_does_not_have() {
         let refused = list("--scale 1", text);
         assert!(refused.status == 1 && refused.err.contains("the grammar has no word `um`"), "{}", refused.err);
     }
+    // a word that was not heard is not there to be said, but the place may be passed over
+    let unheard = list("--skip 20 -n 2", b"0 1 door 4\n1 2 um 1\n2 3 four 65535\n2 3 five 9\n3 4 oak 7");
+    assert!(unheard.status == 0 && !unheard.out.contains("four"), "{unheard:?}");
     let nothing = list("--skip 20", b"um 4; er 2");
     assert_eq!(refused(nothing, 1), "<stdin>: no path has a word of the grammar\n");
 }

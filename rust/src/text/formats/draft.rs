@@ -3,7 +3,7 @@
 use crate::lattice::{
     reduce, word_label, Acceptor, Arc, Cycle, Keep, Misfit, Pruned, Reduced, State, EPSILON, UNKNOWN,
 };
-use crate::limits::{MAX_EDGES, MAX_PLACES};
+use crate::limits::{MAX_EDGES, MAX_PLACES, NOT_HEARD};
 use crate::text::utterance::UtteranceReader;
 use crate::text::Fault;
 use crate::{Error, Heard, Position};
@@ -63,6 +63,13 @@ impl Draft {
         }
         self.links.push(link);
         Ok(())
+    }
+
+    /// A plain word graph, in which a cost of 65,535 says that the word was not heard.
+    pub(in crate::text) fn of_plain(mut self) -> Self {
+        let not_heard = self.links.iter_mut().filter(|link| link.cost == f64::from(NOT_HEARD));
+        not_heard.for_each(|link| link.cost = f64::INFINITY);
+        self
     }
 
     /// The acceptor over the labels of a grammar's words.

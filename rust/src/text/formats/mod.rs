@@ -210,7 +210,8 @@ impl UtteranceReader<'_> {
         match self.format.unwrap_or_else(|| Format::of(text)) {
             Format::Slots => self.slots_draft(text).map(one),
             Format::Network => Alignments::parse(text)?.draft(self).map(one),
-            Format::Graph | Format::OpenFst => fst::parse_openfst(text).map(one),
+            Format::Graph => fst::parse_openfst(text).map(Draft::of_plain).map(one),
+            Format::OpenFst => fst::parse_openfst(text).map(one),
             Format::Slf => self.slf_draft(text).map(one),
             Format::Kaldi => fst::parse_kaldi(text),
             Format::NBest => nbest::parse(text).map(one),
