@@ -1,3 +1,8 @@
+pub mod TwoCalls
+pub mod Determined
+pub mod EveryPhrase
+pub mod RearrangedCalls
+pub mod Sequences
 pub mod Answered
 pub mod Listings
 pub mod Entries

@@ -19,7 +19,7 @@ use Rattle.traced_readings.specs.Ranked.{Ranked}
 use Rattle.listing.specs.Demand3.{RankedList}
 use Rattle.cost_changes.specs.Costs.{FirstWeight}
 use Rattle.cost_changes.proofs.First.{first-unique}
-use Rattle.spireyerba.specs.RearrangedCalls.{weightHeld}
+use Rattle.calls.specs.RearrangedCalls.{weightHeld}
 use Rattle.calls.specs.ChangedCalls.{ListingCall, firstHeld}
 
 -- as many things have a property as have one that means the same

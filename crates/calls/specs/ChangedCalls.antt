@@ -23,7 +23,7 @@ use Rattle.cost_changes.specs.Costs.{First}
 use Rattle.cost_changes.specs.Ranges.{Choice}
 use Rattle.cost_changes.specs.Margins.{lowerWord, UsesWord, entry, entryNumbers}
 use Rattle.spireyerba.specs.Demands.{Listing, CostRanges, WordMargins}
-use Rattle.spireyerba.specs.RearrangedCalls.{weightHeld}
+use Rattle.calls.specs.RearrangedCalls.{weightHeld}
 
 -- a call of the listing on blocks of g and h, asked for N readings, from 1 to 256, and lent enough for them: its code, and the output that it leaves
 pub record ListingCall (g : Grammar) (h : Heard) (N : ℕ) (code : ℤ) (written : List ℕ) : Type 0 where

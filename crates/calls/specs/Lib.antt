@@ -1,1 +1,2 @@
+pub mod RearrangedCalls
 pub mod ChangedCalls

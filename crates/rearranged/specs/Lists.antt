@@ -1,5 +1,5 @@
 -- Rules in another order, of the lists of least derivations, of slots and of graphs. Nobody need believe this page: it is about the enumeration of
--- derivation's HeardList; spireyerba's RearrangedCalls has what follows of two calls of the listing.
+-- derivation's HeardList; calls' RearrangedCalls has what follows of two calls of the listing.
 use mathlib.Core.Path.{_≡_}
 use mathlib.Core.List.{List}
 use Prim.Native.Nat.{ℕ, _<_}

@@ -1,5 +1,5 @@
 -- Rules in another order: document 02, N13: what it is to be rearranged, and to be the same after renumbering. What the listing answers and
--- writes stands in spireyerba's RearrangedCalls. Stands on packing's Meaning and on derivation's Derivation.
+-- writes stands in calls' RearrangedCalls. Stands on packing's Meaning and on derivation's Derivation.
 use mathlib.Core.Path.{_≡_}
 use mathlib.Core.Logic.{_↔_}
 use Prim.Native.Nat.{ℕ, _<_}

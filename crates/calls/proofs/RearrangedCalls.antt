@@ -31,11 +31,12 @@ use Rattle.listing.specs.Conditions.{library, conditions, askedListing}
 use Rattle.listing.proofs.Accepted.{Asks, conditions-asks}
 use Rattle.traced_readings.specs.Ranked.{Ranked}
 use Rattle.listing.specs.Demand3.{kthBytes, RankedList}
 use Rattle.spireyerba.specs.Demands as D
 use Rattle.spireyerba.specs.Demands.{Demand1, answers, refuses}
-use Rattle.spireyerba.specs.RearrangedCalls.{weightHeld, Among, SameReadings, RearrangedCalls}
+use Rattle.calls.specs.RearrangedCalls.{weightHeld, Among, SameReadings, RearrangedCalls}
 use Rattle.spireyerba.proofs.Small.{low-listing}
-use Rattle.spireyerba.proofs.Demands.{low-code, found}
+use Rattle.spireyerba.proofs.Demands.{low-code}
+use Rattle.calls.proofs.TwoCalls.{found}
 
 module _ (grammar heard : List ℕ) {g : Grammar} {h : Heard} (p : grammarBlock grammar ≡ accepted g) (q : heardBlock (g .words) heard ≡ accepted h)
     (N : ℕ) where

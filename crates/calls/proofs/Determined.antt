@@ -22,9 +22,9 @@ use Rattle.cost_changes.proofs.Theorems.{answer-unique}
 use Rattle.cost_changes.proofs.Listed.{margins-unique}
 use Rattle.phrases.specs.Phrases.{Phrase}
 use Rattle.phrases.proofs.Least.{first, least-unique}
 use Rattle.spireyerba.specs.Demands as D
 use Rattle.spireyerba.specs.Demands.{rangesNumber, leastOf, greatestOf, LeastWritten, Sought}
-use Rattle.spireyerba.proofs.Demands.{once, one-list}
+use Rattle.calls.proofs.TwoCalls.{once, one-list}
 
 -- the conversions
 module _ {turn back : List ℕ → Verdict (List ℕ)} {Row : ℕ → Type 0} {given out written written′ : List ℕ} {code code′ : ℤ} where

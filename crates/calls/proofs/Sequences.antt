@@ -32,13 +32,13 @@ use Rattle.open_listing.proofs.Decided.{answer-decided, table-decided, output-d
 use Rattle.open_listing.specs.declared.Place.{Place}
 use Rattle.open_listing.specs.declared.Answer as A
 use Rattle.open_listing.specs.declared.Answer.the-variants.{Reading, NoMore, Full, Refused}
 use Rattle.spireyerba.specs.Demands as D
 use Rattle.spireyerba.specs.Demands.{answers, refuses}
 use Rattle.spireyerba.specs.OneByOne.{placeAt, nextCode, returned, Open, Next, Sequence, CallsInTurn, HandsOut, Idle, Room, OneByOne}
 use Rattle.spireyerba.specs.OneByOne.{EveryReading, EveryCall, EveryReadingPasses, EveryListAgrees}
 use Rattle.spireyerba.proofs.Demands.{low-code}
 use Rattle.spireyerba.proofs.OpenCalls.{low-open, low-call}
-use Rattle.spireyerba.proofs.RearrangedCalls.{answered-enough}
+use Rattle.calls.proofs.RearrangedCalls.{answered-enough}
 
 -- what opening leaves where it answers 0
 record Opens (grammar heard work : List ℕ) (p′ : Place) (work′ : List ℕ) : Type 0 where
