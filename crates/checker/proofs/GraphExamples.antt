@@ -36,7 +36,7 @@ one-heard = 81 ∷ 2 ∷ 0 ∷ 95 ∷ 255 ∷ 224 ∷ 12 ∷ 0 ∷ 0 ∷ []
 abbrev checks : List ℕ → Checked
 checks reading = checkedOf (check G four-places reading)
 
--- "The third passes the check as 7 bytes and gives 36 as 8"; with another weight, 35
+-- the third passes the check as 7 bytes, and as 8 gives 36; with another weight, 35
 pub third : (checks (96 ∷ 128 ∷ 0 ∷ 1 ∷ 16 ∷ 80 ∷ 96 ∷ []) ≡ Passes)
     × (checks (96 ∷ 128 ∷ 0 ∷ 1 ∷ 16 ∷ 80 ∷ 96 ∷ 0 ∷ []) ≡ Refused 36)
     × (checks (96 ∷ 128 ∷ 0 ∷ 1 ∷ 80 ∷ 80 ∷ 96 ∷ []) ≡ Refused 35)

@@ -32,7 +32,7 @@ use Rattle.checker.specs.Judgement.{Fields, weightRead, fieldsFrom, Fiel
 use Rattle.checker.specs.Check.{derivationOf, judged, afterFields, check}
 use Rattle.checker.proofs.Judged.{Found, derivation-found, has-one}
 
--- "a refusal is a number of its row"
+-- a refusal is a number of its row
 judged-row : (g : Grammar) (es : List Edge) (block : List ℕ) (w at : ℕ) (t : Option Tree) → Refuses ReadingBlockRow (judged g es block w at t)
 judged-row g es block w at none = denied {n = 34} (omega arith, omega arith)
 judged-row g es block w at (some t) =

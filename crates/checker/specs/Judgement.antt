@@ -59,7 +59,7 @@ pub record FieldsRead (grammar heard block : List ℕ) (So : Grammar → Heard �
 abbrev pub Has : List ℕ → Grammar → Heard → Fields → Tree → Type 0
 Has block g h d t = Derivation g h t × HasNodes (length (g .rules)) block d t
 
--- 34, "the 2n−1 numbers are not the walk of a derivation"; "34 if no derivation of n edges has the block's bits"
+-- 34, "the 2n−1 numbers are not the walk of a derivation"; of a graph, no derivation of n edges has the block's bits
 abbrev pub NoWalk : List ℕ → List ℕ → List ℕ → Type 0
 NoWalk grammar heard block = FieldsRead grammar heard block (λ g h d at. (t : Tree) → ¬ Has block g h d t)
 

@@ -1,4 +1,4 @@
--- Office sheets: document 02, request N5, "Office sheet". Every number: 41 if it is missing, then its own range, before the
+-- Office sheets: document 02, request N5. Every number: 41 if it is missing, then its own range, before the
 -- next. Stands on Office and on packing's Source and Grammar.
 use mathlib.Core.Bool.{Bool, true, false, _&&_}
 use mathlib.Core.List.{List, [], _∷_}

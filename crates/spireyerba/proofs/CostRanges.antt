@@ -18,7 +18,7 @@ use Rattle.cost_ranges.specs.declared.Ranged.{Ranged}
 use Rattle.cost_ranges.specs.declared.Ranged.the-variants.{Nothing, Outweighed, Stands, Refused}
 use Rattle.cost_ranges.proofs.Refused.{ranges-asked, ranges-row}
 use Rattle.cost_ranges.proofs.Outcome.{answers-asked}
-use Rattle.spireyerba.specs.Code.{codeOf, rangesCode, leastAfter, greatestAfter}
+use Rattle.spireyerba.specs.Code.{codeOf, rangesCode, leastAfter, greatestAfter, RangedAs}
 use Rattle.spireyerba.specs.Demands as D
 use Rattle.spireyerba.specs.Demands.{rangesNumber, leastOf, greatestOf}
 use Rattle.spireyerba.proofs.Codes.{Small, small-size, small-refusal, told-code, told-number}
@@ -123,40 +123,27 @@ module _ (grammar low high work : List ℕ) where
 
       -- of every way out
       pub ranges-told : {code : ℤ} {work′ : List ℕ} → code ≡ rangesCode due → work′ ≡ workAfter due work
-          → (code ≡ rangesCode due) × ((work′ ≡ workAfter due work) × ((leastBy s least ≡ leastAfter due least)
-          × ((greatestBy s greatest ≡ greatestAfter due greatest)
-          × D.CostRanges grammar low high work least greatest code work′ (leastBy s least) (greatestBy s greatest))))
+          → RangedAs due work least greatest code work′ (leastBy s least) (greatestBy s greatest)
+          × D.CostRanges grammar low high work least greatest code work′ (leastBy s least) (greatestBy s greatest)
       ranges-told ec ew =
           let l = least-told in
           let h = greatest-told in (
-            ec,
-            (
-              ew,
-              (
-                l,
-                (
-                  h,
-                  record {
-                    demand-1 = asked-first rangesNumber (askedRanges grammar low high (length work)) (λ b. answer (b .0) (b .1) (b .2))
-                        (ranges-asked grammar low high (length work)) (ranges-row grammar low high (length work)) ec
-                        (λ b p q. (
-                          answer (b .0) (b .1) (b .2),
-                          answers-asked grammar low high work (length work) p,
-                          refl,
-                          l
-                              ∙ ap (λ (v : Verdict Answer). leastAfter v least) q,
-                          h ∙ ap (λ (v : Verdict Answer). greatestAfter v greatest) q,
-                          ew
-                              ∙ ap (λ (v : Verdict Answer). workAfter v work) q,
-                        ))
-                        (λ n p. (
-                          ew ∙ ap (λ (v : Verdict Answer). workAfter v work) p,
-                          l ∙ ap (λ (v : Verdict Answer). leastAfter v least) p,
-                          h
-                              ∙ ap (λ (v : Verdict Answer). greatestAfter v greatest) p,
-                        ));
-                  },
-                ),
-              ),
-            ),
+            record { code-is = ec; work-is = ew; least-is = l; greatest-is = h },
+            record {
+              demand-1 = asked-first rangesNumber (askedRanges grammar low high (length work)) (λ b. answer (b .0) (b .1) (b .2))
+                  (ranges-asked grammar low high (length work)) (ranges-row grammar low high (length work)) ec
+                  (λ b p q. (
+                    answer (b .0) (b .1) (b .2),
+                    answers-asked grammar low high work (length work) p,
+                    refl,
+                    l ∙ ap (λ (v : Verdict Answer). leastAfter v least) q,
+                    h ∙ ap (λ (v : Verdict Answer). greatestAfter v greatest) q,
+                    ew ∙ ap (λ (v : Verdict Answer). workAfter v work) q,
+                  ))
+                  (λ n p. (
+                    ew ∙ ap (λ (v : Verdict Answer). workAfter v work) p,
+                    l ∙ ap (λ (v : Verdict Answer). leastAfter v least) p,
+                    h ∙ ap (λ (v : Verdict Answer). greatestAfter v greatest) p,
+                  ));
+            },
           )

@@ -12,7 +12,7 @@ use Rattle.word_margins.specs.Conditions.{askedMargins}
 use Rattle.word_margins.specs.WordMargins.{margins, outputAfter}
 use Rattle.word_margins.proofs.Refused.{margins-asked, margins-row}
 use Rattle.word_margins.proofs.Outcome.{margins-listed}
-use Rattle.spireyerba.specs.Code.{marginsCode}
+use Rattle.spireyerba.specs.Code.{codeOf}
 use Rattle.spireyerba.specs.Demands as D
 use Rattle.spireyerba.proofs.Demands.{asked-first}
 
@@ -20,7 +20,7 @@ module _ (grammar utterance work out : List ℕ) where
   abbrev due : Verdict (List MarginEntry)
   due = margins grammar utterance (length work) (length out)
 
-  pub margins-told : {code : ℤ} {work′ out′ : List ℕ} → code ≡ marginsCode due → work′ ≡ workAfter due work → out′ ≡ outputAfter due out
+  pub margins-told : {code : ℤ} {work′ out′ : List ℕ} → code ≡ codeOf length due → work′ ≡ workAfter due work → out′ ≡ outputAfter due out
       → D.WordMargins grammar utterance work out code work′ out′
   margins-told ec ew eo = record {
     demand-1 = asked-first length (askedMargins grammar utterance (length work) (length out)) (λ b. marginsOf (b .0) (b .1))

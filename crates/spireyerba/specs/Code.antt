@@ -9,6 +9,7 @@ use lib.IntN.{ℤ, pos, negℤ}
 use lib.ListN.{length}
 use Rattle.packing.specs.Parse.{Verdict, accepted, refused}
 use Rattle.derivation.specs.Derivation.{Tree}
+use Rattle.chart.specs.WorkTable.{workAfter}
 use Rattle.cost_changes.specs.Ranges.{Answer}
 use Rattle.cost_changes.specs.Margins.{MarginEntry}
 use Rattle.open_listing.specs.Open.{Blocks, tableOpened, placeAfter, Left}
@@ -21,37 +22,19 @@ abbrev pub codeOf : {A : Type 0} → (A → ℕ) → Verdict A → ℤ
 codeOf size (accepted a) = pos (size a)
 codeOf size (refused n) = negℤ (pos n)
 
--- a conversion: the length written
-abbrev pub lengthCode : Verdict (List ℕ) → ℤ
-lengthCode v = codeOf length v
-
 -- the check: 0 for a reading that passes
 abbrev pub checkCode : Verdict Tree → ℤ
 checkCode v = codeOf (λ t. 0) v
 
--- the chance: 0 where there is one, which is then written
-abbrev pub chanceCode : Verdict Float → ℤ
-chanceCode v = codeOf (λ x. 0) v
-
+-- a chance is written where there is one
 abbrev pub chanceAfter : Verdict Float → Float → Float
 chanceAfter (accepted x) before = x
 chanceAfter (refused n) before = before
-
--- the listing: the number of readings found
-abbrev pub listCode : Verdict (List (List ℕ)) → ℤ
-listCode v = codeOf length v
-
--- the words to listen to again: the number of entries
-abbrev pub marginsCode : Verdict (List MarginEntry) → ℤ
-marginsCode v = codeOf length v
 
 -- the specimen and the next phrase: the length of the string that was written, 0 for none
 abbrev pub stringLength : Option (List ℕ) → ℕ
 stringLength none = 0
 stringLength (some s) = length s
-
-abbrev pub stringCode : Verdict (Option (List ℕ)) → ℤ
-stringCode v = codeOf stringLength v
 
 -- costs known within ranges
 abbrev pub rangesCode : Verdict Answer → ℤ
@@ -64,6 +47,26 @@ leastAfter (refused n) before = before
 abbrev pub greatestAfter : Verdict Answer → ℕ → ℕ
 greatestAfter (accepted a) before = greatestOf a before
 greatestAfter (refused n) before = before
+
+-- What a call answers and leaves, of what is due: an equation for its code, which is the answer's size, and one for each slice that it was lent. The size
+-- of a block, a sheet or a list is its length, that of a chance is 0.
+pub record AnsweredAs {A B : Type 0} (size : A → ℕ) (after : Verdict A → B → B) (due : Verdict A) (lent : B) (code : ℤ) (left : B) : Type 0 where
+  pub code-is : code ≡ codeOf size due
+  pub left-is : left ≡ after due lent
+
+-- a list in the output, beside a work table
+pub record ListedAs {A : Type 0} (after : Verdict (List A) → List ℕ → List ℕ) (due : Verdict (List A)) (work out : List ℕ) (code : ℤ) (work′ out′ : List ℕ)
+    : Type 0 where
+  pub code-is : code ≡ codeOf length due
+  pub work-is : work′ ≡ workAfter due work
+  pub output-is : out′ ≡ after due out
+
+-- two weights, beside a work table
+pub record RangedAs (due : Verdict Answer) (work : List ℕ) (least greatest : ℕ) (code : ℤ) (work′ : List ℕ) (least′ greatest′ : ℕ) : Type 0 where
+  pub code-is : code ≡ rangesCode due
+  pub work-is : work′ ≡ workAfter due work
+  pub least-is : least′ ≡ leastAfter due least
+  pub greatest-is : greatest′ ≡ greatestAfter due greatest
 
 -- Readings one by one: opening answers 0, with the place of no readings handed out and the table zeroed, or changes nothing; a call answers and leaves what
 -- open_listing's model says, with the place after that answer

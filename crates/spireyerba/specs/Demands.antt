@@ -52,15 +52,15 @@ use Rattle.word_margins.specs.Conditions.{MarginsRow, askedMargins}
 use Rattle.phrases.specs.Phrases.{Phrase, Precedes, Least}
 use Rattle.specimen.specs.Conditions.{asked}
 
--- Demand 1: "Whatever arrives, every service returns its stated answer or one refusal by number, and a refusal changes nothing lent."
+-- Demand 1: whatever arrives, every service returns its stated answer or one refusal by number, and a refusal changes nothing lent.
 -- What is due for what arrived is a definition's: a refusal, or what the service is asked about. The code of an answer is 0 or more, and `Answer`
 -- says what it tells and what was written. The code of a refusal is minus its number, which is of the service's rows and so not 0.
 pub data Demand1 {A : Type 0} (due : Verdict A) (Answer : A → ℕ → Type 0) (Row : ℕ → Type 0) (Unchanged : Type 0) : ℤ → Type 0 where
   answers : {a : A} {n : ℕ} → due ≡ accepted a → Answer a n → Demand1 due Answer Row Unchanged (pos n)
   refuses : {n : ℕ} → due ≡ refused n → Row n → Unchanged → Demand1 due Answer Row Unchanged (negℤ (pos n))
 
--- A conversion "answers the length written and changes nothing beyond it". Demand 2: "Accepted sheets and blocks turn into each other
--- without change".
+-- A conversion "answers the length written and changes nothing beyond it". Demand 2: accepted sheets and blocks turn into each other
+-- without change.
 pub record Converts (turn back : List ℕ → Verdict (List ℕ)) (Row : ℕ → Type 0) (given out : List ℕ) (code : ℤ) (out′ : List ℕ)
     : Type 0 where
   pub demand-1 : Demand1 (fitting (turn given) out) (λ l n. (n ≡ length l) × (out′ ≡ l ++ drop n out)) Row (out′ ≡ out) code
@@ -125,7 +125,7 @@ PanelRoom =
     → 159744 ≤ length work → 608 ≤ length out → ¬ (code ≡ negℤ (pos 22)) × ¬ (code ≡ negℤ (pos 23))
 
 -- The check is lent nothing to write to, and "answers passes", with the code 0, "or a refusal": what is due is the first that holds in the order of
--- the table (Judgement). Demand 2: "a reading passes exactly if it is the packing of a derivation with its true weight"; and 34, 35 and 36 are
+-- the table (Judgement). Demand 2: a reading passes exactly if it is the packing of a derivation with its true weight; and 34, 35 and 36 are
 -- answered exactly if the table says so.
 pub record Check (grammar heard reading : List ℕ) (code : ℤ) : Type 0 where
   pub due : Verdict Tree
@@ -145,7 +145,7 @@ pub record Chance (grammar heard reading shares : List ℕ) (float : Float) (cod
   pub demand-1 : Demand1 (askedChance grammar shares due) (λ t n. (n ≡ 0) × Shown grammar heard reading shares float′)
       (GrammarBlockRow ∪ HeardBlockRow ∪ ReadingBlockRow ∪ SharesRow) (float′ ≡ float) code
 
--- Document 02, N11, as C numbers: 0 none, 1 outweighed under some choice, 2 under none. "Both numbers" are written on 1 and 2, and unchanged otherwise
+-- Document 02, N11, as C numbers: 0 none, 1 outweighed under some choice, 2 under none. Both weights are written on 1 and 2, and unchanged otherwise
 abbrev pub rangesNumber : ranges.Answer → ℕ
 rangesNumber nothing = 0
 rangesNumber (outweighed least greatest) = 1

@@ -21,25 +21,12 @@ ghost use Rattle.office_block.specs.Block.{officeToBlock};
 ghost use Rattle.checker.specs.Check.{check};
 ghost use Rattle.chance.specs.Answer as definition;
 ghost use Rattle.listing.specs.Conditions.{library, panel};
-ghost use Rattle.chart.specs.WorkTable.{workAfter};
 ghost use Rattle.listing.specs.Listing.{list, outputAfter};
 ghost use Rattle.cost_ranges.specs.CostRanges.{ranges};
 ghost use Rattle.word_margins.specs.WordMargins as again;
 ghost use Rattle.specimen.specs.Specimen.{specimen, outputOf};
 ghost use Rattle.next_phrase.specs.NextPhrase.{next};
-ghost use Rattle.spireyerba.specs.Code.{
-  checkCode,
-  chanceCode,
-  chanceAfter,
-  listCode,
-  marginsCode,
-  lengthCode,
-  stringCode,
-  rangesCode,
-  leastAfter,
-  greatestAfter,
-};
-ghost use Rattle.spireyerba.specs.Code.{OpenedAs, CalledAs};
+ghost use Rattle.spireyerba.specs.Code.{checkCode, chanceAfter, stringLength, AnsweredAs, ListedAs, RangedAs, OpenedAs, CalledAs};
 ghost use Rattle.spireyerba.specs.Demands as demands;
 ghost use Rattle.open_listing.specs.Open.{opening, lent};
 ghost use Rattle.open_listing.specs.Model.{searched, nextOf};
@@ -100,8 +87,7 @@ struct Moved {
 // The block of a grammar sheet, at the front of the output.
 #[no_mangle]
 pub extern "C" fn spireyerba_grammar_to_block(sheet: &[u32], out: &mut [u8]) -> i32
-    ensures { λ r. ⌜ r ≡ lengthCode (fitting (grammarToBlock (now (sheet .entry))) (now (out .entry))) ⌝ }
-    ensures { λ r. ⌜ now (out .exit) ≡ written (fitting (grammarToBlock (now (sheet .entry))) (now (out .entry))) (now (out .entry)) ⌝ }
+    ensures { λ r. ⌜ AnsweredAs length written (fitting (grammarToBlock (now (sheet .entry))) (now (out .entry))) (now (out .entry)) r (now (out .exit)) ⌝ }
     ensures { λ r. ⌜ demands.GrammarToBlock (now (sheet .entry)) (now (out .entry)) r (now (out .exit)) ⌝ }
 {
     written_code(grammar_conversion::grammar_to_block(sheet, out))
@@ -110,8 +96,7 @@ pub extern "C" fn spireyerba_grammar_to_block(sheet: &[u32], out: &mut [u8]) -> 
 // The sheet of a grammar block.
 #[no_mangle]
 pub extern "C" fn spireyerba_grammar_to_sheet(block: &[u8], out: &mut [u32]) -> i32
-    ensures { λ r. ⌜ r ≡ lengthCode (fitting (grammarToSheet (now (block .entry))) (now (out .entry))) ⌝ }
-    ensures { λ r. ⌜ now (out .exit) ≡ written (fitting (grammarToSheet (now (block .entry))) (now (out .entry))) (now (out .entry)) ⌝ }
+    ensures { λ r. ⌜ AnsweredAs length written (fitting (grammarToSheet (now (block .entry))) (now (out .entry))) (now (out .entry)) r (now (out .exit)) ⌝ }
     ensures { λ r. ⌜ demands.GrammarToSheet (now (block .entry)) (now (out .entry)) r (now (out .exit)) ⌝ }
 {
     written_code(grammar_conversion::grammar_to_sheet(block, out))
@@ -120,8 +105,7 @@ pub extern "C" fn spireyerba_grammar_to_sheet(block: &[u8], out: &mut [u32]) -> 
 // The block of an office sheet, a grammar's with marks.
 #[no_mangle]
 pub extern "C" fn spireyerba_office_to_block(sheet: &[u32], out: &mut [u8]) -> i32
-    ensures { λ r. ⌜ r ≡ lengthCode (fitting (officeToBlock (now (sheet .entry))) (now (out .entry))) ⌝ }
-    ensures { λ r. ⌜ now (out .exit) ≡ written (fitting (officeToBlock (now (sheet .entry))) (now (out .entry))) (now (out .entry)) ⌝ }
+    ensures { λ r. ⌜ AnsweredAs length written (fitting (officeToBlock (now (sheet .entry))) (now (out .entry))) (now (out .entry)) r (now (out .exit)) ⌝ }
     ensures { λ r. ⌜ demands.OfficeToBlock (now (sheet .entry)) (now (out .entry)) r (now (out .exit)) ⌝ }
 {
     written_code(office_block::office_to_block(sheet, out))
@@ -134,9 +118,8 @@ pub extern "C" fn spireyerba_utterance_to_block(
     sheet: &[u32],
     out: &mut [u8],
 ) -> i32
-    ensures { λ r. ⌜ r ≡ lengthCode (fitting (utteranceToBlock (now (grammar .entry)) (now (sheet .entry))) (now (out .entry))) ⌝ }
-    ensures { λ r. ⌜ now (out .exit)
-        ≡ written (fitting (utteranceToBlock (now (grammar .entry)) (now (sheet .entry))) (now (out .entry))) (now (out .entry)) ⌝ }
+    ensures { λ r. ⌜ AnsweredAs length written (fitting (utteranceToBlock (now (grammar .entry)) (now (sheet .entry))) (now (out .entry))) (now (out .entry)) r
+        (now (out .exit)) ⌝ }
     ensures { λ r. ⌜ demands.UtteranceToBlock (now (grammar .entry)) (now (sheet .entry)) (now (out .entry)) r (now (out .exit)) ⌝ }
 {
     written_code(utterance_conversion::utterance_to_block(grammar, sheet, out))
@@ -149,9 +132,8 @@ pub extern "C" fn spireyerba_utterance_to_sheet(
     block: &[u8],
     out: &mut [u32],
 ) -> i32
-    ensures { λ r. ⌜ r ≡ lengthCode (fitting (utteranceToSheet (now (grammar .entry)) (now (block .entry))) (now (out .entry))) ⌝ }
-    ensures { λ r. ⌜ now (out .exit)
-        ≡ written (fitting (utteranceToSheet (now (grammar .entry)) (now (block .entry))) (now (out .entry))) (now (out .entry)) ⌝ }
+    ensures { λ r. ⌜ AnsweredAs length written (fitting (utteranceToSheet (now (grammar .entry)) (now (block .entry))) (now (out .entry))) (now (out .entry)) r
+        (now (out .exit)) ⌝ }
     ensures { λ r. ⌜ demands.UtteranceToSheet (now (grammar .entry)) (now (block .entry)) (now (out .entry)) r (now (out .exit)) ⌝ }
 {
     written_code(utterance_conversion::utterance_to_sheet(grammar, block, out))
@@ -166,12 +148,9 @@ pub extern "C" fn spireyerba_listing(
     work: &mut [u32],
     out: &mut [u8],
 ) -> i32
-    ensures { λ r. ⌜ r ≡ listCode
-        (list library (now (grammar .entry)) (now (utterance .entry)) wanted (length (now (work .entry))) (length (now (out .entry)))) ⌝ }
-    ensures { λ r. ⌜ now (work .exit) ≡ workAfter
-        (list library (now (grammar .entry)) (now (utterance .entry)) wanted (length (now (work .entry))) (length (now (out .entry)))) (now (work .entry)) ⌝ }
-    ensures { λ r. ⌜ now (out .exit) ≡ outputAfter
-        (list library (now (grammar .entry)) (now (utterance .entry)) wanted (length (now (work .entry))) (length (now (out .entry)))) (now (out .entry)) ⌝ }
+    ensures { λ r. ⌜ ListedAs outputAfter
+        (list library (now (grammar .entry)) (now (utterance .entry)) wanted (length (now (work .entry))) (length (now (out .entry))))
+        (now (work .entry)) (now (out .entry)) r (now (work .exit)) (now (out .exit)) ⌝ }
     ensures { λ r. ⌜ demands.Listing (now (grammar .entry)) (now (utterance .entry)) wanted (now (work .entry)) (now (out .entry)) r (now (work .exit))
         (now (out .exit)) ⌝ }
 {
@@ -187,12 +166,9 @@ pub extern "C" fn spireyerba_panel_listing(
     work: &mut [u32],
     out: &mut [u8],
 ) -> i32
-    ensures { λ r. ⌜ r ≡ listCode
-        (list panel (now (grammar .entry)) (now (utterance .entry)) wanted (length (now (work .entry))) (length (now (out .entry)))) ⌝ }
-    ensures { λ r. ⌜ now (work .exit) ≡ workAfter
-        (list panel (now (grammar .entry)) (now (utterance .entry)) wanted (length (now (work .entry))) (length (now (out .entry)))) (now (work .entry)) ⌝ }
-    ensures { λ r. ⌜ now (out .exit) ≡ outputAfter
-        (list panel (now (grammar .entry)) (now (utterance .entry)) wanted (length (now (work .entry))) (length (now (out .entry)))) (now (out .entry)) ⌝ }
+    ensures { λ r. ⌜ ListedAs outputAfter
+        (list panel (now (grammar .entry)) (now (utterance .entry)) wanted (length (now (work .entry))) (length (now (out .entry))))
+        (now (work .entry)) (now (out .entry)) r (now (work .exit)) (now (out .exit)) ⌝ }
     ensures { λ r. ⌜ demands.PanelListing (now (grammar .entry)) (now (utterance .entry)) wanted (now (work .entry)) (now (out .entry)) r (now (work .exit))
         (now (out .exit)) ⌝ }
 {
@@ -221,9 +197,9 @@ pub extern "C" fn spireyerba_chance(
     shares: &[u32],
     chance: &mut f64,
 ) -> i32
-    ensures { λ r. ⌜ r ≡ chanceCode (definition.chance (now (grammar .entry)) (now (utterance .entry)) (now (reading .entry)) (now (shares .entry))) ⌝ }
-    ensures { λ r. ⌜ now (chance .exit) ≡ chanceAfter
-        (definition.chance (now (grammar .entry)) (now (utterance .entry)) (now (reading .entry)) (now (shares .entry))) (now (chance .entry)) ⌝ }
+    ensures { λ r. ⌜ AnsweredAs (λ x. 0) chanceAfter
+        (definition.chance (now (grammar .entry)) (now (utterance .entry)) (now (reading .entry)) (now (shares .entry)))
+        (now (chance .entry)) r (now (chance .exit)) ⌝ }
     ensures { λ r. ⌜ demands.Chance (now (grammar .entry)) (now (utterance .entry)) (now (reading .entry)) (now (shares .entry)) (now (chance .entry)) r
         (now (chance .exit)) ⌝ }
 {
@@ -240,8 +216,8 @@ pub extern "C" fn spireyerba_chance(
 // The least word string of the wanted length that the grammar derives: the length, or 0 where there is none.
 #[no_mangle]
 pub extern "C" fn spireyerba_specimen(grammar: &[u8], wanted: u32, out: &mut [u8]) -> i32
-    ensures { λ r. ⌜ r ≡ stringCode (specimen (now (grammar .entry)) wanted (length (now (out .entry)))) ⌝ }
-    ensures { λ r. ⌜ now (out .exit) ≡ outputOf (specimen (now (grammar .entry)) wanted (length (now (out .entry)))) (now (out .entry)) ⌝ }
+    ensures { λ r. ⌜ AnsweredAs stringLength outputOf (specimen (now (grammar .entry)) wanted (length (now (out .entry)))) (now (out .entry)) r
+        (now (out .exit)) ⌝ }
     ensures { λ r. ⌜ demands.Specimen (now (grammar .entry)) wanted (now (out .entry)) r (now (out .exit)) ⌝ }
 {
     let answer = specimen::specimen(grammar, wanted, out);
@@ -261,8 +237,8 @@ pub extern "C" fn spireyerba_next_phrase(
     first: u32,
     out: &mut [u8],
 ) -> i32
-    ensures { λ r. ⌜ r ≡ stringCode (next (now (grammar .entry)) wanted first (now (out .entry))) ⌝ }
-    ensures { λ r. ⌜ now (out .exit) ≡ outputOf (next (now (grammar .entry)) wanted first (now (out .entry))) (now (out .entry)) ⌝ }
+    ensures { λ r. ⌜ AnsweredAs stringLength outputOf (next (now (grammar .entry)) wanted first (now (out .entry))) (now (out .entry)) r
+        (now (out .exit)) ⌝ }
     ensures { λ r. ⌜ demands.NextPhrase (now (grammar .entry)) wanted first (now (out .entry)) r (now (out .exit)) ⌝ }
 {
     let answer = next_phrase::next_phrase(grammar, wanted, first, out);
@@ -284,13 +260,8 @@ pub extern "C" fn spireyerba_cost_ranges(
     least: &mut u32,
     greatest: &mut u32,
 ) -> i32
-    ensures { λ r. ⌜ r ≡ rangesCode (ranges (now (grammar .entry)) (now (low .entry)) (now (high .entry)) (length (now (work .entry)))) ⌝ }
-    ensures { λ r. ⌜ now (work .exit) ≡ workAfter (ranges (now (grammar .entry)) (now (low .entry)) (now (high .entry)) (length (now (work .entry))))
-        (now (work .entry)) ⌝ }
-    ensures { λ r. ⌜ now (least .exit) ≡ leastAfter (ranges (now (grammar .entry)) (now (low .entry)) (now (high .entry)) (length (now (work .entry))))
-        (now (least .entry)) ⌝ }
-    ensures { λ r. ⌜ now (greatest .exit) ≡ greatestAfter (ranges (now (grammar .entry)) (now (low .entry)) (now (high .entry)) (length (now (work .entry))))
-        (now (greatest .entry)) ⌝ }
+    ensures { λ r. ⌜ RangedAs (ranges (now (grammar .entry)) (now (low .entry)) (now (high .entry)) (length (now (work .entry)))) (now (work .entry))
+        (now (least .entry)) (now (greatest .entry)) r (now (work .exit)) (now (least .exit)) (now (greatest .exit)) ⌝ }
     ensures { λ r. ⌜ demands.CostRanges (now (grammar .entry)) (now (low .entry)) (now (high .entry)) (now (work .entry)) (now (least .entry))
         (now (greatest .entry)) r (now (work .exit)) (now (least .exit)) (now (greatest .exit)) ⌝ }
 {
@@ -319,12 +290,9 @@ pub extern "C" fn spireyerba_word_margins(
     work: &mut [u32],
     out: &mut [u32],
 ) -> i32
-    ensures { λ r. ⌜ r ≡ marginsCode
-        (again.margins (now (grammar .entry)) (now (utterance .entry)) (length (now (work .entry))) (length (now (out .entry)))) ⌝ }
-    ensures { λ r. ⌜ now (work .exit) ≡ workAfter
-        (again.margins (now (grammar .entry)) (now (utterance .entry)) (length (now (work .entry))) (length (now (out .entry)))) (now (work .entry)) ⌝ }
-    ensures { λ r. ⌜ now (out .exit) ≡ again.outputAfter
-        (again.margins (now (grammar .entry)) (now (utterance .entry)) (length (now (work .entry))) (length (now (out .entry)))) (now (out .entry)) ⌝ }
+    ensures { λ r. ⌜ ListedAs again.outputAfter
+        (again.margins (now (grammar .entry)) (now (utterance .entry)) (length (now (work .entry))) (length (now (out .entry))))
+        (now (work .entry)) (now (out .entry)) r (now (work .exit)) (now (out .exit)) ⌝ }
     ensures { λ r. ⌜ demands.WordMargins (now (grammar .entry)) (now (utterance .entry)) (now (work .entry)) (now (out .entry)) r (now (work .exit))
         (now (out .exit)) ⌝ }
 {

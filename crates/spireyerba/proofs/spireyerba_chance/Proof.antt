@@ -29,12 +29,9 @@ returns c =
     let code = shown-code (chance-small (a .grammar .now) (a .utterance .now) (a .reading .now) (a .shares .now)) (answered .0) (c .before .answer .given .1) in
     let float = written-float (chance (a .grammar .now) (a .utterance .now) (a .reading .now) (a .shares .now)) (a .chance .now) (answered .0)
     (c .before .answer .given .1) in (
-      code,
-      (
-        float,
-        chances (a .grammar .now) (a .utterance .now) (a .reading .now) (a .shares .now)
-            (λ i. at-shared-slice-known3 .shared-slice-known3 .given i .fits) code float (answered .0) (answered .1),
-      ),
+      record { code-is = code; left-is = float },
+      chances (a .grammar .now) (a .utterance .now) (a .reading .now) (a .shares .now)
+          (λ i. at-shared-slice-known3 .shared-slice-known3 .given i .fits) code float (answered .0) (answered .1),
     )
 
 returns-2 : tie.Need-returns-2
@@ -48,12 +45,9 @@ returns-2 c =
     (c .before .before .answer2 .given .1) (c .refusal .ensures) in
     let float = kept-float (chance (a .grammar .now) (a .utterance .now) (a .reading .now) (a .shares .now)) (a .chance .now) (answered .0)
     (c .before .before .answer2 .given .1) in (
-      code,
-      (
-        float,
-        chances (a .grammar .now) (a .utterance .now) (a .reading .now) (a .shares .now)
-            (λ i. at-shared-slice-known3 .shared-slice-known3 .given i .fits) code float (answered .0) (answered .1),
-      ),
+      record { code-is = code; left-is = float },
+      chances (a .grammar .now) (a .utterance .now) (a .reading .now) (a .shares .now)
+          (λ i. at-shared-slice-known3 .shared-slice-known3 .given i .fits) code float (answered .0) (answered .1),
     )
 
 pub spireyerba-chance-spec : {M : Type 1} → statement M

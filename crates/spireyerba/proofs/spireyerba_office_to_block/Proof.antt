@@ -19,7 +19,7 @@ returns : tie.Need-returns
 returns c =
     let answered = c .before .before .before .office-to-block .ensures in
     let code = written-number (small-office-block _ _) (answered .0) (c .written-code .ensures) in
-    (code, (answered .1, office-to-block _ _ code (answered .1)))
+    (record { code-is = code; left-is = answered .1 }, office-to-block _ _ code (answered .1))
 
 pub spireyerba-office-to-block-spec : {M : Type 1} → statement M
 spireyerba-office-to-block-spec =

@@ -22,7 +22,7 @@ returns : tie.Need-returns
 returns c =
     let answered = c .before .before .before .before .before .listing-within .ensures in
     let code = listed-number (panel-small _ _ _ _ _) (answered .0) (c .listed-code .ensures) in
-    (code, (answered .1 .0, (answered .1 .1 .0, panel-lists _ _ _ _ _ code (answered .1 .0) (answered .1 .1 .0))))
+    (record { code-is = code; work-is = answered .1 .0; output-is = answered .1 .1 .0 }, panel-lists _ _ _ _ _ code (answered .1 .0) (answered .1 .1 .0))
 
 pub spireyerba-panel-listing-spec : {M : Type 1} → statement M
 spireyerba-panel-listing-spec = tie.close (tie.spec listing-within-requires listed-code-requires same-length same-length-2 returns)

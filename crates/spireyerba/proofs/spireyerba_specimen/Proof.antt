@@ -30,7 +30,7 @@ returns : tie.Need-returns
 returns c =
     let s = c .before .before .before .before .before .specimen .ensures in
     let code = answered-number (specimen-wanted _ _ _) (s .0) (c .before .enum-told .given .1) (c .count .ensures) in
-    (code, (s .1, specifies _ _ _ code (s .1)))
+    (record { code-is = code; left-is = s .1 }, specifies _ _ _ code (s .1))
 
 same-length-2 : tie.Need-same-length-2
 same-length-2 c = search needs
@@ -39,7 +39,7 @@ returns-2 : tie.Need-returns-2
 returns-2 c =
     let s = c .before .before .before .before .specimen .ensures in
     let code = answered-code (specimen-wanted _ _ _) (s .0) (c .enum-told2 .given .1) in
-    (code, (s .1, specifies _ _ _ code (s .1)))
+    (record { code-is = code; left-is = s .1 }, specifies _ _ _ code (s .1))
 
 same-length-3 : tie.Need-same-length-3
 same-length-3 c = search needs
@@ -48,7 +48,7 @@ returns-3 : tie.Need-returns-3
 returns-3 c =
     let s = c .before .before .before .before .before .before .specimen .ensures in
     let code = answered-number (specimen-wanted _ _ _) (s .0) (c .before .before .answer .given .1) (c .refusal .ensures) in
-    (code, (s .1, specifies _ _ _ code (s .1)))
+    (record { code-is = code; left-is = s .1 }, specifies _ _ _ code (s .1))
 
 pub spireyerba-specimen-spec : {M : Type 1} → statement M
 spireyerba-specimen-spec =

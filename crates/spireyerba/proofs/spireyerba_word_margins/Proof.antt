@@ -31,16 +31,9 @@ returns c =
     listed-number (margins-small (at-args .args .grammar .now) (at-args .args .utterance .now)
     (length (at-args .args .work .now)) (length (at-args .args .out .now))) (e .0)
     (c .listed-code .ensures) in (
-      code,
-      (
-        e .1 .0,
-        (
-          e .1 .1 .0,
-          margins-told (at-args .args .grammar .now)
-              (at-args .args .utterance .now) (at-args .args .work .now)
-              (at-args .args .out .now) code (e .1 .0) (e .1 .1 .0),
-        ),
-      ),
+      record { code-is = code; work-is = e .1 .0; output-is = e .1 .1 .0 },
+      margins-told (at-args .args .grammar .now) (at-args .args .utterance .now) (at-args .args .work .now) (at-args .args .out .now) code (e .1 .0)
+          (e .1 .1 .0),
     )
 
 pub spireyerba-word-margins-spec : {M : Type 1} → statement M
