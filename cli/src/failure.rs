@@ -34,7 +34,7 @@ impl Failure {
     pub fn file(name: &str, error: &std::io::Error) -> Self {
         match error.kind() {
             ErrorKind::BrokenPipe => Self::NoReader,
-            _ => Self::Refused(format!("{name}: {error}")),
+            _ => Self::Refused(format!("{}: {error}", shown(name))),
         }
     }
 

@@ -5,15 +5,17 @@
 //! do blocks of utterances and readings.
 
 use crate::failure::Failure;
-use crate::names::path;
+use crate::names::{carried, path, shown};
 use crate::options::{Arguments, DROP_DELETES, DROP_UNKNOWN, EMPTY, EXACT, FILE, FOLD, FORMAT, PATHS, SCALE};
 use crate::output::Output;
 use spireyerba::lattice::Keep;
 use spireyerba::services::check;
 use spireyerba::text::{binary_kind, Format, Lattice, NamedGrammar, Places, Recognised, UtteranceReader};
 use spireyerba::{Error, Heard, PackedGrammar, Reading, Refusal};
+use std::ffi::OsStr;
 use std::io::Read;
 use std::os::fd::AsFd;
+use std::os::unix::ffi::OsStrExt;
 
 /// The operand that means standard input, and its name in messages.
 const STANDARD_INPUT: &str = "-";
@@ -22,6 +24,9 @@ const STANDARD_INPUT_NAME: &str = "<stdin>";
 /// The control characters that texts have.
 const TEXT_CONTROLS: &[char] = &['\t', '\n', '\r', '\x0c'];
 
+/// The marks before texts in UTF-16.
+const UTF_16: [&[u8]; 2] = [&[0xff, 0xfe], &[0xfe, 0xff]];
+
 /// A file that was read.
 pub struct File {
     /// Its name in messages.
@@ -29,18 +34,22 @@ pub struct File {
     pub bytes: Vec<u8>,
 }
 
+/// Whether an operand means standard input.
+pub fn is_standard_input(operand: &str) -> bool {
+    operand == STANDARD_INPUT
+}
+
 /// The name of a file in messages.
-pub fn name_of(operand: &str) -> &str {
-    if operand == STANDARD_INPUT {
-        STANDARD_INPUT_NAME
-    } else {
-        operand
+pub fn name_of(operand: &str) -> String {
+    match is_standard_input(operand) {
+        true => STANDARD_INPUT_NAME.to_owned(),
+        false => shown(operand),
     }
 }
 
 /// A file, or standard input, opened to be read.
 pub fn open(operand: &str) -> Result<Box<dyn Read + Send>, Failure> {
-    if operand == STANDARD_INPUT {
+    if is_standard_input(operand) {
         return Ok(Box::new(std::io::stdin()));
     }
     match std::fs::File::open(path(operand)) {
@@ -51,17 +60,17 @@ pub fn open(operand: &str) -> Result<Box<dyn Read + Send>, Failure> {
 
 /// Whether this is a file whose bytes are all there, and not a pipe or a terminal.
 pub fn is_still(operand: &str) -> bool {
-    let metadata = if operand == STANDARD_INPUT {
+    let metadata = if is_standard_input(operand) {
         std::io::stdin().as_fd().try_clone_to_owned().and_then(|stdin| std::fs::File::from(stdin).metadata())
     } else {
-        std::fs::metadata(operand)
+        std::fs::metadata(path(operand))
     };
     metadata.is_ok_and(|metadata| metadata.is_file())
 }
 
 impl File {
     pub fn read(operand: &str) -> Result<Self, Failure> {
-        let name = name_of(operand).to_owned();
+        let name = name_of(operand);
         let mut bytes = Vec::new();
         match open(operand)?.read_to_end(&mut bytes) {
             Ok(_) => Ok(Self { name, bytes }),
@@ -97,13 +106,17 @@ impl File {
     pub fn text<T>(&self, parse: impl FnOnce(&str) -> Result<T, Error>) -> Result<T, Failure> {
         match text_of(&self.bytes) {
             Ok(text) => Ok(parse(text).map_err(|error| error.in_file(&self.name))?),
-            Err(at) => Err(Failure::Refused(format!("{}: {}", self.name, self.no_text(at)))),
+            Err(at) => {
+                Err(Failure::Refused(self.binary().unwrap_or_else(|| format!("{}: {}", self.name, self.no_text(at)))))
+            }
         }
     }
 
     /// That the file is of a kind that is printed as a text first, if it is.
     fn binary(&self) -> Option<String> {
-        binary_kind(&self.bytes).map(|kind| format!("{}: {}", self.name, kind.replace("FILE", &self.name)))
+        let is_utf_16 = UTF_16.iter().any(|mark| self.bytes.starts_with(mark));
+        let kind = binary_kind(&self.bytes).or(is_utf_16.then_some("a text in UTF-16: save it as UTF-8"));
+        kind.map(|kind| format!("{}: {}", self.name, kind.replace("FILE", &self.name)))
     }
 
     /// That the file is no text, for a byte of it.
@@ -218,7 +231,13 @@ pub fn lines(operand: &str) -> Result<Vec<(usize, String)>, Failure> {
     File::read(operand)?.text(|text| Ok(lines_of(text).map(|(before, line)| (before, line.to_owned())).collect()))
 }
 
-/// The same of a text.
+/// The names of files in a list, one a line, as the system has them.
+pub fn list(operand: &str) -> Result<Vec<(usize, String)>, Failure> {
+    let names = carried(OsStr::from_bytes(&File::read(operand)?.bytes));
+    Ok(lines_of(&names).map(|(before, line)| (before, line.to_owned())).collect())
+}
+
+/// The lines of a text, each with how many stand before it, but for those that are empty or a comment.
 pub fn lines_of(text: &str) -> impl Iterator<Item = (usize, &str)> {
     let lines = text.trim_start_matches('\u{feff}').lines().enumerate();
     lines.filter(|(_, line)| !matches!(line.trim_start().chars().next(), None | Some('#')))
@@ -259,7 +278,7 @@ pub fn shares(grammar: &GrammarFile, operand: &str) -> Result<Vec<u32>, Failure>
 /// Writes an answer to the file that the command line names, or to standard output.
 pub fn write(arguments: &Arguments, output: &mut Output, bytes: &[u8]) -> Result<(), Failure> {
     match arguments.value(&FILE) {
-        Some(operand) if operand != STANDARD_INPUT => {
+        Some(operand) if !is_standard_input(operand) => {
             std::fs::write(path(operand), bytes).map_err(|error| Failure::file(operand, &error))
         }
         _ => output.bytes(bytes),

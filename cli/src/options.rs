@@ -18,6 +18,8 @@ pub struct Opt {
 
 pub const WANTED: Opt =
     Opt { long: "number", short: Some('n'), value: Some("N"), help: "list so many readings, 1 to 256; 8 unless given" };
+pub const PANEL_WANTED: Opt =
+    Opt { long: "number", short: Some('n'), value: Some("N"), help: "list so many readings, 1 to 16; 8 unless given" };
 pub const TREE: Opt = Opt { long: "tree", short: None, value: None, help: "draw each reading as a tree" };
 pub const RULES: Opt =
     Opt { long: "rules", short: None, value: None, help: "print rule numbers, as the program lister does" };
@@ -259,17 +261,30 @@ impl<'a> Arguments<'a> {
 
     /// An option's value as a number.
     pub fn number<T: FromStr>(&self, option: &Opt) -> Result<Option<T>, Failure> {
-        let parse =
-            |value: &str| value.parse().map_err(|_| self.wrong(format!("--{}: `{value}` is no number", option.long)));
-        self.value(option).map(parse).transpose()
+        self.value(option).map(|value| self.parsed(&format!("--{}", option.long), value)).transpose()
+    }
+
+    /// What is the value of something, as a number.
+    fn parsed<T: FromStr>(&self, what: &str, value: &str) -> Result<T, Failure> {
+        let why = |_| match (value.bytes().all(|byte| byte.is_ascii_digit()), value.parse::<f64>()) {
+            (_, Err(_)) => "no number",
+            (true, Ok(_)) => "too large",
+            (false, Ok(_)) => "no whole number from 0 on",
+        };
+        value.parse().map_err(|error| self.wrong(format!("{what}: `{value}` is {}", why(error))))
     }
 
     /// The readings wanted.
     pub fn wanted(&self) -> Result<u32, Failure> {
+        self.wanted_up_to(MAX_READINGS)
+    }
+
+    /// The same, of which there are at most so many.
+    pub fn wanted_up_to(&self, most: u32) -> Result<u32, Failure> {
         let wanted = self.number(&WANTED)?.unwrap_or(WANTED_UNLESS_GIVEN);
-        match (1..=MAX_READINGS).contains(&wanted) {
+        match (1..=most).contains(&wanted) {
             true => Ok(wanted),
-            false => Err(self.wrong(format!("--number is 1 to {MAX_READINGS}, not {wanted}"))),
+            false => Err(self.wrong(format!("--number is 1 to {most}, not {wanted}"))),
         }
     }
 
@@ -284,7 +299,6 @@ impl<'a> Arguments<'a> {
 
     /// An operand as a number.
     pub fn operand_number(&self, operand: usize) -> Result<u32, Failure> {
-        let value = self.operands[operand];
-        value.parse().map_err(|_| self.wrong(format!("{}: `{value}` is no number", self.command.operands[operand])))
+        self.parsed(self.command.operands[operand], self.operands[operand])
     }
 }

@@ -25,7 +25,7 @@ impl Input<'_> {
     /// Its name in messages.
     fn name(self) -> String {
         match self {
-            Self::File(operand) => files::name_of(operand).to_owned(),
+            Self::File(operand) => files::name_of(operand),
             Self::Words(_) => "--words".into(),
         }
     }

@@ -11,6 +11,7 @@ pub use super::Command;
 use crate::failure::Failure;
 use crate::files;
 use crate::json;
+use crate::names::{carried, shown};
 use crate::no_reading::NoReading;
 use crate::options::{
     Arguments, DISTINCT, DROP_DELETES, DROP_UNKNOWN, EMPTY, EXACT, FILES, FOLD, FORMAT, JOBS, LINE, PATHS, RESUME,
@@ -26,6 +27,8 @@ use spireyerba::limits::MAX_READINGS;
 use spireyerba::text::{is_graph, Lattice, NamedGrammar, UtteranceReader};
 use spireyerba::{Distinct, Error, Found, Heard, Lister, Reading, Refusal};
 use std::borrow::Cow;
+use std::ffi::OsStr;
+use std::os::unix::ffi::OsStrExt;
 use std::sync::Mutex;
 
 pub const COMMAND: Command = Command {
@@ -67,8 +70,9 @@ fn run(arguments: &Arguments, output: &mut Output) -> Result<(), Failure> {
     if are_files && arguments.has(&RESUME) {
         return Err(arguments.wrong("--resume goes on behind a line, and a file of lattices may have several answers"));
     }
+    let name = files::name_of(operand);
     let batch = Batch {
-        name: files::name_of(operand),
+        name: &name,
         are_files,
         wanted: arguments.wanted()?,
         distinct: arguments.has(&DISTINCT),
@@ -97,11 +101,11 @@ fn run(arguments: &Arguments, output: &mut Output) -> Result<(), Failure> {
 fn resume(out: &str, source: &mut Source, name: &str) -> Result<Output, Failure> {
     let (file, lines) = resume::open(out)?;
     if let Err(found) = source.pass_over(lines).map_err(|error| Failure::file(name, &error))? {
-        let other = format!("{out}: answers line {lines} of another input: {name} has {found} lines");
+        let other = format!("{}: answers line {lines} of another input: {name} has {found} lines", shown(out));
         return Err(Failure::Refused(other));
     }
     if lines > 0 {
-        eprintln!("{out}: goes on behind line {lines}");
+        eprintln!("{}: goes on behind line {lines}", shown(out));
     }
     Ok(Output::file(out, file))
 }
@@ -162,8 +166,11 @@ impl<'a> Worker<'a> {
     fn answers(&mut self, piece: &Piece, memory: Vec<u8>) -> Answers {
         let mut answers = Answers { json: memory, refused: Vec::new(), utterances: 0 };
         // that a text is all right is found faster than where it is not
-        let text =
-            std::str::from_utf8(&piece.text).map_or_else(|_| String::from_utf8_lossy(&piece.text), Cow::Borrowed);
+        let text = match std::str::from_utf8(&piece.text) {
+            _ if self.batch.are_files => Cow::Owned(carried(OsStr::from_bytes(&piece.text))),
+            Ok(text) => Cow::Borrowed(text),
+            Err(_) => String::from_utf8_lossy(&piece.text),
+        };
         for (number, line) in text.split('\n').enumerate() {
             let first = line.trim_start().chars().next();
             if first.is_none_or(|first| first == '#') {
@@ -200,7 +207,7 @@ impl<'a> Worker<'a> {
                     push_notes(&mut answers.json, lattice);
                     answers.json.extend_from_slice(b"}\n");
                 }
-                Err(refusal) => refuse(answers, Error::from(refusal).in_file(line.heard.trim()).into(), line),
+                Err(refusal) => refuse(answers, Error::from(refusal).in_file(&shown(line.heard.trim())).into(), line),
             }
         }
     }

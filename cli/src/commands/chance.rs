@@ -9,6 +9,7 @@ use crate::options::{
     Arguments, DROP_DELETES, DROP_UNKNOWN, EMPTY, EXACT, FOLD, FORMAT, JSON, PATHS, SAID, SCALE, SKIP, WANTED,
 };
 use crate::output::{Output, Style};
+use spireyerba::limits::MAX_READINGS;
 use spireyerba::text::{Lattice, NamedGrammar};
 use spireyerba::{Error, Reading, Refusal};
 
@@ -33,7 +34,9 @@ fn run(arguments: &Arguments, output: &mut Output) -> Result<(), Failure> {
     }
     match reading {
         Some((file, Err(_))) => of_file(arguments, file, output),
-        Some((_, Ok(0))) => Err(arguments.wrong("READING: ranks count from 1")),
+        Some((_, Ok(rank))) if !(1..=MAX_READINGS).contains(&rank) => {
+            Err(arguments.wrong(format!("READING: a rank is 1 to {MAX_READINGS}, not {rank}")))
+        }
         Some((_, Ok(rank))) => of_ranks(arguments, &Listed::up_to(arguments, rank)?, rank as usize, output),
         None => of_ranks(arguments, &Listed::new(arguments, arguments.wanted()?)?, 1, output),
     }

@@ -7,7 +7,7 @@ use crate::options::Arguments;
 use crate::output::Output;
 use crate::reach::{unused, Unused};
 use spireyerba::limits::{MAX_RULES, MAX_SLOTS, MAX_SYMBOLS, MAX_WORDS};
-use spireyerba::text::Places;
+use spireyerba::text::{shortened, Places};
 use spireyerba::{Body, Error, Grammar, Position, Refusal, Rule};
 
 pub const COMMAND: Command = Command {
@@ -78,6 +78,7 @@ fn too_long(file: &GrammarFile, shortest: &[Option<u32>]) -> Vec<u32> {
 
 /// A line about something at a place of the text, if it was a text.
 fn found(file: &GrammarFile, place: impl FnOnce(&Places) -> Position, what: &str) -> String {
+    let what = shortened(what);
     match file.places.as_ref().map(place) {
         Some(Position { line, column }) => format!("{}:{line}:{column}: {what}", file.name),
         None => format!("{}: {what}", file.name),

@@ -42,7 +42,7 @@ fn run(arguments: &Arguments, output: &mut Output) -> Result<(), Failure> {
         Heard::Graph(_) => None,
     };
     let [grammar, utterance] = [0, 1].map(|operand| files::name_of(arguments.operands[operand]));
-    let html = page(&listed, &Source { grammar, utterance, wanted }, changes.as_ref());
+    let html = page(&listed, &Source { grammar: &grammar, utterance: &utterance, wanted }, changes.as_ref());
     files::write(arguments, output, html.as_bytes())
 }
 
@@ -59,6 +59,6 @@ fn cost_changes(arguments: &Arguments, listed: &Listed, utterance: &Utterance) -
         return Err(arguments.wrong("ranges of costs are for slots, not for word graphs"));
     };
     let found = listed.grammar.packed.cost_ranges(utterance, &high);
-    let first = found.map_err(|refusal| Error::from(refusal).in_file(files::name_of(operand)))?;
+    let first = found.map_err(|refusal| Error::from(refusal).in_file(&files::name_of(operand)))?;
     Ok(CostChanges { margins, ranges: Some(Ranges { high, first }) })
 }

@@ -4,12 +4,14 @@ use super::batch::{are_lattices, named, Line};
 use super::Command;
 use crate::failure::Failure;
 use crate::files::{self, File, GrammarFile};
+use crate::names::shown;
 use crate::no_reading::NoReading;
 use crate::options::{
     Arguments, CLOSE, COLUMNS, DROP_DELETES, DROP_UNKNOWN, EMPTY, EXACT, FILE, FILES, FOLD, FORMAT, HTML, PATHS, SCALE,
 };
 use crate::output::Output;
 use crate::rows::{csv, html, Row};
+use spireyerba::limits::MAX_READINGS;
 use spireyerba::text::{nearest, Lattice, UtteranceReader};
 use spireyerba::{Error, Part, Reading, Refusal, Tree};
 
@@ -35,27 +37,42 @@ pub const COMMAND: Command = Command {
     summary: "write a table with a row for each utterance, the columns of which are symbols",
     details: "\
 A line of the file has an utterance or a word graph, with or without a name before a tab, as for `batch`; of a file with
-lattices, and of each that --files names, every lattice is a row. A column has what the first node of its symbol becomes in the first reading, the last ones the weight and a
-note: what another reading has in a column, if it weighs at most W more, or why there is no reading. Those are the rows to look at.",
+lattices, and of each that --files names, every lattice is a row. A column has what the first node of its symbol becomes in
+the first reading, the last ones the weight and a note: what the next reading with another row has in a column, if it weighs
+at most W more, or why there is no reading. Those are the rows to look at. Readings are compared up to the 256th.",
     example: "spireyerba schedule grammar.txt utterances.txt --columns Number,Leaf --close 10",
     run,
 };
 
-/// The cells of a row, its weight, and the cells of another reading that is close.
-type Cells = (Vec<String>, u32, Option<Vec<String>>);
+/// What the readings of an utterance make of its row.
+struct Found {
+    cells: Vec<String>,
+    weight: u32,
+    other: Other,
+}
 
-/// Readings among which another row is looked for.
-const LOOKED_AT: u32 = 16;
+/// Another row of an utterance.
+enum Other {
+    /// No reading that is close has another.
+    None,
+    /// The first reading that is close and has another has these cells.
+    Cells(Vec<String>),
+    /// As many readings as can be listed are close and have the same cells, and there may be more.
+    UsedUp,
+}
+
+/// Readings among which another row is looked for: more of them where all so far are close and have the same cells.
+const LOOKED_AT: [u32; 3] = [2, 16, MAX_READINGS];
 
 fn run(arguments: &Arguments, output: &mut Output) -> Result<(), Failure> {
     let grammar = files::grammar(arguments.operands[0])?;
     let reader = files::utterance_reader(arguments, &grammar.named)?;
     let (operand, are_files) = named(arguments)?;
-    let name = files::name_of(operand);
+    let name = &files::name_of(operand);
     let (columns, close) = (columns(arguments, &grammar)?, arguments.number(&CLOSE)?.unwrap_or(0));
     let schedule = Schedule { columns, close, reader, grammar: &grammar, name };
     let rows = match are_files {
-        true => files::lines(operand)?.iter().flat_map(|(before, line)| schedule.rows_of_file(*before, line)).collect(),
+        true => files::list(operand)?.iter().flat_map(|(before, line)| schedule.rows_of_file(*before, line)).collect(),
         false => schedule.rows(&File::read(operand)?.text(|text| Ok(text.to_owned()))?),
     };
     let names: Vec<&str> = schedule.columns.iter().map(|symbol| grammar.named.symbol(*symbol)).collect();
@@ -77,7 +94,11 @@ fn columns(arguments: &Arguments, grammar: &GrammarFile) -> Result<Vec<u32>, Fai
             Err(arguments.wrong(format!("--columns: the grammar has no symbol `{name}`{meant}")))
         }
     };
-    names.split(',').map(|name| number(name.trim())).collect()
+    let names: Vec<&str> = names.split(',').map(str::trim).collect();
+    match names.contains(&"") {
+        true => Err(arguments.wrong("--columns: a name is missing beside a comma")),
+        false => names.into_iter().map(number).collect(),
+    }
 }
 
 struct Schedule<'a> {
@@ -118,9 +139,11 @@ impl Schedule<'_> {
         let line = Line::new(line, before);
         let read = File::read(line.heard.trim()).and_then(|file| file.text(|text| self.reader.read_all_heard(text)));
         match read {
-            Err(failure) => vec![self.refused(&line, Some(line.name_of(None, true)), failure.message().to_owned())],
+            Err(failure) => {
+                vec![self.refused(&line, Some(&shown(line.name_of(None, true))), failure.message().to_owned())]
+            }
             Ok(lattices) => {
-                let id = |lattice: &'_ Lattice| line.name_of(lattice.id.as_deref(), lattices.len() == 1).to_owned();
+                let id = |lattice: &'_ Lattice| shown(line.name_of(lattice.id.as_deref(), lattices.len() == 1));
                 lattices.iter().map(|lattice| self.row(&line, Some(&id(lattice)), lattice)).collect()
             }
         }
@@ -130,8 +153,12 @@ impl Schedule<'_> {
     fn row(&self, line: &Line, id: Option<&str>, lattice: &Lattice) -> Row {
         let missing = lattice.notes().join("; ");
         match self.first_of(lattice) {
-            Ok(Ok((cells, weight, other))) => {
-                let note = other.as_ref().map_or(String::new(), |other| self.note(&cells, other));
+            Ok(Ok(Found { cells, weight, other })) => {
+                let (note, other) = match other {
+                    Other::None => (String::new(), None),
+                    Other::Cells(other) => (self.note(&cells, &other), Some(other)),
+                    Other::UsedUp => (format!("{MAX_READINGS} readings have this row, and more may be close"), None),
+                };
                 Row { cells, weight: Some(weight), other, missing, ..self.refused(line, id, note) }
             }
             Ok(Err(none)) => Row { missing, ..self.refused(line, id, none) },
@@ -142,16 +169,26 @@ impl Schedule<'_> {
     }
 
     /// The cells and the weight of the first reading, and the cells of another that is close; or why there is no reading.
-    fn first_of(&self, lattice: &Lattice) -> Result<Result<Cells, String>, Refusal> {
-        let readings = self.grammar.packed.list(&lattice.heard, LOOKED_AT)?;
-        let Some(first) = readings.first() else {
-            let none = NoReading::new(&self.grammar.named, &lattice.heard)?;
-            return Ok(Err(none.message().replace("\n  ", "; ")));
-        };
-        let cells = self.cells(first);
-        let close = readings.iter().skip(1).take_while(|other| other.weight - first.weight <= self.close);
-        let other = close.map(|other| self.cells(other)).find(|other| *other != cells);
-        Ok(Ok((cells, first.weight, other)))
+    fn first_of(&self, lattice: &Lattice) -> Result<Result<Found, String>, Refusal> {
+        for most in LOOKED_AT {
+            let readings = self.grammar.packed.list(&lattice.heard, most)?;
+            let Some(first) = readings.first() else {
+                let none = NoReading::new(&self.grammar.named, &lattice.heard)?;
+                return Ok(Err(none.message().replace("\n  ", "; ")));
+            };
+            let (cells, weight) = (self.cells(first), first.weight);
+            let is_close = |other: &&Reading| other.weight - weight <= self.close;
+            let mut others = readings.iter().take_while(is_close).map(|other| self.cells(other));
+            let are_all = readings.len() < most as usize || readings.last().is_some_and(|last| !is_close(&last));
+            let other = match others.find(|other| *other != cells) {
+                Some(other) => Other::Cells(other),
+                None if are_all => Other::None,
+                None if most < MAX_READINGS => continue,
+                None => Other::UsedUp,
+            };
+            return Ok(Ok(Found { cells, weight, other }));
+        }
+        unreachable!("the last of the numbers looked at ends it")
     }
 
     /// A row without a reading, with the reason.

@@ -6,7 +6,7 @@ use crate::files::{self, GrammarFile};
 use crate::no_reading::NoReading;
 use crate::options::{Arguments, FOLD};
 use crate::output::Output;
-use spireyerba::text::{Sentence, UtteranceReader};
+use spireyerba::text::{shortened, Sentence, UtteranceReader};
 use spireyerba::{Error, Heard, Utterance};
 
 pub const COMMAND: Command = Command {
@@ -18,7 +18,7 @@ pub const COMMAND: Command = Command {
     details: "\
 A line of the file has `+` or `-` and a sentence, which the grammar derives or does not: `+ door twenty four oak`. Behind it
 may stand the weight of the first reading and what that becomes: `+ door twenty four oak [5] => \"24 oak\"`. Empty lines and
-comments are passed over. A line is printed for each that fails, and then the exit status is 1.",
+comments are passed over. A line is printed for each that fails or cannot be read, and then the exit status is 1.",
     example: "echo '+ door twenty four oak fire thirty' | spireyerba test grammar.txt -",
     run,
 };
@@ -26,15 +26,17 @@ comments are passed over. A line is printed for each that fails, and then the ex
 fn run(arguments: &Arguments, output: &mut Output) -> Result<(), Failure> {
     let grammar = files::grammar(arguments.operands[0])?;
     let reader = files::utterance_reader(arguments, &grammar.named)?;
-    let name = files::name_of(arguments.operands[1]);
+    let name = &files::name_of(arguments.operands[1]);
     let (mut sentences, mut failed) = (0, 0);
     for (before, line) in files::lines(arguments.operands[1])? {
         sentences += 1;
-        let in_file = |error: Error| Failure::from(error.in_file(name).after_lines(before));
-        if let Some(why) = fails(&grammar, &reader, &line).map_err(in_file)? {
-            failed += 1;
-            output.line(&format!("{name}:{}: {why}", before + 1))?;
-        }
+        let why = match fails(&grammar, &reader, &line) {
+            Ok(None) => continue,
+            Ok(Some(why)) => format!("{name}:{}: {}", before + 1, shortened(&why)),
+            Err(error) => error.in_file(name).after_lines(before).to_string(),
+        };
+        failed += 1;
+        output.line(&why)?;
     }
     match failed {
         0 => output.line(&format!("{name}: {sentences} passed")),
@@ -47,7 +49,7 @@ fn fails(grammar: &GrammarFile, reader: &UtteranceReader, line: &str) -> Result<
     let sentence = reader.read_sentence(line)?;
     Ok(match (&sentence.words, sentence.is_derived) {
         (Err(_), false) => None,
-        (Err(word), true) => Some(format!("not derived: the grammar has no word `{word}`")),
+        (Err(unknown), true) => Some(format!("not derived: {}", unknown.reason())),
         (Ok(words), _) => of_words(grammar, &sentence, words)?,
     })
 }

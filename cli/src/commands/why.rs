@@ -9,6 +9,7 @@ use crate::options::{
 };
 use crate::output::{Output, Style};
 use crate::width::{columns, padded};
+use spireyerba::limits::MAX_READINGS;
 use spireyerba::{Candidate, Reading};
 use std::collections::BTreeSet;
 
@@ -33,8 +34,10 @@ struct Row {
 
 fn run(arguments: &Arguments, output: &mut Output) -> Result<(), Failure> {
     let rank = arguments.operand_number(2)?;
-    if rank < 2 {
-        return Err(arguments.wrong("K is 2 or more: the first reading is laid beside it"));
+    if !(2..=MAX_READINGS).contains(&rank) {
+        return Err(
+            arguments.wrong(format!("K is 2 to {MAX_READINGS}, not {rank}: the first reading is laid beside it"))
+        );
     }
     let listed = Listed::up_to(arguments, rank)?;
     let [first, other] = [0, rank as usize - 1].map(|at| &listed.readings[at]);

@@ -112,14 +112,32 @@ twenty, forty, four, five; heard in slot 1: oak 0
 <stdin>:7: not derived: the grammar has no word `window`
 ";
     assert_eq!((run.status, run.out.as_str(), run.err.as_str()), (1, lines, "<stdin>: 5 of 7 failed\n"));
-    for (line, message) in [
-        ("door four", "<stdin>:1:1: `door` where `+` or `-` before a sentence should stand\n"),
-        ("+ door four [x]", "<stdin>:1:13: `[x]` is not a whole number\n"),
-        ("+ door four => 4", "<stdin>:1:16: `4` where a quoted translation should stand\n"),
-        ("+", "<stdin>:1:2: refused 13: there is no slot\n"),
-    ] {
-        assert_eq!(refused(run_with(&door_schedule(), "test grammar.txt -", line.as_bytes()), 1), message);
-    }
+    // what cannot be read fails, and the others are tried all the same
+    let run = run_with(
+        &door_schedule(),
+        "test grammar.txt -",
+        b"door four\n+ door four [x]\n+\n+ door four\n- door four [3]\n",
+    );
+    let lines = "\
+<stdin>:1:1: `door` where `+` or `-` before a sentence should stand
+<stdin>:2:14: `x` is not a whole number
+<stdin>:3:2: refused 13: there is no word
+<stdin>:5:13: `[` behind a sentence with `-`, which has no weight and becomes nothing
+";
+    assert_eq!((run.status, run.out.as_str(), run.err.as_str()), (1, lines, "<stdin>: 4 of 5 failed\n"));
+}
+
+/// What stands close together is taken apart, and a word of another case is named.
+#[test]
+fn sentences_close_together() {
+    let sentences =
+        b"+ door four[35]=>\"4\"\n+ door five =>\"5\" [35]\n  + \"door\" five # as said\n- Door five\n+ Door five\n";
+    let run = run_with(&door_schedule(), "test grammar.txt -", sentences);
+    let line = "<stdin>:5: not derived: the grammar has no word `Door`, but `door`, of another case: --fold takes both for one\n";
+    assert_eq!((run.status, run.out.as_str(), run.err.as_str()), (1, line, "<stdin>: 1 of 5 failed\n"));
+    let folded = run_with(&door_schedule(), "test grammar.txt - --fold", sentences);
+    let line = "<stdin>:4: derived, with weight 35, and should not be: door five\n";
+    assert_eq!((folded.status, folded.out.as_str()), (1, line));
 }
 
 #[test]

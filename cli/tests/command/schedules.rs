@@ -24,14 +24,95 @@ fn rows_as_csv() {
     assert!(strict.contains("2,24,oak,FD30,,72,\r\n"), "{strict}");
 }
 
+/// The words of a sentence that says what the rules of `A` have.
+const TWO_COLUMNS: &str = "A -> B C | C B [1]\nB -> \"x\" | \"y\" [2] | \"z\" [9]\nC -> \"x\" | \"y\" | \"z\"";
+
+/// A row is marked where the second reading weighs at most W more and has another column, with what that has: neither where it
+/// weighs more, nor where it has the same columns.
+#[test]
+fn a_row_is_marked_by_the_second_reading() {
+    let folder = folder("schedule_second", &[("g", TWO_COLUMNS.as_bytes())]);
+    let row = |line: &[u8], options: &str| {
+        let schedule = answer_with(&folder, &format!("schedule g - {options}"), line);
+        schedule.lines().nth(1).expect("a row").to_owned()
+    };
+    // the second reading has C before B, at 1 more
+    assert_eq!(row(b"x;y\n", "--columns B,C --close 1"), "1,x,y,0,");
+    let second = answer_with(&folder, "list g - -n 2", b"x;y\n");
+    assert_eq!(second, "1  0  x y\n2  3  x y\n");
+    assert_eq!(row(b"x;y\n", "--columns B,C --close 2"), "1,x,y,0,");
+    assert_eq!(row(b"x;y\n", "--columns B,C --close 3"), "1,x,y,0,B: or y; C: or x");
+    assert_eq!(row(b"x;y\n", "--columns C --close 3"), "1,y,0,C: or x");
+    // the start is the same words in both
+    assert_eq!(row(b"x;y\n", "--columns A --close 3"), "1,x y,0,");
+    // of three words for a slot the second reading's counts, not the third's
+    assert_eq!(row(b"x|y|z;x\n", "--columns B --close 65535"), "1,x,0,B: or y");
+}
+
+/// Where the second reading has the same row by another derivation, the first that has another marks it, however many stand before.
+#[test]
+fn a_row_that_many_derivations_have() {
+    let grammar = "A -> N A | A N [0] | N\nN -> \"x\" => \"\" | \"y\" => \"y\" [1]";
+    let folder = folder("schedule_many", &[("g", grammar.as_bytes())]);
+    let row = |words: usize, last: &str, close: &str| {
+        let line = format!("{}{last}\n", "x;".repeat(words));
+        let schedule = answer_with(&folder, &format!("schedule g - --columns A --close {close}"), line.as_bytes());
+        schedule.lines().nth(1).expect("a row").to_owned()
+    };
+    // 2 to the 5th readings of six words have the row, and then comes one with y
+    let listed = answer_with(&folder, "list g - -n 256", format!("{}x|y 3\n", "x;".repeat(5)).as_bytes());
+    assert_eq!(listed.lines().filter(|line| line.split_whitespace().nth(1) == Some("0")).count(), 32);
+    assert_eq!(row(5, "x|y 3", "4"), "1,,0,A: or y");
+    assert_eq!(row(5, "x|y 3", "3"), "1,,0,");
+    // of ten words 512
+    assert_eq!(row(9, "x|y 3", "4"), "1,,0,\"256 readings have this row, and more may be close\"");
+    assert_eq!(row(9, "x", "0"), "1,,0,\"256 readings have this row, and more may be close\"");
+}
+
+/// CSV as RFC 4180 has it, taken apart by its rules: lines end in CR and LF, quotes stand twice within quotes.
+fn records(text: &str) -> Vec<Vec<String>> {
+    let (mut records, mut record, mut field) = (Vec::new(), Vec::new(), String::new());
+    let mut letters = text.chars().peekable();
+    let mut is_quoted = false;
+    while let Some(letter) = letters.next() {
+        match letter {
+            '"' if is_quoted && letters.peek() == Some(&'"') => field.extend(letters.next()),
+            '"' => is_quoted = !is_quoted,
+            ',' if !is_quoted => record.push(std::mem::take(&mut field)),
+            '\r' if !is_quoted => {
+                assert_eq!(letters.next(), Some('\n'), "{text:?}");
+                record.push(std::mem::take(&mut field));
+                records.push(std::mem::take(&mut record));
+            }
+            '\n' if !is_quoted => panic!("a line ends in LF alone: {text:?}"),
+            letter => field.push(letter),
+        }
+    }
+    assert!(record.is_empty() && field.is_empty() && !is_quoted, "{text:?}");
+    records
+}
+
 #[test]
 fn fields_in_quotes() {
-    let grammar = "A -> B\nB -> \"x\" => \"a, \\\"b\\\"\"";
-    let folder = crate::common::folder("schedule_quotes", &[("g", grammar.as_bytes()), ("u", b"x 3\n")]);
-    assert_eq!(
-        answer_in(&folder, "schedule g u --columns B,A"),
-        "line,B,A,weight,note\r\n1,\"a, \"\"b\"\"\",\"a, \"\"b\"\"\",3,\r\n"
+    let grammar = "A,1 -> B C D\nB -> \"x\" => \"a, \\\"b\\\"\"\nC -> \"c\"\nD -> \"d\" => \"ü; '\"";
+    let list = "\"a\rb\"\tu\n".as_bytes();
+    let folder = crate::common::folder(
+        "schedule_quotes",
+        &[("g", grammar.as_bytes()), ("u", b"x 3;c;d\r\n"), ("v", b"say \"x, y\"\n"), ("l", list)],
     );
+    let csv = answer_in(&folder, "schedule g u --columns B,C,D");
+    assert_eq!(csv, "line,B,C,D,weight,note\r\n1,\"a, \"\"b\"\"\",c,ü; ',3,\r\n");
+    assert_eq!(records(&csv)[1], ["1", "a, \"b\"", "c", "ü; '", "3", ""]);
+    let csv = answer_in(&folder, "schedule g v --columns B");
+    assert_eq!(records(&csv)[1], ["1", "", "", "v:1:1: refused 14: the grammar has no word `say`"]);
+    // a name with an end of a line in it
+    let run = run_in(&folder, "schedule g --files l --columns B");
+    assert_eq!(run.status, 0, "{}", run.err);
+    records(&run.out);
+    for name in ["door_schedule", "site_notes"] {
+        let table = answer_in(&example(name), "schedule grammar.txt utterances.txt --columns Number --close 99");
+        assert!(records(&table).iter().all(|record| record.len() == 4), "{table}");
+    }
 }
 
 #[test]
@@ -74,6 +155,15 @@ fn wrong_usage() {
         wrong("schedule grammar.txt utterances.txt --columns Nubmer"),
         usage("--columns: the grammar has no symbol `Nubmer` (did you mean `Number`?)")
     );
+    for (columns, message) in [
+        ("--columns", "--columns needs SYMBOL,.."),
+        ("--columns=", "--columns: a name is missing beside a comma"),
+        ("--columns Number,,Leaf", "--columns: a name is missing beside a comma"),
+        ("--columns Colour", "--columns: the grammar has no symbol `Colour`"),
+        ("--columns Number --close 1.5", "--close: `1.5` is no whole number from 0 on"),
+    ] {
+        assert_eq!(wrong(&format!("schedule grammar.txt utterances.txt {columns}")), usage(message));
+    }
 }
 
 /// Every lattice of a file is a row, with its name, and what is missing of it is said.

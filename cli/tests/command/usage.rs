@@ -2,7 +2,9 @@
 
 use crate::common::{answer, answer_in, answer_with, doors, folder, output, refused, run, run_in, run_with, PROGRAM};
 use spireyerba::Refusal;
+use std::ffi::OsStr;
 use std::io::Write;
+use std::os::unix::ffi::OsStrExt;
 use std::path::Path;
 use std::process::{Command, Stdio};
 
@@ -99,6 +101,9 @@ fn wrong_usage_of_list() {
         ("lsit", "spireyerba", "there is no command `lsit`: did you mean `list`?"),
         ("list grammar.txt utterance.txt -n 0", "spireyerba list", "--number is 1 to 256, not 0"),
         ("list grammar.txt utterance.txt -n 257", "spireyerba list", "--number is 1 to 256, not 257"),
+        ("list a b -n 99999999999", "spireyerba list", "--number: `99999999999` is too large"),
+        ("list a b -n -1", "spireyerba list", "--number: `-1` is no whole number from 0 on"),
+        ("list a b -n 1.5", "spireyerba list", "--number: `1.5` is no whole number from 0 on"),
         ("list a b -x", "spireyerba list", "there is no option -x"),
         ("list a b --tree=yes", "spireyerba list", "--tree takes no value"),
         ("list a b -n", "spireyerba list", "--number needs N"),
@@ -114,7 +119,11 @@ fn wrong_usage_of_others() {
     expect_usage(&[
         ("why grammar.txt utterance.txt", "spireyerba why", "K is missing"),
         ("why grammar.txt utterance.txt two", "spireyerba why", "K: `two` is no number"),
-        ("why grammar.txt utterance.txt 1", "spireyerba why", "K is 2 or more: the first reading is laid beside it"),
+        (
+            "why grammar.txt utterance.txt 1",
+            "spireyerba why",
+            "K is 2 to 256, not 1: the first reading is laid beside it",
+        ),
         ("pick grammar.txt -", "spireyerba pick", "the answers come from standard input, so no file can"),
         ("pick - utterance.txt", "spireyerba pick", "the answers come from standard input, so no file can"),
         ("pick grammar.txt utterance.txt --tree --json", "spireyerba pick", "--tree and --json: only one of them"),
@@ -141,7 +150,12 @@ fn wrong_usage_of_others() {
         ("list grammar.txt utterance.txt --skip much", "spireyerba list", "--skip: `much` is no number"),
         ("list grammar.txt utterance.txt --skip", "spireyerba list", "--skip needs COST"),
         ("chance grammar.txt utterance.txt", "spireyerba chance", "SHARES is missing"),
-        ("chance grammar.txt utterance.txt shares.txt 0", "spireyerba chance", "READING: ranks count from 1"),
+        ("chance grammar.txt utterance.txt shares.txt 0", "spireyerba chance", "READING: a rank is 1 to 256, not 0"),
+        (
+            "why grammar.txt utterance.txt 257",
+            "spireyerba why",
+            "K is 2 to 256, not 257: the first reading is laid beside it",
+        ),
         (
             "chance grammar.txt utterance.txt shares.txt 2 -n 3",
             "spireyerba chance",
@@ -244,8 +258,14 @@ fn no_colours_in_a_pipe() {
 
 /// What the command prints on a terminal, which the program `script` makes; where there is none, this says so.
 fn on_a_terminal(words: &str) -> Option<String> {
+    on_a_terminal_with(words, &[])
+}
+
+/// The same with some variables of the environment.
+fn on_a_terminal_with(words: &str, variables: &[(&str, &str)]) -> Option<String> {
     let mut script = Command::new("script");
-    script.args(["-qec", &format!("{PROGRAM} {words}"), "/dev/null"]).current_dir(doors()).env_remove("NO_COLOR");
+    script.args(["-qec", &format!("{PROGRAM} {words}"), "/dev/null"]).current_dir(doors());
+    script.env_remove("NO_COLOR").env("TERM", "xterm").envs(variables.iter().copied());
     let run = script.stdin(Stdio::null()).output();
     if run.is_err() {
         writeln!(std::io::stderr(), "skipped: no program `script` is installed").expect("standard error");
@@ -268,6 +288,27 @@ fn progress_on_a_terminal() {
     assert!(shown.contains(" utterances, ") && shown.contains(" a second\x1b[K"), "{shown:?}");
     assert!(shown.ends_with("\r\x1b[K"), "{shown:?}");
     assert!(!on_a_terminal(&words).expect("a terminal").contains(" a second"));
+}
+
+/// Neither colours nor progress where the terminal knows no sequences, and no colours where nobody wants them.
+#[test]
+fn no_colours_on_a_terminal() {
+    let folder = folder("dumb", &[("many.txt", "door 1; forty 1; glass 1 | oak 2\n".repeat(MANY).as_bytes())]);
+    let [many, answers] = ["many.txt", "answers"].map(|name| folder.join(name).display().to_string());
+    for words in [
+        "list grammar.txt utterance.txt --tree",
+        "why grammar.txt utterance.txt 2",
+        "margins grammar.txt utterance.txt",
+    ] {
+        for (variable, value) in [("TERM", "dumb"), ("NO_COLOR", "1")] {
+            let Some(shown) = on_a_terminal_with(words, &[(variable, value)]) else { return };
+            assert_eq!(shown.replace("\r\n", "\n"), answer(words), "{variable}={value}");
+        }
+        let coloured = on_a_terminal_with(words, &[("NO_COLOR", "")]).expect("a terminal");
+        assert!(coloured.contains('\x1b'), "{words}: {coloured:?}");
+    }
+    let batch = format!("batch grammar.txt {many} -n 1 -j 1 > {answers}");
+    assert_eq!(on_a_terminal_with(&batch, &[("TERM", "dumb")]).expect("a terminal"), "");
 }
 
 #[test]
@@ -294,20 +335,50 @@ fn output_that_cannot_be_written() {
 /// A name that is not UTF-8 names the file that the system has, and a message shows what can be shown of it.
 #[test]
 fn names_that_are_not_utf_8() {
-    use std::os::unix::ffi::OsStrExt;
-    let folder = folder("names", &[("g", b"A -> \"x\""), ("u", b"x 3")]);
-    let name = std::ffi::OsStr::from_bytes(b"T\xfcr");
-    std::fs::copy(folder.join("g"), folder.join(name)).expect("a copy");
-    let page = std::ffi::OsStr::from_bytes(b"S\xfcd.html");
-    let run = |grammar: &std::ffi::OsStr| {
-        let mut command = Command::new(PROGRAM);
-        command.current_dir(&folder).arg("report").arg(grammar).arg("u").arg("-o").arg(page);
-        output(&mut command, b"")
+    let files: [(&str, &[u8]); 5] = [
+        ("g", b"A -> \"x\"\nB -> \"y\""),
+        ("u", b"x 3"),
+        ("s", b"- x"),
+        ("l", b"M\xfc u\nM\xfcll\n"),
+        ("k", b"k\n0 1 x 1,2,\n1\n"),
+    ];
+    let folder = folder("names", &files);
+    for (from, to) in [("g", &b"T\xfcr"[..]), ("u", b"M\xfc u"), ("s", b"S\xfc"), ("l", b"L\xfc"), ("k", b"K\xfc")] {
+        std::fs::copy(folder.join(from), folder.join(OsStr::from_bytes(to))).expect("a copy");
+    }
+    let run = |words: &[&[u8]]| {
+        let run = output(
+            Command::new(PROGRAM).current_dir(&folder).args(words.iter().map(|word| OsStr::from_bytes(word))),
+            b"",
+        );
+        let [out, err] = [run.stdout, run.stderr].map(|text| String::from_utf8(text).expect("a text"));
+        (run.status.code().expect("an end"), out, err)
     };
-    assert!(run(name).status.success());
-    assert!(folder.join(page).exists());
-    let missing = run(std::ffi::OsStr::from_bytes(b"M\xfcll"));
-    assert_eq!(String::from_utf8_lossy(&missing.stderr), "M\u{fffd}ll: No such file or directory (os error 2)\n");
+    let lint = "T\u{fffd}r:2:1: nothing uses `B`\nT\u{fffd}r: 2 of 32 symbols (30 left), 2 of 200 words (198 left), 2 of 256 rules (254 left)\n";
+    assert_eq!(run(&[b"lint", b"T\xfcr"]), (0, lint.to_owned(), String::new()));
+    let missing = "M\u{fffd}ll: No such file or directory (os error 2)";
+    assert_eq!(run(&[b"lint", b"M\xfcll"]), (1, String::new(), format!("{missing}\n")));
+    let fails = "S\u{fffd}:1: derived, with weight 0, and should not be: x\n";
+    assert_eq!(run(&[b"test", b"T\xfcr", b"S\xfc"]), (1, fails.to_owned(), "S\u{fffd}: 1 of 1 failed\n".to_owned()));
+    // files that are written have the name that was asked for
+    for words in [
+        &[&b"report"[..], b"g", b"u", b"-o", b"O\xfc"][..],
+        &[b"schedule", b"g", b"u", b"--columns", b"A", b"--html", b"-o", b"O\xfc"],
+        &[b"batch", b"g", b"u", b"--resume", b"O\xfc"],
+    ] {
+        assert_eq!(run(words).0, 0, "{words:?}");
+        std::fs::remove_file(folder.join(OsStr::from_bytes(b"O\xfc"))).expect("the file that was written");
+    }
+    // and so have those that a list names
+    let rows = format!("line,id,A,weight,note\r\n1,M\u{fffd} u,x,3,\r\n2,M\u{fffd}ll,,,{missing}\r\n");
+    assert_eq!(run(&[b"schedule", b"g", b"--files", b"L\xfc", b"--columns", b"A"]), (0, rows, String::new()));
+    let (status, answers, message) = run(&[b"batch", b"g", b"--files", b"L\xfc"]);
+    assert_eq!((status, message), (1, format!("{missing}\n1 of 2 utterances refused\n")));
+    assert!(answers.starts_with("{\"line\":1,\"id\":\"M\u{fffd} u\",\"readings\":[{\"rank\":1,"), "{answers}");
+    // a file of lattices is a list of one
+    assert!(run(&[b"batch", b"g", b"K\xfc", b"--scale", b"1"])
+        .1
+        .starts_with("{\"line\":1,\"id\":\"k\",\"readings\":[{\"rank\":1,"));
 }
 
 #[test]

@@ -17,6 +17,8 @@ use std::collections::HashMap;
 pub(super) struct Expanded {
     pub(super) office: Office,
     pub(super) expansions: Vec<Expansion>,
+    /// Of each rule the rule of the text in whose body its items stand.
+    pub(super) makers: Vec<u32>,
     /// The names of the helpers behind the symbols of the text, and what they are for.
     pub(super) names: Vec<String>,
     pub(super) kinds: Vec<usize>,
@@ -40,22 +42,35 @@ struct Form {
     /// Of each item which part of the rule's body it is for.
     elements: Vec<u32>,
     weight: u32,
-    /// Where what was left out or chosen stands, or the body.
+    /// Where what was left out or chosen last stands, or the body.
     place: Position,
+    /// Which way was taken at each place where there are several.
+    choices: Vec<(Position, usize)>,
 }
 
 impl Form {
     fn of(items: &[Item], element: u32, weight: u32, place: Position) -> Self {
-        Self { items: items.to_vec(), elements: vec![element; items.len()], weight, place }
+        let choices = Vec::new();
+        Self { items: items.to_vec(), elements: vec![element; items.len()], weight, place, choices }
     }
 
-    /// This one, and another behind it.
-    fn and(&self, next: &Self, is_choice: bool) -> Self {
+    /// This one, and another behind it, which is one way of several at a place.
+    fn and(&self, next: &Self, choice: Option<(Position, usize)>) -> Self {
         Self {
             items: [&self.items[..], &next.items].concat(),
             elements: [&self.elements[..], &next.elements].concat(),
             weight: self.weight.saturating_add(next.weight),
-            place: if is_choice { next.place } else { self.place },
+            place: if choice.is_some() { next.place } else { self.place },
+            choices: [&self.choices, &next.choices, choice.as_slice()].concat(),
+        }
+    }
+
+    /// Where another stands that becomes the same: of the same body at another place where both differ.
+    fn beside(&self, other: &Self) -> Position {
+        let differs = |choice: &&(Position, usize)| !other.choices.contains(choice) && choice.0 != self.place;
+        match other.place == self.place {
+            true => self.choices.iter().find(differs).map_or(other.place, |(place, _)| *place),
+            false => other.place,
         }
     }
 }
@@ -120,7 +135,9 @@ impl Forms<'_> {
                 return Err(Error::at(element.place, RuleFault::ManyForms.into()));
             }
             let is_choice = next.len() > 1;
-            forms = forms.iter().flat_map(|form| next.iter().map(|next| form.and(next, is_choice))).collect();
+            let choice = |way| is_choice.then_some((element.place, way));
+            let next: Vec<_> = next.iter().enumerate().map(|(way, next)| (next, choice(way))).collect();
+            forms = forms.iter().flat_map(|form| next.iter().map(|(next, choice)| form.and(next, *choice))).collect();
         }
         Ok(forms)
     }
@@ -229,6 +246,8 @@ impl Forms<'_> {
 #[derive(Clone)]
 struct Finished {
     owner: u32,
+    /// The rule of the text in whose body the items stand.
+    maker: u32,
     items: Vec<Item>,
     weight: u32,
     parts: Parts,
@@ -276,7 +295,7 @@ impl<'a> Alone<'a> {
             let rule = &forms.rules[number];
             let list = self.of_rule(rule)?;
             for finished in &list {
-                self.check(head, finished, &mut known)?;
+                self.check(head, finished, &rule.form, &mut known)?;
             }
             lists.push(list);
         }
@@ -286,12 +305,19 @@ impl<'a> Alone<'a> {
     }
 
     /// No rule stands twice, and none weighs too much.
-    fn check(&self, head: u32, rule: &Finished, known: &mut HashMap<Vec<Item>, Position>) -> Result<(), Error> {
+    fn check(
+        &self,
+        head: u32,
+        rule: &Finished,
+        form: &'a Form,
+        known: &mut HashMap<Vec<Item>, &'a Form>,
+    ) -> Result<(), Error> {
         let text = || {
             let written = self.forms.written();
             format!("{} -> {}", written.symbols[head as usize], written.items(&rule.items))
         };
-        if let Some(other) = known.insert(rule.items.clone(), rule.place) {
+        if let Some(other) = known.insert(rule.items.clone(), form) {
+            let other = form.beside(other);
             return Err(Error::at(rule.place, RuleFault::SameRule { rule: text(), other }.into()));
         }
         match rule.weight > MAX_WEIGHT {
@@ -307,7 +333,8 @@ impl<'a> Alone<'a> {
         let [Item::Symbol(symbol)] = form.items[..] else {
             let pieces = form.elements.iter().map(|&element| Piece { element, kind: Kind::Item }).collect();
             let parts = with_node(rule, Parts { weight: form.weight, pieces });
-            return Ok(vec![Finished { owner, items: form.items.clone(), weight: form.weight, parts, place }]);
+            let (items, weight) = (form.items.clone(), form.weight);
+            return Ok(vec![Finished { owner, maker: owner, items, weight, parts, place }]);
         };
         if let Some(first) = self.above.iter().position(|above| *above == symbol) {
             return Err(Error::at(place, RuleFault::Cycle(self.circle(first)).into()));
@@ -319,7 +346,7 @@ impl<'a> Alone<'a> {
             let pieces = pieces.iter().map(|piece| Piece { element: form.elements[0], ..piece.clone() }).collect();
             let sum = below.weight.saturating_add(form.weight);
             let parts = with_node(rule, Parts { weight: weight.saturating_add(form.weight), pieces });
-            Finished { owner, items: below.items.clone(), weight: sum, parts, place }
+            Finished { owner, maker: below.maker, items: below.items.clone(), weight: sum, parts, place }
         });
         Ok(taken_over.collect())
     }
@@ -357,27 +384,28 @@ impl Pairs<'_> {
     fn of(forms: Forms, rules: Vec<(u32, Finished)>) -> Expanded {
         let Forms { names, kinds, words, own, .. } = forms;
         let office = Office { symbols: 0, words: words.len() as u32, rules: Vec::new() };
-        let expanded = Expanded { office, expansions: Vec::new(), names: Vec::new(), kinds };
+        let expanded = Expanded { office, expansions: Vec::new(), makers: Vec::new(), names: Vec::new(), kinds };
         let mut pairs = Pairs { expanded, own, names, words, rests: HashMap::new() };
         let mut later = Vec::new();
-        for (head, Finished { owner, items, weight, parts, .. }) in rules {
-            let items = pairs.pair(items, owner, &mut later);
-            pairs.push(OfficeRule { head, weight, items }, Expansion { rule: owner, parts: Some(parts) });
+        for (head, Finished { owner, maker, items, weight, parts, .. }) in rules {
+            let items = pairs.pair(items, maker, &mut later);
+            pairs.push(OfficeRule { head, weight, items }, Expansion { rule: owner, parts: Some(parts) }, maker);
         }
-        for (rule, owner) in later {
-            pairs.push(rule, Expansion { rule: owner, parts: None });
+        for (rule, maker) in later {
+            pairs.push(rule, Expansion { rule: maker, parts: None }, maker);
         }
         pairs.expanded.office.symbols = pairs.names.len() as u32;
         Expanded { names: pairs.names.split_off(pairs.own), ..pairs.expanded }
     }
 
-    fn push(&mut self, rule: OfficeRule, expansion: Expansion) {
+    fn push(&mut self, rule: OfficeRule, expansion: Expansion, maker: u32) {
         self.expanded.office.rules.push(rule);
         self.expanded.expansions.push(expansion);
+        self.expanded.makers.push(maker);
     }
 
     /// A body with one symbol for what stands behind its first item; rules that are new go to a list.
-    fn pair(&mut self, items: Vec<Item>, owner: u32, later: &mut Vec<(OfficeRule, u32)>) -> Vec<Item> {
+    fn pair(&mut self, items: Vec<Item>, maker: u32, later: &mut Vec<(OfficeRule, u32)>) -> Vec<Item> {
         if items.len() <= 2 {
             return items;
         }
@@ -390,8 +418,8 @@ impl Pairs<'_> {
         self.names.push(name);
         self.expanded.kinds.push(JOINTS);
         self.rests.insert(rest.clone(), head);
-        let body = self.pair(rest, owner, later);
-        later.push((OfficeRule { head, weight: 0, items: body }, owner));
+        let body = self.pair(rest, maker, later);
+        later.push((OfficeRule { head, weight: 0, items: body }, maker));
         vec![items[0], Item::Symbol(head)]
     }
 }

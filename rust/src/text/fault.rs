@@ -4,6 +4,7 @@ use super::formats::MAX_LINKS;
 use super::RuleFault;
 use crate::limits::{MAX_EDGES, MAX_PLACES, MAX_SHARE, MAX_WEIGHT, NOT_HEARD};
 use crate::Refusal;
+use std::borrow::Cow;
 use std::fmt::{Display, Formatter};
 
 /// What is wrong at a place of a text. Where the library would refuse the same, the fault has its number.
@@ -91,6 +92,8 @@ pub enum Fault {
     },
     /// A word that the slot has already.
     RepeatedWord(String),
+    /// A weight or a translation behind a sentence that should not be derived.
+    Underived(String),
     /// An edge of a word graph that does not go to a later place.
     EdgePlaces {
         /// Where it starts.
@@ -155,8 +158,6 @@ pub enum Fault {
     Real(String),
     /// Not a base of logarithms.
     Base(String),
-    /// A score of a lattice that is so good that its cost is below 0.
-    NegativeCost(String),
     /// Bytes of a lattice's word, written as octal digits, that are no characters.
     Bytes(String),
     /// A lattice within a lattice.
@@ -225,7 +226,12 @@ impl Fault {
         }
     }
 
-    /// What is wrong, without the number.
+    /// What is wrong in words, without the refusal's number.
+    pub fn reason(&self) -> String {
+        shortened(&Words(self).to_string()).into_owned()
+    }
+
+    /// What is wrong, without the number, however long it is.
     fn words(&self, formatter: &mut Formatter) -> std::fmt::Result {
         match self {
             Self::Expected { wanted, found: Some(found) } => write!(formatter, "`{found}` where {wanted} should stand"),
@@ -241,10 +247,12 @@ impl Fault {
             Self::Number(item) => write!(formatter, "`{item}` is not a whole number"),
             Self::Weight { what, found } => {
                 write!(formatter, "`{found}` is no {what}: a {what} is 0 to {MAX_WEIGHT}, digits only")?;
-                match found.parse::<f64>().is_ok_and(|number| number.fract() != 0.0) {
-                    true => write!(formatter, "; for {found} multiply all by 100"),
-                    false if *what == "cost" => write!(formatter, ", and between slots stands `;`"),
-                    false => Ok(()),
+                match found.parse::<f64>() {
+                    Ok(number) if number.fract() != 0.0 => write!(formatter, "; for {found} multiply all by 100"),
+                    Err(_) if *what == "cost" && !found.starts_with(|letter: char| letter.is_ascii_digit()) => {
+                        write!(formatter, ", and between slots stands `;`")
+                    }
+                    _ => Ok(()),
                 }
             }
             Self::TooLarge { what, number } => {
@@ -264,6 +272,9 @@ impl Fault {
                 write!(formatter, "the grammar has no word `{word}`, but `{known}`, {how}: --fold takes both for one")
             }
             Self::RepeatedWord(word) => write!(formatter, "the slot has `{word}` already"),
+            Self::Underived(found) => {
+                write!(formatter, "`{found}` behind a sentence with `-`, which has no weight and becomes nothing")
+            }
             _ => self.graph_words(formatter),
         }
     }
@@ -314,12 +325,6 @@ impl Fault {
         match self {
             Self::Real(item) => write!(formatter, "`{item}` is not a number that can stand here"),
             Self::Base(item) => write!(formatter, "`{item}` is not a base of logarithms"),
-            Self::NegativeCost(item) => {
-                write!(
-                    formatter,
-                    "`{item}` gives a cost below 0: a score is the logarithm of a likelihood of at most 1"
-                )
-            }
             Self::Bytes(item) => write!(formatter, "`{item}` has bytes that are no characters"),
             Self::Sublattice => write!(formatter, "a lattice within a lattice is not read"),
             Self::RepeatedNode { line } => write!(formatter, "a node with this number stands in line {line}"),
@@ -380,16 +385,26 @@ impl Display for Fault {
         if let Some(refusal) = self.refusal() {
             write!(formatter, "refused {}: ", refusal.number())?;
         }
-        let words = Words(self).to_string();
-        let mut cuts = words.char_indices().map(|(at, _)| at);
-        match (cuts.clone().nth(BEFORE), cuts.clone().nth(LONGEST)) {
-            // a word may be as long as a file
-            (Some(before), Some(_)) => {
-                let behind = cuts.nth_back(LONGEST - BEFORE - 1).unwrap_or(before);
-                write!(formatter, "{} .. {}", &words[..before], &words[behind..])
-            }
-            _ => formatter.write_str(&words),
+        formatter.write_str(&self.reason())
+    }
+}
+
+/// A message without its middle, if it is longer than people read: a word may be as long as a file.
+///
+/// ```
+/// use spireyerba::text::shortened;
+///
+/// assert_eq!(shortened("no word `x`"), "no word `x`");
+/// assert_eq!(shortened(&"x".repeat(1 << 20)).len(), 404);
+/// ```
+pub fn shortened(words: &str) -> Cow<'_, str> {
+    let mut cuts = words.char_indices().map(|(at, _)| at);
+    match (cuts.clone().nth(BEFORE), cuts.clone().nth(LONGEST)) {
+        (Some(before), Some(_)) => {
+            let behind = cuts.nth_back(LONGEST - BEFORE - 1).unwrap_or(before);
+            Cow::Owned(format!("{} .. {}", &words[..before], &words[behind..]))
         }
+        _ => Cow::Borrowed(words),
     }
 }
 

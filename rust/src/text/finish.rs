@@ -4,7 +4,7 @@ use super::expansion::{expanded, Expanded};
 use super::grammar::{Parser, Places};
 use super::nearest::nearest;
 use super::notation::{Alternative, Atom, Element, Written};
-use super::room::Room;
+use super::room::{Lines, Room};
 use super::rule_fault::RuleFault;
 use super::source::{Expansion, Kind, Parts, Piece, Source, SourceRule};
 use super::{Fault, NamedGrammar};
@@ -19,10 +19,10 @@ impl Parser {
         if self.rules.is_empty() {
             return Err(none("rule"));
         }
-        if self.words.names.is_empty() {
-            return Err(none("word"));
-        }
         self.check_names()?;
+        if self.words.names.is_empty() {
+            return Err(none("quoted word"));
+        }
         let named = self.named_grammar()?;
         let rules = self.rules.iter().map(|rule| rule.place).collect();
         Ok((named, Places { rules, symbols: self.symbols.places, words: self.words.places }))
@@ -74,11 +74,17 @@ impl Parser {
     /// The grammar of rules that say more than an office's sheet can, or that fit only so.
     fn written_out(&self) -> Result<NamedGrammar, Error> {
         let written = Written { symbols: &self.symbols.names, words: &self.words.names };
-        let Expanded { office, expansions, names, kinds } = expanded(&self.rules, &written)?;
+        let Expanded { office, expansions, makers, names, kinds } = expanded(&self.rules, &written)?;
         let own = [self.symbols.names.len() as u32, self.rules.len() as u32];
-        let lines: Vec<usize> = expansions.iter().map(|made| self.rules[made.rule as usize].place.line).collect();
+        let line = |rule: u32| self.rules[rule as usize].place.line;
+        let lines = Lines {
+            of_items: makers.iter().map(|maker| line(*maker)).collect(),
+            of_rules: repeated(expansions.iter().filter(|made| made.parts.is_some()).map(|made| made.rule))
+                .map(line)
+                .collect(),
+        };
         if let Some(room) = Room::passed(&office, own, &kinds, &lines) {
-            let dearest = room.dearest.first().map_or(lines[0], |(line, _)| *line);
+            let dearest = room.dearest.first().map_or(1, |(line, _)| *line);
             let place = self.rules.iter().map(|rule| rule.place).find(|place| place.line == dearest);
             let place = place.unwrap_or(self.rules[0].place);
             return Err(Error::at(place, RuleFault::Room(Box::new(room)).into()));
@@ -106,6 +112,12 @@ impl Parser {
             met: met(&self.rules),
         }
     }
+}
+
+/// The numbers that stood there before, each time that they stand there again.
+fn repeated(numbers: impl Iterator<Item = u32>) -> impl Iterator<Item = u32> {
+    let mut known = HashSet::new();
+    numbers.filter(move |number| !known.insert(*number))
 }
 
 /// The symbols and the words in the order in which rules mention them.

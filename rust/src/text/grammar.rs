@@ -196,7 +196,7 @@ impl Parser {
         let (mut price, mut translation) = (None, None);
         loop {
             match end {
-                Some(Token::Mark('[')) if price.is_none() => price = Some(self.price(tokens)?),
+                Some(Token::Mark('[')) if price.is_none() => price = Some(self.price(tokens, true)?),
                 Some(Token::Becomes) if translation.is_none() => {
                     translation = Some(self.translation(tokens, body.len())?);
                 }
@@ -230,10 +230,16 @@ impl Parser {
                 return Err(tokens.fault(Fault::TooMany { what: "parts", within: "a body", limit, refusal }));
             }
             let atom = match &token {
+                Some(Token::Mark(mark @ (OPTIONAL | PLUS | STAR))) => {
+                    return Err(tokens.fault(RuleFault::Apart(*mark).into()));
+                }
                 Some(Token::Bare(name)) => Atom::Item(Item::Symbol(self.symbol(name, place)?)),
                 Some(Token::Quoted(word)) => Atom::Item(Item::Word(self.word(word, place)?)),
                 Some(Token::Mark('(')) => Atom::Group(self.group(tokens, depth + 1)?),
-                _ if body.is_empty() => return Err(tokens.fault(RuleFault::NoBody.into())),
+                // of a group that is not closed its parenthesis is at fault
+                _ if body.is_empty() && !(token.is_none() && depth > 0) => {
+                    return Err(tokens.fault(RuleFault::NoBody.into()));
+                }
                 _ => return Ok((body, token, first.unwrap_or(place))),
             };
             body.push(Element { atom, times: times(tokens)?, place });
@@ -246,45 +252,37 @@ impl Parser {
         if depth > MAX_DEPTH {
             return Err(tokens.fault(RuleFault::Deep { limit: MAX_DEPTH }.into()));
         }
-        let mut choices = Vec::new();
+        let (open, mut choices) = (tokens.position(), Vec::new());
         loop {
             let (body, mut end, place) = self.body(tokens, depth)?;
             let mut weight = 0;
             if end == Some(Token::Mark('[')) {
-                weight = self.choice_weight(tokens)?;
+                weight = self.price(tokens, false)?.weight;
                 end = tokens.next()?;
             }
             choices.push(Choice { body, weight, place });
             match end {
                 Some(Token::Mark('|')) => {}
                 Some(Token::Mark(')')) => return Ok(choices),
-                other => return tokens.expected("`)`", other),
+                None => return Err(Error::at(open, RuleFault::Open.into())),
+                other => return tokens.expected("`|` or `)`", other),
             }
         }
     }
 
-    /// The weight of a body in a group, and the bracket behind it.
-    fn choice_weight(&mut self, tokens: &mut Tokens) -> Result<u32, Error> {
-        let Price { weight, is_helper } = self.price(tokens)?;
-        match is_helper {
-            true => tokens.expected("a weight", Some(Token::Bare(HELPER))),
-            false => Ok(weight),
-        }
-    }
-
-    /// A weight, a word that says that the rule is marked, or both, and the bracket behind them.
-    fn price(&mut self, tokens: &mut Tokens) -> Result<Price, Error> {
+    /// A weight, a word that says that the rule is marked, which a body in a group is not, or both, and the bracket behind them.
+    fn price(&mut self, tokens: &mut Tokens, may_be_marked: bool) -> Result<Price, Error> {
         let mut price = Price::default();
         let mut next = tokens.next()?;
         match next {
-            Some(Token::Bare(HELPER)) => {}
-            Some(Token::Bare(item)) => {
+            Some(Token::Bare(HELPER)) if may_be_marked => {}
+            Some(Token::Bare(item)) if item != HELPER => {
                 price.weight = weight(item, "weight").map_err(|fault| tokens.fault(fault))?;
                 next = tokens.next()?;
             }
             other => return tokens.expected("a weight", other),
         }
-        if next == Some(Token::Bare(HELPER)) {
+        if may_be_marked && next == Some(Token::Bare(HELPER)) {
             price.is_helper = true;
             next = tokens.next()?;
         }
@@ -336,9 +334,9 @@ fn times(tokens: &mut Tokens) -> Result<Times, Error> {
         None => return Ok(Times::Once),
         Some(PLUS) => Times::Plus,
         Some(STAR) => Times::Star,
-        Some(_) => match tokens.touching_digits() {
+        Some(_) => match tokens.touching_number() {
             None => Times::Optional { absence: 0 },
-            Some(digits) => Times::Optional { absence: weight(digits, "cost").map_err(|fault| tokens.fault(fault))? },
+            Some(number) => Times::Optional { absence: weight(number, "cost").map_err(|fault| tokens.fault(fault))? },
         },
     };
     match tokens.is_apart(BEHIND_A_PART) {

@@ -69,7 +69,8 @@
 //! ```
 //!
 //! A sentence a line, which a grammar should derive (`+`) or not (`-`), as a test of it; in brackets the weight that the first
-//! reading should have, and behind `=>` what it should become, if that is to be tested.
+//! reading should have, and behind `=>` what it should become, if that is to be tested. A word with a blank, a quote or one of
+//! `| ; # [ ]` in it is quoted.
 //!
 //! # Word graphs
 //!
@@ -154,6 +155,8 @@ mod grammar;
 mod graph;
 mod items;
 mod lattice;
+#[cfg(test)]
+mod messages;
 mod names;
 mod nearest;
 mod network;
@@ -171,7 +174,7 @@ mod source;
 mod translation;
 mod utterance;
 
-pub use fault::Fault;
+pub use fault::{shortened, Fault};
 pub use formats::{binary_kind, Format, Lattice, Recognised};
 pub use grammar::Places;
 pub use graph::is_graph;

@@ -26,17 +26,25 @@ pub(super) struct Added {
     pub(super) kind: Option<usize>,
 }
 
+/// The lines of the text for which rules were made.
+pub(super) struct Lines {
+    /// Of each rule the line in which its items stand.
+    pub(super) of_items: Vec<usize>,
+    /// A line for each rule that a rule of the text becomes beside the first.
+    pub(super) of_rules: Vec<usize>,
+}
+
 pub(super) const GROUPS: usize = 1;
 const WORDS: usize = 2;
 pub(super) const JOINTS: usize = 3;
 
 impl Room {
     /// What an office's rules take of which so many symbols are the text's, the symbols behind them are of these kinds, and the rules
-    /// stand in these lines; nothing if it fits.
-    pub(super) fn passed(office: &Office, own: [u32; 2], kinds: &[usize], lines: &[usize]) -> Option<Self> {
+    /// are made for these lines; nothing if it fits.
+    pub(super) fn passed(office: &Office, own: [u32; 2], kinds: &[usize], lines: &Lines) -> Option<Self> {
         let mut room = Self { symbols: [own[0], 0, 0, 0], rules: [own[1], 0, 0, 0], dearest: Vec::new() };
         kinds.iter().for_each(|&kind| room.symbols[kind] += 1);
-        let added = library_helpers(office, lines);
+        let added = library_helpers(office, &lines.of_items);
         for kind in added.iter().filter_map(|added| added.kind) {
             room.symbols[kind] += 1;
             room.rules[kind] += 1;
@@ -47,9 +55,16 @@ impl Room {
         room.rules[GROUPS] += of_kind(GROUPS) + of_kind(0).saturating_sub(own[1]);
         let is_passed = room.needs()[0] > MAX_SYMBOLS || room.needs()[1] > MAX_RULES;
         is_passed.then(|| {
-            let own_heads = office.rules.iter().zip(lines);
-            let others = own_heads.filter(|(rule, _)| by_kind(rule) > 0);
-            let others = others.map(|(_, &line)| Added { line, kind: None });
+            let made = office.rules.iter().zip(&lines.of_items);
+            let others: Vec<&usize> = match room.needs()[0] > MAX_SYMBOLS {
+                true => {
+                    let mut known = HashSet::new();
+                    let is_first = |rule: &OfficeRule| by_kind(rule) > 0 && known.insert(rule.head);
+                    lines_of(made, is_first).collect()
+                }
+                false => lines_of(made, |rule| by_kind(rule) == JOINTS).chain(&lines.of_rules).collect(),
+            };
+            let others = others.into_iter().map(|&line| Added { line, kind: None });
             room.dearest = dearest(others.chain(added));
             room
         })
@@ -59,6 +74,14 @@ impl Room {
     fn needs(&self) -> [u32; 2] {
         [&self.symbols, &self.rules].map(|counts| counts.iter().sum())
     }
+}
+
+/// The lines of some rules.
+fn lines_of<'a>(
+    made: impl Iterator<Item = (&'a OfficeRule, &'a usize)>,
+    mut is_one: impl FnMut(&OfficeRule) -> bool,
+) -> impl Iterator<Item = &'a usize> {
+    made.filter(move |(rule, _)| is_one(rule)).map(|(_, line)| line)
 }
 
 /// What the library adds: a symbol and a rule for each word in a body of several items, and for each item between the first and

@@ -1,6 +1,7 @@
 //! What can be wrong in the rules of a grammar's text.
 
 use super::room::Room;
+use super::scan::quoted;
 use crate::limits::{MAX_RULES, MAX_SHARE, MAX_WEIGHT};
 use crate::{Position, Refusal};
 use std::fmt::{Display, Formatter};
@@ -24,6 +25,10 @@ pub enum RuleFault {
     EmptyWord,
     /// A body with nothing in it.
     NoBody,
+    /// A group that its line does not close.
+    Open,
+    /// `?`, `+` or `*` that stands right behind nothing.
+    Apart(char),
     /// A body, or a group, of which every part may be left out.
     MayBeEmpty {
         /// The symbol that the body is of.
@@ -138,12 +143,17 @@ impl Display for RuleFault {
             Self::NoRule { name, nearest, others } => {
                 write!(formatter, "no rule for `{name}`")?;
                 nearest.iter().try_for_each(|nearest| write!(formatter, " (did you mean `{nearest}`?)"))?;
-                match others.len() {
-                    0 => Ok(()),
-                    _ => {
-                        let others: Vec<String> = others.iter().map(|name| format!("`{name}`")).collect();
-                        write!(formatter, ", and none for {}", others.join(", "))
-                    }
+                if !others.is_empty() {
+                    let others: Vec<String> = others.iter().map(|name| format!("`{name}`")).collect();
+                    write!(formatter, ", and none for {}", others.join(", "))?;
+                }
+                match (nearest, name.bytes().all(|byte| byte.is_ascii_digit())) {
+                    (Some(_), _) => Ok(()),
+                    (None, false) => write!(formatter, ": give it one, or write {} if it is a word", quoted(name)),
+                    (None, true) => write!(
+                        formatter,
+                        ": a weight stands in brackets, [{name}], and what an absence costs right behind `?`, as in \"fire\"?{name}"
+                    ),
                 }
             }
             Self::Quotes(found) => {
@@ -154,6 +164,10 @@ impl Display for RuleFault {
             }
             Self::NoBody => {
                 write!(formatter, "a body has at least one symbol or quoted word")
+            }
+            Self::Open => write!(formatter, "`(` has no `)` in its line, and a group stands in one line"),
+            Self::Apart(mark) => {
+                write!(formatter, "`{mark}` stands right behind the part that it is for, with no blank: \"fire\"{mark}")
             }
             Self::Room(room) => write!(formatter, "{room}"),
             _ => self.notation_words(formatter),

@@ -26,6 +26,7 @@ pub(super) struct Syntax {
 
 pub(super) static GRAMMAR: Syntax = Syntax::new(b"|[]()?*+;", &[ARROW, BECOMES]);
 pub(super) static UTTERANCE: Syntax = Syntax::new(b"|;", &[ARROW]);
+pub(super) static SENTENCE: Syntax = Syntax::new(b"|;[]", &[BECOMES]);
 
 impl Syntax {
     const fn new(marks: &[u8], arrows: &'static [&'static str]) -> Self {
@@ -159,16 +160,17 @@ impl<'a> Tokens<'a> {
         Some(mark)
     }
 
-    /// Takes the digits that stand right behind the last token.
-    pub(super) fn touching_digits(&mut self) -> Option<&'a str> {
+    /// Takes what stands right behind the last token, if it begins as numbers do.
+    pub(super) fn touching_number(&mut self) -> Option<&'a str> {
         let rest = &self.line[self.at..];
-        let digits = &rest[..prefix(rest, |letter| letter.is_ascii_digit())];
-        if digits.is_empty() {
+        if !rest.starts_with(|letter: char| letter.is_ascii_digit() || "-.".contains(letter)) {
             return None;
         }
         self.last = self.at;
-        self.at += digits.len();
-        Some(digits)
+        match self.bare(rest) {
+            Token::Bare(number) => Some(number),
+            _ => None,
+        }
     }
 
     /// Whether a blank, the end of the line or one of these stands behind the last token.

@@ -4,9 +4,11 @@ use super::sink::Refused;
 use crate::failure::Failure;
 use crate::files::{self, File};
 use crate::json;
+use crate::names::{path, shown};
 use crate::options::{Arguments, FILES};
 use spireyerba::text::{Format, Lattice, UtteranceReader};
 use std::io::{Cursor, Read};
+use std::os::unix::ffi::OsStringExt;
 
 /// So much of a file is looked at to tell whether its lines are a lattice's.
 const FRONT: u64 = 1 << 16;
@@ -25,7 +27,7 @@ impl<'a> Lines<'a> {
     pub fn open(arguments: &Arguments<'a>, format: Option<Format>) -> Result<Self, Failure> {
         let (operand, are_files) = named(arguments)?;
         if !are_files && is_of_lattices(operand, format)? {
-            let file = Box::new(Cursor::new(operand.to_owned().into_bytes()));
+            let file = Box::new(Cursor::new(path(operand).into_os_string().into_vec()));
             return Ok(Self { operand, are_files: true, file });
         }
         Ok(Self { operand, are_files, file: files::open(operand)? })
@@ -54,7 +56,7 @@ pub fn are_lattices(text: &str, format: Option<Format>) -> bool {
 /// Whether a file has lattices.
 fn is_of_lattices(operand: &str, format: Option<Format>) -> Result<bool, Failure> {
     // what is taken from standard input is gone
-    if format.is_none() && (files::name_of(operand) != operand || !files::is_still(operand)) {
+    if format.is_none() && (files::is_standard_input(operand) || !files::is_still(operand)) {
         return Ok(false);
     }
     let mut front = Vec::new();
@@ -67,7 +69,7 @@ fn is_of_lattices(operand: &str, format: Option<Format>) -> Result<bool, Failure
 /// The lattices of a file.
 pub fn read(reader: &UtteranceReader, name: &str) -> Result<Vec<Lattice>, Refused> {
     let lattices = File::read(name).and_then(|file| file.text(|text| reader.read_all_heard(text)));
-    lattices.map_err(|failure| Refused::of_file(failure, name))
+    lattices.map_err(|failure| Refused::of_file(failure, &shown(name)))
 }
 
 /// Adds what is to be said of a lattice to its answer: the weight up to which every reading is there, and words left out.

@@ -2,6 +2,7 @@
 
 use super::resume::BEGIN;
 use crate::json;
+use crate::names::shown;
 
 /// A line of the input.
 pub struct Line<'a> {
@@ -40,7 +41,7 @@ impl<'a> Line<'a> {
 
     /// Begins the answer of a lattice of the file that it names.
     pub fn begin_lattice(&self, json: &mut Vec<u8>, own: Option<&str>, is_alone: bool) {
-        self.begin_as(json, Some(self.name_of(own, is_alone)));
+        self.begin_as(json, Some(&shown(self.name_of(own, is_alone))));
     }
 
     fn begin_as(&self, json: &mut Vec<u8>, name: Option<&str>) {

@@ -1,6 +1,7 @@
 //! Answers of a run that was interrupted, behind which another goes on.
 
 use crate::failure::Failure;
+use crate::names::{path, shown};
 use std::fs::File;
 use std::io::{Read, Seek, SeekFrom};
 
@@ -13,9 +14,10 @@ const TAIL: u64 = 1 << 16;
 /// What stands behind it, the front of an answer that was being written, goes. What is no file of answers is refused, and stays.
 pub fn open(name: &str) -> Result<(File, usize), Failure> {
     let of_file = |error| Failure::file(name, &error);
-    let mut file = File::options().read(true).write(true).create(true).truncate(false).open(name).map_err(of_file)?;
+    let mut file =
+        File::options().read(true).write(true).create(true).truncate(false).open(path(name)).map_err(of_file)?;
     let Some((end, line)) = last_answer(&mut file).map_err(of_file)? else {
-        return Err(Failure::Refused(format!("{name}: not answers of `batch` to the end, and left as it is")));
+        return Err(Failure::Refused(format!("{}: not answers of `batch` to the end, and left as it is", shown(name))));
     };
     file.set_len(end).map_err(of_file)?;
     file.seek(SeekFrom::Start(end)).map_err(of_file)?;
