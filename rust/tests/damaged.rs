@@ -1,5 +1,7 @@
 //! Damaged files of every format: never a panic, always an answer or a message with a place, and none takes long.
 
+mod clock;
+
 use spireyerba::text::{Format, NamedGrammar, UtteranceReader};
 use std::path::{Path, PathBuf};
 use std::time::Duration;
@@ -131,13 +133,6 @@ fn damaged_files_are_answered_or_refused() {
     assert!(read > FILES / 10 && refused > FILES / 10, "{read} read, {refused} refused");
 }
 
-/// The time that this thread has had a core, where the system says it, for a machine may have other work too.
-fn clock() -> Duration {
-    let taken = std::fs::read_to_string("/proc/thread-self/schedstat").ok();
-    let taken = taken.and_then(|line| line.split_whitespace().next()?.parse().ok());
-    taken.map_or_else(|| Duration::from_millis(0), Duration::from_nanos)
-}
-
 /// What is enormous is refused within a second, and so is a name of a megabyte; the message is short.
 #[test]
 fn enormous_files() {
@@ -165,9 +160,8 @@ fn enormous_files() {
     for (name, text) in texts {
         let mut reader = UtteranceReader::new(&grammar);
         reader.scale = Some(1.0);
-        let begin = clock();
-        let message = reader.read_all_heard(&text).expect_err(name).to_string();
-        let taken = clock() - begin;
+        let (taken, read) = clock::once(|| reader.read_all_heard(&text));
+        let message = read.expect_err(name).to_string();
         assert!(taken < Duration::from_secs(1), "{name} took {taken:?}");
         assert!(message.len() < LONGEST_MESSAGE, "{name}: {} bytes", message.len());
     }

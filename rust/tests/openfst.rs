@@ -1,15 +1,19 @@
 //! The toolbox beside OpenFst's own tools, on the recorded lattices, where they are installed (Debian's libfst-tools): the same
-//! word strings at the same least costs as `fstrmepsilon | fstdeterminize | fstminimize` gives, and as few states.
+//! acceptor as `fstrmepsilon | fstdeterminize | fstminimize` gives, state by state, and so all word strings at their least costs;
+//! and the word graph that the library is given, if nothing was pruned, has the same again.
 
-use spireyerba::lattice::{Acceptor, Arc, Keep, State, EPSILON};
+use spireyerba::lattice::{reduce, Acceptor, Arc, Keep, State};
 use spireyerba::text::{NamedGrammar, UtteranceReader};
+use std::collections::HashMap;
 use std::io::Write;
 use std::path::{Path, PathBuf};
 use std::process::{Command, Stdio};
 
+/// The recordings over the office's words, and those over the recogniser's whole vocabulary, of which the office's words are left.
 const OFFICE: usize = 60;
-/// So many of the cheapest strings are compared.
-const STRINGS: usize = 100;
+const GENERAL: usize = 12;
+/// OpenFst's answer.
+const TOOLS: &str = "fstcompile --acceptor | fstrmepsilon | fstdeterminize | fstminimize | fstprint --acceptor";
 
 fn folder() -> PathBuf {
     Path::new(env!("CARGO_MANIFEST_DIR")).join("../examples/recogniser/recorded")
@@ -70,60 +74,117 @@ fn parsed(text: &str) -> Acceptor {
     Acceptor::new(start.unwrap_or_default(), states).expect("no cycle")
 }
 
-/// The cheapest strings with their costs.
-fn cheapest(acceptor: &Acceptor) -> Vec<(i64, Vec<u32>)> {
-    let onward = acceptor.distance_to_final();
-    let mut open = std::collections::BTreeSet::from([(onward[0], 0, 0, Vec::new())]);
-    let mut found = Vec::new();
-    while let Some((whole, so_far, state, string)) = open.pop_first() {
-        let Some(of) = acceptor.states().get(state) else {
-            found.push((whole, string));
-            if found.len() == STRINGS {
-                break;
+/// OpenFst's answer to an acceptor, with weights pushed to its start, and the least weight.
+fn theirs(acceptor: &Acceptor) -> (Acceptor, i64) {
+    parsed(&piped(TOOLS, &printed(acceptor)).expect("OpenFst's answer")).push()
+}
+
+/// The state of one acceptor that each state of another is, where both have one path for each string; nothing if they differ: every
+/// final weight, and the label, the weight and the end of every arc are compared.
+fn same(one: &Acceptor, other: &Acceptor) -> Option<HashMap<u32, u32>> {
+    let mut pairs = HashMap::from([(0, 0)]);
+    let mut open = vec![(0, 0)];
+    while let Some((here, there)) = open.pop() {
+        let [here, there] = [(one, here), (other, there)].map(|(of, state)| sorted(&of.states()[state as usize]));
+        if here.final_weight != there.final_weight || here.arcs.len() != there.arcs.len() {
+            return None;
+        }
+        for (here, there) in here.arcs.iter().zip(&there.arcs) {
+            let known = *pairs.entry(here.to).or_insert_with(|| {
+                open.push((here.to, there.to));
+                there.to
+            });
+            if (here.label, here.weight, known) != (there.label, there.weight, there.to) {
+                return None;
             }
-            continue;
-        };
-        open.extend(of.final_weight.map(|last| (so_far + last, so_far + last, usize::MAX, string.clone())));
-        for arc in &of.arcs {
-            let (mut longer, weight) = (string.clone(), so_far + arc.weight);
-            longer.extend(Some(arc.label).filter(|label| *label != EPSILON));
-            open.insert((weight + onward[arc.to as usize], weight, arc.to as usize, longer));
         }
     }
-    // of those that cost as much as the last some may be cut off
-    let last = found.last().map_or(0, |(cost, _)| *cost);
-    if found.len() == STRINGS {
-        found.retain(|(cost, _)| *cost < last);
+    Some(pairs)
+}
+
+/// A state with its arcs by their labels.
+fn sorted(state: &State) -> State {
+    let mut sorted = state.clone();
+    sorted.arcs.sort_by_key(|arc| arc.label);
+    sorted
+}
+
+/// How many strings there are, where each has one path.
+fn strings(acceptor: &Acceptor) -> u128 {
+    let mut onward = vec![0_u128; acceptor.states().len()];
+    for (number, state) in acceptor.states().iter().enumerate().rev() {
+        let behind: u128 = state.arcs.iter().map(|arc| onward[arc.to as usize]).sum();
+        onward[number] = behind + u128::from(state.final_weight.is_some());
     }
-    found.sort();
-    found
+    onward[0]
+}
+
+/// What was compared.
+#[derive(Debug, Default)]
+struct Compared {
+    lattices: usize,
+    graphs: usize,
+    states: usize,
+    strings: u128,
+}
+
+impl Compared {
+    fn take(&mut self, name: &str, lattice: &Acceptor) {
+        let words = lattice.rm_epsilon(usize::MAX).and_then(|words| words.determinize(usize::MAX));
+        let (pushed, least) = words.expect("no limit").push();
+        let (ours, (theirs, their_least)) = (pushed.minimize(), theirs(lattice));
+        let pairs = same(&ours, &theirs).unwrap_or_else(|| panic!("{name}: other strings or costs"));
+        assert_eq!(
+            (least, ours.states().len(), pairs.len()),
+            (their_least, theirs.states().len(), pairs.len()),
+            "{name}"
+        );
+        let reduced = reduce(lattice, Keep::Strings).expect("what weighs the least fits");
+        if reduced.pruned.is_none() {
+            let (again, again_least) = self::theirs(&Acceptor::from(&reduced.graph));
+            assert!(same(&again, &theirs).is_some(), "{name}: the word graph");
+            assert_eq!(again_least + reduced.taken_off, least, "{name}: the word graph");
+            self.graphs += 1;
+        }
+        self.lattices += 1;
+        self.states += pairs.len();
+        self.strings += strings(&ours);
+    }
 }
 
 #[test]
-fn the_same_strings_and_costs_as_openfst() {
-    let tools = "fstcompile --acceptor | fstrmepsilon | fstdeterminize | fstminimize | fstprint --acceptor";
-    if piped(tools, "0 1 1 2\n1\n").is_none() {
-        println!("OpenFst's tools are not installed");
+fn the_same_acceptor_as_openfst() {
+    if piped(TOOLS, "0 1 1 2\n1\n").is_none() {
+        println!("OpenFst's tools are not installed: nothing was compared");
         return;
     }
     let grammar = NamedGrammar::parse(&text("grammar.txt")).expect("a grammar");
     let mut reader = UtteranceReader::new(&grammar);
-    (reader.scale, reader.keep) = (Some(1.0), Keep::Strings);
-    let (mut states, mut strings) = ([0, 0], 0);
-    for number in 0..OFFICE {
-        let recognised = reader.recognised(&text(&format!("office/u{number}.slf"))).expect("a lattice").remove(0);
-        let theirs = parsed(&piped(tools, &printed(&recognised.acceptor)).expect("OpenFst's answer"));
-        let ours = recognised.acceptor.rm_epsilon(usize::MAX).and_then(|words| words.determinize(usize::MAX));
-        let (pushed, least) = ours.expect("no limit").push();
-        let minimal = pushed.minimize();
-        let with_least: Vec<(i64, Vec<u32>)> =
-            cheapest(&minimal).into_iter().map(|(cost, string)| (cost + least, string)).collect();
-        assert_eq!(with_least, cheapest(&theirs), "u{number}");
-        strings += with_least.len();
-        for (sum, acceptor) in states.iter_mut().zip([&minimal, &theirs]) {
-            *sum += acceptor.states().len();
+    (reader.scale, reader.drop_unknown) = (Some(1.0), true);
+    let mut compared = Compared::default();
+    let office = (0..OFFICE).map(|number| format!("office/u{number}.slf"));
+    for name in office.chain((0..GENERAL).map(|number| format!("general/u{number}.slf"))) {
+        let recognised = reader.recognised_alone(&text(&name)).expect("a lattice");
+        // of the whole vocabulary's some have no path with the office's words alone
+        if !recognised.acceptor.is_empty() {
+            compared.take(&name, &recognised.acceptor);
         }
-        assert_eq!(minimal.states().len(), theirs.states().len(), "u{number}");
     }
-    println!("{OFFICE} lattices: {strings} strings and costs the same, {} states here, {} there", states[0], states[1]);
+    println!("{compared:?}");
+    assert!(compared.lattices >= OFFICE && compared.graphs >= 45, "{compared:?}");
+}
+
+/// The comparison itself: what differs in a weight, an end or a word is found.
+#[test]
+fn what_differs_is_found() {
+    let one = parsed("0 1 1 2\n0 2 2 5\n1 2 3 1\n2\n1 4\n");
+    assert!(same(&one, &one).is_some_and(|pairs| pairs.len() == 3) && strings(&one) == 3);
+    for other in [
+        "0 1 1 2\n0 2 2 5\n1 2 3 2\n2\n1 4\n",
+        "0 1 1 2\n0 2 2 5\n1 2 3 1\n2\n1 5\n",
+        "0 1 1 2\n0 2 4 5\n1 2 3 1\n2\n1 4\n",
+        "0 1 1 2\n0 1 2 5\n1 2 3 1\n2\n1 4\n",
+    ] {
+        assert_eq!(same(&one, &parsed(other)), None, "{other}");
+    }
 }

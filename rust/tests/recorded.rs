@@ -1,5 +1,7 @@
 //! The lattices of a real recogniser in examples/recogniser/recorded: how many are read, pruned and right.
 
+mod clock;
+
 use spireyerba::lattice::{reduce, Acceptor, Keep, UNKNOWN};
 use spireyerba::text::{Lattice, NamedGrammar, UtteranceReader};
 use spireyerba::Heard;
@@ -66,23 +68,6 @@ fn all_are_read_and_no_sentence_stands_twice() {
     assert_eq!(twice, 0);
 }
 
-/// The time that this thread has had a core, where the system says it, for a machine may have other work too.
-fn clock() -> Duration {
-    let taken = std::fs::read_to_string("/proc/thread-self/schedstat").ok();
-    let taken = taken.and_then(|line| line.split_whitespace().next()?.parse().ok());
-    taken.map_or_else(|| Duration::from_millis(0), Duration::from_nanos)
-}
-
-/// The shorter time of two runs.
-fn time(mut run: impl FnMut()) -> Duration {
-    let mut once = || {
-        let begin = clock();
-        run();
-        clock() - begin
-    };
-    once().min(once())
-}
-
 /// Those of the recogniser's whole vocabulary, of which only the office's words are left, and with every path.
 #[test]
 fn the_largest_are_read_in_time() {
@@ -95,7 +80,7 @@ fn the_largest_are_read_in_time() {
             // where no path is left of the office's words that is said
             let read = reader.read_heard(&text).map_err(|error| error.to_string());
             assert!(read.is_ok() || read.is_err_and(|message| message.contains("no word on a path")));
-            slowest = slowest.max(time(|| drop(reader.read_heard(&text))));
+            slowest = slowest.max(clock::time(|| reader.read_heard(&text)));
         }
     }
     println!("the slowest took {slowest:?}");
@@ -114,7 +99,7 @@ fn the_whole_vocabulary_in_time() {
         let reduced = reduce(&acceptor, Keep::Strings).expect("what weighs the least fits");
         assert!(reduced.graph.edges.len() <= 96 && reduced.graph.places <= 25);
         pruned += usize::from(reduced.pruned.is_some());
-        slowest = slowest.max(time(|| drop((reader.recognised(&text), reduce(&acceptor, Keep::Strings)))));
+        slowest = slowest.max(clock::time(|| (reader.recognised(&text), reduce(&acceptor, Keep::Strings))));
     }
     println!("the slowest took {slowest:?}, {pruned} pruned");
     assert!(slowest < LONGEST, "{slowest:?}");

@@ -51,6 +51,7 @@ mod skip;
 #[cfg(test)]
 mod testing;
 mod top_sort;
+mod widest;
 
 pub use acceptor::{word_label, Acceptor, Arc, State, EPSILON, UNKNOWN};
 pub use determinize::TooLarge;

@@ -23,11 +23,6 @@ impl<'a> Slacks<'a> {
         self.to_final.first().copied().unwrap_or_default()
     }
 
-    /// By how much the lightest path through a state is heavier than the lightest of all.
-    pub(super) fn of_state(&self, state: usize) -> i64 {
-        self.from_start[state] + self.to_final[state] - self.least()
-    }
-
     fn of_arc(&self, state: usize, arc: &Arc) -> i64 {
         self.from_start[state] + arc.weight + self.to_final[arc.to as usize] - self.least()
     }

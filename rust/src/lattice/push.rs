@@ -35,7 +35,7 @@ impl Acceptor {
     }
 
     /// The same paths of a pushed acceptor with final weights of 0, with weights from 0 to the greatest, and how much more
-    /// than nothing each weighs than before; nothing if there are no such weights. The potentials wanted, such as the
+    /// than nothing each weighs than before; nothing if such weights are not found. The potentials wanted, such as the
     /// distances before pushing, are met as nearly as that allows.
     pub(super) fn within(&self, wanted: &[i64], greatest: i64) -> Option<(Self, i64)> {
         let mut potential = vec![0; self.states().len()];
@@ -49,11 +49,53 @@ impl Acceptor {
                 _ => 0,
             };
         }
+        Some(self.raised(&potential))
+    }
+
+    /// The same, but of all such weights those by which each path weighs as nearly as can be so much more than nothing. An arc's
+    /// bounds are two differences of potentials, and the greatest that all of them allow are shortest distances.
+    pub(super) fn nearest_within(&self, wanted: i64, greatest: i64) -> Option<(Self, i64)> {
+        let end = self.states().len().checked_sub(1)?;
+        let [of_start, of_end] = [self.most(0, greatest)?, self.most(end, greatest)?];
+        let start = wanted.clamp(-of_start[end], of_end[0]);
+        let potential: Vec<i64> = of_start.iter().zip(&of_end).map(|(one, other)| (start + one).min(*other)).collect();
+        Some(self.raised(&potential))
+    }
+
+    /// The greatest potentials by which every weight is from 0 to the greatest, if that of a state is 0; nothing if there are none.
+    fn most(&self, from: usize, greatest: i64) -> Option<Vec<i64>> {
+        let mut most = vec![FAR; self.states().len()];
+        most[from] = 0;
+        for _ in 0..=most.len() {
+            let mut changes = false;
+            for (number, state) in self.states().iter().enumerate() {
+                for &Arc { to, weight, .. } in &state.arcs {
+                    let to = to as usize;
+                    for (one, other, length) in [(to, number, weight), (number, to, greatest - weight)] {
+                        let through = most[other] + length;
+                        if most[other] < FAR && through < most[one] {
+                            (most[one], changes) = (through, true);
+                        }
+                    }
+                }
+            }
+            if !changes {
+                return Some(most);
+            }
+        }
+        None
+    }
+
+    /// The same paths with these potentials before each state, and that of the start.
+    fn raised(&self, potential: &[i64]) -> (Self, i64) {
         let start = potential.first().copied().unwrap_or_default();
         let lowered: Vec<i64> = potential.iter().map(|potential| -potential).collect();
-        Some((self.reweight(&lowered), start))
+        (self.reweight(&lowered), start)
     }
 }
+
+/// Farther than any distance.
+const FAR: i64 = i64::MAX / 2;
 
 #[cfg(test)]
 mod tests {
@@ -106,5 +148,56 @@ mod tests {
             }
         });
         assert!(met > 200 && kept > 50, "{met} within, of which {kept} stayed");
+    }
+
+    /// The shortest distance between every two states, where an arc's bounds are two links; nothing if there is no potential.
+    fn distances(acceptor: &Acceptor, greatest: i64) -> Option<Vec<Vec<i64>>> {
+        let count = acceptor.states().len();
+        let mut far = vec![vec![FAR; count]; count];
+        (0..count).for_each(|state| far[state][state] = 0);
+        for (number, state) in acceptor.states().iter().enumerate() {
+            for arc in &state.arcs {
+                let to = arc.to as usize;
+                far[number][to] = far[number][to].min(arc.weight);
+                far[to][number] = far[to][number].min(greatest - arc.weight);
+            }
+        }
+        for between in 0..count {
+            for from in 0..count {
+                for to in 0..count {
+                    let through = far[from][between] + far[between][to];
+                    far[from][to] = far[from][to].min(through);
+                }
+            }
+        }
+        (0..count).all(|state| far[state][state] == 0).then_some(far)
+    }
+
+    #[test]
+    fn the_nearest_weights_within_bounds() {
+        let (mut none, mut met) = (0, 0);
+        every_acceptor(|acceptor| {
+            let acceptor = acceptor.rm_epsilon(usize::MAX).expect("no limit").one_final();
+            let (pushed, _) = acceptor.push();
+            if pushed.is_empty() {
+                return;
+            }
+            for (wanted, greatest) in [(0, 3), (9, 3), (40, 8), (-9, 4)] {
+                let Some(far) = distances(&pushed, greatest) else {
+                    assert_eq!(pushed.nearest_within(wanted, greatest), None);
+                    assert_eq!(pushed.within(&vec![wanted; pushed.states().len()], greatest), None);
+                    none += 1;
+                    continue;
+                };
+                let end = far.len() - 1;
+                let (changed, more) = pushed.nearest_within(wanted, greatest).expect("there are some");
+                assert_eq!(more, wanted.clamp(-far[0][end], far[end][0]));
+                assert_eq!(paths(0, changed.states()), less(paths(0, pushed.states()), -more));
+                let weights = changed.states().iter().flat_map(|state| &state.arcs).map(|arc| arc.weight);
+                assert!(weights.into_iter().all(|weight| (0..=greatest).contains(&weight)));
+                met += 1;
+            }
+        });
+        assert!(none > 100 && met > 500, "{none} without, {met} with");
     }
 }

@@ -4,21 +4,19 @@
 //! path ([`Keep::Paths`]), but for the empty string, which no graph has, and all weigh less by the same amount if no edge could
 //! hold it otherwise. If something is pruned, this holds of all strings whose cost in the graph is at most
 //! [`Pruned::complete_up_to`], and others may be missing or dearer. A rule weighs 0 or more, so every reading that weighs at
-//! most as much is a reading of the graph.
+//! most as much is a reading of the graph. It is pruned by the widest beam that fits, of what can be determinised in time.
 
 use super::prune::Slacks;
+use super::widest::{Fitted, Minimal, Room};
 use super::{Acceptor, Arc, TooLarge, UNKNOWN};
-use crate::limits::{MAX_EDGES, MAX_PLACES, NOT_HEARD};
 use crate::{Edge, Graph};
 
-/// The greatest cost of an edge whose word was heard.
-const GREATEST_COST: i64 = NOT_HEARD as i64 - 1;
 /// Removing epsilons may take so many arcs, and determinising may look at so many.
 const MOST_ARCS: usize = 20_000;
-/// So often a wider beam is tried where determinising all takes too long.
-const WIDENINGS: usize = 5;
-/// Beams are tried as long as all that was tried has so many arcs.
-const MOST_TRIED: usize = 60_000;
+/// So often a wider beam is tried where determinising all takes too long, by halves.
+const WIDENINGS: usize = 16;
+/// Every beam is tried as long as all that was tried has so many arcs.
+const MOST_TRIED: usize = 1_000_000;
 
 /// What a reduction keeps.
 #[derive(Clone, Copy, Debug, Default, PartialEq, Eq)]
@@ -74,28 +72,28 @@ pub enum Misfit {
 /// [`UNKNOWN`] are left out.
 pub fn reduce(lattice: &Acceptor, keep: Keep) -> Result<Reduced, Misfit> {
     let known = lattice.filtered(|_, arc| arc.label != UNKNOWN, |_, _| true);
-    let Whole { acceptor, below } = Whole::new(&known, keep)?;
-    if acceptor.is_empty() {
+    let Whole { minimal, fitted, below } = Whole::new(&known, keep)?;
+    if minimal.acceptor.is_empty() {
         return Err(Misfit::NoWord);
     }
-    let (fitted, below, of) = match (Fitted::new(&acceptor, keep), below) {
-        (Ok(fitted), None) => return Ok(fitted.reduced(None)),
-        (Ok(fitted), Some(below)) => (fitted, below, known.arcs()),
-        (Err((_, edges)), whole_below) => {
-            let (fitted, below) = widest(&acceptor, keep)?;
-            match whole_below {
-                Some(whole_below) => (fitted, below.min(whole_below), known.arcs()),
-                None => (fitted, below, edges),
-            }
+    let of = if below.is_some() { known.arcs() } else { minimal.acceptor.arcs() };
+    let (fitted, below) = match (fitted, below) {
+        (Some(fitted), None) => return Ok(reduced(fitted, None)),
+        (Some(fitted), Some(below)) => (fitted, below),
+        (None, whole_below) => {
+            let (fitted, below) = minimal.widest(&Room::GRAPH, MOST_TRIED)?;
+            (fitted, whole_below.map_or(below, |whole_below| below.min(whole_below)))
         }
     };
     let (kept, complete_up_to) = (fitted.acceptor.arcs(), below - 1 - fitted.taken_off);
-    Ok(fitted.reduced(Some(Pruned { kept, of, complete_up_to })))
+    Ok(reduced(fitted, Some(Pruned { kept, of, complete_up_to })))
 }
 
-/// A lattice with one end and a word on every arc, with all of its strings or those below a weight.
+/// A lattice with one end and a word on every arc, minimal, with all of its strings or those below a weight.
 struct Whole {
-    acceptor: Acceptor,
+    minimal: Minimal,
+    /// The same, if it fits into a graph.
+    fitted: Option<Fitted>,
     /// The weight below which everything is there, if something was pruned.
     below: Option<i64>,
 }
@@ -104,8 +102,8 @@ impl Whole {
     /// As much of a lattice as can be determinised in time: all, or by a beam that leaves half as many arcs, and half as
     /// many again; and then, as long as there is room, by wider ones.
     fn new(lattice: &Acceptor, keep: Keep) -> Result<Self, Misfit> {
-        if let Ok(acceptor) = words_alone(lattice, keep) {
-            return Ok(Self { acceptor, below: None });
+        if let Ok(words) = words_alone(lattice, keep) {
+            return Ok(Self::of(&words, keep, None));
         }
         let beams = Beams::new(lattice, keep);
         let mut fails = beams.sorted.len();
@@ -113,24 +111,31 @@ impl Whole {
             let count = fails / 2;
             match beams.whole(count) {
                 Some(whole) => break (whole, count),
-                None if count > 0 => fails = count,
-                None => {
-                    let least = beams.slacks.prune(0);
-                    return Err(Misfit::TooLarge { places: least.states().len(), edges: least.arcs() });
-                }
+                // so does every place with the same slack
+                None => fails = beams.sorted.partition_point(|slack| *slack < beams.sorted[count]),
+            }
+            if fails == 0 {
+                let least = beams.slacks.prune(0);
+                return Err(Misfit::TooLarge { places: least.states().len(), edges: least.arcs() });
             }
         };
         for _ in 0..WIDENINGS {
-            if fails - count <= 1 || Fitted::new(&whole.acceptor, keep).is_err() {
+            let middle = (count + fails) / 2;
+            if middle == count || beams.sorted[middle] == beams.sorted[count] || whole.fitted.is_none() {
                 break;
             }
-            let middle = (count + fails) / 2;
             match beams.whole(middle) {
                 Some(wider) => (whole, count) = (wider, middle),
                 None => fails = middle,
             }
         }
         Ok(whole)
+    }
+
+    fn of(words: &Acceptor, keep: Keep, below: Option<i64>) -> Self {
+        let minimal = Minimal::new(words, keep);
+        let fitted = minimal.fitted(&Room::GRAPH);
+        Self { minimal, fitted, below }
     }
 }
 
@@ -151,10 +156,10 @@ impl<'a> Beams<'a> {
     /// What is left by the slack at a place of the list, if it can be determinised in time.
     fn whole(&self, place: usize) -> Option<Whole> {
         let beam = self.sorted[place];
-        let acceptor = words_alone(&self.slacks.prune(beam), self.keep).ok()?;
+        let words = words_alone(&self.slacks.prune(beam), self.keep).ok()?;
         let beyond = self.sorted.partition_point(|slack| *slack <= beam);
         let below = self.sorted.get(beyond).map(|next| self.slacks.least() + next);
-        Some(Whole { acceptor, below })
+        Some(Whole::of(&words, self.keep, below))
     }
 }
 
@@ -168,88 +173,20 @@ fn words_alone(lattice: &Acceptor, keep: Keep) -> Result<Acceptor, TooLarge> {
     Ok(paths.one_final())
 }
 
-/// The part of an acceptor by the widest beam that fits, and the weight below which nothing is missing. Sizes nearly always
-/// grow with the beam, so the widest is looked for by halves, and then among the next wider ones.
-fn widest(acceptor: &Acceptor, keep: Keep) -> Result<(Fitted, i64), Misfit> {
-    let slacks = Slacks::new(acceptor);
-    let mut beams = slacks.sorted();
-    beams.dedup();
-    let mut tried = 0;
-    let mut fit = |place: usize| {
-        let part = slacks.prune(beams[place]);
-        tried += part.arcs();
-        let below = beams.get(place + 1).map_or(i64::MAX, |next| slacks.least() + next);
-        (Fitted::new(&part, keep).map(|fitted| (fitted, below)), tried < MOST_TRIED)
-    };
-    let mut best = fit(0).0.map_err(|(places, edges)| Misfit::TooLarge { places, edges })?;
-    let (mut fits, mut fails) = (0, beams.len());
-    while fails - fits > 1 {
-        let middle = (fits + fails) / 2;
-        match fit(middle).0 {
-            Ok(wider) => (best, fits) = (wider, middle),
-            Err(_) => fails = middle,
-        }
-    }
-    for place in fails + 1..beams.len() {
-        match fit(place) {
-            (Ok(wider), _) => best = wider,
-            (Err(_), true) => {}
-            (Err(_), false) => break,
-        }
-    }
-    Ok(best)
-}
-
-/// What fits into a graph.
-struct Fitted {
-    acceptor: Acceptor,
-    taken_off: i64,
-}
-
-impl Fitted {
-    /// The acceptor minimised and with weights that edges can have, or how many places and edges it takes.
-    fn new(acceptor: &Acceptor, keep: Keep) -> Result<Self, (usize, usize)> {
-        let slacks = Slacks::new(acceptor);
-        let (pushed, least) = acceptor.push();
-        let distance = acceptor.distance_to_final();
-        let (minimal, wanted) = match keep {
-            Keep::Paths => (pushed, distance),
-            Keep::Strings => {
-                let order: Vec<i64> = (0..acceptor.states().len()).map(|state| slacks.of_state(state)).collect();
-                let (minimal, first) = pushed.minimize_by(&order);
-                let wanted = first.iter().map(|state| distance[*state as usize]).collect();
-                (minimal, wanted)
-            }
-        };
-        let size = (minimal.states().len(), minimal.arcs());
-        if size.0 > MAX_PLACES as usize || size.1 > MAX_EDGES as usize {
-            return Err(size);
-        }
-        // as near to the lattice's own as can be, and the whole weight before that, as late as it can stand
-        let bounded = wanted.iter().map(|wanted| (*wanted).clamp(0, least.max(0))).collect();
-        let late = vec![least.max(0); wanted.len()];
-        let tried = [wanted, bounded, late].map(|wanted: Vec<i64>| minimal.within(&wanted, GREATEST_COST));
-        let nearest = tried.into_iter().flatten().min_by_key(|(_, weight)| (least - weight).abs());
-        let (acceptor, weight) = nearest.ok_or(size)?;
-        Ok(Self { acceptor, taken_off: least - weight })
-    }
-
-    fn reduced(self, pruned: Option<Pruned>) -> Reduced {
-        let Self { acceptor, taken_off } = self;
-        // places are numbered by their times
-        let ordered = Acceptor::acyclic(0, acceptor.into_states());
-        let states = (0..).zip(ordered.states());
-        let mut placed: Vec<(u32, Arc)> =
-            states.flat_map(|(from, state)| state.arcs.iter().map(move |arc| (from, *arc))).collect();
-        placed.sort_by_key(|(from, arc)| (arc.source, *from, arc.to));
-        let edges = placed.iter().map(|&(from, arc)| edge(from, arc)).collect();
-        Reduced {
-            graph: Graph { places: ordered.states().len() as u32, edges },
-            times: ordered.states().iter().map(|state| state.time).collect(),
-            sources: placed.iter().map(|(_, arc)| arc.source).collect(),
-            taken_off,
-            pruned,
-        }
+/// The graph of what fits, whose places are numbered by their times.
+fn reduced(Fitted { acceptor, taken_off }: Fitted, pruned: Option<Pruned>) -> Reduced {
+    let ordered = Acceptor::acyclic(0, acceptor.into_states());
+    let states = (0..).zip(ordered.states());
+    let mut placed: Vec<(u32, Arc)> =
+        states.flat_map(|(from, state)| state.arcs.iter().map(move |arc| (from, *arc))).collect();
+    placed.sort_by_key(|(from, arc)| (arc.source, *from, arc.to));
+    let edges = placed.iter().map(|&(from, arc)| edge(from, arc)).collect();
+    Reduced {
+        graph: Graph { places: ordered.states().len() as u32, edges },
+        times: ordered.states().iter().map(|state| state.time).collect(),
+        sources: placed.iter().map(|(_, arc)| arc.source).collect(),
+        taken_off,
+        pruned,
     }
 }
 
@@ -260,9 +197,10 @@ fn edge(from: u32, Arc { label, to, weight, .. }: Arc) -> Edge {
 
 #[cfg(test)]
 mod tests {
-    use super::super::testing::{cheapest, every_acceptor, language, paths, Rng};
+    use super::super::testing::{cheapest, every_acceptor, language, layered, paths, random_arc, Rng};
     use super::*;
-    use crate::lattice::{State, EPSILON};
+    use crate::lattice::State;
+    use crate::limits::{MAX_EDGES, MAX_PLACES};
     use std::collections::BTreeMap;
 
     fn acceptor_of(graph: &Graph) -> Acceptor {
@@ -316,31 +254,6 @@ mod tests {
             let all = paths(0, words.states());
             assert_eq!(strings(&reduced.graph).1, all.len());
         });
-    }
-
-    /// Lattices of some layers, in which every state of one goes to every state of the next.
-    fn layered(rng: &mut Rng) -> Acceptor {
-        let widths: Vec<usize> = (0..3).map(|_| 2 + rng.below(4)).collect();
-        let count: usize = widths.iter().sum();
-        let mut states = vec![State::default(); count + 2];
-        let (mut before, mut next) = (0..1, 1);
-        for width in widths.iter().copied().chain([1]) {
-            let layer = next..next + width;
-            for from in before {
-                for to in layer.clone() {
-                    let words = 1 + rng.below(3);
-                    states[from].arcs.extend((0..words).map(|_| random_arc(rng, to as u32)));
-                }
-            }
-            (before, next) = (layer, next + width);
-        }
-        states[count + 1].final_weight = Some(0);
-        Acceptor::new(0, states).expect("no cycle")
-    }
-
-    fn random_arc(rng: &mut Rng, to: u32) -> Arc {
-        let label = if rng.below(9) == 0 { EPSILON } else { 1 + rng.below(9) as u32 };
-        Arc { label, to, weight: rng.below(4_000) as i64, source: 0 }
     }
 
     /// The statement about what was pruned, against all paths.
@@ -418,12 +331,12 @@ mod tests {
             states.push(State { final_weight: Some(0), ..State::default() });
             Acceptor::new(0, states).expect("no cycle")
         };
-        let fits = reduce(&chain(24, GREATEST_COST), Keep::Strings).expect("24 words");
+        let fits = reduce(&chain(24, Room::GRAPH.cost), Keep::Strings).expect("24 words");
         assert_eq!((fits.graph.places, fits.taken_off), (25, 0));
         assert_eq!(reduce(&chain(25, 0), Keep::Strings), Err(Misfit::TooLarge { places: 26, edges: 25 }));
         // what edges cannot hold is taken off every path alike
-        let dear = reduce(&chain(2, GREATEST_COST + 5), Keep::Paths).expect("two words");
-        assert_eq!((dear.taken_off, dear.graph.edges[0].cost), (10, GREATEST_COST as u32));
+        let dear = reduce(&chain(2, Room::GRAPH.cost + 5), Keep::Paths).expect("two words");
+        assert_eq!((dear.taken_off, dear.graph.edges[0].cost), (10, Room::GRAPH.cost as u32));
         let negative = reduce(&chain(2, -7), Keep::Strings).expect("two words");
         assert_eq!((negative.taken_off, negative.graph.edges[1].cost), (-14, 0));
     }

@@ -4,9 +4,7 @@
 //! it, whose arc then also ends where that one does, or at the beginning to the word behind it. Of arcs that become alike the
 //! cheapest stays.
 
-use super::acceptor::keep_cheapest;
 use super::{Acceptor, Arc, State, TooLarge, EPSILON};
-use std::collections::BTreeMap;
 
 impl Acceptor {
     /// The same strings at the same costs without [`EPSILON`], or nothing if that takes more than so many arcs.
@@ -14,7 +12,7 @@ impl Acceptor {
         if self.is_empty() {
             return Ok(Self::default());
         }
-        let mut closures = Closures { acceptor: self, known: vec![None; self.states().len()] };
+        let mut closures = Closures::new(self);
         let mut states = Vec::with_capacity(self.states().len());
         let mut laid = 0;
         for number in 0..self.states().len() as u32 {
@@ -29,60 +27,74 @@ impl Acceptor {
     }
 }
 
-/// Where arcs without words lead from each state that was asked for.
+/// What it takes to get to a state, and the source of the word before it.
+type Reached = (i64, u32);
+
+/// Where arcs without words lead from some states, found by one walk over them in their order.
 struct Closures<'a> {
     acceptor: &'a Acceptor,
-    known: Vec<Option<Vec<(u32, i64)>>>,
+    /// Whether a path ends or a word begins at each state.
+    is_useful: Vec<bool>,
+    /// The cheapest way to each state in the walk at hand.
+    reached: Vec<Option<Reached>>,
 }
 
-impl Closures<'_> {
+impl<'a> Closures<'a> {
+    fn new(acceptor: &'a Acceptor) -> Self {
+        let is_useful =
+            |state: &State| state.final_weight.is_some() || state.arcs.iter().any(|arc| arc.label != EPSILON);
+        let is_useful = acceptor.states().iter().map(is_useful).collect();
+        Self { acceptor, is_useful, reached: vec![None; acceptor.states().len()] }
+    }
+
     /// A state with arcs that all have words. A path ends at a state without words behind it only at the beginning: else
     /// the arc before it ends at the end.
     fn state(&mut self, number: u32) -> State {
         let acceptor = self.acceptor;
         let State { final_weight, time, .. } = acceptor.states()[number as usize];
         let mut state = State { arcs: Vec::new(), final_weight, time };
-        let sources = if number == 0 { closure(acceptor, 0) } else { vec![(number, 0)] };
-        for (from, before) in sources {
+        let from = if number == 0 { self.walk([(0, (0, 0))]) } else { vec![(number, (0, 0))] };
+        let mut words: Vec<Arc> = Vec::new();
+        for (from, (before, _)) in from {
             let State { arcs, final_weight, .. } = &acceptor.states()[from as usize];
-            arcs.iter().filter(|arc| arc.label != EPSILON).for_each(|arc| self.lay(*arc, before, &mut state.arcs));
+            let with_words = arcs.iter().filter(|arc| arc.label != EPSILON);
+            words.extend(with_words.map(|arc| Arc { weight: before + arc.weight, ..*arc }));
             let ended = final_weight.map(|weight| weight + before);
             state.final_weight = state.final_weight.into_iter().chain(ended).min();
         }
-        keep_cheapest(&mut state.arcs);
+        words.sort_unstable_by_key(|arc| arc.label);
+        for alike in words.chunk_by(|one, other| one.label == other.label) {
+            let label = alike[0].label;
+            let ends = self.walk(alike.iter().map(|arc| (arc.to, (arc.weight, arc.source))));
+            let useful = ends.into_iter().filter(|(to, _)| self.is_useful[*to as usize]);
+            state.arcs.extend(useful.map(|(to, (weight, source))| Arc { label, to, weight, source }));
+        }
         state
     }
 
-    /// The arcs of a word: to where it ends, and to where arcs without words lead from there.
-    fn lay(&mut self, arc: Arc, before: i64, arcs: &mut Vec<Arc>) {
-        let acceptor = self.acceptor;
-        let reached = self.known[arc.to as usize].get_or_insert_with(|| useful(acceptor, closure(acceptor, arc.to)));
-        arcs.extend(reached.iter().map(|&(to, behind)| Arc { to, weight: before + arc.weight + behind, ..arc }));
-    }
-}
-
-/// The states to which arcs without words lead from a state, itself among them, with the least weight to each.
-fn closure(acceptor: &Acceptor, from: u32) -> Vec<(u32, i64)> {
-    let mut reached = BTreeMap::from([(from, 0)]);
-    let mut at = Some(from);
-    while let Some(state) = at {
-        let before = reached[&state];
-        for arc in acceptor.states()[state as usize].arcs.iter().filter(|arc| arc.label == EPSILON) {
-            let known = reached.entry(arc.to).or_insert(i64::MAX);
-            *known = (before + arc.weight).min(*known);
+    /// The states to which arcs without words lead from some, those among them, with the cheapest way to each.
+    fn walk(&mut self, from: impl IntoIterator<Item = (u32, Reached)>) -> Vec<(u32, Reached)> {
+        let Self { acceptor, reached, .. } = self;
+        let [mut first, mut last] = [u32::MAX, 0];
+        let mut reach = |reached: &mut Vec<Option<Reached>>, state: u32, way: Reached| {
+            let known = &mut reached[state as usize];
+            *known = Some(known.map_or(way, |known| known.min(way)));
+            (first, last) = (first.min(state), last.max(state));
+            (first, last)
+        };
+        let (mut at, mut end) = from.into_iter().fold((0, 0), |_, (state, way)| reach(reached, state, way));
+        let mut found = Vec::new();
+        while at <= end {
+            if let Some((before, source)) = reached[at as usize].take() {
+                found.push((at, (before, source)));
+                for arc in acceptor.states()[at as usize].arcs.iter().filter(|arc| arc.label == EPSILON) {
+                    (_, end) = reach(reached, arc.to, (before + arc.weight, source));
+                }
+            }
+            at += 1;
         }
-        at = reached.range(state + 1..).next().map(|(state, _)| *state);
+        found
     }
-    reached.into_iter().collect()
-}
-
-/// Those of some states at which a path ends or a word begins.
-fn useful(acceptor: &Acceptor, mut states: Vec<(u32, i64)>) -> Vec<(u32, i64)> {
-    states.retain(|(state, _)| {
-        let State { arcs, final_weight, .. } = &acceptor.states()[*state as usize];
-        final_weight.is_some() || arcs.iter().any(|arc| arc.label != EPSILON)
-    });
-    states
 }
 
 #[cfg(test)]

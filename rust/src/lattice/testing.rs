@@ -40,6 +40,31 @@ pub fn random_states(seed: u64) -> (u32, Vec<State>) {
     (at(0), states)
 }
 
+/// Lattices of some layers, in which every state of one goes to every state of the next.
+pub fn layered(rng: &mut Rng) -> Acceptor {
+    let widths: Vec<usize> = (0..3).map(|_| 2 + rng.below(4)).collect();
+    let count: usize = widths.iter().sum();
+    let mut states = vec![State::default(); count + 2];
+    let (mut before, mut next) = (0..1, 1);
+    for width in widths.iter().copied().chain([1]) {
+        let layer = next..next + width;
+        for from in before {
+            for to in layer.clone() {
+                let words = 1 + rng.below(3);
+                states[from].arcs.extend((0..words).map(|_| random_arc(rng, to as u32)));
+            }
+        }
+        (before, next) = (layer, next + width);
+    }
+    states[count + 1].final_weight = Some(0);
+    Acceptor::new(0, states).expect("no cycle")
+}
+
+pub fn random_arc(rng: &mut Rng, to: u32) -> Arc {
+    let label = if rng.below(9) == 0 { EPSILON } else { 1 + rng.below(9) as u32 };
+    Arc { label, to, weight: rng.below(4_000) as i64, source: 0 }
+}
+
 /// Some hundreds of random acceptors that accept something.
 pub fn every_acceptor(mut test: impl FnMut(&Acceptor)) {
     let mut tested = 0;
