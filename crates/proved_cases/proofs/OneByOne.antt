@@ -164,7 +164,7 @@ left-fourth = left-by G (slots (U 4)) 3 left-third (made .3)
 left-fifth : tableLeft G (slots (U 4)) 5 ≡ after-fifth
 left-fifth = left-by G (slots (U 4)) 4 left-fourth (made .4)
 
--- the list of the same readings
+-- the list of these readings
 listed : ByRank G (slots (U 4)) 8 (walked G (first-reading ∷ second-reading ∷ third-reading ∷ fourth-reading ∷ fifth-reading ∷ []))
 unfolding num bitsOf pack widthOf widthFrom bitsOfAll walkEntries readingEntries blockOfReading slotEdges edgesFrom weight costSum walk reading trees ranked
 listed = by-rank G (slots (U 4)) 8 _ refl
