@@ -457,8 +457,8 @@ enum {
 ** a first call where the first ranks in work are not zeros, nothing is looked for
 ** and work is taken as it stands. What is handed out is spelled from found ranks
 ** alone, and a rank is found once a tree of its own symbol and span stands there: a
-** graph's leaf whose edge goes over another span spells nothing. Of slots no edge
-** number counts, since a reading of slots has none.
+** graph's leaf whose edge goes over another span is no tree of that span. Of slots no
+** edge number counts, since a reading of slots has none.
 **
 ** Refuses for the blocks, then with LISTING_WORK, LISTING_OUTPUT, and last of all
 ** with ALTERED_WALK: the walk that altered numbers spell is not a reading that

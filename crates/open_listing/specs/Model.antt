@@ -7,11 +7,11 @@ use lib.Dec.{eqb, ltb}
 use lib.ListN.{length, take, drop, replicate}
 use Rattle.bits.specs.Bits.{pick}
 use Rattle.chart_table.specs.Table.{Sized}
+use Rattle.chart_table.specs.declared.Layout.{Layout}
 use Rattle.chart_index.specs.Index.{indexNumbers}
 use Rattle.chart_index.specs.Build.{makeIndex}
 use Rattle.chart_search.specs.Search.{nextOfRoot}
 use Rattle.chart.specs.Chart.{layOut, enumerate, rootFound, rootSpelled}
-use Rattle.chart_theory.proofs.Plane.{single}
 use Rattle.traced_readings.specs.Model.{formOf, FormFor, blockAt}
 use Rattle.open_listing.specs.Open.{Left, left}
 use Rattle.open_listing.specs.declared.Place.{Place}
@@ -66,7 +66,9 @@ outputBy b t rules p x out = pick b (blockAt t rules (p .layout) (p .form) x ++ 
 -- the table after the search of a first call, and after that of a later one
 unfoldable pub firstTable : (rules edges : List ℕ) → Plan → List ℕ → List ℕ
 firstTable rules edges p work =
-    enumerate rules (p .form .rules) edges (p .edges) (single (p .layout)) (4 * p .layout .cells) ++ drop (4 * p .layout .cells) work
+    let d = p .layout in
+    let single : Layout = record { symbols = d .symbols; places = d .places; ranks = 1; cells = d .cells } in
+    enumerate rules (p .form .rules) edges (p .edges) single (4 * d .cells) ++ drop (4 * d .cells) work
 
 unfoldable pub nextTable : (rules edges : List ℕ) → Plan → ℕ → List ℕ → List ℕ
 nextTable rules edges p x work =

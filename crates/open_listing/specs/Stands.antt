@@ -96,7 +96,7 @@ abbrev pub SameEdge : Heard → ℕ → ℕ → Type 0
 SameEdge (slots u) f e = Unit {0}
 SameEdge (graph w) f e = f ≡ e
 
--- The tree that a rank spells, from found ranks alone. A leaf spans its edge: one whose edge goes over another span than its rank's is no tree of that span, so
+-- The tree that a rank spells, from found ranks alone. A leaf whose edge goes over another span is no tree of that span, so
 -- that what is spelled from it is no derivation
 pub data Spelled (g : Grammar) (h : Heard) (table : List ℕ) : Tree → Sym → ℕ → ℕ → ℕ → Type 0 where
   leaf-spelled : {A : Sym} {i k x r e f w s : ℕ} → entry g h table A i k x ≡ some (byWord r f w s) → SameEdge h f e

@@ -47,7 +47,7 @@ use Rattle.office.specs.Sheet.{itemFrom, itemsFrom, officeRuleFrom, itemsAlike,
 use Rattle.office.specs.Conversion.{convert, marks, convertMarked}
 use Rattle.office_conversion.specs.Limits.{inLimits, officeGrammar}
 use Rattle.office_block.specs.Block.{officeToBlock}
-use Rattle.proved_cases.specs.Table.{AllHold, all, _and_, P-cases, N1-cases, N5-cases, N6-cases, N8-cases, N11-cases, N12-cases, cases}
+use Rattle.proved_cases.specs.Table.{AllHold, all, _and_, P-cases, N1-cases, N2-cases, N5-cases, N6-cases, N8-cases, N11-cases, N12-cases, cases}
 use Rattle.proved_cases.proofs.Rows.{
   lists-row,
   finds-row,
@@ -67,6 +67,7 @@ use Rattle.proved_cases.proofs.Rows.{
   office-row,
   all-join,
 }
+use Rattle.proved_cases.proofs.OneByOne.{opened}
 
 -- document 01's, and N7's and N9's, of strings
 documents : AllHold P-cases
@@ -205,5 +206,5 @@ listened =
 -- The one theorem.
 pub cases-hold : AllHold cases
 cases-hold =
-    all-join P-cases _ documents (all-join N1-cases _ graphs (all-join N5-cases _ offices (all-join N6-cases _ ties
-    (all-join N8-cases _ panels (all-join N11-cases N12-cases costs listened)))))
+    all-join P-cases _ documents (all-join N1-cases _ graphs (all-join N2-cases _ opened (all-join N5-cases _ offices
+    (all-join N6-cases _ ties (all-join N8-cases _ panels (all-join N11-cases N12-cases costs listened))))))

@@ -79,7 +79,7 @@ use Rattle.proved_cases.specs.Table.{
 }
 
 -- the listing: its readings are those of the least derivations
-by-rank : (g : Grammar) (h : Heard) (wanted : ℕ) (readings : List (List ℕ)) → readingsOf wanted (g, h) ≡ readings → ByRank g h wanted readings
+pub by-rank : (g : Grammar) (h : Heard) (wanted : ℕ) (readings : List (List ℕ)) → readingsOf wanted (g, h) ≡ readings → ByRank g h wanted readings
 by-rank g h wanted readings e = record {
   derivations = length (derivations g h);
   finitely-many = finitely-many g h;

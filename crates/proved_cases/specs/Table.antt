@@ -4,11 +4,11 @@
 use mathlib.Core.Path.{_≡_}
 use mathlib.Core.Option.{Option, none, some}
 use mathlib.Core.List.{List, [], _∷_, _++_, map}
-use Prim.Native.Nat.{ℕ, zero, suc, min}
+use Prim.Native.Nat.{ℕ, zero, suc, _+_, min}
 use lib.ListN.{length, take, drop, replicate}
 use Rattle.packing.specs.declared.Rule as R
 use Rattle.packing.specs.declared.Rule.the-variants.{Pair, Word}
-use Rattle.packing.specs.Meaning.{symbolOf, word, Grammar, Utterance, Candidate, candidate, Edge, edge, Heard, slots, graph, redrawn, Reading}
+use Rattle.packing.specs.Meaning.{symbolOf, word, Grammar, Utterance, Candidate, candidate, Edge, edge, Heard, slots, graph, lastPlace, redrawn, Reading}
 use Rattle.packing.specs.Parse.{Verdict, accepted, refused}
 use Rattle.packing.specs.Grammar.{blockOfGrammar}
 use Rattle.packing.specs.Utterance.{blockOfUtterance}
@@ -17,6 +17,7 @@ use Rattle.packing.specs.Reading.{blockOfReading}
 use Rattle.derivation.specs.Derivation.{At, Tree, Derivation}
 use Rattle.derivation.specs.Heard.{packed}
 use Rattle.derivation.specs.Rank.{Number}
+use Rattle.chart.specs.WorkTable.{tableSize}
 use Rattle.listing.specs.Conditions as Conditions
 use Rattle.listing.specs.Conditions.{library}
 use Rattle.traced_readings.specs.Ranked.{Ranked}
@@ -25,6 +26,12 @@ use Rattle.listing.specs.Listing.{list, outputAfter}
 use Rattle.inputs.specs.declared.Listed.{Listed}
 use Rattle.inputs.specs.declared.Listed.the-variants as L
 use Rattle.inputs.specs.declared.Listed.the-variants.{Found}
+use Rattle.open_listing.specs.Stands.{foundRanks}
+use Rattle.open_listing.specs.Open.{opening, openedOf, placeOf, tableAfter, Left, left}
+use Rattle.open_listing.specs.Model.{searched, nextOf}
+use Rattle.open_listing.specs.declared.Opened.{Opened}
+use Rattle.open_listing.specs.declared.Opened.the-variants as O
+use Rattle.open_listing.specs.declared.Answer.the-variants as A
 use Rattle.checker.specs.Judgement.{OfDerivation, Judgement}
 use Rattle.checker.specs.Check.{check, checkedOf}
 use Rattle.checker.specs.declared.Checked.the-variants.{Passes}
@@ -46,7 +53,8 @@ use Rattle.office_theory.specs.Matching.{Match}
 -- the bytes that it writes in front of the output; a reading block that passes the check, and one that it refuses; the string that the specimen and the
 -- next phrase find, and the output before and after; what the panel answers, lent so many numbers of work table and bytes of output; what is answered
 -- for costs between low and high, with a work table of so many numbers; the words to listen to again, with a work table and an output of so many
--- numbers; the block of an office's sheet
+-- numbers; the block of an office's sheet; what opening answers, lent a work table of so many numbers; the call of an open listing after k readings that hands
+-- out one more, with the ranks that it finds, and the one that says that there are no more
 pub data Case : Type 0 where
   grammar : (g : Grammar) (block : List ℕ) → Case
   heard : (g : Grammar) (h : Heard) (block : List ℕ) → Case
@@ -60,6 +68,9 @@ pub data Case : Type 0 where
   ranges : (g : Grammar) (low high : Utterance) (work : ℕ) (answer : Verdict Ranges.Answer) → Case
   margins : (g : Grammar) (u : Utterance) (work out : ℕ) (answer : Verdict (List MarginEntry)) → Case
   office : (sheet block : List ℕ) → Case
+  opens : (g : Grammar) (h : Heard) (work : ℕ) (answer : Opened) → Case
+  hands : (g : Grammar) (h : Heard) (k found : ℕ) (reading : List ℕ) → Case
+  ends : (g : Grammar) (h : Heard) (k : ℕ) → Case
 
 abbrev pub listedFor : Grammar → Heard → ℕ → Verdict (List (List ℕ))
 listedFor g h wanted = list library (blockOfGrammar g) (blockOfHeard (g .words) h) wanted 8192 1024
@@ -73,12 +84,26 @@ rangesOf g low high work = CostRanges.ranges (blockOfGrammar g) (blockOfUtteranc
 abbrev pub marginsFor : Grammar → Utterance → (work out : ℕ) → Verdict (List MarginEntry)
 marginsFor g u work out = WordMargins.margins (blockOfGrammar g) (blockOfUtterance (g .words) u) work out
 
+-- the work table of an open listing that handed out k readings, zeros before the first; and the call after these, with an output of 73 bytes
+abbrev pub tableLeft : Grammar → Heard → ℕ → List ℕ
+tableLeft g h k = tableAfter searched g h (tableSize (g .symbols) (lastPlace h) 256) k
+
+abbrev pub outputLent : List ℕ
+outputLent = replicate 73 9
+
+abbrev pub callAfter : Grammar → Heard → ℕ → Left
+callAfter g h k = nextOf (blockOfGrammar g) (blockOfHeard (g .words) h) (placeOf k) (tableLeft g h k) outputLent
+
+-- this is the reading of the derivation with rank n
+abbrev pub OfRank : Grammar → Heard → ℕ → List ℕ → Type 0
+OfRank g h n block = (t : Tree) × Ranked g h n t × (block ≡ packed g h t)
+
 -- these are the readings of the derivations by rank, as many as are wanted or as there are
 pub record ByRank (g : Grammar) (h : Heard) (wanted : ℕ) (readings : List (List ℕ)) : Type 0 where
   pub derivations : ℕ
   pub finitely-many : Number (Derivation g h) derivations
   pub as-many : length readings ≡ min wanted derivations
-  pub each : (k : ℕ) (block : List ℕ) → At readings k block → (t : Tree) × Ranked g h (suc k) t × (block ≡ packed g h t)
+  pub each : (k : ℕ) (block : List ℕ) → At readings k block → OfRank g h (suc k) block
 
 -- the least string with a property, or that there is none
 abbrev pub LeastOf : (List ℕ → Type 0) → Option (List ℕ) → Type 0
@@ -114,6 +139,11 @@ Holds (ranges g low high work answer) = (rangesOf g low high work ≡ answer) ×
 Holds (margins g u work out answer) = (marginsFor g u work out ≡ answer) × Meaning (Margins g u) answer
 Holds (office sheet block) =
     (officeToBlock sheet ≡ accepted block) × ((o : Office) × (officeSheet sheet ≡ accepted o) × ((h : Heard) → Match o h))
+Holds (opens g h work answer) = openedOf (opening (blockOfGrammar g) (blockOfHeard (g .words) h) work) ≡ answer
+Holds (hands g h k found reading) =
+    (callAfter g h k ≡ left A.Reading (tableLeft g h (suc k)) (reading ++ drop (length reading) outputLent))
+    × (foundRanks g h (tableLeft g h (suc k)) ≡ foundRanks g h (tableLeft g h k) + found) × OfRank g h (suc k) reading
+Holds (ends g h k) = (callAfter g h k ≡ left A.NoMore (tableLeft g h k) outputLent) × Number (Derivation g h) k
 
 -- a row that holds, and rows that all do
 pub data Row : Case → Type 0 where
@@ -341,6 +371,19 @@ N5-cases =
     ∷ 103 ∷ 0 ∷ 0 ∷ 24 ∷ 160 ∷ 0 ∷ 0 ∷ 206 ∷ [])
     ∷ []
 
+-- N2's: of G and U the readings one by one, the first call with ten found ranks, one for each span, and the calls behind it with 2, 1, 1 and 2 more
+abbrev pub N2-cases : List Case
+N2-cases =
+    opens G (slots (U 4)) 10240 O.Opened
+    ∷ opens G (slots (U 4)) 10239 (O.Refused 22)
+    ∷ hands G (slots (U 4)) 0 10 (0x31 ∷ 0x00 ∷ 0x00 ∷ 0x00 ∷ 0xD5 ∷ 0x80 ∷ [])
+    ∷ hands G (slots (U 4)) 1 2 (0x31 ∷ 0x00 ∷ 0x00 ∷ 0x00 ∷ 0xD3 ∷ 0x80 ∷ [])
+    ∷ hands G (slots (U 4)) 2 1 (0x31 ∷ 0x00 ∷ 0x00 ∷ 0x00 ∷ 0xCD ∷ 0x80 ∷ [])
+    ∷ hands G (slots (U 4)) 3 1 (0x31 ∷ 0x00 ∷ 0x00 ∷ 0x00 ∷ 0xCB ∷ 0x80 ∷ [])
+    ∷ hands G (slots (U 4)) 4 2 (0x31 ∷ 0x00 ∷ 0x00 ∷ 0x00 ∷ 0xC7 ∷ 0x80 ∷ [])
+    ∷ ends G (slots (U 4)) 5
+    ∷ []
+
 -- the table
 abbrev pub cases : List Case
-cases = P-cases ++ N1-cases ++ N5-cases ++ N6-cases ++ N8-cases ++ N11-cases ++ N12-cases
+cases = P-cases ++ N1-cases ++ N2-cases ++ N5-cases ++ N6-cases ++ N8-cases ++ N11-cases ++ N12-cases
