@@ -12,4 +12,5 @@ pub mod next_phrase;
 pub mod office;
 pub mod one_by_one;
 pub mod specimen;
+pub mod standing;
 pub mod table;
