@@ -2,11 +2,11 @@
 //! that the command line names, or all; then a line about the rows in which the library is behind a plain version.
 
 use spireyerba_bench::standing::Standing;
-use spireyerba_bench::{batch, conversions, few_first, listing, margins, next_phrase, one_by_one, specimen};
+use spireyerba_bench::{batch, conversions, few_first, listing, margins, next_phrase, one_by_one, scaling, specimen};
 
 type Print = fn(&mut Standing);
 
-const TABLES: [(&str, Print); 12] = [
+const TABLES: [(&str, Print); 13] = [
     ("office", listing::print_office),
     ("free", listing::print_beside_free),
     ("graphs", listing::print_graphs),
@@ -18,6 +18,7 @@ const TABLES: [(&str, Print); 12] = [
     ("specimen", specimen::print_table),
     ("phrases", next_phrase::print_table),
     ("batch", |_| batch::print_table()),
+    ("scaling", |_| scaling::print_table()),
     ("second", listing::print_beside_second),
 ];
 
