@@ -103,8 +103,32 @@ python_package() {
     put 644 "$made" "$PYTHONDIR/spireyerba/_installed.py"
 }
 
+# unless_in LIST FOLDER NAME=VALUE: the setting, unless the folder stands in the list, whose colons part folders.
+unless_in() {
+    case ":$1:" in *":$2:"*) ;; *) printf ' %s' "$3" ;; esac
+}
+
+# What has to be set for what was installed to be found from here.
+settings() {
+    unless_in "$PATH" "$BINDIR" "PATH=$BINDIR:\$PATH"
+    unless_in "$(manpath -q 2>/dev/null || true)" "$DATADIR/man" "MANPATH=$DATADIR/man:"
+    unless_in "$(ldconfig -N -v 2>/dev/null | sed -n 's|^\(/[^:]*\):.*|\1|p' | tr '\n' :)${LD_LIBRARY_PATH:-}" "$LIBDIR" \
+        "LD_LIBRARY_PATH=$LIBDIR"
+    if command -v pkg-config >/dev/null; then
+        unless_in "$(pkg-config --variable pc_path pkg-config):${PKG_CONFIG_PATH:-}" "$LIBDIR/pkgconfig" "PKG_CONFIG_PATH=$LIBDIR/pkgconfig"
+    fi
+    if [ -n "$PYTHONDIR" ]; then
+        unless_in "$(python3 -c 'import sys; print(*sys.path, sep=":")')" "$PYTHONDIR" "PYTHONPATH=$PYTHONDIR"
+    fi
+}
+
 libraries
 the_command
 # The loader looks into folders that it knows by a list, which is made anew.
 if [ -z "$DESTDIR" ] && [ "$(id -u)" = 0 ] && command -v ldconfig >/dev/null; then ldconfig || true; fi
 if [ -n "$PYTHONDIR" ]; then python_package; else echo 'there is no python3: the Python package is left out'; fi
+if [ "$action" = install ] && [ -z "$DESTDIR" ]; then
+    PATH=$PATH:/usr/sbin:/sbin
+    needed=$(settings)
+    if [ -n "$needed" ]; then echo "for it to be found, set: export$needed"; fi
+fi

@@ -32,7 +32,7 @@ with() {
 }
 
 installs() {
-    make -s install PREFIX="$prefix" >"$folder/log" 2>&1 || { cat "$folder/log"; return 1; }
+    env -u LD_LIBRARY_PATH -u PKG_CONFIG_PATH make -s install PREFIX="$prefix" >"$folder/said" 2>&1 || { cat "$folder/said"; return 1; }
 }
 
 # The same files come under DESTDIR, and none of them names it.
@@ -62,7 +62,7 @@ shows_declared_names() {
     diff <(nm -D --defined-only "$library" | awk '{ print $3 }' | sort) \
         <(declared spireyerba spireyerba_util) &&
         diff <(nm -D --defined-only "$prefix"/lib/libspireyerba_text.so.* | awk '{ print $3 }' | sort) <(declared spireyerba_text) &&
-        readelf -d "$library" | grep -q "SONAME.*\[libspireyerba.so.$interface\]"
+        readelf -d "$library" | grep "SONAME.*\[libspireyerba.so.$interface\]" >/dev/null
 }
 
 # The installed archive is the proved one, byte for byte.
@@ -73,7 +73,7 @@ has_proved_archive() {
 by_pkg_config() {
     # shellcheck disable=SC2046 # flags are words
     gcc -std=c99 -Wall -Wextra -Werror "$folder/list.c" $(pkg-config --cflags --libs spireyerba) -o "$folder/shared" &&
-        prints "$folder/shared" && ldd "$folder/shared" | grep -q "libspireyerba.so.$interface"
+        prints "$folder/shared" && ldd "$folder/shared" | grep "libspireyerba.so.$interface" >/dev/null
 }
 
 by_pkg_config_static() {
@@ -164,6 +164,16 @@ for reading in doors.list(doors.read("door 3; four 9 | five 5")):
     print("%d: %s" % (reading.weight, reading.sentence))') | diff - <(printf '11: door five\n13: door four\n')
 }
 
+# The lines of README's section "Install" behind the first, copied, in a shell that has nothing set but what `make install` said.
+readme_lines() {
+    sed -n 's/^for it to be found, set: //p' "$folder/said" >"$folder/lines"
+    sed -n '/^## Install$/,/^## From C$/s/^    //p' README.md | tail -n +2 >>"$folder/lines"
+    [ "$(wc -l <"$folder/lines")" -ge 5 ] || return 1
+    mkdir -p "$folder/copied" && cp -r README.md examples "$folder/copied" || return 1
+    (cd "$folder/copied" && env -u LD_LIBRARY_PATH -u PKG_CONFIG_PATH MANPAGER=cat bash -e "$folder/lines") >"$folder/log" 2>&1 &&
+        grep -q '^SEE ALSO$' "$folder/log" && grep -q '^weight 13: door four$' "$folder/log" && grep -q "^('door', .*)$" "$folder/log"
+}
+
 # Nothing is left but folders that others may use.
 is_taken_away() {
     make -s uninstall PREFIX="$prefix" >"$folder/log" 2>&1 && [ -z "$(find "$prefix" ! -type d)" ] &&
@@ -186,6 +196,7 @@ part bash -n "$prefix/share/bash-completion/completions/spireyerba"
 with zsh zsh -n "$prefix/share/zsh/site-functions/_spireyerba"
 with fish fish -n "$prefix/share/fish/vendor_completions.d/spireyerba.fish"
 with python3 python_lists
+if command -v man >/dev/null && command -v python3 >/dev/null; then with pkg-config readme_lines; fi
 part is_taken_away
 echo "$passed passed, $failed failed"
 [ "$failed" -eq 0 ]

@@ -1,7 +1,7 @@
 //! The command `spireyerba batch` beside the library's own time for the same utterances.
 
 use crate::inputs::{greatest, utterance, Input, CANDIDATES, WEIGHT};
-use crate::measure::{children_time, ratio, thread_time};
+use crate::measure::{ratio, run, thread_time, Taken};
 use crate::table::{print_head, print_row};
 use spireyerba::limits::{reading_length, work_length, UTTERANCE_BLOCK_MAX};
 use spireyerba::services::{listing, utterance_to_block};
@@ -11,7 +11,7 @@ use spireyerba_tests::seeded::rng::Rng;
 use std::fs::File;
 use std::path::{Path, PathBuf};
 use std::process::Command;
-use std::time::{Duration, Instant};
+use std::time::Duration;
 
 const UTTERANCES: usize = 10_000;
 const WANTED: u32 = 8;
@@ -21,10 +21,10 @@ const SLOTS: usize = 12;
 const DOORS: &str = include_str!("../../examples/doors/grammar.txt");
 
 /// A grammar, and utterances under it.
-struct Load {
-    name: &'static str,
-    named: NamedGrammar,
-    utterances: Vec<Utterance>,
+pub struct Load {
+    pub name: &'static str,
+    pub named: NamedGrammar,
+    pub utterances: Vec<Utterance>,
 }
 
 /// Prints processor time in milliseconds, of the library and of the command with all its threads, and how long the command
@@ -35,8 +35,8 @@ pub fn print_table() {
         let files = Files::write(&load);
         let mut samples = [Vec::new(), Vec::new(), Vec::new()];
         for _ in 0..ROUNDS {
-            let (own, (batch, elapsed)) = (library(&load), files.run());
-            samples.iter_mut().zip([own, batch, elapsed]).for_each(|(list, sample)| list.push(sample));
+            let (own, batch) = (library(&load), files.run(&[&format!("-n{WANTED}")]));
+            samples.iter_mut().zip([own, batch.processor, batch.elapsed]).for_each(|(list, sample)| list.push(sample));
         }
         let [own, batch, elapsed] = samples.map(|list| list.into_iter().min().expect("rounds"));
         let millis = |time: Duration| format!("{:.0}", time.as_secs_f64() * 1e3);
@@ -100,15 +100,16 @@ fn library(load: &Load) -> Duration {
 }
 
 /// The files of a load, and the command beside this program.
-struct Files {
+pub struct Files {
     grammar: PathBuf,
     utterances: PathBuf,
     answers: PathBuf,
     command: PathBuf,
+    lines: usize,
 }
 
 impl Files {
-    fn write(load: &Load) -> Self {
+    pub fn write(load: &Load) -> Self {
         let command = std::env::current_exe().expect("this program").with_file_name("spireyerba");
         let folder = command.parent().unwrap_or(Path::new(".")).join("batch");
         std::fs::create_dir_all(&folder).expect("a folder");
@@ -118,19 +119,16 @@ impl Files {
             ["grammar.txt", "utterances.txt", "answers.jsonl"].map(|name| folder.join(name));
         std::fs::write(&grammar, load.named.to_text()).expect("a file");
         std::fs::write(&utterances, lines).expect("a file");
-        Self { grammar, utterances, answers, command }
+        Self { grammar, utterances, answers, command, lines: load.utterances.len() }
     }
 
-    /// The processor time and the wall time of a run.
-    fn run(&self) -> (Duration, Duration) {
-        let (begin, before) = (Instant::now(), children_time());
+    /// A run with such options.
+    pub fn run(&self, options: &[&str]) -> Taken {
         let mut command = Command::new(&self.command);
-        command.arg("batch").args([&self.grammar, &self.utterances]).arg(format!("-n{WANTED}"));
-        let status = command.stdout(File::create(&self.answers).expect("a file")).status();
-        let times = (children_time() - before, begin.elapsed());
-        assert!(status.expect("the command, which `make bench` builds").success());
+        command.arg("batch").args([&self.grammar, &self.utterances]).args(options);
+        let taken = run(command.stdout(File::create(&self.answers).expect("a file")));
         let answers = std::fs::read_to_string(&self.answers).expect("answers");
-        assert_eq!(answers.lines().count(), UTTERANCES);
-        times
+        assert_eq!(answers.lines().count(), self.lines);
+        taken
     }
 }

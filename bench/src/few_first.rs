@@ -1,34 +1,47 @@
-//! The crate's `Lister`, which asks for few readings first, beside one call for all.
+//! The crate's `Lister`, which asks for few readings first, beside one call for all: over utterances one after another under an
+//! office's grammar, and over dense shapes again and again.
 
 use crate::inputs::{graphs, greatest, shapes, Input};
-use crate::measure::{medians, micros, ratio, Plan};
+use crate::measure::{median, micros, ratio, thread_time};
 use crate::office;
 use crate::table::{print_head, print_row};
 use spireyerba::limits::{work_length, MAX_READINGS};
 use spireyerba::services::listing;
 use spireyerba::{Lister, PackedGrammar};
 use spireyerba_tests::heard;
-use std::hint::black_box;
+use std::time::Duration;
 
-const ROUNDS: usize = 40;
 const WANTED: u32 = MAX_READINGS;
+/// The utterances under each of an office's grammars.
+const UTTERANCES: usize = 12;
+/// How often they are listed in memory that is kept, and in new memory, which takes long.
+const ROUNDS: usize = 11;
+const NEW_ROUNDS: usize = 1;
+/// The same for a dense shape, which is one utterance.
+const DENSE_ROUNDS: (usize, usize) = (40, 12);
 /// With fewer readings than these one call suffices.
 const FEW: usize = 16;
 
-/// What a row measures: each input in turn under its own grammar.
-struct Row {
+/// What was heard under one grammar, one after another, and what is lent for its listings.
+struct Stream {
     grammar: PackedGrammar,
-    heard: Vec<u8>,
+    heard: Vec<Vec<u8>>,
     work: Vec<u32>,
     out: Vec<u8>,
     lister: Lister,
 }
 
-impl Row {
-    fn new(Input { grammar, heard, .. }: &Input) -> Self {
+/// One way to list what was heard; answers how many readings there are.
+type Call = fn(&mut Stream, usize) -> usize;
+
+impl Stream {
+    /// The inputs have one grammar and one length.
+    fn new(inputs: &[Input]) -> Self {
+        let Input { grammar, heard, .. } = &inputs[0];
         let packed = PackedGrammar::new(grammar).expect("an accepted grammar");
+        let block = |input: &Input| input.heard.to_block(packed.block()).expect("what is accepted");
         Self {
-            heard: heard.to_block(packed.block()).expect("what is accepted"),
+            heard: inputs.iter().map(block).collect(),
             work: vec![1; work_length(grammar.symbols as usize, heard.longest(), WANTED as usize)],
             out: vec![0; WANTED as usize * heard::reading_length(grammar, heard)],
             lister: Lister::of(packed.clone()),
@@ -37,57 +50,93 @@ impl Row {
     }
 
     /// One call for all, with a table that is kept.
-    fn at_once(&mut self) -> usize {
+    fn at_once(&mut self, number: usize) -> usize {
         let Self { grammar, heard, work, out, .. } = self;
-        listing(grammar.block(), heard, WANTED, work, out).expect("an accepted listing")
+        listing(grammar.block(), &heard[number], WANTED, work, out).expect("an accepted listing")
     }
 
     /// A lister that is kept.
-    fn kept(&mut self) -> usize {
-        self.lister.find_in_block(&self.heard, WANTED).expect("an accepted listing").len()
+    fn kept(&mut self, number: usize) -> usize {
+        self.lister.find_in_block(&self.heard[number], WANTED).expect("an accepted listing").len()
     }
 
     /// One call for all, with a new table.
-    fn new_at_once(&mut self) {
+    fn new_at_once(&mut self, number: usize) -> usize {
         (self.work, self.out) = (vec![0; self.work.len()], vec![0; self.out.len()]);
-        black_box(self.at_once());
+        self.at_once(number)
     }
 
     /// A new lister.
-    fn new_lister(&mut self) {
+    fn new_lister(&mut self, number: usize) -> usize {
         self.lister = Lister::of(self.grammar.clone());
-        black_box(self.kept());
+        self.kept(number)
     }
+
+    /// The median time for each that was heard, all of them in turn in each round.
+    fn times(&mut self, rounds: usize, call: Call) -> Vec<Duration> {
+        let mut samples = vec![Vec::new(); self.heard.len()];
+        for _ in 0..rounds {
+            for (number, samples) in samples.iter_mut().enumerate() {
+                let begin = thread_time();
+                call(self, number);
+                samples.push(thread_time() - begin);
+            }
+        }
+        samples.into_iter().map(median).collect()
+    }
+}
+
+/// What was heard of one thing: how many readings it has, and its times.
+struct Heard {
+    readings: usize,
+    times: [Duration; 4],
 }
 
 /// Prints the times of one call for all and of a lister, both with memory that is kept, then both with new memory.
 pub fn print_table() {
-    let columns = ["n", "readings", "at once", "lister", "ratio", "new", "new lister", "ratio"];
-    print_head("256 readings wanted", &columns);
-    let offices = [office::of_slots, office::of_graphs].into_iter().flat_map(|inputs| [6, 12, 24].map(inputs));
-    let dense = [greatest(12), greatest(24)].into_iter().chain(shapes()).chain(graphs());
-    for inputs in offices.chain(office::doors().into_iter().chain(dense).map(|input| vec![input])) {
-        // those that have few readings, then the others
-        let (few, more): (Vec<Input>, Vec<Input>) =
-            inputs.into_iter().partition(|input| Row::new(input).at_once() < FEW);
-        [few, more].iter().filter(|inputs| !inputs.is_empty()).for_each(|inputs| print_inputs(inputs));
+    print_head(
+        "256 readings wanted",
+        &["n", "heard", "readings", "at once", "lister", "ratio", "new", "new lister", "ratio"],
+    );
+    for streams in [office::streams_of_slots, office::streams_of_graphs] {
+        [6, 12, 24].iter().for_each(|&length| print_streams(&streams(length, UTTERANCES), (ROUNDS, NEW_ROUNDS)));
     }
+    let dense = [greatest(6), greatest(12), greatest(24)].into_iter().chain(shapes()).chain(graphs());
+    office::doors().into_iter().chain(dense).for_each(|input| print_streams(&[vec![input]], DENSE_ROUNDS));
 }
 
-fn print_inputs(inputs: &[Input]) {
-    let mut rows: Vec<Row> = inputs.iter().map(Row::new).collect();
-    let mut counts: Vec<usize> = rows.iter_mut().map(Row::at_once).collect();
-    assert!(rows.iter_mut().map(Row::kept).eq(counts.iter().copied()), "{}: the lists differ", inputs[0].name);
-    counts.sort_unstable();
-    let calls: [fn(&mut Row); 4] =
-        [|row| _ = black_box(row.at_once()), |row| _ = black_box(row.kept()), Row::new_at_once, Row::new_lister];
-    let rows = &std::cell::RefCell::new(rows);
-    let mut calls = calls.map(|call| move || rows.borrow_mut().iter_mut().for_each(call));
-    let plan = Plan { rounds: ROUNDS, calls: 1 };
-    let times = medians(plan, calls.each_mut().map(|call| call as &mut dyn FnMut()));
-    let [at_once, lister, new, new_lister] = times.map(|time| time / inputs.len() as u32);
-    let middle = counts[counts.len() / 2].to_string();
-    let numbers = [micros(at_once), micros(lister), ratio(lister, at_once)];
+/// A row for those that have few readings, and one for the others.
+fn print_streams(streams: &[Vec<Input>], rounds: (usize, usize)) {
+    let heard = streams.iter().flat_map(|inputs| measured(inputs, rounds));
+    let (few, more): (Vec<Heard>, Vec<Heard>) = heard.partition(|heard| heard.readings < FEW);
+    let input = &streams[0][0];
+    [few, more].iter().filter(|heard| !heard.is_empty()).for_each(|heard| print_heard(input, heard));
+}
+
+fn measured(inputs: &[Input], (rounds, new_rounds): (usize, usize)) -> Vec<Heard> {
+    let stream = &mut Stream::new(inputs);
+    let readings: Vec<usize> = (0..inputs.len()).map(|number| stream.at_once(number)).collect();
+    let listed = (0..inputs.len()).map(|number| stream.kept(number));
+    assert!(listed.eq(readings.iter().copied()), "{}: the lists differ", inputs[0].name);
+    let calls: [(usize, Call); 4] = [
+        (rounds, Stream::at_once),
+        (rounds, Stream::kept),
+        (new_rounds, Stream::new_at_once),
+        (new_rounds, Stream::new_lister),
+    ];
+    let times = calls.map(|(rounds, call)| stream.times(rounds, call));
+    let of_number = |(number, readings)| Heard { readings, times: times.each_ref().map(|times| times[number]) };
+    readings.into_iter().enumerate().map(of_number).collect()
+}
+
+/// A row of means, and of the median number of readings.
+fn print_heard(input: &Input, heard: &[Heard]) {
+    let mut readings: Vec<usize> = heard.iter().map(|heard| heard.readings).collect();
+    readings.sort_unstable();
+    let mean = |call: usize| heard.iter().map(|heard| heard.times[call]).sum::<Duration>() / heard.len() as u32;
+    let [at_once, lister, new, new_lister] = [0, 1, 2, 3].map(mean);
+    let sizes = [input.heard.longest(), heard.len(), readings[readings.len() / 2]].map(|number| number.to_string());
+    let kept = [micros(at_once), micros(lister), ratio(lister, at_once)];
     let of_new = [micros(new), micros(new_lister), ratio(new_lister, new)];
-    print_row(inputs[0].name, &[&[inputs[0].heard.longest().to_string(), middle][..], &numbers, &of_new].concat());
+    print_row(input.name, &[&sizes[..], &kept, &of_new].concat());
 }

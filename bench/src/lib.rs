@@ -11,5 +11,7 @@ pub mod measure;
 pub mod next_phrase;
 pub mod office;
 pub mod one_by_one;
+pub mod scaling;
 pub mod specimen;
+pub mod standing;
 pub mod table;

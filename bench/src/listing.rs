@@ -4,6 +4,7 @@ use crate::free;
 use crate::inputs::{graphs, greatest, redrawn, shapes, Input};
 use crate::measure::{median, medians, micros, ratio, thread_time, Plan};
 use crate::office;
+use crate::standing::Standing;
 use crate::table::{print_head, print_row};
 use spireyerba::limits::{work_length, PANEL_MAX_READINGS};
 use spireyerba::services;
@@ -42,8 +43,8 @@ fn graph_rows() -> impl Iterator<Item = (Vec<Input>, usize)> {
 }
 
 /// What an office hears, and how many such utterances a second one core lists.
-pub fn print_office() {
-    print_rows_beside_free("what an office hears", "n", office_rows());
+pub fn print_office(standing: &mut Standing) {
+    print_rows_beside_free(standing, "what an office hears", "n", office_rows());
     let (slots, wanted) = STATED;
     let [ours] = times(&office::of_slots(slots), [(wanted, Lent::library as Call)]);
     let in_a_second = 1.0 / ours.as_secs_f64();
@@ -51,8 +52,8 @@ pub fn print_office() {
 }
 
 /// The library beside the free version, with the clearing of the work table apart and in.
-pub fn print_beside_free() {
-    print_rows_beside_free("shape", "n", rows());
+pub fn print_beside_free(standing: &mut Standing) {
+    print_rows_beside_free(standing, "shape", "n", rows());
     let calls = [(1, Lent::library as Call), (1, Lent::clear), (256, Lent::library), (256, Lent::clear)];
     let [one, clearing_one, many, clearing_many] = times(&[greatest(24)], calls);
     let cost = ratio(many.saturating_sub(clearing_many), one.saturating_sub(clearing_one));
@@ -61,8 +62,8 @@ pub fn print_beside_free() {
 
 /// Word graphs beside the free version, where n is the steps from the first place to the last; then slots beside the graph that
 /// they can be redrawn as, which has the same readings.
-pub fn print_graphs() {
-    print_rows_beside_free("25 places, 96 edges", "P - 1", graph_rows());
+pub fn print_graphs(standing: &mut Standing) {
+    print_rows_beside_free(standing, "25 places, 96 edges", "P - 1", graph_rows());
     println!();
     print_head("24 slots of 4 words", &["N", "slots", "graph", "ratio"]);
     for wanted in [1, 16, 256] {
@@ -76,11 +77,17 @@ pub fn print_graphs() {
     }
 }
 
-fn print_rows_beside_free(name: &str, size: &str, rows: impl Iterator<Item = (Vec<Input>, usize)>) {
+fn print_rows_beside_free(
+    standing: &mut Standing,
+    name: &str,
+    size: &str,
+    rows: impl Iterator<Item = (Vec<Input>, usize)>,
+) {
     print_head(name, &[size, "N", "ours", "clearing", "rest", "free", "rest/free", "ours/free"]);
     for (inputs, wanted) in rows {
         inputs.iter().for_each(|input| assert_equal_lists(input, wanted));
         let [ours, clearing, rest, free] = times_beside_free(&inputs, wanted);
+        standing.take_clearing(&row_name(&inputs[0], wanted), [ours, rest], free);
         let times = [ours, clearing, rest, free].map(micros);
         print_numbers(&inputs[0], wanted, &[&times[..], &[ratio(rest, free), ratio(ours, free)]].concat());
     }
@@ -97,12 +104,18 @@ pub fn print_panel() {
 }
 
 /// The library beside the second implementation, apart since that can take a hundred times as long.
-pub fn print_beside_second() {
+pub fn print_beside_second(standing: &mut Standing) {
     print_head("shape", &["n", "N", "ours", "second", "ratio"]);
     for (inputs, wanted) in rows() {
         let [ours, second] = times(&inputs, [(wanted, Lent::library), (wanted, Lent::second)]);
+        standing.take(&row_name(&inputs[0], wanted), ours, second);
         print_numbers(&inputs[0], wanted, &[micros(ours), micros(second), ratio(ours, second)]);
     }
+}
+
+/// How a row is named where it is counted.
+fn row_name(input: &Input, wanted: usize) -> String {
+    format!("{}, n {}, N {wanted}", input.name, input.heard.longest())
 }
 
 fn print_numbers(input: &Input, wanted: usize, numbers: &[String]) {

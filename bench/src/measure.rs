@@ -1,6 +1,7 @@
 //! Times of several functions in one process: called in turn, so that what disturbs one disturbs all.
 
-use std::time::Duration;
+use std::process::Command;
+use std::time::{Duration, Instant};
 
 /// How often functions are called: `rounds` samples of each, each of `calls` calls.
 #[derive(Clone, Copy)]
@@ -55,9 +56,23 @@ pub fn thread_time() -> Duration {
     Duration::new(time.seconds as u64, time.nanoseconds as u32)
 }
 
-/// The time that the programs that this one has run to their end have had processors.
-#[expect(unsafe_code, reason = "std does not say how much time a program took")]
-pub fn children_time() -> Duration {
+/// What a program took that was run to its end.
+#[derive(Clone, Copy, Debug)]
+pub struct Taken {
+    /// The time from start to end.
+    pub elapsed: Duration,
+    /// The time that its threads have had processors.
+    pub processor: Duration,
+    /// The most memory that it had at a time, in bytes: Linux's VmHWM, as it was last seen.
+    pub memory: u64,
+}
+
+/// How often a program's memory is looked at.
+const LOOK: Duration = Duration::from_millis(1);
+
+/// Runs a program to its end, which must be a good one.
+#[expect(unsafe_code, reason = "std does not say how much time and memory a program took")]
+pub fn run(command: &mut Command) -> Taken {
     #[repr(C)]
     struct Timeval {
         seconds: i64,
@@ -70,17 +85,34 @@ pub fn children_time() -> Duration {
         others: [i64; 14],
     }
     extern "C" {
-        fn getrusage(who: i32, usage: *mut Usage) -> i32;
+        fn wait4(process: i32, status: *mut i32, options: i32, usage: *mut Usage) -> i32;
     }
-    // RUSAGE_CHILDREN of Linux
-    const CHILDREN: i32 = -1;
     let none = || Timeval { seconds: 0, microseconds: 0 };
-    let mut usage = Usage { user: none(), system: none(), others: [0; 14] };
-    // SAFETY: the call writes one rusage of a 64-bit Linux, which is lent to it.
-    let answer = unsafe { getrusage(CHILDREN, &mut usage) };
-    assert_eq!(answer, 0, "no such usage");
+    let (mut status, mut usage) = (0, Usage { user: none(), system: none(), others: [0; 14] });
+    let begin = Instant::now();
+    let process = command.spawn().expect("a program").id() as i32;
+    let memory = std::thread::spawn(move || most_memory(process));
+    // SAFETY: the call writes a status and one rusage of a 64-bit Linux, which are lent to it.
+    let ended = unsafe { wait4(process, &mut status, 0, &mut usage) };
+    let elapsed = begin.elapsed();
+    assert_eq!((ended, status), (process, 0), "{command:?}");
     let time = |time: &Timeval| Duration::new(time.seconds as u64, time.microseconds as u32 * 1_000);
-    time(&usage.user) + time(&usage.system)
+    Taken { elapsed, processor: time(&usage.user) + time(&usage.system), memory: memory.join().expect("its memory") }
+}
+
+/// The most memory that a program had, looked at until it ends: what the system says behind its end has that of this one in it.
+fn most_memory(process: i32) -> u64 {
+    let (status, mut most) = (format!("/proc/{process}/status"), 0);
+    let seen = || {
+        let text = std::fs::read_to_string(&status).ok()?;
+        let line = text.lines().find_map(|line| line.strip_prefix("VmHWM:"))?;
+        line.trim().strip_suffix(" kB")?.parse::<u64>().ok()
+    };
+    while let Some(kibibytes) = seen() {
+        most = kibibytes * 1_024;
+        std::thread::sleep(LOOK);
+    }
+    most
 }
 
 /// Microseconds with as many digits as are worth reading.

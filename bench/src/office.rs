@@ -21,17 +21,29 @@ const CONFUSED: RangeInclusive<u32> = 100..=1_000;
 /// The words of a slot, or the edges for each step of a graph, and the steps that the longest edge goes over.
 const CANDIDATES: usize = 4;
 const LONGEST: u32 = 3;
-/// The inputs of one size.
-const INPUTS: usize = 5;
+/// The grammars of one size.
+const GRAMMARS: usize = 5;
 
 /// Grammars of 32 symbols, some 45 pair rules and 200 word rules, each with an utterance of so many slots.
 pub fn of_slots(slots: usize) -> Vec<Input> {
-    inputs("office grammars", slots, |rng, grammar, said| Heard::Slots(slots_around(rng, grammar, said)))
+    streams_of_slots(slots, 1).concat()
 }
 
 /// The same with word graphs, whose confusions go over up to three steps.
 pub fn of_graphs(steps: usize) -> Vec<Input> {
-    inputs("office grammars, word graphs", steps, |rng, grammar, said| Heard::Graph(graph_around(rng, grammar, said)))
+    streams_of_graphs(steps, 1).concat()
+}
+
+/// The same grammars, each with so many utterances one after another.
+pub fn streams_of_slots(slots: usize, utterances: usize) -> Vec<Vec<Input>> {
+    streams("office grammars", (slots, utterances), |rng, grammar, said| Heard::Slots(slots_around(rng, grammar, said)))
+}
+
+/// The same with word graphs.
+pub fn streams_of_graphs(steps: usize, utterances: usize) -> Vec<Vec<Input>> {
+    streams("office grammars, word graphs", (steps, utterances), |rng, grammar, said| {
+        Heard::Graph(graph_around(rng, grammar, said))
+    })
 }
 
 /// The door schedule as it stands in examples/, with slots and with a word graph.
@@ -55,16 +67,23 @@ pub fn doors() -> [Input; 2] {
     ]
 }
 
-/// Of the seeds whose grammar says a string of so many words, the first ones.
-fn inputs(name: &'static str, length: usize, heard: impl Fn(&mut Rng, &Grammar, &[u32]) -> Heard) -> Vec<Input> {
+/// Of the seeds whose grammar says a string of such a length, the first ones, each with so many utterances.
+fn streams(
+    name: &'static str,
+    (length, utterances): (usize, usize),
+    heard: impl Fn(&mut Rng, &Grammar, &[u32]) -> Heard,
+) -> Vec<Vec<Input>> {
     let of_seed = |seed| {
         let rng = &mut Rng::new(seed);
         let grammar = grammar_of_layers(rng);
-        let said = say(rng, &grammar, length)?;
-        let heard = heard(rng, &grammar, &said);
-        Some(Input { name, grammar, heard })
+        let next = |_| {
+            let said = say(rng, &grammar, length)?;
+            let heard = heard(rng, &grammar, &said);
+            Some(Input { name, grammar: grammar.clone(), heard })
+        };
+        (0..utterances).map(next).collect()
     };
-    (0..).filter_map(of_seed).take(INPUTS).collect()
+    (0..).filter_map(of_seed).take(GRAMMARS).collect()
 }
 
 fn grammar_of_layers(rng: &mut Rng) -> Grammar {

@@ -2,6 +2,7 @@
 
 use crate::inputs::greatest_by_words;
 use crate::measure::{medians, micros, ratio, Plan};
+use crate::standing::Standing;
 use crate::table::{print_head, print_row};
 use spireyerba::limits::MAX_SLOTS;
 use spireyerba::services;
@@ -11,7 +12,7 @@ use std::hint::black_box;
 
 const PLAN: Plan = Plan { rounds: 101, calls: 1 };
 
-pub fn print_table() {
+pub fn print_table(standing: &mut Standing) {
     print_head("32 symbols, 256 rules, 24 words", &["ours", "second", "ratio"]);
     for (name, grammar) in greatest_by_words() {
         let block = pack(&grammar);
@@ -21,6 +22,7 @@ pub fn print_table() {
         let mut second = || assert!(specimen(&block, MAX_SLOTS, black_box(&mut from_second)) == Ok(true));
         let [ours, other] = medians(PLAN, [&mut library, &mut second]);
         assert_eq!(from_library, from_second, "{name}: the strings differ");
+        standing.take(&format!("specimen, {name}"), ours, other);
         print_row(name, &[micros(ours), micros(other), ratio(ours, other)]);
     }
 }

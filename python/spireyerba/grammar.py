@@ -11,7 +11,7 @@ from weakref import finalize
 
 from . import _library as lib
 from .errors import Refused, TextFault
-from .heard import Graph, Heard, Utterance
+from .heard import Graph, Heard, Packed, Utterance
 from .reading import Found, Leaf, Reading, Tree
 
 _grammar_to_block = lib.function("grammar_to_block")
@@ -31,8 +31,9 @@ _word_margins = lib.function("word_margins")
 
 #: The numbers of a word in a tree.
 LEAF_NUMBERS = 2
-#: Few readings are looked for first, since most utterances have no more.
-FEW = 16
+#: Few readings are asked for first, since most utterances have no more and the library clears a table with room for all; if so
+#: many came, some times as many. Where the last lists were all longer, more are asked for first. As the Rust crate does.
+FEW, STEP, REMEMBERED = 16, 4, 8
 
 
 class Word(str):
@@ -99,7 +100,7 @@ class Grammar:
     changed by anything, and any threads may use it at once.
     """
 
-    __slots__ = ("block", "symbols", "words", "rules", "unpacked", "_numbers", "_named", "__weakref__")
+    __slots__ = ("block", "symbols", "words", "rules", "unpacked", "_numbers", "_named", "_last", "__weakref__")
 
     def __init__(self, rules: "Iterable[Rule]", symbols: "Iterable[str]" = (), words: "Iterable[str]" = ()) -> None:
         rules = [Rule(*rule) for rule in rules]
@@ -146,6 +147,7 @@ class Grammar:
     def _set(self, named: c_void_p, lines: "Sequence[str]") -> None:
         """Takes a grammar with its names, and the lines about it."""
         self._named = named
+        self._last: "tuple[int, ...]" = ()
         finalize(self, lib.free_grammar, named)
         self.block = bytes.fromhex(lines[0])
         symbols, words, rules = map(int, lines[1].split())
@@ -198,29 +200,35 @@ class Grammar:
 
     def list(self, heard: Heard, wanted: int = 8) -> List[Reading]:
         """The readings of least weight, the least first: as many as wanted, 1 to 256, or as there are."""
+        packed, asked, last = heard.packed(self), wanted, self._last
+        if FEW < wanted <= lib.MAX_READINGS:
+            asked = min(wanted, max(FEW, 1 << min(last, default=0).bit_length()))
+        found = self._call(packed, asked)
+        while found == asked < wanted:
+            asked = min(wanted, asked * STEP) if last else wanted
+            found = self._call(packed, asked)
         if wanted > FEW:
-            few = self._list(heard, FEW)
-            if wanted <= lib.MAX_READINGS and len(few) < FEW:
-                return few
-        return self._list(heard, wanted)
-
-    def _list(self, heard: Heard, wanted: int) -> List[Reading]:
-        packed, lent = heard.packed(self), lib.LENT
-        length, work_len, out_len = packed.lengths(wanted)
-        if lent.work_len < work_len or lent.out_len < out_len:
-            lent.grow(work_len, out_len)
-        out = lent.out
-        found = _listing(
-            self.block, len(self.block), packed.block, packed.length, wanted, lent.work, work_len, out, out_len
-        )
-        if found < 0:
-            raise lib.refused(found)
+            self._last = (*last[1 - REMEMBERED :], found)
         if not found:
             return []
+        length, out = packed.lengths(asked)[0], lib.LENT.out
         fields = (lib.UtilReading * found)()
         lib.answered(_read_readings(byref(self.unpacked), out, length, found, fields))
         listed = Found(self, fields, string_at(out, found * length), length)
         return [Reading(listed, rank) for rank in range(found)]
+
+    def _call(self, packed: Packed, wanted: int) -> int:
+        """Lists so many readings; answers how many there are, which stand in what is lent."""
+        lent = lib.LENT
+        _, work_len, out_len = packed.lengths(wanted)
+        if lent.work_len < work_len or lent.out_len < out_len:
+            lent.grow(work_len, out_len)
+        found: int = _listing(
+            self.block, len(self.block), packed.block, packed.length, wanted, lent.work, work_len, lent.out, out_len
+        )
+        if found < 0:
+            raise lib.refused(found)
+        return found
 
     def readings(self, heard: Heard) -> "Iterator[Reading]":
         """The same readings one by one, up to 256, each looked for when it is asked for.

@@ -10,6 +10,7 @@ import sys
 import unittest
 from concurrent.futures import ThreadPoolExecutor
 from pathlib import Path
+from unittest import mock
 
 import spireyerba
 from spireyerba import Grammar, Graph, Refused, Rule, TextFault, Utterance, Word
@@ -24,6 +25,49 @@ class Documentation(unittest.TestCase):
             result = doctest.testmod(importlib.import_module(name))
             self.assertGreater(result.attempted, 0, name)
             self.assertEqual(result.failed, 0, name)
+
+
+class FewFirst(unittest.TestCase):
+    """Few readings are asked for first. Seven and eight words have 42 and 132 trees over pairs, and one of nine more than 256."""
+
+    def setUp(self) -> None:
+        self.grammar = Grammar.from_text('A -> A A [1] | "x"')
+        self.by_words = {words: Utterance([{"x": 0}] * words) for words in range(1, 10)}
+
+    def asked(self, words: int, wanted: int) -> "list[int]":
+        """The numbers that the library is asked for; the list is that of readings one by one."""
+        numbers, heard = [], self.by_words[words]
+        listing = spireyerba.grammar._listing
+
+        def recorded(*arguments: object) -> object:
+            numbers.append(arguments[4])
+            return listing(*arguments)
+
+        with mock.patch.object(spireyerba.grammar, "_listing", recorded):
+            listed = self.grammar.list(heard, wanted)
+        one_by_one = [reading.block for reading, _ in zip(self.grammar.readings(heard), range(wanted))]
+        self.assertEqual([reading.block for reading in listed], one_by_one)
+        return numbers
+
+    def test_more_only_if_so_many_came(self) -> None:
+        self.assertEqual(self.asked(6, 256), [16, 256])
+        for words in (1, 2, 3, 4, 5):
+            self.assertEqual(self.asked(words, 256), [16] if words > 1 else [64])
+        self.assertEqual(self.asked(6, 256), [16, 64])
+        self.assertEqual(self.asked(9, 256), [16, 64, 256])
+        self.assertEqual(self.asked(9, 40), [16, 40])
+        self.assertEqual(self.asked(9, 8), [8])
+
+    def test_more_at_once_where_all_lists_are_long(self) -> None:
+        self.assertEqual(self.asked(9, 256), [16, 256])
+        self.assertEqual(self.asked(7, 256), [256])
+        self.assertEqual(self.asked(7, 256), [256])
+
+    def test_a_number_that_is_refused(self) -> None:
+        for wanted in (0, 257):
+            with self.assertRaises(Refused) as raised:
+                self.grammar.list(self.by_words[1], wanted)
+            self.assertEqual(raised.exception.number, 21)
 
 
 class Doors(unittest.TestCase):

@@ -85,6 +85,7 @@ pub mod text;
 
 mod distinct;
 mod error;
+mod few_first;
 mod fields;
 mod grammar;
 mod graph;

@@ -1,5 +1,6 @@
 //! Many listings under one grammar.
 
+use crate::few_first::FewFirst;
 use crate::fields::Fields;
 use crate::graph::KIND as GRAPH_KIND;
 use crate::limits::{graph_reading_length, reading_length, work_length, MAX_READINGS};
@@ -9,9 +10,9 @@ use crate::{Grammar, HeardRef, PackedGrammar, Reading, Refusal};
 
 /// A grammar that was packed once, and the memory that its listings need, which is kept from one to the next.
 ///
-/// The library clears a table with room for all readings that are wanted, and most utterances have few. So few are asked for
-/// first, and all only if so many came: fewer than were asked for are all that there are, so the list is the same. Few are 16,
-/// or as many as the last list had.
+/// The library clears a table with room for all readings that are wanted, and most utterances have few. So 16 are asked for
+/// first, and more only if so many came: fewer than were asked for are all that there are, so the list is the same. Where the
+/// last lists were all longer, more are asked for first.
 ///
 /// ```
 /// use spireyerba::text::NamedGrammar;
@@ -33,12 +34,8 @@ pub struct Lister {
     service: Service,
     /// The greatest number that the service takes.
     most: u32,
-    /// How many readings the last list had.
-    last: usize,
+    few_first: FewFirst,
 }
-
-/// So many readings are asked for first.
-const FEW: u32 = 16;
 
 /// [`listing`] or [`panel_listing`].
 type Service = fn(&[u8], &[u8], u32, &mut [u32], &mut [u8]) -> Result<usize, Refusal>;
@@ -51,7 +48,14 @@ impl Lister {
 
     /// Lists under a grammar that is packed already.
     pub fn of(grammar: PackedGrammar) -> Self {
-        Self { grammar, work: Vec::new(), out: Vec::new(), service: listing, most: MAX_READINGS, last: 0 }
+        Self {
+            grammar,
+            work: Vec::new(),
+            out: Vec::new(),
+            service: listing,
+            most: MAX_READINGS,
+            few_first: FewFirst::default(),
+        }
     }
 
     /// Lists within the limits of a desk panel from now on, those of [`panel_listing`].
@@ -112,22 +116,15 @@ impl Lister {
     /// ```
     pub fn find_in_block(&mut self, block: &[u8], wanted: u32) -> Result<Found<'_>, Refusal> {
         let (words, length) = longest(block, self.grammar.grammar().rules.len());
-        let few = self.few(wanted);
-        let mut count = self.call(block, few, (words, length))?;
-        if count == few as usize && few < wanted {
-            count = self.call(block, wanted, (words, length))?;
+        // a number that is refused is asked for as it is
+        let mut asked = if wanted > self.most { wanted } else { self.few_first.first(wanted) };
+        let mut count = self.call(block, asked, (words, length))?;
+        while count == asked as usize && asked < wanted {
+            asked = self.few_first.next(asked, wanted);
+            count = self.call(block, asked, (words, length))?;
         }
-        self.last = count;
+        self.few_first.remember(count as u32, wanted);
         Ok(Found { grammar: self.grammar.grammar(), blocks: &self.out, length, count })
-    }
-
-    /// How many readings to ask for first; a number that is refused is asked for as it is.
-    fn few(&self, wanted: u32) -> u32 {
-        if wanted > self.most {
-            return wanted;
-        }
-        let above_last = (self.last as u32 + 1).next_power_of_two();
-        wanted.min(above_last.max(FEW))
     }
 
     /// Lists so many readings, of which the longest has so many words and bytes.

@@ -21,6 +21,7 @@ use crate::output::Output;
 pub use lattices::{are_lattices, named};
 use lattices::{push_notes, Lines};
 pub use line::Line;
+use resume::Answered;
 use sink::{Answers, Refused, Sink};
 use source::{Piece, Source};
 use spireyerba::limits::MAX_READINGS;
@@ -53,7 +54,7 @@ Lattices stand in files of their own: --files names a list of them, one a line, 
 in HTK's format or of Kaldi's may be FILE itself, and one in another with --format. Each lattice is an answer, with its own
 name as \"id\", or the line's, or the file's; \"complete_up_to\" says that it was pruned and up to which weight every reading
 is there, and \"dropped\" has the words that --drop-unknown left out.
-With --resume a run that was interrupted goes on: no line is answered twice, and none is left out.",
+With --resume a run that was interrupted goes on: no line, and no lattice of a file, is answered twice or left out.",
     example: "spireyerba batch grammar.txt utterances.txt -n 1 --resume readings.jsonl",
     run,
 };
@@ -67,9 +68,6 @@ fn run(arguments: &Arguments, output: &mut Output) -> Result<(), Failure> {
     let grammar = files::grammar(arguments.operands[0])?;
     let reader = files::utterance_reader(arguments, &grammar.named)?;
     let Lines { operand, are_files, file } = Lines::open(arguments, reader.format)?;
-    if are_files && arguments.has(&RESUME) {
-        return Err(arguments.wrong("--resume goes on behind a line, and a file of lattices may have several answers"));
-    }
     let name = files::name_of(operand);
     let batch = Batch {
         name: &name,
@@ -82,7 +80,7 @@ fn run(arguments: &Arguments, output: &mut Output) -> Result<(), Failure> {
         names: json::Names::new(&grammar.named),
     };
     let mut source = Source::new(file);
-    let mut resumed = arguments.value(&RESUME).map(|out| resume(out, &mut source, batch.name)).transpose()?;
+    let mut resumed = arguments.value(&RESUME).map(|out| batch.resume(out, &mut source)).transpose()?;
     let by_line = arguments.has(&LINE) || !files::is_still(operand);
     let sink = Sink::new(resumed.as_mut().unwrap_or(output), by_line, AHEAD * jobs);
     let source = Mutex::new(source);
@@ -95,19 +93,6 @@ fn run(arguments: &Arguments, output: &mut Output) -> Result<(), Failure> {
     });
     sink.finish(batch.name)?;
     resumed.map_or(Ok(()), |mut output| output.flush())
-}
-
-/// The file of answers behind which to go on; what it answers of the input is passed over.
-fn resume(out: &str, source: &mut Source, name: &str) -> Result<Output, Failure> {
-    let (file, lines) = resume::open(out)?;
-    if let Err(found) = source.pass_over(lines).map_err(|error| Failure::file(name, &error))? {
-        let other = format!("{}: answers line {lines} of another input: {name} has {found} lines", shown(out));
-        return Err(Failure::Refused(other));
-    }
-    if lines > 0 {
-        eprintln!("{}: goes on behind line {lines}", shown(out));
-    }
-    Ok(Output::file(out, file))
 }
 
 struct Batch<'a> {
@@ -124,6 +109,20 @@ struct Batch<'a> {
 }
 
 impl Batch<'_> {
+    /// The file of answers behind which to go on; what it answers of the input is passed over.
+    fn resume(&self, out: &str, source: &mut Source) -> Result<Output, Failure> {
+        let Self { name, are_files, .. } = self;
+        let (file, lines) = resume::open(out, if *are_files { Answered::Often } else { Answered::Once })?;
+        if let Err(found) = source.pass_over(lines).map_err(|error| Failure::file(name, &error))? {
+            let other = format!("{}: answers line {lines} of another input: {name} has {found} lines", shown(out));
+            return Err(Failure::Refused(other));
+        }
+        if lines > 0 {
+            eprintln!("{}: goes on behind line {lines}", shown(out));
+        }
+        Ok(Output::file(out, file))
+    }
+
     /// Answers lines until there are none, or nobody wants the answers.
     fn work(&self, source: &Mutex<Source>, sink: &Sink) {
         let (mut worker, mut memory) = (Worker::new(self), Vec::new());

@@ -104,14 +104,29 @@ fn files_that_cannot_be_answered() {
     assert_eq!(lines[1], format!("{{\"line\":2,\"error\":\"{missing}\"}}"));
     for (words, message) in [
         ("g l --files list", "--files and FILE: only one of them"),
-        ("g", "FILE is missing"),
-        (
-            "g --files list --resume out",
-            "--resume goes on behind a line, and a file of lattices may have several answers",
-        ),
+        ("g", "FILE is missing: name one, `-` for standard input, or a list by --files"),
     ] {
         let usage = refused(run_in(&folder, &format!("batch {words}")), 2);
         assert_eq!(usage, format!("spireyerba batch: {message}\ntry `spireyerba batch --help`\n"));
+    }
+}
+
+/// Wherever a run over files was interrupted, which may have several lattices, none is answered twice or left out.
+#[test]
+fn an_interrupted_run_over_files_goes_on() {
+    let [grammar, kaldi, slf] = ["grammar.txt", "kaldi.txt", "pocketsphinx.slf"]
+        .map(|name| std::fs::read(example("formats").join(name)).expect(name));
+    let list: &[u8] = b"kaldi.txt\n# and once more\nkaldi.txt\nnone\nmine\tpocketsphinx.slf\nkaldi.txt";
+    let files = [("grammar.txt", &grammar[..]), ("kaldi.txt", &kaldi), ("pocketsphinx.slf", &slf), ("list", list)];
+    let folder = folder("batch_files_resumed", &files);
+    let whole = run_in(&folder, "batch grammar.txt --files list --scale 1").out;
+    assert_eq!(whole.lines().count(), 8, "{whole}");
+    let out = folder.join("out.jsonl");
+    for length in (0..whole.len()).step_by(23).chain(whole.match_indices('\n').flat_map(|(at, _)| [at, at + 1])) {
+        std::fs::write(&out, &whole[..length]).expect("a file");
+        let run = run_in(&folder, "batch grammar.txt --files list --scale 1 --resume out.jsonl");
+        assert!(run.out.is_empty() && run.status <= 1, "{run:?}");
+        assert_eq!(std::fs::read_to_string(&out).as_deref().ok(), Some(&whole[..]), "after {length} bytes");
     }
 }
 

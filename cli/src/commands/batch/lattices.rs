@@ -40,7 +40,7 @@ pub fn named<'a>(arguments: &Arguments<'a>) -> Result<(&'a str, bool), Failure> 
         (Some(list), None) => Ok((list, true)),
         (None, Some(file)) => Ok((*file, false)),
         (Some(_), Some(_)) => Err(arguments.wrong("--files and FILE: only one of them")),
-        (None, None) => Err(arguments.wrong("FILE is missing")),
+        (None, None) => Err(arguments.wrong("FILE is missing: name one, `-` for standard input, or a list by --files")),
     }
 }
 

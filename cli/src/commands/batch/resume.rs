@@ -10,13 +10,23 @@ pub const BEGIN: &[u8] = b"{\"line\":";
 /// The end of the file in which the last answer is looked for first.
 const TAIL: u64 = 1 << 16;
 
-/// Opens a file of answers to write behind the last whole one, and says of which line of the input that is: 0 if there is none.
-/// What stands behind it, the front of an answer that was being written, goes. What is no file of answers is refused, and stays.
-pub fn open(name: &str) -> Result<(File, usize), Failure> {
+/// What a line of the input is answered by.
+#[derive(Clone, Copy, PartialEq, Eq)]
+pub enum Answered {
+    /// By one answer.
+    Once,
+    /// By one or several, of which the last ones may be missing: those of the last line go and are made again.
+    Often,
+}
+
+/// Opens a file of answers to write behind the last whole one, or where its line may have several behind those of the line before,
+/// and says of which line of the input that is: 0 if there is none. What stands behind it, such as the front of an answer that was
+/// being written, goes. What is no file of answers is refused, and stays.
+pub fn open(name: &str, answered: Answered) -> Result<(File, usize), Failure> {
     let of_file = |error| Failure::file(name, &error);
     let mut file =
         File::options().read(true).write(true).create(true).truncate(false).open(path(name)).map_err(of_file)?;
-    let Some((end, line)) = last_answer(&mut file).map_err(of_file)? else {
+    let Some((end, line)) = last_answer(&mut file, answered).map_err(of_file)? else {
         return Err(Failure::Refused(format!("{}: not answers of `batch` to the end, and left as it is", shown(name))));
     };
     file.set_len(end).map_err(of_file)?;
@@ -24,32 +34,57 @@ pub fn open(name: &str) -> Result<(File, usize), Failure> {
     Ok((file, line))
 }
 
-/// Where the last whole answer ends, and its line; nothing if the file does not end in an answer or the front of one.
-fn last_answer(file: &mut File) -> std::io::Result<Option<(u64, usize)>> {
+/// Where to go on, and behind which line; nothing if the file does not end in an answer or the front of one.
+fn last_answer(file: &mut File, answered: Answered) -> std::io::Result<Option<(u64, usize)>> {
     let length = file.metadata()?.len();
     let mut size = TAIL.min(length);
     loop {
         let mut tail = Vec::new();
         file.seek(SeekFrom::Start(length - size))?;
         file.by_ref().take(size).read_to_end(&mut tail)?;
-        if let Some(found) = last_in(&tail, size == length) {
+        let tail = Tail { bytes: &tail, is_whole: size == length };
+        if let Some(found) = tail.last(answered) {
             return Ok(found.map(|(end, line)| (length - size + end as u64, line)));
         }
         size = (2 * size).min(length);
     }
 }
 
-/// The same in the end of a file, or in the whole of it; nothing yet if the last answer begins before it.
-fn last_in(tail: &[u8], is_whole: bool) -> Option<Option<(usize, usize)>> {
-    let end = tail.iter().rposition(|byte| *byte == b'\n').map_or(0, |at| at + 1);
-    let (whole, rest) = tail.split_at(end);
-    let begin = whole[..end.saturating_sub(1)].iter().rposition(|byte| *byte == b'\n').map(|at| at + 1);
-    if begin.is_none() && !is_whole {
-        return None;
+/// The end of a file, or the whole of it.
+struct Tail<'a> {
+    bytes: &'a [u8],
+    is_whole: bool,
+}
+
+impl Tail<'_> {
+    /// The same in it; nothing yet if an answer that counts begins before it.
+    fn last(&self, answered: Answered) -> Option<Option<(usize, usize)>> {
+        let end = self.bytes.iter().rposition(|byte| *byte == b'\n').map_or(0, |at| at + 1);
+        let rest = &self.bytes[end..];
+        let is_front = rest.starts_with(BEGIN) || BEGIN.starts_with(rest);
+        let mut begin = self.begin_of(end)?;
+        let line = if end == 0 { Some(0) } else { line_of(&self.bytes[begin..end]) };
+        let Some(line) = line.filter(|_| is_front) else { return Some(None) };
+        if answered == Answered::Once || line == 0 {
+            return Some(Some((end, line)));
+        }
+        // the first answer of that line
+        while begin > 0 {
+            let before = self.begin_of(begin)?;
+            if line_of(&self.bytes[before..begin]) != Some(line) {
+                break;
+            }
+            begin = before;
+        }
+        Some(Some((begin, line - 1)))
     }
-    let is_front = rest.starts_with(BEGIN) || BEGIN.starts_with(rest);
-    let line = if end == 0 { Some(0) } else { line_of(&whole[begin.unwrap_or(0)..]) };
-    Some(line.filter(|_| is_front).map(|line| (end, line)))
+
+    /// Where the answer begins that ends here; nothing yet if that is before the tail.
+    fn begin_of(&self, end: usize) -> Option<usize> {
+        let before = &self.bytes[..end.saturating_sub(1)];
+        let begin = before.iter().rposition(|byte| *byte == b'\n').map(|at| at + 1);
+        begin.or(self.is_whole.then_some(0))
+    }
 }
 
 /// The line that an answer is of, if it is one.
