@@ -4,7 +4,7 @@
 use mathlib.Core.Path.{_≡_, refl, sym, ap, _∙_}
 use mathlib.Core.Logic.{_↔_}
 use mathlib.Core.Bool.{Bool, true, false}
-use mathlib.Core.Option.{Option, none, some}
+use mathlib.Core.Option.{Option, none, some, Option·some-injective}
 use mathlib.Core.List.{List, [], _∷_, _++_, append-assoc, append-nil}
 use Prim.Native.Nat.{ℕ, zero, suc, _+_, _-_, _*_, _≤_, _<_}
 use native.Mathlib.Omega.{arith}
@@ -47,9 +47,6 @@ use Rattle.derivation.proofs.Rows.{leaf-weight, node-weight}
 use Rattle.derivation.proofs.Trees.{same-sym, same-word}
 use Rattle.derivation.proofs.Paths.{Forward, path-bound}
 use Rattle.derivation.proofs.Trace.{isWordRule, trace-one, trace-length, trace-below, trace-kinded}
-
-some-is : {m n : ℕ} → some m ≡ some n → m ≡ n
-some-is e = cc
 
 pub astray-none : (rules : List R.Rule) (es : List Edge) (src : Source) (last m at : ℕ) → weightAt last (runFrom rules es src m astray at) ≡ none
 unfolding runFrom step finished
@@ -189,7 +186,7 @@ module _ (g : Grammar) (es : List Edge) (src : Source) where
         go : (b : Bool) → eqb place last ≡ b → pick b (some w) none ≡ some w′ → (v : ℕ) × Covers [] place 0 at v × (w + v ≡ w′)
         go false e f = absurd (none≢some f)
         go true e f =
-            let n : w + 0 ≡ w′ = omega (arith, some-is f) in
+            let n : w + 0 ≡ w′ = omega (arith, Option·some-injective _ _ f) in
             (0, rw (eqb-true place last e) done, n)
     sound (suc m) place left [] w w′ at h = go (nodeFrom (g .rules) src at) h
       where

@@ -5,7 +5,7 @@
 use mathlib.Core.Path.{_≡_, refl, sym, ap, _∙_, subst}
 use mathlib.Core.Logic.{_↔_, ⊎-elim}
 use mathlib.Core.Bool.{Bool, true, false}
-use mathlib.Core.Option.{Option, none, some}
+use mathlib.Core.Option.{Option, none, some, Option·some-injective}
 use mathlib.Core.List.{List, [], _∷_, _++_, append-nil, append-assoc, List·Memᴰ·head, List·Memᴰ·tail, List·Memᴰ·cases-cons, List·Memᴰ·not-nil}
 use Prim.Native.Nat.{ℕ, zero, suc, _+_, _≤_, _<_}
 use native.Mathlib.Omega.{arith}
@@ -63,9 +63,6 @@ cost-in b x (candidate y d ∷ slot) {c} (h, a) m o =
     later : (candidate x c ∈ slot → costOf x slot ≡ some c) → candidate x c ∈ slot
         → pick (eqb (y .0) (x .0)) (pick (ltb d notHeard) (some d) none) (costOf x slot) ≡ some c
     later more n = rw (ne-eqb (y .0) (x .0) (λ e. omega (arith, ascending-least (suc (y .0)) slot a n))) (more n)
-
-some-is : {m n : ℕ} → some m ≡ some n → m ≡ n
-some-is e = cc
 
 -- the slots from place i on
 drop-cons-at : (u : Utterance) (i : ℕ) {slot : List Candidate} → At u i slot → drop i u ≡ slot ∷ drop (suc i) u
@@ -182,7 +179,7 @@ module _ (g : Grammar) (u : Utterance) where
   unfolding run step finished
   sound [] [] [] w w′ i e b h =
       let z : length u ≡ i = omega (arith, length-drop i u, ap length e) in
-      let n : w + 0 ≡ w′ = omega (arith, some-is h) in
+      let n : w + 0 ≡ w′ = omega (arith, Option·some-injective _ _ h) in
       (0, subst (λ j. Covers [] j [] 0) z done, n)
   sound [] [] (A ∷ heads) w w′ i e b h = absurd (none≢some h)
   sound [] (slot ∷ slots) heads w w′ i e b h = absurd (none≢some h)

@@ -12,15 +12,14 @@ use packing::format::RULES_LENGTH;
 use sheet_writer::write_sheet;
 ghost use mathlib.Core.Path.{_≡_};
 ghost use Prim.Native.Nat.{_*_, _≤_};
-ghost use Rattle.packing.specs.Conversion.{grammarToBlock, grammarToSheet, fitting, written, TurnsBack};
+ghost use Rattle.packing.specs.Conversion.{grammarToBlock, grammarToSheet, TurnsBack};
 ghost use Rattle.packing.specs.Store.{storeAll};
-ghost use Rattle.sheet_writer.specs.Answer.{writtenOf};
+ghost use Rattle.sheet_writer.specs.Answer.{Writes};
 ghost use Rattle.sheet_writer.specs.Arrays.{markedRow, markedRows};
 
 // The block of a grammar sheet.
 pub fn grammar_to_block(sheet: &[u32], out: &mut [u8]) -> Written
-    ensures { λ r. ⌜ (r ≡ writtenOf (fitting (grammarToBlock (now (sheet .entry))) (now (out .entry))))
-        × (now (out .exit) ≡ written (fitting (grammarToBlock (now (sheet .entry))) (now (out .entry))) (now (out .entry))) ⌝ }
+    ensures { λ r. ⌜ Writes (grammarToBlock (now (sheet .entry))) (now (out .entry)) r (now (out .exit)) ⌝ }
     ensures { λ r. ⌜ TurnsBack grammarToSheet (now (sheet .entry)) (λ n. r ≡ Written.Length n) (now (out .exit)) ⌝ }
 {
     let mut rules = [0u32; RULES_LENGTH];
@@ -49,25 +48,25 @@ fn join_rule(rules: &[u32], marks: &[u32], r: usize, joined: &mut [u32])
     arrays::store(joined, at, arrays::narrow_at(rules, from));
     arrays::store(
         joined,
-        at + 1,
+        at + format::RULE_HEAD_AT,
         arrays::narrow_at(rules, from + format::RULE_HEAD_AT),
     );
     arrays::store(
         joined,
-        at + 1 + 1,
+        at + format::RULE_WEIGHT_AT,
         arrays::narrow_at(rules, from + format::RULE_WEIGHT_AT),
     );
     arrays::store(
         joined,
-        at + 1 + 1 + 1,
+        at + format::RULE_FIRST_AT,
         arrays::narrow_at(rules, from + format::RULE_FIRST_AT),
     );
     arrays::store(
         joined,
-        at + 1 + 1 + 1 + 1,
+        at + format::RULE_SECOND_AT,
         arrays::narrow_at(rules, from + format::RULE_SECOND_AT),
     );
-    arrays::store(joined, at + 1 + 1 + 1 + 1 + 1, arrays::narrow_at(marks, r));
+    arrays::store(joined, at + NUMBERS_PER_RULE, arrays::narrow_at(marks, r));
 }
 
 // The numbers of n rules, each with its mark behind it.
@@ -84,8 +83,7 @@ fn join_marks(rules: &[u32], marks: &[u32], n: usize, joined: &mut [u32])
 
 // The sheet of a grammar block.
 pub fn grammar_to_sheet(block: &[u8], out: &mut [u32]) -> Written
-    ensures { λ r. ⌜ (r ≡ writtenOf (fitting (grammarToSheet (now (block .entry))) (now (out .entry))))
-        × (now (out .exit) ≡ written (fitting (grammarToSheet (now (block .entry))) (now (out .entry))) (now (out .entry))) ⌝ }
+    ensures { λ r. ⌜ Writes (grammarToSheet (now (block .entry))) (now (out .entry)) r (now (out .exit)) ⌝ }
     ensures { λ r. ⌜ TurnsBack grammarToBlock (now (block .entry)) (λ n. r ≡ Written.Length n) (now (out .exit)) ⌝ }
 {
     let mut rules = [0u32; RULES_LENGTH];

@@ -29,7 +29,7 @@ ghost use Rattle.packing.specs.Valid.{ValidGrammar};
 ghost use Rattle.phrases.specs.Enumeration.{firstPhrase, nextPhrase};
 ghost use Rattle.phrases.specs.Numbers.{scale, placed, lesser, Bytes};
 ghost use Rattle.grammar_reader.specs.Answer.{Bounded, sizes as sizesOf};
-ghost use Rattle.specimen.specs.Specimen.{answeredOf, outputOf};
+ghost use Rattle.specimen.specs.Specimen.{WritesString};
 ghost use Rattle.specimen.specs.Table.{fittedAt};
 ghost use Rattle.next_phrase.specs.NextPhrase.{next};
 ghost use Rattle.next_phrase.specs.Table.{
@@ -307,8 +307,8 @@ fn asked_of(first: u32, c: Cell) -> u64
 fn answer(rules: &[u32], sizes: Sizes, n: usize, first: u32, out: &mut [u8]) -> Answered
     requires { do ⌜ Bounded sizes × (0 < n) × (n ≤ (← ⟦MAX_LENGTH⟧)) × (n ≤ length (now out)) ⌝ }
     ensures { λ r. ⌜ ((g : Grammar) → sizes ≡ sizesOf g → ValidGrammar g → Begins (ruleNumbers g) (now (rules .entry))
-        → (r ≡ answeredOf (accepted (pick (eqb first 0) (nextPhrase g n (take n (now (out .entry)))) (firstPhrase g n))))
-        × (now (out .exit) ≡ outputOf (accepted (pick (eqb first 0) (nextPhrase g n (take n (now (out .entry)))) (firstPhrase g n))) (now (out .entry)))) ⌝ }
+        → WritesString (accepted (pick (eqb first 0) (nextPhrase g n (take n (now (out .entry)))) (firstPhrase g n))) (now (out .entry)) r
+        (now (out .exit))) ⌝ }
 {
     let mut table = [NO_STRING; TABLE_LENGTH];
     fill_table(&mut table, rules, sizes.rules as usize, &out[..n]);
@@ -324,8 +324,7 @@ fn answer(rules: &[u32], sizes: Sizes, n: usize, first: u32, out: &mut [u8]) -> 
 // The least word string of the wanted length that the grammar derives, and in a later call (`first` 0) the least above the one at the front of
 // the output; one word number a byte, at the front of the output.
 pub fn next_phrase(grammar: &[u8], wanted: u32, first: u32, out: &mut [u8]) -> Answered
-    ensures { λ r. ⌜ r ≡ answeredOf (next (now (grammar .entry)) wanted first (now (out .entry))) ⌝ }
-    ensures { λ r. ⌜ now (out .exit) ≡ outputOf (next (now (grammar .entry)) wanted first (now (out .entry))) (now (out .entry)) ⌝ }
+    ensures { λ r. ⌜ WritesString (next (now (grammar .entry)) wanted first (now (out .entry))) (now (out .entry)) r (now (out .exit)) ⌝ }
 {
     let mut rules = [0u32; RULES_LENGTH];
     let read = grammar_reader::read_block(grammar, &mut rules);

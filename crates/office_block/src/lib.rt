@@ -9,9 +9,8 @@ use packing::format::RULES_LENGTH;
 ghost use mathlib.Core.Path.{_≡_};
 ghost use Prim.Native.Nat.{_-_, _≤_};
 ghost use lib.ListN.{replicate};
-ghost use Rattle.packing.specs.Conversion.{fitting, written};
 ghost use Rattle.packing.specs.Store.{storeAll};
-ghost use Rattle.sheet_writer.specs.Answer.{writtenOf};
+ghost use Rattle.sheet_writer.specs.Answer.{Writes};
 ghost use Rattle.office_block.specs.Block.{officeToBlock};
 
 // The marks of helpers, from place `first` up to place n.
@@ -28,8 +27,7 @@ fn mark_helpers(marks: &mut [u32], first: usize, n: usize)
 
 // The block of an office sheet.
 pub fn office_to_block(sheet: &[u32], out: &mut [u8]) -> Written
-    ensures { λ r. ⌜ (r ≡ writtenOf (fitting (officeToBlock (now (sheet .entry))) (now (out .entry))))
-        × (now (out .exit) ≡ written (fitting (officeToBlock (now (sheet .entry))) (now (out .entry))) (now (out .entry))) ⌝ }
+    ensures { λ r. ⌜ Writes (officeToBlock (now (sheet .entry))) (now (out .entry)) r (now (out .exit)) ⌝ }
 {
     let mut rules = [0u32; RULES_LENGTH];
     match office_conversion::read_grammar(sheet, &mut rules) {

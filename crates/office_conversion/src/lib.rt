@@ -12,6 +12,10 @@ use packing::format::MAX_SYMBOLS;
 use packing::format::MAX_WORDS;
 use packing::format::NUMBERS_PER_RULE;
 use packing::format::PAIR_RULE;
+use packing::format::RULE_FIRST_AT;
+use packing::format::RULE_HEAD_AT;
+use packing::format::RULE_SECOND_AT;
+use packing::format::RULE_WEIGHT_AT;
 use packing::format::RULES_LENGTH;
 use packing::format::WORD_RULE;
 use packing::refused;
@@ -59,10 +63,10 @@ fn put_rule(rules: &mut [u32], r: usize, kind: u32, head: u32, weight: u32, firs
 {
     let at = NUMBERS_PER_RULE * r;
     arrays::store(rules, at, kind);
-    arrays::store(rules, at + 1, head);
-    arrays::store(rules, at + 1 + 1, weight);
-    arrays::store(rules, at + 1 + 1 + 1, first);
-    arrays::store(rules, at + 1 + 1 + 1 + 1, second);
+    arrays::store(rules, at + RULE_HEAD_AT, head);
+    arrays::store(rules, at + RULE_WEIGHT_AT, weight);
+    arrays::store(rules, at + RULE_FIRST_AT, first);
+    arrays::store(rules, at + RULE_SECOND_AT, second);
 }
 
 // The symbol of the item at place p of the sheet.

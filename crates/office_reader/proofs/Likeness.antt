@@ -1,6 +1,6 @@
 -- Rules and items at two places, compared number by number.
 use mathlib.Core.Path.{_≡_, refl, sym, ap, _∙_}
-use mathlib.Core.Bool.{Bool, true, false, _&&_}
+use mathlib.Core.Bool.{Bool, true, false, _&&_, and-false}
 use mathlib.Core.List.{List, [], _∷_}
 use Prim.Native.Nat.{ℕ, suc, _+_, _-_, _*_, _≤_, _<_}
 use native.Mathlib.Omega.{arith}
@@ -70,10 +70,6 @@ lengths-unlike (x ∷ l) (y ∷ m) f = go (itemAlike x y) (lengths-unlike l m (�
     go true e = e
     go false e = refl
 
-and-false : (b : Bool) → (b && false) ≡ false
-and-false true = refl
-and-false false = refl
-
 module _ (s : List ℕ) (p q : ℕ) where
   pub heads-differ : (getD s p 0 ≡ getD s q 0 → ⊥) → false ≡ ruleAlike (officeRuleAt s p) (officeRuleAt s q)
   unfolding ruleAlike
@@ -84,7 +80,7 @@ module _ (s : List ℕ) (p q : ℕ) where
   counts-differ f =
       let z = lengths-unlike (itemsAt s (p + 3) (countAt s p)) (itemsAt s (q + 3) (countAt s q))
       (λ e. f (sym (length-items s (p + 3) (countAt s p)) ∙ e ∙ length-items s (q + 3) (countAt s q))) in
-      rw z (sym (and-false (eqb (getD s p 0) (getD s q 0))))
+      rw (z, and-false)
 
   pub heads-same : {r : Bool} {n : ℕ} → getD s p 0 ≡ getD s q 0 → n ≡ countAt s p → n ≡ countAt s q
       → r ≡ itemsAlike (itemsAt s (p + 3) n) (itemsAt s (q + 3) n) → r ≡ ruleAlike (officeRuleAt s p) (officeRuleAt s q)

@@ -1,5 +1,6 @@
 -- The specimen as a function that can be run: what is asked for (Conditions), and then the first of the enumeration of phrases. Nobody need believe
 -- this page: phrases' theorems say that this is the least phrase of its length.
+use mathlib.Core.Path.{_≡_}
 use mathlib.Core.Option.{Option, none, some}
 use mathlib.Core.List.{List, _++_}
 use Prim.Native.Nat.{ℕ}
@@ -25,3 +26,7 @@ abbrev pub outputOf : Verdict (Option (List ℕ)) → List ℕ → List ℕ
 outputOf (refused m) out = out
 outputOf (accepted none) out = out
 outputOf (accepted (some s)) out = s ++ drop (length s) out
+
+-- both, of what is due and the output before
+abbrev pub WritesString : Verdict (Option (List ℕ)) → (before : List ℕ) → A.Answered → (after : List ℕ) → Type 0
+WritesString due before r after = (r ≡ answeredOf due) × (after ≡ outputOf due before)

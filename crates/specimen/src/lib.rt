@@ -23,7 +23,7 @@ ghost use Rattle.packing.specs.Valid.{ValidGrammar};
 ghost use Rattle.phrases.specs.Enumeration.{firstPhrase};
 ghost use Rattle.phrases.specs.Recursion.{cellOf};
 ghost use Rattle.grammar_reader.specs.Answer.{Bounded, sizes as sizesOf};
-ghost use Rattle.specimen.specs.Specimen.{specimen, answeredOf, outputOf};
+ghost use Rattle.specimen.specs.Specimen.{specimen, WritesString};
 ghost use Rattle.specimen.specs.Table.{fitted, lesserSplit, lesserPair, lesserRule, leastOfCell, fillTable};
 
 // What the specimen answers: that the string was written, that there is none, or the refusal.
@@ -154,7 +154,7 @@ fn fill_table(table: &mut [u8], rules: &[u32], count: usize, n: usize)
 fn answer(rules: &[u32], sizes: Sizes, n: usize, out: &mut [u8]) -> Answered
     requires { do ⌜ Bounded sizes × (0 < n) × (n ≤ (← ⟦MAX_SLOTS⟧)) × (n ≤ length (now out)) ⌝ }
     ensures { λ r. ⌜ ((g : Grammar) → sizes ≡ sizesOf g → ValidGrammar g → Begins (ruleNumbers g) (now (rules .entry))
-        → (r ≡ answeredOf (accepted (firstPhrase g n))) × (now (out .exit) ≡ outputOf (accepted (firstPhrase g n)) (now (out .entry)))) ⌝ }
+        → WritesString (accepted (firstPhrase g n)) (now (out .entry)) r (now (out .exit))) ⌝ }
 {
     let mut table = [0u8; TABLE_LENGTH];
     fill_table(&mut table, rules, sizes.rules as usize, n);
@@ -169,8 +169,7 @@ fn answer(rules: &[u32], sizes: Sizes, n: usize, out: &mut [u8]) -> Answered
 
 // The least word string of the wanted length that the grammar derives, one word number a byte, at the front of the output.
 pub fn specimen(grammar: &[u8], wanted: u32, out: &mut [u8]) -> Answered
-    ensures { λ r. ⌜ r ≡ answeredOf (specimen (now (grammar .entry)) wanted (length (now (out .entry)))) ⌝ }
-    ensures { λ r. ⌜ now (out .exit) ≡ outputOf (specimen (now (grammar .entry)) wanted (length (now (out .entry)))) (now (out .entry)) ⌝ }
+    ensures { λ r. ⌜ WritesString (specimen (now (grammar .entry)) wanted (length (now (out .entry)))) (now (out .entry)) r (now (out .exit)) ⌝ }
 {
     let mut rules = [0u32; RULES_LENGTH];
     let read = grammar_reader::read_block(grammar, &mut rules);

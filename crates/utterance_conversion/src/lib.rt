@@ -9,8 +9,8 @@ use utterance_reader::UtteranceRead;
 use utterance_writer::write_utterance;
 ghost use mathlib.Core.Path.{_≡_};
 ghost use Prim.Native.Nat.{_≤_};
-ghost use Rattle.packing.specs.Conversion.{utteranceToBlock, utteranceToSheet, fitting, written, blockUnder, sheetUnder, TurnsBack};
-ghost use Rattle.sheet_writer.specs.Answer.{writtenOf, Writes};
+ghost use Rattle.packing.specs.Conversion.{utteranceToBlock, utteranceToSheet, blockUnder, sheetUnder, TurnsBack};
+ghost use Rattle.sheet_writer.specs.Answer.{Writes};
 
 // The block of an utterance sheet under a grammar of `words` words.
 fn sheet_to_block(words: u32, sheet: &[u32], out: &mut [u8]) -> Written
@@ -41,8 +41,7 @@ fn block_to_sheet(words: u32, block: &[u8], out: &mut [u32]) -> Written
 
 // The block of an utterance sheet under a grammar.
 pub fn utterance_to_block(grammar: &[u8], sheet: &[u32], out: &mut [u8]) -> Written
-    ensures { λ r. ⌜ (r ≡ writtenOf (fitting (utteranceToBlock (now (grammar .entry)) (now (sheet .entry))) (now (out .entry))))
-        × (now (out .exit) ≡ written (fitting (utteranceToBlock (now (grammar .entry)) (now (sheet .entry))) (now (out .entry))) (now (out .entry))) ⌝ }
+    ensures { λ r. ⌜ Writes (utteranceToBlock (now (grammar .entry)) (now (sheet .entry))) (now (out .entry)) r (now (out .exit)) ⌝ }
     ensures { λ r. ⌜ TurnsBack (utteranceToSheet (now (grammar .entry))) (now (sheet .entry)) (λ n. r ≡ Written.Length n) (now (out .exit)) ⌝ }
 {
     let mut rules = [0u32; RULES_LENGTH];
@@ -54,8 +53,7 @@ pub fn utterance_to_block(grammar: &[u8], sheet: &[u32], out: &mut [u8]) -> Writ
 
 // The sheet of an utterance block under a grammar.
 pub fn utterance_to_sheet(grammar: &[u8], block: &[u8], out: &mut [u32]) -> Written
-    ensures { λ r. ⌜ (r ≡ writtenOf (fitting (utteranceToSheet (now (grammar .entry)) (now (block .entry))) (now (out .entry))))
-        × (now (out .exit) ≡ written (fitting (utteranceToSheet (now (grammar .entry)) (now (block .entry))) (now (out .entry))) (now (out .entry))) ⌝ }
+    ensures { λ r. ⌜ Writes (utteranceToSheet (now (grammar .entry)) (now (block .entry))) (now (out .entry)) r (now (out .exit)) ⌝ }
     ensures { λ r. ⌜ TurnsBack (utteranceToBlock (now (grammar .entry))) (now (block .entry)) (λ n. r ≡ Written.Length n) (now (out .exit)) ⌝ }
 {
     let mut rules = [0u32; RULES_LENGTH];
