@@ -2,6 +2,7 @@
 // table cleared.
 pub mod steps;
 
+use chart_clearing::clear;
 use chart_index::INDEX_NUMBERS;
 use chart_index::make_index;
 use chart_keys::WEIGHT_UNIT;
@@ -9,7 +10,6 @@ use chart_search::search;
 use chart_table::ENTRY_NUMBERS;
 use chart_table::Layout;
 use chart_table::cell_number;
-use chart_table::clearing::clear;
 use chart_table::first_missing;
 use chart_table::price_at;
 use chart_table::root;

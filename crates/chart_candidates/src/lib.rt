@@ -1,7 +1,4 @@
 // The candidates for a rank of a cell that follow none, leaves and seeds, and the key of a pairing.
-pub mod leaves;
-pub mod seeds;
-
 use chart_keys::BackPointer;
 use chart_keys::Key;
 use chart_keys::back_number;

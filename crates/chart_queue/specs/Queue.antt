@@ -10,7 +10,7 @@ use Rattle.chart_keys.specs.declared.BackPointer.{BackPointer}
 use Rattle.chart_keys.specs.Keys.{backPointer, keyUnit, keyOf, noKey}
 use Rattle.chart_table.specs.declared.Layout.{Layout}
 use Rattle.chart_table.specs.Table.{entryOf, backAt, besideAt, putBeside, putKey}
-use Rattle.chart_table.specs.Journal.{keepFour}
+use Rattle.chart_journal.specs.Journal.{keepFour}
 
 -- a leaf, or first with first: a candidate that follows none
 abbrev pub isInitial : BackPointer → Bool

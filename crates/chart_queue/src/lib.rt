@@ -2,6 +2,8 @@
 // how many. A cell is given by its number. There is no room for a candidate's back pointer: it is given by a tag, the rank that
 // was the last found when the candidate was met, and how its back pointer comes from that rank's. Of the candidates that follow
 // none at most one is queued; its back pointer stands beside the first rank.
+use chart_journal::Places;
+use chart_journal::keep_four;
 use chart_keys::BackPointer;
 use chart_keys::Key;
 use chart_keys::back_pointer;
@@ -12,8 +14,6 @@ use chart_table::Layout;
 use chart_table::back_at;
 use chart_table::beside_at;
 use chart_table::entry_of;
-use chart_table::journal::Places;
-use chart_table::journal::keep_four;
 use chart_table::put_beside;
 use chart_table::put_key;
 ghost use mathlib.Core.Path.{_≡_};

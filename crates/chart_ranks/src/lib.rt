@@ -1,7 +1,6 @@
 // One rank of a cell written into the work table, from what the table has of it and of its parts.
 mod selection;
 
-use chart_candidates::seeds::first_seeds;
 use chart_keys::BackPointer;
 use chart_keys::Key;
 use chart_keys::PRICES;
@@ -10,6 +9,7 @@ use chart_keys::before;
 use chart_keys::no_key;
 use chart_masks::mark;
 use chart_queue::extract_min;
+use chart_seeds::first_seeds;
 use chart_table::Cell;
 use chart_table::Layout;
 use chart_table::Part;

@@ -2,14 +2,14 @@
 use crate::Found;
 use arrays::rule_at;
 use chart_candidates::Range;
-use chart_candidates::leaves::leaves;
 use chart_candidates::pair_key;
-use chart_candidates::seeds::seeds;
 use chart_keys::Key;
 use chart_keys::lesser;
 use chart_keys::no_key;
 use chart_keys::with_ranks;
+use chart_leaves::leaves;
 use chart_queue::is_initial;
+use chart_seeds::seeds;
 use chart_table::Cell;
 use chart_table::Layout;
 use chart_table::left_part;

@@ -1,8 +1,8 @@
 // The search: the ranked trees of every cell, found one after another in a lent work table.
 use arrays::rule_at;
-use chart_candidates::leaves::first_leaf;
 use chart_keys::BackPointer;
 use chart_keys::back_pointer;
+use chart_leaves::first_leaf;
 use chart_masks::MASKS;
 use chart_masks::heads_over;
 use chart_masks::live_heads;

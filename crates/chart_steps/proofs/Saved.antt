@@ -9,7 +9,7 @@ use native.Mathlib.Nat.{le-refl}
 use lib.ListN.{length, getD, set, replicate, length-set, length-replicate, getD-replicate}
 use lib.Seq.{getD-set-same, getD-set-other}
 use borrow.Author.Tests.{lt-ltb}
-use Rattle.chart_table.specs.Journal.{keptAt, keepEntry, restoreEntry, restoreAll, putBack}
+use Rattle.chart_journal.specs.Journal.{keptAt, keepEntry, restoreEntry, restoreAll, putBack}
 
 -- an entry as it was: where it starts, and its four numbers
 pub record Saved : Type 0 where

@@ -17,7 +17,7 @@ use Rattle.chart_keys.specs.declared.BackPointer.{BackPointer}
 use Rattle.chart_table.specs.declared.Cell.{Cell}
 use Rattle.chart_table.specs.declared.Layout.{Layout}
 use Rattle.chart_table.specs.Table.{leftPart, rightPart, root, cellNumber, entryOf, priceAt}
-use Rattle.chart_table.specs.Journal.{keepFour, putBack}
+use Rattle.chart_journal.specs.Journal.{keepFour, putBack}
 use Rattle.chart_queue.specs.Queue.{queueLength, leastPlace, keepWritten, keepMin}
 use Rattle.chart_ranks.specs.Ranks.{nextRank}
 use Rattle.chart_search.specs.Search.{

@@ -1,8 +1,6 @@
--- Bounds of the layout, neighbouring cells, zeros, and the journal.
+-- Bounds of the layout, neighbouring cells, and zeros.
 pub mod Cells
 pub mod Places
 pub mod Zeros
 pub mod Keys
-pub mod Clear
 pub mod Missing
-pub mod Kept

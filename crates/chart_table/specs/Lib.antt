@@ -1,3 +1,2 @@
 -- The work table.
 pub mod Table
-pub mod Journal

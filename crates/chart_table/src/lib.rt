@@ -1,7 +1,4 @@
 // The work table's cells and entries. Reads past its end give 0, and stores there do nothing.
-pub mod clearing;
-pub mod journal;
-
 use arrays::narrow_at;
 use arrays::number_at;
 use arrays::store;
@@ -33,7 +30,6 @@ ghost use Rattle.chart_table.specs.Table.{
   besideAt,
   putBeside,
   putFound,
-  lastRank,
   putLastRank,
   putKey,
   firstMissing,
@@ -207,14 +203,6 @@ fn put_found(t: &mut [u32], d: Layout, c: usize, rank: usize, key: Key)
         (beside * PRICE_HIGH + key.price / NUMBERS) as u32,
     );
     store(t, at + 2, (key.back % NUMBERS) as u32);
-}
-
-// The last rank found of a cell, which stands beside the first.
-fn last_rank(t: &[u32], d: Layout, c: usize) -> usize
-    requires { ⌜ (Sized d) × (c < cellBound) ⌝ }
-    ensures { λ r. ⌜ (r ≡ lastRank (now (t .entry)) d c) × (r < counts) ⌝ }
-{
-    beside_at(t, d, c, 0) / COUNTS % COUNTS
 }
 
 // A rank is found, and is the last one unless one behind it was.

@@ -3,4 +3,3 @@ pub mod Read
 pub mod Accepted
 pub mod Refusals
 pub mod Marked
-pub mod Examples

@@ -10,7 +10,7 @@ use Rattle.office_theory.specs.Derivations.{OfficeTree, heard, ruled, pa
 use Rattle.office.specs.Conversion.{convert, marks}
 use Rattle.office_theory.specs.Maps.{unlessMarked, reduced, leftOf, rightOf, helperNumber, expandedBy, toGrammar, toOffice}
 use Rattle.office_theory.specs.Matching.{withoutMarked}
-use Rattle.office.proofs.Examples.{desk}
+use Rattle.office_theory.proofs.Sheets.{desk}
 
 desk-within : OfficeWithin desk
 desk-within = omega arith

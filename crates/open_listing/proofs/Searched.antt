@@ -10,7 +10,7 @@ use lib.Seq.{length-take-le, take-at, drop-at}
 use Rattle.bits.specs.Bits.{pick}
 use Rattle.chart_index.specs.Index.{indexNumbers}
 use Rattle.chart_index.specs.Build.{makeIndex}
-use Rattle.chart_table.specs.Journal.{putBack}
+use Rattle.chart_journal.specs.Journal.{putBack}
 use Rattle.chart_search.specs.Search.{nextOfRoot, keepOfRoot}
 use Rattle.chart.specs.Chart.{enumerate, rootFound}
 use Rattle.chart_theory.proofs.Plane.{single}

@@ -2,9 +2,9 @@
 // many ranks as can be listed.
 use chart::steps;
 use chart_index::INDEX_NUMBERS;
+use chart_journal::JOURNAL_NUMBERS;
 use chart_table::Layout;
 use chart_table::MOST_RANKS;
-use chart_table::journal::JOURNAL_NUMBERS;
 use chart_table::zero;
 use chart_trace::checked::Scope;
 use inputs::Inputs;

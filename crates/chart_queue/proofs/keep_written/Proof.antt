@@ -5,7 +5,7 @@ use Prim.Native.Nat.{ℕ}
 use native.Mathlib.Omega.{arith}
 use lib.ListN.{length}
 use Rattle.chart_table.specs.declared.Layout.{Layout}
-use Rattle.chart_table.specs.Journal.{keepEntry, keepFour}
+use Rattle.chart_journal.specs.Journal.{keepEntry, keepFour}
 use Rattle.chart_queue.specs.Queue.{keepWritten}
 use borrow.Author.Needs.{needs}
 use Rattle.chart_queue.proofs.keep_written.Statement.{statement}
