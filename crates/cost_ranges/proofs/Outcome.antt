@@ -29,9 +29,9 @@ use Rattle.inputs.proofs.Outcome.{rules-begin, edges-begin}
 use Rattle.inputs.proofs.Slots as I
 use Rattle.chart_table.specs.declared.Layout.{Layout}
 use Rattle.chart.specs.Chart.{layOut}
-use Rattle.chart.specs.WorkTable.{tableSize, workAfter}
+use Rattle.chart.specs.WorkTable.{tableSize}
 use Rattle.cost_ranges.specs.Conditions.{rangesConditions, askedRanges}
-use Rattle.cost_ranges.specs.CostRanges.{answered, ranged, ranges, rangedOf, Meant}
+use Rattle.cost_ranges.specs.CostRanges.{answered, ranged, ranges, Meant}
 use Rattle.cost_ranges.specs.Model.{bothRise, passed, leftBy, Promised, AlikeRanged, EdgesRanged, LowRanged}
 use Rattle.one_best.specs.declared.Pass.{Pass}
 use Rattle.cost_ranges.specs.declared.Ranged.{Ranged}
@@ -142,16 +142,12 @@ module _ (grammar low high work : List ℕ) where
 
   -- what is due is what is meant
   pub meant : {r : Ranged} {work′ : List ℕ} → Promised (ranges grammar low high (length work)) work r work′
-      → (r ≡ rangedOf (ranges grammar low high (length work)))
-      × ((work′ ≡ workAfter (ranges grammar low high (length work)) work) × Meant grammar low high work (λ a. r ≡ answered a) work′)
+      → Promised (ranges grammar low high (length work)) work r work′ × Meant grammar low high work (λ a. r ≡ answered a) work′
   unfolding ranges ranged rangesConditions
   meant due = (
-    due .0,
-    (
-      due .1,
-      λ g eg u eu v ev risen room.
-          let is : ranges grammar low high (length work) ≡ accepted (answer g u v) = rw (eg, eu, ev, risen, le-ltb _ _ room) in
-          let due′ = rw is at due in
-          (answer g u v, due′ .0, answer-sound g u v risen, due′ .1),
-    ),
+    due,
+    λ g eg u eu v ev risen room.
+        let is : ranges grammar low high (length work) ≡ accepted (answer g u v) = rw (eg, eu, ev, risen, le-ltb _ _ room) in
+        let due′ = rw is at due in
+        (answer g u v, due′ .0, answer-sound g u v risen, due′ .1),
   )

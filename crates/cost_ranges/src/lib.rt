@@ -26,8 +26,7 @@ ghost use lib.ListN.{length, take};
 ghost use Rattle.packing.specs.Flat.{ruleAt, nodeBy, nodesIn};
 ghost use Rattle.cost_changes.specs.Ranges.{costRises};
 ghost use Rattle.grammar_reader.specs.Answer.{Bounded};
-ghost use Rattle.chart.specs.WorkTable.{workAfter};
-ghost use Rattle.cost_ranges.specs.CostRanges.{answered, ranges, rangedOf, Meant};
+ghost use Rattle.cost_ranges.specs.CostRanges.{answered, ranges, Meant};
 ghost use Rattle.one_best.specs.Model.{Passable, tableBy, weightBy};
 ghost use Rattle.cost_ranges.specs.Model.{
   edgeRises,
@@ -43,6 +42,7 @@ ghost use Rattle.cost_ranges.specs.Model.{
   bothRise,
   AlikeRanged,
   EdgesRanged,
+  Promised,
   LowRanged,
 };
 
@@ -286,9 +286,8 @@ fn ranges_high(
 // The least and the greatest first weight over all choices of costs between the blocks, and whether the first reading for the low costs is
 // outweighed under some choice, with a work table that is all zeros afterwards.
 pub fn cost_ranges(grammar: &[u8], low: &[u8], high: &[u8], work: &mut [u32]) -> Ranged
-    ensures { λ r. ⌜ r ≡ rangedOf (ranges (now (grammar .entry)) (now (low .entry)) (now (high .entry)) (length (now (work .entry)))) ⌝ }
-    ensures { λ r. ⌜ now (work .exit) ≡ workAfter (ranges (now (grammar .entry)) (now (low .entry)) (now (high .entry)) (length (now (work .entry))))
-        (now (work .entry)) ⌝ }
+    ensures { λ r. ⌜ Promised (ranges (now (grammar .entry)) (now (low .entry)) (now (high .entry)) (length (now (work .entry)))) (now (work .entry)) r
+        (now (work .exit)) ⌝ }
     ensures { λ r. ⌜ Meant (now (grammar .entry)) (now (low .entry)) (now (high .entry)) (now (work .entry)) (λ a. r ≡ answered a) (now (work .exit)) ⌝ }
 {
     let mut rules = [0u32; RULES_LENGTH];

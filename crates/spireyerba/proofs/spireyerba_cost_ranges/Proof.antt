@@ -24,7 +24,7 @@ refusal-requires c κs =
     let at-cost-ranges = c .before .before .before .before .before in
     let at-args = at-cost-ranges .before .before .before .before .before .before in
     let a = at-args .args in
-    ranged-small (a .grammar .now) (a .low .now) (a .high .now) (a .work .now) (at-cost-ranges .cost-ranges .ensures .0) (c .before .answer3 .given .1)
+    ranged-small (a .grammar .now) (a .low .now) (a .high .now) (a .work .now) (at-cost-ranges .cost-ranges .ensures .0 .0) (c .before .answer3 .given .1)
 
 same-length : tie.Need-same-length
 same-length c = search needs
@@ -34,8 +34,8 @@ returns c =
     let a = c .before .before .before .before .before .before .before .before .before .before .args in
     let e = c .before .before .before .before .cost-ranges .ensures in
     let told = c .enum-told .given .1 in
-    let code = ranged-code (a .grammar .now) (a .low .now) (a .high .now) (a .work .now) (e .0) told in
-    ranges-told (a .grammar .now) (a .low .now) (a .high .now) (a .work .now) (e .0) told (a .least .now) (a .greatest .now) code (e .1 .0)
+    let code = ranged-code (a .grammar .now) (a .low .now) (a .high .now) (a .work .now) (e .0 .0) told in
+    ranges-told (a .grammar .now) (a .low .now) (a .high .now) (a .work .now) (e .0 .0) told (a .least .now) (a .greatest .now) code (e .0 .1)
 
 same-length-2 : tie.Need-same-length-2
 same-length-2 c = search needs
@@ -45,8 +45,8 @@ returns-2 c =
     let a = c .before .before .before .before .before .before .before .before .before .before .before .args in
     let e = c .before .before .before .before .before .cost-ranges .ensures in
     let told = c .before .answer .given .1 in
-    let code = ranged-code (a .grammar .now) (a .low .now) (a .high .now) (a .work .now) (e .0) told in
-    ranges-told (a .grammar .now) (a .low .now) (a .high .now) (a .work .now) (e .0) told (a .least .now) (a .greatest .now) code (e .1 .0)
+    let code = ranged-code (a .grammar .now) (a .low .now) (a .high .now) (a .work .now) (e .0 .0) told in
+    ranges-told (a .grammar .now) (a .low .now) (a .high .now) (a .work .now) (e .0 .0) told (a .least .now) (a .greatest .now) code (e .0 .1)
 
 same-length-3 : tie.Need-same-length-3
 same-length-3 c = search needs
@@ -56,8 +56,8 @@ returns-3 c =
     let a = c .before .before .before .before .before .before .before .before .before .before .before .args in
     let e = c .before .before .before .before .before .cost-ranges .ensures in
     let told = c .before .answer2 .given .1 in
-    let code = ranged-code (a .grammar .now) (a .low .now) (a .high .now) (a .work .now) (e .0) told in
-    ranges-told (a .grammar .now) (a .low .now) (a .high .now) (a .work .now) (e .0) told (a .least .now) (a .greatest .now) code (e .1 .0)
+    let code = ranged-code (a .grammar .now) (a .low .now) (a .high .now) (a .work .now) (e .0 .0) told in
+    ranges-told (a .grammar .now) (a .low .now) (a .high .now) (a .work .now) (e .0 .0) told (a .least .now) (a .greatest .now) code (e .0 .1)
 
 same-length-4 : tie.Need-same-length-4
 same-length-4 c = search needs
@@ -67,8 +67,8 @@ returns-4 c =
     let a = c .before .before .before .before .before .before .before .before .before .before .before .before .args in
     let e = c .before .before .before .before .before .before .cost-ranges .ensures in
     let told = c .before .before .answer3 .given .1 in
-    let code = ranged-number (a .grammar .now) (a .low .now) (a .high .now) (a .work .now) (e .0) told (c .refusal .ensures) in
-    ranges-told (a .grammar .now) (a .low .now) (a .high .now) (a .work .now) (e .0) told (a .least .now) (a .greatest .now) code (e .1 .0)
+    let code = ranged-number (a .grammar .now) (a .low .now) (a .high .now) (a .work .now) (e .0 .0) told (c .refusal .ensures) in
+    ranges-told (a .grammar .now) (a .low .now) (a .high .now) (a .work .now) (e .0 .0) told (a .least .now) (a .greatest .now) code (e .0 .1)
 
 pub spireyerba-cost-ranges-spec : {M : Type 1} → statement M
 spireyerba-cost-ranges-spec =
