@@ -68,13 +68,9 @@ fn element_text(Element { atom, times }: &Element) -> String {
     }
 }
 
-/// Some rules, of which each symbol has one of a word alone. No body may be left out whole, nothing is repeated that may be left out,
-/// and no rules of one symbol alone go round in a circle.
-pub fn rules(rng: &mut Rng) -> Vec<Rule> {
-    rules_of(rng, |_| true)
-}
-
-/// The same, without those rules that are not to stand beside the ones before them, such as one that becomes the same as another.
+/// Some rules, of which each symbol has one of a word alone, without those that are not to stand beside the ones before them, such as
+/// one that becomes the same as another. No body may be left out whole, nothing is repeated that may be left out, and no rules of
+/// one symbol alone go round in a circle.
 pub fn rules_of(rng: &mut Rng, mut can_stand: impl FnMut(&[Rule]) -> bool) -> Vec<Rule> {
     let mut rules = word_rules(rng);
     for _ in 0..rng.within(1..=5) {
