@@ -28,12 +28,12 @@ A grammar: rules with a head, an arrow, and a body of symbols and quoted words.
   Entry   -> Name Details | Name Leaf [30]   # alternatives; a rule's weight in brackets, or 0
   Number  -> Tens Units [5]
            | \"twenty\" [10]                   # more alternatives of the head before
-  Details -> Leaf \"fire\"?120 Minutes Side? # what may be left out, and what its absence costs
-  Leaf    -> (\"oak\" | \"steel\" [5]) Paint*  # one of several; any number, Paint+ for one or more
+  Details -> Leaf \"fire\"?120 Minutes Side?   # what may be left out, and what its absence costs
+  Leaf    -> (\"oak\" | \"steel\" [5]) Paint*   # one of several; any number, Paint+ for one or more
   Tens    -> Round [2]                       # a symbol alone: its rules, with weights added
-  Units   -> \"four\" => \"4\"               # what it becomes; $1 is the first part of a body, $2 the second
+  Units   -> \"four\" => \"4\"                  # what it becomes; $1 is the first part of a body, $2 the second
 
-The first head is the start, and each symbol has a rule. Rules, symbols and words are numbered as they are met; lines
+The first head is the start, and each symbol has a rule; `?`, `+` and `*` stand right behind their part. Rules, symbols and words are numbered as they are met; lines
 `symbols Entry Name ..` and `words \"door\" \"twenty\" ..` before them give other numbers. At most 32 symbols, 200 words,
 256 rules, weight 65535, 24 parts of a body. A word in a body of several items, and each item between the first and the
 last, takes a symbol and a rule more, those of helpers, which no answer shows; what may be left out, chosen or repeated
@@ -62,10 +62,13 @@ A word graph, where an utterance may stand: an edge a line, from place to place.
 
 A lattice in HTK's standard format (SLF) is a word graph too, whose scores become costs by --scale X:
 
-  VERSION=1.0                                # also lmscale=, acscale=, wdpenalty=, base=, start=, end=
-  I=0 t=0.00                                 # nodes; a word may stand on a link or on the node where it ends
+  # also lmscale=, acscale=, wdpenalty=, base=, start=, end=
+  VERSION=1.0
+  # nodes; a word may stand on a link or on the node where it ends
+  I=0 t=0.00
   I=1 t=0.31
-  J=0 S=0 E=1 W=door a=-0.03 l=-0.01         # links; nothing is said on one with !NULL, <s>, </s> or no word
+  # links; nothing is said on one with !NULL, <s>, </s> or no word
+  J=0 S=0 E=1 W=door a=-0.03 l=-0.01
 
 Other formats of recognisers stand where an utterance may too, told by what is in them, or by --format NAME:
 
@@ -88,6 +91,11 @@ A reading: its weight, and the rule number of each node, a node before its left 
 
 Under longer bodies it has the rules of the text; the nodes of helpers may be left out. Where parts may be left out,
 chosen or repeated, 2.3 is the third of the rules that rule 2 becomes.
+
+Sentences, to which `test` holds a grammar: one a line, derived or not, the first reading's weight and what it becomes.
+
+  + door twenty four oak [5] => \"24 oak\"
+  - door door                                # not derived
 
 Shares: a whole number from 1 to 1024 for each rule of the grammar's text, in their order.
 

@@ -89,9 +89,8 @@ fn an_office_whose_grammar_is_too_large() {
     let eight = NamedGrammar::parse(&(text(8) + "A -> \"x\"")).unwrap();
     assert_eq!((eight.grammar.symbols, eight.own_symbols(), eight.own_rules()), (10, 1, 9));
     let message = "1:6: refused 56: the grammar needs 62 symbols and 32 fit: 1 yours, 1 for words in bodies of several items, \
-                   60 joints; most is added for line 1 (4), line 17 (4), line 33 (4). One symbol for all words that may stand in \
-                   a place, as in Metal -> \"steel\" | \"zinc\", takes one in place of one for each, and shorter bodies take \
-                   fewer joints";
+                   60 joints; most is added for line 1 (4), line 17 (4), line 33 (4). A head of its own for the end of a long \
+                   body, as in Entry -> Name Rest, takes one in place of a joint for each way to take that end";
     expect(NamedGrammar::parse(&(text(64) + "A -> \"x\"")), "many symbols", message);
     // 16 symbols and 16 helpers, one for each word; 241 rules and those of the helpers
     let words: String = (0..16).map(|word| format!("A -> A \"w{word}\"\n")).collect();

@@ -68,27 +68,75 @@ fn element_text(Element { atom, times }: &Element) -> String {
     }
 }
 
-/// Some rules over three symbols and three words, of which each symbol has one of a word alone.
-pub fn rules(rng: &mut Rng) -> Vec<Rule> {
-    let mut rules: Vec<Rule> = (0..SYMBOLS).map(|head| word_rule(rng, head)).collect();
-    for _ in 0..rng.within(1..=4) {
-        let head = rng.within(0..=SYMBOLS - 1);
-        let length = rng.within(1..=3);
-        let body = body(rng, length, 2);
-        let weight = rng.within(0..=9);
-        let translation = rng.once_in(2).then(|| translation(rng, &body));
-        rules.push(Rule { head, weight, body, translation });
+/// Some rules, of which each symbol has one of a word alone, without those that are not to stand beside the ones before them, such as
+/// one that becomes the same as another. No body may be left out whole, nothing is repeated that may be left out, and no rules of
+/// one symbol alone go round in a circle.
+pub fn rules_of(rng: &mut Rng, mut can_stand: impl FnMut(&[Rule]) -> bool) -> Vec<Rule> {
+    let mut rules = word_rules(rng);
+    for _ in 0..rng.within(1..=5) {
+        let mut rule = any_rule(rng);
+        let is_unsound = least(&rule.body) == 0 || alone(&rule.body).iter().any(|symbol| *symbol <= rule.head);
+        if is_unsound || repeats_nothing(&rule.body) {
+            rule.body.retain(|element| !repeats_nothing(std::slice::from_ref(element)));
+            let at = rng.below(rule.body.len() + 1);
+            rule.body.insert(at, word(rng));
+            rule.translation = None;
+        }
+        rules.push(rule);
+        if !can_stand(&rules) {
+            rules.pop();
+        }
     }
     rng.shuffle(&mut rules);
     rules
 }
 
-const SYMBOLS: u32 = 3;
-const WORDS: u32 = 3;
+/// A rule of a word alone for each symbol.
+pub fn word_rules(rng: &mut Rng) -> Vec<Rule> {
+    (0..SYMBOLS)
+        .map(|head| Rule { head, weight: rng.within(0..=9), body: vec![word(rng)], translation: None })
+        .collect()
+}
 
-fn word_rule(rng: &mut Rng, head: u32) -> Rule {
-    let word = Element { atom: Atom::Word(rng.within(0..=WORDS - 1)), times: Times::Once };
-    Rule { head, weight: rng.within(0..=9), body: vec![word], translation: None }
+/// Any rule.
+pub fn any_rule(rng: &mut Rng) -> Rule {
+    let (head, length) = (rng.within(0..=SYMBOLS - 1), rng.within(1..=3));
+    let body = body(rng, length, 2);
+    let weight = rng.within(0..=9);
+    let translation = rng.once_in(2).then(|| translation(rng, &body));
+    Rule { head, weight, body, translation }
+}
+
+/// The numbers of symbols and of words that random rules have.
+pub const SYMBOLS: u32 = 3;
+pub const WORDS: u32 = 5;
+
+fn word(rng: &mut Rng) -> Element {
+    Element { atom: Atom::Word(rng.within(0..=WORDS - 1)), times: Times::Once }
+}
+
+/// The symbols that a body can be alone, where all else in it is left out.
+pub fn alone(body: &[Element]) -> Vec<u32> {
+    let others = |at: usize| body.iter().enumerate().filter(move |(other, _)| *other != at);
+    let can_be = (0..body.len()).filter(|at| others(*at).all(|(_, element)| element.least() == 0));
+    let symbols = can_be.flat_map(|at| match &body[at].atom {
+        Atom::Symbol(symbol) => vec![*symbol],
+        Atom::Word(_) => Vec::new(),
+        Atom::Group(choices) => choices.iter().flat_map(|(body, _)| alone(body)).collect(),
+    });
+    symbols.collect()
+}
+
+/// Whether something is repeated in a body that may be left out.
+pub fn repeats_nothing(body: &[Element]) -> bool {
+    body.iter().any(|Element { atom, times }| match atom {
+        Atom::Group(choices) => {
+            let may_be_empty = choices.iter().any(|(body, _)| least(body) == 0);
+            let is_repeated = matches!(times, Times::Plus | Times::Star);
+            is_repeated && may_be_empty || choices.iter().any(|(body, _)| repeats_nothing(body))
+        }
+        _ => false,
+    })
 }
 
 /// Some of a body's parts, in any order.
@@ -125,7 +173,7 @@ fn choice(rng: &mut Rng, depth: u32) -> (Vec<Element>, u32) {
 }
 
 /// The least number of words of a body.
-fn least(body: &[Element]) -> usize {
+pub fn least(body: &[Element]) -> usize {
     body.iter().map(Element::least).sum()
 }
 

@@ -4,7 +4,9 @@
 use spireyerba::text::NamedGrammar;
 use spireyerba::{Candidate, Error, Refusal, Tree, Utterance};
 use spireyerba_tests::compare::over_seeds;
-use spireyerba_tests::notation::{rules, text, translation_of, Derivations};
+use spireyerba_tests::notation::{
+    alone, any_rule, least, repeats_nothing, rules_of, text, translation_of, word_rules, Derivations, Rule, WORDS,
+};
 use spireyerba_tests::seeded::rng::Rng;
 use std::collections::BTreeMap;
 
@@ -61,7 +63,7 @@ fn as_named(tree: &Tree) -> String {
 fn strings(rng: &mut Rng, named: &NamedGrammar) -> Vec<Vec<u32>> {
     let one = |rng: &mut Rng| {
         let length = rng.within(1..=5);
-        (0..length).map(|_| rng.within(0..=2)).collect()
+        (0..length).map(|_| rng.within(0..=WORDS - 1)).collect()
     };
     let number = |word: &u32| named.word(*word)[1..].parse().expect("a number");
     let phrases = (1..=5).flat_map(|length| named.grammar.phrases(length).expect("a length").take(8));
@@ -69,40 +71,80 @@ fn strings(rng: &mut Rng, named: &NamedGrammar) -> Vec<Vec<u32>> {
     derived.chain((0..4).map(|_| one(rng))).collect()
 }
 
+/// So many texts are accepted, and the trees that are compared in all are at least so many.
+const TEXTS: u64 = 2_000;
+const TREES: usize = 40_000;
+
 #[test]
 fn derivations_are_those_of_the_notation() {
-    let (mut trees, mut read, mut refused) = (0, 0, BTreeMap::<Option<u32>, u32>::new());
-    over_seeds(0..3_000, |rng| {
-        let rules = rules(rng);
+    let (mut trees, mut written_out, [mut tried, mut refused]) = (0, 0, [0, 0]);
+    over_seeds(0..TEXTS, |rng| {
+        let rules = rules_of(rng, |rules| {
+            tried += 1;
+            let error = NamedGrammar::parse(&text(rules)).err();
+            refused += usize::from(error.is_some());
+            error.is_none_or(|error| {
+                // two alike, or too much room
+                let known = [Refusal::GrammarRepeat, Refusal::OfficeSize];
+                assert!(error.refusal().is_some_and(|refusal| known.contains(&refusal)), "{error}\n{}", text(rules));
+                false
+            })
+        });
         let text = text(&rules);
-        let named = match NamedGrammar::parse(&text) {
-            Ok(named) => named,
-            Err(error) => {
-                *refused.entry(error.number()).or_default() += 1;
-                return;
-            }
-        };
+        let named = NamedGrammar::parse(&text).expect("rules in another order");
         assert_eq!(NamedGrammar::parse(&named.to_text()).as_ref(), Ok(&named), "{text}");
-        read += 1;
+        written_out += usize::from(named.is_written_out());
         for words in strings(rng, &named) {
-            let Some(numbers) = words_of(&named, &words) else { continue };
-            let Some(listed) = listed(&named, &numbers) else { continue };
-            let start: u32 = named.symbol(0)[1..].parse().expect("a number");
-            let found = Derivations { rules: &rules, words: &words }.of_symbol(start, [0, words.len()]);
-            let sorted = |mut list: Vec<(String, u32, String)>| {
-                list.sort();
-                list
-            };
-            let of_list = listed.iter().map(|(weight, tree)| (renamed(&named, tree), *weight, named.translation(tree)));
-            let of_notation = found.iter().map(|tree| (as_named(tree), sum(tree), translation_of(&rules, tree)));
-            assert_eq!(sorted(of_list.collect()), sorted(of_notation.collect()), "{text}\n{words:?}");
-            trees += found.len();
+            trees += compared(&named, &rules, &words, &text);
         }
     });
-    assert!(trees > 10_000 && read > 600, "{trees} trees by {read} texts");
-    // a circle or a part that may be empty has no number; two alike have 6, and what is too large has 56
-    let known = [None, Some(Refusal::GrammarRepeat.number()), Some(Refusal::OfficeSize.number())];
-    assert!(refused.keys().all(|number| known.contains(number)), "{refused:?}");
+    assert!(trees >= TREES && refused * 3 < tried, "{trees} trees; {refused} of {tried} rules were refused");
+    assert!(written_out * 3 > TEXTS as usize * 2, "{written_out} texts with notation");
+}
+
+/// Compares the derivations of words by a text with those of its rules taken as they stand; answers how many there are.
+fn compared(named: &NamedGrammar, rules: &[Rule], words: &[u32], text: &str) -> usize {
+    let Some(listed) = words_of(named, words).and_then(|numbers| listed(named, &numbers)) else { return 0 };
+    let start: u32 = named.symbol(0)[1..].parse().expect("a number");
+    let found = Derivations { rules, words }.of_symbol(start, [0, words.len()]);
+    let sorted = |mut list: Vec<(String, u32, String)>| {
+        list.sort();
+        list
+    };
+    let of_list = listed.iter().map(|(weight, tree)| (renamed(named, tree), *weight, named.translation(tree)));
+    let of_notation = found.iter().map(|tree| (as_named(tree), sum(tree), translation_of(rules, tree)));
+    assert_eq!(sorted(of_list.collect()), sorted(of_notation.collect()), "{text}\n{words:?}");
+    found.len()
+}
+
+/// What cannot be derived from is refused, for what it is, and nothing else is: a rule of which every part may be left out, one that
+/// repeats what may be left out, and one that is its own head alone.
+#[test]
+fn rules_without_a_meaning_are_refused() {
+    let mut counts = BTreeMap::<&str, u32>::new();
+    over_seeds(0..5_000, |rng| {
+        let mut rules = word_rules(rng);
+        let rule = any_rule(rng);
+        let expected = match &rule.body {
+            body if repeats_nothing(body) => "what is repeated may be left out",
+            body if least(body) == 0 => "every part of this may be left out",
+            body if alone(body).contains(&rule.head) => "go round in a circle",
+            _ => "",
+        };
+        rules.push(rule);
+        let text = text(&rules);
+        match (NamedGrammar::parse(&text), expected) {
+            (Ok(_), "") => *counts.entry("accepted").or_default() += 1,
+            // two alike, or too much room, which may be found before
+            (Err(error), _) if error.refusal().is_some() => {}
+            (read, expected) => {
+                *counts.entry(expected).or_default() += 1;
+                let message = read.map(drop).expect_err(&text).to_string();
+                assert!(message.contains(expected), "{expected}: {message}\n{text}");
+            }
+        }
+    });
+    assert!(counts.len() == 4 && counts.values().all(|count| *count > 100), "{counts:?}");
 }
 
 /// Texts with notation, and the same written out by hand: a rule for each way to take a body, and symbols for what is repeated.

@@ -70,7 +70,10 @@ fn too_long(file: &GrammarFile, shortest: &[Option<u32>]) -> Vec<u32> {
         return Vec::new();
     }
     let beside = words_beside(grammar, shortest);
-    let is_explained = |rule: &Rule| beside[rule.head as usize].is_none() || body_length(rule, shortest).is_none();
+    // where even the shortest string of the head is too long, the rules above it say so
+    let has_room = |head: usize| Some(beside[head]? + shortest[head]? <= MAX_SLOTS);
+    let is_explained =
+        |rule: &Rule| !has_room(rule.head as usize).unwrap_or(false) || body_length(rule, shortest).is_none();
     let [used, explained] = [used_rules(grammar, shortest), grammar.rules.iter().map(is_explained).collect()]
         .map(|some| in_text(file, &some));
     (0..named.own_rules()).filter(|&rule| !used[rule as usize] && !explained[rule as usize]).collect()

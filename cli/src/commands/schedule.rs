@@ -227,3 +227,42 @@ fn first_node(tree: &Tree, symbol: u32) -> Option<&Tree> {
         Part::Tree(tree) => first_node(tree, symbol),
     })
 }
+
+#[cfg(test)]
+mod tests {
+    use super::*;
+
+    /// What stands in damaged lists of columns.
+    const PIECES: [&str; 9] = ["Number", "Leaf", ",", "", " ", "leaf", "Nubmer", "\u{301}", "\"--"];
+
+    /// Any list of columns is answered with symbols, or refused with a message.
+    #[test]
+    fn damaged_columns() {
+        let text = "Entry -> Number Leaf\nNumber -> \"four\"\nLeaf -> \"oak\"";
+        let (named, places) = spireyerba::text::NamedGrammar::parse_with_places(text).expect("a grammar");
+        let packed = named.packed().expect("a grammar");
+        let grammar = GrammarFile { name: "g".into(), named, packed, places: Some(places) };
+        let (mut taken, mut refused) = (0, 0);
+        for mut number in 0..PIECES.len().pow(5) {
+            let mut list = String::from("--columns=");
+            while number > 0 {
+                list += PIECES[number % PIECES.len()];
+                number /= PIECES.len();
+            }
+            let words = ["g", "u", &list].map(str::to_owned);
+            let arguments = Arguments::parse(&COMMAND, &words).expect("an option");
+            match columns(&arguments, &grammar) {
+                Ok(columns) => {
+                    taken += 1;
+                    let names: Vec<&str> = columns.iter().map(|symbol| grammar.named.symbol(*symbol)).collect();
+                    assert_eq!(names.join(","), list["--columns=".len()..].replace(' ', ""));
+                }
+                Err(failure) => {
+                    refused += 1;
+                    assert!(failure.message().starts_with("--columns: "), "{list}");
+                }
+            }
+        }
+        assert!(taken > 100 && refused > 10_000, "{taken} taken, {refused} refused");
+    }
+}

@@ -152,8 +152,8 @@ fn mistakes() {
         (
             "large",
             "1:6: refused 56: the grammar needs 62 symbols and 32 fit: 1 yours, 1 for words in bodies of several items, 60 \
-             joints; most is added for line 1 (4), line 17 (4), line 33 (4). One symbol for all words that may stand in a place, \
-             as in Metal -> \"steel\" | \"zinc\", takes one in place of one for each, and shorter bodies take fewer joints",
+             joints; most is added for line 1 (4), line 17 (4), line 33 (4). A head of its own for the end of a long body, \
+             as in Entry -> Name Rest, takes one in place of a joint for each way to take that end",
         ),
         ("twice", "2:6: refused 6: the same rule stands in line 1"),
     ] {

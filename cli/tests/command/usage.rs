@@ -79,6 +79,45 @@ fn examples_of_the_help_run() {
     }
 }
 
+/// What stands in the help about texts with a title before it is read as such.
+#[test]
+fn examples_of_the_texts_are_read() {
+    let help = answer("help texts");
+    let example = |title: &str| {
+        let (_, behind) = help.split_once(title).unwrap_or_else(|| panic!("{title} in\n{help}"));
+        let lines = behind.lines().skip_while(|line| !line.starts_with("  ")).take_while(|line| line.starts_with("  "));
+        lines.map(|line| format!("{line}\n")).collect::<String>()
+    };
+    let rest =
+        "Name -> \"door\" Number\nMinutes -> \"thirty\"\nSide -> \"left\"\nPaint -> \"white\"\nRound -> \"forty\"\n";
+    let grammar = example("A grammar:") + rest;
+    let words =
+        "A -> A A | \"door\" | \"four\" | \"twenty\" => \"2\" | \"forty\" | \"oak\" | \"new york\" | \"newark\"\n";
+    let sentences =
+        "Entry -> \"door\" Number Leaf [5] => \"$2 $3\"\nNumber -> \"twenty\" \"four\" => \"24\"\nLeaf -> \"oak\"\n";
+    let folder = copied_doors("help_texts");
+    for (name, text) in [("g", grammar.as_str()), ("w", words), ("sg", sentences)] {
+        std::fs::write(folder.join(name), text).expect("a file");
+    }
+    assert_eq!(answer_in(&folder, "lint g").lines().count(), 1);
+    for (words, title, shown) in [
+        ("list w - -n 1", "An utterance:", "1  16  door new york\n"),
+        ("list w - -n 1 --scale 100", "A confusion network as SRILM writes it", "1  16  door twenty\n"),
+        ("list w - -n 1", "A word graph, where", "1  28  door forty\n"),
+        ("list w - -n 1 --scale 100", "A lattice in HTK's standard format", "1  4  door\n"),
+        ("test sg -", "Sentences, to which", "<stdin>: 2 passed\n"),
+    ] {
+        assert_eq!(answer_with(&folder, words, example(title).as_bytes()), shown, "{title}");
+    }
+    let readings = example("A reading:");
+    for (line, heard) in readings.lines().zip(["utterance.txt", "../../doors_graph/graph.txt"]) {
+        let folder = if heard.starts_with("..") { doors() } else { folder.clone() };
+        let heard = heard.replace("../../", "../");
+        let passes = answer_with(&folder, &format!("check grammar.txt {heard} -"), line.as_bytes());
+        assert!(passes.starts_with("passes: "), "{line}");
+    }
+}
+
 /// Holds what the command says of wrong usage to messages: its words, which command it is, and what is wrong.
 fn expect_usage(rows: &[(&str, &str, &str)]) {
     for (words, command, message) in rows {

@@ -127,11 +127,17 @@ impl Display for Room {
                 self.dearest.iter().map(|(line, count)| format!("line {line} ({count})")).collect();
             write!(formatter, "; most is added for {}", lines.join(", "))?;
         }
+        let [_, _, words, joints] = self.symbols;
         match symbols > MAX_SYMBOLS {
+            true if joints > words => write!(
+                formatter,
+                ". A head of its own for the end of a long body, as in Entry -> Name Rest, takes one in place of a joint for each way \
+                 to take that end"
+            ),
             true => write!(
                 formatter,
                 ". One symbol for all words that may stand in a place, as in Metal -> \"steel\" | \"zinc\", takes one in place of \
-                 one for each, and shorter bodies take fewer joints"
+                 one for each"
             ),
             false => write!(
                 formatter,
