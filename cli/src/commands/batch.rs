@@ -51,7 +51,7 @@ place or slot where they end, and what could follow there.
 A name without blanks and a tab may stand before what was heard: the name comes back as \"id\". Where a number alone
 follows the tab, such as a cost, it is a blank like any other.
 Lattices stand in files of their own: --files names a list of them, one a line, also with a name and a tab before it. A file
-in HTK's format or of Kaldi's may be FILE itself, and one in another with --format. Each lattice is an answer, with its own
+in HTK's format, of Kaldi's or of JSON may be FILE itself, and one in another with --format. Each lattice is an answer, with its own
 name as \"id\", or the line's, or the file's; \"complete_up_to\" says that it was pruned and up to which weight every reading
 is there, and \"dropped\" has the words that --drop-unknown left out.
 With --resume a run that was interrupted goes on: no line, and no lattice of a file, is answered twice or left out.",

@@ -182,6 +182,9 @@ fn lattices_are_rows() {
         "4,none,,,none: No such file or directory (os error 2)",
     ];
     assert_eq!((run.status, run.out), (0, rows.map(|row| format!("{row}\r\n")).concat()));
+    // a file of JSON is no file of lines
+    let json = answer_in(&formats, "schedule grammar.txt google.json --columns Number --scale 100");
+    assert!(json.starts_with("line,Number,weight,note\r\n1,twenty four,94,") && json.lines().count() == 2, "{json}");
     let both = refused(run_in(&formats, "schedule grammar.txt kaldi.txt --files list --columns Number"), 2);
     assert!(both.contains("--files and FILE: only one of them"), "{both}");
     let neither = refused(run_in(&formats, "schedule grammar.txt --columns Number"), 2);

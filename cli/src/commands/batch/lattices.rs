@@ -45,11 +45,11 @@ pub fn named<'a>(arguments: &Arguments<'a>) -> Result<(&'a str, bool), Failure> 
 }
 
 /// Whether a text is lattices and not utterances, one a line: the command line says so, or its front is a lattice in HTK's
-/// format, one of Kaldi's, or a confusion network.
+/// format, one of Kaldi's, a confusion network, or JSON.
 pub fn are_lattices(text: &str, format: Option<Format>) -> bool {
     match format {
         Some(format) => !matches!(format, Format::Slots | Format::Graph),
-        None => matches!(Format::of(text), Format::Slf | Format::Kaldi | Format::Network),
+        None => matches!(Format::of(text), Format::Slf | Format::Kaldi | Format::Network | Format::Json),
     }
 }
 
