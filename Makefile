@@ -49,6 +49,7 @@ test:
 bench:
 	rt staticlib spireyerba
 	cargo build --profile bench --locked --package spireyerba-cli
+	if command -v python3 >/dev/null; then $(MAKE) -s libraries && PYTHONPATH=python python3 python/bench.py; fi
 	cargo run --profile bench --locked --package spireyerba-bench
 
 clean:

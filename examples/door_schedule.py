@@ -27,6 +27,5 @@ for name in sys.argv[3:]:
     if not readings:
         print(f"{name}: no reading", file=sys.stderr)
         continue
-    tree = readings[0].tree
-    margin = readings[-1].weight - readings[0].weight  # by how much the next one is dearer
+    tree, margin = readings[0].tree, readings[-1].weight - readings[0].weight  # by how much the next one is dearer
     print(*(next((node.sentence for node in tree.find(column)), "") for column in COLUMNS), margin, sep="\t")

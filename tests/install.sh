@@ -196,7 +196,11 @@ part bash -n "$prefix/share/bash-completion/completions/spireyerba"
 with zsh zsh -n "$prefix/share/zsh/site-functions/_spireyerba"
 with fish fish -n "$prefix/share/fish/vendor_completions.d/spireyerba.fish"
 with python3 python_lists
-if command -v man >/dev/null && command -v python3 >/dev/null; then with pkg-config readme_lines; fi
+if command -v man >/dev/null && command -v python3 >/dev/null; then
+    with pkg-config readme_lines
+else
+    echo 'passed over, since there is no man or no python3: readme_lines'
+fi
 part is_taken_away
 echo "$passed passed, $failed failed"
 [ "$failed" -eq 0 ]

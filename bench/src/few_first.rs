@@ -72,17 +72,22 @@ impl Stream {
         self.kept(number)
     }
 
-    /// The median time for each that was heard, all of them in turn in each round.
-    fn times(&mut self, rounds: usize, call: Call) -> Vec<Duration> {
-        let mut samples = vec![Vec::new(); self.heard.len()];
-        for _ in 0..rounds {
-            for (number, samples) in samples.iter_mut().enumerate() {
-                let begin = thread_time();
-                call(self, number);
-                samples.push(thread_time() - begin);
-            }
-        }
-        samples.into_iter().map(median).collect()
+    /// The times for each that was heard, all of them in turn.
+    fn times(&mut self, call: Call) -> Vec<Duration> {
+        let count = self.heard.len();
+        let timed = |number| {
+            let begin = thread_time();
+            call(self, number);
+            thread_time() - begin
+        };
+        (0..count).map(timed).collect()
+    }
+
+    /// The median times for each that was heard, by some calls that come in turn in each round.
+    fn medians<const COUNT: usize>(&mut self, rounds: usize, calls: [Call; COUNT]) -> Vec<[Duration; COUNT]> {
+        let rounds: Vec<[Vec<Duration>; COUNT]> = (0..rounds).map(|_| calls.map(|call| self.times(call))).collect();
+        let of = |call: usize, number: usize| median(rounds.iter().map(|round| round[call][number]).collect());
+        (0..self.heard.len()).map(|number| std::array::from_fn(|call| of(call, number))).collect()
     }
 }
 
@@ -94,23 +99,30 @@ struct Heard {
 
 /// Prints the times of one call for all and of a lister, both with memory that is kept, then both with new memory.
 pub fn print_table() {
-    print_head(
-        "256 readings wanted",
-        &["n", "heard", "readings", "at once", "lister", "ratio", "new", "new lister", "ratio"],
-    );
+    let columns = ["stream", "n", "heard", "readings", "at once", "lister", "ratio", "new", "new lister", "ratio"];
+    print_head("256 readings wanted", &columns);
     for streams in [office::streams_of_slots, office::streams_of_graphs] {
-        [6, 12, 24].iter().for_each(|&length| print_streams(&streams(length, UTTERANCES), (ROUNDS, NEW_ROUNDS)));
+        [6, 12, 24].iter().for_each(|&length| print_streams(&streams(length, UTTERANCES)));
     }
     let dense = [greatest(6), greatest(12), greatest(24)].into_iter().chain(shapes()).chain(graphs());
-    office::doors().into_iter().chain(dense).for_each(|input| print_streams(&[vec![input]], DENSE_ROUNDS));
+    for input in office::doors().into_iter().chain(dense) {
+        print_heard("alone", &input, &measured(std::slice::from_ref(&input), DENSE_ROUNDS));
+    }
 }
 
-/// A row for those that have few readings, and one for the others.
-fn print_streams(streams: &[Vec<Input>], rounds: (usize, usize)) {
-    let heard = streams.iter().flat_map(|inputs| measured(inputs, rounds));
-    let (few, more): (Vec<Heard>, Vec<Heard>) = heard.partition(|heard| heard.readings < FEW);
-    let input = &streams[0][0];
-    [few, more].iter().filter(|heard| !heard.is_empty()).for_each(|heard| print_heard(input, heard));
+/// A row for what has few readings where nothing else is heard; then as it comes: one for what has few, and one for the others.
+fn print_streams(streams: &[Vec<Input>]) {
+    let measured = |inputs: &[Input]| measured(inputs, (ROUNDS, NEW_ROUNDS));
+    let has_few = |input: &&Input| Stream::new(std::slice::from_ref(*input)).at_once(0) < FEW;
+    let few_alone = streams.iter().map(|inputs| inputs.iter().filter(has_few).cloned().collect::<Vec<Input>>());
+    let alone: Vec<Heard> = few_alone.filter(|few| !few.is_empty()).flat_map(|few| measured(&few)).collect();
+    let (few, more) =
+        streams.iter().flat_map(|inputs| measured(inputs)).partition(|heard: &Heard| heard.readings < FEW);
+    for (stream, heard) in [("few", alone), ("mixed", few), ("mixed", more)] {
+        if !heard.is_empty() {
+            print_heard(stream, &streams[0][0], &heard);
+        }
+    }
 }
 
 fn measured(inputs: &[Input], (rounds, new_rounds): (usize, usize)) -> Vec<Heard> {
@@ -118,19 +130,15 @@ fn measured(inputs: &[Input], (rounds, new_rounds): (usize, usize)) -> Vec<Heard
     let readings: Vec<usize> = (0..inputs.len()).map(|number| stream.at_once(number)).collect();
     let listed = (0..inputs.len()).map(|number| stream.kept(number));
     assert!(listed.eq(readings.iter().copied()), "{}: the lists differ", inputs[0].name);
-    let calls: [(usize, Call); 4] = [
-        (rounds, Stream::at_once),
-        (rounds, Stream::kept),
-        (new_rounds, Stream::new_at_once),
-        (new_rounds, Stream::new_lister),
-    ];
-    let times = calls.map(|(rounds, call)| stream.times(rounds, call));
-    let of_number = |(number, readings)| Heard { readings, times: times.each_ref().map(|times| times[number]) };
-    readings.into_iter().enumerate().map(of_number).collect()
+    let kept = stream.medians(rounds, [Stream::at_once, Stream::kept]);
+    let new = stream.medians(new_rounds, [Stream::new_at_once, Stream::new_lister]);
+    let times =
+        kept.into_iter().zip(new).map(|([at_once, lister], [new, new_lister])| [at_once, lister, new, new_lister]);
+    readings.into_iter().zip(times).map(|(readings, times)| Heard { readings, times }).collect()
 }
 
 /// A row of means, and of the median number of readings.
-fn print_heard(input: &Input, heard: &[Heard]) {
+fn print_heard(stream: &str, input: &Input, heard: &[Heard]) {
     let mut readings: Vec<usize> = heard.iter().map(|heard| heard.readings).collect();
     readings.sort_unstable();
     let mean = |call: usize| heard.iter().map(|heard| heard.times[call]).sum::<Duration>() / heard.len() as u32;
@@ -138,5 +146,5 @@ fn print_heard(input: &Input, heard: &[Heard]) {
     let sizes = [input.heard.longest(), heard.len(), readings[readings.len() / 2]].map(|number| number.to_string());
     let kept = [micros(at_once), micros(lister), ratio(lister, at_once)];
     let of_new = [micros(new), micros(new_lister), ratio(new_lister, new)];
-    print_row(input.name, &[&sizes[..], &kept, &of_new].concat());
+    print_row(input.name, &[&[stream.to_owned()][..], &sizes, &kept, &of_new].concat());
 }
