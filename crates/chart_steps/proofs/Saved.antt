@@ -5,11 +5,10 @@ use mathlib.Core.Logic.{_⊎_, inl, inr}
 use mathlib.Core.List.{List, [], _∷_}
 use Prim.Native.Nat.{ℕ, suc, _+_, _*_, _/_, _%_, _≤_, _<_}
 use native.Mathlib.Omega.{arith}
-use native.Mathlib.Nat.{le-refl}
 use lib.ListN.{length, getD, set, replicate, length-set, length-replicate, getD-replicate}
 use lib.Seq.{getD-set-same, getD-set-other}
 use borrow.Author.Tests.{lt-ltb}
-use Rattle.chart_journal.specs.Journal.{keptAt, keepEntry, restoreEntry, restoreAll, putBack}
+use Rattle.chart_journal.specs.Journal.{mostKept, keptAt, keepEntry, restoreEntry, restoreAll, putBack}
 
 -- an entry as it was: where it starts, and its four numbers
 pub record Saved : Type 0 where
@@ -45,7 +44,7 @@ AllStand k (s ∷ l) = Stands k (keptAt (length l)) s × AllStand k l
 
 -- a journal with room for all holds a list
 pub record Kept (k : List ℕ) (l : List Saved) : Type 0 where
-  pub room : 1129 ≤ length k
+  pub room : keptAt mostKept ≤ length k
   pub count : getD k 0 0 ≡ length l
   pub stand : AllStand k l
 
@@ -147,14 +146,14 @@ module _ (k : List ℕ) (p n : ℕ) (s : Saved) (some : 1 ≤ p) (room : p + 6 �
       (all-stand-set k l p (s .at % 4294967296) (inr (omega arith)) a))))))
 
 -- an entry is kept
-pub kept-more : (t k : List ℕ) (l : List Saved) (at : ℕ) → Kept k l → length l < 188 → Kept (keepEntry t k at) (saved t at ∷ l)
+pub kept-more : (t k : List ℕ) (l : List Saved) (at : ℕ) → Kept k l → length l < mostKept → Kept (keepEntry t k at) (saved t at ∷ l)
 unfolding keepEntry
 kept-more t k l at kept few =
     let p = keptAt (length l) in
     let n = length l + 1 in
     let room : p + 6 ≤ length k = omega (arith, kept .room) in
     let some : 1 ≤ p = omega arith in
-    rw (kept .count, lt-ltb (length l) 188 few) (record {
+    rw (kept .count, lt-ltb (length l) mostKept few) (record {
       room = rw (put-size k p n (saved t at) some room) (kept .room);
       count = put-count k p n (saved t at) some room ∙ omega arith;
       stand = (put-stands k p n (saved t at) some room, put-others k p n (saved t at) some room l (omega arith) (kept .stand));
@@ -184,5 +183,5 @@ pub put-back : (k : List ℕ) (l : List Saved) (t : List ℕ) → Kept k l → p
 put-back k l t kept = rw (kept .count) (all-restored k l t (kept .stand))
 
 -- an empty journal
-pub kept-none : Kept (replicate 1129 0) []
-kept-none = record { room = rw length-replicate (le-refl 1129); count = getD-replicate 1129 0 0 0 (omega arith); stand = tt }
+pub kept-none : {room : ℕ} → keptAt mostKept ≤ room → Kept (replicate room 0) []
+kept-none {room} h = record { room = rw length-replicate h; count = getD-replicate room 0 0 0 (omega arith); stand = tt }

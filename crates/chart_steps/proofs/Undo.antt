@@ -17,7 +17,7 @@ use Rattle.chart_keys.specs.declared.BackPointer.{BackPointer}
 use Rattle.chart_table.specs.declared.Cell.{Cell}
 use Rattle.chart_table.specs.declared.Layout.{Layout}
 use Rattle.chart_table.specs.Table.{leftPart, rightPart, root, cellNumber, entryOf, priceAt}
-use Rattle.chart_journal.specs.Journal.{keepFour, putBack}
+use Rattle.chart_journal.specs.Journal.{mostKept, keptAt, keepFour, putBack}
 use Rattle.chart_queue.specs.Queue.{queueLength, leastPlace, keepWritten, keepMin}
 use Rattle.chart_ranks.specs.Ranks.{nextRank}
 use Rattle.chart_search.specs.Search.{
@@ -47,7 +47,7 @@ pub record Undone (n : ℕ) (t : List ℕ) (l : List Saved) (u j : List ℕ) : T
   pub back : undo list u ≡ undo l t
 
 abbrev pub Undoes : (n : ℕ) (t k u j : List ℕ) → Type 0
-Undoes n t k u j = (l : List Saved) → Kept k l → length l + n ≤ 188 → Undone n t l u j
+Undoes n t k u j = (l : List Saved) → Kept k l → length l + n ≤ mostKept → Undone n t l u j
 
 undoes-refl : (n : ℕ) (t k : List ℕ) → Undoes n t k t k
 undoes-refl n t k l kept room = record { list = l; kept = kept; few = omega arith; back = refl }
@@ -166,9 +166,10 @@ module _ (rules edges index : List ℕ) (d : Layout) where
       go true = undoes-refl (4 * most (root d)) t k
       go false = extend-undone rules d _ _ (span-undone (d .places)) t k (root d) (x + 1) some (omega arith)
 
-  -- what was written over in the search for a further rank of the root, put back from a journal that was empty
-  pub search-undone : (t : List ℕ) (x : ℕ) → 0 < d .places → d .places ≤ 24
-      → putBack (keepOfRoot rules edges index d t (replicate 1129 0) x) (nextOfRoot rules edges index d t x) ≡ t
-  search-undone t x some few =
-      let undone = root-undone t (replicate 1129 0) x some [] kept-none (omega arith) in
+  -- what was written over in the search for a further rank of the root, put back from a journal that was empty and has room for what is kept
+  -- of a path over all places
+  pub search-undone : (t : List ℕ) (x room : ℕ) → 0 < d .places → 4 * most (root d) ≤ mostKept → keptAt mostKept ≤ room
+      → putBack (keepOfRoot rules edges index d t (replicate room 0) x) (nextOfRoot rules edges index d t x) ≡ t
+  search-undone t x room some few enough =
+      let undone = root-undone t (replicate room 0) x some [] (kept-none enough) (omega arith) in
       put-back _ (undone .list) _ (undone .kept) ∙ undone .back

@@ -43,7 +43,7 @@ fn cost_of(slots: &[u32], start: usize, count: usize, word: Word) -> Found
 
 // A word rule: the next slot is taken, if it offers the word.
 fn word_step(slots: &[u32], at: Progress, word: Word, weight: u32) -> Step
-    requires { ⌜ (1 ≤ at .height) × Within at ⌝ }
+    requires { ⌜ (1 ≤ at .height) × Within (at .left) at ⌝ }
     ensures { λ r. ⌜ ((stack : List ℕ) → stateOf (now (slots .entry)) stack r
         ≡ leafStep (slotsOf (now (slots .entry)) (at .left - 1) (behind (now (slots .entry)) (at .place)))
         (headsOf stack (at .height - 1)) (at .weight + weight) (costOf word (slotAt (now (slots .entry)) (at .place)))) × Further at r ⌝ }
@@ -70,7 +70,7 @@ fn follow(
     at: Progress,
     r: usize,
 ) -> Step
-    requires { do ⌜ (r < 2 ^ 32) × Within at × ((← ⟦MAX_PARTS⟧) ≤ length (now stack)) ⌝ }
+    requires { ⌜ (r < 2 ^ 32) × Within (length (now stack)) at ⌝ }
     ensures { λ s. ⌜ (stateOf (now (slots .entry)) (now (stack .exit)) s
         ≡ step (rulesOf (now (rules .entry)) count) (stateOf (now (slots .entry)) (now (stack .entry)) (Step.Onward at)) r)
         × Further at s ⌝ }

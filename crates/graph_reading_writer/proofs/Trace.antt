@@ -2,7 +2,6 @@
 use mathlib.Core.Path.{_≡_, refl, ap, _∙_}
 use mathlib.Core.List.{List, [], _++_, append-assoc, map-append}
 use Prim.Native.Nat.{ℕ, suc, _+_, _-_, _*_, _≤_, _<_}
-use native.Mathlib.Nat.{mul-le-mul}
 use native.Mathlib.Omega.{arith}
 use lib.ListN.{length, take, drop, getD, replicate, length-append, length-replicate, length-drop}
 use lib.Seq.{drop-cons, getD-drop}
@@ -22,9 +21,6 @@ use Rattle.packing.specs.Flat.{ruleAt, nodeBy, nodesIn}
 use Rattle.packing.specs.GraphReading.{nodeEntries, traceEntries, graphReadingEntries, blockOfGraphReading, padded}
 use Rattle.packing.proofs.Zeros.{zeros-drop, zeros-below}
 use Rattle.graph_reading_writer.specs.Answer.{graphReadingOf, nodeFields}
-
-pub walk-small : {m w : ℕ} → m ≤ 47 → w ≤ 8 → m * w ≤ 376
-walk-small h k = mul-le-mul h k
 
 -- a node's fields are its entries'
 node-flds : (R : ℕ) (x : Node) → flds (nodeEntries R x) ≡ nodeFields (widthOf (R - 1)) x

@@ -64,7 +64,7 @@ fn edge_step(
     weight: u32,
     edge: usize,
 ) -> Step
-    requires { ⌜ (1 ≤ at .height) × Within at × (edge < 2 ^ 32) ⌝ }
+    requires { ⌜ (1 ≤ at .height) × Within (at .left) at × (edge < 2 ^ 32) ⌝ }
     ensures { λ r. ⌜ ((stack : List ℕ) → standing stack r
         ≡ edgeStep word (at .place) (at .left - 1) (headsOf stack (at .height - 1)) (at .weight + weight) (getElem? (edgesOf (now (edges .entry)) count) edge))
         × Further at r ⌝ }
@@ -91,7 +91,7 @@ fn follow(
     at: Progress,
     node: Node,
 ) -> Step
-    requires { do ⌜ (node .rule < 2 ^ 32) × (node .edge < 2 ^ 32) × Within at × ((← ⟦MAX_PARTS⟧) ≤ length (now stack)) ⌝ }
+    requires { ⌜ (node .rule < 2 ^ 32) × (node .edge < 2 ^ 32) × Within (length (now stack)) at ⌝ }
     ensures { λ s. ⌜ (standing (now (stack .exit)) s
         ≡ step (rulesOf (now (rules .entry)) count) (edgesOf (now (edges .entry)) (graph .edges)) (standing (now (stack .entry)) (Step.Onward at))
         (nodeBy (ruleAt (now (rules .entry)) (node .rule)) (node .rule) (node .edge))) × Further at s ⌝ }

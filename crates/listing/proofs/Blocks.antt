@@ -8,13 +8,11 @@ use lib.ListN.{length, take, getD, length-map}
 use lib.Seq.{take-suc, take-length}
 use Rattle.packing.specs.Meaning.{Grammar, Heard, lastPlace}
 use Rattle.packing.specs.Loop.{iter}
-use Rattle.packing.specs.Valid.{ValidHeard}
 use Rattle.derivation.specs.Derivation.{At}
 use Rattle.derivation.specs.Heard.{packed}
 use Rattle.derivation.specs.HeardList.{leastDerivations}
 use Rattle.derivation.proofs.Lists.{none≢some, at-map}
 use Rattle.derivation.proofs.HeardTheorems.{least-element}
-use Rattle.derivation.proofs.HeardReadings.{heard-last}
 use Rattle.chart_theory.specs.Spelled.{namesEdges}
 use Rattle.chart_theory.proofs.Chart.{has-spells}
 use Rattle.chart_theory.proofs.Accepted.{Holds, layout}
@@ -39,11 +37,11 @@ loop-joined f ls h (suc m) l =
     rw (loop-joined f ls h m (omega arith), take-suc ls m [] l, at-is ls m [] (h m l)) (sym (joined-more (take m ls) (f m)))
 
 module _ (g : Grammar) (N : ℕ) (rules t : List ℕ) where
-  module _ (h : Heard) (some : 1 ≤ lastPlace h) (okh : ValidHeard (g .words) h) (m : ℕ) (holds : Holds g h N rules t m) where
+  module _ (h : Heard) (some : 1 ≤ lastPlace h) (m : ℕ) (holds : Holds g h N rules t m) where
     block-at : (x : ℕ) → x < m → At (blocks g h N) x (blockAt t rules (layout g h N) (form g h) x)
     block-at x l =
         let (z, rank) = holds .each x l in
-        rw (block-is g N rules t h some (heard-last (g .words) h okh) x z (has-spells (namesEdges h) (rank .has)) (least-element g h N x z .0 (rank .place) .0))
+        rw (block-is g N rules t h some x z (has-spells (namesEdges h) (rank .has)) (least-element g h N x z .0 (rank .place) .0))
         (at-map (packed g h) (leastDerivations g h N) x (rank .place))
 
     pub count-found : length (blocks g h N) ≡ m

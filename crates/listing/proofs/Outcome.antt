@@ -47,14 +47,14 @@ module _ (g : Grammar) (h : Heard) (okg : ValidGrammar g) (okh : ValidHeard (g .
       let ls = blocks g h N in
       let made = chart-holds g h N okg okh (met .positive) (met .few) rules array begun begun′ (length work) (met .table) in
       let holds : Holds g h N rules (filled .table) m = rw (filled .number, filled .made) made in
-      let count = count-found g N rules (filled .table) h some okh m holds in
+      let count = count-found g N rules (filled .table) h some m holds in
       let size : length (joined ls) ≡ m * outputLength g h =
       length-joined (outputLength g h) ls (sized-blocks g h N okg okh) ∙ ap (λ (k : ℕ). k * outputLength g h) count in
       rw (listing-accepts g h N (asked .limits) (length work) (length out) (met .slots) (met .readings) (met .positive) (met .few) (met .table) (met .room)) (
         ap Found (sym count),
         (
           filled .emptied ∙ holds .clears ∙ ap (λ (k : ℕ). replicate k 0) (filled .size),
-          filled .blocks ∙ rw (blocks-written g N rules (filled .table) h some okh m holds, size, size-is g h),
+          filled .blocks ∙ rw (blocks-written g N rules (filled .table) h some m holds, size, size-is g h),
         ),
       )
 

@@ -7,23 +7,21 @@ use native.Mathlib.Omega.{arith}
 use lib.Dec.{ltb}
 use borrow.Author.Tests.{ltb-false}
 use Rattle.bits.specs.Bits.{pick}
-use Rattle.bits.specs.Width.{widthOf}
 use Rattle.packing.specs.Meaning.{Grammar, Heard, slots, lastPlace}
 use Rattle.packing.specs.Parse.{refused}
-use Rattle.packing.specs.Reading.{readingLength}
 use Rattle.packing.specs.GraphReading.{graphReadingLength}
-use Rattle.packing.proofs.Widths.{byte-width}
 use Rattle.derivation.specs.Heard.{outputLength}
 use Rattle.chart.specs.WorkTable.{tableSize}
 use Rattle.listing.specs.Conditions.{conditions}
 use Rattle.listing.specs.Listing.{listed}
 use Rattle.traced_readings.specs.Model.{sizeOf}
+use Rattle.traced_readings.proofs.Sizes.{longest-is, size-within, longest-small}
 use Rattle.listing.specs.Model.{firstRefusal, shortage}
 use Rattle.listing.specs.declared.Asked.{Asked}
 use Rattle.listing.specs.declared.Limits.{Limits}
 
-pub output-small : {N size : ℕ} → N ≤ 256 → size ≤ 73 → N * size ≤ 18688
-output-small h k = mul-le-mul {n₂ = 256} {m₂ = 73} h k
+pub output-small : (limit : ℕ) {N size : ℕ} → N ≤ 256 → size ≤ graphReadingLength limit 256 → N * size ≤ 256 * (3 * limit + 5)
+output-small limit h k = mul-le-mul h (omega (arith, k, longest-small limit))
 
 -- Within limits nothing needs more than the limits themselves do: of the table, with 32 symbols, and of a reading, with 256 rules, in a graph, whose
 -- readings are the longer ones.
@@ -41,19 +39,8 @@ table-within l {S} {n} h p q =
     let cells : 4 * S * (n * (n + 1) / 2) ≤ 4 * 32 * (l .slots * (l .slots + 1) / 2) = mul-le-mul (omega arith) halved in
     mul-le-mul cells q
 
-size-within : (s : ℕ) (b : Bool) {n R : ℕ} → n ≤ s → R ≤ 256 → sizeOf b n R ≤ (34 + (2 * s - 1) * 8 + 7 * s + 7) / 8
-unfolding readingLength graphReadingLength
-size-within s b {n} {R} h r = go b
-  where
-    walk : (2 * n - 1) * widthOf (R - 1) ≤ (2 * s - 1) * 8
-    walk = mul-le-mul (omega arith) (byte-width R r)
-
-    go : (b : Bool) → sizeOf b n R ≤ (34 + (2 * s - 1) * 8 + 7 * s + 7) / 8
-    go true = omega (arith, walk)
-    go false = omega (arith, walk)
-
 pub output-within : (l : Limits) (b : Bool) {n R N : ℕ} → n ≤ l .slots → R ≤ 256 → N ≤ l .readings → N * sizeOf b n R ≤ mostBytes l
-output-within l b h r q = mul-le-mul q (size-within (l .slots) b h r)
+output-within l b h r q = mul-le-mul q (rw (longest-is (l .slots)) at (size-within (l .slots) b h r))
 
 -- where nothing is short
 pub record Met (asked : Asked) (S n L work out : ℕ) : Type 0 where

@@ -30,11 +30,11 @@ lent-end a P D e =
     let all : length (P ++ D) - a ≡ length D = omega (arith, length-append P D) in
     rw (drop-at P D a e, all) (take-all (length D) D (omega arith))
 
-module _ (t rules : List ℕ) (d : Layout) (f : Form) (form : FormFor (d .places) f) where
+module _ (t rules : List ℕ) (d : Layout) (f : Form) {limit : ℕ} (form : FormFor limit (d .places) f) where
   length-blocks : (m : ℕ) → length (blocksAt t rules d f m) ≡ m * f .size
   unfolding blocksAt iter
   length-blocks zero = rw zero-mul
-  length-blocks (suc m) = rw (length-append, length-blocks m, length-at t rules d m (form .some-place) (form .places) f form, suc-mul)
+  length-blocks (suc m) = rw (length-append, length-blocks m, length-at t rules d m (form .some-place) f form, suc-mul)
 
   -- a turn of the loop
   pub written-more : (x : ℕ) (out₀ : List ℕ) {out part : List ℕ} → out ≡ blocksAt t rules d f x ++ drop (x * f .size) out₀

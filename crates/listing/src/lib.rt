@@ -6,7 +6,9 @@ use inputs::InputsRead;
 use inputs::Listed;
 use inputs::read_inputs;
 use packing::format::EDGES_LENGTH;
+use packing::format::MAX_RULES;
 use packing::format::MAX_SLOTS;
+use packing::format::MAX_SYMBOLS;
 use packing::format::RULES_LENGTH;
 use packing::format::TRACE_LENGTH;
 use packing::refused;
@@ -25,6 +27,7 @@ ghost use Rattle.inputs.specs.Answer.{listedOf};
 ghost use Rattle.chart.specs.WorkTable.{workAfter};
 ghost use Rattle.listing.specs.Listing.{list, outputAfter};
 ghost use Rattle.listing.specs.Demand3.{Demand3};
+ghost use Rattle.packing.specs.GraphReading.{graphReadingLength};
 ghost use Rattle.traced_readings.specs.Model.{FormFor, blockAt};
 ghost use Rattle.listing.specs.Model.{shortage, blocksAt, Filled, ReadListed};
 
@@ -56,7 +59,7 @@ struct Asked {
 
 // The refusal of what was heard, up to the last place n, and of what is asked for or lent; 0 where all is within the limits and nothing short.
 fn shortage(asked: Asked, symbols: usize, n: usize, size: usize, work: usize, out: usize) -> u32
-    requires { ⌜ (symbols ≤ 32) × (n ≤ 24) × (size ≤ 73) ⌝ }
+    requires { do ⌜ (symbols ≤ (← ⟦MAX_SYMBOLS⟧)) × (n ≤ (← ⟦MAX_SLOTS⟧)) × (size ≤ graphReadingLength (← ⟦MAX_SLOTS⟧) (← ⟦MAX_RULES⟧)) ⌝ }
     ensures { λ r. ⌜ r ≡ shortage asked symbols n size work out ⌝ }
 {
     let wanted = asked.wanted;
@@ -84,7 +87,7 @@ fn shortage(asked: Asked, symbols: usize, n: usize, size: usize, work: usize, ou
 
 // The reading of a rank of the root, traced back.
 fn write_rank(t: &[u32], rules: &[u32], form: Form, d: Layout, x: usize, out: &mut [u8])
-    requires { ⌜ (Sized d) × (FormFor (d .places) form) × (x < d .ranks) × (form .size ≤ length (now out)) ⌝ }
+    requires { do ⌜ (Sized d) × (FormFor (← ⟦MAX_SLOTS⟧) (d .places) form) × (x < d .ranks) × (form .size ≤ length (now out)) ⌝ }
     ensures { λ _. ⌜ now (out .exit) ≡ blockAt (now (t .entry)) (now (rules .entry)) d form x ++ drop (form .size) (now (out .entry)) ⌝ }
 {
     let mut trace = [0u32; TRACE_LENGTH];
@@ -95,7 +98,7 @@ fn write_rank(t: &[u32], rules: &[u32], form: Form, d: Layout, x: usize, out: &m
 
 // The readings of the first m ranks, one after another.
 fn write_readings(t: &[u32], rules: &[u32], form: Form, d: Layout, m: usize, out: &mut [u8])
-    requires { ⌜ (Sized d) × (FormFor (d .places) form) × (m ≤ d .ranks) × (m * form .size ≤ length (now out)) ⌝ }
+    requires { do ⌜ (Sized d) × (FormFor (← ⟦MAX_SLOTS⟧) (d .places) form) × (m ≤ d .ranks) × (m * form .size ≤ length (now out)) ⌝ }
     ensures { λ _. ⌜ now (out .exit) ≡ blocksAt (now (t .entry)) (now (rules .entry)) d form m ++ drop (m * form .size) (now (out .entry)) ⌝ }
 {
     let size = form.size;
@@ -115,7 +118,7 @@ fn fill(
     work: &mut [u32],
     out: &mut [u8],
 ) -> usize
-    requires { ⌜ (Sized d) × (FormFor (d .places) form) × (arcs ≤ 256) × (d .ranks * form .size ≤ length (now out)) ⌝ }
+    requires { do ⌜ (Sized d) × (FormFor (← ⟦MAX_SLOTS⟧) (d .places) form) × (arcs ≤ 256) × (d .ranks * form .size ≤ length (now out)) ⌝ }
     ensures { λ r. ⌜ Filled (now (rules .entry)) form (now (edges .entry)) arcs d (now (work .entry)) (now (out .entry)) r (now (work .exit)) (now (out .exit))
         ⌝ }
 {

@@ -14,7 +14,7 @@ use Rattle.open_listing.specs.declared.Answer as A
 use Rattle.open_listing.specs.declared.Answer.the-variants.{Reading, NoMore, Refused}
 use Rattle.open_listing.specs.declared.Plan.{Plan}
 
-module _ (t rules edges : List ℕ) (p : Plan) (x : ℕ) (planned : Planned p) where
+module _ (t rules edges : List ℕ) (p : Plan) (x : ℕ) {limit : ℕ} (planned : Planned limit p) where
   abbrev numbers : ℕ
   numbers = length (rootTrace t rules (p .layout) x)
 

@@ -65,7 +65,8 @@ refused-promised search l e = (S.turned-away e refl (record { table = refl; outp
 
 -- a call whose arrays begin with the rules of a grammar and the edges of what was heard
 module _ (grammar heard : List ℕ) (g : Grammar) (h : Heard) (eg : grammarBlock grammar ≡ accepted g) (eh : heardBlock (g .words) heard ≡ accepted h)
-    (rules edges : List ℕ) (begun : Begins (ruleNumbers g) rules) (begun′ : Begins (edgeNumbers (heardEdges h)) edges) (planned : Planned (plan g h))
+    (rules edges : List ℕ) (begun : Begins (ruleNumbers g) rules) (begun′ : Begins (edgeNumbers (heardEdges h)) edges)
+    {limit : ℕ} (planned : Planned limit (plan g h))
     (search : S.Search) (makes : Makes search g h rules edges (plan g h)) (p : Place) (work out : List ℕ) where
   abbrev d : Layout
   d = layout g h 256
@@ -227,7 +228,8 @@ module _ {grammar heard : List ℕ} {z : Inputs} {rules edges : List ℕ} (k : R
       sym (ap (λ (x : List ℕ). tableBy x edges q p work) (k .rules-laid) ∙ ap (λ (x : List ℕ). tableBy (rulesArray (m .grammar)) x q p work) (k .edges-laid)
       ∙ ap (λ (x : Plan). tableBy (rulesArray (m .grammar)) (edgesArray (m .heard)) x p work) (is ∙ ap planOf (k .sizes)))
 
-  pub read-called : Planned q → (p : Place) (work out : List ℕ) {a : A.Answer} {work′ out′ : List ℕ} → As (callBy rules edges q p work out) a work′ out′
+  pub read-called : {limit : ℕ} → Planned limit q → (p : Place) (work out : List ℕ) {a : A.Answer} {work′ out′ : List ℕ}
+      → As (callBy rules edges q p work out) a work′ out′
       → Promised searched (S.lent grammar heard p work out) (S.left a work′ out′)
   read-called planned p work out s =
       let m = k .meant in

@@ -27,19 +27,18 @@ module _ (b : Inputs) (bounds : Bounds b) {f : Form} {d : Layout} (formed : f �
   pub plan-is : made ≡ planOf b
   plan-is = rw (formed, laid)
 
-  pub plan-planned : Sized d → f .size ≤ 73 → Planned made
+  pub plan-planned : (limit : ℕ) → b .heard .last ≤ limit → Sized d → Planned limit made
   unfolding layOut
-  plan-planned sized small = record {
+  plan-planned limit few sized = record {
     sized = sized;
     all-ranks = rw laid;
     form = rw (formed, laid) (record {
       some-place = bounds .some-place;
-      places = bounds .places;
+      places = few;
       some-rule = bounds .sizes .some-rule;
       rules = bounds .sizes .rules;
       size = refl;
     });
-    size = small;
     edges = omega (arith, bounds .edges);
   }
 
@@ -55,5 +54,5 @@ module _ (g : Grammar) (h : Heard) {p : Plan} (is : p ≡ plan g h) where
   bytes-are = rw is (size-is g h)
 
 -- the table has its front
-pub front-fits : (p : Plan) → Planned p → {r n : ℕ} → r ≡ 4 * p .layout .cells * p .layout .ranks → r ≤ n → 4 * p .layout .cells ≤ n
+pub front-fits : {limit : ℕ} (p : Plan) → Planned limit p → {r n : ℕ} → r ≡ 4 * p .layout .cells * p .layout .ranks → r ≤ n → 4 * p .layout .cells ≤ n
 front-fits p planned e room = omega (arith, rw (planned .all-ranks) at e, room)

@@ -73,7 +73,8 @@ module _ (grammar heard : List ℕ) (g : Grammar) (h : Heard) (eg : grammarBlock
 -- where nothing is short
 module _ (search : S.Search) (grammar heard : List ℕ) (g : Grammar) (h : Heard) (eg : grammarBlock grammar ≡ accepted g)
     (eh : heardBlock (g .words) heard ≡ accepted h)
-    (rules edges : List ℕ) (begun : Begins (ruleNumbers g) rules) (begun′ : Begins (edgeNumbers (heardEdges h)) edges) (planned : Planned (plan g h))
+    (rules edges : List ℕ) (begun : Begins (ruleNumbers g) rules) (begun′ : Begins (edgeNumbers (heardEdges h)) edges)
+    {limit : ℕ} (planned : Planned limit (plan g h))
     (p : Place)
     (work out : List ℕ)
     (calls : S.calling grammar heard (length work) (length out) ≡ accepted (blocks grammar heard g h eg eh)) where
@@ -95,7 +96,7 @@ module _ (search : S.Search) (grammar heard : List ℕ) (g : Grammar) (h : Heard
     unfolding layOut
     written z derived has e =
         rw e at (answered .output)
-        ∙ rw (block-is g 256 rules table h (planned .form .some-place) (planned .form .places) (p .handed) z has derived, size-is g h)
+        ∙ rw (block-is g 256 rules table h (planned .form .some-place) (p .handed) z has derived, size-is g h)
 
     one-more : r ≡ Reading → search g h p work ≡ table → S.Looked g h p work table → handsOut table rules edges (plan g h) (p .handed) ≡ true
         → S.OneMore search (blocks grammar heard g h eg eh) (S.lent grammar heard p work out) (S.left r work′ out′)

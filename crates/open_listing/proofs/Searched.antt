@@ -3,14 +3,15 @@
 use mathlib.Core.Path.{_≡_, refl, sym, ap, _∙_}
 use mathlib.Core.Bool.{Bool, true, false, false≢true}
 use mathlib.Core.List.{List, _++_}
-use Prim.Native.Nat.{ℕ, _*_, _≤_}
+use Prim.Native.Nat.{ℕ, _-_, _*_, _≤_}
+use native.Mathlib.Nat.{le-refl}
 use native.Mathlib.Omega.{arith}
 use lib.ListN.{length, take, drop, replicate, take-append-drop}
 use lib.Seq.{length-take-le, take-at, drop-at}
 use Rattle.bits.specs.Bits.{pick}
 use Rattle.chart_index.specs.Index.{indexNumbers}
 use Rattle.chart_index.specs.Build.{makeIndex}
-use Rattle.chart_journal.specs.Journal.{putBack}
+use Rattle.chart_journal.specs.Journal.{mostKept, keptAt, putBack}
 use Rattle.chart_search.specs.Search.{nextOfRoot, keepOfRoot}
 use Rattle.chart.specs.Chart.{enumerate, rootFound}
 use Rattle.chart_theory.proofs.Plane.{single}
@@ -39,16 +40,19 @@ module _ (table rules edges : List ℕ) (p : Plan) (x : ℕ) (work out : List �
   }
 
 -- of a later call
-module _ (rules edges : List ℕ) (p : Plan) (planned : Planned p) (x : ℕ) (work : List ℕ) {index t : List ℕ}
+module _ (rules edges : List ℕ) (p : Plan) {limit : ℕ} (planned : Planned limit p) (x : ℕ) (work : List ℕ) {index t : List ℕ}
     (made : index ≡ makeIndex rules (p .form .rules) (p .layout .symbols) edges (p .edges) (p .layout .places) (replicate indexNumbers 0))
     (stepped : t ≡ nextOfRoot rules edges index (p .layout) work x) where
   pub table-next : t ≡ nextTable rules edges p x work
   unfolding nextTable
   table-next = stepped ∙ ap (λ (i : List ℕ). nextOfRoot rules edges i (p .layout) work x) made
 
-  pub put-back : {kept work′ : List ℕ} → kept ≡ keepOfRoot rules edges index (p .layout) work (replicate 1129 0) x → work′ ≡ putBack kept t → work′ ≡ work
-  put-back keeps e =
-      e ∙ rw (keeps, stepped) (search-undone rules edges index (p .layout) work x (omega (arith, planned .form .some-place)) (planned .form .places))
+  -- the journal has room for what is kept of a path within the limit
+  pub put-back : 4 * (2 * limit - 1) ≤ mostKept → {kept work′ : List ℕ}
+      → kept ≡ keepOfRoot rules edges index (p .layout) work (replicate (keptAt mostKept) 0) x → work′ ≡ putBack kept t → work′ ≡ work
+  put-back few keeps e =
+      e ∙ rw (keeps, stepped) (search-undone rules edges index (p .layout) work x (keptAt mostKept) (omega (arith, planned .form .some-place))
+      (omega (arith, few, planned .form .places)) (le-refl _))
 
 -- of a table that is taken as it stands
 pub as-it-stands : (rules edges : List ℕ) (p : Plan) (work out : List ℕ) (x : ℕ) {r : A.Answer} {out′ : List ℕ} → r ≡ settled work rules edges p x true

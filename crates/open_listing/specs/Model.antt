@@ -35,7 +35,7 @@ unfoldable pub zeros : List ℕ → Bool
 zeros [] = true
 zeros (x ∷ l) = pick (eqb x 0) (zeros l) false
 
--- what a search goes by
+-- what a search goes by, within a limit
 abbrev pub planOf : Inputs → Plan
 planOf b = record {
   form = formOf (b .heard .graph) (b .heard .last) (b .sizes .rules);
@@ -43,11 +43,10 @@ planOf b = record {
   edges = b .heard .edges;
 }
 
-pub record Planned (p : Plan) : Type 0 where
+pub record Planned (limit : ℕ) (p : Plan) : Type 0 where
   pub sized : Sized (p .layout)
   pub all-ranks : p .layout .ranks ≡ 256
-  pub form : FormFor (p .layout .places) (p .form)
-  pub size : p .form .size ≤ 73
+  pub form : FormFor limit (p .layout .places) (p .form)
   pub edges : p .edges ≤ 256
 
 module _ (t rules edges : List ℕ) (p : Plan) (x : ℕ) where

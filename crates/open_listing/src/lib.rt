@@ -11,6 +11,7 @@ use inputs::Inputs;
 use inputs::InputsRead;
 use inputs::read_inputs;
 use packing::format::EDGES_LENGTH;
+use packing::format::MAX_SLOTS;
 use packing::format::RULES_LENGTH;
 use packing::format::TRACE_LENGTH;
 use packing::refused;
@@ -95,7 +96,7 @@ fn hand_out(
     rank: usize,
     out: &mut [u8],
 ) -> bool
-    requires { ⌜ (Planned plan) × (rank < plan .layout .ranks) × (plan .form .size ≤ length (now out)) ⌝ }
+    requires { do ⌜ (Planned (← ⟦MAX_SLOTS⟧) plan) × (rank < plan .layout .ranks) × (plan .form .size ≤ length (now out)) ⌝ }
     ensures { λ r. ⌜ (r ≡ handsOut (now (t .entry)) (now (rules .entry)) (now (edges .entry)) plan rank)
         × (now (out .exit) ≡ outputBy r (now (t .entry)) (now (rules .entry)) plan rank (now (out .entry))) ⌝ }
 {
@@ -124,7 +125,7 @@ fn as_spelled(
     rank: usize,
     out: &mut [u8],
 ) -> Answer
-    requires { ⌜ (Planned plan) × (rank < plan .layout .ranks) × (plan .form .size ≤ length (now out)) ⌝ }
+    requires { do ⌜ (Planned (← ⟦MAX_SLOTS⟧) plan) × (rank < plan .layout .ranks) × (plan .form .size ≤ length (now out)) ⌝ }
     ensures { λ r. ⌜ (r ≡ settled (now (t .entry)) (now (rules .entry)) (now (edges .entry)) plan rank true)
         × (now (out .exit) ≡ outputBy (isReading r) (now (t .entry)) (now (rules .entry)) plan rank (now (out .entry))) ⌝ }
 {
@@ -143,7 +144,7 @@ fn settle(
     rank: usize,
     out: &mut [u8],
 ) -> Answer
-    requires { ⌜ (Planned plan) × (rank < plan .layout .ranks) × (plan .form .size ≤ length (now out)) ⌝ }
+    requires { do ⌜ (Planned (← ⟦MAX_SLOTS⟧) plan) × (rank < plan .layout .ranks) × (plan .form .size ≤ length (now out)) ⌝ }
     ensures { λ r. ⌜ (r ≡ settled (now (t .entry)) (now (rules .entry)) (now (edges .entry)) plan rank (rootFound (now (t .entry)) (plan .layout) rank))
         × (now (out .exit) ≡ outputBy (isReading r) (now (t .entry)) (now (rules .entry)) plan rank (now (out .entry))) ⌝ }
 {
@@ -155,7 +156,7 @@ fn settle(
 
 // The first call: one rank of each cell is looked for, at the table's front, if that is zeros. If not, the table is taken as it is.
 fn first(work: &mut [u32], rules: &[u32], edges: &[u32], plan: Plan, out: &mut [u8]) -> Answer
-    requires { ⌜ (Planned plan) × (plan .form .size ≤ length (now out)) × (4 * plan .layout .cells ≤ length (now work)) ⌝ }
+    requires { do ⌜ (Planned (← ⟦MAX_SLOTS⟧) plan) × (plan .form .size ≤ length (now out)) × (4 * plan .layout .cells ≤ length (now work)) ⌝ }
     ensures { λ r. ⌜ FirstCalled (now (rules .entry)) (now (edges .entry)) plan (now (work .entry)) (now (out .entry)) r (now (work .exit))
         (now (out .exit)) ⌝ }
 {
@@ -195,7 +196,7 @@ fn later(
     handed: usize,
     out: &mut [u8],
 ) -> Answer
-    requires { ⌜ (Planned plan) × (1 ≤ handed) × (handed < plan .layout .ranks) × (plan .form .size ≤ length (now out)) ⌝ }
+    requires { do ⌜ (Planned (← ⟦MAX_SLOTS⟧) plan) × (1 ≤ handed) × (handed < plan .layout .ranks) × (plan .form .size ≤ length (now out)) ⌝ }
     ensures { λ r. ⌜ Searched (nextTable (now (rules .entry)) (now (edges .entry)) plan (handed - 1) (now (work .entry))) (now (rules .entry))
         (now (edges .entry)) plan handed (now (work .entry)) (now (out .entry)) r (now (work .exit)) (now (out .exit)) ⌝ }
 {
@@ -215,7 +216,7 @@ fn later(
 // What a search of these inputs goes by, with a table for all ranks that can be listed.
 fn plan_of(inputs: Inputs) -> Plan
     requires { ⌜ Bounds inputs ⌝ }
-    ensures { λ p. ⌜ (p ≡ planOf inputs) × Planned p ⌝ }
+    ensures { λ p. do ⌜ (p ≡ planOf inputs) × Planned (← ⟦MAX_SLOTS⟧ .entry) p ⌝ }
 {
     let last = inputs.heard.last;
     Plan {
@@ -234,7 +235,7 @@ fn next_read(
     work: &mut [u32],
     out: &mut [u8],
 ) -> Answer
-    requires { ⌜ Planned plan ⌝ }
+    requires { do ⌜ Planned (← ⟦MAX_SLOTS⟧) plan ⌝ }
     ensures { λ r. ⌜ As (callBy (now (rules .entry)) (now (edges .entry)) plan place (now (work .entry)) (now (out .entry))) r (now (work .exit))
         (now (out .exit)) ⌝ }
 {

@@ -47,10 +47,10 @@ abbrev pub Small : Found → Type 0
 Small (Number n) = n < 2 ^ 32
 Small Nothing = Unit {0}
 
--- each part to come has a slot or an edge of its own, and the numbers are far from wrapping
-pub record Within (at : Progress) : Type 0 where
+-- each part to come has a slot or an edge of its own, of which there are no more than a limit, and the numbers are far from wrapping
+pub record Within (limit : ℕ) (at : Progress) : Type 0 where
   pub parts : at .height ≤ at .left
-  pub slots : at .left ≤ 24
+  pub slots : at .left ≤ limit
   pub place : at .place < 2 ^ 39
   pub weight : at .weight < 2 ^ 39
 

@@ -74,7 +74,7 @@ pub fn fitting(rules: &[u32], count: usize, stack: &[u32], height: usize, r: usi
 
 // A pair rule: its two symbols take the place of its head, if each part to come has a slot or an edge of its own.
 pub fn pair_step(stack: &mut [u32], at: Progress, first: Sym, second: Sym, weight: u32) -> Step
-    requires { do ⌜ (1 ≤ at .height) × Within at × ((← ⟦MAX_PARTS⟧) ≤ length (now stack)) ⌝ }
+    requires { ⌜ (1 ≤ at .height) × Within (length (now stack)) at ⌝ }
     ensures { λ r. ⌜ (standing (now (stack .exit)) r
         ≡ pick (ltb (at .height) (at .left)) (onward (at .place) (at .left)
         (first ∷ second ∷ headsOf (now (stack .entry)) (at .height - 1)) (at .weight + weight)) astray) × Further at r ⌝ }

@@ -3,7 +3,6 @@
 use mathlib.Core.Path.{_≡_, ap, _∙_}
 use mathlib.Core.List.{List, [], _∷_}
 use Prim.Native.Nat.{ℕ, zero, suc, _+_, _-_, _*_, _≤_, _<_}
-use native.Mathlib.Nat.{mul-le-mul}
 use native.Mathlib.Omega.{arith}
 use lib.ListN.{length, take, drop, getD}
 use lib.Seq.{drop-cons, length-take-le}
@@ -15,9 +14,6 @@ use Rattle.packing.specs.Source.{flds}
 use Rattle.packing.specs.Reading.{walkEntries, readingEntries, readingLength}
 use Rattle.packing.proofs.Widths.{walk-bits}
 use Rattle.reading_writer.specs.Answer.{walkIn, readingOf}
-
-pub walk-small : {m w : ℕ} → m ≤ 47 → w ≤ 8 → m * w ≤ 376
-walk-small h k = mul-le-mul h k
 
 pub walk-length : (n : ℕ) (l : List ℕ) → length l ≡ 2 * n → length (walkIn l) ≡ n
 unfolding walkIn

@@ -21,7 +21,7 @@ use Rattle.chart_theory.proofs.Chart.{RootSpells}
 use Rattle.chart_theory.proofs.Accepted.{layout}
 use Rattle.traced_readings.specs.Model.{formOf, blockAt}
 use Rattle.traced_readings.specs.declared.Form.{Form}
-use Rattle.traced_readings.proofs.Written.{path}
+use Rattle.traced_readings.proofs.Written.{path, stands-at}
 
 -- a trace's rule numbers are the walk
 walk-nodes : (rules l : List ℕ) → walkIn l ≡ map nodeRule (nodesIn rules l)
@@ -40,16 +40,16 @@ abbrev pub form : Grammar → Heard → Form
 form g h = formOf (isGraph h) (lastPlace h) (length (g .rules))
 
 module _ (g : Grammar) (N : ℕ) (rules t : List ℕ) where
-  pub block-is : (h : Heard) → 1 ≤ lastPlace h → lastPlace h ≤ 24 → (x : ℕ) (z : Tree) → RootSpells (namesEdges h) g (heardEdges h) rules (layout g h N) t x z
+  pub block-is : (h : Heard) → 1 ≤ lastPlace h → (x : ℕ) (z : Tree) → RootSpells (namesEdges h) g (heardEdges h) rules (layout g h N) t x z
       → Derivation g h z → blockAt t rules (layout g h N) (form g h) x ≡ packed g h z
   unfolding blockAt layOut reading graphReading
-  block-is (slots u) some few x z has derived =
-      let (m, p) = path t rules (layout g (slots u) N) x some few in
+  block-is (slots u) some x z has derived =
+      let (m, p) = path t rules (layout g (slots u) N) x some in
       let walks : map nodeRule (nodesIn rules (rootTrace t rules (layout g (slots u) N) x)) ≡ walk z = has .nodes ∙ walk-trace z in
       let edges : m ≡ length u = omega (arith, p .nodes, simp length-map at (ap length walks), walk-path z, nodes g u z derived) in
-      let stands = rw edges at (p .stands) in
+      let stands = rw edges at (stands-at t rules (layout g (slots u) N) x some p) in
       rw (has .weighs, stands, walk-nodes rules, walks)
-  block-is (graph h) some few x z has derived =
-      let (m, p) = path t rules (layout g (graph h) N) x some few in
+  block-is (graph h) some x z has derived =
+      let (m, p) = path t rules (layout g (graph h) N) x some in
       let edges : m ≡ pathLength z = omega (arith, p .nodes, ap length (has .nodes), trace-length z) in
-      rw (has .weighs, p .edges, p .stands, has .nodes, edges)
+      rw (has .weighs, p .edges, stands-at t rules (layout g (graph h) N) x some p, has .nodes, edges)

@@ -1,13 +1,13 @@
 -- A reading written from any table has the bytes of its form. Of a graph it fits into L bytes whatever the table holds, since its trace has no more
 -- nodes, and no more of them by word rules, than a path over all places.
-use mathlib.Core.Path.{_≡_, refl, _∙_}
+use mathlib.Core.Path.{_≡_, refl, ap, sym, _∙_}
 use mathlib.Core.Bool.{Bool, true, false}
-use mathlib.Core.List.{List, [], _++_, append-nil}
-use Prim.Native.Nat.{ℕ, suc, _+_, _-_, _*_, _≤_}
-use native.Mathlib.Nat.{mul-le-mul-right}
+use mathlib.Core.List.{List, [], _++_, append-assoc, append-nil}
+use Prim.Native.Nat.{ℕ, suc, _+_, _-_, _*_, _/_, _≤_}
+use native.Mathlib.Nat.{le-refl, mul-le-mul-right}
 use native.Mathlib.Omega.{arith}
-use lib.ListN.{length, take, drop, replicate, length-replicate}
-use lib.Seq.{length-take-le, take-at}
+use lib.ListN.{length, take, drop, replicate, length-append, length-replicate, replicate-append-replicate}
+use lib.Seq.{length-take-le, take-at, drop-at}
 use Rattle.bits.specs.Fields.{widths}
 use Rattle.bits.specs.Width.{widthOf}
 use Rattle.bits.proofs.Fields as Fields
@@ -27,22 +27,47 @@ use Rattle.chart_table.specs.declared.Layout.{Layout}
 use Rattle.chart_table.specs.Table.{root}
 use Rattle.chart_trace.proofs.Shape.{Shape, shape}
 use Rattle.chart.specs.Chart.{rootWeight, rootTrace}
-use Rattle.traced_readings.specs.Model.{FormFor, traceAt, edgesAt, blockAt}
+use Rattle.traced_readings.specs.Model.{FormFor, traceNumbers, traceIn, traceAt, edgesAt, Traced, blockAt}
 use Rattle.traced_readings.specs.declared.Form.{Form}
 
--- a trace of m edges stands in front of the array of zeros that it is traced into
-front : (l : List ℕ) (m : ℕ) → length l + 2 ≡ 4 * m → m ≤ 24 → take (2 * (2 * m - 1)) (storeAll (replicate 94 0) 0 l) ≡ l
-front l m e h =
-    rw (store-at (replicate 94 0) 0 l (omega arith)) (take-at l (drop (0 + length l) (replicate 94 0)) (2 * (2 * m - 1)) (omega arith))
+abbrev zeros : ℕ → List ℕ
+zeros n = replicate n 0
 
--- rank x of the root of any table
-module _ (t rules : List ℕ) (d : Layout) (x : ℕ) (some : 1 ≤ d .places) (small : d .places ≤ 24) where
+zeros-split : (a b c : ℕ) → a + b ≡ c → zeros a ++ zeros b ≡ zeros c
+zeros-split a b c e = replicate-append-replicate {A = ℕ} a b 0 ∙ ap zeros e
+
+-- a list in an array of zeros stands in front of the zeros that are left
+stored : (room : ℕ) (l : List ℕ) → length l ≤ room → storeAll (zeros room) 0 l ≡ l ++ zeros (room - length l)
+stored room l h =
+    let all : 0 + length l ≡ length l = omega arith in
+    let rest : drop (0 + length l) (zeros room) ≡ zeros (room - length l) =
+    rw (all, ← zeros-split (length l) (room - length l) room (omega arith))
+    (drop-at (zeros (length l)) (zeros (room - length l)) (length l) (length-replicate {A = ℕ} (length l) 0)) in
+    store-at (zeros room) 0 l (rw (length-replicate, all) h) ∙ ap (λ (r : List ℕ). l ++ r) rest
+
+-- a trace of m edges stands in front of the array that it is traced into
+front : (room : ℕ) (l : List ℕ) (m : ℕ) → length l + 2 ≡ 4 * m → traceNumbers m ≤ room → take (traceNumbers m) (storeAll (zeros room) 0 l) ≡ l
+front room l m e h = rw (stored room l (omega arith)) (take-at l (zeros (room - length l)) (traceNumbers m) (omega arith))
+
+-- an array that is longer than it need be is the same in front
+cut : (room k : ℕ) (l : List ℕ) → length l ≤ k → k ≤ room → take k (storeAll (zeros room) 0 l) ≡ storeAll (zeros k) 0 l
+cut room k l short h =
+    let head : List ℕ = l ++ zeros (k - length l) in
+    let size : length head ≡ k = rw (length-append, length-replicate) (omega arith) in
+    let whole : storeAll (zeros room) 0 l ≡ head ++ zeros (room - k) =
+    stored room l (omega arith) ∙ ap (λ (r : List ℕ). l ++ r) (sym (zeros-split (k - length l) (room - k) (room - length l) (omega arith)))
+    ∙ sym (append-assoc l (zeros (k - length l)) (zeros (room - k))) in
+    ap (take k) whole ∙ take-at head (zeros (room - k)) k size ∙ sym (stored k l short)
+
+-- rank x of the root of any table, in an array with room for a path over all places
+module _ (t rules : List ℕ) (d : Layout) (x : ℕ) (some : 1 ≤ d .places) where
   -- a path of m edges is traced
   pub record Path (m : ℕ) : Type 0 where
     pub some-edge : 1 ≤ m
     pub few : m ≤ d .places
     pub edges : edgesAt t rules d x ≡ m
-    pub stands : take (2 * (2 * m - 1)) (traceAt t rules d x) ≡ rootTrace t rules d x
+    pub stands : (room : ℕ) → traceNumbers (d .places) ≤ room → take (traceNumbers m) (traceIn room t rules d x) ≡ rootTrace t rules d x
+    pub numbers : length (rootTrace t rules d x) ≤ traceNumbers (d .places)
     pub nodes : suc (length (nodesIn rules (rootTrace t rules d x))) ≡ 2 * m
     pub words : wordNodes (nodesIn rules (rootTrace t rules d x)) ≤ m
 
@@ -65,11 +90,16 @@ module _ (t rules : List ℕ) (d : Layout) (x : ℕ) (some : 1 ≤ d .places) (s
           some-edge = omega (arith, s .numbers);
           few = omega arith;
           edges = omega (arith, s .numbers);
-          stands = front _ m (s .numbers) (omega arith);
+          stands = λ room long. front room _ m (s .numbers) (omega arith);
+          numbers = omega (arith, s .numbers);
           nodes = alone m s .0;
           words = alone m s .1;
         },
       )
+
+  -- in an array for a path over all places
+  pub stands-at : {m : ℕ} → Path m → take (traceNumbers m) (traceAt t rules d x) ≡ rootTrace t rules d x
+  stands-at p = p .stands (traceNumbers (d .places)) (le-refl _)
 
   -- its reading as that of a graph, and what it fits into
   abbrev graphReadingAt : GraphReading
@@ -81,18 +111,14 @@ module _ (t rules : List ℕ) (d : Layout) (x : ℕ) (some : 1 ≤ d .places) (s
       let (m, p) = path in
       let xs = nodesIn rules (rootTrace t rules d x) in
       let few : length xs * widthOf (R - 1) ≤ (2 * d .places - 1) * widthOf (R - 1) = mul-le-mul-right (widthOf (R - 1)) (omega (arith, p .nodes, p .few)) in
-      rw (p .edges, p .stands, trace-bits R xs) (omega (arith, few, p .words, p .few))
+      rw (p .edges, stands-at p, trace-bits R xs) (omega (arith, few, p .words, p .few))
 
   graph-fits : (R : ℕ) → length (blockOfGraphReading R graphReadingAt) ≤ graphReadingLength (d .places) R
   unfolding blockOfGraphReading graphReadingEntries widths
   graph-fits R = rw Fields.length-block (omega (arith, graph-room R))
 
-  -- the array that a trace stands in
-  pub trace-size : {trace : List ℕ} → trace ≡ traceAt t rules d x → length trace ≡ 94
-  trace-size e = rw (e, length-store, length-replicate)
-
   -- the bytes of a reading, of either kind
-  pub length-at : (f : Form) → FormFor (d .places) f → length (blockAt t rules d f x) ≡ f .size
+  pub length-at : {limit : ℕ} (f : Form) → FormFor limit (d .places) f → length (blockAt t rules d f x) ≡ f .size
   unfolding blockAt
   length-at f form = go (f .graph) refl
     where
@@ -103,40 +129,57 @@ module _ (t rules : List ℕ) (d : Layout) (x : ℕ) (some : 1 ≤ d .places) (s
       go false e =
           let size : f .size ≡ readingLength (d .places) (f .rules) = rw e at (form .size) in
           rw (e, size) (length-reading (f .rules) (readingOf (d .places) (rootWeight t d x) (traceAt t rules d x))
-          (walk-length (2 * d .places - 1) (take (2 * (2 * d .places - 1)) (traceAt t rules d x))
-          (length-take-le (2 * (2 * d .places - 1)) (traceAt t rules d x) (rw length-store (omega arith)))))
+          (walk-length (2 * d .places - 1) (take (traceNumbers (d .places)) (traceAt t rules d x))
+          (length-take-le (traceNumbers (d .places)) (traceAt t rules d x) (rw (length-store, length-replicate) (le-refl _)))))
 
-  -- what the writer of a graph's reading is given
+  -- what the writers are given, from an array with more room than they need
   pub record Given (R size n : ℕ) (trace : List ℕ) : Type 0 where
     pub some-edge : 1 ≤ n
-    pub few : n ≤ 24
-    pub long : 2 * (2 * n - 1) ≤ length trace
-    pub room : 34 + widths (flds (traceEntries R (nodesIn rules (take (2 * (2 * n - 1)) trace)))) ≤ 8 * size
+    pub few : n ≤ d .places
+    pub long : traceNumbers n ≤ length trace
+    pub room : 34 + widths (flds (traceEntries R (nodesIn rules (take (traceNumbers n) trace)))) ≤ 8 * size
 
-  pub given : (f : Form) → FormFor (d .places) f → f .graph ≡ true → {n : ℕ} {trace : List ℕ} → n ≡ edgesAt t rules d x → trace ≡ traceAt t rules d x
-      → Given (f .rules) (f .size) n trace
-  given f form is e₁ e₂ =
-      let (m, p) = path in
-      let size : f .size ≡ graphReadingLength (d .places) (f .rules) = rw is at (form .size) in
-      rw (e₁, e₂) (record {
-        some-edge = omega (arith, p .edges, p .some-edge);
-        few = omega (arith, p .edges, p .few);
-        long = rw length-store (omega (arith, p .edges, p .few));
-        room = rw size (graph-room (f .rules));
-      })
+  module _ {room numbers : ℕ} {trace : List ℕ} (traced : Traced room trace t rules d x numbers) (enough : traceNumbers (d .places) ≤ room) where
+    pub trace-long : traceNumbers (d .places) ≤ length trace
+    trace-long = rw (traced .stands, length-store, length-replicate) enough
 
-  -- one reading of a graph, and one of slots
-  pub graph-written : (f : Form) (out : List ℕ) {n w : ℕ} {trace out′ : List ℕ} → f .graph ≡ true → n ≡ edgesAt t rules d x → w ≡ rootWeight t d x
-      → trace ≡ traceAt t rules d x → out′ ≡ padded (f .size) (blockOfGraphReading (f .rules) (graphReadingOf rules n w trace)) ++ drop (f .size) out
-      → out′ ≡ blockAt t rules d f x ++ drop (f .size) out
-  unfolding blockAt
-  graph-written f out is e₁ e₂ e₃ o = o ∙ rw (is, e₁, e₂, e₃)
+    same-front : {m : ℕ} → Path m → take (traceNumbers m) trace ≡ take (traceNumbers m) (traceAt t rules d x)
+    same-front p = rw (traced .stands) (p .stands room enough ∙ sym (stands-at p))
 
-  pub slots-written : (f : Form) (out : List ℕ) {w : ℕ} {trace out′ : List ℕ} → FormFor (d .places) f → f .graph ≡ false → w ≡ rootWeight t d x
-      → trace ≡ traceAt t rules d x
-      → out′ ≡ blockOfReading (f .rules) (readingOf (d .places) w trace) ++ drop (length (blockOfReading (f .rules) (readingOf (d .places) w trace))) out
-      → out′ ≡ blockAt t rules d f x ++ drop (f .size) out
-  unfolding blockAt
-  slots-written f out form is e₁ e₂ o =
-      let size : length (blockOfReading (f .rules) (readingOf (d .places) (rootWeight t d x) (traceAt t rules d x))) ≡ f .size = rw is at (length-at f form) in
-      o ∙ rw (is, e₁, e₂, size)
+    same-whole : take (traceNumbers (d .places)) trace ≡ take (traceNumbers (d .places)) (traceAt t rules d x)
+    same-whole =
+        let (m, p) = path in
+        let k = traceNumbers (d .places) in
+        let l = rootTrace t rules d x in
+        rw (traced .stands) (cut room k l (p .numbers) enough ∙ sym (cut k k l (p .numbers) (le-refl k)))
+
+    edges-is : (numbers / 2 + 1) / 2 ≡ edgesAt t rules d x
+    edges-is = ap (λ (k : ℕ). (k / 2 + 1) / 2) (traced .count)
+
+    pub given : {limit : ℕ} (f : Form) → FormFor limit (d .places) f → f .graph ≡ true → Given (f .rules) (f .size) ((numbers / 2 + 1) / 2) trace
+    given f form is =
+        let (m, p) = path in
+        let size : f .size ≡ graphReadingLength (d .places) (f .rules) = rw is at (form .size) in
+        let all = rw (p .edges) at (graph-room (f .rules)) in
+        rw (edges-is, p .edges) (record {
+          some-edge = p .some-edge;
+          few = p .few;
+          long = omega (arith, p .few, trace-long);
+          room = rw (size, same-front p) all;
+        })
+
+    -- one reading of a graph, and one of slots
+    pub graph-written : (f : Form) (out : List ℕ) {w : ℕ} {out′ : List ℕ} → f .graph ≡ true → w ≡ rootWeight t d x
+        → out′ ≡ padded (f .size) (blockOfGraphReading (f .rules) (graphReadingOf rules ((numbers / 2 + 1) / 2) w trace)) ++ drop (f .size) out
+        → out′ ≡ blockAt t rules d f x ++ drop (f .size) out
+    unfolding blockAt
+    graph-written f out is e o = let (m, p) = path in o ∙ rw (is, e, edges-is, p .edges, same-front p)
+
+    pub slots-written : {limit : ℕ} (f : Form) (out : List ℕ) {w : ℕ} {out′ : List ℕ} → FormFor limit (d .places) f → f .graph ≡ false → w ≡ rootWeight t d x
+        → out′ ≡ blockOfReading (f .rules) (readingOf (d .places) w trace) ++ drop (length (blockOfReading (f .rules) (readingOf (d .places) w trace))) out
+        → out′ ≡ blockAt t rules d f x ++ drop (f .size) out
+    unfolding blockAt
+    slots-written f out form is e o =
+        let size : length (blockOfReading (f .rules) (readingOf (d .places) (rootWeight t d x) (traceAt t rules d x))) ≡ f .size =
+        rw is at (length-at f form) in
+        o ∙ rw (is, e, same-whole, size)

@@ -2,7 +2,10 @@
 use chart_table::Layout;
 use graph_reading_writer::graph_reading_length;
 use graph_reading_writer::write_graph_reading;
+use packing::format::MAX_RULES;
+use packing::format::MAX_SLOTS;
 use packing::format::NUMBERS_PER_NODE;
+use packing::format::TRACE_LENGTH;
 use reading_writer::reading_length;
 use reading_writer::write_reading;
 ghost use mathlib.Core.Path.{_≡_};
@@ -10,8 +13,8 @@ ghost use mathlib.Core.List.{_++_};
 ghost use Prim.Native.Nat.{_≤_, _<_};
 ghost use lib.ListN.{length, drop};
 ghost use Rattle.chart_table.specs.Table.{Sized};
-ghost use Rattle.chart.specs.Chart.{rootTrace};
-ghost use Rattle.traced_readings.specs.Model.{formOf, FormFor, traceAt, blockAt};
+ghost use Rattle.packing.specs.GraphReading.{graphReadingLength};
+ghost use Rattle.traced_readings.specs.Model.{formOf, FormFor, Traced, blockAt};
 
 // How readings are written: of a graph or of slots, by this many rules, each into this many bytes of the output.
 pub struct Form {
@@ -26,10 +29,10 @@ pub struct TracedRank {
     pub numbers: usize,
 }
 
-// The form of readings up to the last place n.
+// The form of readings up to the last place n; none is longer than one of a graph with as many places and rules as there can be.
 pub fn form_of(graph: bool, n: usize, rules: usize) -> Form
-    requires { ⌜ (1 ≤ n) × (n ≤ 24) × (1 ≤ rules) × (rules ≤ 256) ⌝ }
-    ensures { λ f. ⌜ (f ≡ formOf graph n rules) × (f .size ≤ 73) ⌝ }
+    requires { do ⌜ (1 ≤ n) × (n ≤ (← ⟦MAX_SLOTS⟧)) × (1 ≤ rules) × (rules ≤ (← ⟦MAX_RULES⟧)) ⌝ }
+    ensures { λ f. do ⌜ (f ≡ formOf graph n rules) × (f .size ≤ graphReadingLength (← ⟦MAX_SLOTS⟧ .entry) (← ⟦MAX_RULES⟧ .entry)) ⌝ }
 {
     let size = if graph {
         graph_reading_length(n, rules)
@@ -50,8 +53,9 @@ pub fn write_traced(
     trace: &[u32],
     out: &mut [u8],
 )
-    requires { ⌜ (Sized d) × (FormFor (d .places) form) × (traced .rank < d .ranks) × (form .size ≤ length (now out))
-        × (now trace ≡ traceAt (now t) (now rules) d (traced .rank)) × (traced .numbers ≡ length (rootTrace (now t) (now rules) d (traced .rank))) ⌝ }
+    requires { do
+      ⌜ (Sized d) × (FormFor (← ⟦MAX_SLOTS⟧) (d .places) form) × (traced .rank < d .ranks) × (form .size ≤ length (now out))
+          × Traced (← ⟦TRACE_LENGTH⟧) (now trace) (now t) (now rules) d (traced .rank) (traced .numbers) ⌝ }
     ensures { λ _. ⌜ now (out .exit) ≡ blockAt (now (t .entry)) (now (rules .entry)) d form (traced .rank) ++ drop (form .size) (now (out .entry)) ⌝ }
 {
     let weight = chart::root_weight(t, d, traced.rank);

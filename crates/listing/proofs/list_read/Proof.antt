@@ -4,6 +4,7 @@ use native.Mathlib.Omega.{arith}
 use borrow.Author.Needs.{needs}
 use lib.ListN.{length}
 use Rattle.traced_readings.specs.Model.{FormFor}
+use Rattle.listing.specs.Conditions.{library}
 use Rattle.listing.specs.Model.{shortage}
 use Rattle.chart.proofs.WorkTable.{layout-is}
 use Rattle.listing.proofs.Sizes.{all-met}
@@ -56,7 +57,7 @@ fill-requires c κs =
     let a = at-start .args in
     let met = all-met _ _ _ _ _ _ (nothing-short at-if1) in
     let (places, ranks) = layout-is (a .inputs .sizes .symbols) (a .inputs .heard .last) (a .asked .wanted) (at-lay-out .lay-out .ensures .0) in
-    let form : FormFor (a .inputs .heard .last) (at-form-of .form-of .result) = rw (at-form-of .form-of .ensures .0) (record {
+    let form : FormFor (library .slots) (a .inputs .heard .last) (at-form-of .form-of .result) = rw (at-form-of .form-of .ensures .0) (record {
       some-place = at-start .pre .some-place;
       places = at-start .pre .places;
       some-rule = at-start .pre .sizes .some-rule;

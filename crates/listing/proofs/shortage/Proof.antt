@@ -7,6 +7,7 @@ use borrow.Author.Tests.{lt-ltb, le-ltb}
 use lib.Dec.{ltb}
 use Rattle.bits.specs.Bits.{pick}
 use Rattle.chart.specs.WorkTable.{tableSize}
+use Rattle.listing.specs.Conditions.{library}
 use Rattle.listing.specs.Model.{shortage}
 use Rattle.chart.proofs.WorkTable.{table-is}
 use Rattle.listing.proofs.Sizes.{output-small}
@@ -95,7 +96,7 @@ returns-5 c =
 mul-if6 : tie.Need-mul-if6
 mul-if6 c =
     let at-if3 = c .before .before .before .before .before in
-    omega (arith, output-small (at-if3 .if3 .left) (at-if3 .before .before .before .before .pre .2))
+    omega (arith, output-small (library .slots) (at-if3 .if3 .left) (at-if3 .before .before .before .before .pre .2))
 
 -- what both ways out of the last test know
 table : (c : tie.Else5)

@@ -30,7 +30,7 @@ write-traced-requires c κs =
     let planned = start .pre .0 in
     let (hands, size) = spelled (a .t .now) (a .rules .now) (a .edges .now) (a .plan) (a .rank) planned (at-checked-root .checked-root .ensures .0)
     (c .before .before .if1 .left) in
-    (planned .sized, planned .form, start .pre .1, start .pre .2, at-checked-root .checked-root .ensures .1 hands, size)
+    (planned .sized, planned .form, start .pre .1, start .pre .2, record { stands = at-checked-root .checked-root .ensures .1 hands; count = size })
 
 same-length : tie.Need-same-length
 same-length c = search needs

@@ -2,6 +2,7 @@
 use Prim.Native.Nat.{_-_}
 use Rattle.open_listing.specs.Model.{nextTable}
 use Rattle.open_listing.proofs.Searched.{stays, goes-back, table-next, put-back}
+use native.Mathlib.Omega.{arith}
 use borrow.Author.Needs.{needs}
 use Rattle.open_listing.proofs.later.Statement.{statement}
 use Rattle.open_listing.proofs.later.Tie as tie
@@ -79,8 +80,8 @@ returns-2 c =
     goes-back (nextTable (a .rules .now) (a .edges .now) (a .plan) x (a .work .now)) (a .rules .now) (a .edges .now) (a .plan) (a .handed) (a .work .now)
     (a .out .now)
     next (at-settle .settle .ensures .0) (at-settle .settle .ensures .1) (at-is-reading .is-reading .ensures) (at-if1 .if1 .left)
-    (put-back (a .rules .now) (a .edges .now) (a .plan) planned x (a .work .now) made (at-step .step .ensures .0) (at-step .step .ensures .1)
-    (c .before .before .undo .ensures))
+    (put-back (a .rules .now) (a .edges .now) (a .plan) planned x (a .work .now) made (at-step .step .ensures .0) (omega arith)
+    (at-step .step .ensures .1) (c .before .before .undo .ensures))
 
 pub later-spec : {M : Type 1} → statement M
 later-spec =

@@ -21,7 +21,7 @@ returns c =
     let b = c .before .before .before .before .args .inputs in
     let pre = c .before .before .before .before .pre in (
       plan-is b pre (c .before .before .form-of .ensures .0) (c .lay-out .ensures .0),
-      plan-planned b pre (c .before .before .form-of .ensures .0) (c .lay-out .ensures .0) (c .lay-out .ensures .1) (c .before .before .form-of .ensures .1),
+      plan-planned b pre (c .before .before .form-of .ensures .0) (c .lay-out .ensures .0) _ (pre .places) (c .lay-out .ensures .1),
     )
 
 pub plan-of-spec : {M : Type 1} → statement M

@@ -1,11 +1,14 @@
--- At most 47 rule numbers of at most 8 bits stay far below the largest number.
-use Prim.Native.Nat.{_-_, _*_}
+-- Rule numbers have at most 8 bits each, so that the walk of a path within the limit stays far below the largest number.
+use Prim.Native.Nat.{_-_, _*_, _≤_}
+use native.Mathlib.Nat.{mul-le-mul-left}
 use native.Mathlib.Omega.{arith}
 use borrow.Author.Needs.{needs}
 use Rattle.packing.specs.Reading.{readingLength}
-use Rattle.reading_writer.proofs.Walk.{walk-small}
 use Rattle.reading_writer.proofs.reading_length.Statement.{statement}
 use Rattle.reading_writer.proofs.reading_length.Tie as tie
+
+walk : (c : tie.After-width-below) → (2 * c .before .args .n - 1) * c .width-below .result ≤ (2 * c .before .args .n - 1) * 8
+walk c = mul-le-mul-left (2 * c .before .args .n - 1) (c .width-below .ensures .1)
 
 width-below-requires : tie.Need-width-below-requires
 width-below-requires c κs = search needs
@@ -17,13 +20,13 @@ sub-result : tie.Need-sub-result
 sub-result c = search needs
 
 mul-result-2 : tie.Need-mul-result-2
-mul-result-2 c = omega (arith, walk-small {m = 2 * c .before .args .n - 1} {w = c .width-below .result} (omega arith) (omega arith))
+mul-result-2 c = omega (arith, walk c)
 
 add-result : tie.Need-add-result
-add-result c = omega (arith, walk-small {m = 2 * c .before .args .n - 1} {w = c .width-below .result} (omega arith) (omega arith))
+add-result c = omega (arith, walk c)
 
 add-result-2 : tie.Need-add-result-2
-add-result-2 c = omega (arith, walk-small {m = 2 * c .before .args .n - 1} {w = c .width-below .result} (omega arith) (omega arith))
+add-result-2 c = omega (arith, walk c)
 
 returns : tie.Need-returns
 unfolding readingLength

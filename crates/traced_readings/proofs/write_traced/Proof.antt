@@ -1,10 +1,9 @@
 -- The reading written is the rank's, of a graph or of slots, for the trace is the rank's.
-use mathlib.Core.Path.{_≡_, ap}
-use Prim.Native.Nat.{ℕ, _+_, _/_}
+use mathlib.Core.Path.{_≡_}
 use native.Mathlib.Omega.{arith}
 use borrow.Author.Needs.{needs}
 use Rattle.packing.specs.Reading.{readingLength}
-use Rattle.traced_readings.proofs.Written.{trace-size, given, graph-written, slots-written}
+use Rattle.traced_readings.proofs.Written.{trace-long, given, graph-written, slots-written}
 use Rattle.traced_readings.proofs.write_traced.Statement.{statement}
 use Rattle.traced_readings.proofs.write_traced.Tie as tie
 
@@ -19,10 +18,9 @@ write-graph-reading-requires c κs =
     let at-args = c .before .before .before .before .before .before .before .before in
     let a = at-args .args in
     let form = at-args .pre .1 in
-    let edges = ap (λ (k : ℕ). (k / 2 + 1) / 2) (at-args .pre .5) in
-    let g = given (a .t .now) (a .rules .now) (a .d) (a .traced .rank) (form .some-place) (form .places) (a .form) form (c .before .before .if1 .taken) edges
-    (at-args .pre .4) in
-    (g .some-edge, g .few, form .some-rule, form .rules, g .long, at-args .pre .3, g .room)
+    let g = given (a .t .now) (a .rules .now) (a .d) (a .traced .rank) (form .some-place) (at-args .pre .4) (omega (arith, form .places)) (a .form) form
+    (c .before .before .if1 .taken) in
+    (g .some-edge, omega (arith, g .few, form .places), form .some-rule, form .rules, g .long, at-args .pre .3, g .room)
 
 same-length : tie.Need-same-length
 same-length c = search needs
@@ -34,9 +32,8 @@ returns c =
     let at-args = at-root-weight .before .before .before .before .before in
     let a = at-args .args in
     let form = at-args .pre .1 in
-    let edges = ap (λ (k : ℕ). (k / 2 + 1) / 2) (at-args .pre .5) in
-    graph-written (a .t .now) (a .rules .now) (a .d) (a .traced .rank) (form .some-place) (form .places) (a .form) (a .out .now) (at-if1 .if1 .taken) edges
-    (at-root-weight .root-weight .ensures) (at-args .pre .4) (c .before .before .write-graph-reading .ensures)
+    graph-written (a .t .now) (a .rules .now) (a .d) (a .traced .rank) (form .some-place) (at-args .pre .4) (omega (arith, form .places)) (a .form)
+    (a .out .now) (at-if1 .if1 .taken) (at-root-weight .root-weight .ensures) (c .before .before .write-graph-reading .ensures)
 
 write-reading-requires : tie.Need-write-reading-requires
 write-reading-requires c κs =
@@ -44,8 +41,8 @@ write-reading-requires c κs =
     let a = at-args .args in
     let form = at-args .pre .1 in
     let size : a .form .size ≡ readingLength (a .d .places) (a .form .rules) = rw (c .before .if1 .left) at (form .size) in
-    let long = trace-size (a .t .now) (a .rules .now) (a .d) (a .traced .rank) (form .some-place) (form .places) (at-args .pre .4) in
-    (form .some-place, form .places, form .some-rule, form .rules, omega (arith, long, form .places), omega (arith, size, at-args .pre .3))
+    let long = trace-long (a .t .now) (a .rules .now) (a .d) (a .traced .rank) (form .some-place) (at-args .pre .4) (omega (arith, form .places)) in
+    (form .some-place, form .places, form .some-rule, form .rules, long, omega (arith, size, at-args .pre .3))
 
 same-length-2 : tie.Need-same-length-2
 same-length-2 c = search needs
@@ -57,8 +54,8 @@ returns-2 c =
     let at-args = at-root-weight .before .before .before .before .before in
     let a = at-args .args in
     let form = at-args .pre .1 in
-    slots-written (a .t .now) (a .rules .now) (a .d) (a .traced .rank) (form .some-place) (form .places) (a .form) (a .out .now) form (at-if1 .if1 .left)
-    (at-root-weight .root-weight .ensures) (at-args .pre .4) (c .before .before .write-reading .ensures)
+    slots-written (a .t .now) (a .rules .now) (a .d) (a .traced .rank) (form .some-place) (at-args .pre .4) (omega (arith, form .places)) (a .form)
+    (a .out .now) form (at-if1 .if1 .left) (at-root-weight .root-weight .ensures) (c .before .before .write-reading .ensures)
 
 pub write-traced-spec : {M : Type 1} → statement M
 write-traced-spec =
