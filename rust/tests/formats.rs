@@ -240,7 +240,7 @@ fn mistakes() {
         ("u\n0 1 door 3,4\n1 2 four 1 2 3\n2\n", "3:14: `3` where the end of the line should stand"),
         ("u\n0 1 door 3,x,\n", "2:10: `x` is not a number that can stand here: it has to be finite"),
         ("-1.5 door four\n-1e999 door\n", "2:1: `-1e999` is not a number that can stand here: it has to be finite"),
-        ("-1 -2 4 door four\n", "1:7: the sentence says 4 words and has 2"),
+        ("-1 -2 4 door four\n", "1:7: the sentence says 4 words and has 2: was it cut off?"),
         ("a A 0 1 door 1.5\n", "1:14: `1.5` is not a likelihood from 0 to 1"),
         ("a A * * <ALT_BEGIN>\na A 0 1 door 1\n", "2:1: the line ends where <ALT_END> should stand"),
         ("a A * * <ALT_END>\na A 0 1 door 1\n", "1:9: `<ALT_END>` where <ALT_BEGIN> or a word should stand"),

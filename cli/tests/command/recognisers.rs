@@ -146,7 +146,7 @@ fn the_page_says_what_is_missing() {
     let note = "left out, for the grammar does not have them: um";
     assert_eq!((page.status, page.err.as_str()), (0, format!("l: {note}\n").as_str()));
     assert!(page.out.contains(&format!("<p class=\"left-out\">{note}.</p>")), "{}", page.out);
-    assert!(page.out.contains(">0.50 s</text>"), "{}", page.out);
+    assert!(page.out.contains(">0.50</text>"), "{}", page.out);
 }
 
 /// Words that are left out are said of slots and of plain word graphs too.

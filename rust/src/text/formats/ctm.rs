@@ -45,9 +45,9 @@ pub(super) fn parse(text: &str) -> Result<Vec<Draft>, Error> {
         let [file, channel, begin, duration, word, ..] = items[..] else {
             return Err(line.ends("file, channel, beginning, duration and word"));
         };
-        let name = format!("{} {}", file.text, channel.text);
-        if utterances.last().is_none_or(|last| last.draft.id.as_deref() != Some(&name)) {
-            utterances.push(Utterance::new(name));
+        let is_known = |last: &Utterance| last.is_of(file.text, channel.text);
+        if !utterances.last().is_some_and(is_known) {
+            utterances.push(Utterance::new(format!("{} {}", file.text, channel.text)));
         }
         if let Some(utterance) = utterances.last_mut() {
             utterance.take(begin, duration, word, items.get(NEEDED))?;
@@ -75,6 +75,11 @@ impl Utterance {
         let mut draft = Draft { id: Some(name), scored: Some(("CTM", "confidences")), ..Draft::default() };
         let at = draft.node(None);
         Self { draft, at, fork: None }
+    }
+
+    fn is_of(&self, file: &str, channel: &str) -> bool {
+        let name = self.draft.id.as_deref().and_then(|name| name.strip_prefix(file));
+        name.and_then(|rest| rest.strip_prefix(' ')) == Some(channel)
     }
 
     fn take(&mut self, begin: Item, duration: Item, word: Item, confidence: Option<&Item>) -> Result<(), Error> {
