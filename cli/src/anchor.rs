@@ -1,7 +1,5 @@
 //! Anchors: words that are known for certain.
 
-use crate::failure::Failure;
-use crate::options::{Arguments, SAID};
 use spireyerba::limits::NOT_HEARD;
 use spireyerba::text::NamedGrammar;
 use spireyerba::{Candidate, Heard};
@@ -12,24 +10,23 @@ pub fn slot_and_word(said: &str) -> Option<(usize, &str)> {
     Some((number.parse().ok()?, word))
 }
 
-/// Strikes out, slot by slot, what stands beside the words that the command line says were said: they were not heard. Answers
-/// the slots of those words.
-pub fn apply(arguments: &Arguments, grammar: &NamedGrammar, heard: &mut Heard) -> Result<Vec<usize>, Failure> {
+/// Strikes out, slot by slot, what stands beside the words that were said, as `SLOT=WORD`: they were not heard. Answers the slots of
+/// those words, or why it cannot be.
+pub fn apply(anchors: &[&str], grammar: &NamedGrammar, heard: &mut Heard) -> Result<Vec<usize>, String> {
     let mut known = Vec::new();
-    for said in arguments.values(&SAID) {
+    for said in anchors {
         let Some((number, word)) = slot_and_word(said) else { continue };
         let Heard::Slots(utterance) = heard else {
             let instead = "only slots have numbers; --said WORD keeps the paths that have a word";
-            return Err(Failure::Refused(format!("--said {said}: {instead}")));
+            return Err(format!("--said {said}: {instead}"));
         };
         let slots = utterance.slots.len();
-        let slot = utterance.slots.get_mut(number).ok_or_else(|| {
-            Failure::Refused(format!("--said {said}: the utterance has {slots} slots, numbered from 0"))
-        })?;
+        let slot = utterance.slots.get_mut(number);
+        let slot = slot.ok_or_else(|| format!("--said {said}: the utterance has {slots} slots, numbered from 0"))?;
         let is_said = |candidate: &Candidate| grammar.word(candidate.word) == word;
         if !slot.iter().any(|candidate| is_said(candidate) && candidate.is_offered()) {
             let offered = grammar.slot_text(slot);
-            return Err(Failure::Refused(format!("--said {said}: slot {number} does not offer it, but {offered}")));
+            return Err(format!("--said {said}: slot {number} does not offer it, but {offered}"));
         }
         slot.iter_mut().filter(|candidate| !is_said(candidate)).for_each(|candidate| candidate.cost = NOT_HEARD);
         known.push(number);

@@ -1,7 +1,7 @@
 //! JSON, as much of it as is printed here.
 
 use spireyerba::text::NamedGrammar;
-use spireyerba::{Body, Part, Reading, Tree};
+use spireyerba::{Body, Edge, Heard, Part, Reading, Tree};
 use std::io::Write;
 
 /// Adds a string in quotes.
@@ -53,6 +53,55 @@ pub fn push_numbers(json: &mut Vec<u8>, key: &str, numbers: impl Iterator<Item =
         json.push(b',');
     }
     end_list(json);
+}
+
+/// What a word graph was made of.
+#[derive(Clone, Copy, Default)]
+pub struct Origin<'a> {
+    /// The slot of each edge, if it was slots.
+    pub slots: Option<&'a [u32]>,
+    /// The link of each edge, if it was a lattice.
+    pub links: &'a [u32],
+    /// When each place was reached, if that is known, and the edges.
+    pub times: Option<(&'a [f64], &'a [Edge])>,
+}
+
+impl<'a> Origin<'a> {
+    pub fn new(heard: &'a Heard, slots: Option<&'a [u32]>, links: &'a [u32], times: Option<&'a [f64]>) -> Self {
+        let edges: &[Edge] = match heard {
+            Heard::Graph(graph) => &graph.edges,
+            Heard::Slots(_) => &[],
+        };
+        Self { slots, links, times: times.map(|times| (times, edges)) }
+    }
+}
+
+/// Adds where the words of a reading were heard: the slots, if slots became a word graph; or else the edges of a graph, and of a
+/// lattice the links, and when each word began and ended if that is known.
+pub fn push_path(json: &mut Vec<u8>, reading: &Reading, origin: Origin) {
+    let Some(path) = &reading.path else { return };
+    let all = |of: &'_ [u32]| path.iter().map(|edge| of[*edge as usize]).collect::<Vec<_>>();
+    if let Some(slots) = origin.slots {
+        return push_numbers(json, "slots", all(slots).into_iter());
+    }
+    push_numbers(json, "edges", path.iter().copied());
+    if !origin.links.is_empty() {
+        push_numbers(json, "links", all(origin.links).into_iter());
+    }
+    if let Some((times, edges)) = origin.times {
+        push_key(json, "times");
+        json.push(b'[');
+        for edge in path.iter().map(|edge| edges[*edge as usize]) {
+            let [from, to] = [edge.from, edge.to].map(|place| in_milliseconds(times[place as usize]));
+            write!(json, "[{from},{to}],").expect("a list takes all");
+        }
+        end_list(json);
+    }
+}
+
+/// A time in seconds without digits that say nothing.
+fn in_milliseconds(time: f64) -> f64 {
+    (time * 1e3).round() / 1e3
 }
 
 /// Adds a list of strings.

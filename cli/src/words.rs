@@ -6,11 +6,12 @@
 use crate::anchor;
 use crate::failure::Failure;
 use crate::files::{self, GrammarFile, Written};
+use crate::json::Origin;
 use crate::options::{Arguments, EXACT, PATHS, SAID, SKIP};
 use spireyerba::lattice::{reduce, word_label, Acceptor, Automaton, Keep, Misfit, Reduced};
 use spireyerba::limits::{MAX_EDGES, MAX_PLACES};
-use spireyerba::text::{Lattice, NamedGrammar};
-use spireyerba::{Graph, Heard};
+use spireyerba::text::{Lattice, NamedGrammar, UtteranceReader};
+use spireyerba::{Error, Graph, Heard};
 
 /// Where what was heard comes from.
 #[derive(Clone, Copy)]
@@ -31,37 +32,143 @@ impl Input<'_> {
     }
 }
 
-/// What was heard, as the command line asks for it, and the slot of each edge, if slots became a word graph. Says on standard
-/// error what was pruned or left out.
-pub fn heard(
-    arguments: &Arguments,
-    grammar: &GrammarFile,
-    input: Input,
-) -> Result<(Lattice, Option<Vec<u32>>), Failure> {
-    let cost = arguments.number::<u32>(&SKIP)?;
-    let said: Vec<&str> = arguments.values(&SAID).filter(|said| anchor::slot_and_word(said).is_none()).collect();
-    if cost.is_none() && said.is_empty() {
-        let mut lattice = match input {
-            Input::File(operand) => files::heard(arguments, grammar, operand)?,
-            Input::Words(words) => files::words(arguments, grammar, words)?.into(),
-        };
-        anchor::apply(arguments, &grammar.named, &mut lattice.heard)?;
-        return Ok((lattice, None));
+/// What was heard, as a command line asks for it.
+pub struct Changed {
+    pub lattice: Lattice,
+    /// The slot of each edge, if slots became a word graph.
+    pub slots: Option<Vec<u32>>,
+}
+
+impl Changed {
+    /// What the word graph was made of, if there is one.
+    pub fn origin(&self) -> Origin<'_> {
+        let Lattice { heard, sources, times, .. } = &self.lattice;
+        Origin::new(heard, self.slots.as_deref(), sources, times.as_deref())
     }
-    let mut source = Source::read(arguments, grammar, input, cost.is_some())?;
-    if let Some(cost) = cost {
-        let known = std::mem::take(&mut source.known);
-        source.acceptor = source.acceptor.skip(cost.into(), |arc| known.contains(&(arc.source as usize)));
+}
+
+impl From<Lattice> for Changed {
+    fn from(lattice: Lattice) -> Self {
+        Self { lattice, slots: None }
     }
-    for word in said {
-        source.acceptor = with_word(&source.acceptor, &grammar.named, word)?;
+}
+
+/// What was heard, as the command line asks for it. Says on standard error what was pruned or left out.
+pub fn heard(arguments: &Arguments, grammar: &GrammarFile, input: Input) -> Result<Changed, Failure> {
+    let (words, name) = (Words::new(arguments, &grammar.named)?, input.name());
+    let in_input = |why: String| Failure::Refused(format!("{name}: {why}"));
+    let changed = match input {
+        // what was pruned or left out is said where it is read
+        Input::File(operand) if !words.takes_acceptor() => {
+            return words.anchored(files::heard(arguments, grammar, operand)?).map_err(in_input);
+        }
+        Input::File(operand) => words.apply(files::written(arguments, grammar, operand, words.may_skip())?),
+        Input::Words(said) => words.apply(Written::Plain(files::words(arguments, grammar, said)?)),
+    };
+    let changed = changed.map_err(in_input)?;
+    changed.lattice.notes().iter().for_each(|note| eprintln!("{name}: {note}"));
+    Ok(changed)
+}
+
+/// What a command line says of words.
+pub struct Words<'a> {
+    named: &'a NamedGrammar,
+    /// What a word too many costs, if there may be some.
+    cost: Option<u32>,
+    /// Words that are on every path, and words of slots.
+    said: Vec<&'a str>,
+    anchors: Vec<&'a str>,
+    keep: Keep,
+    is_exact: bool,
+}
+
+impl<'a> Words<'a> {
+    pub fn new(arguments: &Arguments<'a>, named: &'a NamedGrammar) -> Result<Self, Failure> {
+        let cost = arguments.number::<u32>(&SKIP)?;
+        let (anchors, said) = arguments.values(&SAID).partition(|said| anchor::slot_and_word(said).is_some());
+        let keep = if arguments.has(&PATHS) { Keep::Paths } else { Keep::Strings };
+        let words = Self { named, cost, said, anchors, keep, is_exact: arguments.has(&EXACT) };
+        let missing = words.said.iter().find(|word| words.label(word).is_none());
+        match missing {
+            Some(word) => Err(Failure::Refused(format!("--said {word}: the grammar has no such word"))),
+            None => Ok(words),
+        }
     }
-    source.reduce(arguments)
+
+    /// Whether the command line says nothing of words.
+    pub fn are_none(&self) -> bool {
+        self.cost.is_none() && self.said.is_empty() && self.anchors.is_empty()
+    }
+
+    fn label(&self, word: &str) -> Option<u32> {
+        let number = self.named.words.iter().position(|known| known == word)?;
+        Some(word_label(number as u32))
+    }
+
+    /// Whether it takes an acceptor to do as the command line says.
+    fn takes_acceptor(&self) -> bool {
+        self.cost.is_some() || !self.said.is_empty()
+    }
+
+    /// Whether words that the grammar does not have are passed over, and so not refused.
+    pub fn may_skip(&self) -> bool {
+        self.cost.is_some()
+    }
+
+    /// Reads a text that has one utterance; answers a reason if what it has cannot be changed as the command line says.
+    pub fn read(&self, reader: &UtteranceReader, text: &str) -> Result<Result<Changed, String>, Error> {
+        if !self.takes_acceptor() {
+            return reader.read_heard(text).map(|lattice| self.anchored(lattice));
+        }
+        match reader.read_plain(text) {
+            Some(plain) => plain.map(|plain| self.apply(Written::Plain(plain))),
+            None => reader.recognised_alone(text).map(|recognised| self.apply(Written::Lattice(recognised))),
+        }
+    }
+
+    /// Reads all that a text has.
+    pub fn read_all(&self, reader: &UtteranceReader, text: &str) -> Result<Vec<Result<Changed, String>>, Error> {
+        if !self.takes_acceptor() {
+            return Ok(reader.read_all_heard(text)?.into_iter().map(|lattice| self.anchored(lattice)).collect());
+        }
+        match reader.read_plain(text) {
+            Some(plain) => plain.map(|plain| vec![self.apply(Written::Plain(plain))]),
+            None => {
+                let all = reader.recognised(text)?.into_iter();
+                Ok(all.map(|recognised| self.apply(Written::Lattice(recognised))).collect())
+            }
+        }
+    }
+
+    /// What was heard, with the words of slots that are known.
+    fn anchored(&self, mut lattice: Lattice) -> Result<Changed, String> {
+        anchor::apply(&self.anchors, self.named, &mut lattice.heard)?;
+        Ok(lattice.into())
+    }
+
+    /// What was heard, with the words that are known and without those that are too many.
+    fn apply(&self, written: Written) -> Result<Changed, String> {
+        let mut source = Source::new(self, written)?;
+        if !self.takes_acceptor() {
+            return Ok(source.rest.into());
+        }
+        if let Some(cost) = self.cost {
+            let known = std::mem::take(&mut source.known);
+            source.acceptor = source.acceptor.skip(cost.into(), |arc| known.contains(&(arc.source as usize)));
+        }
+        for word in &self.said {
+            let label = self.label(word).unwrap_or_default();
+            source.acceptor = source.acceptor.intersect(&Automaton::containing(label));
+            if source.acceptor.is_empty() {
+                return Err(format!("--said {word}: no path has it"));
+            }
+        }
+        source.reduce(self.is_exact)
+    }
 }
 
 /// What was heard as an acceptor.
 struct Source {
-    name: String,
     acceptor: Acceptor,
     /// Whether the sources of its arcs are numbers of slots, and the slots whose words are known for certain.
     is_slots: bool,
@@ -72,51 +179,42 @@ struct Source {
 }
 
 impl Source {
-    fn read(arguments: &Arguments, grammar: &GrammarFile, input: Input, may_skip: bool) -> Result<Self, Failure> {
-        let name = input.name();
-        let lattice_keep = if arguments.has(&PATHS) { Keep::Paths } else { Keep::Strings };
-        let written = match input {
-            Input::File(operand) => files::written(arguments, grammar, operand, may_skip)?,
-            Input::Words(words) => Written::Plain(files::words(arguments, grammar, words)?),
-        };
+    fn new(words: &Words, written: Written) -> Result<Self, String> {
         match written {
             Written::Plain(mut heard) => {
-                let known = anchor::apply(arguments, &grammar.named, &mut heard)?;
+                let known = anchor::apply(&words.anchors, words.named, &mut heard)?;
                 let (acceptor, is_slots) = match &heard {
                     Heard::Slots(utterance) => (Acceptor::from(utterance), true),
                     Heard::Graph(graph) => (Acceptor::from(graph), false),
                 };
-                Ok(Self { name, acceptor, is_slots, known, keep: Keep::Paths, rest: heard.into() })
+                Ok(Self { acceptor, is_slots, known, keep: Keep::Paths, rest: heard.into() })
             }
             Written::Lattice(recognised) => {
                 let mut rest = Lattice::from(Heard::Graph(Graph { places: 0, edges: Vec::new() }));
-                anchor::apply(arguments, &grammar.named, &mut rest.heard)?;
+                anchor::apply(&words.anchors, words.named, &mut rest.heard)?;
                 (rest.id, rest.dropped) = (recognised.id, recognised.dropped);
                 let acceptor = recognised.acceptor;
-                Ok(Self { name, acceptor, is_slots: false, known: Vec::new(), keep: lattice_keep, rest })
+                Ok(Self { acceptor, is_slots: false, known: Vec::new(), keep: words.keep, rest })
             }
         }
     }
 
     /// The word graph of it, and the slot of each edge, if it was slots.
-    fn reduce(self, arguments: &Arguments) -> Result<(Lattice, Option<Vec<u32>>), Failure> {
-        let Self { name, acceptor, is_slots, keep, mut rest, .. } = self;
+    fn reduce(self, is_exact: bool) -> Result<Changed, String> {
+        let Self { acceptor, is_slots, keep, rest, .. } = self;
         let Reduced { graph, times, sources, taken_off, pruned } = match reduce(&acceptor, keep) {
             Ok(reduced) => reduced,
             // where nothing was heard there is no edge, and no reading of the slots either
-            Err(Misfit::NoWord) if has_words(&rest.heard) => return Ok((rest, None)),
-            Err(misfit) => return Err(Failure::Refused(format!("{name}: {}", why_not(misfit)))),
+            Err(Misfit::NoWord) if has_words(&rest.heard) => return Ok(rest.into()),
+            Err(misfit) => return Err(why_not(misfit)),
         };
-        if let Some(pruned) = pruned.filter(|_| arguments.has(&EXACT)) {
+        if let Some(pruned) = pruned.filter(|_| is_exact) {
             let (edges, fits) = (pruned.of, MAX_EDGES);
-            return Err(Failure::Refused(format!(
-                "{name}: takes {edges} edges and a word graph has {fits}: not --exact"
-            )));
+            return Err(format!("takes {edges} edges and a word graph has {fits}: not --exact"));
         }
         let slots = is_slots.then(|| sources.clone());
-        rest = Lattice { heard: Heard::Graph(graph), times, sources, taken_off, pruned, ..rest };
-        rest.notes().iter().for_each(|note| eprintln!("{name}: {note}"));
-        Ok((rest, slots))
+        let lattice = Lattice { heard: Heard::Graph(graph), times, sources, taken_off, pruned, ..rest };
+        Ok(Changed { lattice, slots })
     }
 }
 
@@ -131,17 +229,5 @@ fn why_not(misfit: Misfit) -> String {
         Misfit::TooLarge { places, edges } => format!(
             "even the cheapest takes {places} places and {edges} edges, and a word graph has {MAX_PLACES} and {MAX_EDGES}"
         ),
-    }
-}
-
-/// The paths that have a word.
-fn with_word(acceptor: &Acceptor, named: &NamedGrammar, word: &str) -> Result<Acceptor, Failure> {
-    let refused = |why: &str| Failure::Refused(format!("--said {word}: {why}"));
-    let number = named.words.iter().position(|known| known == word);
-    let number = number.ok_or_else(|| refused("the grammar has no such word"))?;
-    let with_word = acceptor.intersect(&Automaton::containing(word_label(number as u32)));
-    match with_word.is_empty() {
-        true => Err(refused("no path has it")),
-        false => Ok(with_word),
     }
 }

@@ -102,6 +102,50 @@ fn damaged(text: &str, rng: &mut Rng) -> String {
     letters.into_iter().collect()
 }
 
+/// Every format has a text that is damaged.
+#[test]
+fn every_format_is_among_them() {
+    let texts = texts();
+    for name in Format::names() {
+        assert!(texts.iter().any(|text| Some(Format::of(text)) == Format::named(name)), "{name}");
+    }
+}
+
+/// What stands in place of a score, of every format that is scored: told where it is and what is wanted, or taken for what it says.
+#[test]
+fn scores_that_are_none() {
+    let grammar = NamedGrammar::parse("A -> A A | \"x\" | \"y\"").expect("a grammar");
+    let read = |text: &str| {
+        let mut reader = UtteranceReader::new(&grammar);
+        reader.scale = Some(100.0);
+        reader.read_all_heard(text).map(|lattices| lattices.len()).map_err(|error| error.in_file("f").to_string())
+    };
+    let no_number =
+        |at: &str, found: &str| format!("f:{at}: `{found}` is not a number that can stand here: it has to be finite");
+    let no_likelihood = |at: &str, found: &str| format!("f:{at}: `{found}` is not a likelihood from 0 to 1");
+    let no_posterior = |at: &str, found: &str| format!("f:{at}: `{found}` is not a posterior from 0 to the network's");
+    for odd in ["nan", "inf"] {
+        assert_eq!(read(&format!("I=0\nI=1\nJ=0 S=0 E=1 W=x a={odd}\n")), Err(no_number("3:17", odd)));
+        assert_eq!(read(&format!("-1.5 x y\n{odd} x\n")), Err(no_number("2:1", odd)));
+        assert_eq!(read(&format!("a 1 0 1 x {odd}\n")), Err(no_likelihood("1:11", odd)));
+        assert_eq!(read(&format!("a 1 0 1 x 0.5\na 1 {odd} 1 y 0.5\n")), Err(no_number("2:5", odd)));
+        assert_eq!(read(&format!("align 0 x {odd} y 0.5\n")), Err(no_posterior("1:11", odd)));
+    }
+    assert_eq!(read("0 1 x nan\n1\n"), Err(no_number("1:7", "nan")));
+    assert_eq!(read("u\n0 1 x nan,1,2\n1\n"), Err(no_number("2:7", "nan")));
+    let word = |confidence: &str| format!("{{\"result\": [{{\"word\": \"x\", \"conf\": {confidence}}}]}}");
+    assert_eq!(read(&word("-0.5")), Err(no_likelihood("1:35", "-0.5")));
+    assert_eq!(read(&word("\"high\"")), Err(no_likelihood("1:35", "high")));
+    assert_eq!(read(&word("\"0.9\"")), Ok(1));
+    assert_eq!(read("I=0\nI=1\nJ=0 S=0 E=1 W=x p=1.5\n"), Err(no_likelihood("3:17", "1.5")));
+    let too_large = "gives a cost that passes 65534: a smaller scale is needed";
+    assert_eq!(read("0 1 x 1e14\n1\n"), Err(format!("f:1:1: refused 42: `100000000000000` {too_large}")));
+    // a CTM that is cut off, a list in a list
+    let cut = "f:2:8: the line ends where file, channel, beginning, duration and word should stand";
+    assert_eq!(read("a 1 0 1 x 0.5\na 1 0 1\n"), Err(cut.into()));
+    assert!(read(&"[".repeat(100_000)).is_err_and(|message| message.contains("go too deep")));
+}
+
 #[test]
 fn damaged_files_are_answered_or_refused() {
     let grammar = std::fs::read_to_string(examples().join("formats/grammar.txt")).expect("a grammar");
@@ -146,7 +190,16 @@ fn enormous_files() {
     };
     let fst = || (0..LINKS).map(|number| format!("{} {} x 0.5\n", number % 999, number % 999 + 1)).collect::<String>();
     let json = || format!("{{\"result\": [{}]}}", vec!["{\"word\": \"x\", \"conf\": 0.5}"; LINKS].join(","));
-    let texts: [(&str, String); 9] = [
+    let cycle = || (0..60_000).map(|number| format!("{number} {} x 0.5\n", (number + 1) % 60_000)).collect::<String>();
+    let texts = [
+        ("nodes of SLF", format!("VERSION=1.0\n{}", (0..LINKS).map(|node| format!("I={node}\n")).collect::<String>())),
+        ("a cycle", cycle()),
+        ("slots", "x 3 ; ".repeat(LINKS)),
+        ("graph", (0..LINKS).map(|number| format!("{number} {} x 3\n", number + 1)).collect()),
+        ("list of sentences", "-1.5 x x\n".repeat(LINKS)),
+        ("alignments", (0..LINKS).map(|number| format!("align {number} x 0.5\n")).collect()),
+        ("utterances of CTM", (0..LINKS).map(|number| format!("u{number} A 0 1 x 0.5\n")).collect()),
+        ("alternatives", format!("{{\"alternatives\": [{}]}}", vec!["{\"text\": \"x\"}"; LINKS].join(","))),
         ("SLF", slf()),
         ("OpenFst", fst()),
         ("Kaldi", format!("u\n{}", fst().replace("0.5", "0.5,1,"))),
@@ -160,7 +213,7 @@ fn enormous_files() {
     for (name, text) in texts {
         let mut reader = UtteranceReader::new(&grammar);
         reader.scale = Some(1.0);
-        let (taken, read) = clock::once(|| reader.read_all_heard(&text));
+        let (taken, read) = clock::once(|| reader.read_heard(&text));
         let message = read.expect_err(name).to_string();
         assert!(taken < Duration::from_secs(1), "{name} took {taken:?}");
         assert!(message.len() < LONGEST_MESSAGE, "{name}: {} bytes", message.len());

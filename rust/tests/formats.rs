@@ -74,7 +74,8 @@ fn lattices_of_kaldi() {
     let times = two[1].times.as_deref().expect("times");
     assert!(times.iter().zip([0.0, 0.03, 0.06]).all(|(found, time)| (found - time).abs() < 1e-9), "{times:?}");
     let grammar = grammar();
-    let message = UtteranceReader::new(&grammar).read_heard(&example("kaldi.txt")).map_err(|error| error.to_string());
+    let without_scale = UtteranceReader::new(&grammar);
+    let message = without_scale.read_all_heard(&example("kaldi.txt")).map_err(|error| error.to_string());
     assert!(message.is_err_and(|message| message.contains("a scale")));
     let mut reader = UtteranceReader::new(&grammar);
     reader.scale = Some(1.0);
@@ -231,22 +232,22 @@ fn paths_and_words_that_are_left_out() {
 #[test]
 fn mistakes() {
     for (text, message) in [
-        ("0 1 door 0.5\n1 0 four nan\n", "2:10: `nan` is not a number that can stand here"),
-        ("0 1 door 0.5\n1 2 four -inf\n2\n", "2:10: `-inf` is not a number that can stand here"),
-        ("0 1 door 0.5\n1 2 four 1e30\n2\n", "2:1: `1000000000000000000000000000000` is not a number that can stand here"),
-        ("0 1 door 0.5\n1 2 four\n2 1 four\n2\n", "2:1: links go round in a circle, and this is one of them"),
+        ("0 1 door 0.5\n1 0 four nan\n", "2:10: `nan` is not a number that can stand here: it has to be finite"),
+        ("0 1 door 0.5\n1 2 four -inf\n2\n", "2:10: `-inf` is not a number that can stand here: it has to be finite"),
+        ("0 1 door 0.5\n1 2 four 1e30\n2\n", "2:1: refused 42: `1000000000000000000000000000000` gives a cost that passes 65534: a smaller scale is needed"),
+        ("0 1 door 0.5\n1 2 four\n2 1 four\n2\n", "2:1: links go round in a circle, and this is one of them: a lattice has no way back"),
         ("0 1 door 0.5\n1 2 um 1\n2\n", "2:1: refused 14: the grammar has no word `um`"),
         ("u\n0 1 door 3,4\n1 2 four 1 2 3\n2\n", "3:14: `3` where the end of the line should stand"),
-        ("u\n0 1 door 3,x,\n", "2:10: `x` is not a number that can stand here"),
-        ("-1.5 door four\n-1e999 door\n", "2:1: `-1e999` is not a number that can stand here"),
-        ("-1 -2 4 door four\n", "1:7: the sentence says 4 words and has 2"),
-        ("a A 0 1 door 1.5\n", "1:14: `1.5` is not a posterior from 0 to the network's"),
+        ("u\n0 1 door 3,x,\n", "2:10: `x` is not a number that can stand here: it has to be finite"),
+        ("-1.5 door four\n-1e999 door\n", "2:1: `-1e999` is not a number that can stand here: it has to be finite"),
+        ("-1 -2 4 door four\n", "1:7: the sentence says 4 words and has 2: was it cut off?"),
+        ("a A 0 1 door 1.5\n", "1:14: `1.5` is not a likelihood from 0 to 1"),
         ("a A * * <ALT_BEGIN>\na A 0 1 door 1\n", "2:1: the line ends where <ALT_END> should stand"),
         ("a A * * <ALT_END>\na A 0 1 door 1\n", "1:9: `<ALT_END>` where <ALT_BEGIN> or a word should stand"),
         ("{\"hypotheses\": []}", "1:1: JSON, but not in a form of Vosk (text, result, alternatives), AWS Transcribe (results.items), Google (results) or Azure (NBest)"),
         ("{\"NBest\": [{\"Confidence\": 1.5, \"Lexical\": \"door\"}, {\"Confidence\": 0.5}]}", "1:52: the line ends where a transcript should stand"),
         ("{\"results\": [{\"alternatives\": [", "1:32: the line ends where a value should stand"),
-        ("VERSION=1.0\nI=0\nI=1\nJ=0 S=0 E=1 W=door p=1.5\n", "4:20: `1.5` is not a posterior from 0 to the network's"),
+        ("VERSION=1.0\nI=0\nI=1\nJ=0 S=0 E=1 W=door p=1.5\n", "4:20: `1.5` is not a likelihood from 0 to 1"),
     ] {
         let error = read_all(text).expect_err(text).in_file("f").to_string();
         assert_eq!(error, format!("f:{message}"), "{text}");

@@ -168,9 +168,9 @@ fn mistakes_in_fields() {
         ("N=2\nSUBLAT=inner", "2:1: a lattice within a lattice is not read"),
         ("N=2\nbase=1", "2:1: `1` is not a base of logarithms"),
         ("N=2\nbase=-2", "2:1: `-2` is not a base of logarithms"),
-        ("N=2\nlmscale=high", "2:1: `high` is not a number that can stand here"),
-        ("N=2\nwdpenalty=-inf", "2:1: `-inf` is not a number that can stand here"),
-        ("I=0 t=soon", "1:5: `soon` is not a number that can stand here"),
+        ("N=2\nlmscale=high", "2:1: `high` is not a number that can stand here: it has to be finite"),
+        ("N=2\nwdpenalty=-inf", "2:1: `-inf` is not a number that can stand here: it has to be finite"),
+        ("I=0 t=soon", "1:5: `soon` is not a number that can stand here: it has to be finite"),
         ("I=0 L=inner", "1:5: a lattice within a lattice is not read"),
         ("I=x", "1:1: `x` is not a whole number"),
         ("I=0\nI=1\nI=0", "3:1: a node with this number stands in line 1"),
@@ -179,7 +179,7 @@ fn mistakes_in_fields() {
         ("I=0\nJ=0 S=0 E=a", "2:9: `a` is not a whole number"),
         ("J=0 S=0 E=1 W=\"x", "1:13: a quoted word has no quote at its end"),
         ("J=0 S=0 E=1 W=\\377", "1:13: `\\377` has bytes that are no characters"),
-        ("J=0 S=0 E=1 a=inf", "1:13: `inf` is not a number that can stand here"),
+        ("J=0 S=0 E=1 a=inf", "1:13: `inf` is not a number that can stand here: it has to be finite"),
     ] {
         expect(read(text), text, message);
     }
@@ -188,17 +188,25 @@ fn mistakes_in_fields() {
 #[test]
 fn mistakes_in_lattices() {
     for (header, links, message) in [
-        ("N=3", &["S=0 E=1 W=x"][..], "2:1: the lattice says 3 nodes and has 2"),
-        ("L=2", &["S=0 E=1 W=x"], "2:1: the lattice says 2 links and has 1"),
+        ("N=3", &["S=0 E=1 W=x"][..], "2:1: the lattice says 3 nodes and has 2: was it cut off?"),
+        ("L=2", &["S=0 E=1 W=x"], "2:1: the lattice says 2 links and has 1: was it cut off?"),
         ("start=2", &["S=0 E=1 W=x"], "2:1: there is no node `2`"),
         ("end=2", &["S=0 E=1 W=x"], "2:1: there is no node `2`"),
         ("", &["S=0 E=2 W=x"], "6:9: there is no node `2`"),
         ("", &["S=0 E=1 W=um"], "6:1: refused 14: the grammar has no word `um`"),
-        ("", &["S=0 E=1 W=x", "S=1 E=0 W=y"], "6:1: links go round in a circle, and this is one of them"),
-        ("start=0 end=1", &["S=0 E=1 W=x", "S=1 E=1 W=y"], "7:1: links go round in a circle, and this is one of them"),
+        (
+            "",
+            &["S=0 E=1 W=x", "S=1 E=0 W=y"],
+            "6:1: links go round in a circle, and this is one of them: a lattice has no way back",
+        ),
+        (
+            "start=0 end=1",
+            &["S=0 E=1 W=x", "S=1 E=1 W=y"],
+            "7:1: links go round in a circle, and this is one of them: a lattice has no way back",
+        ),
         ("start=0 end=1", &["S=0 E=1"], "6:1: refused 13: there is no word on a path to the end"),
         ("start=1 end=0", &["S=0 E=1 W=x"], "6:1: refused 13: there is no word on a path to the end"),
-        ("base=0", &["S=0 E=1 W=x a=-0.5"], "6:17: `-0.5` is not a number that can stand here"),
+        ("base=0", &["S=0 E=1 W=x a=-0.5"], "6:17: `-0.5` is not a number that can stand here: it has to be finite"),
     ] {
         let text = format!("VERSION=1.0\n{header}\n{}", lattice(2, links));
         expect(read(&text), &text, message);

@@ -15,9 +15,10 @@ use crate::names::{carried, shown};
 use crate::no_reading::NoReading;
 use crate::options::{
     Arguments, DISTINCT, DROP_DELETES, DROP_UNKNOWN, EMPTY, EXACT, FILES, FOLD, FORMAT, JOBS, LINE, PATHS, RESUME,
-    SCALE, WANTED,
+    SAID, SCALE, SKIP, WANTED,
 };
 use crate::output::Output;
+use crate::words::{Changed, Words};
 pub use lattices::{are_lattices, named};
 use lattices::{push_notes, Lines};
 pub use line::Line;
@@ -25,7 +26,8 @@ use resume::Answered;
 use sink::{Answers, Refused, Sink};
 use source::{Piece, Source};
 use spireyerba::limits::MAX_READINGS;
-use spireyerba::text::{is_graph, Lattice, NamedGrammar, UtteranceReader};
+
+use spireyerba::text::{is_graph, NamedGrammar, UtteranceReader};
 use spireyerba::{Distinct, Error, Found, Heard, Lister, Reading, Refusal};
 use std::borrow::Cow;
 use std::ffi::OsStr;
@@ -37,7 +39,7 @@ pub const COMMAND: Command = Command {
     operands: &["GRAMMAR", "FILE"],
     needed: 1,
     options: &[
-        WANTED, DISTINCT, FILES, JOBS, LINE, RESUME, SCALE, FOLD, DROP_UNKNOWN, DROP_DELETES, EMPTY, FORMAT, PATHS, EXACT,
+        WANTED, DISTINCT, FILES, JOBS, LINE, RESUME, SAID, SKIP, SCALE, FOLD, DROP_UNKNOWN, DROP_DELETES, EMPTY, FORMAT, PATHS, EXACT,
     ],
     summary: "list the readings of many utterances, word graphs or lattices on all cores",
     details: "\
@@ -53,7 +55,9 @@ follows the tab, such as a cost, it is a blank like any other.
 Lattices stand in files of their own: --files names a list of them, one a line, also with a name and a tab before it. A file
 in HTK's format, of Kaldi's or of JSON may be FILE itself, and one in another with --format. Each lattice is an answer, with its own
 name as \"id\", or the line's, or the file's; \"complete_up_to\" says that it was pruned and up to which weight every reading
-is there, and \"dropped\" has the words that --drop-unknown left out.
+is there, and \"dropped\" has the words that --drop-unknown left out. For each word of a reading \"edges\" has the number of its
+edge in the word graph that the lattice was reduced to, \"links\" that of its link as links stand in the file, from 0, and
+\"times\" when it began and ended, if the file has times. With --skip \"slots\" has the slots of an utterance's words instead.
 With --resume a run that was interrupted goes on: no line, and no lattice of a file, is answered twice or left out.",
     example: "spireyerba batch grammar.txt utterances.txt -n 1 --resume readings.jsonl",
     run,
@@ -66,7 +70,9 @@ fn run(arguments: &Arguments, output: &mut Output) -> Result<(), Failure> {
     let cores = std::thread::available_parallelism().map_or(1, usize::from);
     let jobs = arguments.number(&JOBS)?.unwrap_or(cores).max(1);
     let grammar = files::grammar(arguments.operands[0])?;
-    let reader = files::utterance_reader(arguments, &grammar.named)?;
+    let words = Words::new(arguments, &grammar.named)?;
+    let mut reader = files::utterance_reader(arguments, &grammar.named)?;
+    reader.keep_unknown = words.may_skip();
     let Lines { operand, are_files, file } = Lines::open(arguments, reader.format)?;
     let name = files::name_of(operand);
     let batch = Batch {
@@ -76,6 +82,7 @@ fn run(arguments: &Arguments, output: &mut Output) -> Result<(), Failure> {
         distinct: arguments.has(&DISTINCT),
         named: &grammar.named,
         reader,
+        words,
         lister: Lister::of(grammar.packed.clone()),
         names: json::Names::new(&grammar.named),
     };
@@ -100,6 +107,8 @@ struct Batch<'a> {
     names: json::Names,
     named: &'a NamedGrammar,
     reader: UtteranceReader<'a>,
+    /// Words that are known for certain, and words too many.
+    words: Words<'a>,
     lister: Lister,
     wanted: u32,
     /// Whether each sentence stands once.
@@ -180,8 +189,8 @@ impl<'a> Worker<'a> {
                 self.answer_file(&line, &mut answers);
             } else {
                 answers.utterances += 1;
-                if let Err(error) = self.answer(&line, &mut answers.json) {
-                    refuse(&mut answers, error.into(), &line);
+                if let Err(refused) = self.answer(&line, &mut answers.json) {
+                    refuse(&mut answers, refused, &line);
                 }
             }
         }
@@ -190,7 +199,8 @@ impl<'a> Worker<'a> {
 
     /// Adds the answer of each lattice of a file that a line names.
     fn answer_file(&mut self, line: &Line, answers: &mut Answers) {
-        let lattices = match lattices::read(&self.batch.reader, line.heard.trim()) {
+        let name = line.heard.trim();
+        let lattices = match lattices::read(&self.batch.words, &self.batch.reader, name) {
             Ok(lattices) => lattices,
             Err(refused) => {
                 answers.utterances += 1;
@@ -198,40 +208,40 @@ impl<'a> Worker<'a> {
             }
         };
         let is_alone = lattices.len() == 1;
-        for lattice in &lattices {
+        for changed in lattices {
             answers.utterances += 1;
-            let begin = |json: &mut Vec<u8>| line.begin_lattice(json, lattice.id.as_deref(), is_alone);
-            match self.answer_heard(Some(&lattice.heard), begin, &mut answers.json) {
-                Ok(()) => {
-                    push_notes(&mut answers.json, lattice);
-                    answers.json.extend_from_slice(b"}\n");
-                }
-                Err(refusal) => refuse(answers, Error::from(refusal).in_file(&shown(line.heard.trim())).into(), line),
+            let answered = changed.map_err(|why| Refused::new(&shown(name), why)).and_then(|changed| {
+                let own = changed.lattice.id.as_deref();
+                let begin = |json: &mut Vec<u8>| line.begin_lattice(json, own, is_alone);
+                let answered = self.answer_heard(Some(&changed), begin, &mut answers.json);
+                answered.map_err(|refusal| Error::from(refusal).in_file(&shown(name)).into())
+            });
+            if let Err(refused) = answered {
+                refuse(answers, refused, line);
             }
         }
     }
 
     /// Adds the answer of a line, or nothing if it is refused.
-    fn answer(&mut self, line: &Line, json: &mut Vec<u8>) -> Result<(), Error> {
+    fn answer(&mut self, line: &Line, json: &mut Vec<u8>) -> Result<(), Refused> {
         let name = self.batch.name;
         let in_file = |error: Error| error.in_file(name).after_columns(line.columns()).after_lines(line.before);
-        let lattice = self.read(line.heard).map_err(in_file)?;
-        let heard = lattice.as_ref().map(|lattice| &lattice.heard);
-        let answered = self.answer_heard(heard, |json| line.begin(json), json);
-        answered.map_err(|refusal| in_file(refusal.into()))?;
-        lattice.iter().for_each(|lattice| push_notes(json, lattice));
-        json.extend_from_slice(b"}\n");
-        Ok(())
+        let changed = self.read(line.heard).map_err(in_file)?;
+        let changed = changed.map_err(|why| Refused::new(&format!("{name}:{}", line.before + 1), why))?;
+        let answered = self.answer_heard(changed.as_ref(), |json| line.begin(json), json);
+        answered.map_err(|refusal| in_file(refusal.into()).into())
     }
 
-    /// Adds the answer of what was heard, or of the slots whose block is at hand, but for its end; nothing if it is refused.
+    /// Adds the answer of what was heard, or of the slots whose block is at hand; nothing if it is refused.
     fn answer_heard(
         &mut self,
-        heard: Option<&Heard>,
+        changed: Option<&Changed>,
         begin: impl Fn(&mut Vec<u8>),
         json: &mut Vec<u8>,
     ) -> Result<(), Refusal> {
         let Batch { named, wanted, .. } = self.batch;
+        let heard = changed.map(|changed| &changed.lattice.heard);
+        let origin = changed.map(Changed::origin).unwrap_or_default();
         let asked = self.sentences.as_ref().filter(|_| *wanted <= MAX_READINGS).map_or(*wanted, |_| MAX_READINGS);
         let found = match heard {
             Some(heard) => self.lister.find(heard, asked),
@@ -243,10 +253,10 @@ impl<'a> Worker<'a> {
         if let Some(sentences) = &mut self.sentences {
             sentences.clear();
             sentences.walk(&named.grammar, found.readings());
-            push_sentences(json, self.batch, sentences);
+            push_sentences(json, self.batch, sentences, origin);
             used_up = found.len() == MAX_READINGS as usize && sentences.found().len() < *wanted as usize;
         } else {
-            push_readings(json, self.batch, found, &mut self.reading);
+            push_readings(json, self.batch, found, &mut self.reading, origin);
         }
         let is_none = found.is_empty();
         json::end_list(json);
@@ -254,19 +264,22 @@ impl<'a> Worker<'a> {
             self.push_why(json, heard)?;
         }
         json.extend_from_slice(if used_up { b",\"used_up\":true" } else { b"" });
+        changed.iter().for_each(|changed| push_notes(json, &changed.lattice));
+        json.extend_from_slice(b"}\n");
         Ok(())
     }
 
-    /// Reads a line: a word graph, or else slots, whose block is then at hand.
-    fn read(&mut self, line: &str) -> Result<Option<Lattice>, Error> {
-        let reader = &self.batch.reader;
+    /// Reads a line: a word graph, or else slots, whose block is then at hand. Answers why it cannot be if words are not as the
+    /// command line says.
+    fn read(&mut self, line: &str) -> Result<Result<Option<Changed>, String>, Error> {
+        let Batch { reader, words, .. } = self.batch;
+        let is_graph = || line.trim_start().starts_with(|first: char| first.is_ascii_digit()) && is_graph(line);
         // what is left out is said
-        if reader.drop_unknown || line.trim_start().starts_with(|first: char| first.is_ascii_digit()) && is_graph(line)
-        {
-            return reader.read_heard(line).map(Some);
+        if !words.are_none() || reader.drop_unknown || is_graph() {
+            return words.read(reader, line).map(|changed| changed.map(Some));
         }
         reader.read_block(line, &mut self.sheet, &mut self.block)?;
-        Ok(None)
+        Ok(Ok(None))
     }
 
     /// Adds why what was heard, or the slots whose block is at hand, has no reading.
@@ -285,18 +298,18 @@ impl<'a> Worker<'a> {
 }
 
 /// Adds readings, in the memory of another.
-fn push_readings(json: &mut Vec<u8>, batch: &Batch, found: Found, memory: &mut Reading) {
+fn push_readings(json: &mut Vec<u8>, batch: &Batch, found: Found, memory: &mut Reading, origin: json::Origin) {
     for number in 0..found.len() {
         found.read(number, memory);
-        begin_reading(json, batch, number, memory);
+        begin_reading(json, batch, number, memory, origin);
         json::end_reading(json);
     }
 }
 
 /// Adds the first reading of each sentence, and how many others it has.
-fn push_sentences(json: &mut Vec<u8>, batch: &Batch, sentences: &Distinct) {
+fn push_sentences(json: &mut Vec<u8>, batch: &Batch, sentences: &Distinct, origin: json::Origin) {
     for (number, sentence) in sentences.found().iter().enumerate() {
-        begin_reading(json, batch, number, &sentence.first);
+        begin_reading(json, batch, number, &sentence.first, origin);
         json::push_key(json, "others");
         json::push_number(json, sentence.others);
         json::end_reading(json);
@@ -304,11 +317,9 @@ fn push_sentences(json: &mut Vec<u8>, batch: &Batch, sentences: &Distinct) {
 }
 
 /// Adds a reading with so many before it, but for its end.
-fn begin_reading(json: &mut Vec<u8>, batch: &Batch, before: usize, reading: &Reading) {
+fn begin_reading(json: &mut Vec<u8>, batch: &Batch, before: usize, reading: &Reading, origin: json::Origin) {
     batch.names.begin_reading(json, Some(before as u32 + 1), reading);
-    if let Some(path) = &reading.path {
-        json::push_numbers(json, "edges", path.iter().copied());
-    }
+    json::push_path(json, reading, origin);
     let tree = batch.named.has_translations().then(|| batch.named.tree(reading)).flatten();
     if let Some(tree) = tree {
         json::push_translation(json, batch.named, &tree);

@@ -10,7 +10,7 @@ use crate::options::{
 };
 use crate::output::{Output, Style};
 use spireyerba::limits::MAX_READINGS;
-use spireyerba::text::{Lattice, NamedGrammar};
+use spireyerba::text::NamedGrammar;
 use spireyerba::{Error, Reading, Refusal};
 
 pub const COMMAND: Command = Command {
@@ -73,7 +73,7 @@ fn of_ranks(arguments: &Arguments, listed: &Listed, first: usize, output: &mut O
 /// The chance of a reading that a file has.
 fn of_file(arguments: &Arguments, file: &str, output: &mut Output) -> Result<(), Failure> {
     let grammar = files::grammar(arguments.operands[0])?;
-    let (Lattice { heard, .. }, _) = heard(arguments, &grammar)?;
+    let heard = heard(arguments, &grammar)?.lattice.heard;
     let reading = files::reading(&grammar, &heard, file)?.reading;
     let shares = files::shares(&grammar, arguments.operands[2])?;
     let chance = written(grammar.packed.chance(&heard, &reading, &shares).map_err(Error::from)?);

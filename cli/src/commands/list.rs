@@ -13,7 +13,7 @@ use crate::options::{
     SKIP, TREE, WANTED, WORDS,
 };
 use crate::output::{Output, Style};
-use crate::words::{self, Input};
+use crate::words::{self, Changed, Input};
 use spireyerba::limits::MAX_READINGS;
 use spireyerba::text::Lattice;
 use spireyerba::{Distinct, Error, Heard, Reading, Refusal, Tree};
@@ -32,6 +32,8 @@ pub const COMMAND: Command = Command {
 A line has rank, weight and words. Fewer readings than were asked for are all that there are; where there is none, a message
 says how far what was heard goes along with the grammar, and what could follow there (\"prefix\" in JSON). With --distinct no words stand
 twice: (+2 trees) says that 2 more of the first 256 readings have these, and a message if there may be more sentences.
+In JSON \"edges\" are numbers of the word graph, of a lattice those of the graph that it was reduced to (`unpack` prints it),
+\"links\" numbers of the file's links as they stand, from 0, and \"times\" when each word began and ended, if the file says it.
 In a tree [5] is a rule's weight, and 12 behind a word its cost. With --skip some slots may have been words too many: as
 many in a row as 96 edges of a word graph have room for, and a message says how many that is.",
     example: "spireyerba list grammar.txt utterance.txt -n 3 --tree --said 0=door",
@@ -56,6 +58,8 @@ pub struct Listed {
     pub slots: Option<Vec<u32>>,
     /// When each place of a word graph was reached, if that is known.
     pub times: Option<Vec<f64>>,
+    /// The link of each edge, if the graph was made of a lattice.
+    pub links: Vec<u32>,
     /// What was heard and left out, a sentence without its end each.
     pub left_out: Vec<String>,
 }
@@ -71,14 +75,14 @@ impl Listed {
     /// What a list is of, and no reading yet.
     pub fn none_yet(arguments: &Arguments) -> Result<Self, Failure> {
         let grammar = files::grammar(arguments.operands[0])?;
-        let (lattice, slots) = heard(arguments, &grammar)?;
+        let Changed { lattice, slots } = heard(arguments, &grammar)?;
         Ok(Self::of(grammar, lattice, slots))
     }
 
     /// No reading yet of what was heard, with the slot of each edge if slots may be passed over.
     pub fn of(grammar: GrammarFile, lattice: Lattice, slots: Option<Vec<u32>>) -> Self {
         let (complete_up_to, left_out) = (lattice.complete_up_to(), lattice.notes());
-        let Lattice { heard, times, .. } = lattice;
+        let Lattice { heard, times, sources: links, .. } = lattice;
         Self {
             grammar,
             heard,
@@ -88,8 +92,14 @@ impl Listed {
             used_up: false,
             slots,
             times,
+            links,
             left_out,
         }
+    }
+
+    /// What the word graph was made of, if there is one.
+    fn origin(&self) -> json::Origin<'_> {
+        json::Origin::new(&self.heard, self.slots.as_deref(), &self.links, self.times.as_deref())
     }
 
     /// Finds so many readings, or the first ones of so many sentences.
@@ -181,8 +191,8 @@ pub fn used_up(found: usize) -> String {
     format!("among {MAX_READINGS} readings, the most that a listing has, there {sentences}; there may be more")
 }
 
-/// What was heard, as the command line asks for it, and the slot of each edge, if slots may be passed over.
-pub fn heard(arguments: &Arguments, grammar: &GrammarFile) -> Result<(Lattice, Option<Vec<u32>>), Failure> {
+/// What was heard, as the command line asks for it.
+pub fn heard(arguments: &Arguments, grammar: &GrammarFile) -> Result<Changed, Failure> {
     let input = match (arguments.operands.get(1), arguments.value(&WORDS)) {
         (Some(_), Some(_)) => return Err(arguments.wrong("UTTERANCE and --words: only one of them")),
         (None, None) => return Err(arguments.wrong("UTTERANCE is missing")),
@@ -219,14 +229,7 @@ pub fn json_of(listed: &Listed, ranks: RangeInclusive<usize>) -> Vec<u8> {
     for rank in ranks {
         let reading = &listed.readings[rank - 1];
         names.begin_reading(&mut line, Some(rank as u32), reading);
-        match (&listed.slots, &reading.path) {
-            (Some(slots), _) => {
-                let slots = reading.edges().iter().map(|edge| slots[*edge as usize]);
-                json::push_numbers(&mut line, "slots", slots);
-            }
-            (None, Some(path)) => json::push_numbers(&mut line, "edges", path.iter().copied()),
-            (None, None) => {}
-        }
+        json::push_path(&mut line, reading, listed.origin());
         if let Some(others) = &listed.others {
             json::push_key(&mut line, "others");
             json::push_number(&mut line, others[rank - 1]);

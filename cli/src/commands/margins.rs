@@ -9,7 +9,7 @@ use crate::no_reading::NO_READING;
 use crate::options::{Arguments, DROP_DELETES, DROP_UNKNOWN, EMPTY, EXACT, FOLD, FORMAT, JSON, PATHS, SAID, SCALE};
 use crate::output::{Output, Style};
 use crate::width::{columns, padded};
-use spireyerba::text::{Lattice, NamedGrammar};
+use spireyerba::text::NamedGrammar;
 use spireyerba::{Error, Heard, WordMargin};
 
 pub const COMMAND: Command = Command {
@@ -28,7 +28,7 @@ now. The least amounts come first. Words that bring no other reading, however ch
 
 fn run(arguments: &Arguments, output: &mut Output) -> Result<(), Failure> {
     let grammar = files::grammar(arguments.operands[0])?;
-    let (Lattice { heard: Heard::Slots(utterance), .. }, _) = heard(arguments, &grammar)? else {
+    let Heard::Slots(utterance) = heard(arguments, &grammar)?.lattice.heard else {
         return Err(arguments.wrong("margins are for slots, not for word graphs"));
     };
     let named = &grammar.named;

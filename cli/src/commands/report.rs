@@ -54,7 +54,9 @@ fn cost_changes(arguments: &Arguments, listed: &Listed, utterance: &Utterance) -
         return Ok(CostChanges { margins, ranges: None });
     };
     let mut heard = files::heard(arguments, &listed.grammar, operand)?.heard;
-    anchor::apply(arguments, named, &mut heard)?;
+    let anchors: Vec<&str> = arguments.values(&SAID).collect();
+    let in_file = |why| Failure::Refused(format!("{}: {why}", files::name_of(operand)));
+    anchor::apply(&anchors, named, &mut heard).map_err(in_file)?;
     let Heard::Slots(high) = heard else {
         return Err(arguments.wrong("ranges of costs are for slots, not for word graphs"));
     };

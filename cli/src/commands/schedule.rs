@@ -7,10 +7,12 @@ use crate::files::{self, File, GrammarFile};
 use crate::names::shown;
 use crate::no_reading::NoReading;
 use crate::options::{
-    Arguments, CLOSE, COLUMNS, DROP_DELETES, DROP_UNKNOWN, EMPTY, EXACT, FILE, FILES, FOLD, FORMAT, HTML, PATHS, SCALE,
+    Arguments, CLOSE, COLUMNS, DROP_DELETES, DROP_UNKNOWN, EMPTY, EXACT, FILE, FILES, FOLD, FORMAT, HTML, PATHS, SAID,
+    SCALE, SKIP,
 };
 use crate::output::Output;
 use crate::rows::{csv, html, Row};
+use crate::words::{Changed, Words};
 use spireyerba::limits::MAX_READINGS;
 use spireyerba::text::{nearest, Lattice, UtteranceReader};
 use spireyerba::{Error, Part, Reading, Refusal, Tree};
@@ -26,6 +28,8 @@ pub const COMMAND: Command = Command {
         FILES,
         FILE,
         FORMAT,
+        SAID,
+        SKIP,
         SCALE,
         FOLD,
         DROP_UNKNOWN,
@@ -66,11 +70,13 @@ const LOOKED_AT: [u32; 3] = [2, 16, MAX_READINGS];
 
 fn run(arguments: &Arguments, output: &mut Output) -> Result<(), Failure> {
     let grammar = files::grammar(arguments.operands[0])?;
-    let reader = files::utterance_reader(arguments, &grammar.named)?;
+    let words = Words::new(arguments, &grammar.named)?;
+    let mut reader = files::utterance_reader(arguments, &grammar.named)?;
+    reader.keep_unknown = words.may_skip();
     let (operand, are_files) = named(arguments)?;
     let name = &files::name_of(operand);
     let (columns, close) = (columns(arguments, &grammar)?, arguments.number(&CLOSE)?.unwrap_or(0));
-    let schedule = Schedule { columns, close, reader, grammar: &grammar, name };
+    let schedule = Schedule { columns, close, reader, words, grammar: &grammar, name };
     let rows = match are_files {
         true => files::list(operand)?.iter().flat_map(|(before, line)| schedule.rows_of_file(*before, line)).collect(),
         false => schedule.rows(&File::read(operand)?.text(|text| Ok(text.to_owned()))?),
@@ -107,6 +113,8 @@ struct Schedule<'a> {
     /// How much more another reading may weigh that is noted.
     close: u32,
     reader: UtteranceReader<'a>,
+    /// Words that are known for certain, and words too many.
+    words: Words<'a>,
     /// The name of the file in messages.
     name: &'a str,
 }
@@ -118,15 +126,16 @@ impl Schedule<'_> {
             return files::lines_of(text).map(|(before, line)| self.row_of_line(&Line::new(line, before))).collect();
         }
         let line = Line::new(text, 0);
-        match self.reader.read_all_heard(text) {
+        match self.words.read_all(&self.reader, text) {
             Err(error) => vec![self.refused(&line, None, error.in_file(self.name).to_string())],
-            Ok(lattices) => lattices.iter().map(|lattice| self.row(&line, lattice.id.as_deref(), lattice)).collect(),
+            Ok(lattices) => lattices.into_iter().map(|lattice| self.row_of(&line, None, self.name, lattice)).collect(),
         }
     }
 
     fn row_of_line(&self, line: &Line) -> Row {
-        match self.reader.read_heard(line.heard) {
-            Ok(lattice) => self.row(line, line.name, &lattice),
+        let place = format!("{}:{}", self.name, line.before + 1);
+        match self.words.read(&self.reader, line.heard) {
+            Ok(changed) => self.row_of(line, line.name, &place, changed),
             Err(error) => {
                 let error = error.in_file(self.name).after_columns(line.columns()).after_lines(line.before);
                 self.refused(line, line.name, error.to_string())
@@ -137,15 +146,29 @@ impl Schedule<'_> {
     /// The rows of the lattices of a file that a line names.
     fn rows_of_file(&self, before: usize, line: &str) -> Vec<Row> {
         let line = Line::new(line, before);
-        let read = File::read(line.heard.trim()).and_then(|file| file.text(|text| self.reader.read_all_heard(text)));
+        let file = line.heard.trim();
+        let read = File::read(file).and_then(|file| file.text(|text| self.words.read_all(&self.reader, text)));
         match read {
             Err(failure) => {
                 vec![self.refused(&line, Some(&shown(line.name_of(None, true))), failure.message().to_owned())]
             }
             Ok(lattices) => {
-                let id = |lattice: &'_ Lattice| shown(line.name_of(lattice.id.as_deref(), lattices.len() == 1));
-                lattices.iter().map(|lattice| self.row(&line, Some(&id(lattice)), lattice)).collect()
+                let is_alone = lattices.len() == 1;
+                let row = |lattice: Result<Changed, String>| {
+                    let own = lattice.as_ref().ok().and_then(|changed| changed.lattice.id.clone());
+                    let id = shown(line.name_of(own.as_deref(), is_alone));
+                    self.row_of(&line, Some(&id), &shown(file), lattice)
+                };
+                lattices.into_iter().map(row).collect()
             }
+        }
+    }
+
+    /// The row of what was heard, with its own name if none is given, or of why it is not as the command line says.
+    fn row_of(&self, line: &Line, id: Option<&str>, place: &str, changed: Result<Changed, String>) -> Row {
+        match changed {
+            Ok(Changed { lattice, .. }) => self.row(line, id.or(lattice.id.as_deref()), &lattice),
+            Err(why) => self.refused(line, id, format!("{place}: {why}")),
         }
     }
 

@@ -219,7 +219,7 @@ impl Drawing<'_> {
         put(svg, format_args!("<text class=\"place\" x=\"{x:.1}\" y=\"{:.1}\">{place}</text>", line + BASELINE));
         if let Some(times) = self.times {
             let (time, y) = (times[place], line + TIME_LINE);
-            put(svg, format_args!("<text class=\"small\" x=\"{x:.1}\" y=\"{y:.1}\">{time:.2} s</text>"));
+            put(svg, format_args!("<text class=\"small\" x=\"{x:.1}\" y=\"{y:.1}\">{time:.2}</text>"));
         }
     }
 }

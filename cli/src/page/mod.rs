@@ -113,11 +113,15 @@ fn counted(count: usize, what: &str) -> String {
 fn heard(listed: &Listed, changes: Option<&CostChanges>) -> String {
     let drawn = match &listed.heard {
         Heard::Slots(_) => slots(listed, changes),
-        Heard::Graph(graph) => format!(
-            "<figure>\n{}</figure>\n<p class=\"note\">Time goes from left to right, from place to place. A number is a cost: how \
-             badly the word fits what was heard. Marked: the path of the first reading. Struck out: not heard.</p>\n",
-            lattice::svg(listed, graph)
-        ),
+        Heard::Graph(graph) => {
+            let seconds = if listed.times.is_some() { ", below each of which its second stands" } else { "" };
+            format!(
+                "<figure>\n{}</figure>\n<p class=\"note\">Time goes from left to right, from place to place{seconds}. A number is a \
+                 cost: how badly the word fits what was heard. Marked: the path of the first reading. Struck out: not \
+                 heard.</p>\n",
+                lattice::svg(listed, graph)
+            )
+        }
     };
     let left_out = listed.left_out.iter().map(|note| format!("<p class=\"left-out\">{}.</p>\n", escaped(note)));
     format!("<section>\n<h2>What was heard</h2>\n{}{drawn}</section>\n", left_out.collect::<String>())

@@ -65,11 +65,14 @@ fn list_with_words_that_are_known() {
         "1  135  door twenty oak oak fire sixty\n2  143  door forty oak oak fire sixty\n"
     );
     let refused = |words: &str| refused(run(&format!("list grammar.txt utterance.txt --said {words}")), 1);
-    assert_eq!(refused("2=steel"), "--said 2=steel: slot 2 does not offer it, but four 9 | door 40 | oak 34\n");
-    assert_eq!(refused("6=oak"), "--said 6=oak: the utterance has 6 slots, numbered from 0\n");
+    assert_eq!(
+        refused("2=steel"),
+        "utterance.txt: --said 2=steel: slot 2 does not offer it, but four 9 | door 40 | oak 34\n"
+    );
+    assert_eq!(refused("6=oak"), "utterance.txt: --said 6=oak: the utterance has 6 slots, numbered from 0\n");
     assert_eq!(
         refused("2=oak --said 2=four"),
-        "--said 2=four: slot 2 does not offer it, but four 65535 | door 65535 | oak 34\n"
+        "utterance.txt: --said 2=four: slot 2 does not offer it, but four 65535 | door 65535 | oak 34\n"
     );
 }
 

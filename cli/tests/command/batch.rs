@@ -165,6 +165,23 @@ door 1;\tfour 2; oak 3
     }
 }
 
+/// A word of digits before a tab and its cost is no name, for a number and a mark behind it are no utterance.
+#[test]
+fn words_of_digits_before_a_tab() {
+    let folder = folder("batch_digits", &[("g", b"A -> B B\nB -> \"4\" | \"5\" | \"61\"")]);
+    let text = b"4\t61 | 5 20 ; 5 1\n4\t61\t;\t5\t1\nname\t61 5 | 4 20 ; 5 1\n7\t61 5 ; 5 1\n";
+    let run = run_with(&folder, "batch g - -n 1", text);
+    let words: Vec<&str> =
+        run.out.lines().filter_map(|line| line.split_once(",\"rules\"")).map(|(front, _)| front).collect();
+    let expected = [
+        r#"{"line":1,"readings":[{"rank":1,"weight":21,"words":["5","5"]"#,
+        r#"{"line":2,"readings":[{"rank":1,"weight":62,"words":["4","5"]"#,
+        r#"{"line":3,"id":"name","readings":[{"rank":1,"weight":6,"words":["61","5"]"#,
+        r#"{"line":4,"id":"7","readings":[{"rank":1,"weight":6,"words":["61","5"]"#,
+    ];
+    assert_eq!((words, run.err.as_str()), (expected.to_vec(), ""), "{}", run.out);
+}
+
 /// Of messages that say the same the first ten are said, and the others counted; every answer says its own.
 #[test]
 fn equal_messages_are_counted() {

@@ -59,6 +59,48 @@ fn for_programs() {
     assert!(found.starts_with(&begin), "{found}");
 }
 
+/// Weight, words and count of each sentence of a line of JSON.
+fn sentences(json: &str) -> Vec<[String; 3]> {
+    let between = |text: &str, key: &str, end: &[char]| {
+        let (_, behind) = text.split_once(key).expect("the key");
+        behind.split(end).next().unwrap_or_default().to_owned()
+    };
+    let sentence = |text: &str| {
+        let [weight, others] = ["\"weight\":", "\"others\":"].map(|key| between(text, key, &[',', '}']));
+        [weight, between(text, "\"words\":[", &[']']), others]
+    };
+    json.split("{\"rank\":").skip(1).map(sentence).collect()
+}
+
+/// `list` takes readings one by one from an open listing and `batch` from a whole one: the same sentences and counts, of random
+/// utterances under a grammar of many trees, also where 256 readings are used up.
+#[test]
+fn one_by_one_and_by_a_whole_list() {
+    let (mut lines, mut used_up) = (Vec::new(), 0);
+    for seed in 0..40_u32 {
+        let number = |place: u32| (seed * 37 + place * 101 + seed * place * 13) % 9;
+        let slots = 2 + seed % 7;
+        let slot = |place: u32| format!("x {} | y {}", number(place), number(place + 50));
+        lines.push((0..slots).map(slot).collect::<Vec<_>>().join(" ; "));
+        let edge = |place: u32| {
+            format!("{place} {} x {} ; {place} {} y {}", place + 1, number(place), place + 1, number(place + 9))
+        };
+        let skip = |place: u32| format!("{place} {} x {}", place + 2, number(place + 30));
+        let edges = (0..slots).map(edge).chain((0..slots - 1).map(skip)).collect::<Vec<_>>().join(" ; ");
+        lines.push(edges);
+    }
+    let grammar = b"A -> A A [1] | B A | \"x\" [2]\nB -> \"x\" | \"y\" [3] | B B";
+    let folder = folder("distinct_both", &[("g", grammar), ("u", lines.join("\n").as_bytes())]);
+    let batch = answer_in(&folder, "batch g u --distinct -n 12");
+    for (line, answer) in lines.iter().zip(batch.lines()) {
+        let list = run_with(&folder, "list g - --distinct -n 12 --json", line.replace(" ; ", "\n").as_bytes());
+        assert_eq!(sentences(&list.out), sentences(answer), "{line}");
+        assert_eq!(list.out.contains("\"used_up\""), answer.contains("\"used_up\""), "{line}");
+        used_up += usize::from(answer.contains("\"used_up\":true"));
+    }
+    assert!(batch.lines().count() == lines.len() && used_up > 5, "{used_up} used up");
+}
+
 #[test]
 fn a_rank_counts_sentences() {
     let folder = ambiguous("distinct_why");

@@ -41,7 +41,7 @@ fn list_as_trees_and_for_programs() {
 fn a_graph_has_no_slots() {
     let said = refused(run_in(&doors_graph(), "list grammar.txt graph.txt --said 0=door"), 1);
     let instead = "only slots have numbers; --said WORD keeps the paths that have a word";
-    assert_eq!(said, format!("--said 0=door: {instead}\n"));
+    assert_eq!(said, format!("graph.txt: --said 0=door: {instead}\n"));
     let network = refused(run_in(&doors_graph(), "unpack grammar.txt utterance.bin --network --scale 100"), 1);
     assert_eq!(network, "utterance.bin: --network: a word graph is no confusion network\n");
 }
@@ -63,7 +63,7 @@ fn a_word_that_was_said() {
     // a word that was said is not passed over
     let skipped = said("graph.txt --said glass --skip 5").out;
     assert!(skipped.lines().count() == 3 && skipped.lines().all(|line| line.contains(" glass")), "{skipped}");
-    assert_eq!(refused(said("graph.txt --said steel"), 1), "--said steel: no path has it\n");
+    assert_eq!(refused(said("graph.txt --said steel"), 1), "graph.txt: --said steel: no path has it\n");
     assert_eq!(refused(said("graph.txt --said green"), 1), "--said green: the grammar has no such word\n");
 }
 

@@ -131,9 +131,9 @@ fn mistakes() {
     let folder = folder("lattice_mistakes", &files);
     for (words, message) in [
         ("scores", "scores:4:1: a lattice needs a scale by which scores become costs: add --scale X, such as 100"),
-        ("count", "count:1:5: the lattice says 2 links and has 1"),
+        ("count", "count:1:5: the lattice says 2 links and has 1: was it cut off?"),
         ("node", "node:4:9: there is no node `5`"),
-        ("circle", "circle:5:1: links go round in a circle, and this is one of them"),
+        ("circle", "circle:5:1: links go round in a circle, and this is one of them: a lattice has no way back"),
         ("empty", "empty:1:1: refused 13: there is no node"),
     ] {
         assert_eq!(refused(run_in(&folder, &format!("list g {words}")), 1), format!("{message}\n"), "{words}");

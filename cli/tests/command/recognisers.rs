@@ -65,8 +65,8 @@ fn a_list_of_files() {
 #[test]
 fn archives() {
     let [first, second] = [
-        r#","id":"house-0017","readings":[{"rank":1,"weight":50,"words":["door","twenty","four"],"rules":[0,1,5,7],"edges":[0,1,3]}]}"#,
-        r#","id":"house-0018","readings":[{"rank":1,"weight":32,"words":["door","four"],"rules":[0,4],"edges":[0,1]}]}"#,
+        r#","id":"house-0017","readings":[{"rank":1,"weight":50,"words":["door","twenty","four"],"rules":[0,1,5,7],"edges":[0,1,3],"links":[0,1,5],"times":[[0,0.04],[0.04,0.08],[0.08,0.09]]}]}"#,
+        r#","id":"house-0018","readings":[{"rank":1,"weight":32,"words":["door","four"],"rules":[0,4],"edges":[0,1],"links":[0,1],"times":[[0,0.03],[0.03,0.06]]}]}"#,
     ];
     let kaldi = answer_in(&example("formats"), "batch grammar.txt kaldi.txt --scale 1 -n 1");
     assert_eq!(kaldi, format!("{{\"line\":1{first}\n{{\"line\":1{second}\n"));
@@ -99,7 +99,7 @@ fn files_that_cannot_be_answered() {
     let lines: Vec<&str> = run.out.lines().collect();
     assert_eq!(
         lines[0],
-        r#"{"line":1,"id":"l","readings":[{"rank":1,"weight":9,"words":["x","x"],"rules":[0,1,1],"edges":[0,1]}],"dropped":["um"]}"#
+        r#"{"line":1,"id":"l","readings":[{"rank":1,"weight":9,"words":["x","x"],"rules":[0,1,1],"edges":[0,1],"links":[0,2]}],"dropped":["um"]}"#
     );
     assert_eq!(lines[1], format!("{{\"line\":2,\"error\":\"{missing}\"}}"));
     for (words, message) in [
@@ -146,7 +146,7 @@ fn the_page_says_what_is_missing() {
     let note = "left out, for the grammar does not have them: um";
     assert_eq!((page.status, page.err.as_str()), (0, format!("l: {note}\n").as_str()));
     assert!(page.out.contains(&format!("<p class=\"left-out\">{note}.</p>")), "{}", page.out);
-    assert!(page.out.contains(">0.50 s</text>"), "{}", page.out);
+    assert!(page.out.contains(">0.50</text>"), "{}", page.out);
 }
 
 /// Words that are left out are said of slots and of plain word graphs too.

@@ -140,3 +140,31 @@ fn a_slot_has_any_number_of_words() {
     let nothing = run_with(&doors(), "list grammar.txt - --skip 5 --rules", b"door 65535; four 65535");
     assert_eq!((nothing.status, nothing.out.as_str()), (0, "readings 0\n"));
 }
+
+/// Each line of a batch, and each row of a schedule, is changed as a single utterance is.
+#[test]
+fn in_batches_and_schedules() {
+    let lines = [TOO_MANY, b"door 4; um 1; four 9; oak 7; left 3", b"door 4; four 9; glass 3; left 3"];
+    let input = lines.join(&b'\n');
+    let answers = run_with(&doors(), "batch grammar.txt - --skip 20 -n 2", &input);
+    assert_eq!((answers.status, answers.err.as_str()), (0, ""));
+    for (answer, line) in answers.out.lines().zip(lines) {
+        let list = list("--skip 20 -n 2 --json", line).out;
+        let front = |json: &str| {
+            json.split(",\"tree\"").next().and_then(|front| front.split("\"readings\"").nth(1)).map(str::to_owned)
+        };
+        let own = front(&list).expect("readings");
+        assert!(answer.contains(&own) && own.contains("\"slots\":["), "{answer}\n{list}");
+    }
+    let said = run_with(&doors(), "batch grammar.txt - --said oak -n 1", &input);
+    assert_eq!(said.out.lines().filter(|answer| answer.contains("\"readings\"")).count(), 1, "{}", said.out);
+    assert!(said.err.contains("<stdin>:3: --said oak: no path has it"), "{}", said.err);
+    assert!(said.err.contains("<stdin>:2:9: refused 14: the grammar has no word `um`"), "{}", said.err);
+    let struck = run_with(&doors(), "batch grammar.txt - --said 2=glass -n 1", &input);
+    let not_offered = "<stdin>:1: --said 2=glass: slot 2 does not offer it, but twenty 12";
+    assert!(struck.out.lines().count() == 3 && struck.err.contains(not_offered), "{}", struck.err);
+    let rows = run_with(&doors(), "schedule grammar.txt - --skip 20 --columns Number,Leaf", &input);
+    assert!(rows.out.lines().count() == 4 && rows.out.contains(",oak,112,"), "{}", rows.out);
+    let green = refused(run_with(&doors(), "batch grammar.txt - --said green", &input), 1);
+    assert_eq!(green, "--said green: the grammar has no such word\n");
+}

@@ -337,6 +337,11 @@ mod tests {
         // what edges cannot hold is taken off every path alike
         let dear = reduce(&chain(2, Room::GRAPH.cost + 5), Keep::Paths).expect("two words");
         assert_eq!((dear.taken_off, dear.graph.edges[0].cost), (10, Room::GRAPH.cost as u32));
+        // also where a word alone weighs as much as three
+        let mut states = chain(3, 60_000).into_states();
+        states[0].arcs.push(Arc { label: 2, to: 3, weight: 180_000, source: 9 });
+        let uneven = reduce(&Acceptor::new(0, states).expect("no cycle"), Keep::Strings).expect("four edges");
+        assert_eq!((uneven.pruned, uneven.taken_off), (None, 180_000 - Room::GRAPH.cost));
         let negative = reduce(&chain(2, -7), Keep::Strings).expect("two words");
         assert_eq!((negative.taken_off, negative.graph.edges[1].cost), (-14, 0));
     }

@@ -136,6 +136,8 @@ pub enum Fault {
     },
     /// A posterior that is not a number from 0 to that of the whole network.
     Posterior(String),
+    /// A confidence or a posterior that is not a number from 0 to 1.
+    Likelihood(String),
     /// A posterior that is above that of the whole network.
     PosteriorAbove {
         /// The posterior.
@@ -185,8 +187,11 @@ pub enum Fault {
         /// The two nodes.
         nodes: [u32; 2],
     },
-    /// More links than a lattice is read with.
-    Links,
+    /// More links, or nodes, than a lattice is read with.
+    Links {
+        /// Which of both.
+        what: &'static str,
+    },
     /// A lattice of which even what weighs the least does not fit into a word graph.
     DoesNotFit {
         /// So many places that takes.
@@ -203,6 +208,8 @@ pub enum Fault {
     ManyLattices(usize),
     /// Values of JSON within values, too deep.
     JsonDepth,
+    /// More values of JSON than are read.
+    JsonValues(usize),
     /// JSON, but not that of a known recogniser.
     OtherJson,
 }
@@ -212,7 +219,7 @@ impl Fault {
     pub fn refusal(&self) -> Option<Refusal> {
         match self {
             Self::TooMany { refusal, .. } | Self::None { refusal, .. } => Some(*refusal),
-            Self::Links | Self::DoesNotFit { .. } | Self::NotExact { .. } => Some(Refusal::UtteranceRange),
+            Self::Links { .. } | Self::DoesNotFit { .. } | Self::NotExact { .. } => Some(Refusal::UtteranceRange),
             Self::Rule(fault) => fault.refusal(),
             Self::TooLarge { .. } | Self::CostTooLarge(_) => Some(Refusal::SheetValue),
             Self::RepeatedRule { .. } => Some(Refusal::GrammarRepeat),
@@ -248,7 +255,9 @@ impl Fault {
             Self::Weight { what, found } => {
                 write!(formatter, "`{found}` is no {what}: a {what} is 0 to {MAX_WEIGHT}, digits only")?;
                 match found.parse::<f64>() {
-                    Ok(number) if number.fract() != 0.0 => write!(formatter, "; for {found} multiply all by 100"),
+                    Ok(number) if number.is_finite() && number.fract() != 0.0 => {
+                        write!(formatter, "; for {found} multiply all by 100")
+                    }
                     Err(_) if *what == "cost" && !found.starts_with(|letter: char| letter.is_ascii_digit()) => {
                         write!(formatter, ", and between slots stands `;`")
                     }
@@ -301,9 +310,11 @@ impl Fault {
                 write!(formatter, "alignment `{found}` where alignment {expected} should stand")
             }
             Self::Count { text, what, said, found } => {
-                write!(formatter, "the {text} says {said} {what} and has {found}")
+                let how = if found < said { ": was it cut off?" } else { "" };
+                write!(formatter, "the {text} says {said} {what} and has {found}{how}")
             }
             Self::Posterior(item) => write!(formatter, "`{item}` is not a posterior from 0 to the network's"),
+            Self::Likelihood(item) => write!(formatter, "`{item}` is not a likelihood from 0 to 1"),
             Self::PosteriorAbove { posterior, most } => {
                 write!(formatter, "`{posterior}` is not a posterior from 0 to the network's, which is {most}")
             }
@@ -323,7 +334,7 @@ impl Fault {
     /// What is wrong in a lattice.
     fn lattice_words(&self, formatter: &mut Formatter) -> std::fmt::Result {
         match self {
-            Self::Real(item) => write!(formatter, "`{item}` is not a number that can stand here"),
+            Self::Real(item) => write!(formatter, "`{item}` is not a number that can stand here: it has to be finite"),
             Self::Base(item) => write!(formatter, "`{item}` is not a base of logarithms"),
             Self::Bytes(item) => write!(formatter, "`{item}` has bytes that are no characters"),
             Self::Sublattice => write!(formatter, "a lattice within a lattice is not read"),
@@ -332,7 +343,9 @@ impl Fault {
             Self::TwoWords { link, node } => {
                 write!(formatter, "the link has the word `{link}`, and the node where it ends has `{node}`")
             }
-            Self::Circle => write!(formatter, "links go round in a circle, and this is one of them"),
+            Self::Circle => {
+                write!(formatter, "links go round in a circle, and this is one of them: a lattice has no way back")
+            }
             Self::TwoEnds { field, nodes: [one, other] } => {
                 write!(formatter, "there is no {field}=, and it could be node {one} or node {other}")
             }
@@ -344,9 +357,9 @@ impl Fault {
     fn format_words(&self, formatter: &mut Formatter) -> std::fmt::Result {
         let limits = format!("a word graph has {MAX_PLACES} places and {MAX_EDGES} edges");
         match self {
-            Self::Links => {
+            Self::Links { what } => {
                 let how = "`lattice-prune --beam`, `lattice-tool -posterior-prune` or `HLRescore -t`";
-                write!(formatter, "more than {MAX_LINKS} links: prune the lattice where it is made, such as by {how}")
+                write!(formatter, "more than {MAX_LINKS} {what}: prune the lattice where it is made, such as by {how}")
             }
             Self::DoesNotFit { places, edges } => {
                 let takes = format!("even what weighs the least takes {places} places and {edges} edges, and {limits}");
@@ -359,6 +372,12 @@ impl Fault {
             }
             Self::ManyLattices(count) => {
                 write!(formatter, "the text has {count} utterances, and one is read here: `batch` takes many")
+            }
+            Self::JsonValues(most) => {
+                write!(
+                    formatter,
+                    "more than {most} values of JSON: have the recogniser write a file for each utterance"
+                )
             }
             Self::JsonDepth => write!(formatter, "values of JSON within values go too deep"),
             Self::OtherJson => {

@@ -11,7 +11,7 @@ pub(super) struct Line<'a> {
 }
 
 /// The lines of a text.
-pub(super) fn lines(text: &str) -> impl Iterator<Item = Line<'_>> {
+pub(super) fn lines(text: &str) -> impl Iterator<Item = Line<'_>> + Clone {
     text.lines().enumerate().map(|(before, text)| Line { text, number: before + 1 })
 }
 

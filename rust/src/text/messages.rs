@@ -245,7 +245,7 @@ const NETWORKS: Rows = &[
     ("align 0 x inf", "1:11: `inf` is not a posterior from 0 to the network's"),
     ("align 1 x 1", "1:7: alignment `1` where alignment 0 should stand"),
     ("align 0 x 1\nalign 2 x 1", "2:7: alignment `2` where alignment 1 should stand"),
-    ("numaligns 2\nalign 0 x 1", "1:11: the network says 2 alignments and has 1"),
+    ("numaligns 2\nalign 0 x 1", "1:11: the network says 2 alignments and has 1: was it cut off?"),
     ("numaligns x\nalign 0 x 1", "1:11: `x` is not a whole number"),
     ("posterior\nalign 0 x 1", "1:10: the line ends where a posterior should stand"),
     ("align 0 x 0.5 z 0.5", "1:15: refused 14: the grammar has no word `z`"),
@@ -295,10 +295,10 @@ const SENTENCES: Rows = &[
 ];
 
 const LATTICES: Rows = &[
-    ("0 1 x 0.5\n1 2 y nan\n", "2:7: `nan` is not a number that can stand here"),
-    ("0 1 x 0.5\n1 2 y\n2 1 y\n2\n", "2:1: links go round in a circle, and this is one of them"),
+    ("0 1 x 0.5\n1 2 y nan\n", "2:7: `nan` is not a number that can stand here: it has to be finite"),
+    ("0 1 x 0.5\n1 2 y\n2 1 y\n2\n", "2:1: links go round in a circle, and this is one of them: a lattice has no way back"),
     ("u\n0 1 x 3,4\n1 2 y 1 2 3\n2\n", "3:11: `3` where the end of the line should stand"),
-    ("-1 -2 4 x y\n", "1:7: the sentence says 4 words and has 2"),
+    ("-1 -2 4 x y\n", "1:7: the sentence says 4 words and has 2: was it cut off?"),
     ("a A * * <ALT_BEGIN>\na A 0 1 x 1\n", "2:1: the line ends where <ALT_END> should stand"),
     (
         "{\"hypotheses\": []}",
@@ -437,6 +437,9 @@ fn long_texts() -> Vec<(Read, String, String)> {
         row(graph, "0 25 x".to_owned(), "1:3: refused 13: one too many: a word graph has at most 25 places"),
         row(one_lattice, "u\n0 1 x 1,2,\n1\n\nv\n0 1 x 1,2,\n1\n".to_owned(), "7:1: the text has 2 utterances, and one is read here: `batch` takes many"),
         row(lattices, format!("{{\"a\": {}", "[".repeat(200)), "1:71: values of JSON within values go too deep"),
+        row(lattices, format!("{{\"a\": [{}", "1,".repeat(1 << 18)), "1:524292: more than 262144 values of JSON: have the recogniser write a file for each utterance"),
+        row(lattices, "a A 0 1 x 1.5\n".to_owned(), "1:11: `1.5` is not a likelihood from 0 to 1"),
+        row(lattices, lines(65_538, &|number| format!("I={number}\n")), "65538:1: refused 13: more than 65536 nodes: prune the lattice where it is made, such as by `lattice-prune --beam`, `lattice-tool -posterior-prune` or `HLRescore -t`"),
         row(lattices, chain(25), "26:1: refused 13: even what weighs the least takes 26 places and 25 edges, and a word graph has 25 places and 96 edges: cut the utterance in two, or give words different scores"),
         row(exact, wide, "108:1: refused 13: the lattice takes 154 edges, and a word graph has 25 places and 96 edges: without --exact the readings of least weight are kept, and it is said up to which weight"),
         row(lattices, lines(65_537, &|number| format!("0 1 x {number}.5\n")), "65537:1: refused 13: more than 65536 links: prune the lattice where it is made, such as by `lattice-prune --beam`, `lattice-tool -posterior-prune` or `HLRescore -t`"),
@@ -459,7 +462,7 @@ macro_rules! kinds {
 kinds!(kind, KINDS, Fault: Expected Unclosed Escape Rule Marked Named Number Weight TooLarge TooMany None RepeatedRule Share
     Shares UnknownWord OtherSpelling RepeatedWord Underived EdgePlaces RepeatedEdge SecondEnd EarlyEnd AlignmentOrder Count
     Posterior PosteriorAbove CostTooLarge Deletion NoScale Real Base Bytes Sublattice RepeatedNode NoNode TwoWords Circle
-    TwoEnds Links DoesNotFit NotExact ManyLattices JsonDepth OtherJson);
+    TwoEnds Links DoesNotFit NotExact ManyLattices JsonDepth JsonValues OtherJson Likelihood);
 kinds!(rule_kind, RULE_KINDS, RuleFault: NoRule Quotes EmptyWord NoBody Open Apart MayBeEmpty RepeatsNothing Cycle SameRule
     SumTooLarge ManyForms Deep Reference SharesOfOne Room);
 

@@ -1,6 +1,7 @@
 //! Confusion networks as SRILM writes them (wlat-format(5)): lines `numaligns COUNT`, `posterior SUM` and, for each
 //! alignment, `align NUMBER WORD POSTERIOR WORD POSTERIOR ..`. Other lines are passed over.
 
+use super::formats::MAX_LINKS;
 use super::items::{lines, Item, Line};
 use super::score::{scaled, shortest};
 use super::utterance::{Slots, UtteranceReader};
@@ -80,6 +81,9 @@ impl<'a> Alignments<'a> {
         let expected = self.alignments.len();
         if first.count()? != expected {
             return Err(first.fault(Fault::AlignmentOrder { expected, found: first.text.to_owned() }));
+        }
+        if expected == MAX_LINKS {
+            return Err(first.fault(Fault::Links { what: "alignments" }));
         }
         let mut words = Vec::new();
         while let Some(word) = items.next() {

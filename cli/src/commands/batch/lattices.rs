@@ -6,6 +6,7 @@ use crate::files::{self, File};
 use crate::json;
 use crate::names::{path, shown};
 use crate::options::{Arguments, FILES};
+use crate::words::{Changed, Words};
 use spireyerba::text::{Format, Lattice, UtteranceReader};
 use std::io::{Cursor, Read};
 use std::os::unix::ffi::OsStringExt;
@@ -66,9 +67,9 @@ fn is_of_lattices(operand: &str, format: Option<Format>) -> Result<bool, Failure
     Ok(are_lattices(&String::from_utf8_lossy(&front), format))
 }
 
-/// The lattices of a file.
-pub fn read(reader: &UtteranceReader, name: &str) -> Result<Vec<Lattice>, Refused> {
-    let lattices = File::read(name).and_then(|file| file.text(|text| reader.read_all_heard(text)));
+/// The lattices of a file, each as the command line asks for it or why it cannot be.
+pub fn read(words: &Words, reader: &UtteranceReader, name: &str) -> Result<Vec<Result<Changed, String>>, Refused> {
+    let lattices = File::read(name).and_then(|file| file.text(|text| words.read_all(reader, text)));
     lattices.map_err(|failure| Refused::of_file(failure, &shown(name)))
 }
 

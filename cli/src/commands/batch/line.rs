@@ -59,11 +59,13 @@ fn is_name(text: &str) -> bool {
     !text.is_empty() && !text.contains(|letter: char| letter.is_whitespace() || "|;\"".contains(letter))
 }
 
-/// Whether a text begins with a number, as a cost or a place is one, and no other number follows: then what stands before it is
-/// a word that was heard, or a place.
+/// Whether a text begins with a number, as a cost or a place is one, and no other number follows at once: then what stands before it
+/// is a word that was heard, or a place. Behind a cost stands a word, a mark or nothing.
 fn is_number_alone(text: &str) -> bool {
-    let is_number = |item: &str| item.bytes().all(|byte| byte.is_ascii_digit());
-    let mut items =
-        text.split(|letter: char| letter.is_whitespace() || "|;".contains(letter)).filter(|item| !item.is_empty());
-    items.next().is_some_and(is_number) && !items.next().is_some_and(is_number)
+    let is_number = |item: &str| !item.is_empty() && item.bytes().all(|byte| byte.is_ascii_digit());
+    let is_end = |letter: char| letter.is_whitespace() || "|;".contains(letter);
+    let text = text.trim_start();
+    let (first, rest) = text.split_at(text.find(is_end).unwrap_or(text.len()));
+    let next = rest.trim_start().split(is_end).next();
+    is_number(first) && !next.is_some_and(is_number)
 }

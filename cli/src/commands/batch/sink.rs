@@ -28,6 +28,11 @@ pub struct Refused {
 }
 
 impl Refused {
+    /// What stands here cannot be answered, for a reason.
+    pub fn new(place: &str, reason: String) -> Self {
+        Self { message: format!("{place}: {reason}"), reason }
+    }
+
     /// A file that could not be read.
     pub fn of_file(failure: Failure, name: &str) -> Self {
         let message = failure.message().to_owned();

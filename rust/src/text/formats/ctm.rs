@@ -5,7 +5,7 @@
 use super::{Draft, Link};
 use crate::text::items::{end_of, lines, Item, Line};
 use crate::text::Fault;
-use crate::Error;
+use crate::{Error, Position};
 
 /// A line that begins with it is a comment.
 const COMMENT: &str = ";;";
@@ -24,15 +24,17 @@ fn is_line(line: &Line) -> bool {
     !line.is_empty() && !line.starts_with(COMMENT)
 }
 
-/// Whether every line of a text has two names, two times and a word.
+/// Whether every line of a text has two names, two times and a word; the last of several may be cut off.
 pub(super) fn is_ctm(text: &str) -> bool {
-    let is_time = |item: &Item| item.text == NO_TIME || item.is_number();
+    let is_time = |item: &Item| item.text == NO_TIME || item.text.parse::<f64>().is_ok();
     let is_word = |line: Line| {
         let items: Vec<Item> = line.items().take(NEEDED).collect();
         items.len() == NEEDED && items[2..4].iter().all(is_time) && !items[4].text.starts_with(['|', ';', '#'])
     };
-    let mut words = lines(text).filter(is_line).peekable();
-    words.peek().is_some() && words.all(is_word)
+    let mut others = lines(text).filter(is_line).skip_while(|line| is_word(*line));
+    let is_cut = |line: Line| line.items().nth(NEEDED - 1).is_none();
+    let is_whole = others.next().is_none_or(|last| is_cut(last) && others.next().is_none());
+    is_whole && lines(text).find(is_line).is_some_and(is_word)
 }
 
 /// Reads the utterances of a text.
@@ -43,9 +45,9 @@ pub(super) fn parse(text: &str) -> Result<Vec<Draft>, Error> {
         let [file, channel, begin, duration, word, ..] = items[..] else {
             return Err(line.ends("file, channel, beginning, duration and word"));
         };
-        let name = format!("{} {}", file.text, channel.text);
-        if utterances.last().is_none_or(|last| last.draft.id.as_deref() != Some(&name)) {
-            utterances.push(Utterance::new(name));
+        let is_known = |last: &Utterance| last.is_of(file.text, channel.text);
+        if !utterances.last().is_some_and(is_known) {
+            utterances.push(Utterance::new(format!("{} {}", file.text, channel.text)));
         }
         if let Some(utterance) = utterances.last_mut() {
             utterance.take(begin, duration, word, items.get(NEEDED))?;
@@ -55,7 +57,8 @@ pub(super) fn parse(text: &str) -> Result<Vec<Draft>, Error> {
         let fault = Fault::None { what: "word", refusal: crate::Refusal::UtteranceRange };
         return Err(Error::at(end_of(text), fault));
     }
-    utterances.into_iter().map(|utterance| utterance.finish(text)).collect()
+    let end = end_of(text);
+    utterances.into_iter().map(|utterance| utterance.finish(end)).collect()
 }
 
 /// An utterance that is being read.
@@ -72,6 +75,11 @@ impl Utterance {
         let mut draft = Draft { id: Some(name), scored: Some(("CTM", "confidences")), ..Draft::default() };
         let at = draft.node(None);
         Self { draft, at, fork: None }
+    }
+
+    fn is_of(&self, file: &str, channel: &str) -> bool {
+        let name = self.draft.id.as_deref().and_then(|name| name.strip_prefix(file));
+        name.and_then(|rest| rest.strip_prefix(' ')) == Some(channel)
     }
 
     fn take(&mut self, begin: Item, duration: Item, word: Item, confidence: Option<&Item>) -> Result<(), Error> {
@@ -96,13 +104,9 @@ impl Utterance {
 
     fn word(&mut self, [begin, duration]: [Item; 2], word: Item, confidence: Option<&Item>) -> Result<(), Error> {
         let confidence = confidence.filter(|item| item.text != NO_CONFIDENCE && !item.text.starts_with(COMMENT));
-        let share = confidence.map_or(Ok(1.0), |item| {
-            let share = item.posterior()?;
-            if share > 1.0 {
-                Err(item.fault(Fault::Posterior(item.text.to_owned())))
-            } else {
-                Ok(share)
-            }
+        let share: f64 = confidence.map_or(Ok(1.0), |item| {
+            let share = item.text.parse().ok().filter(|share| (0.0..=1.0).contains(share));
+            share.ok_or_else(|| item.fault(Fault::Likelihood(item.text.to_owned())))
         })?;
         let times = if begin.text == NO_TIME { None } else { Some([begin.finite()?, duration.finite()?]) };
         if let Some([begin, _]) = times {
@@ -115,8 +119,7 @@ impl Utterance {
         Ok(())
     }
 
-    fn finish(mut self, text: &str) -> Result<Draft, Error> {
-        let end = end_of(text);
+    fn finish(mut self, end: Position) -> Result<Draft, Error> {
         if self.fork.is_some() {
             return Err(Error::at(end, Fault::Expected { wanted: END, found: None }));
         }

@@ -59,7 +59,7 @@ impl Draft {
     /// A new link, unless there are too many.
     pub(in crate::text) fn link(&mut self, link: Link) -> Result<(), Error> {
         if self.links.len() == MAX_LINKS {
-            return Err(Error::at(link.position, Fault::Links));
+            return Err(Error::at(link.position, Fault::Links { what: "links" }));
         }
         self.links.push(link);
         Ok(())
@@ -172,7 +172,7 @@ fn weight(cost: f64, scale: f64, position: Position) -> Result<Option<i64>, Erro
     match weight {
         f64::INFINITY => Ok(None),
         weight if weight.abs() <= MAX_AMOUNT => Ok(Some(weight as i64)),
-        _ => Err(Error::at(position, Fault::Real(cost.to_string()))),
+        _ => Err(Error::at(position, Fault::CostTooLarge(cost.to_string()))),
     }
 }
 

@@ -67,8 +67,8 @@ impl Value {
 /// Whether a text begins as JSON does.
 pub(super) fn is_json(text: &str) -> bool {
     let text = text.trim_start();
-    let behind = |text: &str| text[1..].trim_start().starts_with(['{', '"', '}']);
-    (text.starts_with('{') && behind(text)) || (text.starts_with('[') && text[1..].trim_start().starts_with('{'))
+    let behind = |marks: [char; 3]| text[1..].trim_start().starts_with(marks);
+    (text.starts_with('{') && behind(['{', '"', '}'])) || (text.starts_with('[') && behind(['{', '[', '"']))
 }
 
 /// Reads the one value of a text.
@@ -133,7 +133,7 @@ impl Reader<'_> {
         let position = self.position();
         self.values += 1;
         if depth > MAX_DEPTH || self.values > MAX_VALUES {
-            let fault = if depth > MAX_DEPTH { Fault::JsonDepth } else { Fault::Links };
+            let fault = if depth > MAX_DEPTH { Fault::JsonDepth } else { Fault::JsonValues(MAX_VALUES) };
             return Err(Error::at(position, fault));
         }
         let kind = match first {
@@ -296,7 +296,7 @@ mod tests {
             ("[\"\\x\"]", "1:4: `\\x` in a quoted word: only \\\" and \\\\ have a meaning"),
             ("[1] 2", "1:5: `2` where the end of the text should stand"),
             ("[nil]", "1:2: `n` where a value should stand"),
-            ("[1e999]", "1:2: `1e999` is not a number that can stand here"),
+            ("[1e999]", "1:2: `1e999` is not a number that can stand here: it has to be finite"),
         ] {
             assert_eq!(parse(json).unwrap_err().in_file("f").to_string(), format!("f:{message}"), "{json}");
         }

@@ -151,12 +151,15 @@ impl UtteranceReader<'_> {
     /// # Ok::<(), spireyerba::Error>(())
     /// ```
     pub fn read_heard(&self, text: &str) -> Result<Lattice, Error> {
-        alone(self.read_all_heard(text)?, text)
+        match self.read_plain(text) {
+            Some(plain) => Ok(Lattice { dropped: self.left_out(text), ..Lattice::from(plain?) }),
+            None => self.recognised_alone(text)?.reduce(self.keep, self.exact),
+        }
     }
 
     /// Reads the one lattice of a text as an acceptor, over the labels of the grammar's words.
     pub fn recognised_alone(&self, text: &str) -> Result<Recognised, Error> {
-        alone(self.recognised(text)?, text)
+        alone(self.drafts(without_mark(text))?, text)?.recognised(self)
     }
 
     /// Reads all that a text has, of which only some formats have several.

@@ -19,12 +19,14 @@ const COMMENT: char = '#';
 /// Whether every line of a text begins with a number and a word behind it, or three numbers and words, or the first line says
 /// that it is a list of sentences; or each begins with one name and a number that counts.
 pub(super) fn is_nbest(text: &str) -> bool {
-    let mut sentences = lines(text).filter(|line| is_sentence(line.text)).peekable();
+    let mut sentences = lines(text).filter(|line| is_sentence(line.text));
     if text.trim_start().starts_with(HEADER) {
         return true;
     }
-    let has_any = sentences.peek().is_some();
-    has_any && (lines(text).filter(|line| is_sentence(line.text)).all(is_scored) || is_counted(text))
+    // a score may be one that is refused, such as `nan`, beside others
+    let has_score = |line: Line| is_scored(line) || is_odd(line);
+    let is_list = sentences.clone().any(is_scored) && sentences.all(has_score);
+    is_list || is_counted(text)
 }
 
 fn is_sentence(line: &str) -> bool {
@@ -37,6 +39,13 @@ fn is_scored(line: Line) -> bool {
     let numbers = line.items().take_while(Item::is_number).count();
     let is_word = |place: usize| line.items().nth(place).is_some_and(|item| !item.text.starts_with(['|', ';', '#']));
     matches!(numbers, 1 | 3) && is_word(numbers)
+}
+
+/// Whether a line begins with what is no score though it may be read as a number, and then words.
+fn is_odd(line: Line) -> bool {
+    let mut items = line.items();
+    let is_odd = |item: Item| !item.is_number() && item.text.parse::<f64>().is_ok();
+    items.next().is_some_and(is_odd) && items.next().is_some_and(|word| !word.is_number())
 }
 
 /// Whether lines begin with one name and numbers from 1 on.

@@ -52,9 +52,12 @@ fn read(root: &Value, draft: &mut Draft, start: u32) -> Result<Option<u32>, Erro
 /// The minus logarithm of a confidence from 0 to 1; nothing if it is not known.
 fn share(value: &Value) -> Result<Option<f64>, Error> {
     match value.number() {
-        None => Ok(None),
+        None => match value.text() {
+            Some(text) if !text.is_empty() => Err(Error::at(value.position, Fault::Likelihood(text.to_owned()))),
+            _ => Ok(None),
+        },
         Some(number) if (0.0..=1.0).contains(&number) => Ok(Some(-number.ln()).filter(|cost| cost.is_finite())),
-        Some(number) => Err(Error::at(value.position, Fault::Posterior(number.to_string()))),
+        Some(number) => Err(Error::at(value.position, Fault::Likelihood(number.to_string()))),
     }
 }
 

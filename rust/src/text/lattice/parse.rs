@@ -139,6 +139,9 @@ impl Parser {
             let line = self.nodes[earlier].position.line;
             return Err(fields[0].fault(Fault::RepeatedNode { line }));
         }
+        if self.nodes.len() > MAX_LINKS {
+            return Err(fields[0].fault(Fault::Links { what: "nodes" }));
+        }
         self.nodes.push(node);
         Ok(())
     }
@@ -165,7 +168,7 @@ impl Parser {
             }
         }
         if self.links.len() == MAX_LINKS {
-            return Err(fields[0].fault(Fault::Links));
+            return Err(fields[0].fault(Fault::Links { what: "links" }));
         }
         self.links.push((link, fields[0].position));
         Ok(())
@@ -286,6 +289,6 @@ fn posterior(written: Option<(f64, Position)>) -> Result<f64, Error> {
     match written {
         None => Ok(0.0),
         Some((share, _)) if (0.0..=1.0 + ROUNDING).contains(&share) => Ok(share.min(1.0).ln()),
-        Some((share, position)) => Err(Error::at(position, Fault::Posterior(share.to_string()))),
+        Some((share, position)) => Err(Error::at(position, Fault::Likelihood(share.to_string()))),
     }
 }
