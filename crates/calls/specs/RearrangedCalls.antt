@@ -31,8 +31,7 @@ Among g h m out t = Derivation g h t × (k : ℕ) × (1 ≤ k) × (k ≤ m) × (
 -- what two outputs of m readings hold, where N are wanted
 pub record SameReadings (f : ℕ → ℕ) (g g′ : Grammar) (h : Heard) (N m : ℕ) (out out′ : List ℕ) : Type 0 where
   -- "equal weight .. at every rank", as the readings hold it
-  pub weights : (k : ℕ) → 1 ≤ k → k ≤ m
-      → weightHeld (kthBytes (outputLength g h) k out) ≡ weightHeld (kthBytes (outputLength g′ h) k out′)
+  pub weights : (k : ℕ) → 1 ≤ k → k ≤ m → weightHeld (kthBytes (outputLength g h) k out) ≡ weightHeld (kthBytes (outputLength g′ h) k out′)
   -- "and equal cost sum", of the derivations with that rank: no reading holds it
   pub costs : (k : ℕ) (t t′ : Tree) → Ranked g h k t → Ranked g′ h k t′ → costSum (heardEdges h) t ≡ costSum (heardEdges h) t′
   -- "Where a list is shorter than the number wanted, both hold the same derivations after renumbering"

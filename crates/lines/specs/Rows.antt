@@ -1,17 +1,20 @@
 -- The rows of the lister: document 01, "Checked examples": for each reading rank, weight, node rule numbers; of slots and of graphs alike (document
--- 02, N1); and "the lister leaves helper nodes out" (N5). Stands on packing's and derivation's definitions, on listing's Demand3 and on
+-- 02, N1); and "the lister leaves helper nodes out" (N5). Stands on packing's and derivation's definitions, on listing's Conditions and on
 -- office_theory's Matching.
 use mathlib.Core.Path.{_≡_}
 use mathlib.Core.List.{List, _∷_, _++_, map}
 use Prim.Native.Nat.{ℕ, _-_, _*_, _≤_, min}
+use lib.Dec.{ltb}
 use lib.ListN.{length, take, drop, replicate}
-use Rattle.packing.specs.Meaning.{Marked, markIn, grammarOf, Heard, heardEdges}
-use Rattle.packing.specs.Parse.{accepted}
+use Rattle.bits.specs.Bits.{pick}
+use Rattle.packing.specs.Meaning.{Grammar, Marked, markIn, grammarOf, Heard, heardEdges}
+use Rattle.packing.specs.Parse.{accepted, refused}
 use Rattle.packing.specs.Grammar.{markedBlock}
 use Rattle.packing.specs.Heard.{heardBlock}
 use Rattle.derivation.specs.Derivation.{Tree, Derivation, weight, walk}
 use Rattle.derivation.specs.Rank.{Number}
 use Rattle.traced_readings.specs.Ranked.{Ranked}
+use Rattle.listing.specs.Conditions.{library, askedListing}
 use Rattle.inputs.specs.declared.Listed.{Listed}
 use Rattle.inputs.specs.declared.Listed.the-variants.{Found, Refused}
 use Rattle.office_theory.specs.Matching.{withoutMarked}
@@ -44,7 +47,12 @@ pub record Rows (grammar heard : List ℕ) (found : ℕ) (shown shown′ : List 
   pub rows : (k : ℕ) → 1 ≤ k → k ≤ found → (t : Tree) × Ranked (grammarOf m) h k t × (kthRow k shown′ ≡ rowOf k m h t)
   pub beyond : drop (found * 50) shown′ ≡ drop (found * 50) shown
 
--- a refusal changes nothing
-abbrev pub Told : (grammar heard : List ℕ) → Listed → (shown shown′ : List ℕ) → Type 0
-Told grammar heard (Found found) shown shown′ = Rows grammar heard found shown shown′
-Told grammar heard (Refused n) shown shown′ = shown′ ≡ shown
+-- the bytes of output that count: where the rows of eight readings have no room, none do, and so 23 is due where nothing else is
+abbrev pub roomFor : (out shown : ℕ) → ℕ
+roomFor out shown = pick (ltb shown 400) 0 out
+
+-- eight readings are asked of the listing, for a work table and an output of these lengths; a refusal is the listing's, and changes nothing
+abbrev pub Told : (grammar heard : List ℕ) (work room : ℕ) → Listed → (shown shown′ : List ℕ) → Type 0
+Told grammar heard work room (Found found) shown shown′ =
+    ((b : Grammar × Heard) × (askedListing library grammar heard 8 work room ≡ accepted b)) × Rows grammar heard found shown shown′
+Told grammar heard work room (Refused n) shown shown′ = (askedListing library grammar heard 8 work room ≡ refused n) × (shown′ ≡ shown)

@@ -24,7 +24,7 @@ ghost use Rattle.inputs.specs.Answer.{listedOf};
 ghost use Rattle.chart.specs.WorkTable.{workAfter};
 ghost use Rattle.listing.specs.Listing.{list, outputAfter};
 ghost use Rattle.office_theory.specs.Matching.{withoutMarked};
-ghost use Rattle.lines.specs.Rows.{Told};
+ghost use Rattle.lines.specs.Rows.{roomFor, Told};
 ghost use Rattle.lines.specs.Model.{Bounded, ShapeOf, sizeOf, Few, Says, SlotsSay, GraphSays, WalkRead, Shown, RowSays, RowsSay};
 
 // The number of readings that document 01 has the lister ask for.
@@ -213,8 +213,8 @@ fn write_rows(out: &[u8], m: usize, rules: &[u32], marks: &[u32], s: Shape, show
     }
 }
 
-// The listing of eight readings, with a row for each that is found in `shown`.
-pub fn lines(
+// The listing of eight readings, where `shown` has room for their rows.
+fn lines_within(
     grammar: &[u8],
     heard: &[u8],
     work: &mut [u32],
@@ -227,7 +227,8 @@ pub fn lines(
         (list library (now (grammar .entry)) (now (heard .entry)) 8 (length (now (work .entry))) (length (now (out .entry)))) (now (work .entry)) ⌝ }
     ensures { λ r. ⌜ now (out .exit) ≡ outputAfter
         (list library (now (grammar .entry)) (now (heard .entry)) 8 (length (now (work .entry))) (length (now (out .entry)))) (now (out .entry)) ⌝ }
-    ensures { λ r. ⌜ Told (now (grammar .entry)) (now (heard .entry)) r (now (shown .entry)) (now (shown .exit)) ⌝ }
+    ensures { λ r. ⌜ Told (now (grammar .entry)) (now (heard .entry)) (length (now (work .entry))) (length (now (out .entry))) r (now (shown .entry))
+        (now (shown .exit)) ⌝ }
 {
     let mut rules = [0u32; RULES_LENGTH];
     let mut marks = [0u32; MAX_RULES];
@@ -239,4 +240,34 @@ pub fn lines(
             Listed::Found(m)
         }
     }
+}
+
+// The listing of eight readings, with a row for each that is found in `shown`. Where that is shorter than eight rows, no output suffices.
+pub fn lines(
+    grammar: &[u8],
+    heard: &[u8],
+    work: &mut [u32],
+    out: &mut [u8],
+    shown: &mut [u32],
+) -> Listed
+    ensures { λ r. ⌜ r ≡ listedOf
+        (list library (now (grammar .entry)) (now (heard .entry)) 8 (length (now (work .entry)))
+        (roomFor (length (now (out .entry))) (length (now (shown .entry)))))
+        ⌝ }
+    ensures { λ r. ⌜ now (work .exit) ≡ workAfter
+        (list library (now (grammar .entry)) (now (heard .entry)) 8 (length (now (work .entry)))
+        (roomFor (length (now (out .entry))) (length (now (shown .entry)))))
+        (now (work .entry)) ⌝ }
+    ensures { λ r. ⌜ now (out .exit) ≡ outputAfter
+        (list library (now (grammar .entry)) (now (heard .entry)) 8 (length (now (work .entry)))
+        (roomFor (length (now (out .entry))) (length (now (shown .entry)))))
+        (now (out .entry)) ⌝ }
+    ensures { λ r. ⌜ Told (now (grammar .entry)) (now (heard .entry)) (length (now (work .entry)))
+        (roomFor (length (now (out .entry))) (length (now (shown .entry)))) r (now (shown .entry)) (now (shown .exit)) ⌝ }
+{
+    if shown.len() < SHOWN_NUMBERS {
+        let mut none = [0u8; 1];
+        return listing::listing(grammar, heard, WANTED, work, &mut none[..0]);
+    }
+    lines_within(grammar, heard, work, out, shown)
 }

@@ -15,23 +15,8 @@ use Rattle.packing.specs.Meaning.{Grammar, Heard}
 use Rattle.packing.specs.Parse.{Verdict, accepted, refused}
 use Rattle.packing.specs.Grammar.{markedBlock, grammarBlock}
 use Rattle.packing.specs.Conversion.{grammarToBlock, grammarToSheet, utteranceToBlock, utteranceToSheet, fitting, TurnsBack}
-use Rattle.packing.specs.Rows.{
-  _∪_,
-  GrammarBlockRow,
-  UtteranceBlockRow,
-  HeardBlockRow,
-  ListingRow,
-  PanelRow,
-  SpecimenRow,
-  ReadingBlockRow,
-  SharesRow,
-  RangesRow,
-  GrammarSheetRow,
-  UtteranceSheetRow,
-  OfficeSheetRow,
-  OfficeSizeRow,
-  OutputRow,
-}
+use Rattle.packing.specs.Rows.{_∪_, GrammarBlockRow, UtteranceBlockRow, HeardBlockRow, ListingRow, PanelRow, SpecimenRow, ReadingBlockRow}
+use Rattle.packing.specs.Rows.{SharesRow, RangesRow, GrammarSheetRow, UtteranceSheetRow, OfficeSheetRow, OfficeSizeRow, OutputRow}
 use Rattle.office.specs.Office.{Office}
 use Rattle.office.specs.Sheet.{officeSheet}
 use Rattle.office.specs.Conversion.{convert, convertMarked}
@@ -61,8 +46,7 @@ pub data Demand1 {A : Type 0} (due : Verdict A) (Answer : A → ℕ → Type 0) 
 
 -- A conversion "answers the length written and changes nothing beyond it". Demand 2: accepted sheets and blocks turn into each other
 -- without change.
-pub record Converts (turn back : List ℕ → Verdict (List ℕ)) (Row : ℕ → Type 0) (given out : List ℕ) (code : ℤ) (out′ : List ℕ)
-    : Type 0 where
+pub record Converts (turn back : List ℕ → Verdict (List ℕ)) (Row : ℕ → Type 0) (given out : List ℕ) (code : ℤ) (out′ : List ℕ) : Type 0 where
   pub demand-1 : Demand1 (fitting (turn given) out) (λ l n. (n ≡ length l) × (out′ ≡ l ++ drop n out)) Row (out′ ≡ out) code
   pub demand-2 : TurnsBack back given (λ n. code ≡ pos n) out′
 
@@ -181,13 +165,11 @@ pub record WordMargins (grammar utterance work out : List ℕ) (code : ℤ) (wor
 -- The least string with a property, whose length n is answered, stands at the front of the output; or there is none, 0 is answered and
 -- nothing was written.
 abbrev pub LeastWritten : (List ℕ → Type 0) → (n : ℕ) (out out′ : List ℕ) → ℕ → Type 0
-LeastWritten P n out out′ m =
-    ((s : List ℕ) × Least P s × (m ≡ n) × (out′ ≡ s ++ drop n out)) ⊎ (((s : List ℕ) → ¬ P s) × (m ≡ 0) × (out′ ≡ out))
+LeastWritten P n out out′ m = ((s : List ℕ) × Least P s × (m ≡ n) × (out′ ≡ s ++ drop n out)) ⊎ (((s : List ℕ) → ¬ P s) × (m ≡ 0) × (out′ ≡ out))
 
 -- The specimen is "the string that is least when compared word number by word number from the left" (document 02, N7).
 pub record Specimen (grammar : List ℕ) (n : ℕ) (out : List ℕ) (code : ℤ) (out′ : List ℕ) : Type 0 where
-  pub demand-1 : Demand1 (asked 24 grammar n (length out)) (λ g m. LeastWritten (Phrase g n) n out out′ m) (GrammarBlockRow ∪ SpecimenRow)
-      (out′ ≡ out) code
+  pub demand-1 : Demand1 (asked 24 grammar n (length out)) (λ g m. LeastWritten (Phrase g n) n out out′ m) (GrammarBlockRow ∪ SpecimenRow) (out′ ≡ out) code
 
 -- Document 02, N9: a first call looks for any phrase, a later one, with 0 for `first`, "finds some string in the output and writes the least
 -- derivable one above it, or says end and writes nothing".

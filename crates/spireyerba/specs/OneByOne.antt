@@ -102,8 +102,7 @@ pub record OneByOne (b : Blocks) (s : Sequence) : Type 0 where
   pub derivations : ℕ
   pub finitely-many : Number (Derivation (b .grammar) (b .heard)) derivations
   pub none-before : s .place 0 ≡ placeAt 0 1
-  pub gives : (k : ℕ) → k < s .calls → Room b s k → s .place k .handed < 256 → s .place k .handed < derivations
-      → HandsOut b s k (suc (s .place k .handed))
+  pub gives : (k : ℕ) → k < s .calls → Room b s k → s .place k .handed < 256 → s .place k .handed < derivations → HandsOut b s k (suc (s .place k .handed))
   pub no-more : (k : ℕ) → k < s .calls → Room b s k → s .place k .handed < 256 → derivations ≤ s .place k .handed → Idle s k (pos 0)
   pub full : (k : ℕ) → k < s .calls → Room b s k → 256 ≤ s .place k .handed → Idle s k (pos 2)
   pub no-room : (k : ℕ) → k < s .calls → ¬ Room b s k → Idle s k (negℤ (pos 23))

@@ -1,68 +1,34 @@
--- What the listing leaves in the output is shown row by row; at most eight readings are found.
-use mathlib.Core.Path.{refl, sym, _∙_}
-use Prim.Native.Nat.{_≤_}
-use native.Mathlib.Omega.{arith}
-use Rattle.listing.specs.Conditions.{library}
-use Rattle.listing.proofs.Accepted.{found-few}
-use Rattle.lines.proofs.Outcome.{room-for, rows-told}
+-- Where the rows have no room, the listing is lent no output and so refuses; else they are written.
 use borrow.Author.Needs.{needs}
+use Rattle.lines.proofs.Outcome.{no-room, room-is}
 use Rattle.lines.proofs.lines.Statement.{statement}
 use Rattle.lines.proofs.lines.Tie as tie
 
-slice-aggregate-shape-of : tie.Need-slice-aggregate-shape-of
-slice-aggregate-shape-of c = search needs
+array-borrow-prefix-none : tie.Need-array-borrow-prefix-none
+array-borrow-prefix-none c = search needs
 
-slice-aggregate-shape-of-2 : tie.Need-slice-aggregate-shape-of-2
-slice-aggregate-shape-of-2 c = search needs
-
-shape-of-requires : tie.Need-shape-of-requires
-shape-of-requires c κs = search needs
+slice-aggregate-listing : tie.Need-slice-aggregate-listing
+slice-aggregate-listing c = search needs
 
 listing-requires : tie.Need-listing-requires
 listing-requires c κs = search needs
 
-enum-known-n : tie.Need-enum-known-n
-enum-known-n c = search needs
-
-enum-known-m : tie.Need-enum-known-m
-enum-known-m c = search needs
-
-slice-aggregate-write-rows : tie.Need-slice-aggregate-write-rows
-slice-aggregate-write-rows c = search needs
-
-slice-aggregate-write-rows-2 : tie.Need-slice-aggregate-write-rows-2
-slice-aggregate-write-rows-2 c = search needs
-
-write-rows-requires : tie.Need-write-rows-requires
-write-rows-requires c κs =
-    let at-m = c .before .before .before .before .before in
-    let at-listing = at-m .before .before .before .before .before .before in
-    let at-shape-of = at-listing .before .before .before .before .before in
-    let at-args = at-shape-of .before .before .before .before .before .before .before .before in
-    let bounded = at-shape-of .shape-of .ensures .bounded in
-    let few : at-m .m .given .0 .0 ≤ 8 = found-few library _ _ 8 _ _ (at-listing .listing .ensures .0) (at-m .m .given .1) in (
-      bounded,
-      few,
-      omega (
-        arith,
-        at-listing .listing .kept,
-        room-for (at-args .args .grammar .now) (at-args .args .heard .now) (at-shape-of .shape-of .last .1 .1 .0) (at-shape-of .shape-of .last .1 .1 .1 .0)
-            (at-shape-of .shape-of .result) (at-shape-of .shape-of .ensures) (at-args .args .work .now) (at-args .args .out .now) (at-m .m .given .0 .0)
-            (at-listing .listing .result) (at-listing .listing .ensures .0) (at-m .m .given .1) few,
-      ),
-      at-args .pre,
-    )
-
 same-length : tie.Need-same-length
 same-length c = search needs
 
-same-length-2 : tie.Need-same-length-2
-same-length-2 c = search needs
-
 returns : tie.Need-returns
 returns c =
-    let l = c .before .before .before .before .before .before .before .listing .ensures in
-    (sym (c .before .n .given .1) ∙ l .0, (l .1 .0, (l .1 .1 .0, refl)))
+    let at-listing = c .before .before .before in
+    let at-if1 = at-listing .before .before .before in
+    let a = at-if1 .before .before .before .before .before .before .args in
+    let l = at-listing .listing .ensures in
+    no-room (a .grammar .now) (a .heard .now) (a .work .now) (a .out .now) (a .shown .now) (at-if1 .if1 .taken) (l .0) (l .1 .0)
+
+lines-within-requires : tie.Need-lines-within-requires
+lines-within-requires c κs = search needs
+
+same-length-2 : tie.Need-same-length-2
+same-length-2 c = search needs
 
 same-length-3 : tie.Need-same-length-3
 same-length-3 c = search needs
@@ -70,47 +36,24 @@ same-length-3 c = search needs
 same-length-4 : tie.Need-same-length-4
 same-length-4 c = search needs
 
-same-length-5 : tie.Need-same-length-5
-same-length-5 c = search needs
-
 returns-2 : tie.Need-returns-2
 returns-2 c =
-    let at-m = c .before .before .before .before .before .before .before .before in
-    let at-listing = at-m .before .before .before .before .before .before in
-    let at-shape-of = at-listing .before .before .before .before .before in
-    let at-args = at-shape-of .before .before .before .before .before .before .before .before in
-    let l = at-listing .listing .ensures in
-    let a = at-args .args in (
-      sym (at-m .m .given .1) ∙ l .0,
-      (
-        l .1 .0,
-        (
-          l .1 .1 .0,
-          rows-told (a .grammar .now) (a .heard .now) (at-shape-of .shape-of .last .1 .1 .0) (at-shape-of .shape-of .last .1 .1 .1 .0)
-              (at-shape-of .shape-of .result) (at-shape-of .shape-of .ensures) (a .work .now) (a .out .now) (at-m .m .given .0 .0) (at-listing .listing .result)
-              (l .0) (at-m .m .given .1) (at-listing .listing .last .1 .1 .1 .0) (at-listing .listing .last .1 .1 .1 .1 .0) (a .shown .now)
-              (c .before .before .write-rows .last .1 .1 .1 .1 .1 .0) (l .1 .1 .1) (c .before .before .write-rows .ensures),
-        ),
-      ),
-    )
+    let at-within = c .before .before .before .before .before .before in
+    let at-if1 = at-within .before .before .before .before in
+    let a = at-if1 .before .before .before .before .before .before .args in
+    rw (room-is (a .out .now) (a .shown .now) (at-if1 .if1 .left)) (at-within .lines-within .ensures)
 
 pub lines-spec : {M : Type 1} → statement M
 lines-spec =
     tie.close
     (tie.spec
-    slice-aggregate-shape-of
-    slice-aggregate-shape-of-2
-    shape-of-requires
+    array-borrow-prefix-none
+    slice-aggregate-listing
     listing-requires
-    enum-known-n
-    enum-known-m
-    slice-aggregate-write-rows
-    slice-aggregate-write-rows-2
-    write-rows-requires
     same-length
-    same-length-2
     returns
+    lines-within-requires
+    same-length-2
     same-length-3
     same-length-4
-    same-length-5
     returns-2)
