@@ -1,7 +1,7 @@
 // The checked examples of document 01 that are not marked P, of G and U with N = 8: 320 numbers of work table are enough, 319
 // are not; 48 bytes of output are enough, 47 are not; other N; another G. Where a case is not about them, both are longer.
 // Then those of the panel (document 02, N8), of G with slots and with word graphs, and the lister's lines (N1, N5) of a graph and of grammars
-// of kind 4.
+// of kind 4; 400 numbers are enough for its rows, 399 are not.
 use inputs::Listed;
 use lines::SHOWN_NUMBERS;
 use listing::PANEL;
@@ -111,6 +111,19 @@ fn run_marked() {
     run_lines(b"G with marks, no slots", &marked, &g);
 }
 
+// A line for the lister's rows of U under G, lent so many numbers for them, which are full of noise.
+fn run_rows(name: &[u8], numbers: usize)
+    requires { do ⌜ numbers ≤ (← ⟦SHOWN_NUMBERS⟧) ⌝ }
+{
+    let g = [16u8, 64, 64, 64, 0, 9, 0, 0, 0];
+    let u = [33u8, 8, 0, 0, 128, 0, 8, 0, 0, 128, 0, 0];
+    let mut work = [12345u32; 321];
+    let mut out = [123u8; 49];
+    let mut shown = [12345u32; SHOWN_NUMBERS];
+    let answer = lines::lines(&g, &u, &mut work, &mut out, &mut shown[..numbers]);
+    print_answer(name, answer);
+}
+
 fn main() {
     run(b"work 320", 0, 8, 320, 49);
     run(b"work 319", 0, 8, 319, 49);
@@ -132,4 +145,6 @@ fn main() {
     run_thirteen(b"13 slots, N 300", 300);
     run_places();
     run_marked();
+    run_rows(b"rows 400", 400);
+    run_rows(b"rows 399", 399);
 }
