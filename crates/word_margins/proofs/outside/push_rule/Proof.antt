@@ -1,0 +1,56 @@
+-- The rule's kind decides whether there are parts.
+use mathlib.Core.Path.{refl}
+use Rattle.word_margins.specs.Model.{fourths, plain}
+use Rattle.word_margins.proofs.Steps.{pair-pushed, word-pushed}
+use borrow.Author.Needs.{needs}
+use Rattle.word_margins.proofs.outside.push_rule.Statement.{statement}
+use Rattle.word_margins.proofs.outside.push_rule.Tie as tie
+
+rule-at-requires : tie.Need-rule-at-requires
+rule-at-requires c κs = search needs
+
+enum-known-rule : tie.Need-enum-known-rule
+enum-known-rule c = search needs
+
+wide-requires : tie.Need-wide-requires
+wide-requires c κs = search needs
+
+add-push-parts : tie.Need-add-push-parts
+add-push-parts c = search needs
+
+push-parts-requires : tie.Need-push-parts-requires
+push-parts-requires c κs = search needs
+
+enum-told : tie.Need-enum-told
+enum-told c = search needs
+
+same-length : tie.Need-same-length
+same-length c = search needs
+
+returns : tie.Need-returns
+returns c = (
+  pair-pushed (fourths (c .before .before .before .before .before .before .before .before .before .before .before .before .args .t .now)) (plain (c .before .before .before .before .before .before .before .before .before .before .before .before .args .t .now)) (c .before .before .before .before .before .before .before .before .before .before .before .before .args .rules .now) (c .before .before .before .before .before .before .before .before .before .before .before .before .args .d) (c .before .before .before .before .before .before .before .before .before .before .before .before .args .node)
+      (c .before .before .before .before .before .before .before .before .before .before .before .before .args .outer) (c .before .before .before .before .before .before .before .before .before .before .before .before .args .r) (c .before .before .before .before .before .before .before .before .rule-at .ensures) (c .before .before .before .before .before .before .rule .given .1) (c .before .before .before .wide .ensures .0) (c .before .before .push-parts .ensures .0),
+  c .before .before .push-parts .ensures .1,
+)
+
+returns-2 : tie.Need-returns-2
+returns-2 c = (
+  word-pushed (fourths (c .before .before .before .before .before .before .args .t .now)) (plain (c .before .before .before .before .before .before .args .t .now)) (c .before .before .before .before .before .before .args .rules .now) (c .before .before .before .before .before .before .args .d) (c .before .before .before .before .before .before .args .node)
+      (c .before .before .before .before .before .before .args .outer) (c .before .before .before .before .before .before .args .r) (c .before .before .rule-at .ensures) (c .enum-told .given .1),
+  refl,
+)
+
+pub push-rule-spec : {M : Type 1} → statement M
+push-rule-spec =
+    tie.close
+    (tie.spec
+    rule-at-requires
+    enum-known-rule
+    wide-requires
+    add-push-parts
+    push-parts-requires
+    enum-told
+    same-length
+    returns
+    returns-2)
