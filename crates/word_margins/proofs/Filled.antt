@@ -90,7 +90,8 @@ module _ {g : Grammar} {es : List Edge} {rules t : List ℕ} {d : Layout} (s : S
       → RuleGiven i k rule u′
   rule-more i k upto (Word H y w) h u u′ b q = refl
   rule-more i k upto (Pair H L R w) (hH, hL, hR) u u′ b q = λ x e j l m.
-      given-more s (record { symbol = rw (s .symbols) hL; order = l; within = omega arith }) (record { symbol = rw (s .symbols) hR; order = m; within = upto }) b
+      given-more s (record { symbol = rw (s .symbols) hL; order = l; within = omega arith })
+      (record { symbol = rw (s .symbols) hR; order = m; within = upto }) b
       (q x e j l m)
 
   span-more : (i k : ℕ) → k ≤ n → (u u′ : List ℕ) → Below s u u′ → SpanGiven i k u → SpanGiven i k u′
@@ -140,7 +141,8 @@ module _ {g : Grammar} {es : List Edge} {rules t : List ℕ} {d : Layout} (s : S
     from-rules zero l v e = from-around v e
     from-rules (suc m) l v e =
         ⊎-elim (λ p. ⊎-elim (from-rules m (omega arith) v)
-        (λ q. from-left (ruleAt rules m) (λ h b c. longer i h (omega (arith, in-chart .order)) b (omega (arith, in-chart .order)) m l) v (rw (s .rule-at m l) at q))
+        (λ q. from-left (ruleAt rules m) (λ h b c. longer i h (omega (arith, in-chart .order)) b (omega (arith, in-chart .order)) m l)
+        v (rw (s .rule-at m l) at q))
         (lesser-found (afterRules outer (inside g es) g S n A i k m) (asLeft outer (inside g es) n A i k (getElem? (g .rules) m)) v p))
         (λ q. from-right (ruleAt rules m)
         (λ h b. longer h k (omega (arith, in-chart .order)) (in-chart .within) (omega (arith, in-chart .order)) m l) v (rw (s .rule-at m l) at q))
@@ -185,7 +187,8 @@ module _ {g : Grammar} {es : List Edge} {rules t : List ℕ} {d : Layout} (s : S
       rules-did a x symbol e o good =
           let start = classStart index pairBase a in
           let end = classEnd index pairBase a in
-          let member : (y : ℕ) → y < end - start → (getD index (start + y) 0 < length (g .rules)) × PairWith (symbolOf a) (ruleAt rules (getD index (start + y) 0))
+          let member : (y : ℕ) → y < end - start → (getD index (start + y) 0 < length (g .rules)) ×
+          PairWith (symbolOf a) (ruleAt rules (getD index (start + y) 0))
           = λ y l. grouped (symbolOf a) symbol (getD index (start + y) 0) .0 (start + y, omega arith, omega arith, refl) in
           let all = iter-did s (λ u y. pushRule u t d (cell (symbolOf a) i k) (suc x) (ruleAt rules (getD index (start + y) 0)))
           (λ y u. RuleGiven i k (ruleAt rules (getD index (start + y) 0)) u) o good (end - start)

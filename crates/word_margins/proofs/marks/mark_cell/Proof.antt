@@ -11,7 +11,10 @@ price-at-requires : tie.Need-price-at-requires
 price-at-requires c κs = search needs
 
 returns : tie.Need-returns
-returns c = cell-passed (c .before .before .before .before .before .args .t .now) (c .before .before .before .before .before .args .d) (c .before .before .before .before .before .args .c) (c .before .before .cell-number .ensures .0) (c .before .price-at .ensures .0) (c .if1 .taken)
+returns c =
+    let at-args = c .before .before .before .before .before in
+    cell-passed (at-args .args .t .now) (at-args .args .d) (at-args .args .c) (c .before .before .cell-number .ensures .0)
+    (c .before .price-at .ensures .0) (c .if1 .taken)
 
 mark-requires : tie.Need-mark-requires
 mark-requires c κs = search needs

@@ -19,26 +19,38 @@ loop-holds : tie.Need-loop-holds Inv-loop μ-loop
 loop-holds c = (omega arith, refl, marked-none (λ x p. omega (arith, p .1)))
 
 mark-heads-requires : tie.Need-mark-heads-requires Inv-loop μ-loop
-mark-heads-requires c κs = (c .before .before .before .before .before .pre .0, c .before .loop-test .taken, c .before .before .before .before .before .pre .1, omega (arith, c .before .before .loop .inv .1, c .before .before .before .before .before .pre .2))
+mark-heads-requires c κs =
+    let at-pre = c .before .before .before .before .before in
+    (at-pre .pre .0, c .before .loop-test .taken, at-pre .pre .1, omega (arith, c .before .before .loop .inv .1, at-pre .pre .2))
 
 add-from : tie.Need-add-from Inv-loop μ-loop
-add-from c = omega (arith, c .before .before .before .before .before .before .before .before .pre .0 .places, c .before .before .before .before .before .before .before .before .pre .1, c .before .before .before .before .loop-test .taken)
+add-from c =
+    let at-loop-test = c .before .before .before .before in
+    let at-pre = at-loop-test .before .before .before .before in
+    omega (arith, at-pre .pre .0 .places, at-pre .pre .1, at-loop-test .loop-test .taken)
 
 loop-less : tie.Need-loop-less Inv-loop μ-loop
-loop-less c = omega (arith, c .before .before .before .before .loop-test .taken)
+loop-less c =
+    let at-loop-test = c .before .before .before .before in
+    omega (arith, at-loop-test .loop-test .taken)
 
 loop-again : tie.Need-loop-again Inv-loop μ-loop
-loop-again c = (
-  omega (arith, c .before .before .before .before .loop-test .taken),
-  c .before .before .mark-heads .ensures .size ∙ c .before .before .before .before .before .loop .inv .1,
-  marked-more (c .before .before .before .before .before .loop .inv .2) (c .before .before .mark-heads .ensures) (next-start _ _ _),
-)
+loop-again c =
+    let at-mark-heads = c .before .before in
+    let at-loop-test = at-mark-heads .before .before in
+    let at-loop = at-loop-test .before in (
+      omega (arith, at-loop-test .loop-test .taken),
+      at-mark-heads .mark-heads .ensures .size ∙ at-loop .loop .inv .1,
+      marked-more (at-loop .loop .inv .2) (at-mark-heads .mark-heads .ensures) (next-start _ _ _),
+    )
 
 same-length : tie.Need-same-length Inv-loop μ-loop
 same-length c = c .before .loop .inv .1
 
 returns : tie.Need-returns Inv-loop μ-loop
-returns c = marked-fewer (c .before .loop .inv .2) (λ x p. (p .0, omega (arith, p .1, c .loop-test .left, c .before .loop .inv .0), p .2))
+returns c =
+    let at-loop = c .before in
+    marked-fewer (at-loop .loop .inv .2) (λ x p. (p .0, omega (arith, p .1, c .loop-test .left, at-loop .loop .inv .0), p .2))
 
 pub mark-spans-spec : {M : Type 1} → statement M
 mark-spans-spec =

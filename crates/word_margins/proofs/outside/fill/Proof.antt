@@ -15,12 +15,13 @@ root-requires : tie.Need-root-requires
 root-requires c κs = search needs
 
 cell-number-requires : tie.Need-cell-number-requires
-cell-number-requires c κs = (
-  c .before .before .before .before .before .before .before .before .before .pre .sized,
-  rw (c .root .ensures) (omega arith),
-  rw (c .root .ensures) (c .before .before .before .before .before .before .before .before .before .pre .some-place),
-  rw (c .root .ensures) (c .before .before .before .before .before .before .before .before .before .pre .sized .places),
-)
+cell-number-requires c κs =
+    let at-pre = c .before .before .before .before .before .before .before .before .before in (
+      at-pre .pre .sized,
+      rw (c .root .ensures) (omega arith),
+      rw (c .root .ensures) (at-pre .pre .some-place),
+      rw (c .root .ensures) (at-pre .pre .sized .places),
+    )
 
 lower-requires : tie.Need-lower-requires
 lower-requires c κs = search needs
@@ -47,27 +48,37 @@ slice-aggregate-over-lengths-2 : tie.Need-slice-aggregate-over-lengths-2
 slice-aggregate-over-lengths-2 c = search needs
 
 over-lengths-requires : tie.Need-over-lengths-requires
-over-lengths-requires c κs = (c .before .before .before .before .before .before .before .before .before .before .before .before .before .before .before .before .before .before .before .before .before .before .before .before .pre .sized, found-all (c .before .before .before .before .mark-found .ensures))
+over-lengths-requires c κs =
+    let at-mark-found = c .before .before .before .before in
+    let before-16 = at-mark-found .before .before .before .before .before .before .before .before .before .before .before .before in
+    let at-pre = before-16 .before .before .before .before .before .before .before .before in
+    (at-pre .pre .sized, found-all (at-mark-found .mark-found .ensures))
 
 same-length : tie.Need-same-length
 same-length c = search needs
 
 returns : tie.Need-returns
 unfolding fill
-returns c = (
-  c .before .before .over-lengths .ensures .0
-      ∙ rw (
-        c .before .before .before .before .before .before .before .before .before .before .before .make-index .ensures,
-        c .before .before .before .before .before .before .before .before .before .before .before .before .before .before .before .before .lower .ensures .0,
-        c .before .before .before .before .before .before .before .before .before .before .before .before .before .before .before .before .lower .ensures .1,
-        c .before .before .before .before .before .before .before .before .before .before .before .before .before .before .before .before .before .before .before .before .before .before .blank .ensures .0,
-        c .before .before .before .before .before .before .before .before .before .before .before .before .before .before .before .before .before .before .before .before .before .before .blank .ensures .1,
-        c .before .before .before .before .before .before .before .before .before .before .before .before .before .before .before .before .before .cell-number .ensures .0,
-        c .before .before .before .before .before .before .before .before .before .before .before .before .before .before .before .before .before .before .root .ensures,
-        lower-zeros,
-      ),
-  c .before .before .over-lengths .ensures .1 ∙ c .before .before .before .before .before .before .before .before .before .before .before .before .before .before .before .before .lower .ensures .1 ∙ c .before .before .before .before .before .before .before .before .before .before .before .before .before .before .before .before .before .before .before .before .before .before .blank .ensures .1,
-)
+returns c =
+    let at-over-lengths = c .before .before in
+    let at-make-index = at-over-lengths .before .before .before .before .before .before .before .before .before in
+    let at-lower = at-make-index .before .before .before .before .before in
+    let at-cell-number = at-lower .before in
+    let at-root = at-cell-number .before in
+    let at-blank = at-root .before .before .before .before in (
+      at-over-lengths .over-lengths .ensures .0
+          ∙ rw (
+            at-make-index .make-index .ensures,
+            at-lower .lower .ensures .0,
+            at-lower .lower .ensures .1,
+            at-blank .blank .ensures .0,
+            at-blank .blank .ensures .1,
+            at-cell-number .cell-number .ensures .0,
+            at-root .root .ensures,
+            lower-zeros,
+          ),
+      at-over-lengths .over-lengths .ensures .1 ∙ at-lower .lower .ensures .1 ∙ at-blank .blank .ensures .1,
+    )
 
 pub fill-spec : {M : Type 1} → statement M
 fill-spec =

@@ -23,37 +23,50 @@ unfolding iter
 loop-holds c = (omega arith, refl, refl, refl)
 
 cast-t12 : tie.Need-cast-t12 Inv-loop μ-loop
-cast-t12 c = omega (arith, c .before .before .before .before .before .before .pre .0 .symbols, c .loop-test .taken)
+cast-t12 c =
+    let at-pre = c .before .before .before .before .before .before in
+    omega (arith, at-pre .pre .0 .symbols, c .loop-test .taken)
 
 push-node-requires : tie.Need-push-node-requires Inv-loop μ-loop
-push-node-requires c κs = (
-  c .before .before .before .before .before .before .before .pre .0,
-  c .before .before .before .before .before .before .before .pre .1,
-  c .before .before .before .before .before .before .before .pre .2,
-  rw (c .before .before .loop .inv .2) (c .before .before .before .before .before .before .before .pre .3),
-  omega (arith, c .before .before .before .before .before .before .before .pre .0 .symbols, c .before .loop-test .taken),
-)
+push-node-requires c κs =
+    let at-pre = c .before .before .before .before .before .before .before in (
+      at-pre .pre .0,
+      at-pre .pre .1,
+      at-pre .pre .2,
+      rw (c .before .before .loop .inv .2) (at-pre .pre .3),
+      omega (arith, at-pre .pre .0 .symbols, c .before .loop-test .taken),
+    )
 
 add-a : tie.Need-add-a Inv-loop μ-loop
-add-a c = omega (arith, c .before .before .before .before .before .before .before .before .before .before .pre .0 .symbols, c .before .before .before .before .loop-test .taken)
+add-a c =
+    let at-loop-test = c .before .before .before .before in
+    let at-pre = at-loop-test .before .before .before .before .before .before in
+    omega (arith, at-pre .pre .0 .symbols, at-loop-test .loop-test .taken)
 
 loop-less : tie.Need-loop-less Inv-loop μ-loop
-loop-less c = omega (arith, c .before .before .before .before .loop-test .taken)
+loop-less c =
+    let at-loop-test = c .before .before .before .before in
+    omega (arith, at-loop-test .loop-test .taken)
 
 loop-again : tie.Need-loop-again Inv-loop μ-loop
-loop-again c = (
-  omega (arith, c .before .before .before .before .loop-test .taken),
-  c .before .before .push-node .kept .0 ∙ c .before .before .before .before .before .loop .inv .1,
-  c .before .before .push-node .ensures .1 ∙ c .before .before .before .before .before .loop .inv .2,
-  c .before .before .push-node .ensures .0 ∙ rw (iter-more, ← c .before .before .before .before .before .loop .inv .3, c .before .before .before .before .before .loop .inv .2),
-)
+loop-again c =
+    let at-push-node = c .before .before in
+    let at-loop-test = at-push-node .before .before in
+    let at-loop = at-loop-test .before in (
+      omega (arith, at-loop-test .loop-test .taken),
+      at-push-node .push-node .kept .0 ∙ at-loop .loop .inv .1,
+      at-push-node .push-node .ensures .1 ∙ at-loop .loop .inv .2,
+      at-push-node .push-node .ensures .0 ∙ rw (iter-more, ← at-loop .loop .inv .3, at-loop .loop .inv .2),
+    )
 
 same-length : tie.Need-same-length Inv-loop μ-loop
 same-length c = c .before .loop .inv .1
 
 returns : tie.Need-returns Inv-loop μ-loop
 unfolding overHeads
-returns c = (c .before .loop .inv .3 ∙ iter-end _ _ _ _ (c .before .loop .inv .0) (c .loop-test .left), c .before .loop .inv .2)
+returns c =
+    let at-loop = c .before in
+    (at-loop .loop .inv .3 ∙ iter-end _ _ _ _ (at-loop .loop .inv .0) (c .loop-test .left), at-loop .loop .inv .2)
 
 pub over-heads-spec : {M : Type 1} → statement M
 over-heads-spec =

@@ -24,28 +24,40 @@ sub-over-spans : tie.Need-sub-over-spans Inv-loop μ-loop
 sub-over-spans c = omega (arith, c .before .loop-test .taken)
 
 over-spans-requires : tie.Need-over-spans-requires Inv-loop μ-loop
-over-spans-requires c κs = (c .before .before .before .before .before .before .before .pre .0, omega (arith, c .before .loop-test .taken), omega arith, rw (c .before .before .loop .inv .2) (c .before .before .before .before .before .before .before .pre .1))
+over-spans-requires c κs =
+    let at-pre = c .before .before .before .before .before .before .before in
+    (at-pre .pre .0, omega (arith, c .before .loop-test .taken), omega arith, rw (c .before .before .loop .inv .2) (at-pre .pre .1))
 
 add-x : tie.Need-add-x Inv-loop μ-loop
-add-x c = omega (arith, c .before .before .before .before .before .before .before .before .before .before .pre .0 .places, c .before .before .before .before .loop-test .taken)
+add-x c =
+    let at-loop-test = c .before .before .before .before in
+    let at-pre = at-loop-test .before .before .before .before .before .before in
+    omega (arith, at-pre .pre .0 .places, at-loop-test .loop-test .taken)
 
 loop-less : tie.Need-loop-less Inv-loop μ-loop
-loop-less c = omega (arith, c .before .before .before .before .loop-test .taken)
+loop-less c =
+    let at-loop-test = c .before .before .before .before in
+    omega (arith, at-loop-test .loop-test .taken)
 
 loop-again : tie.Need-loop-again Inv-loop μ-loop
-loop-again c = (
-  omega (arith, c .before .before .before .before .loop-test .taken),
-  c .before .before .over-spans .kept .0 ∙ c .before .before .before .before .before .loop .inv .1,
-  c .before .before .over-spans .ensures .1 ∙ c .before .before .before .before .before .loop .inv .2,
-  c .before .before .over-spans .ensures .0 ∙ rw (iter-more, ← c .before .before .before .before .before .loop .inv .3, c .before .before .before .before .before .loop .inv .2),
-)
+loop-again c =
+    let at-over-spans = c .before .before in
+    let at-loop-test = at-over-spans .before .before in
+    let at-loop = at-loop-test .before in (
+      omega (arith, at-loop-test .loop-test .taken),
+      at-over-spans .over-spans .kept .0 ∙ at-loop .loop .inv .1,
+      at-over-spans .over-spans .ensures .1 ∙ at-loop .loop .inv .2,
+      at-over-spans .over-spans .ensures .0 ∙ rw (iter-more, ← at-loop .loop .inv .3, at-loop .loop .inv .2),
+    )
 
 same-length : tie.Need-same-length Inv-loop μ-loop
 same-length c = c .before .loop .inv .1
 
 returns : tie.Need-returns Inv-loop μ-loop
 unfolding overLengths
-returns c = (c .before .loop .inv .3 ∙ iter-end _ _ _ _ (c .before .loop .inv .0) (c .loop-test .left), c .before .loop .inv .2)
+returns c =
+    let at-loop = c .before in
+    (at-loop .loop .inv .3 ∙ iter-end _ _ _ _ (at-loop .loop .inv .0) (c .loop-test .left), at-loop .loop .inv .2)
 
 pub over-lengths-spec : {M : Type 1} → statement M
 over-lengths-spec =

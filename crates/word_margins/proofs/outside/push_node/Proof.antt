@@ -17,11 +17,12 @@ same-length : tie.Need-same-length
 same-length c = search needs
 
 returns : tie.Need-returns
-returns c = (
-  node-none (fourths (c .before .before .before .before .before .before .before .before .args .t .now)) (plain (c .before .before .before .before .before .before .before .before .args .t .now)) (c .before .before .before .before .before .before .before .before .args .rules .now) (c .before .before .before .before .before .before .before .before .args .index .now) (c .before .before .before .before .before .before .before .before .args .d)
-      (c .before .before .before .before .before .before .before .before .args .node) (c .before .before .cell-number .ensures .0) (c .before .outside-at .ensures .0) (c .if1 .taken),
-  refl,
-)
+returns c =
+    let at-args = c .before .before .before .before .before .before .before .before in (
+      node-none (fourths (at-args .args .t .now)) (plain (at-args .args .t .now)) (at-args .args .rules .now) (at-args .args .index .now) (at-args .args .d)
+          (at-args .args .node) (c .before .before .cell-number .ensures .0) (c .before .outside-at .ensures .0) (c .if1 .taken),
+      refl,
+    )
 
 push-rules-requires : tie.Need-push-rules-requires
 push-rules-requires c κs = search needs
@@ -30,11 +31,17 @@ same-length-2 : tie.Need-same-length-2
 same-length-2 c = search needs
 
 returns-2 : tie.Need-returns-2
-returns-2 c = (
-  node-some (fourths (c .before .before .before .before .before .before .before .before .before .before .before .before .args .t .now)) (plain (c .before .before .before .before .before .before .before .before .before .before .before .before .args .t .now)) (c .before .before .before .before .before .before .before .before .before .before .before .before .args .rules .now) (c .before .before .before .before .before .before .before .before .before .before .before .before .args .index .now) (c .before .before .before .before .before .before .before .before .before .before .before .before .args .d)
-      (c .before .before .before .before .before .before .before .before .before .before .before .before .args .node) (c .before .before .before .before .before .before .cell-number .ensures .0) (c .before .before .before .before .before .outside-at .ensures .0) (c .before .before .before .before .if1 .left) (c .before .before .push-rules .ensures .0),
-  c .before .before .push-rules .ensures .1,
-)
+returns-2 c =
+    let at-push-rules = c .before .before in
+    let at-if1 = at-push-rules .before .before in
+    let at-outside-at = at-if1 .before in
+    let at-cell-number = at-outside-at .before in
+    let at-args = at-cell-number .before .before .before .before .before .before in (
+      node-some (fourths (at-args .args .t .now)) (plain (at-args .args .t .now)) (at-args .args .rules .now) (at-args .args .index .now) (at-args .args .d)
+          (at-args .args .node) (at-cell-number .cell-number .ensures .0) (at-outside-at .outside-at .ensures .0) (at-if1 .if1 .left)
+          (at-push-rules .push-rules .ensures .0),
+      at-push-rules .push-rules .ensures .1,
+    )
 
 pub push-node-spec : {M : Type 1} → statement M
 push-node-spec =

@@ -20,11 +20,12 @@ returns : tie.Need-returns
 returns c = search needs
 
 returns-2 : tie.Need-returns-2
-returns-2 c = (
-  apart-same (plain (c .before .before .before .before .args .t .now)) (c .before .before .before .before .args .d) (c .before .before .before .before .args .node) (c .before .before .before .before .args .first) (c .before .before .before .before .args .second) (c .before .before .before .before .args .around)
-      (c .before .before .before .before .pre .4) (c .before .meet .ensures (c .if1 .left)) (c .before .before .before .before .pre .2) (fourths (c .before .before .before .before .args .t .now)),
-  refl,
-)
+returns-2 c =
+    let at-args = c .before .before .before .before in (
+      apart-same (plain (at-args .args .t .now)) (at-args .args .d) (at-args .args .node) (at-args .args .first) (at-args .args .second) (at-args .args .around)
+          (at-args .pre .4) (c .before .meet .ensures (c .if1 .left)) (at-args .pre .2) (fourths (at-args .args .t .now)),
+      refl,
+    )
 
 pub push-parts-spec : {M : Type 1} → statement M
 push-parts-spec =

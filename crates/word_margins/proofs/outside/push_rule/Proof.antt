@@ -28,18 +28,25 @@ same-length : tie.Need-same-length
 same-length c = search needs
 
 returns : tie.Need-returns
-returns c = (
-  pair-pushed (fourths (c .before .before .before .before .before .before .before .before .before .before .before .before .args .t .now)) (plain (c .before .before .before .before .before .before .before .before .before .before .before .before .args .t .now)) (c .before .before .before .before .before .before .before .before .before .before .before .before .args .rules .now) (c .before .before .before .before .before .before .before .before .before .before .before .before .args .d) (c .before .before .before .before .before .before .before .before .before .before .before .before .args .node)
-      (c .before .before .before .before .before .before .before .before .before .before .before .before .args .outer) (c .before .before .before .before .before .before .before .before .before .before .before .before .args .r) (c .before .before .before .before .before .before .before .before .rule-at .ensures) (c .before .before .before .before .before .before .rule .given .1) (c .before .before .before .wide .ensures .0) (c .before .before .push-parts .ensures .0),
-  c .before .before .push-parts .ensures .1,
-)
+returns c =
+    let at-push-parts = c .before .before in
+    let at-wide = at-push-parts .before in
+    let at-rule = at-wide .before .before .before in
+    let at-rule-at = at-rule .before .before in
+    let at-args = at-rule-at .before .before .before .before in (
+      pair-pushed (fourths (at-args .args .t .now)) (plain (at-args .args .t .now)) (at-args .args .rules .now) (at-args .args .d) (at-args .args .node)
+          (at-args .args .outer) (at-args .args .r) (at-rule-at .rule-at .ensures) (at-rule .rule .given .1) (at-wide .wide .ensures .0)
+          (at-push-parts .push-parts .ensures .0),
+      at-push-parts .push-parts .ensures .1,
+    )
 
 returns-2 : tie.Need-returns-2
-returns-2 c = (
-  word-pushed (fourths (c .before .before .before .before .before .before .args .t .now)) (plain (c .before .before .before .before .before .before .args .t .now)) (c .before .before .before .before .before .before .args .rules .now) (c .before .before .before .before .before .before .args .d) (c .before .before .before .before .before .before .args .node)
-      (c .before .before .before .before .before .before .args .outer) (c .before .before .before .before .before .before .args .r) (c .before .before .rule-at .ensures) (c .enum-told .given .1),
-  refl,
-)
+returns-2 c =
+    let at-args = c .before .before .before .before .before .before in (
+      word-pushed (fourths (at-args .args .t .now)) (plain (at-args .args .t .now)) (at-args .args .rules .now) (at-args .args .d) (at-args .args .node)
+          (at-args .args .outer) (at-args .args .r) (c .before .before .rule-at .ensures) (c .enum-told .given .1),
+      refl,
+    )
 
 pub push-rule-spec : {M : Type 1} → statement M
 push-rule-spec =

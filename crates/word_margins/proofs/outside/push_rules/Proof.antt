@@ -38,33 +38,55 @@ number-at-requires : tie.Need-number-at-requires Inv-loop μ-loop
 number-at-requires c κs = search needs
 
 push-rule-requires : tie.Need-push-rule-requires Inv-loop μ-loop
-push-rule-requires c κs = (c .before .before .before .before .before .before .before .before .before .before .before .before .pre .0, c .before .before .before .before .before .before .before .before .before .before .before .before .pre .1, c .before .before .before .before .before .before .before .before .before .before .before .before .pre .2, rw (c .before .before .before .loop .inv .3) (c .before .before .before .before .before .before .before .before .before .before .before .before .pre .3), c .number-at .ensures .1, c .before .before .before .before .before .before .before .before .before .before .before .before .pre .5)
+push-rule-requires c κs =
+    let at-loop = c .before .before .before in
+    let at-pre = at-loop .before .before .before .before .before .before .before .before .before in
+    (at-pre .pre .0, at-pre .pre .1, at-pre .pre .2, rw (at-loop .loop .inv .3) (at-pre .pre .3), c .number-at .ensures .1, at-pre .pre .5)
 
 add-y : tie.Need-add-y Inv-loop μ-loop
-add-y c = omega (arith, c .before .before .before .before .before .before .before .class-end .ensures .1, c .before .before .before .before .before .loop-test .taken)
+add-y c =
+    let at-loop-test = c .before .before .before .before .before in
+    let at-class-end = at-loop-test .before .before in
+    omega (arith, at-class-end .class-end .ensures .1, at-loop-test .loop-test .taken)
 
 loop-less : tie.Need-loop-less Inv-loop μ-loop
-loop-less c = omega (arith, c .before .before .before .before .before .loop-test .taken)
+loop-less c =
+    let at-loop-test = c .before .before .before .before .before in
+    omega (arith, at-loop-test .loop-test .taken)
 
 loop-again : tie.Need-loop-again Inv-loop μ-loop
-loop-again c = (
-  omega (arith, c .before .before .before .before .before .before .loop .inv .0),
-  omega (arith, c .before .before .before .before .before .loop-test .taken, c .before .before .before .before .before .before .loop .inv .0),
-  c .before .before .push-rule .kept .0 ∙ c .before .before .before .before .before .before .loop .inv .2,
-  c .before .before .push-rule .ensures .1 ∙ c .before .before .before .before .before .before .loop .inv .3,
-  c .before .before .push-rule .ensures .0 ∙ rw (from-more _ _ _ _ (c .before .before .before .before .before .before .loop .inv .0), ← c .before .before .before .before .before .before .loop .inv .4, c .before .before .before .before .before .before .loop .inv .3, c .before .before .before .number-at .ensures .0),
-)
+loop-again c =
+    let at-push-rule = c .before .before in
+    let at-number-at = at-push-rule .before in
+    let at-loop-test = at-number-at .before .before in
+    let at-loop = at-loop-test .before in (
+      omega (arith, at-loop .loop .inv .0),
+      omega (arith, at-loop-test .loop-test .taken, at-loop .loop .inv .0),
+      at-push-rule .push-rule .kept .0 ∙ at-loop .loop .inv .2,
+      at-push-rule .push-rule .ensures .1 ∙ at-loop .loop .inv .3,
+      at-push-rule .push-rule .ensures .0 ∙ rw (
+        from-more _ _ _ _
+            (at-loop .loop .inv .0),
+        ← at-loop .loop .inv .4,
+        at-loop .loop .inv .3,
+        at-number-at .number-at .ensures .0,
+      ),
+    )
 
 same-length : tie.Need-same-length Inv-loop μ-loop
 same-length c = c .before .loop .inv .2
 
 returns : tie.Need-returns Inv-loop μ-loop
 unfolding pushRules
-returns c = (
-  c .before .loop .inv .4 ∙ iter-end _ _ _ _ (c .before .loop .inv .1) (omega (arith, c .loop-test .left))
-      ∙ rw (c .before .before .before .before .class-start .ensures .0, c .before .before .class-end .ensures .0, c .before .before .before .before .before .wide .ensures .0, c .before .before .before .wide2 .ensures .0),
-  c .before .loop .inv .3,
-)
+returns c =
+    let at-loop = c .before in
+    let at-wide2 = at-loop .before .before in
+    let at-class-start = at-wide2 .before in
+    let at-wide = at-class-start .before in (
+      at-loop .loop .inv .4 ∙ iter-end _ _ _ _ (at-loop .loop .inv .1) (omega (arith, c .loop-test .left))
+          ∙ rw (at-class-start .class-start .ensures .0, c .before .before .class-end .ensures .0, at-wide .wide .ensures .0, at-wide2 .wide2 .ensures .0),
+      at-loop .loop .inv .3,
+    )
 
 pub push-rules-spec : {M : Type 1} → statement M
 push-rules-spec =

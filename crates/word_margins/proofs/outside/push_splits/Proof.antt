@@ -29,40 +29,73 @@ unfolding iter
 loop-holds c = (omega arith, refl, refl, refl)
 
 add-split : tie.Need-add-split Inv-loop μ-loop
-add-split c = omega (arith, c .before .before .before .before .before .pre .0 .places, c .before .before .before .before .before .pre .1, c .before .before .before .before .before .pre .2, c .before .loop-test .taken)
+add-split c =
+    let at-pre = c .before .before .before .before .before in
+    omega (arith, at-pre .pre .0 .places, at-pre .pre .1, at-pre .pre .2, c .before .loop-test .taken)
 
 add-split-2 : tie.Need-add-split-2 Inv-loop μ-loop
-add-split-2 c = omega (arith, c .before .before .before .before .before .pre .0 .places, c .before .before .before .before .before .pre .1, c .before .before .before .before .before .pre .2, c .before .loop-test .taken)
+add-split-2 c =
+    let at-pre = c .before .before .before .before .before in
+    omega (arith, at-pre .pre .0 .places, at-pre .pre .1, at-pre .pre .2, c .before .loop-test .taken)
 
 cell-number-requires : tie.Need-cell-number-requires Inv-loop μ-loop
-cell-number-requires c κs = (c .before .before .before .before .before .before .pre .0, omega (arith, c .before .before .before .before .before .before .pre .0 .places, c .before .before .before .before .before .before .pre .1, c .before .before .before .before .before .before .pre .2, c .before .before .loop-test .taken), omega arith, omega (arith, c .before .before .before .before .before .before .pre .0 .places, c .before .before .before .before .before .before .pre .1, c .before .before .before .before .before .before .pre .2, c .before .before .loop-test .taken))
+cell-number-requires c κs =
+    let at-loop-test = c .before .before in
+    let at-pre = at-loop-test .before .before .before .before in (
+      at-pre .pre .0,
+      omega (arith, at-pre .pre .0 .places, at-pre .pre .1, at-pre .pre .2, at-loop-test .loop-test .taken),
+      omega arith,
+      omega (arith, at-pre .pre .0 .places, at-pre .pre .1, at-pre .pre .2, at-loop-test .loop-test .taken),
+    )
 
 cell-number-requires-2 : tie.Need-cell-number-requires-2 Inv-loop μ-loop
-cell-number-requires-2 c κs = (c .before .before .before .before .before .before .before .pre .0, omega (arith, c .before .before .before .before .before .before .before .pre .0 .places, c .before .before .before .before .before .before .before .pre .1, c .before .before .before .before .before .before .before .pre .2, c .before .before .before .loop-test .taken), omega (arith, c .before .before .before .before .before .before .before .pre .1), omega (arith, c .before .before .before .before .before .before .before .pre .0 .places, c .before .before .before .before .before .before .before .pre .1, c .before .before .before .before .before .before .before .pre .2, c .before .before .before .loop-test .taken))
+cell-number-requires-2 c κs =
+    let at-loop-test = c .before .before .before in
+    let at-pre = at-loop-test .before .before .before .before in (
+      at-pre .pre .0,
+      omega (arith, at-pre .pre .0 .places, at-pre .pre .1, at-pre .pre .2, at-loop-test .loop-test .taken),
+      omega (arith, at-pre .pre .1),
+      omega (arith, at-pre .pre .0 .places, at-pre .pre .1, at-pre .pre .2, at-loop-test .loop-test .taken),
+    )
 
 push-split-requires : tie.Need-push-split-requires Inv-loop μ-loop
-push-split-requires c κs = (c .before .before .before .before .before .before .before .before .pre .0, c .before .cell-number .ensures .1, c .cell-number2 .ensures .1, c .before .before .before .before .before .before .before .before .pre .3)
+push-split-requires c κs =
+    let at-pre = c .before .before .before .before .before .before .before .before in
+    (at-pre .pre .0, c .before .cell-number .ensures .1, c .cell-number2 .ensures .1, at-pre .pre .3)
 
 add-x : tie.Need-add-x Inv-loop μ-loop
-add-x c = omega (arith, c .before .before .before .before .before .before .before .before .before .before .before .pre .0 .places, c .before .before .before .before .before .before .before .before .before .before .before .pre .1, c .before .before .before .before .before .before .before .before .before .before .before .pre .2, c .before .before .before .before .before .before .before .loop-test .taken)
+add-x c =
+    let at-loop-test = c .before .before .before .before .before .before .before in
+    let at-pre = at-loop-test .before .before .before .before in
+    omega (arith, at-pre .pre .0 .places, at-pre .pre .1, at-pre .pre .2, at-loop-test .loop-test .taken)
 
 loop-less : tie.Need-loop-less Inv-loop μ-loop
-loop-less c = omega (arith, c .before .before .before .before .before .before .before .loop-test .taken)
+loop-less c =
+    let at-loop-test = c .before .before .before .before .before .before .before in
+    omega (arith, at-loop-test .loop-test .taken)
 
 loop-again : tie.Need-loop-again Inv-loop μ-loop
-loop-again c = (
-  omega (arith, c .before .before .before .before .before .before .before .loop-test .taken),
-  c .before .before .push-split .kept .0 ∙ c .before .before .before .before .before .before .before .before .loop .inv .1,
-  c .before .before .push-split .ensures .1 ∙ c .before .before .before .before .before .before .before .before .loop .inv .2,
-  c .before .before .push-split .ensures .0 ∙ rw (iter-more, ← c .before .before .before .before .before .before .before .before .loop .inv .3, c .before .before .before .before .before .before .before .before .loop .inv .2, c .before .before .before .before .cell-number .ensures .0, c .before .before .before .cell-number2 .ensures .0),
-)
+loop-again c =
+    let at-push-split = c .before .before in
+    let at-cell-number2 = at-push-split .before in
+    let at-cell-number = at-cell-number2 .before in
+    let at-loop-test = at-cell-number .before .before .before in
+    let at-loop = at-loop-test .before in (
+      omega (arith, at-loop-test .loop-test .taken),
+      at-push-split .push-split .kept .0 ∙ at-loop .loop .inv .1,
+      at-push-split .push-split .ensures .1 ∙ at-loop .loop .inv .2,
+      at-push-split .push-split .ensures .0 ∙ rw
+          (iter-more, ← at-loop .loop .inv .3, at-loop .loop .inv .2, at-cell-number .cell-number .ensures .0, at-cell-number2 .cell-number2 .ensures .0),
+    )
 
 same-length : tie.Need-same-length Inv-loop μ-loop
 same-length c = c .before .loop .inv .1
 
 returns : tie.Need-returns Inv-loop μ-loop
 unfolding pushSplits
-returns c = (c .before .loop .inv .3 ∙ iter-end _ _ _ _ (c .before .loop .inv .0) (c .loop-test .left), c .before .loop .inv .2)
+returns c =
+    let at-loop = c .before in
+    (at-loop .loop .inv .3 ∙ iter-end _ _ _ _ (at-loop .loop .inv .0) (c .loop-test .left), at-loop .loop .inv .2)
 
 pub push-splits-spec : {M : Type 1} → statement M
 push-splits-spec =
