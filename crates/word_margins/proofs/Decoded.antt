@@ -12,7 +12,6 @@ use borrow.Author.Tests.{eq-eqb, ne-eqb, ltb-true, ltb-false}
 use Rattle.bits.specs.Bits.{pick}
 use Rattle.packing.specs.Loop.{iter}
 use Rattle.packing.specs.declared.Sym.{Sym}
-use Rattle.packing.specs.declared.Rule.the-variants.{Pair}
 use Rattle.packing.specs.Meaning.{Grammar, Edge}
 use Rattle.derivation.specs.Derivation.{Tree, weight}
 use Rattle.derivation.specs.List.{ranked}
@@ -21,10 +20,9 @@ use Rattle.chart_table.specs.declared.Layout.{Layout}
 use Rattle.chart_table.specs.Table.{cell, cellNumber, priceAt}
 use Rattle.chart_theory.proofs.Chart.{FirstIs}
 use Rattle.cost_changes.specs.Outside as O
-use Rattle.cost_changes.specs.Outside.{Cells, leastUpto, sum, inside, asLeft, asRight}
+use Rattle.cost_changes.specs.Outside.{Cells, leastUpto, sum, inside}
 use Rattle.cost_changes.proofs.Inside.{inside-first, inside-none}
-use Rattle.cost_changes.proofs.Least.{upto-same, same-is}
-use Rattle.word_margins.specs.Model.{lesser, insideAt, joined, leftLeast, rightLeast}
+use Rattle.word_margins.specs.Model.{lesser, insideAt, joined}
 
 unfoldable pub read : ℕ → Option ℕ
 read zero = none
@@ -80,24 +78,6 @@ outerIn d o A i k = read (getD o (cellNumber d (cell A i k)) 0)
 
 abbrev pub innerIn : Layout → List ℕ → Cells
 innerIn d t A i k = read (insideAt t d (cellNumber d (cell A i k)))
-
-module _ (o t : List ℕ) (d : Layout) where
-  pub left-read : (H L R : Sym) (w i j : ℕ)
-      → read (leftLeast o t d (cell L i j) H R w) ≡ asLeft (outerIn d o) (innerIn d t) (d .places) L i j (some (Pair H L R w))
-  unfolding leftLeast asLeft
-  left-read H L R w i j =
-      iter-read (λ x. joined (getD o (cellNumber d (cell H i (j + x + 1))) 0) w (insideAt t d (cellNumber d (cell R j (j + x + 1))))) (d .places - j)
-      ∙ upto-same _ (λ x. sum w (outerIn d o H i (suc (j + x))) (innerIn d t R j (suc (j + x)))) (d .places - j) (λ x h.
-      joined-read _ w _ ∙ rw (add-one (j + x)))
-      ∙ sym (same-is (L .0) _)
-
-  pub right-read : (H L R : Sym) (w i j : ℕ)
-      → read (rightLeast o t d (cell R i j) H L w) ≡ asRight (outerIn d o) (innerIn d t) R i j (some (Pair H L R w))
-  unfolding rightLeast asRight
-  right-read H L R w i j =
-      iter-read (λ h. joined (getD o (cellNumber d (cell H h j)) 0) w (insideAt t d (cellNumber d (cell L h i)))) i
-      ∙ upto-same _ (λ h. sum w (outerIn d o H h j) (innerIn d t L h i)) i (λ h l. joined-read _ w _)
-      ∙ sym (same-is (R .0) _)
 
 -- the first ranks of a table are the inside weights
 pub inside-read : (g : Grammar) (es : List Edge) (d : Layout) (t : List ℕ) (A : Sym) (i k : ℕ) → FirstIs g es d t (cell A i k)

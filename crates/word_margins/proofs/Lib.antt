@@ -1,5 +1,6 @@
 pub mod Views
 pub mod Steps
+pub mod Marking
 pub mod Carried
 pub mod Insertion
 pub mod Decoded

@@ -20,7 +20,7 @@ use Rattle.packing.proofs.Flat.{rule-at, edge-at}
 use Rattle.packing.proofs.Redrawn.{slots-edges}
 use Rattle.derivation.specs.Derivation.{Tree, leaf, node, weight}
 use Rattle.derivation.specs.Heard.{trace}
-use Rattle.derivation.proofs.Ranges.{valid-sizes, valid-within, valid-light, valid-ascending, valid-cheap, valid-slots}
+use Rattle.derivation.proofs.Ranges.{valid-rules, valid-sizes, valid-within, valid-light, valid-ascending, valid-cheap, valid-slots}
 use Rattle.derivation.proofs.Slots.{edges-short, edges-cheap}
 use Rattle.cost_changes.specs.Costs.{edgesOf, First}
 use Rattle.cost_changes.specs.Listed.{has, listedFor, marginsOf}
@@ -102,6 +102,8 @@ module _ (g : Grammar) (okg : ValidGrammar g) (rules : List ℕ) (has-rules : Be
   unfolding layOut utteranceEntries tableSize
   source z first = record {
     planned = refl;
+    few-rules = valid-rules g okg;
+    few-symbols = valid-sizes g okg .1;
     few-places = valid-slots (g .words) u oku;
     some-place = oku .0 .0;
     some-symbol = valid-sizes g okg .0;

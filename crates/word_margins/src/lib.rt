@@ -1,6 +1,7 @@
 // Which word to listen to again: for each offered word that the first reading does not use in its slot, the least amount by which its cost
 // alone must fall for another reading to be strictly lighter than the first is now.
 mod entries;
+mod marks;
 mod outside;
 
 use arrays::rule_at;

@@ -1,11 +1,19 @@
 // Outside weights: of each cell that holds a tree, the least weight of what stands around it in a derivation. A table for one reading has four
 // numbers a cell and leaves the fourth free; there they stand, plus 1, with 0 for none. Inside weights, the least of a cell's own trees, are
-// those of its first rank.
+// those of its first rank. A node that has an outside weight hands on what stands around its parts, each of its rules once for both.
+use crate::marks::mark_found;
 use arrays::number_at;
 use arrays::rule_at;
 use arrays::store;
 use arrays::wide;
+use chart_index::INDEX_NUMBERS;
+use chart_index::PAIR_BASE;
+use chart_index::class_end;
+use chart_index::class_start;
+use chart_index::make_index;
 use chart_keys::WEIGHT_UNIT;
+use chart_masks::MASKS;
+use chart_masks::meet;
 use chart_table::Cell;
 use chart_table::ENTRY_NUMBERS;
 use chart_table::Layout;
@@ -21,22 +29,22 @@ ghost use lib.ListN.{length, getD, replicate};
 ghost use Rattle.packing.specs.Flat.{ruleAt};
 ghost use Rattle.chart_table.specs.Table.{cellBound, Sized};
 ghost use Rattle.one_best.specs.Model.{Passable};
+ghost use Rattle.word_margins.specs.Marks.{Found};
 ghost use Rattle.word_margins.specs.Model.{
   fourths,
   plain,
   sums,
-  Spanned,
   lesser,
   insideAt,
-  joinAt,
-  leftLeast,
-  rightLeast,
   lower,
-  lowerLeft,
-  lowerRight,
-  lowerParts,
-  overRules,
+  pushSplit,
+  pushSplits,
+  pushRule,
+  pushRules,
+  pushNode,
+  overHeads,
   overSpans,
+  overLengths,
   fill,
 };
 
@@ -86,69 +94,6 @@ pub fn outside_at(t: &[u32], c: usize) -> usize
     number_at(t, ENTRY_NUMBERS * c + FREE_AT)
 }
 
-// What stands around one part of a node, as a weight plus 1: what stands around the node, its rule and its other part.
-fn join_at(t: &[u32], d: Layout, node: Cell, other: Cell, weight: u32) -> usize
-    requires { ⌜ (Sized d) × (Spanned node) × (Spanned other) ⌝ }
-    ensures { λ r. ⌜ (r ≡ joinAt (fourths (now (t .entry))) (plain (now (t .entry))) d node other weight) × (r < sums) ⌝ }
-{
-    let outer = outside_at(t, cell_number(d, node));
-    if outer == 0 {
-        return 0;
-    }
-    let inner = inside_at(t, d, cell_number(d, other));
-    if inner == 0 {
-        return 0;
-    }
-    outer + wide(weight) + (inner - 1)
-}
-
-// The least of it for a left part, over the places where its right neighbour may end.
-fn left_least(t: &[u32], d: Layout, part: Cell, head: Sym, right: Sym, weight: u32) -> usize
-    requires { ⌜ (Sized d) × (part .from ≤ 31) × (part .to ≤ d .places) ⌝ }
-    ensures { λ r. ⌜ (r ≡ leftLeast (fourths (now (t .entry))) (plain (now (t .entry))) d part head right weight) × (r < sums) ⌝ }
-{
-    let mut least: usize = 0;
-    let count = d.places - part.to;
-    for x in 0..count {
-        let to = part.to + x + 1;
-        let node = Cell {
-            head,
-            from: part.from,
-            to,
-        };
-        let other = Cell {
-            head: right,
-            from: part.to,
-            to,
-        };
-        least = lesser(least, join_at(t, d, node, other, weight));
-    }
-    least
-}
-
-// The least of it for a right part, over the places where its left neighbour may start.
-fn right_least(t: &[u32], d: Layout, part: Cell, head: Sym, left: Sym, weight: u32) -> usize
-    requires { ⌜ (Sized d) × (Spanned part) ⌝ }
-    ensures { λ r. ⌜ (r ≡ rightLeast (fourths (now (t .entry))) (plain (now (t .entry))) d part head left weight) × (r < sums) ⌝ }
-{
-    let mut least: usize = 0;
-    let count = part.from;
-    for h in 0..count {
-        let node = Cell {
-            head,
-            from: h,
-            to: part.to,
-        };
-        let other = Cell {
-            head: left,
-            from: h,
-            to: part.from,
-        };
-        least = lesser(least, join_at(t, d, node, other, weight));
-    }
-    least
-}
-
 // Lowers the outside weight of a cell to another, where that is less.
 fn lower(t: &mut [u32], c: usize, x: usize)
     requires { ⌜ (c < cellBound) × (x < sums) ⌝ }
@@ -158,81 +103,176 @@ fn lower(t: &mut [u32], c: usize, x: usize)
     store(t, ENTRY_NUMBERS * c + FREE_AT, (least % NUMBERS) as u32);
 }
 
-// Lowers what stands around a left part, by a rule that has it. A cell without a tree is passed over.
-fn lower_left(t: &mut [u32], d: Layout, part: Cell, head: Sym, right: Sym, weight: u32)
-    requires { ⌜ (Sized d) × (Spanned part) × (part .to ≤ d .places) ⌝ }
-    ensures { λ _. ⌜ (fourths (now (t .exit)) ≡ lowerLeft (fourths (now (t .entry))) (plain (now (t .entry))) d part head right weight)
+// Lowers what stands around both parts of a node, from what stands around the node and its rule, plus 1: around each part there is the other
+// one too. Where a part holds no tree, nothing is lowered.
+fn push_split(t: &mut [u32], d: Layout, left: usize, right: usize, around: usize)
+    requires { ⌜ (Sized d) × (left < cellBound) × (right < cellBound) × (around < 8589934592) ⌝ }
+    ensures { λ _. ⌜ (fourths (now (t .exit)) ≡ pushSplit (fourths (now (t .entry))) (plain (now (t .entry))) d left right around)
         × (plain (now (t .exit)) ≡ plain (now (t .entry))) ⌝ }
 {
-    let c = cell_number(d, part);
-    if inside_at(&t[..], d, c) == 0 {
+    let own = inside_at(&t[..], d, left);
+    if own == 0 {
         return;
     }
-    let least = left_least(&t[..], d, part, head, right, weight);
-    lower(t, c, least);
+    let other = inside_at(&t[..], d, right);
+    if other == 0 {
+        return;
+    }
+    lower(t, left, around + (other - 1));
+    lower(t, right, around + (own - 1));
 }
 
-// The same of a right part.
-fn lower_right(t: &mut [u32], d: Layout, part: Cell, head: Sym, left: Sym, weight: u32)
-    requires { ⌜ (Sized d) × (Spanned part) ⌝ }
-    ensures { λ _. ⌜ (fourths (now (t .exit)) ≡ lowerRight (fourths (now (t .entry))) (plain (now (t .entry))) d part head left weight)
+// The same at every place between the node's ends.
+fn push_splits(t: &mut [u32], d: Layout, node: Cell, first: Sym, second: Sym, around: usize)
+    requires { ⌜ (Sized d) × (node .from < node .to) × (node .to ≤ d .places) × (around < 8589934592) ⌝ }
+    ensures { λ _. ⌜ (fourths (now (t .exit)) ≡ pushSplits (fourths (now (t .entry))) (plain (now (t .entry))) d node first second around)
         × (plain (now (t .exit)) ≡ plain (now (t .entry))) ⌝ }
 {
-    let c = cell_number(d, part);
-    if inside_at(&t[..], d, c) == 0 {
-        return;
+    let splits = node.to - node.from - 1;
+    for x in 0..splits {
+        let split = node.from + x + 1;
+        let left = Cell {
+            head: first,
+            from: node.from,
+            to: split,
+        };
+        let right = Cell {
+            head: second,
+            from: split,
+            to: node.to,
+        };
+        push_split(t, d, cell_number(d, left), cell_number(d, right), around);
     }
-    let least = right_least(&t[..], d, part, head, left, weight);
-    lower(t, c, least);
 }
 
-// Lowers what stands around both parts of a pair rule, over one span.
-fn lower_parts(t: &mut [u32], rules: &[u32], r: usize, d: Layout, from: usize, to: usize)
-    requires { ⌜ (Sized d) × (r < 4294967296) × (from ≤ 31) × (0 < to) × (to ≤ d .places) ⌝ }
-    ensures { λ _. ⌜ (fourths (now (t .exit)) ≡ lowerParts (fourths (now (t .entry))) (plain (now (t .entry))) d from to (ruleAt (now (rules .entry)) r))
+// The same, if the masks have a place where both parts hold a tree.
+fn push_parts(
+    t: &mut [u32],
+    masks: &[u32],
+    d: Layout,
+    node: Cell,
+    first: Sym,
+    second: Sym,
+    around: usize,
+)
+    requires { ⌜ (Sized d) × (node .from < node .to) × (node .to ≤ d .places) × (around < 8589934592) × (Found (plain (now t)) d (now masks)) ⌝ }
+    ensures { λ _. ⌜ (fourths (now (t .exit)) ≡ pushSplits (fourths (now (t .entry))) (plain (now (t .entry))) d node first second around)
+        × (plain (now (t .exit)) ≡ plain (now (t .entry))) ⌝ }
+{
+    if meet(masks, d, first, second, node) {
+        push_splits(t, d, node, first, second, around);
+    }
+}
+
+// The same by a rule of the node's head, from what stands around the node.
+fn push_rule(
+    t: &mut [u32],
+    masks: &[u32],
+    rules: &[u32],
+    r: usize,
+    d: Layout,
+    node: Cell,
+    outer: usize,
+)
+    requires { ⌜ (Sized d) × (node .from < node .to) × (node .to ≤ d .places) × (Found (plain (now t)) d (now masks)) × (r < 4294967296)
+        × (outer < 4294967296) ⌝ }
+    ensures { λ _. ⌜ (fourths (now (t .exit)) ≡ pushRule (fourths (now (t .entry))) (plain (now (t .entry))) d node outer (ruleAt (now (rules .entry)) r))
         × (plain (now (t .exit)) ≡ plain (now (t .entry))) ⌝ }
 {
     let rule = rule_at(rules, r);
     match rule {
-        Rule::Pair(head, first, second, weight) => {
-            let left = Cell {
-                head: first,
-                from,
-                to,
-            };
-            lower_left(t, d, left, head, second, weight);
-            let right = Cell {
-                head: second,
-                from,
-                to,
-            };
-            lower_right(t, d, right, head, first, weight);
+        Rule::Pair(_, first, second, weight) => {
+            push_parts(t, masks, d, node, first, second, outer + wide(weight));
         }
         Rule::Word(_, _, _) => {}
     }
 }
 
-// Lowers what stands around all cells of one span, by all rules.
-fn over_rules(t: &mut [u32], rules: &[u32], count: usize, d: Layout, from: usize, to: usize)
-    requires { ⌜ (Sized d) × (count ≤ 256) × (from ≤ 31) × (0 < to) × (to ≤ d .places) ⌝ }
-    ensures { λ _. ⌜ (fourths (now (t .exit)) ≡ overRules (fourths (now (t .entry))) (plain (now (t .entry))) (now (rules .entry)) count d from to)
+// By all rules of the node's head.
+fn push_rules(
+    t: &mut [u32],
+    masks: &[u32],
+    rules: &[u32],
+    index: &[u32],
+    d: Layout,
+    node: Cell,
+    outer: usize,
+)
+    requires { ⌜ (Sized d) × (node .from < node .to) × (node .to ≤ d .places) × (Found (plain (now t)) d (now masks)) × (node .head .0 < 4294967296)
+        × (outer < 4294967296) ⌝ }
+    ensures { λ _. ⌜ (fourths (now (t .exit))
+        ≡ pushRules (fourths (now (t .entry))) (plain (now (t .entry))) (now (rules .entry)) (now (index .entry)) d node outer)
         × (plain (now (t .exit)) ≡ plain (now (t .entry))) ⌝ }
 {
-    for r in 0..count {
-        lower_parts(t, rules, r, d, from, to);
+    let start = class_start(index, PAIR_BASE, wide(node.head.0));
+    let end = class_end(index, PAIR_BASE, wide(node.head.0));
+    for y in start..end {
+        push_rule(t, masks, rules, number_at(index, y), d, node, outer);
+    }
+}
+
+// If the node has an outside weight.
+fn push_node(t: &mut [u32], masks: &[u32], rules: &[u32], index: &[u32], d: Layout, node: Cell)
+    requires { ⌜ (Sized d) × (node .from < node .to) × (node .to ≤ d .places) × (Found (plain (now t)) d (now masks)) × (node .head .0 < 4294967296) ⌝ }
+    ensures { λ _. ⌜ (fourths (now (t .exit))
+        ≡ pushNode (fourths (now (t .entry))) (plain (now (t .entry))) (now (rules .entry)) (now (index .entry)) d node)
+        × (plain (now (t .exit)) ≡ plain (now (t .entry))) ⌝ }
+{
+    let outer = outside_at(&t[..], cell_number(d, node));
+    if outer == 0 {
+        return;
+    }
+    push_rules(t, masks, rules, index, d, node, outer);
+}
+
+// Hands on what stands around the nodes of all heads over one span.
+fn over_heads(
+    t: &mut [u32],
+    masks: &[u32],
+    rules: &[u32],
+    index: &[u32],
+    d: Layout,
+    from: usize,
+    to: usize,
+)
+    requires { ⌜ (Sized d) × (from < to) × (to ≤ d .places) × (Found (plain (now t)) d (now masks)) ⌝ }
+    ensures { λ _. ⌜ (fourths (now (t .exit))
+        ≡ overHeads (fourths (now (t .entry))) (plain (now (t .entry))) (now (rules .entry)) (now (index .entry)) d from to)
+        × (plain (now (t .exit)) ≡ plain (now (t .entry))) ⌝ }
+{
+    let symbols = d.symbols;
+    for a in 0..symbols {
+        let node = Cell {
+            head: Sym(a as u32),
+            from,
+            to,
+        };
+        push_node(t, masks, rules, index, d, node);
     }
 }
 
 // Over all spans of a length.
-fn over_spans(t: &mut [u32], rules: &[u32], pass: Pass, length: usize)
-    requires { ⌜ (Passable pass) × (0 < length) × (length ≤ pass .table .places) ⌝ }
-    ensures { λ _. ⌜ (fourths (now (t .exit)) ≡ overSpans (fourths (now (t .entry))) (plain (now (t .entry))) (now (rules .entry)) pass length)
+fn over_spans(t: &mut [u32], masks: &[u32], rules: &[u32], index: &[u32], d: Layout, length: usize)
+    requires { ⌜ (Sized d) × (0 < length) × (length ≤ d .places) × (Found (plain (now t)) d (now masks)) ⌝ }
+    ensures { λ _. ⌜ (fourths (now (t .exit))
+        ≡ overSpans (fourths (now (t .entry))) (plain (now (t .entry))) (now (rules .entry)) (now (index .entry)) d length)
         × (plain (now (t .exit)) ≡ plain (now (t .entry))) ⌝ }
 {
-    let d = pass.table;
     let spans = d.places + 1 - length;
     for from in 0..spans {
-        over_rules(t, rules, pass.rules, d, from, from + length);
+        over_heads(t, masks, rules, index, d, from, from + length);
+    }
+}
+
+// Over all spans, the longer first.
+fn over_lengths(t: &mut [u32], masks: &[u32], rules: &[u32], index: &[u32], d: Layout)
+    requires { ⌜ (Sized d) × (Found (plain (now t)) d (now masks)) ⌝ }
+    ensures { λ _. ⌜ (fourths (now (t .exit)) ≡ overLengths (fourths (now (t .entry))) (plain (now (t .entry))) (now (rules .entry)) (now (index .entry)) d)
+        × (plain (now (t .exit)) ≡ plain (now (t .entry))) ⌝ }
+{
+    let places = d.places;
+    for x in 0..places {
+        over_spans(t, masks, rules, index, d, places - x);
     }
 }
 
@@ -246,7 +286,7 @@ fn blank(t: &mut [u32])
     }
 }
 
-// Finds the outside weights of all cells that hold a tree, the longer spans first.
+// Finds the outside weights of all cells that hold a tree.
 pub fn fill(t: &mut [u32], rules: &[u32], pass: Pass)
     requires { ⌜ Passable pass ⌝ }
     ensures { λ _. ⌜ (fourths (now (t .exit)) ≡ fill (replicate (length (now (t .entry)) / 4) 0) (plain (now (t .entry))) (now (rules .entry)) pass)
@@ -255,8 +295,10 @@ pub fn fill(t: &mut [u32], rules: &[u32], pass: Pass)
     let d = pass.table;
     blank(t);
     lower(t, cell_number(d, root(d)), AROUND_ROOT);
-    let places = d.places;
-    for x in 0..places {
-        over_spans(t, rules, pass, places - x);
-    }
+    let no_edges = [0u32; 0];
+    let mut index = [0u32; INDEX_NUMBERS];
+    make_index(rules, pass.rules, d.symbols, &no_edges, 0, 0, &mut index);
+    let mut masks = [0u32; MASKS];
+    mark_found(&t[..], &mut masks, d);
+    over_lengths(t, &masks, rules, &index, d);
 }

@@ -1,30 +1,20 @@
--- The loop is the iteration over lengths, the greatest first.
-use mathlib.Core.Path.{_≡_, refl, _∙_}
+-- The table is blanked but for the root's number, the rules indexed and the cells marked; then all spans are gone over.
+use mathlib.Core.Path.{_∙_}
 use native.Mathlib.Omega.{arith}
-use Prim.Native.Nat.{_-_, _≤_}
-use lib.ListN.{length}
-use Rattle.packing.specs.Loop.{iter}
-use Rattle.packing.proofs.Loop.{iter-more, iter-end}
-use Rattle.word_margins.specs.Model.{fourths, plain, overSpans, fill}
+use Rattle.word_margins.specs.Model.{fill}
+use Rattle.word_margins.proofs.Marking.{found-all}
 use Rattle.word_margins.proofs.Views.{lower-zeros}
 use borrow.Author.Needs.{needs}
 use Rattle.word_margins.proofs.outside.fill.Statement.{statement}
 use Rattle.word_margins.proofs.outside.fill.Tie as tie
 
-abbrev Inv-loop : tie.InvT-loop
-Inv-loop t₀ rules pass places x₀ t x = (x ≤ pass .table .places) × (length t ≡ length t₀) × (plain t ≡ plain t₀)
-    × (fourths t ≡ iter (λ u y. overSpans u (plain t₀) rules pass (pass .table .places - y)) (fourths t₀) x)
-
-abbrev μ-loop : tie.MeasureT-loop
-μ-loop t₀ rules pass places x₀ t x = pass .table .places - x
-
-blank-requires : tie.Need-blank-requires Inv-loop μ-loop
+blank-requires : tie.Need-blank-requires
 blank-requires c κs = search needs
 
-root-requires : tie.Need-root-requires Inv-loop μ-loop
+root-requires : tie.Need-root-requires
 root-requires c κs = search needs
 
-cell-number-requires : tie.Need-cell-number-requires Inv-loop μ-loop
+cell-number-requires : tie.Need-cell-number-requires
 cell-number-requires c κs =
     let at-pre = c .before .before .before .before .before .before .before .before .before in (
       at-pre .pre .sized,
@@ -33,58 +23,52 @@ cell-number-requires c κs =
       rw (c .root .ensures) (at-pre .pre .sized .places),
     )
 
-lower-requires : tie.Need-lower-requires Inv-loop μ-loop
-lower-requires c κs = (c .cell-number .ensures .1, omega arith)
+lower-requires : tie.Need-lower-requires
+lower-requires c κs = search needs
 
-loop-holds : tie.Need-loop-holds Inv-loop μ-loop
-unfolding iter
-loop-holds c = (omega arith, refl, refl, refl)
+slice-aggregate-make-index : tie.Need-slice-aggregate-make-index
+slice-aggregate-make-index c = search needs
 
-sub-over-spans : tie.Need-sub-over-spans Inv-loop μ-loop
-sub-over-spans c = omega (arith, c .before .loop-test .taken)
+slice-aggregate-make-index-2 : tie.Need-slice-aggregate-make-index-2
+slice-aggregate-make-index-2 c = search needs
 
-over-spans-requires : tie.Need-over-spans-requires Inv-loop μ-loop
-over-spans-requires c κs =
-    let before-8 = c .before .before .before .before .before .before .before .before in
-    let at-pre = before-8 .before .before .before .before .before .before .before .before in
-    (at-pre .pre, omega (arith, c .before .loop-test .taken), omega arith)
+make-index-requires : tie.Need-make-index-requires
+make-index-requires c κs = search needs
 
-add-x : tie.Need-add-x Inv-loop μ-loop
-add-x c =
-    let at-loop-test = c .before .before .before .before in
-    let before-12 = at-loop-test .before .before .before .before .before .before .before .before in
-    let at-pre = before-12 .before .before .before .before .before .before .before in
-    omega (arith, at-pre .pre .sized .places, at-loop-test .loop-test .taken)
+slice-aggregate-mark-found : tie.Need-slice-aggregate-mark-found
+slice-aggregate-mark-found c = search needs
 
-loop-less : tie.Need-loop-less Inv-loop μ-loop
-loop-less c = omega (arith, c .before .before .before .before .loop-test .taken)
+mark-found-requires : tie.Need-mark-found-requires
+mark-found-requires c κs = search needs
 
-loop-again : tie.Need-loop-again Inv-loop μ-loop
-loop-again c =
-    let at-loop-test = c .before .before .before .before in
-    let at-loop = at-loop-test .before in (
-      omega (arith, at-loop-test .loop-test .taken),
-      c .before .before .over-spans .kept .0 ∙ at-loop .loop .inv .1,
-      c .before .before .over-spans .ensures .1
-          ∙ at-loop .loop .inv .2,
-      c .before .before .over-spans .ensures .0 ∙ rw (iter-more, ← at-loop .loop .inv .3, at-loop .loop .inv .2),
-    )
+slice-aggregate-over-lengths : tie.Need-slice-aggregate-over-lengths
+slice-aggregate-over-lengths c = search needs
 
-same-length : tie.Need-same-length Inv-loop μ-loop
-same-length c =
-    let at-lower = c .before .before .before .before in
-    let at-blank = at-lower .before .before .before .before .before .before in
-    c .before .loop .inv .1 ∙ at-lower .lower .kept .0 ∙ at-blank .blank .kept .0
+slice-aggregate-over-lengths-2 : tie.Need-slice-aggregate-over-lengths-2
+slice-aggregate-over-lengths-2 c = search needs
 
-returns : tie.Need-returns Inv-loop μ-loop
+over-lengths-requires : tie.Need-over-lengths-requires
+over-lengths-requires c κs =
+    let at-mark-found = c .before .before .before .before in
+    let before-16 = at-mark-found .before .before .before .before .before .before .before .before .before .before .before .before in
+    let at-pre = before-16 .before .before .before .before .before .before .before .before in
+    (at-pre .pre .sized, found-all (at-mark-found .mark-found .ensures))
+
+same-length : tie.Need-same-length
+same-length c = search needs
+
+returns : tie.Need-returns
 unfolding fill
 returns c =
-    let at-lower = c .before .before .before .before in
+    let at-over-lengths = c .before .before in
+    let at-make-index = at-over-lengths .before .before .before .before .before .before .before .before .before in
+    let at-lower = at-make-index .before .before .before .before .before in
     let at-cell-number = at-lower .before in
     let at-root = at-cell-number .before in
     let at-blank = at-root .before .before .before .before in (
-      c .before .loop .inv .3 ∙ iter-end _ _ _ _ (c .before .loop .inv .0) (c .loop-test .left)
+      at-over-lengths .over-lengths .ensures .0
           ∙ rw (
+            at-make-index .make-index .ensures,
             at-lower .lower .ensures .0,
             at-lower .lower .ensures .1,
             at-blank .blank .ensures .0,
@@ -93,25 +77,24 @@ returns c =
             at-root .root .ensures,
             lower-zeros,
           ),
-      c .before .loop .inv .2 ∙ at-lower .lower .ensures .1
-          ∙ at-blank .blank .ensures .1,
+      at-over-lengths .over-lengths .ensures .1 ∙ at-lower .lower .ensures .1 ∙ at-blank .blank .ensures .1,
     )
 
 pub fill-spec : {M : Type 1} → statement M
 fill-spec =
     tie.close
     (tie.spec
-    Inv-loop
-    μ-loop
     blank-requires
     root-requires
     cell-number-requires
     lower-requires
-    loop-holds
-    sub-over-spans
-    over-spans-requires
-    add-x
-    loop-less
-    loop-again
+    slice-aggregate-make-index
+    slice-aggregate-make-index-2
+    make-index-requires
+    slice-aggregate-mark-found
+    mark-found-requires
+    slice-aggregate-over-lengths
+    slice-aggregate-over-lengths-2
+    over-lengths-requires
     same-length
     returns)
