@@ -14,7 +14,7 @@ use Rattle.derivation.specs.Derivation.{Tree, Derivation, weight}
 use Rattle.derivation.specs.Rank.{_∈_, Number}
 use Rattle.derivation.proofs.Order.{order-lawful}
 use Rattle.derivation.proofs.Sorted.{number-one}
-use Rattle.rearranged.proofs.Held.{weight-held}
+use Rattle.rearranged_rules.proofs.Held.{weight-held}
 use Rattle.traced_readings.specs.Ranked.{Ranked}
 use Rattle.listing.specs.Demand3.{RankedList}
 use Rattle.cost_changes.specs.Costs.{FirstWeight}

@@ -23,9 +23,9 @@ use Rattle.derivation.specs.HeardList.{derivations, leastDerivations}
 use Rattle.derivation.proofs.Lists.{at-length, at-take}
 use Rattle.derivation.proofs.Cell.{derives-place}
 use Rattle.derivation.proofs.HeardTheorems.{least-element}
-use Rattle.rearranged.specs.Rearranged.{Rearranged, renumber, SameRenumbered}
-use Rattle.rearranged.proofs.Theorems.{same-derivations, rearranged-lists}
-use Rattle.rearranged.proofs.Held.{weight-held}
+use Rattle.rearranged_rules.specs.Rearranged.{Rearranged, renumber, SameRenumbered}
+use Rattle.rearranged_rules.proofs.Theorems.{same-derivations, rearranged-lists}
+use Rattle.rearranged_rules.proofs.Held.{weight-held}
 use Rattle.chart.specs.WorkTable.{tableSize}
 use Rattle.listing.specs.Conditions.{library, conditions, askedListing}
 use Rattle.listing.proofs.Accepted.{Asks, conditions-asks}

@@ -17,7 +17,7 @@ use Rattle.derivation.specs.Order.{costSum}
 use Rattle.derivation.specs.Heard.{outputLength, packed}
 use Rattle.traced_readings.specs.Ranked.{Ranked}
 use Rattle.listing.specs.Demand3.{kthBytes}
-use Rattle.rearranged.specs.Rearranged.{Rearranged, SameRenumbered}
+use Rattle.rearranged_rules.specs.Rearranged.{Rearranged, SameRenumbered}
 use Rattle.spireyerba.specs.Demands.{Listing}
 
 -- the weight that a reading holds: 24 bits behind its kind, 4 bits, and its n, 6 bits

@@ -28,10 +28,10 @@ by-tree (some v) n m w e = (cc, cc)
 
 -- what the root spells, and its trace
 abbrev spelled : (t rules edges : List ℕ) → Scope → Layout → ℕ → Option ℕ
-spelled t rules edges k d rank = spelledWeight t rules edges k d (d .places) (root d) rank
+spelled t rules edges k d rank = spelledWeight t rules edges k d (d .last) (root d) rank
 
 abbrev numbers : (t rules : List ℕ) → Layout → ℕ → List ℕ
-numbers t rules d rank = traceBack t rules d (d .places) (root d) rank
+numbers t rules d rank = traceBack t rules d (d .last) (root d) rank
 
 module _ (t rules edges : List ℕ) (k : Scope) (d : Layout) (rank : ℕ) {r : Traced} {trace : List ℕ} (trace₀ : List ℕ)
     (traced : (r ≡ tracedOf (spelled t rules edges k d rank) (length (numbers t rules d rank)))

@@ -11,6 +11,6 @@ pub table-is : (S n N : ℕ) {d : Layout} {r : ℕ} → d ≡ layOut S n N → r
 unfolding tableSize layOut
 table-is S n N e f = f ∙ rw (e, mul-assoc 4 S (n * (n + 1) / 2))
 
-pub layout-is : (S n N : ℕ) {d : Layout} → d ≡ layOut S n N → (d .places ≡ n) × (d .ranks ≡ N)
+pub layout-is : (S n N : ℕ) {d : Layout} → d ≡ layOut S n N → (d .last ≡ n) × (d .ranks ≡ N)
 unfolding layOut
 layout-is S n N e = rw e (refl, refl)

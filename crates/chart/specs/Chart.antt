@@ -16,14 +16,14 @@ use Rattle.chart_trace.specs.Trace.{traceBack}
 use Rattle.chart_trace.specs.Checked.{spelledWeight}
 use Rattle.chart_trace.specs.declared.checked.Scope.{Scope}
 
--- the layout of a table for N ranks of each cell, over S symbols and n places
+-- the layout of a table for N ranks of each cell, over S symbols, up to place n
 unfoldable pub layOut : ℕ → ℕ → ℕ → Layout
-layOut S n N = record { symbols = S; places = n; ranks = N; cells = S * (n * (n + 1) / 2) }
+layOut S n N = record { symbols = S; last = n; ranks = N; cells = S * (n * (n + 1) / 2) }
 
 -- the table of a size that the search makes of zeros, with an index of the first R rules and the first E edges
 unfoldable pub enumerate : List ℕ → ℕ → List ℕ → ℕ → Layout → ℕ → List ℕ
 enumerate rules R edges E d size =
-    search rules edges (makeIndex rules R (d .symbols) edges E (d .places) (replicate indexNumbers 0)) d (replicate size 0)
+    search rules edges (makeIndex rules R (d .symbols) edges E (d .last) (replicate indexNumbers 0)) d (replicate size 0)
 
 -- how many ranks of the root a table has, and of one of them the weight, by its price plus 1, and the trace
 unfoldable pub rootsFound : List ℕ → Layout → ℕ
@@ -33,7 +33,7 @@ unfoldable pub rootWeight : List ℕ → Layout → ℕ → ℕ
 rootWeight t d rank = (priceAt t d (cellNumber d (root d)) rank - 1) / weightUnit
 
 unfoldable pub rootTrace : List ℕ → List ℕ → Layout → ℕ → List ℕ
-rootTrace t rules d rank = traceBack t rules d (d .places) (root d) rank
+rootTrace t rules d rank = traceBack t rules d (d .last) (root d) rank
 
 -- whether that rank is found
 unfoldable pub rootFound : List ℕ → Layout → ℕ → Bool
@@ -45,4 +45,4 @@ weighs none w = false
 weighs (some v) w = eqb v w
 
 unfoldable pub rootSpelled : (t rules edges : List ℕ) → Scope → Layout → ℕ → Bool
-rootSpelled t rules edges k d rank = weighs (spelledWeight t rules edges k d (d .places) (root d) rank) (rootWeight t d rank)
+rootSpelled t rules edges k d rank = weighs (spelledWeight t rules edges k d (d .last) (root d) rank) (rootWeight t d rank)

@@ -23,16 +23,16 @@ ghost use Rattle.chart_keys.specs.Keys.{prices, weightUnit};
 ghost use Rattle.chart_table.specs.Table.{lastPlace, mostRanks, Sized, clear};
 ghost use Rattle.chart.specs.Chart.{layOut, enumerate, rootsFound, rootWeight, rootTrace};
 
-// The layout of a table for as many ranks of each cell, over as many symbols and places.
-pub fn lay_out(symbols: usize, places: usize, ranks: usize) -> Layout
-    requires { ⌜ (symbols ≤ 32) × (places ≤ lastPlace) × (0 < ranks) × (ranks ≤ mostRanks) ⌝ }
-    ensures { λ d. ⌜ (d ≡ layOut symbols places ranks) × Sized d ⌝ }
+// The layout of a table for as many ranks of each cell, over as many symbols, up to a last place.
+pub fn lay_out(symbols: usize, last: usize, ranks: usize) -> Layout
+    requires { ⌜ (symbols ≤ 32) × (last ≤ lastPlace) × (0 < ranks) × (ranks ≤ mostRanks) ⌝ }
+    ensures { λ d. ⌜ (d ≡ layOut symbols last ranks) × Sized d ⌝ }
 {
     Layout {
         symbols,
-        places,
+        last,
         ranks,
-        cells: symbols * (places * (places + 1) / 2),
+        cells: symbols * (last * (last + 1) / 2),
     }
 }
 
@@ -75,14 +75,14 @@ pub fn enumerate(
     arcs: usize,
     d: Layout,
 ) -> usize
-    requires { ⌜ (Sized d) × (0 < d .places) × (count ≤ 256) × (arcs ≤ 256) ⌝ }
+    requires { ⌜ (Sized d) × (0 < d .last) × (count ≤ 256) × (arcs ≤ 256) ⌝ }
     ensures { λ m. ⌜ now (t .exit) ≡ enumerate (now (rules .entry)) count (now (edges .entry)) arcs d (length (now (t .entry))) ⌝ }
     ensures { λ m. ⌜ (m ≡ rootsFound (now (t .exit)) d) × (m ≤ d .ranks) ⌝ }
 {
     let front = ENTRY_NUMBERS * d.cells;
     zero_behind(t, front);
     let mut index = [0u32; INDEX_NUMBERS];
-    make_index(rules, count, d.symbols, edges, arcs, d.places, &mut index);
+    make_index(rules, count, d.symbols, edges, arcs, d.last, &mut index);
     zero_front(t, front);
     search(t, rules, edges, &index, d);
     first_missing(&t[..], d, cell_number(d, root(d)))
@@ -102,7 +102,7 @@ fn found_weight(x: usize) -> u32
 
 // The weight of a rank of the root.
 pub fn root_weight(t: &[u32], d: Layout, rank: usize) -> u32
-    requires { ⌜ (Sized d) × (0 < d .places) × (rank < d .ranks) ⌝ }
+    requires { ⌜ (Sized d) × (0 < d .last) × (rank < d .ranks) ⌝ }
     ensures { λ w. ⌜ w ≡ rootWeight (now (t .entry)) d rank ⌝ }
 {
     found_weight(price_at(t, d, cell_number(d, root(d)), rank))
@@ -110,7 +110,7 @@ pub fn root_weight(t: &[u32], d: Layout, rank: usize) -> u32
 
 // Writes the trace of a rank of the root from the first place on, and answers how many numbers it has.
 pub fn trace_root(t: &[u32], rules: &[u32], d: Layout, rank: usize, trace: &mut [u32]) -> usize
-    requires { ⌜ (Sized d) × (0 < d .places) × (rank < d .ranks) ⌝ }
+    requires { ⌜ (Sized d) × (0 < d .last) × (rank < d .ranks) ⌝ }
     ensures { λ n. ⌜ (now (trace .exit) ≡ storeAll (now (trace .entry)) 0 (rootTrace (now (t .entry)) (now (rules .entry)) d rank))
         × (n ≡ length (rootTrace (now (t .entry)) (now (rules .entry)) d rank)) ⌝ }
 {

@@ -34,9 +34,9 @@ pub fn index_of(
     index: &mut [u32],
 )
     requires { ⌜ (Sized d) × (count ≤ 256) × (arcs ≤ 256) ⌝ }
-    ensures { λ _. ⌜ now (index .exit) ≡ makeIndex (now (rules .entry)) count (d .symbols) (now (edges .entry)) arcs (d .places) (now (index .entry)) ⌝ }
+    ensures { λ _. ⌜ now (index .exit) ≡ makeIndex (now (rules .entry)) count (d .symbols) (now (edges .entry)) arcs (d .last) (now (index .entry)) ⌝ }
 {
-    make_index(rules, count, d.symbols, edges, arcs, d.places, index);
+    make_index(rules, count, d.symbols, edges, arcs, d.last, index);
 }
 
 // Finds the rank of the root behind rank x, if rank x is found. What is written over is kept.
@@ -49,7 +49,7 @@ pub fn step(
     d: Layout,
     x: usize,
 )
-    requires { ⌜ (Sized d) × (0 < d .places) × (x + 1 < d .ranks) ⌝ }
+    requires { ⌜ (Sized d) × (0 < d .last) × (x + 1 < d .ranks) ⌝ }
     ensures { λ _. ⌜ now (t .exit) ≡ nextOfRoot (now (rules .entry)) (now (edges .entry)) (now (index .entry)) d (now (t .entry)) x ⌝ }
     ensures { λ _. ⌜ now (kept .exit) ≡ keepOfRoot (now (rules .entry)) (now (edges .entry)) (now (index .entry)) d (now (t .entry)) (now (kept .entry)) x ⌝ }
 {
@@ -65,7 +65,7 @@ pub fn undo(t: &mut [u32], kept: &[u32])
 
 // Whether a rank of the root is found.
 pub fn root_found(t: &[u32], d: Layout, rank: usize) -> bool
-    requires { ⌜ (Sized d) × (0 < d .places) ⌝ }
+    requires { ⌜ (Sized d) × (0 < d .last) ⌝ }
     ensures { λ r. ⌜ r ≡ rootFound (now (t .entry)) d rank ⌝ }
 {
     price_at(t, d, cell_number(d, root(d)), rank) != 0
@@ -82,7 +82,7 @@ pub fn checked_root(
     rank: usize,
     trace: &mut [u32],
 ) -> usize
-    requires { ⌜ (Sized d) × (0 < d .places) × (rank < d .ranks) × (scope .edges ≤ 256) ⌝ }
+    requires { ⌜ (Sized d) × (0 < d .last) × (rank < d .ranks) × (scope .edges ≤ 256) ⌝ }
     ensures { λ r. ⌜ r ≡ pick (rootSpelled (now (t .entry)) (now (rules .entry)) (now (edges .entry)) scope d rank)
         (length (rootTrace (now (t .entry)) (now (rules .entry)) d rank)) 0 ⌝ }
     ensures { λ r. ⌜ (rootSpelled (now (t .entry)) (now (rules .entry)) (now (edges .entry)) scope d rank ≡ true

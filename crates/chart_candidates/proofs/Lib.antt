@@ -1,4 +1,4 @@
 -- Loops from a place on, and the splits one behind another.
 pub mod Loops
 pub mod Splits
-pub mod Passed
+pub mod PassedOver

@@ -1,3 +1,3 @@
 -- Leaves and seeds.
 pub mod Candidates
-pub mod Passed
+pub mod PassedOver

@@ -12,19 +12,19 @@ ghost use lib.ListN.{length, set};
 ghost use Rattle.chart_table.specs.Table.{mostRanks, cellBound, counts, entryOf, lastRank, ranksToClear, clearEntry, clearCell, clear, Clear, Sized};
 
 // The last rank found of a cell, which stands beside the first.
-fn last_rank(t: &[u32], d: Layout, c: usize) -> usize
-    requires { ⌜ (Sized d) × (c < cellBound) ⌝ }
-    ensures { λ r. ⌜ (r ≡ lastRank (now (t .entry)) d c) × (r < counts) ⌝ }
+fn last_rank(t: &[u32], d: Layout, number: usize) -> usize
+    requires { ⌜ (Sized d) × (number < cellBound) ⌝ }
+    ensures { λ r. ⌜ (r ≡ lastRank (now (t .entry)) d number) × (r < counts) ⌝ }
 {
-    beside_at(t, d, c, 0) / COUNTS % COUNTS
+    beside_at(t, d, number, 0) / COUNTS % COUNTS
 }
 
 // How many ranks of a cell there are up to the last found, and one where none is.
-fn ranks_to_clear(t: &[u32], d: Layout, c: usize) -> usize
-    requires { ⌜ (Sized d) × (c < cellBound) ⌝ }
-    ensures { λ r. ⌜ (r ≡ ranksToClear (now (t .entry)) d c) × (r ≤ d .ranks) ⌝ }
+fn ranks_to_clear(t: &[u32], d: Layout, number: usize) -> usize
+    requires { ⌜ (Sized d) × (number < cellBound) ⌝ }
+    ensures { λ r. ⌜ (r ≡ ranksToClear (now (t .entry)) d number) × (r ≤ d .ranks) ⌝ }
 {
-    let last = last_rank(t, d, c);
+    let last = last_rank(t, d, number);
     if last < d.ranks { last + 1 } else { d.ranks }
 }
 
@@ -40,11 +40,11 @@ fn clear_within(t: &mut [u32], at: usize)
 }
 
 // Makes the four numbers of an entry 0. One test suffices where all four stand in the table.
-fn clear_entry(t: &mut [u32], d: Layout, c: usize, x: usize)
-    requires { ⌜ (Sized d) × (c < cellBound) × (x ≤ mostRanks) ⌝ }
-    ensures { λ _. ⌜ now (t .exit) ≡ clearEntry (now (t .entry)) d c x ⌝ }
+fn clear_entry(t: &mut [u32], d: Layout, number: usize, x: usize)
+    requires { ⌜ (Sized d) × (number < cellBound) × (x ≤ mostRanks) ⌝ }
+    ensures { λ _. ⌜ now (t .exit) ≡ clearEntry (now (t .entry)) d number x ⌝ }
 {
-    let at = entry_of(d, c, x);
+    let at = entry_of(d, number, x);
     if at + 3 < t.len() {
         clear_within(t, at);
         return;
@@ -56,11 +56,11 @@ fn clear_entry(t: &mut [u32], d: Layout, c: usize, x: usize)
 }
 
 // Whether the first entry of a cell stands in the table and has zeros only. Of most cells of an office grammar nothing is found.
-fn is_clear(t: &[u32], d: Layout, c: usize) -> bool
-    requires { ⌜ (Sized d) × (c < cellBound) ⌝ }
-    ensures { λ r. ⌜ (r ≡ true → Clear (now (t .entry)) (entryOf d c 0)) ⌝ }
+fn is_clear(t: &[u32], d: Layout, number: usize) -> bool
+    requires { ⌜ (Sized d) × (number < cellBound) ⌝ }
+    ensures { λ r. ⌜ (r ≡ true → Clear (now (t .entry)) (entryOf d number 0)) ⌝ }
 {
-    let at = entry_of(d, c, 0);
+    let at = entry_of(d, number, 0);
     if at + 3 < t.len() {
         return wide(t[at]) + wide(t[at + 1]) + wide(t[at + 2]) + wide(t[at + 3]) == 0;
     }
@@ -68,16 +68,16 @@ fn is_clear(t: &[u32], d: Layout, c: usize) -> bool
 }
 
 // Makes the entries of a cell's ranks up to the last found 0.
-fn clear_cell(t: &mut [u32], d: Layout, c: usize)
-    requires { ⌜ (Sized d) × (c < cellBound) ⌝ }
-    ensures { λ _. ⌜ now (t .exit) ≡ clearCell (now (t .entry)) d c ⌝ }
+fn clear_cell(t: &mut [u32], d: Layout, number: usize)
+    requires { ⌜ (Sized d) × (number < cellBound) ⌝ }
+    ensures { λ _. ⌜ now (t .exit) ≡ clearCell (now (t .entry)) d number ⌝ }
 {
-    if is_clear(&t[..], d, c) {
+    if is_clear(&t[..], d, number) {
         return;
     }
-    let m = ranks_to_clear(&t[..], d, c);
+    let m = ranks_to_clear(&t[..], d, number);
     for x in 0..m {
-        clear_entry(t, d, c, x);
+        clear_entry(t, d, number, x);
     }
 }
 

@@ -32,7 +32,7 @@ ghost use Rattle.chart_keys.specs.Keys.{keyNumber, noKey};
 ghost use Rattle.chart_table.specs.Table.{lastPlace};
 ghost use Rattle.chart_masks.specs.Masks.{digit, NoLeaf, Worded};
 ghost use Rattle.chart_candidates.specs.Candidates.{wordLeaf, edgeLeaves, leaves};
-ghost use Rattle.chart_candidates.specs.Passed.{wordBit, WordFilter};
+ghost use Rattle.chart_candidates.specs.PassedOver.{wordBit, WordFilter};
 
 // The bits of a filter of words.
 const FILTER_BITS: u32 = 64;

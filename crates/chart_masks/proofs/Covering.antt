@@ -45,7 +45,7 @@ use Rattle.chart_masks.specs.Masks.{
   secondsAt,
   leftAt,
   rightAt,
-  slot,
+  capped,
   maskOf,
   wordColumn,
   firstColumn,
@@ -196,7 +196,7 @@ more-none rules index column m a = record { grown = grown-none m; more = λ z h 
 
 pub more-next : {rules index m m′ m″ : List ℕ} {column : Column} {a y : ℕ} (place x own : ℕ) → 2048 ≤ column .at
     → MembersMore rules index column a y m m′ → x ≡ getD rules (5 * getD index y 0 + column .field) 0
-    → place ≡ slot (column .limit) x → digit own a ≡ 1 → Put m′ (column .at + place) own m″ → MembersMore rules index column a (y + 1) m m″
+    → place ≡ capped (column .limit) x → digit own a ≡ 1 → Put m′ (column .at + place) own m″ → MembersMore rules index column a (y + 1) m m″
 more-next {rules} {index} {m} {m′} {m″} {column} {a} {y} place x own high more number is one put = record {
   grown = grown-more (more .grown) (put-grown (omega arith) put);
   more = λ z h l e. go z h l e (ℕ-discrete z y);
@@ -259,9 +259,9 @@ ruled-marked {d = d} {m} {m′} {c} few s from to ruled mark = record {
     rights b a i k s′ h e f (yes p) (no q) = rw (starts b k s′ h (λ z. q (omega (arith, z, p)))) (ruled .right b a i k s′ h (mark .kept _ a e) f)
 
 -- what a rule has in a column of symbols is a symbol, unless its head is in the mask behind the last
-symbol-in : (n x a at : ℕ) (m : List ℕ) → (digit (getD m (at + slot n x) 0) a ≡ 0 → ⊥) → digit (getD m (at + n) 0) a ≡ 0
+symbol-in : (n x a at : ℕ) (m : List ℕ) → (digit (getD m (at + capped n x) 0) a ≡ 0 → ⊥) → digit (getD m (at + n) 0) a ≡ 0
     → (x < n) × (digit (getD m (at + x) 0) a ≡ 0 → ⊥)
-unfolding slot
+unfolding capped
 symbol-in n x a at m f e = go (ltb x n) refl f
   where
     go : (t : Bool) → ltb x n ≡ t → (digit (getD m (at + pick t x n) 0) a ≡ 0 → ⊥) → (x < n) × (digit (getD m (at + x) 0) a ≡ 0 → ⊥)
@@ -300,7 +300,7 @@ pub heads-next : {m edges index : List ℕ} {start k y r : ℕ} (x : ℕ) → He
 heads-next {m} {edges} {index} {start} {k} {y} {r} x before edge = record { has = λ z h l a e to. go z h l a e to (ℕ-discrete z y) }
   where
     go : (z : ℕ) → start ≤ z → z < y + 1 → (a : ℕ) → digit (bitOr r x) a ≡ 0 → getD edges (4 * getD index z 0 + 1) 0 ≡ k → Dec (z ≡ y)
-        → digit (getD m (2048 + slot 256 (getD edges (4 * getD index z 0 + 2) 0)) 0) a ≡ 0
+        → digit (getD m (2048 + capped 256 (getD edges (4 * getD index z 0 + 2) 0)) 0) a ≡ 0
     go z h l a e to (yes same) = rw same (edge a (or-lacks r x a e .1) (rw same at to))
     go z h l a e to (no other) = before .has z h (omega arith) a (or-lacks r x a e .0) to
 

@@ -2,7 +2,7 @@
 -- and each place that it ends at, the places where it starts; for each word and each symbol the heads that have it in a rule; and for
 -- each place the heads that have a part there. A pair rule has a seed only where two masks of places meet, a head has leaves only
 -- where it is in the mask of an edge's word, and seeds only where it is in the masks of both ends of a span.
--- Nobody need believe this page: what is passed over changes no selection (chart_candidates/proofs/Passed). Assumes nothing.
+-- Nobody need believe this page: what is passed over changes no selection (chart_candidates/proofs/PassedOver). Assumes nothing.
 use mathlib.Core.Path.{_≡_}
 use mathlib.Core.Logic.{_⊎_}
 use mathlib.Core.List.{List}
@@ -84,12 +84,12 @@ pub record Apart (m : List ℕ) (d : Layout) (b c : Sym) (s : Cell) : Type 0 whe
   pub disjoint : Disjoint (getD m (endsAt b (s .from)) 0) (getD m (startsAt c (s .to)) 0)
 
 -- the place of a number's mask among those of its column
-unfoldable pub slot : ℕ → ℕ → ℕ
-slot limit x = pick (ltb x limit) x limit
+unfoldable pub capped : ℕ → ℕ → ℕ
+capped limit x = pick (ltb x limit) x limit
 
 -- the mask of a number that rule r has in a column
 abbrev pub maskOf : List ℕ → Column → List ℕ → ℕ → ℕ
-maskOf m column rules r = getD m (column .at + slot (column .limit) (getD rules (5 * r + column .field) 0)) 0
+maskOf m column rules r = getD m (column .at + capped (column .limit) (getD rules (5 * r + column .field) 0)) 0
 
 -- each of n heads is in the masks of the numbers that its rules have in a column
 pub record Members (rules index : List ℕ) (column : Column) (n : ℕ) (m : List ℕ) : Type 0 where
@@ -99,7 +99,7 @@ pub record Members (rules index : List ℕ) (column : Column) (n : ℕ) (m : Lis
 -- so it is of one head and its words
 pub record Worded (rules index m : List ℕ) (a : ℕ) : Type 0 where
   pub has : (z : ℕ) → classStart index wordBase a ≤ z → z < classEnd index wordBase a
-      → digit (getD m (2048 + slot 256 (getD rules (5 * getD index z 0 + 3) 0)) 0) a ≡ 0 → ⊥
+      → digit (getD m (2048 + capped 256 (getD rules (5 * getD index z 0 + 3) 0)) 0) a ≡ 0 → ⊥
 
 -- what was in a mask still is, and the masks of places are the same
 pub record Grown (m m′ : List ℕ) : Type 0 where
@@ -146,7 +146,7 @@ pub record Live (m : List ℕ) (d : Layout) (c : Cell) (leafy r : ℕ) : Type 0 
 -- a mask has the heads that have the word of an edge, if that reaches k; and of each edge over a cell's span before y
 abbrev pub EdgeHeads : (m edges : List ℕ) → ℕ → ℕ → ℕ → Type 0
 EdgeHeads m edges e k r =
-    (a : ℕ) → digit r a ≡ 0 → getD edges (4 * e + 1) 0 ≡ k → digit (getD m (2048 + slot 256 (getD edges (4 * e + 2) 0)) 0) a ≡ 0
+    (a : ℕ) → digit r a ≡ 0 → getD edges (4 * e + 1) 0 ≡ k → digit (getD m (2048 + capped 256 (getD edges (4 * e + 2) 0)) 0) a ≡ 0
 
 pub record HeadsBefore (m edges index : List ℕ) (start k y r : ℕ) : Type 0 where
   pub has : (z : ℕ) → start ≤ z → z < y → EdgeHeads m edges (getD index z 0) k r

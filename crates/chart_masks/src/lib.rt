@@ -30,7 +30,7 @@ ghost use Rattle.chart_table.specs.Table.{lastPlace};
 ghost use Rattle.chart_masks.specs.Masks.{
   digit,
   maskNumbers,
-  slot,
+  capped,
   Disjoint,
   Put,
   Marked,
@@ -169,8 +169,8 @@ pub fn meet(masks: &[u32], d: Layout, first: Sym, second: Sym, c: Cell) -> bool
 }
 
 // Where the mask of a number stands among those of its column: what is none has the one behind the last.
-fn slot(x: usize, limit: usize) -> usize
-    ensures { λ r. ⌜ (r ≡ slot limit x) × (r ≤ limit) ⌝ }
+fn capped(x: usize, limit: usize) -> usize
+    ensures { λ r. ⌜ (r ≡ capped limit x) × (r ≤ limit) ⌝ }
 {
     if x < limit { x } else { limit }
 }
@@ -187,7 +187,7 @@ fn mark_head(masks: &mut [u32], rules: &[u32], index: &[u32], column: Column, he
     let own = only(head);
     for y in start..end {
         let x = number_at(rules, NUMBERS_PER_RULE * number_at(index, y) + column.field);
-        put(masks, column.at + slot(x, column.limit), own);
+        put(masks, column.at + capped(x, column.limit), own);
     }
 }
 
@@ -239,7 +239,7 @@ pub fn edge_heads(masks: &[u32], edges: &[u32], e: usize, to: usize) -> u32
         return 0;
     }
     let word = number_at(edges, NUMBERS_PER_EDGE * e + EDGE_WORD_AT);
-    narrow_at(masks, WORD_HEADS + slot(word, WORDS))
+    narrow_at(masks, WORD_HEADS + capped(word, WORDS))
 }
 
 // A mask of the heads that have the word of an edge over the span of a cell.

@@ -30,71 +30,71 @@ abbrev pub tags : ℕ
 tags = 1024
 
 unfoldable pub tagOf : List ℕ → Layout → ℕ → ℕ → ℕ → ℕ
-tagOf t d c rank back = pick (isInitial (backPointer back)) 1023 ((rank - 1) * 4 + codeOf (backAt t d c (rank - 1)) back)
+tagOf t d number rank back = pick (isInitial (backPointer back)) 1023 ((rank - 1) * 4 + codeOf (backAt t d number (rank - 1)) back)
 
 unfoldable pub taggedBack : List ℕ → Layout → ℕ → ℕ → ℕ
-taggedBack t d c tag =
-    pick (ltb (tag / 4 + 1) (d .ranks)) (shifted (backAt t d c (tag / 4)) (tag % 4)) (besideAt t d c 0 / 262144)
+taggedBack t d number tag =
+    pick (ltb (tag / 4 + 1) (d .ranks)) (shifted (backAt t d number (tag / 4)) (tag % 4)) (besideAt t d number 0 / 262144)
 
 -- place y of the queue stands beside rank y + 1 of the cell, as a price plus 1 and a tag, and beside the first rank stands the
 -- queue's length, of which no more than the ranks kept is taken
 abbrev pub numberKey : List ℕ → Layout → ℕ → ℕ → ℕ
-numberKey t d c n = keyOf (n / 1024) (taggedBack t d c (n % 1024))
+numberKey t d number n = keyOf (n / 1024) (taggedBack t d number (n % 1024))
 
 unfoldable pub queuedKey : List ℕ → Layout → ℕ → ℕ → ℕ
-queuedKey t d c y = numberKey t d c (besideAt t d c (y + 1))
+queuedKey t d number y = numberKey t d number (besideAt t d number (y + 1))
 
 unfoldable pub queueLength : List ℕ → Layout → ℕ → ℕ
-queueLength t d c = pick (ltb (besideAt t d c 0 % 512) (d .ranks)) (besideAt t d c 0 % 512) (d .ranks)
+queueLength t d number = pick (ltb (besideAt t d number 0 % 512) (d .ranks)) (besideAt t d number 0 % 512) (d .ranks)
 
 -- the back pointer of a candidate that follows none is kept beside the first rank
 unfoldable pub keepInitial : List ℕ → Layout → ℕ → ℕ → List ℕ
-keepInitial t d c back =
-    pick (isInitial (backPointer back)) (putBeside t d c 0 (back * 262144 + besideAt t d c 0 % 262144)) t
+keepInitial t d number back =
+    pick (isInitial (backPointer back)) (putBeside t d number 0 (back * 262144 + besideAt t d number 0 % 262144)) t
 
 -- a key that is met as a rank is looked for is written at place y
 unfoldable pub putQueued : List ℕ → Layout → ℕ → ℕ → ℕ → ℕ → List ℕ
-putQueued t d c rank y key =
-    putBeside (keepInitial t d c (key % keyUnit % 4294967296)) d c (y + 1)
-    (key / keyUnit * 1024 + tagOf t d c rank (key % keyUnit % 4294967296))
+putQueued t d number rank y key =
+    putBeside (keepInitial t d number (key % keyUnit % 4294967296)) d number (y + 1)
+    (key / keyUnit * 1024 + tagOf t d number rank (key % keyUnit % 4294967296))
 
 unfoldable pub moveQueued : List ℕ → Layout → ℕ → ℕ → ℕ → List ℕ
-moveQueued t d c from y = putBeside t d c (y + 1) (besideAt t d c (from + 1))
+moveQueued t d number from y = putBeside t d number (y + 1) (besideAt t d number (from + 1))
 
 unfoldable pub putQueueLength : List ℕ → Layout → ℕ → ℕ → List ℕ
-putQueueLength t d c m = putBeside t d c 0 (besideAt t d c 0 / 512 * 512 + m)
+putQueueLength t d number m = putBeside t d number 0 (besideAt t d number 0 / 512 * 512 + m)
 
 -- of two places the one with the lesser key, the first where neither is; and of the first m, 0 where the queue is empty
 unfoldable pub lesserPlace : List ℕ → Layout → ℕ → ℕ → ℕ → ℕ
-lesserPlace t d c x y = pick (ltb (queuedKey t d c y) (queuedKey t d c x)) y x
+lesserPlace t d number x y = pick (ltb (queuedKey t d number y) (queuedKey t d number x)) y x
 
 unfoldable pub leastPlace : List ℕ → Layout → ℕ → ℕ → ℕ
-leastPlace t d c m = iter (lesserPlace t d c) 0 m
+leastPlace t d number m = iter (lesserPlace t d number) 0 m
 
 -- place y of m is given to a key, or, where there is none, to the last of the queue; and a key is pushed behind m
 unfoldable pub replace : List ℕ → Layout → ℕ → ℕ → ℕ → ℕ → ℕ → List ℕ
-replace t d c rank m y key =
-    pick (ltb key noKey) (putQueued t d c rank y key) (putQueueLength (moveQueued t d c (m - 1) y) d c (m - 1))
+replace t d number rank m y key =
+    pick (ltb key noKey) (putQueued t d number rank y key) (putQueueLength (moveQueued t d number (m - 1) y) d number (m - 1))
 
 unfoldable pub push : List ℕ → Layout → ℕ → ℕ → ℕ → ℕ → List ℕ
-push t d c rank m key = pick (ltb key noKey) (putQueueLength (putQueued t d c rank m key) d c (m + 1)) t
+push t d number rank m key = pick (ltb key noKey) (putQueueLength (putQueued t d number rank m key) d number (m + 1)) t
 
 -- the least of the queue and two more keys is written at a rank, and the others are in the queue
 unfoldable pub extractMin : List ℕ → Layout → ℕ → ℕ → ℕ → ℕ → List ℕ
-extractMin t d c rank lo hi =
-    let m = queueLength t d c in
-    let y = leastPlace t d c m in
-    let key = queuedKey t d c y in
-    let pushed = push (putKey t d c rank lo) d c rank m hi in
-    pick (ltb 0 m) (pick (ltb key lo) (push (replace (putKey t d c rank key) d c rank m y lo) d c rank m hi) pushed) pushed
+extractMin t d number rank lo hi =
+    let m = queueLength t d number in
+    let y = leastPlace t d number m in
+    let key = queuedKey t d number y in
+    let pushed = push (putKey t d number rank lo) d number rank m hi in
+    pick (ltb 0 m) (pick (ltb key lo) (push (replace (putKey t d number rank key) d number rank m y lo) d number rank m hi) pushed) pushed
 
 -- what the journal k keeps of the table before that: the entries of the first rank and of the rank, and those beside which the least
 -- of m queued ones stands, place y, and the place behind the last
 unfoldable pub keepWritten : (t k : List ℕ) → Layout → ℕ → ℕ → ℕ → ℕ → List ℕ
-keepWritten t k d c rank m y =
-    keepFour t k (record { first = entryOf d c 0; second = entryOf d c rank; third = entryOf d c (y + 1); fourth = entryOf d c (m + 1) })
+keepWritten t k d number rank m y =
+    keepFour t k (record { first = entryOf d number 0; second = entryOf d number rank; third = entryOf d number (y + 1); fourth = entryOf d number (m + 1) })
 
 abbrev pub keepMin : (t k : List ℕ) → Layout → ℕ → ℕ → List ℕ
-keepMin t k d c rank =
-    let m = queueLength t d c in
-    keepWritten t k d c rank m (leastPlace t d c m)
+keepMin t k d number rank =
+    let m = queueLength t d number in
+    keepWritten t k d number rank m (leastPlace t d number m)

@@ -54,7 +54,7 @@ const INITIAL_TAG: usize = 1023;
 const TALLIES: usize = COUNTS * COUNTS;
 
 // The numbers of 32 bits, which hold a back pointer.
-const BACKS: usize = 4294967296;
+const BACK_NUMBERS: usize = 4294967296;
 
 // How the back pointer of a candidate comes from another: the next right rank, the next left rank, and from either of these
 // two the other.
@@ -111,34 +111,34 @@ fn shifted(last: usize, code: usize) -> usize
 }
 
 // The tag of a candidate that is met as a rank is looked for.
-fn tag_of(t: &[u32], d: Layout, c: usize, rank: usize, back: usize) -> usize
-    requires { ⌜ (Sized d) × (c < cellBound) × (0 < rank) × (rank ≤ mostRanks) × (back < 4294967296) ⌝ }
-    ensures { λ r. ⌜ (r ≡ tagOf (now (t .entry)) d c rank back) × (r < tags) ⌝ }
+fn tag_of(t: &[u32], d: Layout, number: usize, rank: usize, back: usize) -> usize
+    requires { ⌜ (Sized d) × (number < cellBound) × (0 < rank) × (rank ≤ mostRanks) × (back < 4294967296) ⌝ }
+    ensures { λ r. ⌜ (r ≡ tagOf (now (t .entry)) d number rank back) × (r < tags) ⌝ }
 {
     if is_initial(back_pointer(back)) {
         return INITIAL_TAG;
     }
-    (rank - 1) * CODES + code_of(back_at(t, d, c, rank - 1), back)
+    (rank - 1) * CODES + code_of(back_at(t, d, number, rank - 1), back)
 }
 
 // The back pointer of a tag.
-fn tagged_back(t: &[u32], d: Layout, c: usize, tag: usize) -> usize
-    requires { ⌜ (Sized d) × (c < cellBound) × (tag < tags) ⌝ }
-    ensures { λ r. ⌜ r ≡ taggedBack (now (t .entry)) d c tag ⌝ }
+fn tagged_back(t: &[u32], d: Layout, number: usize, tag: usize) -> usize
+    requires { ⌜ (Sized d) × (number < cellBound) × (tag < tags) ⌝ }
+    ensures { λ r. ⌜ r ≡ taggedBack (now (t .entry)) d number tag ⌝ }
 {
     let rank = tag / CODES;
     if rank + 1 < d.ranks {
-        return shifted(back_at(t, d, c, rank), tag % CODES);
+        return shifted(back_at(t, d, number, rank), tag % CODES);
     }
-    beside_at(t, d, c, 0) / TALLIES
+    beside_at(t, d, number, 0) / TALLIES
 }
 
 // The key that a number beside a rank stands for.
-fn key_of(t: &[u32], d: Layout, c: usize, n: usize) -> Key
-    requires { ⌜ (Sized d) × (c < cellBound) ⌝ }
-    ensures { λ r. ⌜ (keyNumber r ≡ numberKey (now (t .entry)) d c n) × (r .price ≡ n / tags) ⌝ }
+fn key_of(t: &[u32], d: Layout, number: usize, n: usize) -> Key
+    requires { ⌜ (Sized d) × (number < cellBound) ⌝ }
+    ensures { λ r. ⌜ (keyNumber r ≡ numberKey (now (t .entry)) d number n) × (r .price ≡ n / tags) ⌝ }
 {
-    let back = tagged_back(t, d, c, n % TAGS);
+    let back = tagged_back(t, d, number, n % TAGS);
     Key {
         price: n / TAGS,
         back,
@@ -146,74 +146,74 @@ fn key_of(t: &[u32], d: Layout, c: usize, n: usize) -> Key
 }
 
 // The key at place y.
-fn queued_key(t: &[u32], d: Layout, c: usize, y: usize) -> Key
-    requires { ⌜ (Sized d) × (c < cellBound) × (y ≤ mostRanks) ⌝ }
-    ensures { λ r. ⌜ keyNumber r ≡ queuedKey (now (t .entry)) d c y ⌝ }
+fn queued_key(t: &[u32], d: Layout, number: usize, y: usize) -> Key
+    requires { ⌜ (Sized d) × (number < cellBound) × (y ≤ mostRanks) ⌝ }
+    ensures { λ r. ⌜ keyNumber r ≡ queuedKey (now (t .entry)) d number y ⌝ }
 {
-    key_of(t, d, c, beside_at(t, d, c, y + 1))
+    key_of(t, d, number, beside_at(t, d, number, y + 1))
 }
 
 // The queue's length, at most the number of ranks kept.
-fn queue_length(t: &[u32], d: Layout, c: usize) -> usize
-    requires { ⌜ (Sized d) × (c < cellBound) ⌝ }
-    ensures { λ r. ⌜ (r ≡ queueLength (now (t .entry)) d c) × (r ≤ mostRanks) ⌝ }
+fn queue_length(t: &[u32], d: Layout, number: usize) -> usize
+    requires { ⌜ (Sized d) × (number < cellBound) ⌝ }
+    ensures { λ r. ⌜ (r ≡ queueLength (now (t .entry)) d number) × (r ≤ mostRanks) ⌝ }
 {
-    let m = beside_at(t, d, c, 0) % COUNTS;
+    let m = beside_at(t, d, number, 0) % COUNTS;
     if m < d.ranks { m } else { d.ranks }
 }
 
 // Keeps the back pointer of a candidate that follows none.
-fn keep_initial(t: &mut [u32], d: Layout, c: usize, back: usize)
-    requires { ⌜ (Sized d) × (c < cellBound) × (back < 4294967296) ⌝ }
-    ensures { λ _. ⌜ now (t .exit) ≡ keepInitial (now (t .entry)) d c back ⌝ }
+fn keep_initial(t: &mut [u32], d: Layout, number: usize, back: usize)
+    requires { ⌜ (Sized d) × (number < cellBound) × (back < 4294967296) ⌝ }
+    ensures { λ _. ⌜ now (t .exit) ≡ keepInitial (now (t .entry)) d number back ⌝ }
 {
     if is_initial(back_pointer(back)) {
-        let tally = beside_at(&t[..], d, c, 0) % TALLIES;
-        put_beside(t, d, c, 0, back * TALLIES + tally);
+        let tally = beside_at(&t[..], d, number, 0) % TALLIES;
+        put_beside(t, d, number, 0, back * TALLIES + tally);
     }
 }
 
 // Writes a key that is met as a rank is looked for at place y.
-fn put_queued(t: &mut [u32], d: Layout, c: usize, rank: usize, y: usize, key: Key)
-    requires { ⌜ (Sized d) × (c < cellBound) × (0 < rank) × (rank ≤ mostRanks) × (y ≤ mostRanks) × (key .price < prices) ⌝ }
-    ensures { λ _. ⌜ now (t .exit) ≡ putQueued (now (t .entry)) d c rank y (keyNumber key) ⌝ }
+fn put_queued(t: &mut [u32], d: Layout, number: usize, rank: usize, y: usize, key: Key)
+    requires { ⌜ (Sized d) × (number < cellBound) × (0 < rank) × (rank ≤ mostRanks) × (y ≤ mostRanks) × (key .price < prices) ⌝ }
+    ensures { λ _. ⌜ now (t .exit) ≡ putQueued (now (t .entry)) d number rank y (keyNumber key) ⌝ }
 {
-    let back = key.back % BACKS;
-    let tag = tag_of(&t[..], d, c, rank, back);
-    keep_initial(t, d, c, back);
-    put_beside(t, d, c, y + 1, key.price * TAGS + tag);
+    let back = key.back % BACK_NUMBERS;
+    let tag = tag_of(&t[..], d, number, rank, back);
+    keep_initial(t, d, number, back);
+    put_beside(t, d, number, y + 1, key.price * TAGS + tag);
 }
 
 // Writes the key of one place at another.
-fn move_queued(t: &mut [u32], d: Layout, c: usize, from: usize, y: usize)
-    requires { ⌜ (Sized d) × (c < cellBound) × (from ≤ mostRanks) × (y ≤ mostRanks) ⌝ }
-    ensures { λ _. ⌜ now (t .exit) ≡ moveQueued (now (t .entry)) d c from y ⌝ }
+fn move_queued(t: &mut [u32], d: Layout, number: usize, from: usize, y: usize)
+    requires { ⌜ (Sized d) × (number < cellBound) × (from ≤ mostRanks) × (y ≤ mostRanks) ⌝ }
+    ensures { λ _. ⌜ now (t .exit) ≡ moveQueued (now (t .entry)) d number from y ⌝ }
 {
-    let n = beside_at(&t[..], d, c, from + 1);
-    put_beside(t, d, c, y + 1, n);
+    let n = beside_at(&t[..], d, number, from + 1);
+    put_beside(t, d, number, y + 1, n);
 }
 
 // Writes the queue's length.
-fn put_queue_length(t: &mut [u32], d: Layout, c: usize, m: usize)
-    requires { ⌜ (Sized d) × (c < cellBound) × (m ≤ mostRanks + 1) ⌝ }
-    ensures { λ _. ⌜ now (t .exit) ≡ putQueueLength (now (t .entry)) d c m ⌝ }
+fn put_queue_length(t: &mut [u32], d: Layout, number: usize, m: usize)
+    requires { ⌜ (Sized d) × (number < cellBound) × (m ≤ mostRanks + 1) ⌝ }
+    ensures { λ _. ⌜ now (t .exit) ≡ putQueueLength (now (t .entry)) d number m ⌝ }
 {
-    let n = beside_at(&t[..], d, c, 0) / COUNTS;
-    put_beside(t, d, c, 0, n * COUNTS + m);
+    let n = beside_at(&t[..], d, number, 0) / COUNTS;
+    put_beside(t, d, number, 0, n * COUNTS + m);
 }
 
 // The place of the least key of the first m, 0 where there are none. Only where a price is not above the least so far is the back
 // pointer looked up.
-fn least_place(t: &[u32], d: Layout, c: usize, m: usize) -> usize
-    requires { ⌜ (Sized d) × (c < cellBound) × (m ≤ mostRanks) ⌝ }
-    ensures { λ r. ⌜ (r ≡ leastPlace (now (t .entry)) d c m) × (r ≤ mostRanks) ⌝ }
+fn least_place(t: &[u32], d: Layout, number: usize, m: usize) -> usize
+    requires { ⌜ (Sized d) × (number < cellBound) × (m ≤ mostRanks) ⌝ }
+    ensures { λ r. ⌜ (r ≡ leastPlace (now (t .entry)) d number m) × (r ≤ mostRanks) ⌝ }
 {
     let mut x: usize = 0;
-    let mut best = queued_key(t, d, c, 0);
+    let mut best = queued_key(t, d, number, 0);
     for y in 0..m {
-        let n = beside_at(t, d, c, y + 1);
+        let n = beside_at(t, d, number, y + 1);
         if n / TAGS <= best.price {
-            let key = key_of(t, d, c, n);
+            let key = key_of(t, d, number, n);
             if before(key, best) {
                 best = key;
                 x = y;
@@ -224,43 +224,51 @@ fn least_place(t: &[u32], d: Layout, c: usize, m: usize) -> usize
 }
 
 // Place y of m gets a key, or, where there is none, the last of the queue.
-fn replace(t: &mut [u32], d: Layout, c: usize, rank: usize, m: usize, y: usize, key: Key)
-    requires { ⌜ (Sized d) × (c < cellBound) × (0 < rank) × (rank ≤ mostRanks) × (0 < m) × (m ≤ mostRanks) × (y ≤ mostRanks) ⌝ }
-    ensures { λ _. ⌜ now (t .exit) ≡ replace (now (t .entry)) d c rank m y (keyNumber key) ⌝ }
+fn replace(t: &mut [u32], d: Layout, number: usize, rank: usize, m: usize, y: usize, key: Key)
+    requires { ⌜ (Sized d) × (number < cellBound) × (0 < rank) × (rank ≤ mostRanks) × (0 < m) × (m ≤ mostRanks) × (y ≤ mostRanks) ⌝ }
+    ensures { λ _. ⌜ now (t .exit) ≡ replace (now (t .entry)) d number rank m y (keyNumber key) ⌝ }
 {
     if is_some(key) {
-        put_queued(t, d, c, rank, y, key);
+        put_queued(t, d, number, rank, y, key);
         return;
     }
-    move_queued(t, d, c, m - 1, y);
-    put_queue_length(t, d, c, m - 1);
+    move_queued(t, d, number, m - 1, y);
+    put_queue_length(t, d, number, m - 1);
 }
 
 // Pushes a key, if there is one, behind m others.
-fn push(t: &mut [u32], d: Layout, c: usize, rank: usize, m: usize, key: Key)
-    requires { ⌜ (Sized d) × (c < cellBound) × (0 < rank) × (rank ≤ mostRanks) × (m ≤ mostRanks) ⌝ }
-    ensures { λ _. ⌜ now (t .exit) ≡ push (now (t .entry)) d c rank m (keyNumber key) ⌝ }
+fn push(t: &mut [u32], d: Layout, number: usize, rank: usize, m: usize, key: Key)
+    requires { ⌜ (Sized d) × (number < cellBound) × (0 < rank) × (rank ≤ mostRanks) × (m ≤ mostRanks) ⌝ }
+    ensures { λ _. ⌜ now (t .exit) ≡ push (now (t .entry)) d number rank m (keyNumber key) ⌝ }
 {
     if is_some(key) {
-        put_queued(t, d, c, rank, m, key);
-        put_queue_length(t, d, c, m + 1);
+        put_queued(t, d, number, rank, m, key);
+        put_queue_length(t, d, number, m + 1);
     }
 }
 
 // Keeps the entries that are written when a rank is found and m are queued, of which place y has the least: those of the first rank, of
 // that rank, and those beside which place y and place m stand. A journal of no numbers, as a whole listing has, keeps nothing.
-fn keep_written(t: &[u32], kept: &mut [u32], d: Layout, c: usize, rank: usize, m: usize, y: usize)
-    requires { ⌜ (Sized d) × (c < cellBound) × (rank ≤ mostRanks) × (m ≤ mostRanks) × (y ≤ mostRanks) ⌝ }
-    ensures { λ _. ⌜ now (kept .exit) ≡ keepWritten (now (t .entry)) (now (kept .entry)) d c rank m y ⌝ }
+fn keep_written(
+    t: &[u32],
+    kept: &mut [u32],
+    d: Layout,
+    number: usize,
+    rank: usize,
+    m: usize,
+    y: usize,
+)
+    requires { ⌜ (Sized d) × (number < cellBound) × (rank ≤ mostRanks) × (m ≤ mostRanks) × (y ≤ mostRanks) ⌝ }
+    ensures { λ _. ⌜ now (kept .exit) ≡ keepWritten (now (t .entry)) (now (kept .entry)) d number rank m y ⌝ }
 {
     if kept.len() == 0 {
         return;
     }
     let at = Places {
-        first: entry_of(d, c, 0),
-        second: entry_of(d, c, rank),
-        third: entry_of(d, c, y + 1),
-        fourth: entry_of(d, c, m + 1),
+        first: entry_of(d, number, 0),
+        second: entry_of(d, number, rank),
+        third: entry_of(d, number, y + 1),
+        fourth: entry_of(d, number, m + 1),
     };
     keep_four(t, kept, at);
 }
@@ -271,27 +279,27 @@ pub fn extract_min(
     t: &mut [u32],
     kept: &mut [u32],
     d: Layout,
-    c: usize,
+    number: usize,
     rank: usize,
     lo: Key,
     hi: Key,
 )
-    requires { ⌜ (Sized d) × (c < cellBound) × (0 < rank) × (rank ≤ mostRanks) ⌝ }
-    ensures { λ _. ⌜ now (t .exit) ≡ extractMin (now (t .entry)) d c rank (keyNumber lo) (keyNumber hi) ⌝ }
-    ensures { λ _. ⌜ now (kept .exit) ≡ keepMin (now (t .entry)) (now (kept .entry)) d c rank ⌝ }
+    requires { ⌜ (Sized d) × (number < cellBound) × (0 < rank) × (rank ≤ mostRanks) ⌝ }
+    ensures { λ _. ⌜ now (t .exit) ≡ extractMin (now (t .entry)) d number rank (keyNumber lo) (keyNumber hi) ⌝ }
+    ensures { λ _. ⌜ now (kept .exit) ≡ keepMin (now (t .entry)) (now (kept .entry)) d number rank ⌝ }
 {
-    let m = queue_length(&t[..], d, c);
-    let y = least_place(&t[..], d, c, m);
-    keep_written(&t[..], kept, d, c, rank, m, y);
-    let key = queued_key(&t[..], d, c, y);
+    let m = queue_length(&t[..], d, number);
+    let y = least_place(&t[..], d, number, m);
+    keep_written(&t[..], kept, d, number, rank, m, y);
+    let key = queued_key(&t[..], d, number, y);
     if 0 < m {
         if before(key, lo) {
-            put_key(t, d, c, rank, key);
-            replace(t, d, c, rank, m, y, lo);
-            push(t, d, c, rank, m, hi);
+            put_key(t, d, number, rank, key);
+            replace(t, d, number, rank, m, y, lo);
+            push(t, d, number, rank, m, hi);
             return;
         }
     }
-    put_key(t, d, c, rank, lo);
-    push(t, d, c, rank, m, hi);
+    put_key(t, d, number, rank, lo);
+    push(t, d, number, rank, m, hi);
 }

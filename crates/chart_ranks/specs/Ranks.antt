@@ -18,8 +18,8 @@ use Rattle.chart_ranks.specs.declared.Found.{Found}
 
 -- the key and the back pointer of a rank that is found
 unfoldable pub foundAt : List ℕ → Layout → ℕ → ℕ → Found
-foundAt t d c rank =
-    record { key = record { price = priceAt t d c rank; back = backAt t d c rank }; back = backPointer (backAt t d c rank) }
+foundAt t d number rank =
+    record { key = record { price = priceAt t d number rank; back = backAt t d number rank }; back = backPointer (backAt t d number rank) }
 
 module _ (t : List ℕ) (d : Layout) where
   -- the key of a pairing of a rule over a cell, with the split and the ranks of a back pointer

@@ -35,12 +35,12 @@ pub struct Found {
 }
 
 // A rank that is found, of a cell given by its number.
-fn found_at(t: &[u32], d: Layout, c: usize, rank: usize) -> Found
-    requires { ⌜ (Sized d) × (c < cellBound) × (rank ≤ mostRanks) ⌝ }
-    ensures { λ r. ⌜ (r ≡ foundAt (now (t .entry)) d c rank) × Digits (r .back) ⌝ }
+fn found_at(t: &[u32], d: Layout, number: usize, rank: usize) -> Found
+    requires { ⌜ (Sized d) × (number < cellBound) × (rank ≤ mostRanks) ⌝ }
+    ensures { λ r. ⌜ (r ≡ foundAt (now (t .entry)) d number rank) × Digits (r .back) ⌝ }
 {
-    let price = price_at(t, d, c, rank);
-    let back = back_at(t, d, c, rank);
+    let price = price_at(t, d, number, rank);
+    let back = back_at(t, d, number, rank);
     let pointer = back_pointer(back);
     Found {
         key: Key { price, back },

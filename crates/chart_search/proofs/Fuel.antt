@@ -11,8 +11,8 @@ use Rattle.chart_table.specs.declared.Layout.{Layout}
 use Rattle.chart_table.specs.Table.{lastPlace, cellNumber, putKey}
 use Rattle.chart_masks.specs.Masks.{Covers, NoLeaf}
 use Rattle.chart_candidates.specs.Candidates.{leaves, seeds}
-use Rattle.chart_candidates.specs.Passed.{NoSeed}
-use Rattle.chart_candidates.proofs.Passed.{no-leaves, seeds-passed}
+use Rattle.chart_candidates.specs.PassedOver.{NoSeed}
+use Rattle.chart_candidates.proofs.PassedOver.{no-leaves, seeds-passed}
 use Rattle.chart_ranks.specs.Ranks.{leastInitial, firstRank}
 use Rattle.chart_search.specs.Search.{nextOfSpan}
 

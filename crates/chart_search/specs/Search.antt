@@ -56,15 +56,15 @@ module _ (rules edges index : List ℕ) (d : Layout) where
   firstOfHeads t i k = iter (λ x a. nextOfSpan (k - i) x (cell (symbolOf a) i k) 0) t (d .symbols)
 
   unfoldable pub firstOfLength : List ℕ → ℕ → List ℕ
-  firstOfLength t len = iter (λ x i. firstOfHeads x i (i + len)) t (d .places + 1 - len)
+  firstOfLength t len = iter (λ x i. firstOfHeads x i (i + len)) t (d .last + 1 - len)
 
   unfoldable pub firstPass : List ℕ → List ℕ
-  firstPass t = iter (λ x y. firstOfLength x (y + 1)) t (d .places)
+  firstPass t = iter (λ x y. firstOfLength x (y + 1)) t (d .last)
 
   -- the further ranks of the root: each is looked for where the one before it is found
   unfoldable pub nextOfRoot : List ℕ → ℕ → List ℕ
   nextOfRoot t x =
-      pick (eqb (priceAt t d (cellNumber d (root d)) x) 0) t (extend d (nextOfSpan (d .places)) t (root d) (x + 1))
+      pick (eqb (priceAt t d (cellNumber d (root d)) x) 0) t (extend d (nextOfSpan (d .last)) t (root d) (x + 1))
 
   -- up to one that is not found: from x on, of n, and of all that are kept
   unfoldable pub furtherFrom : ℕ → List ℕ → ℕ → List ℕ
@@ -104,4 +104,4 @@ module _ (rules edges index : List ℕ) (d : Layout) where
 
   unfoldable pub keepOfRoot : (t k : List ℕ) → ℕ → List ℕ
   keepOfRoot t k x =
-      pick (eqb (priceAt t d (cellNumber d (root d)) x) 0) k (keepExtend d (keepOfSpan (d .places)) t k (root d) (x + 1))
+      pick (eqb (priceAt t d (cellNumber d (root d)) x) 0) k (keepExtend d (keepOfSpan (d .last)) t k (root d) (x + 1))

@@ -186,12 +186,12 @@ fn first_of_length(
     d: Layout,
     len: usize,
 )
-    requires { ⌜ (Sized d) × (0 < len) × (len ≤ d .places) × (Covers (now masks) (now t) d) × (Ruled (now rules) (now index) d (now masks)) ⌝ }
+    requires { ⌜ (Sized d) × (0 < len) × (len ≤ d .last) × (Covers (now masks) (now t) d) × (Ruled (now rules) (now index) d (now masks)) ⌝ }
     ensures { λ _. ⌜ now (t .exit) ≡ firstOfLength (now (rules .entry)) (now (edges .entry)) (now (index .entry)) d (now (t .entry)) len ⌝ }
     ensures { λ _. ⌜ Covers (now (masks .exit)) (now (t .exit)) d ⌝ }
     ensures { λ _. ⌜ Ruled (now (rules .entry)) (now (index .entry)) d (now (masks .exit)) ⌝ }
 {
-    let m = d.places + 1 - len;
+    let m = d.last + 1 - len;
     for i in 0..m {
         let span = Cell {
             head: Sym(0),
@@ -214,7 +214,7 @@ fn first_pass(
     requires { ⌜ (Sized d) × (Covers (now masks) (now t) d) × (Ruled (now rules) (now index) d (now masks)) ⌝ }
     ensures { λ _. ⌜ now (t .exit) ≡ firstPass (now (rules .entry)) (now (edges .entry)) (now (index .entry)) d (now (t .entry)) ⌝ }
 {
-    let n = d.places;
+    let n = d.last;
     for x in 0..n {
         first_of_length(t, masks, rules, edges, index, d, x + 1);
     }
@@ -230,7 +230,7 @@ pub fn next_of_root(
     d: Layout,
     x: usize,
 )
-    requires { ⌜ (Sized d) × (0 < d .places) × (x + 1 < d .ranks) ⌝ }
+    requires { ⌜ (Sized d) × (0 < d .last) × (x + 1 < d .ranks) ⌝ }
     ensures { λ _. ⌜ now (t .exit) ≡ nextOfRoot (now (rules .entry)) (now (edges .entry)) (now (index .entry)) d (now (t .entry)) x ⌝ }
     ensures { λ _. ⌜ now (kept .exit) ≡ keepOfRoot (now (rules .entry)) (now (edges .entry)) (now (index .entry)) d (now (t .entry)) (now (kept .entry)) x ⌝ }
 {
@@ -243,7 +243,7 @@ pub fn next_of_root(
 
 // Finds the ranks of the root, as many as are kept and up to one that is not there, in a table of zeros. Nothing is written over.
 pub fn search(t: &mut [u32], rules: &[u32], edges: &[u32], index: &[u32], d: Layout)
-    requires { ⌜ (Sized d) × (0 < d .places) × ((x : ℕ) → getD (now t) x 0 ≡ 0) ⌝ }
+    requires { ⌜ (Sized d) × (0 < d .last) × ((x : ℕ) → getD (now t) x 0 ≡ 0) ⌝ }
     ensures { λ _. ⌜ now (t .exit) ≡ search (now (rules .entry)) (now (edges .entry)) (now (index .entry)) d (now (t .entry)) ⌝ }
 {
     let mut masks = [0u32; MASKS];

@@ -44,7 +44,7 @@ ghost use Rattle.chart_keys.specs.Seeds.{Divides};
 ghost use Rattle.chart_table.specs.Table.{InTable, leftPart, rightPart, cellNumber, entryOf};
 ghost use Rattle.chart_masks.specs.Masks.{Covered};
 ghost use Rattle.chart_candidates.specs.Candidates.{Small, splitSeeds, ruleSeeds, seeds};
-ghost use Rattle.chart_candidates.specs.Passed.{RuleApart, NoSeed};
+ghost use Rattle.chart_candidates.specs.PassedOver.{RuleApart, NoSeed};
 
 // The back pointer of the first of the left part with the first of the right.
 fn seed(r: usize, split: usize) -> BackPointer

@@ -130,10 +130,10 @@ module _ (n : ℕ) where
         rw (ne-eqb rank 0 (λ e. omega arith)) (omega (arith, parts, rank-adds u c rank))
 
     -- over all places, of the first n entries
-    pub search-adds : (t : List ℕ) (x : ℕ) → 0 < d .places → Adds (2 * d .places - 1) t (nextOfRoot rules edges index d t x)
+    pub search-adds : (t : List ℕ) (x : ℕ) → 0 < d .last → Adds (2 * d .last - 1) t (nextOfRoot rules edges index d t x)
     unfolding nextOfRoot
     search-adds t x some = go (eqb (priceAt t d (cellNumber d (root d)) x) 0)
       where
-        go : (b : Bool) → Adds (2 * d .places - 1) t (pick b t (extend d (nextOfSpan rules edges index d (d .places)) t (root d) (x + 1)))
+        go : (b : Bool) → Adds (2 * d .last - 1) t (pick b t (extend d (nextOfSpan rules edges index d (d .last)) t (root d) (x + 1)))
         go true = omega arith
-        go false = omega (arith, extend-adds rules d _ (span-adds (d .places)) t (root d) (x + 1) some (omega arith))
+        go false = omega (arith, extend-adds rules d _ (span-adds (d .last)) t (root d) (x + 1) some (omega arith))

@@ -96,9 +96,9 @@ module _ (rules edges index : List ℕ) (d : Layout) where
   unfolding nextOfRoot
   root-keeps t x = go (eqb (priceAt t d (cellNumber d (root d)) x) 0)
     where
-      go : (b : Bool) → Keeps t (pick b t (extend d (nextOfSpan rules edges index d (d .places)) t (root d) (x + 1)))
+      go : (b : Bool) → Keeps t (pick b t (extend d (nextOfSpan rules edges index d (d .last)) t (root d) (x + 1)))
       go true = keeps-refl t
-      go false = extend-keeps d rules _ (span-keeps (d .places)) t (root d) (x + 1) (omega arith)
+      go false = extend-keeps d rules _ (span-keeps (d .last)) t (root d) (x + 1) (omega arith)
 
   -- the tree of a rank of a cell that is found
   pub search-keeps : (t : List ℕ) (x c rank : ℕ) → 0 < priceAt t d c rank

@@ -156,19 +156,19 @@ module _ (rules edges index : List ℕ) (d : Layout) where
       rw (ne-eqb rank 0 (λ e. omega arith)) (undoes-more (4 * mostOfParts c + 4) (4 * most c) t k _ _ (omega arith)
       (undoes-trans (4 * mostOfParts c) 4 t k _ _ _ _ parts (rank-undone rules edges index d c rank _ _)))
 
-  root-undone : (t k : List ℕ) (x : ℕ) → 0 < d .places
+  root-undone : (t k : List ℕ) (x : ℕ) → 0 < d .last
       → Undoes (4 * most (root d)) t k (nextOfRoot rules edges index d t x) (keepOfRoot rules edges index d t k x)
   unfolding nextOfRoot keepOfRoot
   root-undone t k x some = go (eqb (priceAt t d (cellNumber d (root d)) x) 0)
     where
-      go : (b : Bool) → Undoes (4 * most (root d)) t k (pick b t (extend d (nextOfSpan rules edges index d (d .places)) t (root d) (x + 1)))
-          (pick b k (keepExtend d (keepOfSpan rules edges index d (d .places)) t k (root d) (x + 1)))
+      go : (b : Bool) → Undoes (4 * most (root d)) t k (pick b t (extend d (nextOfSpan rules edges index d (d .last)) t (root d) (x + 1)))
+          (pick b k (keepExtend d (keepOfSpan rules edges index d (d .last)) t k (root d) (x + 1)))
       go true = undoes-refl (4 * most (root d)) t k
-      go false = extend-undone rules d _ _ (span-undone (d .places)) t k (root d) (x + 1) some (omega arith)
+      go false = extend-undone rules d _ _ (span-undone (d .last)) t k (root d) (x + 1) some (omega arith)
 
   -- what was written over in the search for a further rank of the root, put back from a journal that was empty and has room for what is kept
   -- of a path over all places
-  pub search-undone : (t : List ℕ) (x room : ℕ) → 0 < d .places → 4 * most (root d) ≤ mostKept → keptAt mostKept ≤ room
+  pub search-undone : (t : List ℕ) (x room : ℕ) → 0 < d .last → 4 * most (root d) ≤ mostKept → keptAt mostKept ≤ room
       → putBack (keepOfRoot rules edges index d t (replicate room 0) x) (nextOfRoot rules edges index d t x) ≡ t
   search-undone t x room some few enough =
       let undone = root-undone t (replicate room 0) x some [] (kept-none enough) (omega arith) in

@@ -35,7 +35,7 @@ abbrev pub rightPart : Cell → Sym → ℕ → Cell
 rightPart c b j = cell b j (c .to)
 
 abbrev pub root : Layout → Cell
-root d = cell (symbolOf 0) 0 (d .places)
+root d = cell (symbolOf 0) 0 (d .last)
 
 -- the number of a cell, and the entry of a rank of it: rank 0 of all cells stands first, cell by cell, then for each cell its
 -- further ranks. An entry is four numbers: the tree's price plus 1 (0: not found), its back pointer as the third, and beside them
@@ -44,7 +44,7 @@ unfoldable pub cellNumber : Layout → Cell → ℕ
 cellNumber d c = (c .to * (c .to - 1) / 2 + c .from) * d .symbols + c .head .0
 
 unfoldable pub entryOf : Layout → ℕ → ℕ → ℕ
-entryOf d c rank = pick (eqb rank 0) (c * 4) ((d .cells + c * (d .ranks - 1) + (rank - 1)) * 4)
+entryOf d number rank = pick (eqb rank 0) (number * 4) ((d .cells + number * (d .ranks - 1) + (rank - 1)) * 4)
 
 -- the price plus 1 is the first number and the lower 11 bits of the second
 abbrev pub priceOf : ℕ → ℕ → ℕ
@@ -54,30 +54,30 @@ abbrev pub priceIn : List ℕ → ℕ → ℕ
 priceIn t at = priceOf (getD t at 0) (getD t (at + 1) 0)
 
 unfoldable pub priceAt : List ℕ → Layout → ℕ → ℕ → ℕ
-priceAt t d c rank = pick (ltb rank (d .ranks)) (priceIn t (entryOf d c rank)) 0
+priceAt t d number rank = pick (ltb rank (d .ranks)) (priceIn t (entryOf d number rank)) 0
 
 unfoldable pub backAt : List ℕ → Layout → ℕ → ℕ → ℕ
-backAt t d c rank = getD t (entryOf d c rank + 2) 0
+backAt t d number rank = getD t (entryOf d number rank + 2) 0
 
 -- what stands beside the tree is the fourth number, and the upper 21 bits of the second: a number below `besides`, 2 ^ 53
 abbrev pub besides : ℕ
 besides = 9007199254740992
 
 unfoldable pub besideAt : List ℕ → Layout → ℕ → ℕ → ℕ
-besideAt t d c rank = getD t (entryOf d c rank + 1) 0 / 2048 * 4294967296 + getD t (entryOf d c rank + 3) 0
+besideAt t d number rank = getD t (entryOf d number rank + 1) 0 / 2048 * 4294967296 + getD t (entryOf d number rank + 3) 0
 
 -- each is written without the other
 unfoldable pub putBeside : List ℕ → Layout → ℕ → ℕ → ℕ → List ℕ
-putBeside t d c rank n =
-    set (set t (entryOf d c rank + 1) (n / 4294967296 * 2048 + getD t (entryOf d c rank + 1) 0 % 2048)) (entryOf d c rank + 3)
+putBeside t d number rank n =
+    set (set t (entryOf d number rank + 1) (n / 4294967296 * 2048 + getD t (entryOf d number rank + 1) 0 % 2048)) (entryOf d number rank + 3)
     (n % 4294967296)
 
 unfoldable pub putFound : List ℕ → Layout → ℕ → ℕ → ℕ → ℕ → List ℕ
-putFound t d c rank price back =
+putFound t d number rank price back =
     set
-    (set (set t (entryOf d c rank) (price % 4294967296)) (entryOf d c rank + 1)
-    (getD t (entryOf d c rank + 1) 0 / 2048 * 2048 + price / 4294967296))
-    (entryOf d c rank + 2) (back % 4294967296)
+    (set (set t (entryOf d number rank) (price % 4294967296)) (entryOf d number rank + 1)
+    (getD t (entryOf d number rank + 1) 0 / 2048 * 2048 + price / 4294967296))
+    (entryOf d number rank + 2) (back % 4294967296)
 
 -- beside the first rank stand the queue's length (chart_queue), the last rank found, each below `counts`, and above them a back
 -- pointer of the queue
@@ -85,44 +85,44 @@ abbrev pub counts : ℕ
 counts = 512
 
 unfoldable pub lastRank : List ℕ → Layout → ℕ → ℕ
-lastRank t d c = besideAt t d c 0 / 512 % 512
+lastRank t d number = besideAt t d number 0 / 512 % 512
 
 unfoldable pub putLastRank : List ℕ → Layout → ℕ → ℕ → List ℕ
-putLastRank t d c rank =
-    let n = besideAt t d c 0 in
-    pick (ltb (lastRank t d c) rank) (putBeside t d c 0 ((n / 262144 * 512 + rank) * 512 + n % 512)) t
+putLastRank t d number rank =
+    let n = besideAt t d number 0 in
+    pick (ltb (lastRank t d number) rank) (putBeside t d number 0 ((n / 262144 * 512 + rank) * 512 + n % 512)) t
 
 unfoldable pub putKey : List ℕ → Layout → ℕ → ℕ → ℕ → List ℕ
-putKey t d c rank key =
-    pick (ltb key noKey) (putLastRank (putFound t d c rank (key / keyUnit) (key % keyUnit)) d c rank) t
+putKey t d number rank key =
+    pick (ltb key noKey) (putLastRank (putFound t d number rank (key / keyUnit) (key % keyUnit)) d number rank) t
 
 -- how many ranks of a cell are found
 unfoldable pub countFound : List ℕ → Layout → ℕ → ℕ
-countFound t d c = iter (λ m x. pick (eqb (priceAt t d c x) 0) m (m + 1)) 0 (d .ranks)
+countFound t d number = iter (λ m x. pick (eqb (priceAt t d number x) 0) m (m + 1)) 0 (d .ranks)
 
 -- the first rank of a cell that is not found: from x on, of n, and of all that are kept
 unfoldable pub missingFrom : List ℕ → Layout → ℕ → ℕ → ℕ → ℕ
-missingFrom t d c zero x = x
-missingFrom t d c (suc n) x = pick (eqb (priceAt t d c x) 0) x (missingFrom t d c n (x + 1))
+missingFrom t d number zero x = x
+missingFrom t d number (suc n) x = pick (eqb (priceAt t d number x) 0) x (missingFrom t d number n (x + 1))
 
 unfoldable pub firstMissing : List ℕ → Layout → ℕ → ℕ
-firstMissing t d c = missingFrom t d c (d .ranks) 0
+firstMissing t d number = missingFrom t d number (d .ranks) 0
 
 -- how many ranks of a cell there are up to the last found, of those that are kept, and one where none is found
 unfoldable pub ranksToClear : List ℕ → Layout → ℕ → ℕ
-ranksToClear t d c = pick (ltb (lastRank t d c) (d .ranks)) (lastRank t d c + 1) (d .ranks)
+ranksToClear t d number = pick (ltb (lastRank t d number) (d .ranks)) (lastRank t d number + 1) (d .ranks)
 
 -- the four numbers of an entry made 0, those of a cell's ranks up to the last found, and of every cell
 unfoldable pub clearEntry : List ℕ → Layout → ℕ → ℕ → List ℕ
-clearEntry t d c x =
-    let at = entryOf d c x in
+clearEntry t d number x =
+    let at = entryOf d number x in
     set (set (set (set t at 0) (at + 1) 0) (at + 2) 0) (at + 3) 0
 
 unfoldable pub clearCell : List ℕ → Layout → ℕ → List ℕ
-clearCell t d c = iter (λ u x. clearEntry u d c x) t (ranksToClear t d c)
+clearCell t d number = iter (λ u x. clearEntry u d number x) t (ranksToClear t d number)
 
 unfoldable pub clear : List ℕ → Layout → List ℕ
-clear t d = iter (λ u c. clearCell u d c) t (d .cells)
+clear t d = iter (λ u number. clearCell u d number) t (d .cells)
 
 -- an entry of which nothing is left to clear
 pub record Clear (t : List ℕ) (at : ℕ) : Type 0 where
@@ -134,7 +134,7 @@ pub record Clear (t : List ℕ) (at : ℕ) : Type 0 where
 -- what the layout's numbers are bounded by
 pub record Sized (d : Layout) : Type 0 where
   pub symbols : d .symbols ≤ 32
-  pub places : d .places ≤ lastPlace
+  pub places : d .last ≤ lastPlace
   pub ranks : d .ranks ≤ mostRanks
   pub kept : 0 < d .ranks
   pub cells : d .cells ≤ 16384

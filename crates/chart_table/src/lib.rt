@@ -65,7 +65,7 @@ pub struct Part {
 // The work table's layout: the number of symbols, the last place, the ranks kept of each cell, and the number of cells.
 pub struct Layout {
     pub symbols: usize,
-    pub places: usize,
+    pub last: usize,
     pub ranks: usize,
     pub cells: usize,
 }
@@ -109,7 +109,7 @@ pub fn root(d: Layout) -> Cell
     Cell {
         head: Sym(0),
         from: 0,
-        to: d.places,
+        to: d.last,
     }
 }
 
@@ -122,14 +122,14 @@ pub fn cell_number(d: Layout, c: Cell) -> usize
 }
 
 // Where the entry of a rank of a cell starts. From here on a cell is given by its number.
-pub fn entry_of(d: Layout, c: usize, rank: usize) -> usize
-    requires { ⌜ (Sized d) × (c < cellBound) × (rank ≤ 512) ⌝ }
-    ensures { λ r. ⌜ (r ≡ entryOf d c rank) × (r < 17592186044416) ⌝ }
+pub fn entry_of(d: Layout, number: usize, rank: usize) -> usize
+    requires { ⌜ (Sized d) × (number < cellBound) × (rank ≤ 512) ⌝ }
+    ensures { λ r. ⌜ (r ≡ entryOf d number rank) × (r < 17592186044416) ⌝ }
 {
     if rank == 0 {
-        c * ENTRY_NUMBERS
+        number * ENTRY_NUMBERS
     } else {
-        (d.cells + c * (d.ranks - 1) + (rank - 1)) * ENTRY_NUMBERS
+        (d.cells + number * (d.ranks - 1) + (rank - 1)) * ENTRY_NUMBERS
     }
 }
 
@@ -149,12 +149,12 @@ pub fn price_within(t: &[u32], at: usize) -> usize
 }
 
 // The price plus 1 of a rank of a cell, or 0 where it is not found or not kept.
-pub fn price_at(t: &[u32], d: Layout, c: usize, rank: usize) -> usize
-    requires { ⌜ (Sized d) × (c < cellBound) ⌝ }
-    ensures { λ r. ⌜ (r ≡ priceAt (now (t .entry)) d c rank) × (r < prices) ⌝ }
+pub fn price_at(t: &[u32], d: Layout, number: usize, rank: usize) -> usize
+    requires { ⌜ (Sized d) × (number < cellBound) ⌝ }
+    ensures { λ r. ⌜ (r ≡ priceAt (now (t .entry)) d number rank) × (r < prices) ⌝ }
 {
     if rank < d.ranks {
-        let at = entry_of(d, c, rank);
+        let at = entry_of(d, number, rank);
         price_of(narrow_at(t, at), narrow_at(t, at + 1))
     } else {
         0
@@ -162,39 +162,39 @@ pub fn price_at(t: &[u32], d: Layout, c: usize, rank: usize) -> usize
 }
 
 // The back pointer of a rank of a cell, as a number.
-pub fn back_at(t: &[u32], d: Layout, c: usize, rank: usize) -> usize
-    requires { ⌜ (Sized d) × (c < cellBound) × (rank ≤ 512) ⌝ }
-    ensures { λ r. ⌜ (r ≡ backAt (now (t .entry)) d c rank) × (r < 4294967296) ⌝ }
+pub fn back_at(t: &[u32], d: Layout, number: usize, rank: usize) -> usize
+    requires { ⌜ (Sized d) × (number < cellBound) × (rank ≤ 512) ⌝ }
+    ensures { λ r. ⌜ (r ≡ backAt (now (t .entry)) d number rank) × (r < 4294967296) ⌝ }
 {
-    number_at(t, entry_of(d, c, rank) + 2)
+    number_at(t, entry_of(d, number, rank) + 2)
 }
 
 // What stands beside the tree of an entry, a number of 53 bits: the fourth number, and above it 21 bits of the second.
-pub fn beside_at(t: &[u32], d: Layout, c: usize, rank: usize) -> usize
-    requires { ⌜ (Sized d) × (c < cellBound) × (rank ≤ 512) ⌝ }
-    ensures { λ r. ⌜ (r ≡ besideAt (now (t .entry)) d c rank) × (r < besides) ⌝ }
+pub fn beside_at(t: &[u32], d: Layout, number: usize, rank: usize) -> usize
+    requires { ⌜ (Sized d) × (number < cellBound) × (rank ≤ 512) ⌝ }
+    ensures { λ r. ⌜ (r ≡ besideAt (now (t .entry)) d number rank) × (r < besides) ⌝ }
 {
-    let at = entry_of(d, c, rank);
+    let at = entry_of(d, number, rank);
     number_at(t, at + 1) / PRICE_HIGH * NUMBERS + number_at(t, at + 3)
 }
 
 // Writes what stands beside the tree of an entry; the tree stays.
-pub fn put_beside(t: &mut [u32], d: Layout, c: usize, rank: usize, n: usize)
-    requires { ⌜ (Sized d) × (c < cellBound) × (rank ≤ 512) × (n < besides) ⌝ }
-    ensures { λ _. ⌜ now (t .exit) ≡ putBeside (now (t .entry)) d c rank n ⌝ }
+pub fn put_beside(t: &mut [u32], d: Layout, number: usize, rank: usize, n: usize)
+    requires { ⌜ (Sized d) × (number < cellBound) × (rank ≤ 512) × (n < besides) ⌝ }
+    ensures { λ _. ⌜ now (t .exit) ≡ putBeside (now (t .entry)) d number rank n ⌝ }
 {
-    let at = entry_of(d, c, rank);
+    let at = entry_of(d, number, rank);
     let high = number_at(&t[..], at + 1) % PRICE_HIGH;
     store(t, at + 1, (n / NUMBERS * PRICE_HIGH + high) as u32);
     store(t, at + 3, (n % NUMBERS) as u32);
 }
 
 // Writes the tree of an entry; what stands beside it stays.
-fn put_found(t: &mut [u32], d: Layout, c: usize, rank: usize, key: Key)
-    requires { ⌜ (Sized d) × (c < cellBound) × (rank ≤ 512) × (key .price < prices) ⌝ }
-    ensures { λ _. ⌜ now (t .exit) ≡ putFound (now (t .entry)) d c rank (key .price) (key .back) ⌝ }
+fn put_found(t: &mut [u32], d: Layout, number: usize, rank: usize, key: Key)
+    requires { ⌜ (Sized d) × (number < cellBound) × (rank ≤ 512) × (key .price < prices) ⌝ }
+    ensures { λ _. ⌜ now (t .exit) ≡ putFound (now (t .entry)) d number rank (key .price) (key .back) ⌝ }
 {
-    let at = entry_of(d, c, rank);
+    let at = entry_of(d, number, rank);
     let beside = number_at(&t[..], at + 1) / PRICE_HIGH;
     store(t, at, (key.price % NUMBERS) as u32);
     store(
@@ -206,16 +206,16 @@ fn put_found(t: &mut [u32], d: Layout, c: usize, rank: usize, key: Key)
 }
 
 // A rank is found, and is the last one unless one behind it was.
-fn put_last_rank(t: &mut [u32], d: Layout, c: usize, rank: usize)
-    requires { ⌜ (Sized d) × (c < cellBound) × (rank ≤ mostRanks) ⌝ }
-    ensures { λ _. ⌜ now (t .exit) ≡ putLastRank (now (t .entry)) d c rank ⌝ }
+fn put_last_rank(t: &mut [u32], d: Layout, number: usize, rank: usize)
+    requires { ⌜ (Sized d) × (number < cellBound) × (rank ≤ mostRanks) ⌝ }
+    ensures { λ _. ⌜ now (t .exit) ≡ putLastRank (now (t .entry)) d number rank ⌝ }
 {
-    let tally = beside_at(&t[..], d, c, 0);
+    let tally = beside_at(&t[..], d, number, 0);
     if tally / COUNTS % COUNTS < rank {
         put_beside(
             t,
             d,
-            c,
+            number,
             0,
             (tally / (COUNTS * COUNTS) * COUNTS + rank) * COUNTS + tally % COUNTS,
         );
@@ -223,13 +223,13 @@ fn put_last_rank(t: &mut [u32], d: Layout, c: usize, rank: usize)
 }
 
 // Writes a key at a rank of a cell; the key of no tree and what is above it change nothing.
-pub fn put_key(t: &mut [u32], d: Layout, c: usize, rank: usize, key: Key)
-    requires { ⌜ (Sized d) × (c < cellBound) × (rank ≤ mostRanks) ⌝ }
-    ensures { λ _. ⌜ now (t .exit) ≡ putKey (now (t .entry)) d c rank (keyNumber key) ⌝ }
+pub fn put_key(t: &mut [u32], d: Layout, number: usize, rank: usize, key: Key)
+    requires { ⌜ (Sized d) × (number < cellBound) × (rank ≤ mostRanks) ⌝ }
+    ensures { λ _. ⌜ now (t .exit) ≡ putKey (now (t .entry)) d number rank (keyNumber key) ⌝ }
 {
     if key.price < PRICES {
-        put_found(t, d, c, rank, key);
-        put_last_rank(t, d, c, rank);
+        put_found(t, d, number, rank, key);
+        put_last_rank(t, d, number, rank);
     }
 }
 
@@ -244,13 +244,13 @@ pub fn zero(t: &mut [u32])
 }
 
 // The first rank of a cell that is not found, or how many are kept where all are: as many are found as are looked at before it.
-pub fn first_missing(t: &[u32], d: Layout, c: usize) -> usize
-    requires { ⌜ (Sized d) × (c < cellBound) ⌝ }
-    ensures { λ m. ⌜ (m ≡ firstMissing (now (t .entry)) d c) × (m ≤ d .ranks) ⌝ }
+pub fn first_missing(t: &[u32], d: Layout, number: usize) -> usize
+    requires { ⌜ (Sized d) × (number < cellBound) ⌝ }
+    ensures { λ m. ⌜ (m ≡ firstMissing (now (t .entry)) d number) × (m ≤ d .ranks) ⌝ }
 {
     let ranks = d.ranks;
     for x in 0..ranks {
-        if price_at(t, d, c, x) == 0 {
+        if price_at(t, d, number, x) == 0 {
             return x;
         }
     }

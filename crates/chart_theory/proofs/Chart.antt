@@ -89,7 +89,7 @@ module _ {g : Grammar} {es : List Edge} {rules edges index : List ℕ} {d : Layo
         in-entry,
       ))
 
-  first-is : {t : List ℕ} → Invariant g es d (suc (d .places)) t → (c : Cell) → InChart d c → FirstIs g es d t c
+  first-is : {t : List ℕ} → Invariant g es d (suc (d .last)) t → (c : Cell) → InChart d c → FirstIs g es d t c
   first-is {t} invariant c in-chart = record {
     some = λ z e.
         let found = invariant .first-known in-chart (omega (arith, in-chart .within)) (s .kept) (at-length (rankedIn g es c) 0 e) in
@@ -116,13 +116,13 @@ module _ {g : Grammar} {es : List Edge} {rules edges index : List ℕ} {d : Layo
         let (z, place, o) = held .place in
         let derives = row-derives g es o in
         let spelled : (named : Bool) → Spelled g named d t z (root d) x =
-        λ named. found-spelled s t (listed .invariant) named (d .places) (root d) x z in-root (omega arith) found place in (
+        λ named. found-spelled s t (listed .invariant) named (d .last) (root d) x z in-root (omega arith) found place in (
           z,
           record {
             place = place;
             has = record {
               weighs = weight-of (rowPrice v) (held .priced) (held .fits .cheap) ∙ ap weightIn (row-price g es o);
-              nodes = traced s t true (d .places) (root d) x z (spelled true) derives (in-root .order) (omega arith);
+              nodes = traced s t true (d .last) (root d) x z (spelled true) derives (in-root .order) (omega arith);
             };
           },
           derives,
@@ -133,20 +133,20 @@ module _ {g : Grammar} {es : List Edge} {rules edges index : List ℕ} {d : Layo
     pub root-sound : (named : Bool) (t : List ℕ) (x : ℕ) → rootSpelled t rules edges (scope s named) d x ≡ true
         → (z : Tree) × DerivesIn g es (root d) z × RootSpells named g es rules d t x z × Spelled g named d t z (root d) x
     unfolding rootSpelled rootTrace
-    root-sound named t x e = go (spelledWeight t rules edges (scope s named) d (d .places) (root d) x) refl e
+    root-sound named t x e = go (spelledWeight t rules edges (scope s named) d (d .last) (root d) x) refl e
       where
-        go : (o : Option ℕ) → spelledWeight t rules edges (scope s named) d (d .places) (root d) x ≡ o → weighs o (rootWeight t d x) ≡ true
+        go : (o : Option ℕ) → spelledWeight t rules edges (scope s named) d (d .last) (root d) x ≡ o → weighs o (rootWeight t d x) ≡ true
             → (z : Tree) × DerivesIn g es (root d) z × RootSpells named g es rules d t x z × Spelled g named d t z (root d) x
         go none h e = absurd (false≢true e)
         go (some w) h e =
-            let (z, derives, spelled) = spelled-sound s named t (d .places) (root d) x w h in
-            let sum = weighed s named t (d .places) (root d) x spelled derives (in-root .order) (omega arith) in
+            let (z, derives, spelled) = spelled-sound s named t (d .last) (root d) x w h in
+            let sum = weighed s named t (d .last) (root d) x spelled derives (in-root .order) (omega arith) in
             let same : w ≡ weight g es z = cc in (
               z,
               derives,
               record {
                 weighs = sym (eqb-true _ _ e) ∙ same;
-                nodes = traced s t named (d .places) (root d) x z spelled derives (in-root .order) (omega arith);
+                nodes = traced s t named (d .last) (root d) x z spelled derives (in-root .order) (omega arith);
               },
               spelled,
             )
@@ -156,7 +156,7 @@ module _ {g : Grammar} {es : List Edge} {rules edges index : List ℕ} {d : Layo
         → rootWeight t d x ≡ weight g es z → rootSpelled t rules edges (scope s named) d x ≡ true
     unfolding rootSpelled
     root-complete named t x derives spelled weighs =
-        rw (weighed s named t (d .places) (root d) x spelled derives (in-root .order) (omega arith)) (eq-eqb _ _ (sym weighs))
+        rw (weighed s named t (d .last) (root d) x spelled derives (in-root .order) (omega arith)) (eq-eqb _ _ (sym weighs))
 
     module _ (t : List ℕ) (listed : Listed g es d (d .ranks - 1) t) where
       number : rootsFound t d ≡ min (d .ranks) (length (rankedIn g es (root d)))

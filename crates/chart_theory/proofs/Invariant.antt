@@ -31,16 +31,16 @@ pub record Setting (g : Grammar) (es : List Edge) (rules edges index : List ℕ)
   pub kept : 0 < d .ranks
   pub few-ranks : d .ranks ≤ 256
   pub planned : Planned d
-  pub few-places : d .places ≤ 31
+  pub few-places : d .last ≤ 31
   pub few-rules : length (g .rules) ≤ 256
   pub few-edges : length es ≤ 256
   pub rule-at : (r : ℕ) → r < length (g .rules) → At (g .rules) r (ruleAt rules r)
   pub edge-at : (e : ℕ) → e < length es
       → At es e
       (edge (getD edges (4 * e) 0) (getD edges (4 * e + 1) 0) (word (getD edges (4 * e + 2) 0)) (getD edges (4 * e + 3) 0))
-  pub indexed : Indexed rules edges index (d .symbols) (length (g .rules)) (length es) (d .places)
+  pub indexed : Indexed rules edges index (d .symbols) (length (g .rules)) (length es) (d .last)
   pub parts : (A B C : Sym) (r w : ℕ) → At (g .rules) r (Pair A B C w) → (B .0 < d .symbols) × (C .0 < d .symbols)
-  pub price-bound : (c : Cell) (z : Tree) → c .to ≤ d .places → DerivesIn g es c z
+  pub price-bound : (c : Cell) (z : Tree) → c .to ≤ d .last → DerivesIn g es c z
       → (weight g es z < 5592405) × (costSum es z < weightUnit)
   pub one-edge : (c : Cell) (r e f : ℕ) → DerivesIn g es c (leaf r e) → DerivesIn g es c (leaf r f) → e ≡ f
 

@@ -30,7 +30,7 @@ use Rattle.chart_theory.proofs.Invariant.{Setting}
 
 -- the same cells, with one rank kept of each
 abbrev pub single : Layout → Layout
-single d = record { symbols = d .symbols; places = d .places; ranks = 1; cells = d .cells }
+single d = record { symbols = d .symbols; last = d .last; ranks = 1; cells = d .cells }
 
 -- loops that do the same in each turn, and two loops that keep step
 iter-same : {A : Type 0} (f g : A → ℕ → A) (b : A) (n : ℕ) → ((x : A) (y : ℕ) → y < n → f x y ≡ g x y) → iter f b n ≡ iter g b n
@@ -134,24 +134,24 @@ module _ {g : Grammar} {es : List Edge} {rules edges index : List ℕ} {d : Layo
       size = key-size d u r size (s .kept) (cellNumber d c) _ ∙ size;
     }
 
-  heads-plane : (t u : List ℕ) (i k : ℕ) → i < k → k ≤ d .places → Fronted t u
+  heads-plane : (t u : List ℕ) (i k : ℕ) → i < k → k ≤ d .last → Fronted t u
       → Fronted (firstOfHeads rules edges index d t i k) (firstOfHeads rules edges index (single d) u i k)
   unfolding firstOfHeads
   heads-plane t u i k order within front = iter-both Fronted _ _ t u (d .symbols) front (λ x y a l before.
       rw (before .is) (first-plane y (before .size) (k - i) (cell (symbolOf a) i k) (record { symbol = l; order = order; within = within }) (omega arith)))
 
-  length-plane : (t u : List ℕ) (len : ℕ) → 0 < len → len ≤ d .places → Fronted t u
+  length-plane : (t u : List ℕ) (len : ℕ) → 0 < len → len ≤ d .last → Fronted t u
       → Fronted (firstOfLength rules edges index d t len) (firstOfLength rules edges index (single d) u len)
   unfolding firstOfLength
   length-plane t u len positive within front =
-      iter-both Fronted _ _ t u (d .places + 1 - len) front (λ x y i l before. heads-plane x y i (i + len) (omega arith) (omega arith) before)
+      iter-both Fronted _ _ t u (d .last + 1 - len) front (λ x y i l before. heads-plane x y i (i + len) (omega arith) (omega arith) before)
 
   -- the first pass over a table and over its front
   module _ (u : List ℕ) (size : length u ≡ 4 * d .cells) where
     pass-fronted : Fronted (firstPass rules edges index d (u ++ r)) (firstPass rules edges index (single d) u)
     unfolding firstPass
     pass-fronted =
-        iter-both Fronted _ _ (u ++ r) u (d .places) (record { is = refl; size = size })
+        iter-both Fronted _ _ (u ++ r) u (d .last) (record { is = refl; size = size })
         (λ x y n l before. length-plane x y (n + 1) (omega arith) (omega arith) before)
 
     pub pass-plane : firstPass rules edges index d (u ++ r) ≡ firstPass rules edges index (single d) u ++ r

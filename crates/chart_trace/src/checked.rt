@@ -1,6 +1,6 @@
 // The back trace of a tree in a table that may hold anything: each node is checked as it is traced.
+use crate::numbered_part;
 use crate::part_number;
-use crate::part_of;
 use arrays::narrow_at;
 use arrays::number_at;
 use arrays::rule_at;
@@ -301,6 +301,6 @@ pub fn trace_checked(
             return Traced::Tree(next, weight);
         }
         n = n - 1;
-        here = part_of(cell.to, stack[n]);
+        here = numbered_part(cell.to, stack[n]);
     }
 }

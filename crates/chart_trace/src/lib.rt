@@ -68,7 +68,7 @@ fn part_number(head: Sym, to: usize, rank: usize) -> usize
     (wide(head.0) * SPLITS + to) * DIGITS + rank
 }
 
-fn part_of(from: usize, x: usize) -> Part
+fn numbered_part(from: usize, x: usize) -> Part
     requires { ⌜ x < 35184372088832 ⌝ }
     ensures { λ r. ⌜ r ≡ record { cell = cell (symbolOf (x / 8192)) from (x / 256 % 32); rank = x % 256 } ⌝ }
 {
@@ -124,6 +124,6 @@ pub fn trace_back(
             return next;
         }
         n = n - 1;
-        part = part_of(cell.to, stack[n]);
+        part = numbered_part(cell.to, stack[n]);
     }
 }

@@ -29,11 +29,11 @@ use Rattle.graph_reading_reader.specs.declared.HeadRead.{HeadRead}
 use Rattle.graph_reading_reader.specs.declared.HeadRead.the-variants.{Head, Refused}
 use Rattle.derivation.specs.Walk.{walkWeight}
 use Rattle.derivation.specs.Path.{pathWeight}
-use Rattle.parts_stack.specs.Stack.{numberOf}
-use Rattle.parts_stack.specs.declared.Found.{Found}
-use Rattle.parts_stack.specs.declared.Found.the-variants.{Number, Nothing}
-use Rattle.graph_run.specs.Edges.{edgesOf, Kept}
-use Rattle.graph_run.proofs.Edges.{edges-of}
+use Rattle.parse_stack.specs.Stack.{numberOf}
+use Rattle.parse_stack.specs.declared.Found.{Found}
+use Rattle.parse_stack.specs.declared.Found.the-variants.{Number, Nothing}
+use Rattle.graph_check.specs.Edges.{edgesOf, Kept}
+use Rattle.graph_check.proofs.Edges.{edges-of}
 use Rattle.checker.specs.declared.Walked.{Walked}
 use Rattle.checker.specs.declared.Walked.the-variants as W
 use Rattle.checker.specs.Run.{weighed, byWalk, pathWalk, byPath, underSlots, underGraph, WalkIn, Answered, Judges}

@@ -16,11 +16,11 @@ use Rattle.packing.specs.Reading.{readingFrom}
 use Rattle.packing.specs.GraphReading.{GraphHead, graphHeadFrom, graphReadingBits}
 use Rattle.packing.specs.Flat.{Begins, candidatesOf, slotsOf}
 use Rattle.packing.specs.declared.Rule as R
-use Rattle.derivation.specs.Walk.{State, onward, astray, walkWeight}
+use Rattle.derivation.specs.Walk.{State, onward, stuck, walkWeight}
 use Rattle.derivation.specs.Path.{rulesRead, pathWeight}
-use Rattle.parts_stack.specs.Stack.{headsOf}
-use Rattle.parts_stack.specs.declared.Step.{Step}
-use Rattle.parts_stack.specs.declared.Step.the-variants.{Onward, Astray}
+use Rattle.parse_stack.specs.Stack.{headsOf}
+use Rattle.parse_stack.specs.declared.Step.{Step}
+use Rattle.parse_stack.specs.declared.Step.the-variants.{Onward, Stuck}
 use Rattle.checker.specs.declared.Checked.{Checked}
 use Rattle.checker.specs.declared.Checked.the-variants.{Passes, Refused}
 use Rattle.checker.specs.declared.Walked as W
@@ -92,4 +92,4 @@ behind l p = p + 1 + 2 * getD l p 0
 -- what the code's answers say
 abbrev pub stateOf : List ℕ → List ℕ → Step → State
 stateOf slots stack (Onward p) = onward (slotsOf slots (p .left) (p .place)) (headsOf stack (p .height)) (p .weight)
-stateOf slots stack Astray = astray
+stateOf slots stack Stuck = stuck

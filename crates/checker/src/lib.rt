@@ -2,9 +2,9 @@
 mod walk; // walk.rt: the weight of the derivation that has a walk
 
 use grammar_reader::GrammarRead;
+use graph_check::Graph;
 use graph_reader::GraphRead;
 use graph_reading_reader::HeadRead;
-use graph_run::Graph;
 use packing::format::GRAPH_EDGES_LENGTH;
 use packing::format::MAX_PATH_EDGES;
 use packing::format::MAX_RULES;
@@ -14,7 +14,7 @@ use packing::format::RULES_LENGTH;
 use packing::format::SLOTS_LENGTH;
 use packing::format::WALK_LENGTH;
 use packing::refused;
-use parts_stack::Found;
+use parse_stack::Found;
 use reading_reader::ReadingRead;
 use utterance_reader::UtteranceRead;
 ghost use mathlib.Core.Path.{_≡_};
@@ -24,8 +24,8 @@ ghost use lib.ListN.{length};
 ghost use Rattle.packing.specs.Reading.{readingFrom};
 ghost use Rattle.packing.specs.GraphReading.{graphHeadFrom};
 ghost use Rattle.packing.specs.Flat.{rulesOf, slotsOf};
-ghost use Rattle.parts_stack.specs.Stack.{numberOf};
-ghost use Rattle.graph_run.specs.Edges.{edgesOf};
+ghost use Rattle.parse_stack.specs.Stack.{numberOf};
+ghost use Rattle.graph_check.specs.Edges.{edgesOf};
 ghost use Rattle.checker.specs.Check as definition;
 ghost use Rattle.checker.specs.Judgement.{OfDerivation};
 ghost use Rattle.checker.specs.Check.{checkedOf};
@@ -111,7 +111,7 @@ fn check_path(
                 reading,
                 at,
                 head.weight,
-                graph_run::weight_of(rules, count, edges, graph, n, reading, walk),
+                graph_check::weight_of(rules, count, edges, graph, n, reading, walk),
                 2 * n - 1,
             )
         }

@@ -3,18 +3,18 @@ use packing::Word;
 use packing::format::MAX_SLOTS;
 use packing::format::NOT_HEARD;
 use packing::format::NUMBERS_PER_CANDIDATE;
-use parts_stack::Fit;
-use parts_stack::Found;
-use parts_stack::MAX_PARTS;
-use parts_stack::Progress;
-use parts_stack::Step;
+use parse_stack::Fit;
+use parse_stack::Found;
+use parse_stack::MAX_PARTS;
+use parse_stack::Progress;
+use parse_stack::Step;
 ghost use mathlib.Core.Path.{_≡_};
 ghost use mathlib.Core.List.{List};
 ghost use Prim.Native.Nat.{ℕ, _+_, _-_, _*_, _^_, _≤_, _<_};
 ghost use lib.ListN.{length, take};
 ghost use Rattle.derivation.specs.Walk.{costOf, leafStep, step, walkWeight};
 ghost use Rattle.packing.specs.Flat.{rulesOf, candidatesOf, slotsOf};
-ghost use Rattle.parts_stack.specs.Stack.{headsOf, numberOf, Small, Within, Further};
+ghost use Rattle.parse_stack.specs.Stack.{headsOf, numberOf, Small, Within, Further};
 ghost use Rattle.checker.specs.Run.{slotAt, behind, stateOf};
 
 // The cost of a word that was not heard, in the width of an index. Such a word is not offered.
@@ -51,7 +51,7 @@ fn word_step(slots: &[u32], at: Progress, word: Word, weight: u32) -> Step
     let place = at.place;
     let count = arrays::number_at(slots, place);
     let Found::Number(cost) = cost_of(slots, place + 1, count, word) else {
-        return Step::Astray;
+        return Step::Stuck;
     };
     Step::Onward(Progress {
         place: place + 1 + NUMBERS_PER_CANDIDATE * count,
@@ -75,9 +75,9 @@ fn follow(
         ≡ step (rulesOf (now (rules .entry)) count) (stateOf (now (slots .entry)) (now (stack .entry)) (Step.Onward at)) r)
         × Further at s ⌝ }
 {
-    match parts_stack::fitting(rules, count, stack, at.height, r) {
-        Fit::Nothing => Step::Astray,
-        Fit::Pair(first, second, weight) => parts_stack::pair_step(
+    match parse_stack::fitting(rules, count, stack, at.height, r) {
+        Fit::Nothing => Step::Stuck,
+        Fit::Pair(first, second, weight) => parse_stack::pair_step(
             stack,
             at,
             first,

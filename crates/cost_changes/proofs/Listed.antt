@@ -45,12 +45,12 @@ has-cases e (x ∷ l) = go (eqb x e) refl (has-cases e l)
 module _ (g : Grammar) (es : List Edge) (used : ℕ → Bool) (w : ℕ) (outer : Cells) where
   -- edge e has this entry
   pub record EntryAt (e d s x v : ℕ) : Type 0 where
-    pub upto : ℕ
+    pub to : ℕ
     pub cost : ℕ
-    pub at : At es e (edge s upto (word x) cost)
+    pub at : At es e (edge s to (word x) cost)
     pub heard : cost < notHeard
     pub unused : used e ≡ false
-    pub through-is : through g outer (edge s upto (word x) cost) ≡ some v
+    pub through-is : through g outer (edge s to (word x) cost) ≡ some v
     pub amount-is : d ≡ v + 1 - w
     pub can : d ≤ cost
 
@@ -84,7 +84,7 @@ module _ (g : Grammar) (es : List Edge) (used : ℕ → Bool) (w : ℕ) (outer :
       let (n, q₂) = pick-false (used e) _ q₁ in
       let (r, hd, l, hs, hx) = from-out s′ k c y (through g outer (edge s′ k y c)) d s x v q₂ in
       record {
-        upto = k;
+        to = k;
         cost = c;
         at = rw (hs, hx) p;
         heard = ltb-true c notHeard a;
@@ -172,7 +172,7 @@ module _ (g : Grammar) (u : Utterance) (ascending : Ascending u) (t : Tree) (fir
 
   sound : (e d s x v : ℕ) → EntryAt g (edges u) used w₁ outer e d s x v → Margin g u s (word x) d v
   sound e d s x v m =
-      margin-is g u ascending e s (m .upto) (m .cost) (word x) (m .at) (m .heard) t first v (m .through-is) d v .1
+      margin-is g u ascending e s (m .to) (m .cost) (word x) (m .at) (m .heard) t first v (m .through-is) d v .1
       (not-used, m .amount-is, m .can, refl)
     where
       not-used : ¬ Uses t e
@@ -193,7 +193,7 @@ module _ (g : Grammar) (u : Utterance) (ascending : Ascending u) (t : Tree) (fir
           let (n, hd, l, hv) = margin-is g u ascending e s (suc s) (m .cost) (word x) p (m .heard) t first v′ r d v .0 m in
           let free : used e ≡ false = ⊎-elim (λ q. absurd (n (q .0))) (λ q. q .1) (has-cases e (edgesOf t)) in
           record {
-            upto = suc s;
+            to = suc s;
             cost = m .cost;
             at = p;
             heard = m .heard;

@@ -17,26 +17,26 @@ use Rattle.cost_changes.specs.Costs.{edgesOf, Uses}
 -- edge e is there, and lies between the places i and k
 record Within (es : List Edge) (i k e : ℕ) : Type 0 where
   from : ℕ
-  upto : ℕ
+  to : ℕ
   carries : W.Word
   cost : ℕ
-  there : At es e (edge from upto carries cost)
+  there : At es e (edge from to carries cost)
   start : i ≤ from
-  end : upto ≤ k
+  end : to ≤ k
 
 module _ (g : Grammar) (es : List Edge) where
   used-within : {A : Sym} {i k : ℕ} {t : Tree} → Derives g es A i k t → (f : ℕ) → Uses t f → Within es i k f
   unfolding edgesOf
   used-within (by-word {x = x} {e = e} {c = c} {i = i} {k = k} p q) f m =
       let h : f ≡ e = List·Memᴰ·eq-of-singleton m in
-      record { from = i; upto = k; carries = x; cost = c; there = rw h (q .0); start = omega arith; end = omega arith }
+      record { from = i; to = k; carries = x; cost = c; there = rw h (q .0); start = omega arith; end = omega arith }
   used-within (by-pair {i = i} {j = j} {k = k} {s = s} p h₁ h₂ d₁ d₂) f m =
       ⊎-elim (λ n. left (used-within d₁ f n)) (λ n. right (used-within d₂ f n)) (List·Memᴰ·append-cases (edgesOf s) m)
     where
       left : Within es i j f → Within es i k f
       left w = record {
         from = w .from;
-        upto = w .upto;
+        to = w .to;
         carries = w .carries;
         cost = w .cost;
         there = w .there;
@@ -47,7 +47,7 @@ module _ (g : Grammar) (es : List Edge) where
       right : Within es j k f → Within es i k f
       right w = record {
         from = w .from;
-        upto = w .upto;
+        to = w .to;
         carries = w .carries;
         cost = w .cost;
         there = w .there;
@@ -57,11 +57,11 @@ module _ (g : Grammar) (es : List Edge) where
 
   within-apart : Forward es → {i j k f : ℕ} → Within es i j f → Within es j k f → ⊥
   within-apart fw {f = f} a b =
-      let n : a .upto ≡ b .upto = same-upto a b in
-      omega (arith, a .end, b .start, fw f (b .from) (b .upto) (b .cost) (b .carries) (b .there))
+      let n : a .to ≡ b .to = same-to a b in
+      omega (arith, a .end, b .start, fw f (b .from) (b .to) (b .cost) (b .carries) (b .there))
     where
-      same-upto : {i j k l f : ℕ} (a : Within es i j f) (b : Within es k l f) → a .upto ≡ b .upto
-      same-upto a b = cc (a .there, b .there)
+      same-to : {i j k l f : ℕ} (a : Within es i j f) (b : Within es k l f) → a .to ≡ b .to
+      same-to a b = cc (a .there, b .there)
 
   pub used-once : Forward es → {A : Sym} {i k : ℕ} {t : Tree} → Derives g es A i k t → Distinct (edgesOf t)
   unfolding edgesOf

@@ -1,7 +1,7 @@
 pub mod Rise
 pub mod Raise
 pub mod Flat
-pub mod Told
+pub mod PassesAnswer
 pub mod ThreePasses
-pub mod Outcome
+pub mod WaysOut
 pub mod Refused

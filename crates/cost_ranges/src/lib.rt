@@ -188,7 +188,7 @@ fn decide(stands: bool, weights: Weights) -> Ranged
 
 // The passes over low, high and mixed costs. `low` has the mixed costs afterwards.
 fn passes(rules: &[u32], low: &mut [u32], high: &[u32], pass: Pass, work: &mut [u32]) -> Ranged
-    requires { ⌜ (Passable pass) × (pass .table .places ≤ 24) ⌝ }
+    requires { ⌜ (Passable pass) × (pass .table .last ≤ 24) ⌝ }
     ensures { λ r. ⌜ r ≡ passed (now (rules .entry)) (now (low .entry)) (now (high .entry)) pass (length (now (work .entry))) ⌝ }
     ensures { λ r. ⌜ now (work .exit) ≡ leftBy (now (rules .entry)) (now (low .entry)) (now (high .entry)) pass (length (now (work .entry))) ⌝ }
 {

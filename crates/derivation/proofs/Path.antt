@@ -29,7 +29,7 @@ use Rattle.derivation.specs.Heard.{pathLength, trace}
 use Rattle.derivation.specs.Path.{
   State,
   onward,
-  astray,
+  stuck,
   edgeStep,
   pairStep,
   wordStep,
@@ -48,13 +48,13 @@ use Rattle.derivation.proofs.Trees.{same-sym, same-word}
 use Rattle.derivation.proofs.Paths.{Forward, path-bound}
 use Rattle.derivation.proofs.Trace.{isWordRule, trace-one, trace-length, trace-below, trace-kinded}
 
-pub astray-none : (rules : List R.Rule) (es : List Edge) (src : Source) (last m at : ℕ) → weightAt last (runFrom rules es src m astray at) ≡ none
+pub stuck-none : (rules : List R.Rule) (es : List Edge) (src : Source) (last m at : ℕ) → weightAt last (runFrom rules es src m stuck at) ≡ none
 unfolding runFrom step finished
-astray-none rules es src last zero at = refl
-astray-none rules es src last (suc m) at = go (nodeFrom rules src at) (astray-none rules es src last m)
+stuck-none rules es src last zero at = refl
+stuck-none rules es src last (suc m) at = go (nodeFrom rules src at) (stuck-none rules es src last m)
   where
-    go : (p : Parse Node) → ((at : ℕ) → weightAt last (runFrom rules es src m astray at) ≡ none)
-        → weightAt last (p ⟫ λ x at. runFrom rules es src m (step rules es astray x) at) ≡ none
+    go : (p : Parse Node) → ((at : ℕ) → weightAt last (runFrom rules es src m stuck at) ≡ none)
+        → weightAt last (p ⟫ λ x at. runFrom rules es src m (step rules es stuck x) at) ≡ none
     go (parsed x next) below = below next
     go (failed n) below = refl
 
@@ -73,7 +73,7 @@ module _ (g : Grammar) (es : List Edge) (src : Source) where
   -- what one node does
   module _ (place left : ℕ) (A : Sym) (heads : List Sym) (w : ℕ) where
     data Stepped : Node → State → Type 0 where
-      lost : {x : Node} → Stepped x astray
+      lost : {x : Node} → Stepped x stuck
       paired : {B C : Sym} {v r : ℕ} → At (g .rules) r (Pair A B C v) → Stepped (byPair r) (onward place left (B ∷ C ∷ heads) (w + v))
       worded : {x : W.Word} {v c k l r e : ℕ} → At (g .rules) r (Word A x v) → Offered es e (edge place k x c) → left ≡ suc l
           → Stepped (byWord r e) (onward k l heads (w + v + c))
@@ -85,7 +85,7 @@ module _ (g : Grammar) (es : List Edge) (src : Source) where
     pair-stepped r (some (Pair H B C v)) p = go (eqb (H .0) (A .0)) refl (ltb (suc (length heads)) left)
       where
         go : (t : Bool) → eqb (H .0) (A .0) ≡ t → (t′ : Bool)
-            → Stepped (byPair r) (pick t (pick t′ (onward place left (B ∷ C ∷ heads) (w + v)) astray) astray)
+            → Stepped (byPair r) (pick t (pick t′ (onward place left (B ∷ C ∷ heads) (w + v)) stuck) stuck)
         go false e t′ = lost
         go true e false = lost
         go true e true = paired (rw (same-sym H A (eqb-true (H .0) (A .0) e)) at p)
@@ -97,7 +97,7 @@ module _ (g : Grammar) (es : List Edge) (src : Source) where
     edge-stepped l r e v x h p (some (edge i k y c)) q = go (eqb i place) refl (eqb (y .0) (x .0)) refl (ltb c notHeard) refl
       where
         go : (a : Bool) → eqb i place ≡ a → (b : Bool) → eqb (y .0) (x .0) ≡ b → (d : Bool) → ltb c notHeard ≡ d
-            → Stepped (byWord r e) (pick a (pick b (pick d (onward k l heads (w + v + c)) astray) astray) astray)
+            → Stepped (byWord r e) (pick a (pick b (pick d (onward k l heads (w + v + c)) stuck) stuck) stuck)
         go false ha b hb d hd = lost
         go true ha false hb d hd = lost
         go true ha true hb false hd = lost
@@ -112,7 +112,7 @@ module _ (g : Grammar) (es : List Edge) (src : Source) where
     word-stepped r e (some (Word H x v)) p zero h = lost
     word-stepped r e (some (Word H x v)) p (suc l) h = go (eqb (H .0) (A .0)) refl
       where
-        go : (t : Bool) → eqb (H .0) (A .0) ≡ t → Stepped (byWord r e) (pick t (edgeStep x place l heads (w + v) (getElem? es e)) astray)
+        go : (t : Bool) → eqb (H .0) (A .0) ≡ t → Stepped (byWord r e) (pick t (edgeStep x place l heads (w + v) (getElem? es e)) stuck)
         go false f = lost
         go true f = edge-stepped l r e v x h (rw (same-sym H A (eqb-true (H .0) (A .0) f)) at p) (getElem? es e) refl
 
@@ -169,7 +169,7 @@ module _ (g : Grammar) (es : List Edge) (src : Source) where
 
     sound-step : (m place left : ℕ) (A : Sym) (heads : List Sym) (w w′ at next : ℕ) (x : Node) → Sound m → Taken src at (nodeEntries count x) next → (s : State)
         → Stepped place left A heads w x s → weightAt last (runs m s next) ≡ some w′ → (v : ℕ) × Covers (A ∷ heads) place left at v × (w + v ≡ w′)
-    sound-step m place left A heads w w′ at next _ below k _ lost h = absurd (none≢some (sym (astray-none (g .rules) es src last m next) ∙ h))
+    sound-step m place left A heads w w′ at next _ below k _ lost h = absurd (none≢some (sym (stuck-none (g .rules) es src last m next) ∙ h))
     sound-step m place left A heads w w′ at next _ below k _ (paired {B} {C} {v} {r} p) h =
         let (v′, c, n) = below place left (B ∷ C ∷ heads) (w + v) w′ next h in
         (v + v′, cover-pair r p k c, omega arith)
@@ -192,7 +192,7 @@ module _ (g : Grammar) (es : List Edge) (src : Source) where
       where
         go : (p : Parse Node) → weightAt last (p ⟫ λ x at. runs m (step (g .rules) es (onward place left [] w) x) at) ≡ some w′
             → (v : ℕ) × Covers [] place left at v × (w + v ≡ w′)
-        go (parsed x next) f = absurd (none≢some (sym (astray-none (g .rules) es src last m next) ∙ f))
+        go (parsed x next) f = absurd (none≢some (sym (stuck-none (g .rules) es src last m next) ∙ f))
         go (failed n) f = absurd (none≢some f)
     sound (suc m) place left (A ∷ heads) w w′ at h = go (nodeFrom (g .rules) src at) refl (sound m) h
       where

@@ -25,14 +25,14 @@ use Rattle.derivation.proofs.Lists.{none≢some, at-mem, mem-at}
 use Rattle.derivation.proofs.Ranges.{All, all-at, Cheap, AscendingFrom, Ascending}
 
 -- an edge of a slot is a candidate of it
-slot-out : (i : ℕ) (slot : List Candidate) {from upto c : ℕ} {x : W.Word} → edge from upto x c ∈ slotEdges i slot
-    → (from ≡ i) × (upto ≡ suc i) × (candidate x c ∈ slot)
+slot-out : (i : ℕ) (slot : List Candidate) {from to c : ℕ} {x : W.Word} → edge from to x c ∈ slotEdges i slot
+    → (from ≡ i) × (to ≡ suc i) × (candidate x c ∈ slot)
 unfolding slotEdges
 slot-out i [] m = absurd (List·Memᴰ·not-nil m)
-slot-out i (candidate y d ∷ slot) {from} {upto} {c} {x} m =
+slot-out i (candidate y d ∷ slot) {from} {to} {c} {x} m =
     ⊎-elim here (λ n. let r = slot-out i slot n in (r .0, r .1, List·Memᴰ·tail (r .2))) (List·Memᴰ·cases-cons m)
   where
-    here : edge from upto x c ≡ edge i (suc i) y d → (from ≡ i) × (upto ≡ suc i) × (candidate x c ∈ (candidate y d ∷ slot))
+    here : edge from to x c ≡ edge i (suc i) y d → (from ≡ i) × (to ≡ suc i) × (candidate x c ∈ (candidate y d ∷ slot))
     here e =
         let p : candidate x c ≡ candidate y d = cc in
         (cc, cc, List·Memᴰ·head p)
@@ -45,27 +45,27 @@ slot-in i (candidate y d ∷ slot) {c} {x} m =
     (λ n. List·Memᴰ·tail (slot-in i slot n)) (List·Memᴰ·cases-cons m)
 
 -- an edge of slots that are numbered from i on is a candidate of one of them
-pub record InSlot (i : ℕ) (u : Utterance) (from upto : ℕ) (x : W.Word) (c : ℕ) : Type 0 where
+pub record InSlot (i : ℕ) (u : Utterance) (from to : ℕ) (x : W.Word) (c : ℕ) : Type 0 where
   pub number : ℕ
   pub slot : List Candidate
   pub start : from ≡ i + number
-  pub end : upto ≡ suc from
+  pub end : to ≡ suc from
   pub there : At u number slot
   pub offers : candidate x c ∈ slot
 
-pub edges-out : (i : ℕ) (u : Utterance) {from upto c : ℕ} {x : W.Word} → edge from upto x c ∈ edgesFrom i u
-    → InSlot i u from upto x c
+pub edges-out : (i : ℕ) (u : Utterance) {from to c : ℕ} {x : W.Word} → edge from to x c ∈ edgesFrom i u
+    → InSlot i u from to x c
 unfolding edgesFrom
 edges-out i [] m = absurd (List·Memᴰ·not-nil m)
-edges-out i (slot ∷ u) {from} {upto} {c} {x} m =
+edges-out i (slot ∷ u) {from} {to} {c} {x} m =
     ⊎-elim here (λ n. later (edges-out (suc i) u n)) (List·Memᴰ·append-cases (slotEdges i slot) m)
   where
-    here : edge from upto x c ∈ slotEdges i slot → InSlot i (slot ∷ u) from upto x c
+    here : edge from to x c ∈ slotEdges i slot → InSlot i (slot ∷ u) from to x c
     here n =
         let (p, q, o) = slot-out i slot n in
         record { number = 0; slot = slot; start = omega arith; end = omega arith; there = refl; offers = o }
 
-    later : InSlot (suc i) u from upto x c → InSlot i (slot ∷ u) from upto x c
+    later : InSlot (suc i) u from to x c → InSlot i (slot ∷ u) from to x c
     later o =
         let s : from ≡ i + suc (o .number) = omega (arith, o .start) in
         record { number = suc (o .number); slot = o .slot; start = s; end = o .end; there = o .there; offers = o .offers }

@@ -20,7 +20,7 @@ use Rattle.packing.specs.Meaning.{notHeard, symbolOf, Grammar, Utterance, Candi
 use Rattle.packing.specs.Valid.{ValidUtterance}
 use Rattle.derivation.specs.Derivation.{At, Offered, Tree, Derivation, reading}
 use Rattle.derivation.specs.Rank.{_∈_}
-use Rattle.derivation.specs.Walk.{State, onward, astray, costOf, leafStep, ruleStep, step, run, finished, walkWeight}
+use Rattle.derivation.specs.Walk.{State, onward, stuck, costOf, leafStep, ruleStep, step, run, finished, walkWeight}
 use Rattle.derivation.specs.Struck.{heard, struckOut}
 use Rattle.derivation.proofs.Lists.{map-at}
 use Rattle.derivation.proofs.Ranges.{AscendingFrom, Ascending, valid-ascending}
@@ -62,8 +62,8 @@ module _ (rules : List R.Rule) where
     pair-struck H B C v slots a = rw (length-map slots heard) (go (eqb (H .0) (A .0)) (ltb (suc (length heads)) (length slots)))
       where
         go : (t s : Bool)
-            → Same (pick t (pick s (onward (struckOut slots) (B ∷ C ∷ heads) (w + v)) astray) astray)
-            (pick t (pick s (onward slots (B ∷ C ∷ heads) (w + v)) astray) astray) numbers
+            → Same (pick t (pick s (onward (struckOut slots) (B ∷ C ∷ heads) (w + v)) stuck) stuck)
+            (pick t (pick s (onward slots (B ∷ C ∷ heads) (w + v)) stuck) stuck) numbers
         go true true = rest slots (B ∷ C ∷ heads) (w + v) a
         go true false = refl
         go false s = refl
@@ -75,7 +75,7 @@ module _ (rules : List R.Rule) where
     word-struck H x v (slot ∷ slots) (h, a) = rw (cost-heard x slot 0 h) (go (eqb (H .0) (A .0)) (costOf x slot))
       where
         go : (t : Bool) (o : Option ℕ)
-            → Same (pick t (leafStep (struckOut slots) heads (w + v) o) astray) (pick t (leafStep slots heads (w + v) o) astray) numbers
+            → Same (pick t (leafStep (struckOut slots) heads (w + v) o) stuck) (pick t (leafStep slots heads (w + v) o) stuck) numbers
         go true none = refl
         go true (some c) = rest slots heads (w + v + c) a
         go false o = refl

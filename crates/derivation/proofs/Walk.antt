@@ -22,7 +22,7 @@ use Rattle.packing.specs.Meaning as M
 use Rattle.packing.specs.Meaning.{notHeard, symbolOf, Grammar, Utterance, Candidate, candidate, edges}
 use Rattle.derivation.specs.Derivation.{At, Tree, node, Derives, by-word, by-pair, weight, walk, Derivation}
 use Rattle.derivation.specs.Rank.{_∈_}
-use Rattle.derivation.specs.Walk.{State, onward, astray, costOf, leafStep, ruleStep, step, run, finished, walkWeight}
+use Rattle.derivation.specs.Walk.{State, onward, stuck, costOf, leafStep, ruleStep, step, run, finished, walkWeight}
 use Rattle.derivation.proofs.Lists.{none≢some, mem-at, at-length}
 use Rattle.derivation.proofs.Ranges.{all-at, AscendingFrom, Ascending}
 use Rattle.derivation.proofs.Readings.{span}
@@ -77,16 +77,16 @@ drop-out [] (suc i) e = let z : _≡_ {A = ℕ} 0 1 = cc in absurd (omega arith)
 drop-out (s ∷ u) zero e = (cc, cc)
 drop-out (s ∷ u) (suc i) e = drop-out u i e
 
-pub run-astray : (rules : List R.Rule) (numbers : List ℕ) → run rules astray numbers ≡ astray
+pub run-stuck : (rules : List R.Rule) (numbers : List ℕ) → run rules stuck numbers ≡ stuck
 unfolding run
-run-astray rules [] = refl
-run-astray rules (r ∷ numbers) = run-astray rules numbers
+run-stuck rules [] = refl
+run-stuck rules (r ∷ numbers) = run-stuck rules numbers
 
 module _ (g : Grammar) where
   -- what one number does
   module _ (slots : Utterance) (A : Sym) (heads : List Sym) (w r : ℕ) where
     pub data Stepped : State → Type 0 where
-      lost : Stepped astray
+      lost : Stepped stuck
       paired : {B C : Sym} {v : ℕ} → At (g .rules) r (Pair A B C v) → suc (length heads) < length slots
           → Stepped (onward slots (B ∷ C ∷ heads) (w + v))
       worded : {x : W.Word} {v c : ℕ} {slot : List Candidate} {more : Utterance} → At (g .rules) r (Word A x v)
@@ -98,7 +98,7 @@ module _ (g : Grammar) where
     pair-stepped H B C v p = go (eqb (H .0) (A .0)) refl (ltb (suc (length heads)) (length slots)) refl
       where
         go : (t : Bool) → eqb (H .0) (A .0) ≡ t → (t′ : Bool) → ltb (suc (length heads)) (length slots) ≡ t′
-            → Stepped (pick t (pick t′ (onward slots (B ∷ C ∷ heads) (w + v)) astray) astray)
+            → Stepped (pick t (pick t′ (onward slots (B ∷ C ∷ heads) (w + v)) stuck) stuck)
         go false e t′ f = lost
         go true e false f = lost
         go true e true f =
@@ -110,7 +110,7 @@ module _ (g : Grammar) where
     word-stepped slot more H x v h p = go (eqb (H .0) (A .0)) refl (costOf x slot) refl
       where
         go : (t : Bool) → eqb (H .0) (A .0) ≡ t → (o : Option ℕ) → costOf x slot ≡ o
-            → Stepped (pick t (leafStep more heads (w + v) o) astray)
+            → Stepped (pick t (leafStep more heads (w + v) o) stuck)
         go false e o f = lost
         go true e none f = lost
         go true e (some c) f = worded (rw (same-sym H A (eqb-true (H .0) (A .0) e)) at p) h (cost-out x slot f)
@@ -166,7 +166,7 @@ module _ (g : Grammar) (u : Utterance) where
       → drop i u ≡ slots → i ≤ length u → (s : State) → Stepped g slots A heads w r s
       → finished (run (g .rules) s numbers) ≡ some w′ → (v : ℕ) × Covers (A ∷ heads) i (r ∷ numbers) v × (w + v ≡ w′)
   unfolding finished
-  sound-step slots A heads w w′ i r numbers below e b _ lost h = absurd (none≢some (rw (run-astray (g .rules) numbers) at h))
+  sound-step slots A heads w w′ i r numbers below e b _ lost h = absurd (none≢some (rw (run-stuck (g .rules) numbers) at h))
   sound-step slots A heads w w′ i r numbers below e b _ (paired {B} {C} {v} p room) h =
       let (v′, c, n) = below slots (B ∷ C ∷ heads) (w + v) w′ i e b h in
       (v + v′, cover-pair r p c, omega arith)
@@ -183,7 +183,7 @@ module _ (g : Grammar) (u : Utterance) where
       (0, subst (λ j. Covers [] j [] 0) z done, n)
   sound [] [] (A ∷ heads) w w′ i e b h = absurd (none≢some h)
   sound [] (slot ∷ slots) heads w w′ i e b h = absurd (none≢some h)
-  sound (r ∷ numbers) slots [] w w′ i e b h = absurd (none≢some (rw (run-astray (g .rules) numbers) at h))
+  sound (r ∷ numbers) slots [] w w′ i e b h = absurd (none≢some (rw (run-stuck (g .rules) numbers) at h))
   sound (r ∷ numbers) slots (A ∷ heads) w w′ i e b h =
       sound-step slots A heads w w′ i r numbers (sound numbers) e b _ (stepped g slots A heads w r) h
 

@@ -35,8 +35,8 @@ only m n l = keepIf (eqb m n) l
 unfoldable pub leafOf : Sym → ℕ → ℕ → ℕ → R.Rule → ℕ → Edge → List Tree
 unfolding only keepIf
 leafOf A i k r (Pair H B C w) e a = []
-leafOf A i k r (Word H x w) e (edge from upto y c) =
-    only (H .0) (A .0) (only from i (only upto k (only (x .0) (y .0) (keepIf (ltb c notHeard) (leaf r e ∷ [])))))
+leafOf A i k r (Word H x w) e (edge from to y c) =
+    only (H .0) (A .0) (only from i (only to k (only (x .0) (y .0) (keepIf (ltb c notHeard) (leaf r e ∷ [])))))
 
 unfoldable pub leavesOfRule : List Edge → Sym → ℕ → ℕ → ℕ → R.Rule → List Tree
 unfolding each leafOf

@@ -22,35 +22,35 @@ use Rattle.packing.specs.Flat.{nodeRule}
 -- the weight so far; or that it is none
 pub data State : Type 0 where
   onward : (place left : ℕ) (heads : List Sym) (weight : ℕ) → State
-  astray : State
+  stuck : State
 
 -- an edge is taken if it starts where the path stands, carries the word and was heard
 unfoldable pub edgeStep : W.Word → ℕ → ℕ → List Sym → ℕ → Option Edge → State
-edgeStep x place left heads w none = astray
+edgeStep x place left heads w none = stuck
 edgeStep x place left heads w (some (edge i k y c)) =
-    pick (eqb i place) (pick (eqb (y .0) (x .0)) (pick (ltb c notHeard) (onward k left heads (w + c)) astray) astray) astray
+    pick (eqb i place) (pick (eqb (y .0) (x .0)) (pick (ltb c notHeard) (onward k left heads (w + c)) stuck) stuck) stuck
 
 -- the next part has head A, and the rule is given: a pair rule puts two parts in its place, where each part to come still has an
 -- edge of its own
 unfoldable pub pairStep : ℕ → ℕ → Sym → List Sym → ℕ → Option R.Rule → State
-pairStep place left A heads w none = astray
-pairStep place left A heads w (some (Word H x v)) = astray
+pairStep place left A heads w none = stuck
+pairStep place left A heads w (some (Word H x v)) = stuck
 pairStep place left A heads w (some (Pair H B C v)) =
-    pick (eqb (H .0) (A .0)) (pick (ltb (suc (length heads)) left) (onward place left (B ∷ C ∷ heads) (w + v)) astray) astray
+    pick (eqb (H .0) (A .0)) (pick (ltb (suc (length heads)) left) (onward place left (B ∷ C ∷ heads) (w + v)) stuck) stuck
 
 -- a word rule takes an edge
 unfoldable pub wordStep : ℕ → ℕ → Sym → List Sym → ℕ → Option R.Rule → Option Edge → State
 unfolding edgeStep
-wordStep place left A heads w none e = astray
-wordStep place left A heads w (some (Pair H B C v)) e = astray
-wordStep place zero A heads w (some (Word H x v)) e = astray
-wordStep place (suc left) A heads w (some (Word H x v)) e = pick (eqb (H .0) (A .0)) (edgeStep x place left heads (w + v) e) astray
+wordStep place left A heads w none e = stuck
+wordStep place left A heads w (some (Pair H B C v)) e = stuck
+wordStep place zero A heads w (some (Word H x v)) e = stuck
+wordStep place (suc left) A heads w (some (Word H x v)) e = pick (eqb (H .0) (A .0)) (edgeStep x place left heads (w + v) e) stuck
 
 -- one node
 unfoldable pub step : List R.Rule → List Edge → State → Node → State
 unfolding pairStep wordStep
-step rules es astray x = astray
-step rules es (onward place left [] w) x = astray
+step rules es stuck x = stuck
+step rules es (onward place left [] w) x = stuck
 step rules es (onward place left (A ∷ heads) w) (byPair r) = pairStep place left A heads w (getElem? rules r)
 step rules es (onward place left (A ∷ heads) w) (byWord r e) = wordStep place left A heads w (getElem? rules r) (getElem? es e)
 
@@ -77,7 +77,7 @@ runFrom rules es src (suc m) s at = nodeFrom rules src at ⟫ λ x at. runFrom r
 
 -- a path ends at the last place, where none of its edges is left and no part is to come
 unfoldable pub finished : ℕ → State → Option ℕ
-finished last astray = none
+finished last stuck = none
 finished last (onward place (suc left) heads w) = none
 finished last (onward place zero (A ∷ heads) w) = none
 finished last (onward place zero [] w) = pick (eqb place last) (some w) none

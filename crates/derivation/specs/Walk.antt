@@ -17,7 +17,7 @@ use Rattle.packing.specs.Meaning.{notHeard, symbolOf, Utterance, Candidate, can
 -- so far; or that it is none
 pub data State : Type 0 where
   onward : (slots : Utterance) (heads : List Sym) (weight : ℕ) → State
-  astray : State
+  stuck : State
 
 -- the cost of a word in a slot that offers it
 unfoldable pub costOf : W.Word → List Candidate → Option ℕ
@@ -25,26 +25,26 @@ costOf x [] = none
 costOf x (candidate y c ∷ slot) = pick (eqb (y .0) (x .0)) (pick (ltb c notHeard) (some c) none) (costOf x slot)
 
 unfoldable pub leafStep : Utterance → List Sym → ℕ → Option ℕ → State
-leafStep slots heads w none = astray
+leafStep slots heads w none = stuck
 leafStep slots heads w (some c) = onward slots heads (w + c)
 
 -- the next part has head A, and the rule is given: a pair rule puts two parts in its place, where each part to come still has
 -- a slot of its own; a word rule takes a slot that offers its word
 unfoldable pub ruleStep : Utterance → Sym → List Sym → ℕ → Option R.Rule → State
 unfolding costOf leafStep
-ruleStep slots A heads w none = astray
+ruleStep slots A heads w none = stuck
 ruleStep slots A heads w (some (Pair H B C v)) =
-    pick (eqb (H .0) (A .0)) (pick (ltb (suc (length heads)) (length slots)) (onward slots (B ∷ C ∷ heads) (w + v)) astray)
-    astray
-ruleStep [] A heads w (some (Word H x v)) = astray
+    pick (eqb (H .0) (A .0)) (pick (ltb (suc (length heads)) (length slots)) (onward slots (B ∷ C ∷ heads) (w + v)) stuck)
+    stuck
+ruleStep [] A heads w (some (Word H x v)) = stuck
 ruleStep (slot ∷ slots) A heads w (some (Word H x v)) =
-    pick (eqb (H .0) (A .0)) (leafStep slots heads (w + v) (costOf x slot)) astray
+    pick (eqb (H .0) (A .0)) (leafStep slots heads (w + v) (costOf x slot)) stuck
 
 -- one number of the walk
 unfoldable pub step : List R.Rule → State → ℕ → State
 unfolding ruleStep
-step rules astray r = astray
-step rules (onward slots [] w) r = astray
+step rules stuck r = stuck
+step rules (onward slots [] w) r = stuck
 step rules (onward slots (A ∷ heads) w) r = ruleStep slots A heads w (getElem? rules r)
 
 unfoldable pub run : List R.Rule → State → List ℕ → State
@@ -54,7 +54,7 @@ run rules s (r ∷ numbers) = run rules (step rules s r) numbers
 
 -- a walk ends where no slot is left and no part is to come
 unfoldable pub finished : State → Option ℕ
-finished astray = none
+finished stuck = none
 finished (onward [] [] w) = some w
 finished (onward [] (A ∷ heads) w) = none
 finished (onward (slot ∷ slots) heads w) = none

@@ -21,7 +21,7 @@ use Rattle.grammar_reader.specs.Answer.{markedAnswer}
 use Rattle.grammar_reader.specs.declared.Sizes.{Sizes}
 use Rattle.grammar_reader.specs.declared.MarkedRead.the-variants.{Grammar}
 use Rattle.sheet_writer.specs.Arrays.{grammarFields, blockOf, markedRow, markedRows}
-use Rattle.grammar_reader.proofs.Told.{of-marked}
+use Rattle.grammar_reader.proofs.FieldInversion.{of-marked}
 
 -- a sheet without marks has the rules' own numbers
 plain-values : (S W : ℕ) (rs : List MarkedRule) → values (markedRulesEntries false S W rs) ≡ values (rulesEntries S W (map ruleIn rs))

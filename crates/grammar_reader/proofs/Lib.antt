@@ -1,3 +1,3 @@
 pub mod Grammars
-pub mod Outcome
-pub mod Told
+pub mod BlockInversion
+pub mod FieldInversion

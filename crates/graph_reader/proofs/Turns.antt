@@ -20,7 +20,7 @@ use Rattle.packing.specs.Graph.{edgesAlike, edgeFrom, graphEdgesFrom}
 use Rattle.packing.proofs.Alike.{keyed-none}
 use Rattle.graph_reader.specs.Parts.{edgeOf, keyOf, EdgesAs, found, not-found}
 use Rattle.graph_reader.specs.declared.EdgeRead as E
-use Rattle.graph_reader.proofs.Told.{edge-told}
+use Rattle.graph_reader.proofs.FieldInversion.{edge-told}
 use Rattle.graph_reader.proofs.Keys.{edgeKey, Roomy, EdgesKeyed, edges-keyed-more}
 
 module _ (src : Source) (W P n start : ℕ) (before : List ℕ) where
@@ -29,20 +29,20 @@ module _ (src : Source) (W P n start : ℕ) (before : List ℕ) where
   whole = graphEdgesFrom src W P n start []
 
   -- after i edges, at a place: es were read, the keys tell which edges these are, and they stand in the array
-  pub record Passed (i at : ℕ) (keys edges : List ℕ) : Type 0 where
+  pub record ReadSoFar (i at : ℕ) (keys edges : List ℕ) : Type 0 where
     pub es : List M.Edge
     pub size : length es ≡ i
     pub keyed : EdgesKeyed es (take i keys)
     pub stored : edges ≡ storeAll before 0 (edgeNumbers es)
     pub left : graphEdgesFrom src W P (n - i) at es ≡ whole
 
-  pub none-passed : (keys : List ℕ) → Passed 0 start keys before
+  pub none-passed : (keys : List ℕ) → ReadSoFar 0 start keys before
   unfolding storeAll edgeNumbers
   none-passed keys =
       let z : n - 0 ≡ n = omega arith in
       record { es = []; size = refl; keyed = keyed-none edgesAlike (λ (e : M.Edge). e) edgeKey Roomy; stored = refl; left = rw z }
 
-  module _ {i at : ℕ} {keys edges : List ℕ} (p : Passed i at keys edges) where
+  module _ {i at : ℕ} {keys edges : List ℕ} (p : ReadSoFar i at keys edges) where
     pub all-passed : i ≡ n → EdgesAs before edges whole (R.the-variants.Number n (record { at = at }))
     unfolding unlikeFrom
     all-passed e =
@@ -70,7 +70,7 @@ module _ (src : Source) (W P n start : ℕ) (before : List ℕ) where
             rw (← y) (not-found 52)
 
         pub edge-passed : seen ≡ false → {key : ℕ} → key ≡ keyOf j k w → i < length keys → {after : List ℕ}
-            → after ≡ storeAll edges (4 * i) (j ∷ k ∷ w ∷ c ∷ []) → Passed (i + 1) (d .at) (set keys i key) after
+            → after ≡ storeAll edges (4 * i) (j ∷ k ∷ w ∷ c ∷ []) → ReadSoFar (i + 1) (d .at) (set keys i key) after
         unfolding unlikeFrom edgeNumbers
         edge-passed f {key} same room put =
             record {

@@ -91,13 +91,13 @@ fn read_edge(block: &[u8], at: usize, words: u32, places: u32) -> EdgeRead
     };
     let next = c.at;
     let second = block_field(block, next, end_field(places, from));
-    let Read::Number(upto, d) = second else {
+    let Read::Number(target, d) = second else {
         return EdgeRead::Refused(packing::refusal(second));
     };
     let last = d.at;
     match block_word(block, last, words) {
         CandidateRead::Refused(n) => EdgeRead::Refused(n),
-        CandidateRead::Candidate(word, cost, end) => EdgeRead::Edge(from, upto, word, cost, end),
+        CandidateRead::Candidate(word, cost, end) => EdgeRead::Edge(from, target, word, cost, end),
     }
 }
 
@@ -107,11 +107,11 @@ const KEY_PLACES: u32 = 32;
 const KEY_WORDS: u32 = 256;
 
 // From, to and word of an edge as one number.
-fn edge_key(from: u32, upto: u32, word: u32) -> u32
-    requires { ⌜ (from ≤ 31) × (upto ≤ 31) × (word ≤ 255) ⌝ }
-    ensures { λ k. ⌜ k ≡ keyOf from upto word ⌝ }
+fn edge_key(from: u32, target: u32, word: u32) -> u32
+    requires { ⌜ (from ≤ 31) × (target ≤ 31) × (word ≤ 255) ⌝ }
+    ensures { λ k. ⌜ k ≡ keyOf from target word ⌝ }
 {
-    (from * KEY_PLACES + upto) * KEY_WORDS + word
+    (from * KEY_PLACES + target) * KEY_WORDS + word
 }
 
 // `count` edges, from place `start` of the block, into the array.
@@ -137,14 +137,14 @@ fn read_edges(
             EdgeRead::Refused(n) => {
                 return Read::Refused(n);
             }
-            EdgeRead::Edge(from, upto, word, cost, c) => {
-                let key = edge_key(from, upto, word);
+            EdgeRead::Edge(from, target, word, cost, c) => {
+                let key = edge_key(from, target, word);
                 if rules_reader::seen(&keys, i, key) {
                     return Read::Refused(refused::EDGE_REPEAT);
                 }
                 keys[i] = key;
                 let to = format::NUMBERS_PER_EDGE * i;
-                utterance_edges::store_edge(edges, to, from, upto, word, cost);
+                utterance_edges::store_edge(edges, to, from, target, word, cost);
                 at = c.at;
                 i += 1;
             }

@@ -20,11 +20,11 @@ use Rattle.utterance_edges.proofs.Edges.{edges-in}
 use Rattle.graph_reader.specs.Answer as G
 use Rattle.graph_reader.specs.declared.GraphRead as GR
 use Rattle.graph_reader.specs.declared.GraphSize.{GraphSize}
-use Rattle.graph_reader.proofs.Outcome as GO
+use Rattle.graph_reader.proofs.BlockInversion as GO
 use Rattle.utterance_reader.specs.Answer as U
 use Rattle.utterance_reader.specs.declared.UtteranceRead as UR
 use Rattle.utterance_reader.specs.declared.Slots.{Slots}
-use Rattle.utterance_reader.proofs.Outcome as UO
+use Rattle.utterance_reader.proofs.BlockInversion as UO
 use Rattle.heard_reader.specs.Answer.{Promised}
 use Rattle.heard_reader.specs.declared.HeardRead.the-variants.{Heard, Refused}
 

@@ -1,3 +1,3 @@
-pub mod Outcome
+pub mod BlocksRead
 pub mod Slots
 pub mod Due

@@ -3,5 +3,5 @@ pub mod Unmarked
 pub mod Shapes
 pub mod Walks
 pub mod Rows
-pub mod Outcome
+pub mod RowsMeant
 pub mod Theorems

@@ -14,7 +14,7 @@ use Rattle.packing.proofs.Parse.{accepted-is, refused≢accepted}
 use Rattle.grammar_reader.specs.Answer.{markedAnswer}
 use Rattle.grammar_reader.specs.declared.Sizes.{Sizes}
 use Rattle.grammar_reader.specs.declared.MarkedRead as answer
-use Rattle.grammar_reader.proofs.Told.{marked-refused, of-marked}
+use Rattle.grammar_reader.proofs.FieldInversion.{marked-refused, of-marked}
 use Rattle.heard_reader.specs.Answer.{heardSize}
 use Rattle.heard_reader.specs.declared.HeardSize.{HeardSize}
 use Rattle.lines.specs.Model.{Bounded, ShapeOf, shapeOf}

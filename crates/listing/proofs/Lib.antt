@@ -3,7 +3,7 @@ pub mod Joined
 pub mod Accepted
 pub mod Blocks
 pub mod Written
-pub mod Outcome
+pub mod WaysOut
 pub mod Demand3
 pub mod Refused
 pub mod Within

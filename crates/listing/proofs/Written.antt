@@ -30,7 +30,7 @@ lent-end a P D e =
     let all : length (P ++ D) - a ≡ length D = omega (arith, length-append P D) in
     rw (drop-at P D a e, all) (take-all (length D) D (omega arith))
 
-module _ (t rules : List ℕ) (d : Layout) (f : Form) {limit : ℕ} (form : FormFor limit (d .places) f) where
+module _ (t rules : List ℕ) (d : Layout) (f : Form) {limit : ℕ} (form : FormFor limit (d .last) f) where
   length-blocks : (m : ℕ) → length (blocksAt t rules d f m) ≡ m * f .size
   unfolding blocksAt iter
   length-blocks zero = rw zero-mul

@@ -87,7 +87,7 @@ fn shortage(asked: Asked, symbols: usize, n: usize, size: usize, work: usize, ou
 
 // The reading of a rank of the root, traced back.
 fn write_rank(t: &[u32], rules: &[u32], form: Form, d: Layout, x: usize, out: &mut [u8])
-    requires { do ⌜ (Sized d) × (FormFor (← ⟦MAX_SLOTS⟧) (d .places) form) × (x < d .ranks) × (form .size ≤ length (now out)) ⌝ }
+    requires { do ⌜ (Sized d) × (FormFor (← ⟦MAX_SLOTS⟧) (d .last) form) × (x < d .ranks) × (form .size ≤ length (now out)) ⌝ }
     ensures { λ _. ⌜ now (out .exit) ≡ blockAt (now (t .entry)) (now (rules .entry)) d form x ++ drop (form .size) (now (out .entry)) ⌝ }
 {
     let mut trace = [0u32; TRACE_LENGTH];
@@ -98,7 +98,7 @@ fn write_rank(t: &[u32], rules: &[u32], form: Form, d: Layout, x: usize, out: &m
 
 // The readings of the first m ranks, one after another.
 fn write_readings(t: &[u32], rules: &[u32], form: Form, d: Layout, m: usize, out: &mut [u8])
-    requires { do ⌜ (Sized d) × (FormFor (← ⟦MAX_SLOTS⟧) (d .places) form) × (m ≤ d .ranks) × (m * form .size ≤ length (now out)) ⌝ }
+    requires { do ⌜ (Sized d) × (FormFor (← ⟦MAX_SLOTS⟧) (d .last) form) × (m ≤ d .ranks) × (m * form .size ≤ length (now out)) ⌝ }
     ensures { λ _. ⌜ now (out .exit) ≡ blocksAt (now (t .entry)) (now (rules .entry)) d form m ++ drop (m * form .size) (now (out .entry)) ⌝ }
 {
     let size = form.size;
@@ -118,7 +118,7 @@ fn fill(
     work: &mut [u32],
     out: &mut [u8],
 ) -> usize
-    requires { do ⌜ (Sized d) × (FormFor (← ⟦MAX_SLOTS⟧) (d .places) form) × (arcs ≤ 256) × (d .ranks * form .size ≤ length (now out)) ⌝ }
+    requires { do ⌜ (Sized d) × (FormFor (← ⟦MAX_SLOTS⟧) (d .last) form) × (arcs ≤ 256) × (d .ranks * form .size ≤ length (now out)) ⌝ }
     ensures { λ r. ⌜ Filled (now (rules .entry)) form (now (edges .entry)) arcs d (now (work .entry)) (now (out .entry)) r (now (work .exit)) (now (out .exit))
         ⌝ }
 {

@@ -1,4 +1,4 @@
-pub mod Told
+pub mod WaysOut
 pub mod Digits
 pub mod Cells
 pub mod Parts

@@ -20,10 +20,10 @@ abbrev pub cellOver : Sym → ℕ → ℕ → ℕ
 cellOver A i m = ((m - 1) * 6 + i) * 32 + A .0
 
 abbrev pub cellAt : List ℕ → ℕ → Cell
-cellAt t c = record { same = getD t (3 * c) 0; above = getD t (3 * c + 1) 0; least = getD t (3 * c + 2) 0 }
+cellAt t number = record { same = getD t (3 * number) 0; above = getD t (3 * number + 1) 0; least = getD t (3 * number + 2) 0 }
 
 abbrev pub putCell : List ℕ → ℕ → Cell → List ℕ
-putCell t c x = set (set (set t (3 * c) (x .same)) (3 * c + 1) (x .above)) (3 * c + 2) (x .least)
+putCell t number x = set (set (set t (3 * number) (x .same)) (3 * number + 1) (x .above)) (3 * number + 2) (x .least)
 
 -- two joined, none if one is none
 abbrev pub sum : ℕ → ℕ → ℕ

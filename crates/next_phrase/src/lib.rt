@@ -149,11 +149,11 @@ fn cell_of(a: Sym, part: Part) -> usize
     ((part.length - 1) * MAX_LENGTH + part.from) * MAX_SYMBOLS + arrays::wide(a.0)
 }
 
-fn cell_at(table: &[u64], c: usize) -> Cell
-    requires { do ⌜ (length (now table) ≡ (← ⟦TABLE_LENGTH⟧)) × (c < (← ⟦CELLS⟧)) ⌝ }
-    ensures { λ r. ⌜ r ≡ cellAt (now (table .entry)) c ⌝ }
+fn cell_at(table: &[u64], number: usize) -> Cell
+    requires { do ⌜ (length (now table) ≡ (← ⟦TABLE_LENGTH⟧)) × (number < (← ⟦CELLS⟧)) ⌝ }
+    ensures { λ r. ⌜ r ≡ cellAt (now (table .entry)) number ⌝ }
 {
-    let at = NUMBERS_PER_CELL * c;
+    let at = NUMBERS_PER_CELL * number;
     Cell {
         same: table[at],
         above: table[at + 1],
@@ -161,11 +161,11 @@ fn cell_at(table: &[u64], c: usize) -> Cell
     }
 }
 
-fn put_cell(table: &mut [u64], c: usize, x: Cell)
-    requires { do ⌜ (length (now table) ≡ (← ⟦TABLE_LENGTH⟧)) × (c < (← ⟦CELLS⟧)) ⌝ }
-    ensures { λ _. ⌜ now (table .exit) ≡ putCell (now (table .entry)) c x ⌝ }
+fn put_cell(table: &mut [u64], number: usize, x: Cell)
+    requires { do ⌜ (length (now table) ≡ (← ⟦TABLE_LENGTH⟧)) × (number < (← ⟦CELLS⟧)) ⌝ }
+    ensures { λ _. ⌜ now (table .exit) ≡ putCell (now (table .entry)) number x ⌝ }
 {
-    let at = NUMBERS_PER_CELL * c;
+    let at = NUMBERS_PER_CELL * number;
     table[at] = x.same;
     table[at + 1] = x.above;
     table[at + 2] = x.least;

@@ -10,7 +10,7 @@ use Rattle.packing.specs.Source.{numbers, fieldAt}
 use Rattle.packing.specs.Grammar as G
 use Rattle.packing.specs.Rows.{OfficeSheetRow}
 use Rattle.packing.specs.declared.Field.{Field}
-use Rattle.packing.proofs.Refusals.{Stops, going, Refuses, bind, unlike-row, finish-row, Told, told, ranged, field-at-row}
+use Rattle.packing.proofs.Refusals.{Stops, going, Refuses, bind, unlike-row, finish-row, InRow, told, ranged, field-at-row}
 use Rattle.office.specs.Sheet.{itemFrom, itemsFrom, officeRuleFrom, ruleAlike, officeFrom, officeSheet}
 
 short : OfficeSheetRow 41
@@ -38,7 +38,7 @@ alone : OfficeSheetRow 55
 alone = inr (omega arith, omega arith)
 
 module _ (s : List ℕ) where
-  at-field : (at : ℕ) {f : Field} → Told OfficeSheetRow (numbers s) f → Stops OfficeSheetRow (fieldAt (numbers s) at f)
+  at-field : (at : ℕ) {f : Field} → InRow OfficeSheetRow (numbers s) f → Stops OfficeSheetRow (fieldAt (numbers s) at f)
   at-field at t = field-at-row (numbers s) at short t
 
   number-row : (S W kind at : ℕ) → Stops OfficeSheetRow (fieldAt (numbers s) at (G.firstOf S W kind))

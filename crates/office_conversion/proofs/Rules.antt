@@ -118,7 +118,7 @@ module _ (s : List ℕ) (S R : ℕ) (a : List ℕ) (hs : List Helper) (rs : List
 
 -- the turns of the loop over the rules
 module _ (s : List ℕ) (S R : ℕ) (a : List ℕ) where
-  pub record Passed (p i k : ℕ) (t rules : List ℕ) : Type 0 where
+  pub record ConvertedSoFar (p i k : ℕ) (t rules : List ℕ) : Type 0 where
     pub hs : List Helper
     pub rs : List K.Rule
     pub holds : Holds S R a hs rs t rules k
@@ -127,7 +127,7 @@ module _ (s : List ℕ) (S R : ℕ) (a : List ℕ) where
     pub helpers-left : helpersBehind S hs (officeRulesAt s p (R - i)) ≡ helpersBehind S [] (officeRulesAt s 3 R)
     pub rules-left : rs ++ rulesBehind S hs (officeRulesAt s p (R - i)) ≡ rulesBehind S [] (officeRulesAt s 3 R)
 
-  pub none-passed : AllPassable (officeRulesAt s 3 R) → Passed 3 0 0 (replicate 200 0) a
+  pub none-passed : AllPassable (officeRulesAt s 3 R) → ConvertedSoFar 3 0 0 (replicate 200 0) a
   unfolding rowsOf helperRules storeAll tag placeOf
   none-passed h =
       let z : R - 0 ≡ R = omega arith in
@@ -148,7 +148,7 @@ module _ (s : List ℕ) (S R : ℕ) (a : List ℕ) where
         rules-left = rw z;
       }
 
-  module _ {p i k : ℕ} {t rules : List ℕ} (v : Passed p i k t rules) where
+  module _ {p i k : ℕ} {t rules : List ℕ} (v : ConvertedSoFar p i k t rules) where
     module _ (l : i < R) where
       unrolled : officeRulesAt s p (R - i) ≡ officeRuleAt s p ∷ officeRulesAt s (behind s p) (R - (i + 1))
       unfolding officeRulesAt
@@ -162,7 +162,7 @@ module _ (s : List ℕ) (S R : ℕ) (a : List ℕ) where
 
       pub one-more : {t′ rules′ : List ℕ} {k′ : ℕ}
           → Holds S R a (after S (v .hs) (officeRuleAt s p)) (v .rs ++ (becomes S (v .hs) (officeRuleAt s p) ∷ [])) t′ rules′ k′
-          → Passed (behind s p) (i + 1) k′ t′ rules′
+          → ConvertedSoFar (behind s p) (i + 1) k′ t′ rules′
       unfolding helpersBehind rulesBehind
       one-more h = record {
         hs = after S (v .hs) (officeRuleAt s p);

@@ -11,29 +11,29 @@ use Rattle.office.specs.Office.{Item}
 use Rattle.office.specs.Sheet.{itemFrom, itemsFrom, officeRuleFrom, officeRulesFrom, ruleAlike}
 use Rattle.office.specs.Flat.{officeRuleAt, behindAll, officeRulesAt}
 use Rattle.office.proofs.Read.{item-read, rule-read, rules-snoc}
-use Rattle.office_reader.specs.Answer.{passedOf}
-use Rattle.office_reader.specs.declared.Passed.{Passed}
-use Rattle.office_reader.specs.declared.Passed.the-variants.{Upto, Refused}
+use Rattle.office_reader.specs.Answer.{reachedOf}
+use Rattle.office_reader.specs.declared.Reached.{Reached}
+use Rattle.office_reader.specs.declared.Reached.the-variants.{Upto, Refused}
 
-pub upto-told : {A : Type 0} (x : Parse A) {r : Passed} {n : ℕ} → r ≡ passedOf x → r ≡ Upto n → (a : A) × (x ≡ parsed a n)
+pub upto-told : {A : Type 0} (x : Parse A) {r : Reached} {n : ℕ} → r ≡ reachedOf x → r ≡ Upto n → (a : A) × (x ≡ parsed a n)
 upto-told (parsed a m) {n = n} e h = let z : m ≡ n = cc in (a, ap (λ (k : ℕ). parsed a k) z)
 upto-told (failed m) e h = let z : _≡_ {A = ℕ} 0 1 = cc in absurd (omega arith)
 
-pub refused-told : {A : Type 0} (x : Parse A) {r : Passed} {n : ℕ} → r ≡ passedOf x → r ≡ Refused n → x ≡ failed n
+pub refused-told : {A : Type 0} (x : Parse A) {r : Reached} {n : ℕ} → r ≡ reachedOf x → r ≡ Refused n → x ≡ failed n
 refused-told (parsed a m) e h = let z : _≡_ {A = ℕ} 0 1 = cc in absurd (omega arith)
 refused-told (failed m) {n = n} e h = let z : m ≡ n = cc in ap failed z
 
 -- what is made of a value does not change where it ends
-pub passed-map : {A B : Type 0} (f : A → B) (x : Parse A) → passedOf (x ⟫ λ a at. parsed (f a) at) ≡ passedOf x
+pub passed-map : {A B : Type 0} (f : A → B) (x : Parse A) → reachedOf (x ⟫ λ a at. parsed (f a) at) ≡ reachedOf x
 passed-map f (parsed a at) = refl
 passed-map f (failed n) = refl
 
 module _ (s : List ℕ) (S W n : ℕ) where
   -- the turns of the loop over the items
-  abbrev pub Items : ℕ → ℕ → Passed
-  Items m at = passedOf (itemsFrom s S W n m at)
+  abbrev pub Items : ℕ → ℕ → Reached
+  Items m at = reachedOf (itemsFrom s S W n m at)
 
-  module _ (i at : ℕ) (l : i < n) {r : Passed} (told : r ≡ passedOf (itemFrom s S W n at)) where
+  module _ (i at : ℕ) (l : i < n) {r : Reached} (told : r ≡ reachedOf (itemFrom s S W n at)) where
     pub items-stop : {k : ℕ} → r ≡ Refused k → Items (n - i) at ≡ Refused k
     unfolding itemsFrom
     items-stop e = let z : n - i ≡ suc (n - (i + 1)) = omega arith in rw (z, refused-told (itemFrom s S W n at) told e)
@@ -54,14 +54,14 @@ module _ (s : List ℕ) (S W n : ℕ) where
 
 module _ (s : List ℕ) (S W R : ℕ) where
   -- the turns of the loop over the rules: i rules were read and stand in the sheet from place 3 on
-  abbrev pub Rules : ℕ → ℕ → Passed
-  Rules i at = passedOf (officeRulesFrom s S W (R - i) at (officeRulesAt s 3 i))
+  abbrev pub Rules : ℕ → ℕ → Reached
+  Rules i at = reachedOf (officeRulesFrom s S W (R - i) at (officeRulesAt s 3 i))
 
-  pub rules-start : Rules 0 3 ≡ passedOf (officeRulesFrom s S W R 3 [])
+  pub rules-start : Rules 0 3 ≡ reachedOf (officeRulesFrom s S W R 3 [])
   unfolding officeRulesAt
   rules-start = let z : R - 0 ≡ R = omega arith in rw z
 
-  module _ (i at : ℕ) (l : i < R) (here : at ≡ behindAll s 3 i) {r : Passed} (told : r ≡ passedOf (officeRuleFrom s S W at)) where
+  module _ (i at : ℕ) (l : i < R) (here : at ≡ behindAll s 3 i) {r : Reached} (told : r ≡ reachedOf (officeRuleFrom s S W at)) where
     pub rules-stop : {k : ℕ} → r ≡ Refused k → Rules i at ≡ Refused k
     unfolding unlikeFrom
     rules-stop e = let z : R - i ≡ suc (R - (i + 1)) = omega arith in rw (z, refused-told (officeRuleFrom s S W at) told e)

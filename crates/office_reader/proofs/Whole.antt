@@ -19,9 +19,9 @@ use Rattle.office.specs.Office as O
 use Rattle.office.specs.Sheet.{officeRulesFrom, officeFrom, officeSheet}
 use Rattle.office.specs.Flat.{officeRulesAt, behindAll}
 use Rattle.office.proofs.Read.{rules-read, length-rules}
-use Rattle.office_reader.specs.Answer.{passedOf, answerOf}
-use Rattle.office_reader.specs.declared.Passed.{Passed}
-use Rattle.office_reader.specs.declared.Passed as P
+use Rattle.office_reader.specs.Answer.{reachedOf, answerOf}
+use Rattle.office_reader.specs.declared.Reached.{Reached}
+use Rattle.office_reader.specs.declared.Reached as P
 use Rattle.office_reader.specs.declared.OfficeRead.the-variants.{Office, Refused}
 use Rattle.office_reader.proofs.Passing.{upto-told, refused-told}
 
@@ -84,7 +84,7 @@ module _ (s : List ℕ) where
           let three : c .at ≡ 3 = sizes-end t in
           rw (by-sizes, t, three)
 
-      module _ {q : Passed} (body : q ≡ passedOf (officeRulesFrom s (z .symbols) (z .words) (z .rules) 3 [])) where
+      module _ {q : Reached} (body : q ≡ reachedOf (officeRulesFrom s (z .symbols) (z .words) (z .rules) 3 [])) where
         pub no-rules : {n : ℕ} → q ≡ P.the-variants.Refused n → Refused n ≡ answerOf (officeSheet s)
         unfolding officeSheet
         no-rules h = rw (from-rules, refused-told (officeRulesFrom s (z .symbols) (z .words) (z .rules) 3 []) body h)

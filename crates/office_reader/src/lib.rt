@@ -25,7 +25,7 @@ ghost use Rattle.office.specs.Sheet.{itemKind, itemAlike, itemsAlike, ruleAlike
 ghost use Rattle.office.specs.Flat.{itemAt, itemsAt, officeRuleAt, officeRulesAt};
 ghost use mathlib.Core.List.{[]};
 ghost use Rattle.rules_reader.specs.Rules.{Filters};
-ghost use Rattle.office_reader.specs.Answer.{passedOf, answerOf, InBounds};
+ghost use Rattle.office_reader.specs.Answer.{reachedOf, answerOf, InBounds};
 ghost use Rattle.office_reader.specs.Filter.{itemNumber, itemsPlace, rulePlace};
 
 // Of each rule an office sheet has head, weight and item count, then the items; of each item its kind and its number.
@@ -40,7 +40,7 @@ pub const SYMBOL_ITEM: u32 = 0;
 pub const WORD_ITEM: u32 = 1;
 
 // The place behind a part of the sheet, or the refusal.
-pub enum Passed {
+pub enum Reached {
     Upto(usize),
     Refused(u32),
 }
@@ -91,61 +91,61 @@ fn kind_field(count: u32) -> Field
 }
 
 // An item of a body of `count`.
-fn read_item(sheet: &[u32], at: usize, v: Vocabulary, count: u32) -> Passed
+fn read_item(sheet: &[u32], at: usize, v: Vocabulary, count: u32) -> Reached
     requires { ⌜ (at < 2 ^ 31) × Ranges (v .symbols) (v .words) ⌝ }
-    ensures { λ r. ⌜ r ≡ passedOf (itemFrom (now (sheet .entry)) (v .symbols) (v .words) count at) ⌝ }
+    ensures { λ r. ⌜ r ≡ reachedOf (itemFrom (now (sheet .entry)) (v .symbols) (v .words) count at) ⌝ }
 {
     let read = number(sheet, at, kind_field(count));
     let Read::Number(kind, c) = read else {
-        return Passed::Refused(packing::refusal(read));
+        return Reached::Refused(packing::refusal(read));
     };
     let next = c.at;
     let read = number(sheet, next, first_of(v, kind));
     let Read::Number(_, c) = read else {
-        return Passed::Refused(packing::refusal(read));
+        return Reached::Refused(packing::refusal(read));
     };
-    Passed::Upto(c.at)
+    Reached::Upto(c.at)
 }
 
 // The items of a body.
-fn read_items(sheet: &[u32], start: usize, v: Vocabulary, count: u32) -> Passed
+fn read_items(sheet: &[u32], start: usize, v: Vocabulary, count: u32) -> Reached
     requires { do ⌜ (start < 2 ^ 30) × (count ≤ (← ⟦MAX_ITEMS⟧)) × Ranges (v .symbols) (v .words) ⌝ }
-    ensures { λ r. ⌜ r ≡ passedOf (itemsFrom (now (sheet .entry)) (v .symbols) (v .words) count count start) ⌝ }
+    ensures { λ r. ⌜ r ≡ reachedOf (itemsFrom (now (sheet .entry)) (v .symbols) (v .words) count count start) ⌝ }
 {
     let mut at = start;
     let mut i: u32 = 0;
     while i < count {
         match read_item(sheet, at, v, count) {
-            Passed::Refused(n) => {
-                return Passed::Refused(n);
+            Reached::Refused(n) => {
+                return Reached::Refused(n);
             }
-            Passed::Upto(next) => {
+            Reached::Upto(next) => {
                 at = next;
                 i += 1;
             }
         }
     }
-    Passed::Upto(at)
+    Reached::Upto(at)
 }
 
 // The rule at a place.
-fn read_rule(sheet: &[u32], at: usize, v: Vocabulary) -> Passed
+fn read_rule(sheet: &[u32], at: usize, v: Vocabulary) -> Reached
     requires { ⌜ (at < 2 ^ 29) × Ranges (v .symbols) (v .words) ⌝ }
-    ensures { λ r. ⌜ r ≡ passedOf (officeRuleFrom (now (sheet .entry)) (v .symbols) (v .words) at) ⌝ }
+    ensures { λ r. ⌜ r ≡ reachedOf (officeRuleFrom (now (sheet .entry)) (v .symbols) (v .words) at) ⌝ }
 {
     let read = number(sheet, at, symbol_of(v));
     let Read::Number(_, c) = read else {
-        return Passed::Refused(packing::refusal(read));
+        return Reached::Refused(packing::refusal(read));
     };
     let next = c.at;
     let read = number(sheet, next, WEIGHT_FIELD);
     let Read::Number(_, c) = read else {
-        return Passed::Refused(packing::refusal(read));
+        return Reached::Refused(packing::refusal(read));
     };
     let next = c.at;
     let read = number(sheet, next, ITEM_COUNT_FIELD);
     let Read::Number(count, c) = read else {
-        return Passed::Refused(packing::refusal(read));
+        return Reached::Refused(packing::refusal(read));
     };
     let next = c.at;
     read_items(sheet, next, v, count)
@@ -274,22 +274,22 @@ fn repeated(sheet: &[u32], filter: &[u8], n: usize, at: usize, place: usize) -> 
 }
 
 // The rules.
-fn read_rules(sheet: &[u32], v: Vocabulary, count: usize) -> Passed
+fn read_rules(sheet: &[u32], v: Vocabulary, count: usize) -> Reached
     requires { do ⌜ (count ≤ (← ⟦MAX_RULES⟧)) × Ranges (v .symbols) (v .words) ⌝ }
-    ensures { λ r. ⌜ r ≡ passedOf (officeRulesFrom (now (sheet .entry)) (v .symbols) (v .words) count 3 []) ⌝ }
+    ensures { λ r. ⌜ r ≡ reachedOf (officeRulesFrom (now (sheet .entry)) (v .symbols) (v .words) count 3 []) ⌝ }
 {
     let mut filter = [0u8; FILTER_PLACES];
     let mut at: usize = GRAMMAR_SHEET_HEAD;
     let mut i: usize = 0;
     while i < count {
         match read_rule(sheet, at, v) {
-            Passed::Refused(n) => {
-                return Passed::Refused(n);
+            Reached::Refused(n) => {
+                return Reached::Refused(n);
             }
-            Passed::Upto(next) => {
+            Reached::Upto(next) => {
                 let place = rule_place(sheet, at);
                 if repeated(sheet, &filter, i, at, place) {
-                    return Passed::Refused(refused::GRAMMAR_REPEAT);
+                    return Reached::Refused(refused::GRAMMAR_REPEAT);
                 }
                 filter[place] = 1;
                 at = next;
@@ -297,7 +297,7 @@ fn read_rules(sheet: &[u32], v: Vocabulary, count: usize) -> Passed
             }
         }
     }
-    Passed::Upto(at)
+    Reached::Upto(at)
 }
 
 // The meaning of an office sheet: its sizes.
@@ -314,8 +314,8 @@ pub fn read_sheet(sheet: &[u32]) -> OfficeRead
                 words: sizes.words,
             };
             match read_rules(sheet, v, sizes.rules as usize) {
-                Passed::Refused(n) => OfficeRead::Refused(n),
-                Passed::Upto(end) => {
+                Reached::Refused(n) => OfficeRead::Refused(n),
+                Reached::Upto(end) => {
                     if end == sheet.len() {
                         return OfficeRead::Office(sizes);
                     }

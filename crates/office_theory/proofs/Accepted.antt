@@ -27,7 +27,7 @@ use Rattle.office.proofs.Marked.{marked-grammar}
 use Rattle.office.proofs.Steps.{result-symbols, result-words, result-rules}
 use Rattle.office.specs.Conversion.{forWord, joins, helper, helpers, convert, rulesBehind, helperRules, convertMarked}
 use Rattle.office_theory.proofs.Spelled.{Becomes, word-rule, pair-rule, Meant, for-word, for-items, spells-below}
-use Rattle.office_theory.proofs.Facts.{
+use Rattle.office_theory.proofs.ConvertedRules.{
   headOf,
   Origin,
   of-office,

@@ -30,7 +30,7 @@ use Rattle.office_theory.specs.Maps.{unlessMarked, reduced, leftOf, righ
 use Rattle.office_theory.specs.Matching.{OfficeDerivation, OneToOne}
 use Rattle.office_theory.proofs.Walks.{walk-reduced}
 use Rattle.office_theory.proofs.Spelled.{Spells, a-symbol, a-word, several, word-rule, pair-rule}
-use Rattle.office_theory.proofs.Facts.{
+use Rattle.office_theory.proofs.ConvertedRules.{
   Origin,
   of-office,
   of-word,

@@ -17,7 +17,7 @@ use Rattle.office.specs.Office.{Item, rule, Office, Valid}
 use Rattle.office.specs.Conversion.{Helper, helper, helpers, helperRule, convert, convertMarked}
 use Rattle.office_theory.specs.Matching.{Match}
 use Rattle.office_theory.proofs.Spelled.{Becomes, word-rule, pair-rule}
-use Rattle.office_theory.proofs.Facts.{headOf, helper-rule, Place, office, helping, place, office-rule}
+use Rattle.office_theory.proofs.ConvertedRules.{headOf, helper-rule, Place, office, helping, place, office-rule}
 use Rattle.office_theory.proofs.Matching.{one-to-one}
 use Rattle.office_theory.proofs.Accepted.{marked-valid}
 

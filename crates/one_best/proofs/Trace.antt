@@ -17,11 +17,11 @@ use Rattle.chart_trace.proofs.Shape.{shape}
 use Rattle.chart.specs.Chart.{rootTrace}
 
 -- the trace of the first rank of any table
-module _ (t rules : List ℕ) (d : Layout) (some : 1 ≤ d .places) (small : d .places ≤ 24) where
+module _ (t rules : List ℕ) (d : Layout) (some : 1 ≤ d .last) (small : d .last ≤ 24) where
   trace-size : (m : ℕ) × (m ≤ 24) × (length (rootTrace t rules d 0) + 2 ≡ 4 * m)
   unfolding rootTrace
   trace-size =
-      let (m, few, s) = shape t rules d (d .places) (root d) 0 some (omega arith) in
+      let (m, few, s) = shape t rules d (d .last) (root d) 0 some (omega arith) in
       (m, omega arith, s .numbers)
 
   pub trace-front : {n : ℕ} {trace : List ℕ} → n ≡ length (rootTrace t rules d 0) → trace ≡ storeAll (replicate 94 0) 0 (rootTrace t rules d 0)

@@ -8,7 +8,7 @@ use Rattle.one_best.specs.declared.Pass.{Pass}
 -- what a pass is over, within the bounds of the chart
 pub record Passable (p : Pass) : Type 0 where
   pub sized : Sized (p .table)
-  pub some-place : 0 < p .table .places
+  pub some-place : 0 < p .table .last
   pub some-rank : 0 < p .table .ranks
   pub rules : p .rules ≤ 256
   pub edges : p .edges ≤ 256

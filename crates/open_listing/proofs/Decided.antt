@@ -41,12 +41,12 @@ nothing-reads e = let z : _≡_ {A = ℕ} 0 1 = cc in omega arith
 module _ (search : S.Search) (l : S.Lent) where
   -- a call that is neither refused before the search nor full: what the answer says of the search's table
   data Case (b : S.Blocks) : A.Answer → Type 0 where
-    strays : S.Astray (b .grammar) (b .heard) (l .place) (l .work) (S.made search b l) → Case b (Refused 53)
+    strays : S.Misspelled (b .grammar) (b .heard) (l .place) (l .work) (S.made search b l) → Case b (Refused 53)
     misses : S.Missing (b .grammar) (b .heard) (l .place) (l .work) (S.made search b l) → Case b NoMore
     hands : (e : TableEntry) → entry (b .grammar) (b .heard) (S.made search b l) (symbolOf 0) 0 (lastPlace (b .heard)) (l .place .handed) ≡ some e
-        → (S.Astray (b .grammar) (b .heard) (l .place) (l .work) (S.made search b l) → ⊥) → Case b Reading
+        → (S.Misspelled (b .grammar) (b .heard) (l .place) (l .work) (S.made search b l) → ⊥) → Case b Reading
 
-  stray-found : {b : S.Blocks} → S.Astray (b .grammar) (b .heard) (l .place) (l .work) (S.made search b l)
+  stray-found : {b : S.Blocks} → S.Misspelled (b .grammar) (b .heard) (l .place) (l .work) (S.made search b l)
       → S.Missing (b .grammar) (b .heard) (l .place) (l .work) (S.made search b l) → ⊥
   stray-found a m = none≢some (sym (m .missing) ∙ a .found (m .sought) .1)
 
@@ -75,12 +75,12 @@ module _ (search : S.Search) (l : S.Lent) where
   one-more-case : {b : S.Blocks} {r : S.Left} → S.OneMore search b l r → Case b Reading
   one-more-case more =
       let spelled = spelled-made more in
-      hands (spelled .stands) (spelled .found) (λ astray. astray .none-passes (more .tree) (more .derivation) spelled)
+      hands (spelled .stands) (spelled .found) (λ misspelled. misspelled .none-passes (more .tree) (more .derivation) spelled)
 
   which : {r : S.Left} → S.Called search l r → Which (r .answer)
   which (S.turned-away e is same) = rw is (turned e)
   which (S.full e many is same) = rw is (fulls e many)
-  which (S.altered e below astray is same) = rw is (seeks e below (strays astray))
+  which (S.altered e below misspelled is same) = rw is (seeks e below (strays misspelled))
   which (S.no-more e below missing is same) = rw is (seeks e below (misses missing))
   which (S.one-more e below is more) = rw is (seeks e below (one-more-case more))
 
@@ -110,7 +110,7 @@ module _ (search : S.Search) (l : S.Lent) where
   stayed : {r : S.Left} → S.Called search l r → Stayed (r .answer) (r .table)
   stayed (S.turned-away {n = n} e is same) = as-before (λ x. refusal-reads n (sym is ∙ x)) (same .table)
   stayed (S.full e many is same) = as-before (λ x. full-reads (sym is ∙ x)) (same .table)
-  stayed (S.altered e below astray is same) = as-before (λ x. refusal-reads 53 (sym is ∙ x)) (same .table)
+  stayed (S.altered e below misspelled is same) = as-before (λ x. refusal-reads 53 (sym is ∙ x)) (same .table)
   stayed (S.no-more e below missing is same) = as-before (λ x. nothing-reads (sym is ∙ x)) (same .table)
   stayed (S.one-more e below is more) = rw is (by-search e (more .table-is))
 
@@ -206,7 +206,7 @@ module _ (search : S.Search) (l : S.Lent) where
   wrote : {r : S.Left} → S.Called search l r → Wrote (r .answer) (r .output)
   wrote (S.turned-away {n = n} e is same) = nothing (λ x. refusal-reads n (sym is ∙ x)) (same .output)
   wrote (S.full e many is same) = nothing (λ x. full-reads (sym is ∙ x)) (same .output)
-  wrote (S.altered e below astray is same) = nothing (λ x. refusal-reads 53 (sym is ∙ x)) (same .output)
+  wrote (S.altered e below misspelled is same) = nothing (λ x. refusal-reads 53 (sym is ∙ x)) (same .output)
   wrote (S.no-more e below missing is same) = nothing (λ x. nothing-reads (sym is ∙ x)) (same .output)
   wrote (S.one-more e below is more) = rw is (reading e (record { derived = more .derivation; spelled = spelled-made search l more }) (more .written))
 

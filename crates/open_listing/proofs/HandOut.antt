@@ -22,7 +22,7 @@ module _ (t rules edges : List ℕ) (p : Plan) (x : ℕ) {limit : ℕ} (planned 
   some-numbers : 0 < numbers
   unfolding rootTrace
   some-numbers =
-      let (m, few, s) = shape t rules (p .layout) (p .layout .places) (root (p .layout)) x (planned .form .some-place) (omega arith) in
+      let (m, few, s) = shape t rules (p .layout) (p .layout .last) (root (p .layout)) x (planned .form .some-place) (omega arith) in
       omega (arith, s .numbers)
 
   pub spelled : {n : ℕ} → n ≡ pick (handsOut t rules edges p x) numbers 0 → (n ≡ 0 → ⊥) → (handsOut t rules edges p x ≡ true) × (n ≡ numbers)

@@ -9,6 +9,6 @@ pub mod Plans
 pub mod Promises
 pub mod Steps
 pub mod Calls
-pub mod Outcome
+pub mod WaysOut
 pub mod Refused
 pub mod Decided

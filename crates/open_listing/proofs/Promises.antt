@@ -121,9 +121,9 @@ module _ (search : S.Search) (grammar heard : List ℕ) (g : Grammar) (h : Heard
     NonePasses = (z : Tree) → Derivation g h z → SpelledReading g h table (p .handed) z → ⊥
 
     -- by what is known of the table where the rank is taken for found, and where not
-    called-by : search g h p work ≡ table → S.Looked g h p work table → (found ≡ true → NonePasses → S.Astray g h p work table)
+    called-by : search g h p work ≡ table → S.Looked g h p work table → (found ≡ true → NonePasses → S.Misspelled g h p work table)
         → (found ≡ false → S.Missing g h p work table) → S.Called search (S.lent grammar heard p work out) (S.left r work′ out′)
-    called-by made looked astray missing = go found (handsOut table rules edges (plan g h) (p .handed)) refl refl answer-is
+    called-by made looked misspelled missing = go found (handsOut table rules edges (plan g h) (p .handed)) refl refl answer-is
       where
         none-passes : handsOut table rules edges (plan g h) (p .handed) ≡ false → NonePasses
         none-passes f z derived spelled =
@@ -133,7 +133,7 @@ module _ (search : S.Search) (grammar heard : List ℕ) (g : Grammar) (h : Heard
         go : (a b : Bool) → found ≡ a → handsOut table rules edges (plan g h) (p .handed) ≡ b → r ≡ pick a (pick b Reading (Refused 53)) NoMore
             → S.Called search (S.lent grammar heard p work out) (S.left r work′ out′)
         go false b is hands e = S.no-more calls below (rw made (missing is)) e (nothing-left NoMore e refl)
-        go true false is hands e = S.altered calls below (rw made (astray is (none-passes hands))) e (nothing-left (Refused 53) e refl)
+        go true false is hands e = S.altered calls below (rw made (misspelled is (none-passes hands))) e (nothing-left (Refused 53) e refl)
         go true true is hands e = S.one-more calls below e (one-more e made looked hands)
 
   -- where the rank was looked for or not, as the test says: whatever the table held
@@ -158,7 +158,7 @@ module _ (search : S.Search) (grammar heard : List ℕ) (g : Grammar) (h : Heard
       pub called : search g h p work ≡ table → S.Looked g h p work table → S.Called search (S.lent grammar heard p work out) (S.left r work′ out′)
       called made looked =
           called-by below table answered made looked
-          (λ is astray. record { looked = looked; none-passes = astray; found = λ s. asked-found (tested sought (tests s) is) })
+          (λ is misspelled. record { looked = looked; none-passes = misspelled; found = λ s. asked-found (tested sought (tests s) is) })
           (λ is. let (s, missing) = untested sought is in record { looked = looked; sought = is-sought s; missing = asked-missing missing })
         where
           tested : (b : Bool) → b ≡ true → {c : Bool} → pick b c true ≡ true → c ≡ true

@@ -41,7 +41,7 @@ module _ (table rules edges : List ℕ) (p : Plan) (x : ℕ) (work out : List �
 
 -- of a later call
 module _ (rules edges : List ℕ) (p : Plan) {limit : ℕ} (planned : Planned limit p) (x : ℕ) (work : List ℕ) {index t : List ℕ}
-    (made : index ≡ makeIndex rules (p .form .rules) (p .layout .symbols) edges (p .edges) (p .layout .places) (replicate indexNumbers 0))
+    (made : index ≡ makeIndex rules (p .form .rules) (p .layout .symbols) edges (p .edges) (p .layout .last) (replicate indexNumbers 0))
     (stepped : t ≡ nextOfRoot rules edges index (p .layout) work x) where
   pub table-next : t ≡ nextTable rules edges p x work
   unfolding nextTable

@@ -46,7 +46,7 @@ planOf b = record {
 pub record Planned (limit : ℕ) (p : Plan) : Type 0 where
   pub sized : Sized (p .layout)
   pub all-ranks : p .layout .ranks ≡ 256
-  pub form : FormFor limit (p .layout .places) (p .form)
+  pub form : FormFor limit (p .layout .last) (p .form)
   pub edges : p .edges ≤ 256
 
 module _ (t rules edges : List ℕ) (p : Plan) (x : ℕ) where
@@ -66,12 +66,12 @@ outputBy b t rules p x out = pick b (blockAt t rules (p .layout) (p .form) x ++ 
 unfoldable pub firstTable : (rules edges : List ℕ) → Plan → List ℕ → List ℕ
 firstTable rules edges p work =
     let d = p .layout in
-    let single : Layout = record { symbols = d .symbols; places = d .places; ranks = 1; cells = d .cells } in
+    let single : Layout = record { symbols = d .symbols; last = d .last; ranks = 1; cells = d .cells } in
     enumerate rules (p .form .rules) edges (p .edges) single (4 * d .cells) ++ drop (4 * d .cells) work
 
 unfoldable pub nextTable : (rules edges : List ℕ) → Plan → ℕ → List ℕ → List ℕ
 nextTable rules edges p x work =
-    nextOfRoot rules edges (makeIndex rules (p .form .rules) (p .layout .symbols) edges (p .edges) (p .layout .places) (replicate indexNumbers 0))
+    nextOfRoot rules edges (makeIndex rules (p .form .rules) (p .layout .symbols) edges (p .edges) (p .layout .last) (replicate indexNumbers 0))
     (p .layout) work x
 
 -- what is left where rank x is there or not, as the first test says: the table and the reading, or everything as it was

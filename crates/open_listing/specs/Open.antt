@@ -89,7 +89,7 @@ module _ (g : Grammar) (h : Heard) (p : Place) (work table : List ℕ) where
   AskedFound = Found g h table (symbolOf 0) 0 (lastPlace h) (p .handed)
 
   -- that rank spells no reading that passes; where it was looked for, it is found
-  pub record Astray : Type 0 where
+  pub record Misspelled : Type 0 where
     pub looked : Looked
     pub none-passes : (z : Tree) → Derivation g h z → SpelledReading g h table (p .handed) z → ⊥
     pub found : LooksFor g h p work → AskedFound
@@ -148,7 +148,7 @@ pub data Called (search : Search) (l : Lent) (r : Left) : Type 0 where
   turned-away : {n : ℕ} → asked l ≡ refused n → r .answer ≡ Refused n → Unchanged l r → Called search l r
   full : {b : Blocks} → asked l ≡ accepted b → 256 ≤ l .place .handed → r .answer ≡ Full → Unchanged l r → Called search l r
   altered : {b : Blocks} → asked l ≡ accepted b → l .place .handed < 256
-      → Astray (b .grammar) (b .heard) (l .place) (l .work) (made search b l) → r .answer ≡ Refused 53 → Unchanged l r → Called search l r
+      → Misspelled (b .grammar) (b .heard) (l .place) (l .work) (made search b l) → r .answer ≡ Refused 53 → Unchanged l r → Called search l r
   no-more : {b : Blocks} → asked l ≡ accepted b → l .place .handed < 256
       → Missing (b .grammar) (b .heard) (l .place) (l .work) (made search b l) → r .answer ≡ NoMore → Unchanged l r → Called search l r
   one-more : {b : Blocks} → asked l ≡ accepted b → l .place .handed < 256 → r .answer ≡ Reading → OneMore search b l r → Called search l r

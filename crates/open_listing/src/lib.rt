@@ -165,7 +165,7 @@ fn first(work: &mut [u32], rules: &[u32], edges: &[u32], plan: Plan, out: &mut [
     if all_zero(&work[..front]) {
         let single = Layout {
             symbols: d.symbols,
-            places: d.places,
+            last: d.last,
             ranks: 1,
             cells: d.cells,
         };

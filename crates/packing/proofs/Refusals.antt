@@ -108,22 +108,22 @@ missingOf (bytes missing s) = missing
 missingOf (numbers s) = 41
 
 -- the refusals of such values are of the row
-pub data Told (Row : ℕ → Type 0) (src : Source) : Field → Type 0 where
-  told : {f : Field} → ((v : ℕ) → Held src f v → (f .most < v → Row (f .above)) × (v < f .least → Row (f .below))) → Told Row src f
+pub data InRow (Row : ℕ → Type 0) (src : Source) : Field → Type 0 where
+  told : {f : Field} → ((v : ℕ) → Held src f v → (f .most < v → Row (f .above)) × (v < f .least → Row (f .below))) → InRow Row src f
 
 module _ {Row : ℕ → Type 0} where
   -- a field with one refusal, which is of the row
-  pub ranged : {src : Source} {width least most n : ℕ} → Row n → Told Row src (within width least most n)
+  pub ranged : {src : Source} {width least most n : ℕ} → Row n → InRow Row src (within width least most n)
   ranged r = told (λ v h. (λ a. r, λ b. r))
 
   -- a field whose range is all that its width can hold is never refused in a block
-  pub as-wide : {missing : ℕ} {s : List ℕ} {width most n : ℕ} → 2 ^ width ≤ most + 1 → Told Row (bytes missing s) (within width 0 most n)
+  pub as-wide : {missing : ℕ} {s : List ℕ} {width most n : ℕ} → 2 ^ width ≤ most + 1 → InRow Row (bytes missing s) (within width 0 most n)
   as-wide {width = width} {most} {n} l = told none
     where
       none : (v : ℕ) → v < 2 ^ width → (most < v → Row n) × (v < 0 → Row n)
       none v h = (λ a. absurd (omega arith), λ b. absurd (omega arith))
 
-  in-range-row : {src : Source} (f : Field) (v next : ℕ) → Held src f v → Told Row src f → Stops Row (inRange f v next)
+  in-range-row : {src : Source} (f : Field) (v next : ℕ) → Held src f v → InRow Row src f → Stops Row (inRange f v next)
   unfolding inRange
   in-range-row f v next h (told t) =
       let r = t v h in
@@ -134,24 +134,24 @@ module _ {Row : ℕ → Type 0} where
   otherwise true n l h = h
   otherwise false n l h = stopped l
 
-  pub field-at-row : (src : Source) (at : ℕ) {f : Field} → Row (missingOf src) → Told Row src f → Stops Row (fieldAt src at f)
+  pub field-at-row : (src : Source) (at : ℕ) {f : Field} → Row (missingOf src) → InRow Row src f → Stops Row (fieldAt src at f)
   unfolding fieldAt
   field-at-row (bytes missing s) at {f} m t =
       otherwise (leb (at + f .width) (8 * length s)) missing m (in-range-row f _ _ (field-lt s at (f .width)) t)
   field-at-row (numbers s) at {f} m t = otherwise (ltb at (length s)) 41 m (in-range-row f _ _ tt t)
 
 module _ {Row : ℕ → Type 0} (src : Source) (end : Row (missingOf src)) where
-  at-field : (at : ℕ) {f : Field} → Told Row src f → Stops Row (fieldAt src at f)
+  at-field : (at : ℕ) {f : Field} → InRow Row src f → Stops Row (fieldAt src at f)
   at-field at t = field-at-row src at end t
 
   -- grammars: the refusals of S, W and R, of symbols, words and equal rules, of what only a sheet can get wrong, and of its length
   module _ (sizes : Row 3) (symbols : Row 4) (words : Row 5) (equals : Row 6)
-      (kinds : Told Row src ruleKind) (weights : Told Row src weightField) (lasts : Told Row src nothing) (marks : Told Row src markField)
+      (kinds : InRow Row src ruleKind) (weights : InRow Row src weightField) (lasts : InRow Row src nothing) (marks : InRow Row src markField)
       (marking : Bool) (count : (R : ℕ) → unfit marking src R ≡ true → Row 41) where
-    body-row : (S W kind : ℕ) → Told Row src (firstOf S W kind) × Told Row src (secondOf S kind)
+    body-row : (S W kind : ℕ) → InRow Row src (firstOf S W kind) × InRow Row src (secondOf S kind)
     body-row S W kind = go (eqb kind 0)
       where
-        go : (b : Bool) → Told Row src (pick b (symbol S) (ruleWord W)) × Told Row src (pick b (symbol S) nothing)
+        go : (b : Bool) → InRow Row src (pick b (symbol S) (ruleWord W)) × InRow Row src (pick b (symbol S) nothing)
         go true = (ranged symbols, ranged symbols)
         go false = (ranged words, lasts)
 
@@ -176,7 +176,7 @@ module _ {Row : ℕ → Type 0} (src : Source) (end : Row (missingOf src)) where
         test (unfit marking src R) 41 (count R) (bind (unlike-row markedAlike (marked-row S W) equals R at []) (λ rs at. going)))))
 
   -- utterances: of the counts, of a word that is none or does not ascend, and of a cost
-  module _ (counts : Row 13) (words : Row 14) (order : Row 15) (costs : Told Row src cost) where
+  module _ (counts : Row 13) (words : Row 14) (order : Row 15) (costs : InRow Row src cost) where
     candidates-row : (W n least at : ℕ) (cs : List Candidate) → Stops Row (candidatesFrom src W n least at cs)
     unfolding candidatesFrom
     candidates-row W zero least at cs = going
@@ -194,7 +194,7 @@ module _ {Row : ℕ → Type 0} (src : Source) (end : Row (missingOf src)) where
     unfolding utteranceFrom
     utterance-row W at = bind (at-field at (ranged counts)) (λ n at. slots-row W n at [])
 
-  walk-row : (R m at : ℕ) (rs : List ℕ) → Told Row src (ruleNumber R) → Stops Row (walkFrom src R m at rs)
+  walk-row : (R m at : ℕ) (rs : List ℕ) → InRow Row src (ruleNumber R) → Stops Row (walkFrom src R m at rs)
   unfolding walkFrom
   walk-row R zero at rs t = going
   walk-row R (suc m) at rs t = bind (at-field at t) (λ r at. walk-row R m at (rs ++ (r ∷ [])) t)

@@ -61,7 +61,7 @@ notHeard = 65535
 
 -- from a place to a later one, by a word with its cost
 pub data Edge : Type 0 where
-  edge : (from upto : ℕ) (w : W.Word) (cost : ℕ) → Edge
+  edge : (from to : ℕ) (w : W.Word) (cost : ℕ) → Edge
 
 -- a candidate of slot i goes from place i to place i + 1
 unfoldable pub slotEdges : ℕ → List Candidate → List Edge

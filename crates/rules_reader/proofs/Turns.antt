@@ -56,7 +56,7 @@ module _ (marking : Bool) (src : Source) (S W R start : ℕ) where
   whole = rulesFrom marking src S W R start []
 
   -- after i rules, at a place: rs were read, the keys tell which rules these are, and their numbers and marks stand at the arrays' fronts
-  pub record Passed (i at : ℕ) (keys before rules marks : List ℕ) : Type 0 where
+  pub record ReadSoFar (i at : ℕ) (keys before rules marks : List ℕ) : Type 0 where
     pub rs : List MarkedRule
     pub size : length rs ≡ i
     pub keyed : RulesKeyed (map ruleIn rs) (take i keys)
@@ -64,7 +64,7 @@ module _ (marking : Bool) (src : Source) (S W R start : ℕ) where
     pub borne : take i marks ≡ map markIn rs
     pub left : rulesFrom marking src S W (R - i) at rs ≡ whole
 
-  pub none-passed : (keys rules marks : List ℕ) → Passed 0 start keys rules rules marks
+  pub none-passed : (keys rules marks : List ℕ) → ReadSoFar 0 start keys rules rules marks
   unfolding rulesEntries storeAll
   none-passed keys rules marks =
       let all : R - 0 ≡ R = omega arith in
@@ -74,7 +74,7 @@ module _ (marking : Bool) (src : Source) (S W R start : ℕ) where
   told-refused : (n : ℕ) (before rules marks : List ℕ) → failed n ≡ whole → RulesTold marking src S W R start (Refused n) before rules marks
   told-refused n before rules marks e = record { answer = rw (← e); rows = rw (← e) tt; near = tt }
 
-  module _ {i at : ℕ} {keys before rules marks : List ℕ} (p : Passed i at keys before rules marks) where
+  module _ {i at : ℕ} {keys before rules marks : List ℕ} (p : ReadSoFar i at keys before rules marks) where
     -- the numbers stored so far
     abbrev numbers : List ℕ
     numbers = values (rulesEntries S W (map ruleIn (p .rs)))
@@ -116,7 +116,7 @@ module _ (marking : Bool) (src : Source) (S W R start : ℕ) where
         rule-repeated t = told-refused 6 before rules marks (rw (one-more l, ← told, e, alike-seen, t) at (p .left))
 
         pub rule-passed : seen ≡ false → (k : ℕ) → k ≡ keyOf n → i < length keys → (array : List ℕ) → array ≡ storeAll rules (5 * i) (row n)
-            → i < length marks → Passed (i + 1) (c .at) (set keys i k) before array (set marks i m)
+            → i < length marks → ReadSoFar (i + 1) (c .at) (set keys i k) before array (set marks i m)
         unfolding unlikeFrom
         rule-passed f k key room array stored space =
             let more : map ruleIn (p .rs ++ (marked (ruleBy n) m ∷ [])) ≡ map ruleIn (p .rs) ++ (ruleBy n ∷ []) =

@@ -1,4 +1,4 @@
-pub mod Told
+pub mod FieldInversion
 pub mod Numbers
 pub mod Candidates
 pub mod Slots

@@ -33,7 +33,7 @@ lesserRule t a m best rule = byRule (lesserSplit t m) (λ x best. lesserWord bes
 
 -- the string of cell c, and the table with the strings of all lengths up to n
 abbrev pub leastOfCell : List ℕ → ℕ → List ℕ → ℕ → List ℕ
-leastOfCell rules count t c = leastAt padded (fittedAt rules) count stringAt t c
+leastOfCell rules count t number = leastAt padded (fittedAt rules) count stringAt t number
 
 abbrev pub fillTable : List ℕ → ℕ → ℕ → List ℕ → List ℕ
 fillTable rules count n t = fill putString (leastOfCell rules count) t (32 * n)

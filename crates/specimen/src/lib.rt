@@ -121,12 +121,12 @@ fn lesser_rule(
 }
 
 // The string of cell c: the least of its symbol and its length.
-fn least_of_cell(table: &[u8], rules: &[u32], count: usize, c: usize) -> [u8; MAX_SLOTS]
-    requires { do ⌜ (length (now table) ≡ (← ⟦TABLE_LENGTH⟧)) × (count ≤ (← ⟦MAX_RULES⟧)) × (c < (← ⟦CELLS⟧)) ⌝ }
-    ensures { λ r. ⌜ r ≡ leastOfCell (now (rules .entry)) count (now (table .entry)) c ⌝ }
+fn least_of_cell(table: &[u8], rules: &[u32], count: usize, number: usize) -> [u8; MAX_SLOTS]
+    requires { do ⌜ (length (now table) ≡ (← ⟦TABLE_LENGTH⟧)) × (count ≤ (← ⟦MAX_RULES⟧)) × (number < (← ⟦CELLS⟧)) ⌝ }
+    ensures { λ r. ⌜ r ≡ leastOfCell (now (rules .entry)) count (now (table .entry)) number ⌝ }
 {
-    let a = (c % MAX_SYMBOLS) as u32;
-    let len = c / MAX_SYMBOLS + 1;
+    let a = (number % MAX_SYMBOLS) as u32;
+    let len = number / MAX_SYMBOLS + 1;
     let mut best = padded_strings::one_word(NO_STRING);
     for r in 0..count {
         // a rule of another head makes nothing, and the string is not copied

@@ -17,7 +17,7 @@ use Rattle.cost_ranges.specs.CostRanges.{answered, ranges, rangedOf}
 use Rattle.cost_ranges.specs.declared.Ranged.{Ranged}
 use Rattle.cost_ranges.specs.declared.Ranged.the-variants.{Nothing, Outweighed, Stands, Refused}
 use Rattle.cost_ranges.proofs.Refused.{ranges-asked, ranges-row}
-use Rattle.cost_ranges.proofs.Outcome.{answers-asked}
+use Rattle.cost_ranges.proofs.WaysOut.{answers-asked}
 use Rattle.spireyerba.specs.Code.{codeOf, rangesCode, leastAfter, greatestAfter, RangedAs}
 use Rattle.spireyerba.specs.Demands as D
 use Rattle.spireyerba.specs.Demands.{rangesNumber, leastOf, greatestOf}

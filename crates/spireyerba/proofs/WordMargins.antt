@@ -11,7 +11,7 @@ use Rattle.chart.specs.WorkTable.{workAfter}
 use Rattle.word_margins.specs.Conditions.{askedMargins}
 use Rattle.word_margins.specs.WordMargins.{margins, outputAfter}
 use Rattle.word_margins.proofs.Refused.{margins-asked, margins-row}
-use Rattle.word_margins.proofs.Outcome.{margins-listed}
+use Rattle.word_margins.proofs.WaysOut.{margins-listed}
 use Rattle.spireyerba.specs.Code.{codeOf}
 use Rattle.spireyerba.specs.Demands as D
 use Rattle.spireyerba.proofs.Demands.{asked-first}

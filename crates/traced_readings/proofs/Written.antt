@@ -60,14 +60,14 @@ cut room k l short h =
     ap (take k) whole ∙ take-at head (zeros (room - k)) k size ∙ sym (stored k l short)
 
 -- rank x of the root of any table, in an array with room for a path over all places
-module _ (t rules : List ℕ) (d : Layout) (x : ℕ) (some : 1 ≤ d .places) where
+module _ (t rules : List ℕ) (d : Layout) (x : ℕ) (some : 1 ≤ d .last) where
   -- a path of m edges is traced
   pub record Path (m : ℕ) : Type 0 where
     pub some-edge : 1 ≤ m
-    pub few : m ≤ d .places
+    pub few : m ≤ d .last
     pub edges : edgesAt t rules d x ≡ m
-    pub stands : (room : ℕ) → traceNumbers (d .places) ≤ room → take (traceNumbers m) (traceIn room t rules d x) ≡ rootTrace t rules d x
-    pub numbers : length (rootTrace t rules d x) ≤ traceNumbers (d .places)
+    pub stands : (room : ℕ) → traceNumbers (d .last) ≤ room → take (traceNumbers m) (traceIn room t rules d x) ≡ rootTrace t rules d x
+    pub numbers : length (rootTrace t rules d x) ≤ traceNumbers (d .last)
     pub nodes : suc (length (nodesIn rules (rootTrace t rules d x))) ≡ 2 * m
     pub words : wordNodes (nodesIn rules (rootTrace t rules d x)) ≤ m
 
@@ -84,7 +84,7 @@ module _ (t rules : List ℕ) (d : Layout) (x : ℕ) (some : 1 ≤ d .places) wh
   pub path : (m : ℕ) × Path m
   unfolding rootTrace
   path =
-      let (m, few, s) = shape t rules d (d .places) (root d) x some (omega arith) in (
+      let (m, few, s) = shape t rules d (d .last) (root d) x some (omega arith) in (
         m,
         record {
           some-edge = omega (arith, s .numbers);
@@ -99,67 +99,67 @@ module _ (t rules : List ℕ) (d : Layout) (x : ℕ) (some : 1 ≤ d .places) wh
 
   -- in an array for a path over all places
   pub stands-at : {m : ℕ} → Path m → take (traceNumbers m) (traceAt t rules d x) ≡ rootTrace t rules d x
-  stands-at p = p .stands (traceNumbers (d .places)) (le-refl _)
+  stands-at p = p .stands (traceNumbers (d .last)) (le-refl _)
 
   -- its reading as that of a graph, and what it fits into
   abbrev graphReadingAt : GraphReading
   graphReadingAt = graphReadingOf rules (edgesAt t rules d x) (rootWeight t d x) (traceAt t rules d x)
 
-  graph-room : (R : ℕ) → 34 + widths (flds (traceEntries R (graphReadingAt .trace))) ≤ 8 * graphReadingLength (d .places) R
+  graph-room : (R : ℕ) → 34 + widths (flds (traceEntries R (graphReadingAt .trace))) ≤ 8 * graphReadingLength (d .last) R
   unfolding graphReadingLength
   graph-room R =
       let (m, p) = path in
       let xs = nodesIn rules (rootTrace t rules d x) in
-      let few : length xs * widthOf (R - 1) ≤ (2 * d .places - 1) * widthOf (R - 1) = mul-le-mul-right (widthOf (R - 1)) (omega (arith, p .nodes, p .few)) in
+      let few : length xs * widthOf (R - 1) ≤ (2 * d .last - 1) * widthOf (R - 1) = mul-le-mul-right (widthOf (R - 1)) (omega (arith, p .nodes, p .few)) in
       rw (p .edges, stands-at p, trace-bits R xs) (omega (arith, few, p .words, p .few))
 
-  graph-fits : (R : ℕ) → length (blockOfGraphReading R graphReadingAt) ≤ graphReadingLength (d .places) R
+  graph-fits : (R : ℕ) → length (blockOfGraphReading R graphReadingAt) ≤ graphReadingLength (d .last) R
   unfolding blockOfGraphReading graphReadingEntries widths
   graph-fits R = rw Fields.length-block (omega (arith, graph-room R))
 
   -- the bytes of a reading, of either kind
-  pub length-at : {limit : ℕ} (f : Form) → FormFor limit (d .places) f → length (blockAt t rules d f x) ≡ f .size
+  pub length-at : {limit : ℕ} (f : Form) → FormFor limit (d .last) f → length (blockAt t rules d f x) ≡ f .size
   unfolding blockAt
   length-at f form = go (f .graph) refl
     where
       go : (b : Bool) → f .graph ≡ b → length (blockAt t rules d f x) ≡ f .size
       go true e =
-          let size : f .size ≡ graphReadingLength (d .places) (f .rules) = rw e at (form .size) in
+          let size : f .size ≡ graphReadingLength (d .last) (f .rules) = rw e at (form .size) in
           rw e (length-padded (f .size) (blockOfGraphReading (f .rules) graphReadingAt) (rw size (graph-fits (f .rules))))
       go false e =
-          let size : f .size ≡ readingLength (d .places) (f .rules) = rw e at (form .size) in
-          rw (e, size) (length-reading (f .rules) (readingOf (d .places) (rootWeight t d x) (traceAt t rules d x))
-          (walk-length (2 * d .places - 1) (take (traceNumbers (d .places)) (traceAt t rules d x))
-          (length-take-le (traceNumbers (d .places)) (traceAt t rules d x) (rw (length-store, length-replicate) (le-refl _)))))
+          let size : f .size ≡ readingLength (d .last) (f .rules) = rw e at (form .size) in
+          rw (e, size) (length-reading (f .rules) (readingOf (d .last) (rootWeight t d x) (traceAt t rules d x))
+          (walk-length (2 * d .last - 1) (take (traceNumbers (d .last)) (traceAt t rules d x))
+          (length-take-le (traceNumbers (d .last)) (traceAt t rules d x) (rw (length-store, length-replicate) (le-refl _)))))
 
   -- what the writers are given, from an array with more room than they need
   pub record Given (R size n : ℕ) (trace : List ℕ) : Type 0 where
     pub some-edge : 1 ≤ n
-    pub few : n ≤ d .places
+    pub few : n ≤ d .last
     pub long : traceNumbers n ≤ length trace
     pub room : 34 + widths (flds (traceEntries R (nodesIn rules (take (traceNumbers n) trace)))) ≤ 8 * size
 
-  module _ {room numbers : ℕ} {trace : List ℕ} (traced : Traced room trace t rules d x numbers) (enough : traceNumbers (d .places) ≤ room) where
-    pub trace-long : traceNumbers (d .places) ≤ length trace
+  module _ {room numbers : ℕ} {trace : List ℕ} (traced : Traced room trace t rules d x numbers) (enough : traceNumbers (d .last) ≤ room) where
+    pub trace-long : traceNumbers (d .last) ≤ length trace
     trace-long = rw (traced .stands, length-store, length-replicate) enough
 
     same-front : {m : ℕ} → Path m → take (traceNumbers m) trace ≡ take (traceNumbers m) (traceAt t rules d x)
     same-front p = rw (traced .stands) (p .stands room enough ∙ sym (stands-at p))
 
-    same-whole : take (traceNumbers (d .places)) trace ≡ take (traceNumbers (d .places)) (traceAt t rules d x)
+    same-whole : take (traceNumbers (d .last)) trace ≡ take (traceNumbers (d .last)) (traceAt t rules d x)
     same-whole =
         let (m, p) = path in
-        let k = traceNumbers (d .places) in
+        let k = traceNumbers (d .last) in
         let l = rootTrace t rules d x in
         rw (traced .stands) (cut room k l (p .numbers) enough ∙ sym (cut k k l (p .numbers) (le-refl k)))
 
     edges-is : (numbers / 2 + 1) / 2 ≡ edgesAt t rules d x
     edges-is = ap (λ (k : ℕ). (k / 2 + 1) / 2) (traced .count)
 
-    pub given : {limit : ℕ} (f : Form) → FormFor limit (d .places) f → f .graph ≡ true → Given (f .rules) (f .size) ((numbers / 2 + 1) / 2) trace
+    pub given : {limit : ℕ} (f : Form) → FormFor limit (d .last) f → f .graph ≡ true → Given (f .rules) (f .size) ((numbers / 2 + 1) / 2) trace
     given f form is =
         let (m, p) = path in
-        let size : f .size ≡ graphReadingLength (d .places) (f .rules) = rw is at (form .size) in
+        let size : f .size ≡ graphReadingLength (d .last) (f .rules) = rw is at (form .size) in
         let all = rw (p .edges) at (graph-room (f .rules)) in
         rw (edges-is, p .edges) (record {
           some-edge = p .some-edge;
@@ -175,11 +175,11 @@ module _ (t rules : List ℕ) (d : Layout) (x : ℕ) (some : 1 ≤ d .places) wh
     unfolding blockAt
     graph-written f out is e o = let (m, p) = path in o ∙ rw (is, e, edges-is, p .edges, same-front p)
 
-    pub slots-written : {limit : ℕ} (f : Form) (out : List ℕ) {w : ℕ} {out′ : List ℕ} → FormFor limit (d .places) f → f .graph ≡ false → w ≡ rootWeight t d x
-        → out′ ≡ blockOfReading (f .rules) (readingOf (d .places) w trace) ++ drop (length (blockOfReading (f .rules) (readingOf (d .places) w trace))) out
+    pub slots-written : {limit : ℕ} (f : Form) (out : List ℕ) {w : ℕ} {out′ : List ℕ} → FormFor limit (d .last) f → f .graph ≡ false → w ≡ rootWeight t d x
+        → out′ ≡ blockOfReading (f .rules) (readingOf (d .last) w trace) ++ drop (length (blockOfReading (f .rules) (readingOf (d .last) w trace))) out
         → out′ ≡ blockAt t rules d f x ++ drop (f .size) out
     unfolding blockAt
     slots-written f out form is e o =
-        let size : length (blockOfReading (f .rules) (readingOf (d .places) (rootWeight t d x) (traceAt t rules d x))) ≡ f .size =
+        let size : length (blockOfReading (f .rules) (readingOf (d .last) (rootWeight t d x) (traceAt t rules d x))) ≡ f .size =
         rw is at (length-at f form) in
         o ∙ rw (is, e, same-whole, size)

@@ -39,7 +39,7 @@ abbrev pub traceIn : (room : ℕ) → List ℕ → List ℕ → Layout → ℕ �
 traceIn room t rules d x = storeAll (replicate room 0) 0 (rootTrace t rules d x)
 
 abbrev pub traceAt : List ℕ → List ℕ → Layout → ℕ → List ℕ
-traceAt t rules d x = traceIn (traceNumbers (d .places)) t rules d x
+traceAt t rules d x = traceIn (traceNumbers (d .last)) t rules d x
 
 abbrev pub edgesAt : List ℕ → List ℕ → Layout → ℕ → ℕ
 edgesAt t rules d x = (length (rootTrace t rules d x) / 2 + 1) / 2
@@ -54,4 +54,4 @@ unfoldable pub blockAt : List ℕ → List ℕ → Layout → Form → ℕ → L
 blockAt t rules d f x =
     pick (f .graph)
     (padded (f .size) (blockOfGraphReading (f .rules) (graphReadingOf rules (edgesAt t rules d x) (rootWeight t d x) (traceAt t rules d x))))
-    (blockOfReading (f .rules) (readingOf (d .places) (rootWeight t d x) (traceAt t rules d x)))
+    (blockOfReading (f .rules) (readingOf (d .last) (rootWeight t d x) (traceAt t rules d x)))

@@ -54,7 +54,7 @@ pub fn write_traced(
     out: &mut [u8],
 )
     requires { do
-      ⌜ (Sized d) × (FormFor (← ⟦MAX_SLOTS⟧) (d .places) form) × (traced .rank < d .ranks) × (form .size ≤ length (now out))
+      ⌜ (Sized d) × (FormFor (← ⟦MAX_SLOTS⟧) (d .last) form) × (traced .rank < d .ranks) × (form .size ≤ length (now out))
           × Traced (← ⟦TRACE_LENGTH⟧) (now trace) (now t) (now rules) d (traced .rank) (traced .numbers) ⌝ }
     ensures { λ _. ⌜ now (out .exit) ≡ blockAt (now (t .entry)) (now (rules .entry)) d form (traced .rank) ++ drop (form .size) (now (out .entry)) ⌝ }
 {
@@ -64,5 +64,5 @@ pub fn write_traced(
         write_graph_reading(out, form.size, n, weight, rules, form.rules, trace);
         return;
     }
-    write_reading(out, d.places, form.rules, weight, trace);
+    write_reading(out, d.last, form.rules, weight, trace);
 }

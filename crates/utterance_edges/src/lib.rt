@@ -27,12 +27,12 @@ fn candidates_at(slots: &[u32], p: usize) -> usize
 }
 
 // An edge, from place p on.
-pub fn store_edge(edges: &mut [u32], p: usize, from: u32, upto: u32, word: u32, cost: u32)
+pub fn store_edge(edges: &mut [u32], p: usize, from: u32, target: u32, word: u32, cost: u32)
     requires { ⌜ p + 4 ≤ length (now edges) ⌝ }
-    ensures { λ _. ⌜ now (edges .exit) ≡ storeAll (now (edges .entry)) p (from ∷ upto ∷ word ∷ cost ∷ []) ⌝ }
+    ensures { λ _. ⌜ now (edges .exit) ≡ storeAll (now (edges .entry)) p (from ∷ target ∷ word ∷ cost ∷ []) ⌝ }
 {
     edges[p] = from;
-    edges[p + EDGE_TO_AT] = upto;
+    edges[p + EDGE_TO_AT] = target;
     edges[p + EDGE_WORD_AT] = word;
     edges[p + EDGE_COST_AT] = cost;
 }

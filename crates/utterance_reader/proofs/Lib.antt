@@ -1,4 +1,4 @@
-pub mod Told
+pub mod FieldInversion
 pub mod Utterances
 pub mod Answers
-pub mod Outcome
+pub mod BlockInversion

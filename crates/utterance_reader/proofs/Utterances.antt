@@ -16,7 +16,7 @@ use Rattle.packing.proofs.Bounds.{field-at-range, field-at-next}
 use Rattle.slots_reader.specs.Placed.{PlacedAs}
 use Rattle.slots_reader.specs.declared.Places.{Places}
 use Rattle.slots_reader.specs.declared.Placed as P
-use Rattle.slots_reader.proofs.Told.{placed-told}
+use Rattle.slots_reader.proofs.FieldInversion.{placed-told}
 use Rattle.packing.proofs.Flat.{stored-begins}
 use Rattle.slots_reader.proofs.Slots.{slots-near}
 use Rattle.utterance_reader.specs.Parts.{SlotsAs, slots}

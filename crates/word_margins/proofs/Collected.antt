@@ -89,12 +89,12 @@ margin-read s k x c w (suc v) (some y) e h =
     go a positive (no l) = rw (lt-ltb c a (omega arith), lt-leb a c (omega arith))
 
 -- over an utterance with a reading, from an array that holds the outside weights
-module _ {g : Grammar} {rules t : List ℕ} {d : Layout} (u : Utterance) (s : Source g (edges u) rules t d) (places : d .places ≡ length u)
+module _ {g : Grammar} {rules t : List ℕ} {d : Layout} (u : Utterance) (s : Source g (edges u) rules t d) (places : d .last ≡ length u)
     (ascending : Ascending u) (t₁ : Tree) (first : First g u t₁) (array : List ℕ)
     (edge-at : (e : ℕ) → e < length (edges u)
     → At (edges u) e (edge (getD array (4 * e) 0) (getD array (4 * e + 1) 0) (word (getD array (4 * e + 2) 0)) (getD array (4 * e + 3) 0)))
     (o : List ℕ)
-    (filled : (A : Sym) (i k : ℕ) → InChart d (cell A i k) → outerIn d o A i k ≡ outside g (edges u) (symbolOf 0) (d .places) A i k)
+    (filled : (A : Sym) (i k : ℕ) → InChart d (cell A i k) → outerIn d o A i k ≡ outside g (edges u) (symbolOf 0) (d .last) A i k)
     (flags : List ℕ) (used : ℕ → Bool) (used-is : (e : ℕ) → e < length (edges u) → used e ≡ pick (eqb (getD flags e 0) 0) false true)
   where
     abbrev w₁ : ℕ
@@ -154,11 +154,11 @@ module _ {g : Grammar} {rules t : List ℕ} {d : Layout} (u : Utterance) (s : So
       unfolding edgeEntry entryOf
       edge-read m = rw (there, used-is e below) (go (decLt cost notHeard) (eqb (getD flags e 0) 0))
         where
-          inside-table : leb (d .places) slot ≡ false
-          inside-table = lt-leb (d .places) slot (omega (arith, places, slot-within e there))
+          inside-table : leb (d .last) slot ≡ false
+          inside-table = lt-leb (d .last) slot (omega (arith, places, slot-within e there))
 
           go : Dec (cost < notHeard) → (free : Bool)
-              → asEntry (pick (leb 65535 cost) noEntry (pick free (pick (leb (d .places) slot) noEntry
+              → asEntry (pick (leb 65535 cost) noEntry (pick free (pick (leb (d .last) slot) noEntry
               (marginOf slot spoken cost w₁ (through o rules (length (g .rules)) d slot spoken cost))) noEntry))
               ≡ pick (ltb cost notHeard) (pick (pick free false true) none
               (entryFrom w₁ (edge slot (suc slot) (word spoken) cost) (O.through g outer (edge slot (suc slot) (word spoken) cost)))) none

@@ -57,7 +57,7 @@ both-under (some v) (some w) p q =
 
 module _ {g : Grammar} {es : List Edge} {rules t : List ℕ} {d : Layout} (s : Source g es rules t d) where
   abbrev n : ℕ
-  n = d .places
+  n = d .last
 
   abbrev S : Sym
   S = symbolOf 0
@@ -324,7 +324,7 @@ module _ {g : Grammar} {es : List Edge} {rules t : List ℕ} {d : Layout} (s : S
 
     -- the array, filled
     pub fill-is : (m : ℕ) (A : Sym) (h k : ℕ) → InChart d (cell A h k)
-        → outerIn d (fill o t rules (passWith m)) A h k ≡ outside g es (symbolOf 0) (d .places) A h k
+        → outerIn d (fill o t rules (passWith m)) A h k ≡ outside g es (symbolOf 0) (d .last) A h k
     unfolding fill
     fill-is m A h k in-chart =
         let (good, longer) = lengths-did (pairsOf rules (passWith m)) grouped first start in

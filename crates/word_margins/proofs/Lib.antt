@@ -7,6 +7,6 @@ pub mod Decoded
 pub mod Spans
 pub mod Filled
 pub mod Collected
-pub mod Passed
-pub mod Outcome
+pub mod PassListed
+pub mod WaysOut
 pub mod Refused

@@ -43,7 +43,7 @@ module _ {t : List ℕ} {d : Layout} where
   pub marked-fewer : {P Q : Cell → Type 0} {m m′ : List ℕ} → MarkedAll t d P m m′ → ((c : Cell) → Q c → P c) → MarkedAll t d Q m m′
   marked-fewer p which = record { size = p .size; kept = p .kept; all = λ c q. p .all c (which c q) }
 
-  pub found-all : {m m′ : List ℕ} → MarkedAll t d (UpTo (d .symbols) (d .places)) m m′ → Found t d m′
+  pub found-all : {m m′ : List ℕ} → MarkedAll t d (UpTo (d .symbols) (d .last)) m m′ → Found t d m′
   found-all q = record { all = q .all }
 
   -- a cell that is marked
@@ -98,7 +98,7 @@ module _ (t : List ℕ) (d : Layout) (c : Cell) (L R : Sym) (a : ℕ) where
       go true = refl
       go false = refl
 
-  pub apart-same : {m : List ℕ} → Found t d m → Apart m d L R c → c .to ≤ d .places → (o : List ℕ) → o ≡ pushSplits o t d c L R a
+  pub apart-same : {m : List ℕ} → Found t d m → Apart m d L R c → c .to ≤ d .last → (o : List ℕ) → o ≡ pushSplits o t d c L R a
   unfolding pushSplits
   apart-same found apart upto o =
       sym (iter-keeps (λ x u. u ≡ o)

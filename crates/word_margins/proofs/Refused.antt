@@ -25,7 +25,7 @@ use Rattle.chart.specs.WorkTable.{tableSize}
 use Rattle.inputs.proofs.Due.{then-within}
 use Rattle.word_margins.specs.Conditions.{marginsConditions, MarginsRow, askedMargins}
 use Rattle.word_margins.specs.WordMargins.{listed, margins}
-use Rattle.word_margins.proofs.Passed.{few-edges}
+use Rattle.word_margins.proofs.PassListed.{few-edges}
 
 asked-margins-row : (grammar utterance : List ℕ) (work out : ℕ)
     → Refuses (GrammarBlockRow ∪ UtteranceBlockRow ∪ MarginsRow) (askedMargins grammar utterance work out)

@@ -41,8 +41,8 @@ pub record Source (g : Grammar) (es : List Edge) (rules t : List ℕ) (d : Layou
   pub planned : Planned d
   pub few-rules : length (g .rules) ≤ 256
   pub few-symbols : d .symbols ≤ 32
-  pub few-places : d .places ≤ 24
-  pub some-place : 0 < d .places
+  pub few-places : d .last ≤ 24
+  pub some-place : 0 < d .last
   pub some-symbol : 0 < d .symbols
   pub symbols : d .symbols ≡ g .symbols
   pub within : All (Within (g .symbols) (g .words)) (g .rules)
@@ -52,7 +52,7 @@ pub record Source (g : Grammar) (es : List Edge) (rules t : List ℕ) (d : Layou
   pub rule-at : (r : ℕ) → r < length (g .rules) → At (g .rules) r (ruleAt rules r)
   pub inner : (A : Sym) (i k : ℕ) → InChart d (cell A i k) → innerIn d t A i k ≡ inside g es A i k
   pub whole : ℕ
-  pub whole-is : inside g es (symbolOf 0) 0 (d .places) ≡ some whole
+  pub whole-is : inside g es (symbolOf 0) 0 (d .last) ≡ some whole
 
 -- a number that reads as no more than a weight has 32 bits
 abbrev Small : Option ℕ → Type 0
@@ -67,7 +67,7 @@ small-number a h = go (read a) refl
 
 module _ {g : Grammar} {es : List Edge} {rules t : List ℕ} {d : Layout} (s : Source g es rules t d) where
   abbrev pub n : ℕ
-  n = d .places
+  n = d .last
 
   abbrev pub S : Sym
   S = symbolOf 0

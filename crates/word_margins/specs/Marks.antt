@@ -35,4 +35,4 @@ UpTo S k c = (c .head .0 < S) × (c .from < c .to) × (c .to ≤ k)
 
 -- all cells of a layout are marked
 pub record Found (t : List ℕ) (d : Layout) (m : List ℕ) : Type 0 where
-  pub all : (c : Cell) → UpTo (d .symbols) (d .places) c → InMasks t d m c
+  pub all : (c : Cell) → UpTo (d .symbols) (d .last) c → InMasks t d m c

@@ -82,7 +82,7 @@ fn use_nodes(rules: &[u32], trace: &[u32], nodes: usize, used: &mut [u32])
 
 // Marks the edges of the first tree that the table has.
 fn use_first(rules: &[u32], t: &[u32], d: Layout, used: &mut [u32])
-    requires { ⌜ (Sized d) × (0 < d .places) × (d .places ≤ 24) ⌝ }
+    requires { ⌜ (Sized d) × (0 < d .last) × (d .last ≤ 24) ⌝ }
     ensures { λ _. ⌜ now (used .exit) ≡ firstUsed (now (rules .entry)) (now (t .entry)) d (now (used .entry)) ⌝ }
 {
     let mut trace = [0u32; TRACE_LENGTH];
@@ -99,7 +99,7 @@ fn pass_margins(
     work: &mut [u32],
     out: &mut [u32],
 ) -> usize
-    requires { ⌜ (Passable pass) × (pass .table .places ≤ 24) × (4 * pass .edges ≤ length (now out)) ⌝ }
+    requires { ⌜ (Passable pass) × (pass .table .last ≤ 24) × (4 * pass .edges ≤ length (now out)) ⌝ }
     ensures { λ r. ⌜ r ≡ length (passList (now (rules .entry)) (now (edges .entry)) pass (length (now (work .entry)))) ⌝ }
     ensures { λ r. ⌜ (now (work .exit) ≡ replicate (length (now (work .entry))) 0)
         × (length (tableBy (now (rules .entry)) (now (edges .entry)) pass (length (now (work .entry)))) ≡ length (now (work .entry))) ⌝ }

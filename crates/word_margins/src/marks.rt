@@ -16,7 +16,7 @@ ghost use Rattle.word_margins.specs.Marks.{MarkedAll, JustThis, OfSpan, 
 
 // Marks a cell, if it holds a tree.
 fn mark_cell(t: &[u32], masks: &mut [u32], d: Layout, c: Cell)
-    requires { ⌜ (Sized d) × (c .from < c .to) × (c .to ≤ d .places) × (c .head .0 ≤ 31) × (maskNumbers ≤ length (now masks)) ⌝ }
+    requires { ⌜ (Sized d) × (c .from < c .to) × (c .to ≤ d .last) × (c .head .0 ≤ 31) × (maskNumbers ≤ length (now masks)) ⌝ }
     ensures { λ _. ⌜ MarkedAll (plain (now (t .entry))) d (JustThis c) (now (masks .entry)) (now (masks .exit)) ⌝ }
 {
     if price_at(t, d, cell_number(d, c), 0) == 0 {
@@ -27,7 +27,7 @@ fn mark_cell(t: &[u32], masks: &mut [u32], d: Layout, c: Cell)
 
 // Marks the cells over one span.
 fn mark_heads(t: &[u32], masks: &mut [u32], d: Layout, from: usize, to: usize)
-    requires { ⌜ (Sized d) × (from < to) × (to ≤ d .places) × (maskNumbers ≤ length (now masks)) ⌝ }
+    requires { ⌜ (Sized d) × (from < to) × (to ≤ d .last) × (maskNumbers ≤ length (now masks)) ⌝ }
     ensures { λ _. ⌜ MarkedAll (plain (now (t .entry))) d (OfSpan from to (d .symbols)) (now (masks .entry)) (now (masks .exit)) ⌝ }
 {
     let symbols = d.symbols;
@@ -43,7 +43,7 @@ fn mark_heads(t: &[u32], masks: &mut [u32], d: Layout, from: usize, to: usize)
 
 // Marks the cells that end at a place.
 fn mark_spans(t: &[u32], masks: &mut [u32], d: Layout, to: usize)
-    requires { ⌜ (Sized d) × (to ≤ d .places) × (maskNumbers ≤ length (now masks)) ⌝ }
+    requires { ⌜ (Sized d) × (to ≤ d .last) × (maskNumbers ≤ length (now masks)) ⌝ }
     ensures { λ _. ⌜ MarkedAll (plain (now (t .entry))) d (EndingAt (d .symbols) to to) (now (masks .entry)) (now (masks .exit)) ⌝ }
 {
     for from in 0..to {
@@ -54,9 +54,9 @@ fn mark_spans(t: &[u32], masks: &mut [u32], d: Layout, to: usize)
 // Marks all cells that hold a tree.
 pub fn mark_found(t: &[u32], masks: &mut [u32], d: Layout)
     requires { ⌜ (Sized d) × (maskNumbers ≤ length (now masks)) ⌝ }
-    ensures { λ _. ⌜ MarkedAll (plain (now (t .entry))) d (UpTo (d .symbols) (d .places)) (now (masks .entry)) (now (masks .exit)) ⌝ }
+    ensures { λ _. ⌜ MarkedAll (plain (now (t .entry))) d (UpTo (d .symbols) (d .last)) (now (masks .entry)) (now (masks .exit)) ⌝ }
 {
-    let places = d.places;
+    let places = d.last;
     for x in 0..places {
         mark_spans(t, masks, d, x + 1);
     }

@@ -75,11 +75,11 @@ pub fn lesser(a: usize, b: usize) -> usize
 }
 
 // The inside weight of a cell, plus 1.
-fn inside_at(t: &[u32], d: Layout, c: usize) -> usize
-    requires { ⌜ (Sized d) × (c < cellBound) ⌝ }
-    ensures { λ r. ⌜ (r ≡ insideAt (plain (now (t .entry))) d c) × (r < 8388608) ⌝ }
+fn inside_at(t: &[u32], d: Layout, number: usize) -> usize
+    requires { ⌜ (Sized d) × (number < cellBound) ⌝ }
+    ensures { λ r. ⌜ (r ≡ insideAt (plain (now (t .entry))) d number) × (r < 8388608) ⌝ }
 {
-    let price = price_at(t, d, c, 0);
+    let price = price_at(t, d, number, 0);
     if price == 0 {
         return 0;
     }
@@ -87,20 +87,24 @@ fn inside_at(t: &[u32], d: Layout, c: usize) -> usize
 }
 
 // The outside weight of a cell, plus 1.
-pub fn outside_at(t: &[u32], c: usize) -> usize
-    requires { ⌜ c < cellBound ⌝ }
-    ensures { λ r. ⌜ (r ≡ getD (fourths (now (t .entry))) c 0) × (r < 4294967296) ⌝ }
+pub fn outside_at(t: &[u32], number: usize) -> usize
+    requires { ⌜ number < cellBound ⌝ }
+    ensures { λ r. ⌜ (r ≡ getD (fourths (now (t .entry))) number 0) × (r < 4294967296) ⌝ }
 {
-    number_at(t, ENTRY_NUMBERS * c + FREE_AT)
+    number_at(t, ENTRY_NUMBERS * number + FREE_AT)
 }
 
 // Lowers the outside weight of a cell to another, where that is less.
-fn lower(t: &mut [u32], c: usize, x: usize)
-    requires { ⌜ (c < cellBound) × (x < sums) ⌝ }
-    ensures { λ _. ⌜ (fourths (now (t .exit)) ≡ lower (fourths (now (t .entry))) c x) × (plain (now (t .exit)) ≡ plain (now (t .entry))) ⌝ }
+fn lower(t: &mut [u32], number: usize, x: usize)
+    requires { ⌜ (number < cellBound) × (x < sums) ⌝ }
+    ensures { λ _. ⌜ (fourths (now (t .exit)) ≡ lower (fourths (now (t .entry))) number x) × (plain (now (t .exit)) ≡ plain (now (t .entry))) ⌝ }
 {
-    let least = lesser(outside_at(&t[..], c), x);
-    store(t, ENTRY_NUMBERS * c + FREE_AT, (least % NUMBERS) as u32);
+    let least = lesser(outside_at(&t[..], number), x);
+    store(
+        t,
+        ENTRY_NUMBERS * number + FREE_AT,
+        (least % NUMBERS) as u32,
+    );
 }
 
 // Lowers what stands around both parts of a node, from what stands around the node and its rule, plus 1: around each part there is the other
@@ -124,7 +128,7 @@ fn push_split(t: &mut [u32], d: Layout, left: usize, right: usize, around: usize
 
 // The same at every place between the node's ends.
 fn push_splits(t: &mut [u32], d: Layout, node: Cell, first: Sym, second: Sym, around: usize)
-    requires { ⌜ (Sized d) × (node .from < node .to) × (node .to ≤ d .places) × (around < 8589934592) ⌝ }
+    requires { ⌜ (Sized d) × (node .from < node .to) × (node .to ≤ d .last) × (around < 8589934592) ⌝ }
     ensures { λ _. ⌜ (fourths (now (t .exit)) ≡ pushSplits (fourths (now (t .entry))) (plain (now (t .entry))) d node first second around)
         × (plain (now (t .exit)) ≡ plain (now (t .entry))) ⌝ }
 {
@@ -155,7 +159,7 @@ fn push_parts(
     second: Sym,
     around: usize,
 )
-    requires { ⌜ (Sized d) × (node .from < node .to) × (node .to ≤ d .places) × (around < 8589934592) × (Found (plain (now t)) d (now masks)) ⌝ }
+    requires { ⌜ (Sized d) × (node .from < node .to) × (node .to ≤ d .last) × (around < 8589934592) × (Found (plain (now t)) d (now masks)) ⌝ }
     ensures { λ _. ⌜ (fourths (now (t .exit)) ≡ pushSplits (fourths (now (t .entry))) (plain (now (t .entry))) d node first second around)
         × (plain (now (t .exit)) ≡ plain (now (t .entry))) ⌝ }
 {
@@ -174,7 +178,7 @@ fn push_rule(
     node: Cell,
     outer: usize,
 )
-    requires { ⌜ (Sized d) × (node .from < node .to) × (node .to ≤ d .places) × (Found (plain (now t)) d (now masks)) × (r < 4294967296)
+    requires { ⌜ (Sized d) × (node .from < node .to) × (node .to ≤ d .last) × (Found (plain (now t)) d (now masks)) × (r < 4294967296)
         × (outer < 4294967296) ⌝ }
     ensures { λ _. ⌜ (fourths (now (t .exit)) ≡ pushRule (fourths (now (t .entry))) (plain (now (t .entry))) d node outer (ruleAt (now (rules .entry)) r))
         × (plain (now (t .exit)) ≡ plain (now (t .entry))) ⌝ }
@@ -198,7 +202,7 @@ fn push_rules(
     node: Cell,
     outer: usize,
 )
-    requires { ⌜ (Sized d) × (node .from < node .to) × (node .to ≤ d .places) × (Found (plain (now t)) d (now masks)) × (node .head .0 < 4294967296)
+    requires { ⌜ (Sized d) × (node .from < node .to) × (node .to ≤ d .last) × (Found (plain (now t)) d (now masks)) × (node .head .0 < 4294967296)
         × (outer < 4294967296) ⌝ }
     ensures { λ _. ⌜ (fourths (now (t .exit))
         ≡ pushRules (fourths (now (t .entry))) (plain (now (t .entry))) (now (rules .entry)) (now (index .entry)) d node outer)
@@ -213,7 +217,7 @@ fn push_rules(
 
 // If the node has an outside weight.
 fn push_node(t: &mut [u32], masks: &[u32], rules: &[u32], index: &[u32], d: Layout, node: Cell)
-    requires { ⌜ (Sized d) × (node .from < node .to) × (node .to ≤ d .places) × (Found (plain (now t)) d (now masks)) × (node .head .0 < 4294967296) ⌝ }
+    requires { ⌜ (Sized d) × (node .from < node .to) × (node .to ≤ d .last) × (Found (plain (now t)) d (now masks)) × (node .head .0 < 4294967296) ⌝ }
     ensures { λ _. ⌜ (fourths (now (t .exit))
         ≡ pushNode (fourths (now (t .entry))) (plain (now (t .entry))) (now (rules .entry)) (now (index .entry)) d node)
         × (plain (now (t .exit)) ≡ plain (now (t .entry))) ⌝ }
@@ -235,7 +239,7 @@ fn over_heads(
     from: usize,
     to: usize,
 )
-    requires { ⌜ (Sized d) × (from < to) × (to ≤ d .places) × (Found (plain (now t)) d (now masks)) ⌝ }
+    requires { ⌜ (Sized d) × (from < to) × (to ≤ d .last) × (Found (plain (now t)) d (now masks)) ⌝ }
     ensures { λ _. ⌜ (fourths (now (t .exit))
         ≡ overHeads (fourths (now (t .entry))) (plain (now (t .entry))) (now (rules .entry)) (now (index .entry)) d from to)
         × (plain (now (t .exit)) ≡ plain (now (t .entry))) ⌝ }
@@ -253,12 +257,12 @@ fn over_heads(
 
 // Over all spans of a length.
 fn over_spans(t: &mut [u32], masks: &[u32], rules: &[u32], index: &[u32], d: Layout, length: usize)
-    requires { ⌜ (Sized d) × (0 < length) × (length ≤ d .places) × (Found (plain (now t)) d (now masks)) ⌝ }
+    requires { ⌜ (Sized d) × (0 < length) × (length ≤ d .last) × (Found (plain (now t)) d (now masks)) ⌝ }
     ensures { λ _. ⌜ (fourths (now (t .exit))
         ≡ overSpans (fourths (now (t .entry))) (plain (now (t .entry))) (now (rules .entry)) (now (index .entry)) d length)
         × (plain (now (t .exit)) ≡ plain (now (t .entry))) ⌝ }
 {
-    let spans = d.places + 1 - length;
+    let spans = d.last + 1 - length;
     for from in 0..spans {
         over_heads(t, masks, rules, index, d, from, from + length);
     }
@@ -270,7 +274,7 @@ fn over_lengths(t: &mut [u32], masks: &[u32], rules: &[u32], index: &[u32], d: L
     ensures { λ _. ⌜ (fourths (now (t .exit)) ≡ overLengths (fourths (now (t .entry))) (plain (now (t .entry))) (now (rules .entry)) (now (index .entry)) d)
         × (plain (now (t .exit)) ≡ plain (now (t .entry))) ⌝ }
 {
-    let places = d.places;
+    let places = d.last;
     for x in 0..places {
         over_spans(t, masks, rules, index, d, places - x);
     }

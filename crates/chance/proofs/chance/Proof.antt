@@ -6,7 +6,7 @@ use borrow.Author.Needs.{needs}
 use Rattle.packing.specs.Grammar.{grammarBlock}
 use Rattle.packing.specs.Flat.{rulesOf}
 use Rattle.packing.proofs.Flat.{rules-of}
-use Rattle.grammar_reader.proofs.Outcome.{accepted-told, refused-told}
+use Rattle.grammar_reader.proofs.BlockInversion.{accepted-told, refused-told}
 use Rattle.checker.specs.Run.{underRules}
 use Rattle.chance.specs.Answer.{chanceOf}
 use Rattle.chance.proofs.Shares.{held}

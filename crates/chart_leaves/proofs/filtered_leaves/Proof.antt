@@ -1,7 +1,7 @@
 -- A word that is not in the filter of the head's words is in none of its rules.
 use mathlib.Core.Path.{sym}
 use Rattle.chart_keys.specs.Keys.{keyNumber}
-use Rattle.chart_candidates.proofs.Passed.{filter-passed}
+use Rattle.chart_candidates.proofs.PassedOver.{filter-passed}
 use borrow.Author.Needs.{needs}
 use Rattle.chart_leaves.proofs.filtered_leaves.Statement.{statement}
 use Rattle.chart_leaves.proofs.filtered_leaves.Tie as tie

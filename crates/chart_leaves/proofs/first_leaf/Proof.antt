@@ -2,7 +2,7 @@
 use mathlib.Core.Path.{sym, _∙_}
 use native.Mathlib.Nat.{le-refl}
 use Rattle.chart_keys.specs.Keys.{noKey}
-use Rattle.chart_candidates.proofs.Passed.{leaves-below, no-leaves}
+use Rattle.chart_candidates.proofs.PassedOver.{leaves-below, no-leaves}
 use borrow.Author.Needs.{needs}
 use Rattle.chart_leaves.proofs.first_leaf.Statement.{statement}
 use Rattle.chart_leaves.proofs.first_leaf.Tie as tie

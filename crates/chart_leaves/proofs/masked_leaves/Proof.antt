@@ -1,7 +1,7 @@
 -- A head that is not in the mask of the edge's word has no rule with it.
 use mathlib.Core.Path.{sym}
 use Rattle.chart_keys.specs.Keys.{keyNumber}
-use Rattle.chart_candidates.proofs.Passed.{word-passed}
+use Rattle.chart_candidates.proofs.PassedOver.{word-passed}
 use borrow.Author.Needs.{needs}
 use Rattle.chart_leaves.proofs.masked_leaves.Statement.{statement}
 use Rattle.chart_leaves.proofs.masked_leaves.Tie as tie

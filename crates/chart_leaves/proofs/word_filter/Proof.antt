@@ -2,8 +2,8 @@
 use Prim.Native.Nat.{_-_, _≤_}
 use native.Mathlib.Omega.{arith}
 use borrow.Author.Needs.{needs}
-use Rattle.chart_candidates.specs.Passed.{WordsBefore}
-use Rattle.chart_candidates.proofs.Passed.{filter-next}
+use Rattle.chart_candidates.specs.PassedOver.{WordsBefore}
+use Rattle.chart_candidates.proofs.PassedOver.{filter-next}
 use Rattle.chart_leaves.proofs.word_filter.Statement.{statement}
 use Rattle.chart_leaves.proofs.word_filter.Tie as tie
 

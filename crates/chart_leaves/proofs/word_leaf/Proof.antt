@@ -1,7 +1,7 @@
 -- A rule with another word changes nothing.
 use mathlib.Core.Path.{sym, _∙_}
 use Rattle.chart_keys.specs.Keys.{keyNumber}
-use Rattle.chart_candidates.proofs.Passed.{other-word}
+use Rattle.chart_candidates.proofs.PassedOver.{other-word}
 use borrow.Author.Needs.{needs}
 use Rattle.chart_leaves.proofs.word_leaf.Statement.{statement}
 use Rattle.chart_leaves.proofs.word_leaf.Tie as tie

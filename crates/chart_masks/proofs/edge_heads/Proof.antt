@@ -25,8 +25,8 @@ add-number-at-2 c = search needs
 number-at-requires-2 : tie.Need-number-at-requires-2
 number-at-requires-2 c κs = search needs
 
-slot-requires : tie.Need-slot-requires
-slot-requires c κs = search needs
+capped-requires : tie.Need-capped-requires
+capped-requires c κs = search needs
 
 add-narrow-at : tie.Need-add-narrow-at
 add-narrow-at c = search needs
@@ -35,7 +35,7 @@ narrow-at-requires : tie.Need-narrow-at-requires
 narrow-at-requires c κs = search needs
 
 returns-2 : tie.Need-returns-2
-returns-2 c = λ a e to. rw (← c .before .before .number-at2 .ensures .0, ← c .before .slot .ensures .0, ← c .narrow-at .ensures) e
+returns-2 c = λ a e to. rw (← c .before .before .number-at2 .ensures .0, ← c .before .capped .ensures .0, ← c .narrow-at .ensures) e
 
 pub edge-heads-spec : {M : Type 1} → statement M
 edge-heads-spec =
@@ -48,7 +48,7 @@ edge-heads-spec =
     mul-number-at-2
     add-number-at-2
     number-at-requires-2
-    slot-requires
+    capped-requires
     add-narrow-at
     narrow-at-requires
     returns-2)

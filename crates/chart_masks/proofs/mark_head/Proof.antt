@@ -41,8 +41,8 @@ add-number-at c = search needs
 number-at-requires-2 : tie.Need-number-at-requires-2 Inv-loop μ-loop
 number-at-requires-2 c κs = search needs
 
-slot-requires : tie.Need-slot-requires Inv-loop μ-loop
-slot-requires c κs = search needs
+capped-requires : tie.Need-capped-requires Inv-loop μ-loop
+capped-requires c κs = search needs
 
 add-put : tie.Need-add-put Inv-loop μ-loop
 add-put c = search needs
@@ -58,8 +58,8 @@ loop-less c = search needs
 
 loop-again : tie.Need-loop-again Inv-loop μ-loop
 loop-again c =
-    let at-slot = c .before .before .before .before in
-    let at-number-at2 = at-slot .before .before in
+    let at-capped = c .before .before .before .before in
+    let at-number-at2 = at-capped .before .before in
     let at-number-at = at-number-at2 .before .before in
     let at-loop = at-number-at .before .before in
     let at-only = at-loop .before in
@@ -67,8 +67,8 @@ loop-again c =
       search needs,
       search needs,
       search needs,
-      more-next (at-slot .slot .result) (at-number-at2 .number-at2 .result) (at-only .only .result) (at-pre .pre .0 .3) (at-loop .loop .inv .3)
-          (rw (← at-number-at .number-at .ensures .0) (at-number-at2 .number-at2 .ensures .0)) (at-slot .slot .ensures .0) (at-only .only .ensures)
+      more-next (at-capped .capped .result) (at-number-at2 .number-at2 .result) (at-only .only .result) (at-pre .pre .0 .3) (at-loop .loop .inv .3)
+          (rw (← at-number-at .number-at .ensures .0) (at-number-at2 .number-at2 .ensures .0)) (at-capped .capped .ensures .0) (at-only .only .ensures)
           (c .before .before .put .ensures),
     )
 
@@ -95,7 +95,7 @@ mark-head-spec =
     mul-number-at
     add-number-at
     number-at-requires-2
-    slot-requires
+    capped-requires
     add-put
     put-requires
     add-y

@@ -18,7 +18,7 @@ nothing-kept t [] d c rank m y e = refl
 nothing-kept t (x ∷ k) d c rank m y e = absurd (omega arith)
 
 returns : tie.Need-returns
-returns c = let a = c .before .before .before .args in nothing-kept (a .t .now) (a .kept .now) (a .d) (a .c) (a .rank) (a .m) (a .y) (c .if1 .taken)
+returns c = let a = c .before .before .before .args in nothing-kept (a .t .now) (a .kept .now) (a .d) (a .number) (a .rank) (a .m) (a .y) (c .if1 .taken)
 
 entry-of-requires : tie.Need-entry-of-requires
 entry-of-requires c κs = search needs

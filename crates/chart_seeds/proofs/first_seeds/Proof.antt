@@ -1,6 +1,6 @@
 -- Where no rule has parts that meet, there are no seeds.
 use mathlib.Core.Path.{sym}
-use Rattle.chart_candidates.proofs.Passed.{seeds-passed}
+use Rattle.chart_candidates.proofs.PassedOver.{seeds-passed}
 use borrow.Author.Needs.{needs}
 use Rattle.chart_seeds.proofs.first_seeds.Statement.{statement}
 use Rattle.chart_seeds.proofs.first_seeds.Tie as tie

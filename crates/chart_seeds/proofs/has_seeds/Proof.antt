@@ -6,7 +6,7 @@ use native.Mathlib.Omega.{arith}
 use lib.ListN.{getD}
 use borrow.Author.Count.{below-more}
 use borrow.Author.Needs.{needs}
-use Rattle.chart_candidates.specs.Passed.{RuleApart}
+use Rattle.chart_candidates.specs.PassedOver.{RuleApart}
 use Rattle.chart_seeds.proofs.has_seeds.Statement.{statement}
 use Rattle.chart_seeds.proofs.has_seeds.Tie as tie
 

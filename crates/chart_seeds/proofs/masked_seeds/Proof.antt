@@ -1,6 +1,6 @@
 -- A rule whose parts do not meet changes nothing.
 use mathlib.Core.Path.{sym}
-use Rattle.chart_candidates.proofs.Passed.{rule-passed}
+use Rattle.chart_candidates.proofs.PassedOver.{rule-passed}
 use borrow.Author.Needs.{needs}
 use Rattle.chart_seeds.proofs.masked_seeds.Statement.{statement}
 use Rattle.chart_seeds.proofs.masked_seeds.Tie as tie

@@ -9,7 +9,7 @@ use borrow.Author.Needs.{needs}
 use Rattle.packing.specs.Loop.{over}
 use Rattle.packing.proofs.Loop.{iter-end}
 use Rattle.chart_candidates.proofs.Loops.{from-none, from-more, from-turn}
-use Rattle.chart_candidates.proofs.Passed.{rules-below}
+use Rattle.chart_candidates.proofs.PassedOver.{rules-below}
 use Rattle.packing.specs.Flat.{ruleAt}
 use Rattle.chart_keys.specs.Keys.{keyNumber}
 use Rattle.chart_candidates.specs.Candidates.{ruleSeeds, seeds}

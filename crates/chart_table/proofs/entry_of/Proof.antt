@@ -14,19 +14,19 @@ sub-result : tie.Need-sub-result
 sub-result c = search needs
 
 mul-result-2 : tie.Need-mul-result-2
-mul-result-2 c = omega (arith, ranks-small (c .before .before .args .c) (c .before .before .args .d .ranks) (search needs) (search needs))
+mul-result-2 c = omega (arith, ranks-small (c .before .before .args .number) (c .before .before .args .d .ranks) (search needs) (search needs))
 
 add-result : tie.Need-add-result
-add-result c = omega (arith, ranks-small (c .before .before .before .args .c) (c .before .before .before .args .d .ranks) (search needs) (search needs))
+add-result c = omega (arith, ranks-small (c .before .before .before .args .number) (c .before .before .before .args .d .ranks) (search needs) (search needs))
 
 sub-result-2 : tie.Need-sub-result-2
 sub-result-2 c = search needs
 
 add-result-2 : tie.Need-add-result-2
-add-result-2 c = omega (arith, ranks-small (c .before .before .before .args .c) (c .before .before .before .args .d .ranks) (search needs) (search needs))
+add-result-2 c = omega (arith, ranks-small (c .before .before .before .args .number) (c .before .before .before .args .d .ranks) (search needs) (search needs))
 
 mul-result-3 : tie.Need-mul-result-3
-mul-result-3 c = omega (arith, ranks-small (c .before .before .before .args .c) (c .before .before .before .args .d .ranks) (search needs) (search needs))
+mul-result-3 c = omega (arith, ranks-small (c .before .before .before .args .number) (c .before .before .before .args .d .ranks) (search needs) (search needs))
 
 returns : tie.Need-returns
 unfolding entryOf
@@ -40,7 +40,7 @@ returns-2 c =
       simp (ne-eqb _ _ (c₂ .if1 .left)),
       omega (
         arith,
-        ranks-small (c₃ .args .c) (c₃ .args .d .ranks) (search needs)
+        ranks-small (c₃ .args .number) (c₃ .args .d .ranks) (search needs)
             (search needs),
       ),
     )

@@ -26,7 +26,7 @@ returns c =
     let at-loop = c .before .before .before in
     let at-args = at-loop .before .before in
     let a = at-args .args in (
-      sym (at-loop .loop .inv .1 ∙ missing-here (a .t .now) (a .d) (a .c) (a .d .ranks) (at-loop .loop .x) (c .before .before .loop-test .taken)
+      sym (at-loop .loop .inv .1 ∙ missing-here (a .t .now) (a .d) (a .number) (a .d .ranks) (at-loop .loop .x) (c .before .before .loop-test .taken)
           (rw (← c .before .price-at .ensures .0) (c .if1 .taken))),
       omega arith,
     )
@@ -43,7 +43,7 @@ loop-again c =
     let at-args = at-loop .before .before in
     let a = at-args .args in (
       omega arith,
-      at-loop .loop .inv .1 ∙ missing-behind (a .t .now) (a .d) (a .c) (a .d .ranks) (at-loop .loop .x) (c .before .before .loop-test .taken)
+      at-loop .loop .inv .1 ∙ missing-behind (a .t .now) (a .d) (a .number) (a .d .ranks) (at-loop .loop .x) (c .before .before .loop-test .taken)
           (rw (← c .before .price-at .ensures .0) (c .if1 .left)),
     )
 
@@ -51,7 +51,8 @@ returns-2 : tie.Need-returns-2 Inv-loop μ-loop
 returns-2 c =
     let at-args = c .before .before .before in
     let a = at-args .args in (
-      sym (c .before .loop .inv .1 ∙ missing-end (a .t .now) (a .d) (a .c) (a .d .ranks) (c .before .loop .x) (c .before .loop .inv .0) (c .loop-test .left)),
+      sym (c .before .loop .inv .1 ∙ missing-end (a .t .now) (a .d) (a .number) (a .d .ranks)
+          (c .before .loop .x) (c .before .loop .inv .0) (c .loop-test .left)),
       omega arith,
     )
 

@@ -130,7 +130,7 @@ module _ {g : Grammar} {es : List Edge} {rules edges index : List ℕ} {d : Layo
 
   pub record EdgeIs (e i k : ℕ) (x : W.Word) (cost : ℕ) : Type 0 where
     pub from : getD edges (4 * e) 0 ≡ i
-    pub upto : getD edges (4 * e + 1) 0 ≡ k
+    pub to : getD edges (4 * e + 1) 0 ≡ k
     pub carries : getD edges (4 * e + 2) 0 ≡ x .0
     pub costs : getD edges (4 * e + 3) 0 ≡ cost
 
@@ -138,7 +138,7 @@ module _ {g : Grammar} {es : List Edge} {rules edges index : List ℕ} {d : Layo
   edge-is e {x = x} p =
       let h = s .edge-at e (at-length es e p) in
       let same : word (getD edges (4 * e + 2) 0) ≡ x = cc in
-      record { from = cc; upto = cc; carries = ap (λ (y : W.Word). y .0) same; costs = cc }
+      record { from = cc; to = cc; carries = ap (λ (y : W.Word). y .0) same; costs = cc }
 
   module _ (t : List ℕ) {c : Cell} (in-chart : InChart d c) where
     abbrev Key : (o key : ℕ) → Type 0
@@ -171,7 +171,7 @@ module _ {g : Grammar} {es : List Edge} {rules edges index : List ℕ} {d : Layo
           e,
           (at-length es e (q .0), (is .from, rw (is .costs) (q .1))),
           (
-            eq-eqb _ _ (is .upto),
+            eq-eqb _ _ (is .to),
             (r, has-word, rw (rule-is r p) (eq-eqb _ _ (sym (is .carries)), rw (is .costs) refl)),
           ),
         )

@@ -127,9 +127,9 @@ pub record Extracted (t : List ℕ) (d : Layout) (c rank lo hi : ℕ) (u : List 
       (Has (d .ranks) rank lo hi (queuedKey t d c) (tagAt t d c) (queuedKey u d c) (tagAt u d c)) member
 
 -- what extract-min comes to
-pub data Outcome (t : List ℕ) (d : Layout) (c rank lo hi : ℕ) (u : List ℕ) : Type 0 where
-  nothing : u ≡ t → queueLength t d c ≡ 0 → noKey ≤ lo → noKey ≤ hi → Outcome t d c rank lo hi u
-  something : Extracted t d c rank lo hi u → Outcome t d c rank lo hi u
+pub data Extraction (t : List ℕ) (d : Layout) (c rank lo hi : ℕ) (u : List ℕ) : Type 0 where
+  nothing : u ≡ t → queueLength t d c ≡ 0 → noKey ≤ lo → noKey ≤ hi → Extraction t d c rank lo hi u
+  something : Extracted t d c rank lo hi u → Extraction t d c rank lo hi u
 
 -- the tag of a key
 data TagIs (t : List ℕ) (d : Layout) (c rank key : ℕ) : ℕ → Type 0 where
@@ -381,7 +381,7 @@ module _ (t : List ℕ) (d : Layout) (c rank lo hi : ℕ) (below : c < d .cells)
   unfolding push
   push-none u no-hi = rw (le-ltb hi noKey no-hi)
 
-  low-outcome : ((y : ℕ) → y < m → lo ≤ queued y) → Outcome t d c rank lo hi after-low
+  low-outcome : ((y : ℕ) → y < m → lo ≤ queued y) → Extraction t d c rank lo hi after-low
   low-outcome first = go (decLt lo noKey) (decLt 0 m)
     where
       least : (q : Member) → Valid m lo hi q → lo ≤ keyIn lo hi queued q
@@ -389,7 +389,7 @@ module _ (t : List ℕ) (d : Layout) (c rank lo hi : ℕ) (below : c < d .cells)
       least low h = le-refl lo
       least high h = order
 
-      go : Dec (lo < noKey) → Dec (0 < m) → Outcome t d c rank lo hi after-low
+      go : Dec (lo < noKey) → Dec (0 < m) → Extraction t d c rank lo hi after-low
       go (yes some) _ =
           let grown = pushed lo (putKey t d c rank lo) (stored lo some) (before-back lo some) (counted lo some) (none-hi lo some) in
           something (record {
@@ -423,7 +423,7 @@ module _ (t : List ℕ) (d : Layout) (c rank lo hi : ℕ) (below : c < d .cells)
     st : Stored t d c rank (queued x) at-rank
     st = stored (queued x) real-x
 
-    replaced-outcome : lo < noKey → Outcome t d c rank lo hi (push (putQueued at-rank d c rank x lo) d c rank m hi)
+    replaced-outcome : lo < noKey → Extraction t d c rank lo hi (push (putQueued at-rank d c rank x lo) d c rank m hi)
     replaced-outcome some =
         something (record {
           member = inside x;
@@ -476,7 +476,7 @@ module _ (t : List ℕ) (d : Layout) (c rank lo hi : ℕ) (below : c < d .cells)
             (written-length at-rank (st .size) back x lo far-enough some reach ∙ counted (queued x) real-x) none
 
     -- and there are no more
-    moved-outcome : noKey ≤ lo → Outcome t d c rank lo hi (putQueueLength (moveQueued at-rank d c (m - 1) x) d c (m - 1))
+    moved-outcome : noKey ≤ lo → Extraction t d c rank lo hi (putQueueLength (moveQueued at-rank d c (m - 1) x) d c (m - 1))
     unfolding moveQueued putQueueLength queuedKey taggedBack
     moved-outcome no-lo =
         something (record {
@@ -550,20 +550,20 @@ module _ (t : List ℕ) (d : Layout) (c rank lo hi : ℕ) (below : c < d .cells)
             place-mark : (y : ℕ) → entryOf d c (y + 1) ≢ entryOf d c (x + 1) → tagAt w d c y ≡ tagAt at-rank d c y
             place-mark y = place-tag at-rank d c x (besideAt at-rank d c (m - 1 + 1)) below y
 
-    inside-outcome : Outcome t d c rank lo hi (push (replace at-rank d c rank m x lo) d c rank m hi)
+    inside-outcome : Extraction t d c rank lo hi (push (replace at-rank d c rank m x lo) d c rank m hi)
     unfolding replace
     inside-outcome = go (ltb lo noKey) refl
       where
         moved : List ℕ
         moved = putQueueLength (moveQueued at-rank d c (m - 1) x) d c (m - 1)
 
-        go : (b : Bool) → ltb lo noKey ≡ b → Outcome t d c rank lo hi (push (pick b (putQueued at-rank d c rank x lo) moved) d c rank m hi)
+        go : (b : Bool) → ltb lo noKey ≡ b → Extraction t d c rank lo hi (push (pick b (putQueued at-rank d c rank x lo) moved) d c rank m hi)
         go true e = replaced-outcome (ltb-true lo noKey e)
         go false e =
             let no-lo = ltb-false lo noKey e in
             rw (push-none moved (omega arith)) (moved-outcome no-lo)
 
-  pub extract-min-outcome : Outcome t d c rank lo hi (extractMin t d c rank lo hi)
+  pub extract-min-outcome : Extraction t d c rank lo hi (extractMin t d c rank lo hi)
   unfolding extractMin
   extract-min-outcome = by-length (ltb 0 m) refl
     where
@@ -573,7 +573,7 @@ module _ (t : List ℕ) (d : Layout) (c rank lo hi : ℕ) (below : c < d .cells)
       after-inside : List ℕ
       after-inside = push (replace (putKey t d c rank (queued x)) d c rank m x lo) d c rank m hi
 
-      by-key : (b : Bool) → ltb (queued x) lo ≡ b → 0 < m → Outcome t d c rank lo hi (pick b after-inside after-low)
+      by-key : (b : Bool) → ltb (queued x) lo ≡ b → 0 < m → Extraction t d c rank lo hi (pick b after-inside after-low)
       by-key true e h =
           let (in-queue, first) = least-place-least t d c m h in
           inside-outcome x in-queue first (ltb-true (queued x) lo e)
@@ -582,6 +582,6 @@ module _ (t : List ℕ) (d : Layout) (c rank lo hi : ℕ) (below : c < d .cells)
           low-outcome (λ y l. le-trans (ltb-false (queued x) lo e) (first y l))
 
       by-length : (b : Bool) → ltb 0 m ≡ b
-          → Outcome t d c rank lo hi (pick b (pick (ltb (queued x) lo) after-inside after-low) after-low)
+          → Extraction t d c rank lo hi (pick b (pick (ltb (queued x) lo) after-inside after-low) after-low)
       by-length true e = by-key (ltb (queued x) lo) refl (ltb-true 0 m e)
       by-length false e = low-outcome (λ y h. absurd (omega (arith, ltb-false 0 m e)))

@@ -63,10 +63,10 @@ module _ {g : Grammar} {es : List Edge} {rules edges index : List ℕ} {d : Layo
   edge-sound c e x h =
       let (below, h₁) = both (ltb e (length es)) h in
       let (from, h₂) = both (eqb (getD edges (4 * e) 0) (c .from)) h₁ in
-      let (upto, h₃) = both (eqb (getD edges (4 * e + 1) 0) (c .to)) h₂ in
+      let (to, h₃) = both (eqb (getD edges (4 * e + 1) 0) (c .to)) h₂ in
       let (carries, heard) = both (eqb (getD edges (4 * e + 2) 0) (x .0)) h₃ in
       let x-is : word (getD edges (4 * e + 2) 0) ≡ x = ap word (eqb-true _ _ carries) in
-      (rw (eqb-true (getD edges (4 * e) 0) _ from, eqb-true (getD edges (4 * e + 1) 0) _ upto, x-is) at (s .edge-at e (ltb-true _ _ below)), ltb-true _ _ heard)
+      (rw (eqb-true (getD edges (4 * e) 0) _ from, eqb-true (getD edges (4 * e + 1) 0) _ to, x-is) at (s .edge-at e (ltb-true _ _ below)), ltb-true _ _ heard)
 
   edge-complete : (c : Cell) (e : ℕ) {x : W.Word} {cost : ℕ} → Offered es e (edge (c .from) (c .to) x cost) → edgeFits edges (length es) c e x ≡ true
   unfolding edgeFits
@@ -75,7 +75,7 @@ module _ {g : Grammar} {es : List Edge} {rules edges index : List ℕ} {d : Layo
       rw (
         lt-ltb e (length es) (at-length es e at),
         eq-eqb _ _ (is .from),
-        eq-eqb _ _ (is .upto),
+        eq-eqb _ _ (is .to),
         eq-eqb _ _ (is .carries),
         is .costs,
         lt-ltb _ _ heard,

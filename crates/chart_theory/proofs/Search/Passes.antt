@@ -60,7 +60,7 @@ module _ (d : Layout) (t : List ℕ) (zeros : Zeros t) where
 
 -- the ranks of the root are known up to x
 pub record Listed (g : Grammar) (es : List Edge) (d : Layout) (x : ℕ) (u : List ℕ) : Type 0 where
-  pub invariant : Invariant g es d (suc (d .places)) u
+  pub invariant : Invariant g es d (suc (d .last)) u
   pub known : (y : ℕ) → y ≤ x → Known g es d u (root d) y
 
 module _ {g : Grammar} {es : List Edge} {rules edges index : List ℕ} {d : Layout} (s : Setting g es rules edges index d) where
@@ -69,7 +69,7 @@ module _ {g : Grammar} {es : List Edge} {rules edges index : List ℕ} {d : Layo
     grown : Grown g es d m t u
     known : (a : ℕ) → a < x → Known g es d u (cell (symbolOf a) i k) 0
 
-  heads-known : (m : ℕ) (t : List ℕ) (i k : ℕ) → Invariant g es d m t → i < k → k ≤ d .places → k - i ≤ m
+  heads-known : (m : ℕ) (t : List ℕ) (i k : ℕ) → Invariant g es d m t → i < k → k ≤ d .last → k - i ≤ m
       → Heads m t i k (d .symbols) (firstOfHeads rules edges index d t i k)
   unfolding firstOfHeads
   heads-known m t i k invariant order within due =
@@ -99,14 +99,14 @@ module _ {g : Grammar} {es : List Edge} {rules edges index : List ℕ} {d : Layo
     invariant : Invariant g es d len u
     known : (i a : ℕ) → i < x → a < d .symbols → Known g es d u (cell (symbolOf a) i (i + len)) 0
 
-  length-known : (t : List ℕ) (len : ℕ) → Invariant g es d len t → 0 < len → len ≤ d .places
+  length-known : (t : List ℕ) (len : ℕ) → Invariant g es d len t → 0 < len → len ≤ d .last
       → Invariant g es d (suc len) (firstOfLength rules edges index d t len)
   unfolding firstOfLength
   length-known t len invariant positive within =
       longer _
-      (iter-keeps (Lengths len) _ t (d .places + 1 - len) (record { invariant = invariant; known = λ i a l. absurd (omega arith) }) step)
+      (iter-keeps (Lengths len) _ t (d .last + 1 - len) (record { invariant = invariant; known = λ i a l. absurd (omega arith) }) step)
     where
-      step : (x : ℕ) (u : List ℕ) → x < d .places + 1 - len → Lengths len x u
+      step : (x : ℕ) (u : List ℕ) → x < d .last + 1 - len → Lengths len x u
           → Lengths len (suc x) (firstOfHeads rules edges index d u x (x + len))
       step x u l lengths =
           let heads = heads-known len u x (x + len) (lengths .invariant) (omega arith) (omega arith) (omega arith) in
@@ -117,13 +117,13 @@ module _ {g : Grammar} {es : List Edge} {rules edges index : List ℕ} {d : Layo
                 (eq-or-lt-of-le {n = i} {m = x} (omega arith));
           }
 
-      first : (u : List ℕ) → Lengths len (d .places + 1 - len) u → (c : Cell) → InChart d c → span c ≡ len → Known g es d u c 0
+      first : (u : List ℕ) → Lengths len (d .last + 1 - len) u → (c : Cell) → InChart d c → span c ≡ len → Known g es d u c 0
       first u lengths c in-chart e =
           let last : c .from + len ≡ c .to = omega (arith, in-chart .order) in
           subst (λ b. Known g es d u b 0) (ap (cell (c .head) (c .from)) last)
           (lengths .known (c .from) (c .head .0) (omega (arith, in-chart .order, in-chart .within)) (in-chart .symbol))
 
-      longer : (u : List ℕ) → Lengths len (d .places + 1 - len) u → Invariant g es d (suc len) u
+      longer : (u : List ℕ) → Lengths len (d .last + 1 - len) u → Invariant g es d (suc len) u
       longer u lengths = record {
         room = lengths .invariant .room;
         holds = lengths .invariant .holds;
@@ -137,10 +137,10 @@ module _ {g : Grammar} {es : List Edge} {rules edges index : List ℕ} {d : Layo
         queued = lengths .invariant .queued;
       }
 
-  first-pass-known : (t : List ℕ) → Invariant g es d 1 t → Invariant g es d (suc (d .places)) (firstPass rules edges index d t)
+  first-pass-known : (t : List ℕ) → Invariant g es d 1 t → Invariant g es d (suc (d .last)) (firstPass rules edges index d t)
   unfolding firstPass
   first-pass-known t invariant =
-      iter-keeps (λ x u. Invariant g es d (suc x) u) _ t (d .places) invariant (λ x u l before.
+      iter-keeps (λ x u. Invariant g es d (suc x) u) _ t (d .last) invariant (λ x u l before.
       rw (add-one x) (length-known u (suc x) before (omega arith) l))
 
   module _ (in-root : InChart d (root d)) where
@@ -160,10 +160,10 @@ module _ {g : Grammar} {es : List Edge} {rules edges index : List ℕ} {d : Layo
         weight = priceIn d u (root d) x
 
         go : (b : Bool) → eqb weight 0 ≡ b
-            → Listed g es d (suc x) (pick b u (extend d (nextOfSpan rules edges index d (d .places)) u (root d) (suc x)))
+            → Listed g es d (suc x) (pick b u (extend d (nextOfSpan rules edges index d (d .last)) u (root d) (suc x)))
         go true e = none-behind x u (omega arith) listed (eqb-true weight 0 e) (suc x)
         go false e =
-            let done = extend-done s (suc (d .places)) (next-finds s (suc (d .places)) (d .places)) x (listed .invariant) in-root
+            let done = extend-done s (suc (d .last)) (next-finds s (suc (d .last)) (d .last)) x (listed .invariant) in-root
             (omega arith) (omega arith) (found-test weight e) in
             record {
               invariant = done .grown .invariant;

@@ -46,7 +46,7 @@ use Rattle.chart_theory.proofs.Queue.Pool.{
   requeued,
 }
 use Rattle.chart_theory.proofs.Queue.Stored.{stored-key}
-use Rattle.chart_theory.proofs.Queue.ExtractMin.{Extracted, Outcome, nothing, something, extract-min-outcome}
+use Rattle.chart_theory.proofs.Queue.ExtractMin.{Extracted, Extraction, nothing, something, extract-min-outcome}
 use Rattle.chart_theory.proofs.Invariant.{Setting, priceIn, Found, PartsFound, HoldsRow, QueueIn, FreshIn, parts-grow, grown-refl, all-below}
 use Rattle.chart_theory.proofs.Candidates.Select.{Selects}
 use Rattle.chart_theory.proofs.Candidates.Keys.{Candidate, initial-selects, rowFound, found-row, successors-select}
@@ -284,7 +284,7 @@ module _ {g : Grammar} {es : List Edge} {rules edges index : List ℕ} {d : Layo
         real : (y : ℕ) → y < w → queuedKey t d (cellNumber d c) y < noKey
         real y h = let q = pool .queue .place y h in rw (q .keyed) (frontier-some s ready (q .on))
 
-        go : (u : List ℕ) → Outcome t d (cellNumber d c) (suc x) lo hi u → Done s m t u c (suc x)
+        go : (u : List ℕ) → Extraction t d (cellNumber d c) (suc x) lo hi u → Done s m t u c (suc x)
         go u (nothing e empty no-lo no-hi) = rw e (none-found empty no-lo no-hi)
         go u (something extracted) = one-found u extracted
 

@@ -16,11 +16,11 @@ use Rattle.chart_table.specs.declared.Layout.{Layout}
 pub record InChart (d : Layout) (c : Cell) : Type 0 where
   pub symbol : c .head .0 < d .symbols
   pub order : c .from < c .to
-  pub within : c .to ≤ d .places
+  pub within : c .to ≤ d .last
 
 -- the layout has a number for each of them
 abbrev pub Planned : Layout → Type 0
-Planned d = d .cells ≡ d .symbols * (d .places * (d .places + 1) / 2)
+Planned d = d .cells ≡ d .symbols * (d .last * (d .last + 1) / 2)
 
 -- how many places a cell spans
 abbrev pub span : Cell → ℕ

@@ -25,7 +25,7 @@ module _ {d : Layout} where
   pub cell-below : {c : Cell} → Planned d → InChart d c → cellNumber d c < d .cells
   unfolding cellNumber
   cell-below {c} planned in-chart =
-      let n = d .places in
+      let n = d .last in
       let within : spans (c .to) + c .from < spans (suc n) = omega (arith, spans-before (c .to) (suc n) (omega (arith, in-chart .within)), in-chart .order) in
       let last : suc n - 1 ≡ n = omega arith in
       let same : spans (suc n) ≡ n * (n + 1) / 2 = rw (last, add-one n, mul-comm n (suc n)) in

@@ -90,21 +90,21 @@ returns c = λ f h.
 sub-n : tie.Need-sub-n Inv-loop μ-loop
 sub-n c = search needs
 
-mul-part-of : tie.Need-mul-part-of Inv-loop μ-loop
-mul-part-of c = search needs
+mul-numbered-part : tie.Need-mul-numbered-part Inv-loop μ-loop
+mul-numbered-part c = search needs
 
-array-read-part-of : tie.Need-array-read-part-of Inv-loop μ-loop
-array-read-part-of c = search needs
+array-read-numbered-part : tie.Need-array-read-numbered-part Inv-loop μ-loop
+array-read-numbered-part c = search needs
 
-part-of-requires : tie.Need-part-of-requires Inv-loop μ-loop
-part-of-requires c κs =
+numbered-part-requires : tie.Need-numbered-part-requires Inv-loop μ-loop
+numbered-part-requires c κs =
     let c₉ = c .before .before .before .before .before .before .before .before .before in
     top-low _ _ _ _ (c₉ .loop .inv .1) (omega arith)
 
 loop-less-2 : tie.Need-loop-less-2 Inv-loop μ-loop
 loop-less-2 c =
     let c₁₀ = c .before .before .before .before .before .before .before .before .before .before in
-    rw (c .part-of .ensures) (less-up _ _ _ _ (c₁₀ .loop .inv .1 .order) (c₁₀ .loop .inv .1 .few) _ (omega arith))
+    rw (c .numbered-part .ensures) (less-up _ _ _ _ (c₁₀ .loop .inv .1 .order) (c₁₀ .loop .inv .1 .few) _ (omega arith))
 
 loop-again-2 : tie.Need-loop-again-2 Inv-loop μ-loop
 loop-again-2 c =
@@ -113,7 +113,7 @@ loop-again-2 c =
     let c₈ = c₄ .before .before .before .before in
     let c₁₀ = c₈ .before .before in (
       c₈ .trace-node .kept .1 .1 .1 .0 ∙ c₁₀ .loop .inv .0,
-      rw (c .part-of .ensures, c₈ .trace-node .ensures .2) (resumes _ _ _
+      rw (c .numbered-part .ensures, c₈ .trace-node .ensures .2) (resumes _ _ _
           (c₁₀ .loop .inv .1) (c₈ .trace-node .ensures .0) _ (c₂ .enum-told .given .1) (c₄ .rule-within .ensures) (omega arith)),
     )
 
@@ -139,8 +139,8 @@ trace-back-spec =
     same-length
     returns
     sub-n
-    mul-part-of
-    array-read-part-of
-    part-of-requires
+    mul-numbered-part
+    array-read-numbered-part
+    numbered-part-requires
     loop-less-2
     loop-again-2)

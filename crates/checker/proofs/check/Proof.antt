@@ -3,7 +3,7 @@ use mathlib.Core.Path.{sym, ap, _∙_}
 use borrow.Author.Needs.{needs}
 use native.Mathlib.Omega.{arith}
 use Rattle.packing.specs.Grammar.{grammarBlock}
-use Rattle.grammar_reader.proofs.Outcome.{accepted-told, refused-told}
+use Rattle.grammar_reader.proofs.BlockInversion.{accepted-told, refused-told}
 use Rattle.checker.specs.Check.{check}
 use Rattle.packing.proofs.Flat.{rules-of}
 use Rattle.checker.specs.Run.{walkedOf, checkedBy}

@@ -5,7 +5,7 @@ use native.Mathlib.Omega.{arith}
 use Rattle.packing.specs.Graph.{graphBlock}
 use Rattle.packing.specs.Flat.{rulesOf}
 use Rattle.packing.proofs.Flat.{length-rules-at}
-use Rattle.graph_reader.proofs.Outcome.{accepted-told, refused-told}
+use Rattle.graph_reader.proofs.BlockInversion.{accepted-told, refused-told}
 use Rattle.graph_reader.specs.declared.GraphSize.{GraphSize}
 use Rattle.checker.proofs.Answered.{graph-judged}
 use borrow.Author.Needs.{needs}

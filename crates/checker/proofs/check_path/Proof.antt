@@ -5,7 +5,7 @@ use lib.ListN.{length}
 use native.Mathlib.Omega.{arith}
 use Rattle.packing.specs.Flat.{rulesOf}
 use Rattle.packing.proofs.Flat.{length-rules-at}
-use Rattle.graph_run.specs.Edges.{edgesOf}
+use Rattle.graph_check.specs.Edges.{edgesOf}
 use Rattle.checker.proofs.Answered.{path-judged, path-failed}
 use borrow.Author.Needs.{needs}
 use Rattle.checker.proofs.check_path.Statement.{statement}

@@ -6,7 +6,7 @@ use native.Mathlib.Omega.{arith}
 use Rattle.packing.specs.declared.Rule as R
 use Rattle.packing.specs.Utterance.{utteranceBlock}
 use Rattle.packing.specs.Flat.{rulesOf}
-use Rattle.utterance_reader.proofs.Outcome.{accepted-told, refused-told}
+use Rattle.utterance_reader.proofs.BlockInversion.{accepted-told, refused-told}
 use Rattle.utterance_reader.specs.declared.Slots.{Slots}
 use Rattle.packing.proofs.Flat.{length-rules-at}
 use Rattle.checker.proofs.Answered.{slots-judged}

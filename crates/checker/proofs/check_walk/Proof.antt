@@ -2,9 +2,9 @@
 use mathlib.Core.Path.{refl}
 use borrow.Author.Needs.{needs}
 use Rattle.packing.specs.Reading.{readingFrom}
-use Rattle.reading_reader.proofs.Outcome.{parsed-told, failed-told}
+use Rattle.reading_reader.proofs.BlockInversion.{parsed-told, failed-told}
 use Rattle.packing.specs.Flat.{rulesOf, slotsOf}
-use Rattle.parts_stack.specs.Stack.{numberOf}
+use Rattle.parse_stack.specs.Stack.{numberOf}
 use Rattle.checker.proofs.Answered.{walk-judged}
 use Rattle.checker.proofs.check_walk.Statement.{statement}
 use Rattle.checker.proofs.check_walk.Tie as tie

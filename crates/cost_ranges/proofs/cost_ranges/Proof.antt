@@ -1,6 +1,6 @@
 -- What the readers say of the grammar and the low block decides between their refusal and the answer. Both are what is due, and that is what
 -- is meant.
-use Rattle.cost_ranges.proofs.Outcome.{not-read, read, meant}
+use Rattle.cost_ranges.proofs.WaysOut.{not-read, read, meant}
 use borrow.Author.Needs.{needs}
 use Rattle.cost_ranges.proofs.cost_ranges.Statement.{statement}
 use Rattle.cost_ranges.proofs.cost_ranges.Tie as tie

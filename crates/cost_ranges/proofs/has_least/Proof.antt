@@ -3,7 +3,7 @@ use borrow.Author.Needs.{needs}
 use Prim.Native.Nat.{_*_}
 use lib.ListN.{length, take}
 use Rattle.packing.specs.Flat.{nodesIn}
-use Rattle.cost_ranges.proofs.Told.{least-told}
+use Rattle.cost_ranges.proofs.PassesAnswer.{least-told}
 use Rattle.cost_ranges.proofs.has_least.Statement.{statement}
 use Rattle.cost_ranges.proofs.has_least.Tie as tie
 

@@ -2,7 +2,7 @@
 use borrow.Author.Needs.{needs}
 use lib.ListN.{length}
 use Rattle.one_best.proofs.Trace.{trace-fits}
-use Rattle.cost_ranges.proofs.Told.{none-told, some-told}
+use Rattle.cost_ranges.proofs.PassesAnswer.{none-told, some-told}
 use Rattle.cost_ranges.proofs.passes.Statement.{statement}
 use Rattle.cost_ranges.proofs.passes.Tie as tie
 

@@ -5,7 +5,7 @@ use borrow.Author.Needs.{needs}
 use lib.ListN.{length}
 use Rattle.chart.specs.WorkTable.{tableSize}
 use Rattle.chart.proofs.WorkTable.{table-is, layout-is}
-use Rattle.cost_ranges.proofs.Outcome.{alike-short, alike-passed}
+use Rattle.cost_ranges.proofs.WaysOut.{alike-short, alike-passed}
 use Rattle.cost_ranges.proofs.ranges_alike.Statement.{statement}
 use Rattle.cost_ranges.proofs.ranges_alike.Tie as tie
 

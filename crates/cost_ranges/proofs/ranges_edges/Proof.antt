@@ -1,7 +1,7 @@
 -- Whether both rise decides between 59 and the answer.
 use mathlib.Core.Path.{sym, _∙_}
 use borrow.Author.Needs.{needs}
-use Rattle.cost_ranges.proofs.Outcome.{edges-differ, edges-alike}
+use Rattle.cost_ranges.proofs.WaysOut.{edges-differ, edges-alike}
 use Rattle.cost_ranges.proofs.ranges_edges.Statement.{statement}
 use Rattle.cost_ranges.proofs.ranges_edges.Tie as tie
 

@@ -1,8 +1,8 @@
 -- What the reader says of the high block decides between its refusal and the answer.
 use borrow.Author.Needs.{needs}
 use Rattle.packing.specs.Heard.{asSlots}
-use Rattle.heard_reader.proofs.Outcome.{accepted-told, refused-told}
-use Rattle.cost_ranges.proofs.Outcome.{high-refused, high-read}
+use Rattle.heard_reader.proofs.BlockInversion.{accepted-told, refused-told}
+use Rattle.cost_ranges.proofs.WaysOut.{high-refused, high-read}
 use Rattle.cost_ranges.proofs.ranges_high.Statement.{statement}
 use Rattle.cost_ranges.proofs.ranges_high.Tie as tie
 

@@ -5,7 +5,7 @@ use borrow.Author.Needs.{needs}
 use Rattle.packing.specs.Parse.{accepted}
 use Rattle.packing.specs.Grammar.{markedSheet, blockOfMarked}
 use Rattle.packing.specs.Conversion.{grammarToBlock}
-use Rattle.grammar_reader.proofs.Told.{marked-refused}
+use Rattle.grammar_reader.proofs.FieldInversion.{marked-refused}
 use Rattle.packing.proofs.Theorems.{grammar-sheet-and-back}
 use Rattle.sheet_writer.proofs.Fit.{handed-up, and-back}
 use Rattle.grammar_conversion.proofs.Grammars.{block-told}

@@ -5,7 +5,7 @@ use borrow.Author.Needs.{needs}
 use Rattle.packing.specs.Parse.{accepted}
 use Rattle.packing.specs.Grammar.{markedBlock, sheetOfMarked}
 use Rattle.packing.specs.Conversion.{grammarToSheet}
-use Rattle.grammar_reader.proofs.Told.{marked-refused}
+use Rattle.grammar_reader.proofs.FieldInversion.{marked-refused}
 use Rattle.packing.proofs.Theorems.{grammar-block-and-back}
 use Rattle.sheet_writer.proofs.Fit.{handed-up, and-back}
 use Rattle.grammar_conversion.proofs.Grammars.{plain-told, marked-told}

@@ -1,7 +1,7 @@
 -- `grammar_reader::read_block` meets its contract: what was read, without the marks. Assumes nothing.
 use borrow.Author.Needs.{needs}
 use Rattle.packing.specs.Grammar.{grammarBlock}
-use Rattle.grammar_reader.proofs.Told.{plain-refused, plain-read}
+use Rattle.grammar_reader.proofs.FieldInversion.{plain-refused, plain-read}
 use Rattle.grammar_reader.proofs.read_block.Statement.{statement}
 use Rattle.grammar_reader.proofs.read_block.Tie as tie
 

@@ -8,7 +8,7 @@ use Rattle.packing.proofs.Parse.{number-told, refusal-told}
 use Rattle.rules_reader.proofs.Taken.{taken}
 use Rattle.packing.specs.Graph.{placeCount, edgeCount}
 use Rattle.graph_reader.specs.Parts.{no-body}
-use Rattle.graph_reader.proofs.Told.{found-told, not-found-told}
+use Rattle.graph_reader.proofs.FieldInversion.{found-told, not-found-told}
 use Rattle.graph_reader.proofs.Graphs.{no-places, no-count, no-edges, all-edges, graph-placed}
 use borrow.Author.Needs.{needs}
 use Rattle.graph_reader.proofs.read_body.Statement.{statement}

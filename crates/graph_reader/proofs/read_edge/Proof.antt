@@ -7,7 +7,7 @@ use Rattle.packing.specs.Parse.{parsed}
 use Rattle.packing.specs.Source.{Source, bytes, fieldAt}
 use Rattle.packing.proofs.Parse.{number-told, refusal-told}
 use Rattle.rules_reader.proofs.Taken.{got, missed, taken}
-use Rattle.slots_reader.proofs.Told.{candidate-told}
+use Rattle.slots_reader.proofs.FieldInversion.{candidate-told}
 use Rattle.packing.specs.Graph.{startPlace, endPlace}
 use Rattle.graph_reader.proofs.Edges.{no-start, no-end, no-candidate, whole-edge}
 use Rattle.graph_reader.proofs.read_edge.Statement.{statement}

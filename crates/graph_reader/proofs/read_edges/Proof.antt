@@ -6,16 +6,16 @@ use native.Mathlib.Omega.{arith}
 use borrow.Author.Needs.{needs}
 use lib.ListN.{length, length-set}
 use Rattle.packing.specs.Source.{bytes}
-use Rattle.graph_reader.proofs.Told.{edge-told}
+use Rattle.graph_reader.proofs.FieldInversion.{edge-told}
 use Rattle.graph_reader.proofs.Edges.{edge-near}
-use Rattle.graph_reader.proofs.Turns.{Passed, none-passed, all-passed, edge-refused, edge-repeated, edge-passed}
+use Rattle.graph_reader.proofs.Turns.{ReadSoFar, none-passed, all-passed, edge-refused, edge-repeated, edge-passed}
 use Rattle.graph_reader.proofs.read_edges.Statement.{statement}
 use Rattle.graph_reader.proofs.read_edges.Tie as tie
 
 abbrev Inv-loop : tie.InvT-loop
 Inv-loop block start words places count edges₀ end keys₀ at₀ i₀ edges keys at i =
     (i ≤ end) × (at ≤ start + 34 * i) × (length keys ≡ 96) × (length edges ≡ length edges₀)
-    × Passed (bytes 11 block) words places count start edges₀ i at keys edges
+    × ReadSoFar (bytes 11 block) words places count start edges₀ i at keys edges
 
 abbrev μ-loop : tie.MeasureT-loop
 μ-loop block start words places count edges₀ end keys₀ at₀ i₀ edges keys at i = end - i

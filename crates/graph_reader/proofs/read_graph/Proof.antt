@@ -7,7 +7,7 @@ use Rattle.packing.specs.Source.{bytes, fieldAt}
 use Rattle.packing.specs.Grammar.{blockKind}
 use Rattle.packing.proofs.Parse.{number-told, refusal-told}
 use Rattle.rules_reader.proofs.Taken.{taken}
-use Rattle.graph_reader.proofs.Told.{body-told, no-body-told}
+use Rattle.graph_reader.proofs.FieldInversion.{body-told, no-body-told}
 use Rattle.graph_reader.proofs.Graphs.{graph-near}
 use Rattle.graph_reader.proofs.Answers.{promised-refusal, promised-graph, no-kind, block-stops, block-goes-on, block-ends}
 use borrow.Author.Needs.{needs}

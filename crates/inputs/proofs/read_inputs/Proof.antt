@@ -1,7 +1,7 @@
 -- `inputs::read_inputs` meets its contract: the readers' answers, one after the other. Assumes nothing.
 use native.Mathlib.Omega.{arith}
 use Rattle.packing.specs.Heard.{heardBlock}
-use Rattle.inputs.proofs.Outcome.{grammar-refused, grammar-read}
+use Rattle.inputs.proofs.BlocksRead.{grammar-refused, grammar-read}
 use borrow.Author.Needs.{needs}
 use Rattle.inputs.proofs.read_inputs.Statement.{statement}
 use Rattle.inputs.proofs.read_inputs.Tie as tie

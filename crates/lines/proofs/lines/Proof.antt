@@ -1,6 +1,6 @@
 -- Where the rows have no room, the listing is lent no output and so refuses; else they are written.
 use borrow.Author.Needs.{needs}
-use Rattle.lines.proofs.Outcome.{no-room, room-is}
+use Rattle.lines.proofs.RowsMeant.{no-room, room-is}
 use Rattle.lines.proofs.lines.Statement.{statement}
 use Rattle.lines.proofs.lines.Tie as tie
 

@@ -2,7 +2,7 @@
 use mathlib.Core.Path.{sym, _∙_}
 use borrow.Author.Needs.{needs}
 use Rattle.packing.specs.Heard.{heardBlock}
-use Rattle.heard_reader.proofs.Outcome as heard
+use Rattle.heard_reader.proofs.BlockInversion as heard
 use Rattle.lines.proofs.Shapes.{no-grammar, no-heard, both-accepted}
 use Rattle.lines.proofs.shape_of.Statement.{statement}
 use Rattle.lines.proofs.shape_of.Tie as tie

@@ -8,7 +8,7 @@ use Rattle.listing.specs.Conditions.{library}
 use Rattle.listing.specs.Model.{shortage}
 use Rattle.chart.proofs.WorkTable.{layout-is}
 use Rattle.listing.proofs.Sizes.{all-met}
-use Rattle.listing.proofs.Outcome.{read-refused, read-found}
+use Rattle.listing.proofs.WaysOut.{read-refused, read-found}
 use Rattle.listing.proofs.list_read.Statement.{statement}
 use Rattle.listing.proofs.list_read.Tie as tie
 

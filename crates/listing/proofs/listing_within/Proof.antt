@@ -1,6 +1,6 @@
 -- What the readers say of both blocks decides between their refusal and the listing of what these mean. Both are what is due, so within the
 -- limits demand 3 is met.
-use Rattle.listing.proofs.Outcome.{not-read}
+use Rattle.listing.proofs.WaysOut.{not-read}
 use Rattle.listing.proofs.Demand3.{promised}
 use borrow.Author.Needs.{needs}
 use Rattle.listing.proofs.listing_within.Statement.{statement}

@@ -3,9 +3,9 @@ use mathlib.Core.Path.{subst}
 use Rattle.packing.specs.Grammar.{grammarBlock}
 use Rattle.packing.proofs.Whole.{grammar-block-out}
 use Rattle.grammar_reader.specs.Answer.{InBounds}
-use Rattle.grammar_reader.proofs.Outcome.{accepted-told, refused-told}
+use Rattle.grammar_reader.proofs.BlockInversion.{accepted-told, refused-told}
 use Rattle.specimen.proofs.Asked.{asked-block, asked-none, asked-many, asked-short, asked-well}
-use Rattle.next_phrase.proofs.Told.{next-refused, next-told}
+use Rattle.next_phrase.proofs.WaysOut.{next-refused, next-told}
 use borrow.Author.Needs.{needs}
 use Rattle.next_phrase.proofs.next_phrase.Statement.{statement}
 use Rattle.next_phrase.proofs.next_phrase.Tie as tie

@@ -3,14 +3,14 @@ use mathlib.Core.Path.{_≡_, refl, sym, _∙_}
 use Prim.Native.Nat.{_+_, _-_, _*_, _≤_, _<_}
 use native.Mathlib.Omega.{arith}
 use lib.ListN.{length}
-use Rattle.office_conversion.proofs.Rules.{Passed, none-passed, next-passable, one-more, all-passed}
+use Rattle.office_conversion.proofs.Rules.{ConvertedSoFar, none-passed, next-passable, one-more, all-passed}
 use Rattle.office_conversion.proofs.convert.Statement.{statement}
 use Rattle.office_conversion.proofs.convert.Tie as tie
 
 abbrev Inv-loop : tie.InvT-loop
 Inv-loop sheet rules₀ base places₀ p₀ k₀ i₀ end rules places p k i =
     (i ≤ end) × (end ≡ base .rules) × (p ≤ 3 + 8589934600 * i) × (k ≤ 10 * i) × (length rules ≡ length rules₀) × (length places ≡ 200)
-    × Passed sheet (base .symbols) (base .rules) rules₀ p i k places rules
+    × ConvertedSoFar sheet (base .symbols) (base .rules) rules₀ p i k places rules
 
 abbrev μ-loop : tie.MeasureT-loop
 μ-loop sheet rules₀ base places₀ p₀ k₀ i₀ end rules places p k i = end - i

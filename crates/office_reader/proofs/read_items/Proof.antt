@@ -4,7 +4,7 @@ use Prim.Native.Nat.{_+_, _-_, _*_, _≤_}
 use native.Mathlib.Omega.{arith}
 use borrow.Author.Needs.{needs}
 use Rattle.office.specs.Sheet.{itemsFrom}
-use Rattle.office_reader.specs.Answer.{passedOf}
+use Rattle.office_reader.specs.Answer.{reachedOf}
 use Rattle.office_reader.proofs.Passing.{Items, items-stop, items-go-on, item-end, items-end}
 use Rattle.office_reader.proofs.read_items.Statement.{statement}
 use Rattle.office_reader.proofs.read_items.Tie as tie
@@ -12,7 +12,7 @@ use Rattle.office_reader.proofs.read_items.Tie as tie
 abbrev Inv-loop : tie.InvT-loop
 Inv-loop sheet start v count at₀ i₀ at i =
     (i ≤ count) × (at ≡ start + 2 * i)
-    × (Items sheet (v .symbols) (v .words) count (count - i) at ≡ passedOf (itemsFrom sheet (v .symbols) (v .words) count count start))
+    × (Items sheet (v .symbols) (v .words) count (count - i) at ≡ reachedOf (itemsFrom sheet (v .symbols) (v .words) count count start))
 
 abbrev μ-loop : tie.MeasureT-loop
 μ-loop sheet start v count at₀ i₀ at i = count - i

@@ -9,7 +9,7 @@ use Rattle.office.specs.Sheet.{ruleAlike, officeRulesFrom}
 use Rattle.office.specs.Flat.{behindAll, officeRulesAt}
 use Rattle.rules_reader.specs.Rules.{Filters}
 use Rattle.rules_reader.proofs.Filter.{filters-none}
-use Rattle.office_reader.specs.Answer.{passedOf}
+use Rattle.office_reader.specs.Answer.{reachedOf}
 use Rattle.office_reader.specs.Filter.{rulePlace}
 use Rattle.office_reader.proofs.Places.{filters-next}
 use Rattle.office_reader.proofs.Passing.{Rules, rules-start, rules-stop, rules-repeat, rules-go-on, rule-end, rules-end}
@@ -19,7 +19,7 @@ use Rattle.office_reader.proofs.read_rules.Tie as tie
 abbrev Inv-loop : tie.InvT-loop
 Inv-loop sheet v count filter₀ at₀ i₀ filter at i =
     (i ≤ count) × (at ≡ behindAll sheet 3 i) × (at ≤ 3 + 15 * i)
-    × (Rules sheet (v .symbols) (v .words) count i at ≡ passedOf (officeRulesFrom sheet (v .symbols) (v .words) count 3 []))
+    × (Rules sheet (v .symbols) (v .words) count i at ≡ reachedOf (officeRulesFrom sheet (v .symbols) (v .words) count 3 []))
     × (length filter ≡ 4093) × Filters ruleAlike rulePlace (officeRulesAt sheet 3 i) filter
 
 abbrev μ-loop : tie.MeasureT-loop

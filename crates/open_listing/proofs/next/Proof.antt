@@ -1,5 +1,5 @@
 -- What the readers say decides between their refusal and the call.
-use Rattle.open_listing.proofs.Outcome.{inputs-not-called, read-called, read-next, refused-next}
+use Rattle.open_listing.proofs.WaysOut.{inputs-not-called, read-called, read-next, refused-next}
 use borrow.Author.Needs.{needs}
 use Rattle.open_listing.proofs.next.Statement.{statement}
 use Rattle.open_listing.proofs.next.Tie as tie

@@ -1,6 +1,6 @@
 -- Both blocks are read, the table's length tested, and the table made zeros.
 use native.Mathlib.Omega.{arith}
-use Rattle.open_listing.proofs.Outcome.{inputs-not-opened, not-opened-short, opened-zeros}
+use Rattle.open_listing.proofs.WaysOut.{inputs-not-opened, not-opened-short, opened-zeros}
 use borrow.Author.Needs.{needs}
 use Rattle.open_listing.proofs.open.Statement.{statement}
 use Rattle.open_listing.proofs.open.Tie as tie

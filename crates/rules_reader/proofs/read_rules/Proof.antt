@@ -9,14 +9,14 @@ use lib.ListN.{length, take, replicate, length-set}
 use Rattle.packing.specs.Read.{sourceOf}
 use Rattle.rules_reader.specs.Rules.{MarkedNear, Sound, filterPlace, Filtered}
 use Rattle.rules_reader.proofs.Filter.{filters-none, filtered-more}
-use Rattle.rules_reader.proofs.Turns.{Passed, none-passed, all-passed, rule-refused, rule-repeated, rule-passed}
+use Rattle.rules_reader.proofs.Turns.{ReadSoFar, none-passed, all-passed, rule-refused, rule-repeated, rule-passed}
 use Rattle.rules_reader.proofs.read_rules.Statement.{statement}
 use Rattle.rules_reader.proofs.read_rules.Tie as tie
 
 abbrev Inv-loop : tie.InvT-loop
 Inv-loop src block sheet start rules₀ marks₀ v marked count end keys₀ filter₀ at₀ i₀ rules marks keys filter at i =
     (i ≤ end) × (at ≤ start + 42 * i) × (length keys ≡ 256) × (length rules ≡ length rules₀) × (length marks ≡ length marks₀)
-    × Passed marked (sourceOf src block sheet) (v .symbols) (v .words) count start i at keys rules₀ rules marks
+    × ReadSoFar marked (sourceOf src block sheet) (v .symbols) (v .words) count start i at keys rules₀ rules marks
     × (length filter ≡ 1021) × Filtered (take i keys) filter
 
 abbrev μ-loop : tie.MeasureT-loop

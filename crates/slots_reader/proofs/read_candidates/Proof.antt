@@ -14,7 +14,7 @@ use Rattle.packing.specs.Utterance.{candidatesFrom, candidatesEntries}
 use Rattle.packing.specs.Store.{storeAll}
 use Rattle.slots_reader.specs.Placed.{candidateFrom, candidateNumbers, placed, not-placed}
 use Rattle.slots_reader.proofs.Numbers.{length-numbers, candidate-stored}
-use Rattle.slots_reader.proofs.Told.{candidate-told}
+use Rattle.slots_reader.proofs.FieldInversion.{candidate-told}
 use Rattle.slots_reader.proofs.Candidates.{candidate-near, candidates-stop, candidates-go-on, candidates-end}
 use Rattle.slots_reader.proofs.read_candidates.Statement.{statement}
 use Rattle.slots_reader.proofs.read_candidates.Tie as tie

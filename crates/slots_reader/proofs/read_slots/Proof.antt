@@ -13,7 +13,7 @@ use Rattle.packing.specs.Utterance.{slotsFrom, slotsEntries}
 use Rattle.packing.specs.Flat.{slotNumbers}
 use Rattle.packing.specs.Store.{storeAll}
 use Rattle.slots_reader.specs.Placed.{not-placed}
-use Rattle.slots_reader.proofs.Told.{placed-at, placed-told, not-placed-told}
+use Rattle.slots_reader.proofs.FieldInversion.{placed-at, placed-told, not-placed-told}
 use Rattle.slots_reader.proofs.Numbers.{length-numbers, slot-more, slot-stored}
 use Rattle.slots_reader.proofs.Slots.{slots-stop, slots-go-on, slots-end, slot-near}
 use Rattle.slots_reader.proofs.read_slots.Statement.{statement}

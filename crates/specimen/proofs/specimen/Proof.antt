@@ -3,7 +3,7 @@ use mathlib.Core.Path.{subst}
 use Rattle.packing.specs.Grammar.{grammarBlock}
 use Rattle.packing.proofs.Whole.{grammar-block-out}
 use Rattle.grammar_reader.specs.Answer.{InBounds}
-use Rattle.grammar_reader.proofs.Outcome.{accepted-told, refused-told}
+use Rattle.grammar_reader.proofs.BlockInversion.{accepted-told, refused-told}
 use Rattle.specimen.proofs.Asked.{asked-block, asked-none, asked-many, asked-short, asked-well, specimen-refused, specimen-accepted}
 use borrow.Author.Needs.{needs}
 use Rattle.specimen.proofs.specimen.Statement.{statement}

@@ -40,7 +40,7 @@ write-reading-requires c κs =
     let at-args = c .before .before .before .before .before .before .before in
     let a = at-args .args in
     let form = at-args .pre .1 in
-    let size : a .form .size ≡ readingLength (a .d .places) (a .form .rules) = rw (c .before .if1 .left) at (form .size) in
+    let size : a .form .size ≡ readingLength (a .d .last) (a .form .rules) = rw (c .before .if1 .left) at (form .size) in
     let long = trace-long (a .t .now) (a .rules .now) (a .d) (a .traced .rank) (form .some-place) (at-args .pre .4) (omega (arith, form .places)) in
     (form .some-place, form .places, form .some-rule, form .rules, long, omega (arith, size, at-args .pre .3))
 

@@ -7,7 +7,7 @@ use Rattle.packing.specs.Grammar.{grammarBlock}
 use Rattle.packing.specs.Conversion.{utteranceToSheet, sheetUnder}
 use Rattle.packing.proofs.Theorems.{utterance-block-and-back}
 use Rattle.sheet_writer.proofs.Fit.{handed-up, and-back}
-use Rattle.grammar_reader.proofs.Told.{refusal-told, words-told}
+use Rattle.grammar_reader.proofs.FieldInversion.{refusal-told, words-told}
 use Rattle.utterance_conversion.proofs.utterance_to_sheet.Statement.{statement}
 use Rattle.utterance_conversion.proofs.utterance_to_sheet.Tie as tie
 

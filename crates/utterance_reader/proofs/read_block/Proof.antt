@@ -7,7 +7,7 @@ use Rattle.packing.specs.Source.{bytes, fieldAt}
 use Rattle.packing.specs.Grammar.{blockKind}
 use Rattle.packing.proofs.Bounds.{field-at-next}
 use Rattle.packing.proofs.Parse.{number-told, refusal-told}
-use Rattle.utterance_reader.proofs.Told.{slots-told, no-slots-told}
+use Rattle.utterance_reader.proofs.FieldInversion.{slots-told, no-slots-told}
 use Rattle.utterance_reader.proofs.Utterances.{utterance-near}
 use Rattle.utterance_reader.proofs.Answers.{promised-refusal, promised-slots, no-kind, block-stops, block-goes-on, block-ends}
 use borrow.Author.Needs.{needs}

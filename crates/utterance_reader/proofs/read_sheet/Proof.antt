@@ -1,5 +1,5 @@
 -- `utterance_reader::read_sheet` meets its contract: slots and end are the definition's. Assumes nothing.
-use Rattle.utterance_reader.proofs.Told.{slots-told, no-slots-told}
+use Rattle.utterance_reader.proofs.FieldInversion.{slots-told, no-slots-told}
 use Rattle.utterance_reader.proofs.Answers.{promised-refusal, promised-slots, sheet-stops, sheet-goes-on, sheet-ends}
 use borrow.Author.Needs.{needs}
 use Rattle.utterance_reader.proofs.read_sheet.Statement.{statement}

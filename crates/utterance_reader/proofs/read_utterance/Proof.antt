@@ -11,7 +11,7 @@ use Rattle.packing.proofs.Taken.{taken-fits}
 use Rattle.packing.proofs.Utterance.{utterance-out}
 use Rattle.utterance_reader.specs.Parts.{no-slots}
 use Rattle.packing.proofs.Parse.{number-told, refusal-told}
-use Rattle.slots_reader.proofs.Told.{not-placed-told}
+use Rattle.slots_reader.proofs.FieldInversion.{not-placed-told}
 use Rattle.slots_reader.proofs.Numbers.{valid-size}
 use Rattle.slots_reader.proofs.Slots.{slots-near}
 use Rattle.utterance_reader.proofs.Utterances.{utterance-stops, utterance-goes-on, slots-placed}

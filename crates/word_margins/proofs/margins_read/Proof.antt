@@ -4,7 +4,7 @@ use native.Mathlib.Omega.{arith}
 use lib.ListN.{length}
 use Rattle.chart.specs.WorkTable.{tableSize}
 use Rattle.chart.proofs.WorkTable.{table-is, layout-is}
-use Rattle.word_margins.proofs.Outcome.{edges-short, edges-narrow, edges-listed}
+use Rattle.word_margins.proofs.WaysOut.{edges-short, edges-narrow, edges-listed}
 use borrow.Author.Needs.{needs}
 use Rattle.word_margins.proofs.margins_read.Statement.{statement}
 use Rattle.word_margins.proofs.margins_read.Tie as tie

@@ -1,5 +1,5 @@
 -- What the readers say of both blocks decides between their refusal and the list. Both are what is due, and that is what is meant.
-use Rattle.word_margins.proofs.Outcome.{not-read, meant}
+use Rattle.word_margins.proofs.WaysOut.{not-read, meant}
 use borrow.Author.Needs.{needs}
 use Rattle.word_margins.proofs.word_margins.Statement.{statement}
 use Rattle.word_margins.proofs.word_margins.Tie as tie

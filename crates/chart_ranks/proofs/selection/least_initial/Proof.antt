@@ -1,7 +1,7 @@
 -- Each call has the meaning of its part of the definition, and without masks nothing is passed over.
 use native.Mathlib.Omega.{arith}
 use Rattle.chart_keys.specs.Keys.{noKey}
-use Rattle.chart_candidates.proofs.Passed.{leaves-below}
+use Rattle.chart_candidates.proofs.PassedOver.{leaves-below}
 use Rattle.chart_ranks.specs.Ranks.{leastInitial}
 use borrow.Author.Needs.{needs}
 use Rattle.chart_ranks.proofs.selection.least_initial.Statement.{statement}

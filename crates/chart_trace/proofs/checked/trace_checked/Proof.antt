@@ -189,21 +189,21 @@ returns-3 c =
 sub-n : tie.Need-sub-n Inv-loop μ-loop
 sub-n c = search needs
 
-mul-part-of : tie.Need-mul-part-of Inv-loop μ-loop
-mul-part-of c = search needs
+mul-numbered-part : tie.Need-mul-numbered-part Inv-loop μ-loop
+mul-numbered-part c = search needs
 
-array-read-part-of : tie.Need-array-read-part-of Inv-loop μ-loop
-array-read-part-of c = search needs
+array-read-numbered-part : tie.Need-array-read-numbered-part Inv-loop μ-loop
+array-read-numbered-part c = search needs
 
-part-of-requires : tie.Need-part-of-requires Inv-loop μ-loop
-part-of-requires c κs =
+numbered-part-requires : tie.Need-numbered-part-requires Inv-loop μ-loop
+numbered-part-requires c κs =
     let c₁₄ = c .before .before .before .before .before .before .before .before .before .before .before .before .before .before in
     top-low _ _ _ _ (c₁₄ .loop .inv .1) (omega arith)
 
 loop-less-2 : tie.Need-loop-less-2 Inv-loop μ-loop
 loop-less-2 c =
     let c₁₅ = c .before .before .before .before .before .before .before .before .before .before .before .before .before .before .before in
-    rw (c .part-of .ensures) (less-up _ _ _ _ (c₁₅ .loop .inv .1 .order) (c₁₅ .loop .inv .1 .few) _ (omega arith))
+    rw (c .numbered-part .ensures) (less-up _ _ _ _ (c₁₅ .loop .inv .1 .order) (c₁₅ .loop .inv .1 .few) _ (omega arith))
 
 loop-again-2 : tie.Need-loop-again-2 Inv-loop μ-loop
 loop-again-2 c =
@@ -215,10 +215,10 @@ loop-again-2 c =
     let c₁₃ = c₁₁ .before .before in
     let c₁₅ = c₁₃ .before .before in (
       c₈ .store-node .kept .0 ∙ c₁₅ .loop .inv .0,
-      rw (c .part-of .ensures, c₈ .store-node .ensures) (resumes _ _ _ (c₁₅ .loop .inv .1)
+      rw (c .numbered-part .ensures, c₈ .store-node .ensures) (resumes _ _ _ (c₁₅ .loop .inv .1)
           (c₁₀ .back-pointer .ensures .0 ∙ ap backPointer (c₁₃ .tree-of .ensures .1)) _
           (seen-as _ _ _ _ _ (c₅ .checked-node .ensures .0) (c₃ .node2 .given .1) .3) refl (omega arith)),
-      rw (c .part-of .ensures) (weighs-leaf _ _ _ _ _ (c₁₅ .loop .inv .2)
+      rw (c .numbered-part .ensures) (weighs-leaf _ _ _ _ _ (c₁₅ .loop .inv .2)
           (leaf-node _ _ _ _ _ _ _ (c₁₅ .loop .inv .1 .order) (c₁₃ .tree-of .ensures .0) (c₁₁ .if1 .left)
           (c₁₀ .back-pointer .ensures .0 ∙ ap backPointer (c₁₃ .tree-of .ensures .1)) (c₅ .checked-node .ensures .0) (c₃ .node2 .given .1))
           _ (omega arith) (rw (c₃ .node2 .given .1) at (c₅ .checked-node .ensures .1))),
@@ -255,8 +255,8 @@ trace-checked-spec =
     same-length-3
     returns-3
     sub-n
-    mul-part-of
-    array-read-part-of
-    part-of-requires
+    mul-numbered-part
+    array-read-numbered-part
+    numbered-part-requires
     loop-less-2
     loop-again-2)

@@ -2,8 +2,8 @@
 use mathlib.Core.Path.{sym, _∙_}
 use native.Mathlib.Omega.{arith}
 use Rattle.packing.specs.Flat.{rulesOf, slotsOf}
-use Rattle.parts_stack.specs.Stack.{headsOf}
-use Rattle.parts_stack.proofs.Fits.{pair-there, word-there}
+use Rattle.parse_stack.specs.Stack.{headsOf}
+use Rattle.parse_stack.proofs.Fits.{pair-there, word-there}
 use Rattle.checker.proofs.Steps.{nothing-fits, pair-fits, word-fits}
 use borrow.Author.Needs.{needs}
 use Rattle.checker.proofs.walk.follow.Statement.{statement}

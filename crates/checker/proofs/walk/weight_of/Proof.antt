@@ -9,9 +9,9 @@ use Rattle.packing.specs.declared.Rule as R
 use Rattle.packing.specs.Meaning.{symbolOf}
 use Rattle.derivation.specs.Walk.{State, onward, run, finished, walkWeight}
 use Rattle.packing.specs.Flat.{rulesOf, slotsOf}
-use Rattle.parts_stack.specs.Stack.{headsOf}
+use Rattle.parse_stack.specs.Stack.{headsOf}
 use Rattle.checker.specs.Run.{stateOf}
-use Rattle.parts_stack.specs.declared.Step.the-variants.{Onward}
+use Rattle.parse_stack.specs.declared.Step.the-variants.{Onward}
 use Rattle.checker.proofs.Steps.{run-more, run-lost, run-over, at-end, not-at-end}
 use Rattle.checker.proofs.walk.weight_of.Statement.{statement}
 use Rattle.checker.proofs.walk.weight_of.Tie as tie

@@ -4,7 +4,7 @@ use mathlib.Core.Option.{none, some}
 use native.Mathlib.Omega.{arith}
 use borrow.Author.Needs.{needs}
 use Rattle.derivation.specs.Walk.{costOf, leafStep}
-use Rattle.parts_stack.specs.Stack.{numberOf}
+use Rattle.parse_stack.specs.Stack.{numberOf}
 use Rattle.checker.specs.Run.{slotAt}
 use Rattle.checker.proofs.walk.word_step.Statement.{statement}
 use Rattle.checker.proofs.walk.word_step.Tie as tie

@@ -10,10 +10,10 @@ use Rattle.word_margins.proofs.marks.mark_found.Statement.{statement}
 use Rattle.word_margins.proofs.marks.mark_found.Tie as tie
 
 abbrev Inv-loop : tie.InvT-loop
-Inv-loop t masks₀ d places x₀ masks x = (x ≤ d .places) × (length masks ≡ length masks₀) × MarkedAll (plain t) d (UpTo (d .symbols) x) masks₀ masks
+Inv-loop t masks₀ d places x₀ masks x = (x ≤ d .last) × (length masks ≡ length masks₀) × MarkedAll (plain t) d (UpTo (d .symbols) x) masks₀ masks
 
 abbrev μ-loop : tie.MeasureT-loop
-μ-loop t masks₀ d places x₀ masks x = d .places - x
+μ-loop t masks₀ d places x₀ masks x = d .last - x
 
 loop-holds : tie.Need-loop-holds Inv-loop μ-loop
 loop-holds c = (omega arith, refl, marked-none (λ x p. omega (arith, p .1, p .2)))

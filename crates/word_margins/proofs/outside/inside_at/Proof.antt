@@ -13,8 +13,8 @@ price-at-requires c κs = search needs
 returns : tie.Need-returns
 returns c =
     let at-args = c .before .before .before in (
-      inside-none (at-args .args .t .now) (at-args .args .d) (at-args .args .c) (c .before .price-at .ensures .0) (c .if1 .taken)
-          ∙ sym (inside-plain (at-args .args .t .now) (at-args .args .d) (at-args .args .c)),
+      inside-none (at-args .args .t .now) (at-args .args .d) (at-args .args .number) (c .before .price-at .ensures .0) (c .if1 .taken)
+          ∙ sym (inside-plain (at-args .args .t .now) (at-args .args .d) (at-args .args .number)),
       omega arith,
     )
 
@@ -27,8 +27,8 @@ add-result c = search needs
 returns-2 : tie.Need-returns-2
 returns-2 c =
     let at-args = c .before .before .before in (
-      inside-some (at-args .args .t .now) (at-args .args .d) (at-args .args .c) (c .before .price-at .ensures .0) (c .if1 .left)
-          ∙ sym (inside-plain (at-args .args .t .now) (at-args .args .d) (at-args .args .c)),
+      inside-some (at-args .args .t .now) (at-args .args .d) (at-args .args .number) (c .before .price-at .ensures .0) (c .if1 .left)
+          ∙ sym (inside-plain (at-args .args .t .now) (at-args .args .d) (at-args .args .number)),
       omega (arith, c .before .price-at .ensures .1),
     )
 

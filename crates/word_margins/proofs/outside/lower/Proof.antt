@@ -31,7 +31,7 @@ returns c =
     let at-lesser = c .before .before .before .before in
     let at-outside-at = at-lesser .before in
     let at-args = at-outside-at .before .before .before in
-    lower-told (at-args .args .t .now) (at-args .args .c) (at-args .args .x) (at-outside-at .outside-at .ensures .0) (at-lesser .lesser .ensures .0)
+    lower-told (at-args .args .t .now) (at-args .args .number) (at-args .args .x) (at-outside-at .outside-at .ensures .0) (at-lesser .lesser .ensures .0)
     (c .before .before .store .ensures)
 
 pub lower-spec : {M : Type 1} → statement M

@@ -15,7 +15,7 @@ number-at-requires : tie.Need-number-at-requires
 number-at-requires c κs = search needs
 
 returns : tie.Need-returns
-returns c = (c .number-at .ensures .0 ∙ sym (fourth-read (c .before .before .args .t .now) (c .before .before .args .c)), c .number-at .ensures .1)
+returns c = (c .number-at .ensures .0 ∙ sym (fourth-read (c .before .before .args .t .now) (c .before .before .args .number)), c .number-at .ensures .1)
 
 pub outside-at-spec : {M : Type 1} → statement M
 outside-at-spec = tie.close (tie.spec mul-number-at add-number-at number-at-requires returns)

@@ -10,11 +10,11 @@ use Rattle.word_margins.proofs.outside.over_lengths.Statement.{statemen
 use Rattle.word_margins.proofs.outside.over_lengths.Tie as tie
 
 abbrev Inv-loop : tie.InvT-loop
-Inv-loop t₀ masks rules index d places x₀ t x = (x ≤ d .places) × (length t ≡ length t₀) × (plain t ≡ plain t₀)
-    × (fourths t ≡ iter (λ u y. overSpans u (plain t₀) rules index d (d .places - y)) (fourths t₀) x)
+Inv-loop t₀ masks rules index d places x₀ t x = (x ≤ d .last) × (length t ≡ length t₀) × (plain t ≡ plain t₀)
+    × (fourths t ≡ iter (λ u y. overSpans u (plain t₀) rules index d (d .last - y)) (fourths t₀) x)
 
 abbrev μ-loop : tie.MeasureT-loop
-μ-loop t₀ masks rules index d places x₀ t x = d .places - x
+μ-loop t₀ masks rules index d places x₀ t x = d .last - x
 
 loop-holds : tie.Need-loop-holds Inv-loop μ-loop
 unfolding iter

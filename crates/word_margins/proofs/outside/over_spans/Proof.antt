@@ -10,11 +10,11 @@ use Rattle.word_margins.proofs.outside.over_spans.Statement.{statement}
 use Rattle.word_margins.proofs.outside.over_spans.Tie as tie
 
 abbrev Inv-loop : tie.InvT-loop
-Inv-loop t₀ masks rules index d len spans from₀ t from = (from ≤ d .places + 1 - len) × (length t ≡ length t₀) × (plain t ≡ plain t₀)
+Inv-loop t₀ masks rules index d len spans from₀ t from = (from ≤ d .last + 1 - len) × (length t ≡ length t₀) × (plain t ≡ plain t₀)
     × (fourths t ≡ iter (λ u i. overHeads u (plain t₀) rules index d i (i + len)) (fourths t₀) from)
 
 abbrev μ-loop : tie.MeasureT-loop
-μ-loop t₀ masks rules index d len spans from₀ t from = d .places + 1 - len - from
+μ-loop t₀ masks rules index d len spans from₀ t from = d .last + 1 - len - from
 
 add-spans : tie.Need-add-spans Inv-loop μ-loop
 add-spans c =
