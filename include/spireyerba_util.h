@@ -16,9 +16,9 @@
 **   cc -Iinclude program.c util/spireyerba_util.c target/staticlib/libspireyerba.a
 **
 ** Functions that return an int32_t answer and refuse as the library's do: less
-** than zero is minus a refusal's number, and then nothing was written. They keep
-** nothing, and any may run at once on any threads. Only a lister, the last part of
-** this header, takes memory, by malloc.
+** than zero is minus a refusal's number, and then nothing was written, unless a
+** function says otherwise. They keep nothing, and any may run at once on any
+** threads. Only a lister, the last part of this header, takes memory, by malloc.
 */
 #ifndef SPIREYERBA_UTIL_H
 #define SPIREYERBA_UTIL_H
