@@ -26,8 +26,8 @@ pub first-of-span : (rules edges index : List ℕ) (d : Layout) (t : List ℕ) (
     → nextOfSpan rules edges index d (c .to - c .from) t c 0 ≡ putKey t d (cellNumber d c) 0 (seeds t d rules index c 0 (leaves rules edges index c 0 noKey))
 first-of-span rules edges index d t c h = fueled rules edges index d (c .to - c .from) t c (omega arith)
 
--- where there is no leaf and no seed, nothing is found
-put-above : (t : List ℕ) (d : Layout) (number rank key : ℕ) → noKey ≤ key → putKey t d number rank key ≡ t
+-- the store of a key that is none; so where there is no leaf and no seed, nothing is found
+pub put-above : (t : List ℕ) (d : Layout) (number rank key : ℕ) → noKey ≤ key → putKey t d number rank key ≡ t
 unfolding putKey
 put-above t d number rank key h = rw (le-ltb key noKey h)
 

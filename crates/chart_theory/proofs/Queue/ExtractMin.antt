@@ -37,7 +37,8 @@ use Rattle.chart_queue.specs.Queue.{
   extractMin,
 }
 use Rattle.chart_theory.proofs.Table.Entries.{entry-within}
-use Rattle.chart_theory.proofs.Table.Numbers.{beside-size, beside-back, beside-same, put-none, put-back-other, put-beside}
+use Rattle.chart_search.proofs.Fuel.{put-above}
+use Rattle.chart_theory.proofs.Table.Numbers.{beside-size, beside-back, beside-same, put-back-other, put-beside}
 use Rattle.chart_theory.proofs.Queue.Numbers.{
   tagAt,
   TagBelow,
@@ -404,7 +405,7 @@ module _ (t : List ℕ) (d : Layout) (c rank lo hi : ℕ) (below : c < d .cells)
           })
       go (no over) (yes h) = absurd (omega (arith, first 0 h, real 0 h))
       go (no over) (no h) =
-          nothing (push-none (putKey t d c rank lo) (omega arith) ∙ put-none t d c rank lo (omega arith)) (omega arith) (omega arith)
+          nothing (push-none (putKey t d c rank lo) (omega arith) ∙ put-above t d c rank lo (omega arith)) (omega arith) (omega arith)
           (omega arith)
 
   -- one of the queue is the least

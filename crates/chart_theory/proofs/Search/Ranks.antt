@@ -25,7 +25,8 @@ use Rattle.chart_ranks.specs.Ranks.{successors, leastInitial, replacement, firs
 use Rattle.chart_theory.proofs.Table.Keys.{rowKey, key-back, key-lt, order-key}
 use Rattle.chart_theory.proofs.Table.Cells.{rankedIn, RowAtIn, row-unique, rank-below, FrontierIn, BeyondIn}
 use Rattle.chart_theory.proofs.Table.Entries.{cell-below, entry-within}
-use Rattle.chart_theory.proofs.Table.Numbers.{put-none, put-back}
+use Rattle.chart_search.proofs.Fuel.{put-above}
+use Rattle.chart_theory.proofs.Table.Numbers.{put-back}
 use Rattle.chart_theory.proofs.Queue.Numbers.{tagAt, put-queued-again, put-queue-length}
 use Rattle.chart_theory.proofs.Queue.Owners.{owned}
 use Rattle.chart_theory.proofs.Queue.Pool.{
@@ -167,7 +168,7 @@ module _ {g : Grammar} {es : List Edge} {rules edges index : List ℕ} {d : Layo
           omega (arith, bound v′ on′, st .keyed)) in
           rw (st .keyed) (first-found v at (st .on) (st .parts))
       go (no over) _ =
-          rw (put-none t d (cellNumber d c) 0 key (omega arith))
+          rw (put-above t d (cellNumber d c) 0 key (omega arith))
           (none-next s ready (omega arith) (λ v on above. omega (arith, bound v on, frontier-some s ready on)))
 
 -- a further rank

@@ -13,7 +13,7 @@ use lib.Arith.{digits-div, digits-mod}
 use lib.Dec.{ltb}
 use lib.ListN.{length, getD, set, length-set}
 use lib.Seq.{set-out, getD-set-same, getD-set-other}
-use borrow.Author.Tests.{lt-ltb, le-ltb, ltb-true, ltb-false}
+use borrow.Author.Tests.{lt-ltb, ltb-true, ltb-false}
 use Rattle.bits.specs.Bits.{pick}
 use Rattle.chart_table.specs.declared.Layout.{Layout}
 use Rattle.chart_keys.specs.Keys.{prices, keyUnit, noKey}
@@ -311,11 +311,6 @@ module _ (t : List ℕ) (d : Layout) (c rank : ℕ) where
             let same : c′ ≡ c = first-injective d c′ c e in
             rw same (⊎-elim (λ w. le-trans (omega (arith, w .1)) last-new) (λ w. rw (w .0) (le-refl _)) last-cases)
         go (no other) = rw (last-other c′ 0 other) (le-refl _)
-
--- the store of a key that is none
-pub put-none : (t : List ℕ) (d : Layout) (c x key : ℕ) → noKey ≤ key → putKey t d c x key ≡ t
-unfolding putKey
-put-none t d c x key h = rw (le-ltb key noKey h)
 
 -- what the store of a key changes, and what it leaves
 module _ (t : List ℕ) (d : Layout) (c x key : ℕ) (some : key < noKey) where
