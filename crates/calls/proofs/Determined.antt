@@ -1,4 +1,4 @@
--- The records of specs/Demands leave nothing open: document 01, condition 1, "A service's promise leaves open neither its number nor any byte of what
+-- The records of spireyerba's Demands leave nothing open: document 01, condition 1, "A service's promise leaves open neither its number nor any byte of what
 -- was lent". Two calls of which a record holds, with the same given and lent numbers, answer the same and leave the same behind: the same is due, and
 -- what is meant there is once: one list by ranks, one answer over all choices, one list of margins, one least string, one derivation with a reading.
 use mathlib.Core.Path.{_≡_, refl, sym, ap, _∙_}
@@ -44,7 +44,7 @@ office-once {out = out} {written} {written′} a b =
 abbrev SameSlices : (after after′ written written′ : List ℕ) → Type 0
 SameSlices after after′ written written′ = (after′ ≡ after) × (written′ ≡ written)
 
--- the listings: proofs/Demands has that within the panel's limits both are one
+-- the listings: proofs/TwoCalls has that within the panel's limits both are one
 module _ {grammar heard : List ℕ} {N : ℕ} {work out after written after′ written′ : List ℕ} {code code′ : ℤ} where
   pub listing-once : D.Listing grammar heard N work out code after written → D.Listing grammar heard N work out code′ after′ written′
       → (code′ ≡ code) × SameSlices after after′ written written′

@@ -1,5 +1,5 @@
 -- Two calls with rearranged rules (specs/RearrangedCalls). That the first answers shows what it was lent to suffice; the second needs as much, so
--- demand 3 says of both that they list the least derivations by rank, of which rearranged's theorem says that they are alike.
+-- demand 3 says of both that they list the least derivations by rank, of which a theorem of rearranged_rules says that they are alike.
 use mathlib.Core.Path.{_≡_, refl, sym, ap, _∙_}
 use mathlib.Core.List.{List}
 use Prim.Native.Nat.{ℕ, _+_, _-_, _*_, _≤_, _<_}

@@ -1,7 +1,7 @@
 -- Rules in another order: document 02, N13, of two calls of the listing, with grammar blocks whose rules are rearranged and one block of
 -- what was heard, slots or a graph. It follows from what every call promises, the record Listing of Demands; proofs/RearrangedCalls has the
 -- theorem. `after` and `written` are work table and output after the first call, `after′` and `written′` those after the second.
--- Stands on Demands, and on rearranged's Rearranged for what it is to be rearranged and to be the same after renumbering.
+-- Stands on Demands, and on rearranged_rules' Rearranged for what it is to be rearranged and to be the same after renumbering.
 use mathlib.Core.Path.{_≡_}
 use mathlib.Core.List.{List}
 use Prim.Native.Nat.{ℕ, _≤_, _<_}

@@ -1,4 +1,4 @@
-// The candidates for a rank of a cell that follow none, leaves and seeds, and the key of a pairing.
+// The key of a pairing. What the leaves and the seeds of a cell are stands in specs/ and proofs/; chart_leaves and chart_seeds find the least.
 use chart_keys::BackPointer;
 use chart_keys::Key;
 use chart_keys::back_number;

@@ -1,5 +1,5 @@
 -- Costs known within ranges as a function that can be run: what is asked for (Conditions), and then the three passes of cost_changes' Passes. Nobody
--- need believe this page: cost_changes' Ranges says what the answer is over all choices, and proofs/Outcome that this is it (Meant).
+-- need believe this page: cost_changes' Ranges says what the answer is over all choices, and proofs/WaysOut that this is it (Meant).
 use mathlib.Core.Path.{_≡_}
 use mathlib.Core.Bool.{true}
 use mathlib.Core.List.{List}

@@ -58,7 +58,7 @@ module _ (Row : ℕ → Type 0) (l : Limits) where
           rw (listing-accepts g h N l work out (ltb-false _ _ p) (ltb-false _ _ s) (ltb-false _ _ q) (ltb-false _ _ r) (ltb-false _ _ t) (ltb-false _ _ u))
           granted
 
-  -- "a refusal is a number of its row"
+  -- a refusal is a number of its row
   list-row : (grammar heard : List ℕ) (N work out : ℕ)
       → ((g : Grammar) (h : Heard) → ValidGrammar g → ValidHeard (g .words) h → Turned Row l g h N work out)
       → Refuses (GrammarBlockRow ∪ HeardBlockRow ∪ Row) (list l grammar heard N work out)

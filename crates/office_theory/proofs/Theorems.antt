@@ -1,5 +1,5 @@
--- What document 02 says of request N5's conversion: each theorem below renders a sentence. The terms are those of specs/Office,
--- Conversion and Matching.
+-- What document 02 says of request N5's conversion: each theorem below renders a sentence. The terms are those of office's
+-- Office and Conversion, and of specs/Matching.
 use mathlib.Core.Path.{_≡_, refl, ap}
 use mathlib.Core.Option.{some}
 use mathlib.Core.List.{List}

@@ -1,9 +1,9 @@
 -- The three demands, of the exported functions: of the number that a call answers, its code, and of the slices that it was lent.
 -- `grammar`, `sheet`, `out` .. are the numbers of a slice before the call, `work′` and `out′` those afterwards. Each exported function's
--- contract, in src/lib.rt, promises of every call the record of this page with the function's name; proofs/TwoCalls of the
--- crate `calls` has the theorems about two calls, EveryPhrase beside it that about many. Every other name is defined on the page that its
--- `use` line names. What is answered is said by its meaning, in the terms of the documents; the equations with what is computed, which
--- every contract has beside its record, are Code's, and nobody need believe them.
+-- contract, in src/lib.rt, promises of every call the record with the function's name, of this page or, for open and next, of OneByOne; the
+-- crate `calls` has the theorems about several calls. Every other name is defined on the page that its `use` line names. What is answered is
+-- said by its meaning, in the terms of the documents; the equations with what is computed, which every contract has beside its record, are
+-- Code's, and nobody need believe them.
 use mathlib.Core.Path.{_≡_}
 use mathlib.Core.Logic.{_⊎_, _↔_}
 use mathlib.Core.List.{List, _++_}

@@ -1,5 +1,5 @@
 -- Which word to listen to again as a function that can be run: what is asked for (Conditions), and then the list of cost_changes' Listed. Nobody need
--- believe this page: cost_changes' Margins says what the list is, and proofs/Outcome that this is it (Meant).
+-- believe this page: cost_changes' Margins says what the list is, and proofs/WaysOut that this is it (Meant).
 use mathlib.Core.Path.{_≡_}
 use mathlib.Core.List.{List, _++_}
 use Prim.Native.Nat.{ℕ, _*_, _≤_}
