@@ -88,31 +88,31 @@ module _ {search : S.Search} {l : S.Lent} {r : S.Left} where
   idle-changes : S.Called search l r → (r .answer ≡ Reading → ⊥) → S.Unchanged l r
   idle-changes (S.turned-away e is same) other = same
   idle-changes (S.full e many is same) other = same
-  idle-changes (S.altered e below misspelled is same) other = same
-  idle-changes (S.no-more e below missing is same) other = same
-  idle-changes (S.one-more e below is more) other = absurd (other is)
+  idle-changes (S.asks e below (S.altered misspelled is same)) other = same
+  idle-changes (S.asks e below (S.no-more missing is same)) other = same
+  idle-changes (S.asks e below (S.one-more is more)) other = absurd (other is)
 
   full-said : {b : S.Blocks} → S.asked l ≡ accepted b → S.Called search l r → 256 ≤ l .place .handed → r .answer ≡ Full
   full-said f (S.turned-away e is same) many = absurd (refused≢accepted (sym e ∙ f))
   full-said f (S.full e enough is same) many = is
-  full-said f (S.altered e below misspelled is same) many = absurd (omega (arith, below, many))
-  full-said f (S.no-more e below missing is same) many = absurd (omega (arith, below, many))
-  full-said f (S.one-more e below is more) many = absurd (omega (arith, below, many))
+  full-said f (S.asks e below (S.altered misspelled is same)) many = absurd (omega (arith, below, many))
+  full-said f (S.asks e below (S.no-more missing is same)) many = absurd (omega (arith, below, many))
+  full-said f (S.asks e below (S.one-more is more)) many = absurd (omega (arith, below, many))
 
   turned-said : {n : ℕ} → S.asked l ≡ refused n → S.Called search l r → r .answer ≡ Refused n
   turned-said f (S.turned-away e is same) = let equal : _ = sym e ∙ f in is ∙ cc
   turned-said f (S.full e enough is same) = absurd (refused≢accepted (sym f ∙ e))
-  turned-said f (S.altered e below misspelled is same) = absurd (refused≢accepted (sym f ∙ e))
-  turned-said f (S.no-more e below missing is same) = absurd (refused≢accepted (sym f ∙ e))
-  turned-said f (S.one-more e below is more) = absurd (refused≢accepted (sym f ∙ e))
+  turned-said f (S.asks e below (S.altered misspelled is same)) = absurd (refused≢accepted (sym f ∙ e))
+  turned-said f (S.asks e below (S.no-more missing is same)) = absurd (refused≢accepted (sym f ∙ e))
+  turned-said f (S.asks e below (S.one-more is more)) = absurd (refused≢accepted (sym f ∙ e))
 
   -- a reading that was handed out
   handed-out : S.Called search l r → r .answer ≡ Reading → (b : S.Blocks) × (S.asked l ≡ accepted b) × S.OneMore search b l r
   handed-out (S.turned-away e is same) f = let z : _≡_ {A = ℕ} 0 1 = cc in absurd (omega arith)
   handed-out (S.full e many is same) f = let z : _≡_ {A = ℕ} 0 1 = cc in absurd (omega arith)
-  handed-out (S.altered e below misspelled is same) f = let z : _≡_ {A = ℕ} 0 1 = cc in absurd (omega arith)
-  handed-out (S.no-more e below missing is same) f = let z : _≡_ {A = ℕ} 0 1 = cc in absurd (omega arith)
-  handed-out (S.one-more {b = b} e below is more) f = (b, e, more)
+  handed-out (S.asks e below (S.altered misspelled is same)) f = let z : _≡_ {A = ℕ} 0 1 = cc in absurd (omega arith)
+  handed-out (S.asks e below (S.no-more missing is same)) f = let z : _≡_ {A = ℕ} 0 1 = cc in absurd (omega arith)
+  handed-out (S.asks {b = b} e below (S.one-more is more)) f = (b, e, more)
 
 module _ (search : S.Search) (s : Sequence) (calls : CallsInTurn search s)
     (opened : Opens (s .grammar) (s .heard) (calls .work-before) (s .place 0) (s .work 0))

@@ -80,9 +80,9 @@ module _ (search : S.Search) (l : S.Lent) where
   which : {r : S.Left} → S.Called search l r → Which (r .answer)
   which (S.turned-away e is same) = rw is (turned e)
   which (S.full e many is same) = rw is (fulls e many)
-  which (S.altered e below misspelled is same) = rw is (seeks e below (strays misspelled))
-  which (S.no-more e below missing is same) = rw is (seeks e below (misses missing))
-  which (S.one-more e below is more) = rw is (seeks e below (one-more-case more))
+  which (S.asks e below (S.altered misspelled is same)) = rw is (seeks e below (strays misspelled))
+  which (S.asks e below (S.no-more missing is same)) = rw is (seeks e below (misses missing))
+  which (S.asks e below (S.one-more is more)) = rw is (seeks e below (one-more-case more))
 
   clash : {n : ℕ} {b : S.Blocks} → S.asked l ≡ refused n → S.asked l ≡ accepted b → ⊥
   clash e f = refused≢accepted (sym e ∙ f)
@@ -110,9 +110,9 @@ module _ (search : S.Search) (l : S.Lent) where
   stayed : {r : S.Left} → S.Called search l r → Stayed (r .answer) (r .table)
   stayed (S.turned-away {n = n} e is same) = as-before (λ x. refusal-reads n (sym is ∙ x)) (same .table)
   stayed (S.full e many is same) = as-before (λ x. full-reads (sym is ∙ x)) (same .table)
-  stayed (S.altered e below misspelled is same) = as-before (λ x. refusal-reads 53 (sym is ∙ x)) (same .table)
-  stayed (S.no-more e below missing is same) = as-before (λ x. nothing-reads (sym is ∙ x)) (same .table)
-  stayed (S.one-more e below is more) = rw is (by-search e (more .table-is))
+  stayed (S.asks e below (S.altered misspelled is same)) = as-before (λ x. refusal-reads 53 (sym is ∙ x)) (same .table)
+  stayed (S.asks e below (S.no-more missing is same)) = as-before (λ x. nothing-reads (sym is ∙ x)) (same .table)
+  stayed (S.asks e below (S.one-more is more)) = rw is (by-search e (more .table-is))
 
   -- the table: the search's where a reading is handed out, and else as it was
   pub table-decided : {r r′ : S.Left} → S.Called search l r → S.Called search l r′ → r .table ≡ r′ .table
@@ -206,9 +206,9 @@ module _ (search : S.Search) (l : S.Lent) where
   wrote : {r : S.Left} → S.Called search l r → Wrote (r .answer) (r .output)
   wrote (S.turned-away {n = n} e is same) = nothing (λ x. refusal-reads n (sym is ∙ x)) (same .output)
   wrote (S.full e many is same) = nothing (λ x. full-reads (sym is ∙ x)) (same .output)
-  wrote (S.altered e below misspelled is same) = nothing (λ x. refusal-reads 53 (sym is ∙ x)) (same .output)
-  wrote (S.no-more e below missing is same) = nothing (λ x. nothing-reads (sym is ∙ x)) (same .output)
-  wrote (S.one-more e below is more) = rw is (reading e (record { derived = more .derivation; spelled = spelled-made search l more }) (more .written))
+  wrote (S.asks e below (S.altered misspelled is same)) = nothing (λ x. refusal-reads 53 (sym is ∙ x)) (same .output)
+  wrote (S.asks e below (S.no-more missing is same)) = nothing (λ x. nothing-reads (sym is ∙ x)) (same .output)
+  wrote (S.asks e below (S.one-more is more)) = rw is (reading e (record { derived = more .derivation; spelled = spelled-made search l more }) (more .written))
 
   same-reading : (b b′ : S.Blocks) → b ≡ b′ → S.asked l ≡ accepted b → {y z : Tree} → Spells b y → Spells b′ z → written b y ≡ written b′ z
   same-reading b b′ is e {y} {z} s s′ =

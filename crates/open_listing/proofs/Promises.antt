@@ -132,9 +132,9 @@ module _ (search : S.Search) (grammar heard : List ℕ) (g : Grammar) (h : Heard
 
         go : (a b : Bool) → found ≡ a → handsOut table rules edges (plan g h) (p .handed) ≡ b → r ≡ pick a (pick b Reading (Refused 53)) NoMore
             → S.Called search (S.lent grammar heard p work out) (S.left r work′ out′)
-        go false b is hands e = S.no-more calls below (rw made (missing is)) e (nothing-left NoMore e refl)
-        go true false is hands e = S.altered calls below (rw made (misspelled is (none-passes hands))) e (nothing-left (Refused 53) e refl)
-        go true true is hands e = S.one-more calls below e (one-more e made looked hands)
+        go false b is hands e = S.asks calls below (S.no-more (rw made (missing is)) e (nothing-left NoMore e refl))
+        go true false is hands e = S.asks calls below (S.altered (rw made (misspelled is (none-passes hands))) e (nothing-left (Refused 53) e refl))
+        go true true is hands e = S.asks calls below (S.one-more e (one-more e made looked hands))
 
   -- where the rank was looked for or not, as the test says: whatever the table held
   module _ (below : p .handed < 256) (table : List ℕ) (sought : Bool) (is-sought : sought ≡ true → S.LooksFor g h p work)

@@ -38,13 +38,13 @@ module _ {search : S.Search} {l : S.Lent} {r : S.Left} where
       let equal : m ≡ n = cc in
       refusal-number (calling-row (l .grammar) (l .heard) (length (l .work)) (length (l .out))) (rw equal at e)
   refused-row (S.full e many is same) n f = let z : _≡_ {A = ℕ} 0 1 = cc in absurd (omega arith)
-  refused-row (S.altered e below misspelled is same) n f = let equal : 53 ≡ n = cc in rw (← equal) (inr (inr (omega arith, omega arith)))
-  refused-row (S.no-more e below missing is same) n f = let z : _≡_ {A = ℕ} 0 1 = cc in absurd (omega arith)
-  refused-row (S.one-more e below is more) n f = let z : _≡_ {A = ℕ} 0 1 = cc in absurd (omega arith)
+  refused-row (S.asks e below (S.altered misspelled is same)) n f = let equal : 53 ≡ n = cc in rw (← equal) (inr (inr (omega arith, omega arith)))
+  refused-row (S.asks e below (S.no-more missing is same)) n f = let z : _≡_ {A = ℕ} 0 1 = cc in absurd (omega arith)
+  refused-row (S.asks e below (S.one-more is more)) n f = let z : _≡_ {A = ℕ} 0 1 = cc in absurd (omega arith)
 
   pub reading-below : S.Called search l r → r .answer ≡ Reading → l .place .handed < 256
   reading-below (S.turned-away e is same) f = let z : _≡_ {A = ℕ} 0 1 = cc in absurd (omega arith)
   reading-below (S.full e many is same) f = let z : _≡_ {A = ℕ} 0 1 = cc in absurd (omega arith)
-  reading-below (S.altered e below misspelled is same) f = below
-  reading-below (S.no-more e below missing is same) f = below
-  reading-below (S.one-more e below is more) f = below
+  reading-below (S.asks e below (S.altered misspelled is same)) f = below
+  reading-below (S.asks e below (S.no-more missing is same)) f = below
+  reading-below (S.asks e below (S.one-more is more)) f = below

@@ -142,16 +142,18 @@ pub record OneMore (search : Search) (b : Blocks) (l : Lent) (r : Left) : Type 0
   pub looked : Looked (b .grammar) (b .heard) (l .place) (l .work) (r .table)
   pub table-is : r .table ≡ made search b l
 
--- Whatever place and table are: "These two answers change nothing", nor does a refusal. "53 the walk that altered numbers spell is not a reading that passes,
--- last of all"
+-- what a call answers that is asked for one more reading: "These two answers change nothing", nor does a refusal. "53 the walk that altered numbers spell is
+-- not a reading that passes, last of all"
+pub data NextAnswer (search : Search) (b : Blocks) (l : Lent) (r : Left) : Type 0 where
+  altered : Misspelled (b .grammar) (b .heard) (l .place) (l .work) (made search b l) → r .answer ≡ Refused 53 → Unchanged l r → NextAnswer search b l r
+  no-more : Missing (b .grammar) (b .heard) (l .place) (l .work) (made search b l) → r .answer ≡ NoMore → Unchanged l r → NextAnswer search b l r
+  one-more : r .answer ≡ Reading → OneMore search b l r → NextAnswer search b l r
+
+-- Whatever place and table are: one more reading is asked for where fewer than 256 were handed out
 pub data Called (search : Search) (l : Lent) (r : Left) : Type 0 where
   turned-away : {n : ℕ} → asked l ≡ refused n → r .answer ≡ Refused n → Unchanged l r → Called search l r
   full : {b : Blocks} → asked l ≡ accepted b → 256 ≤ l .place .handed → r .answer ≡ Full → Unchanged l r → Called search l r
-  altered : {b : Blocks} → asked l ≡ accepted b → l .place .handed < 256
-      → Misspelled (b .grammar) (b .heard) (l .place) (l .work) (made search b l) → r .answer ≡ Refused 53 → Unchanged l r → Called search l r
-  no-more : {b : Blocks} → asked l ≡ accepted b → l .place .handed < 256
-      → Missing (b .grammar) (b .heard) (l .place) (l .work) (made search b l) → r .answer ≡ NoMore → Unchanged l r → Called search l r
-  one-more : {b : Blocks} → asked l ≡ accepted b → l .place .handed < 256 → r .answer ≡ Reading → OneMore search b l r → Called search l r
+  asks : {b : Blocks} → asked l ≡ accepted b → l .place .handed < 256 → NextAnswer search b l r → Called search l r
 
 -- the place after k readings, and the table of `size` numbers: zeros, and then each time what the search makes
 abbrev pub placeOf : ℕ → Place
