@@ -32,8 +32,9 @@ _word_margins = lib.function("word_margins")
 #: The numbers of a word in a tree.
 LEAF_NUMBERS = 2
 #: Few readings are asked for first, since most utterances have no more and the library clears a table with room for all; if so
-#: many came, some times as many. Where the last lists were all longer, more are asked for first. As the Rust crate does.
-FEW, STEP, REMEMBERED = 16, 4, 8
+#: many came, some times as many. Where the last lists were all longer, more are asked for first, and of the first list under a
+#: grammar with many rules for each symbol all. As the Rust crate does.
+FEW, STEP, REMEMBERED, CROWDED = 16, 4, 8, 16
 
 
 class Word(str):
@@ -201,7 +202,7 @@ class Grammar:
     def list(self, heard: Heard, wanted: int = 8) -> List[Reading]:
         """The readings of least weight, the least first: as many as wanted, 1 to 256, or as there are."""
         packed, asked, last = heard.packed(self), wanted, self._last
-        if FEW < wanted <= lib.MAX_READINGS:
+        if FEW < wanted <= lib.MAX_READINGS and (last or self.unpacked.rules < CROWDED * self.unpacked.symbols):
             asked = min(wanted, max(FEW, 1 << min(last, default=0).bit_length()))
         found = self._call(packed, asked)
         while found == asked < wanted:

@@ -58,6 +58,13 @@ class FewFirst(unittest.TestCase):
         self.assertEqual(self.asked(9, 40), [16, 40])
         self.assertEqual(self.asked(9, 8), [8])
 
+    def test_all_at_once_of_a_crowded_grammar_s_first_list(self) -> None:
+        words = " | ".join(f'"{word}" [{cost}]' for cost, word in enumerate(["x", *(f"y{number}" for number in range(14))]))
+        self.grammar = Grammar.from_text(f"A -> A A [1] | {words}")
+        self.assertEqual(self.asked(6, 256), [256])
+        self.assertEqual(self.asked(2, 256), [64])
+        self.assertEqual(self.asked(2, 256), [16])
+
     def test_more_at_once_where_all_lists_are_long(self) -> None:
         self.assertEqual(self.asked(9, 256), [16, 256])
         self.assertEqual(self.asked(7, 256), [256])

@@ -1,11 +1,15 @@
 //! How many readings to ask for first: few, since the library clears a table with room for all that are asked for.
 
+use crate::Grammar;
+
 /// So many are asked for first.
 const FEW: u32 = 16;
 /// If as many came as were asked for, so many times as many are asked for next.
 const STEP: u32 = 4;
 /// So many lists are remembered.
 const REMEMBERED: usize = 8;
+/// With so many rules for each symbol most that is heard has many readings, and takes longer to search than the table to clear.
+const CROWDED: usize = 16;
 
 /// How many readings the last lists under a grammar had.
 #[derive(Clone, Debug, Default)]
@@ -13,11 +17,22 @@ pub(crate) struct FewFirst {
     last: [u32; REMEMBERED],
     /// How many lists there were.
     lists: usize,
+    /// Whether the grammar has many rules for each symbol.
+    is_crowded: bool,
 }
 
 impl FewFirst {
-    /// How many to ask for first: few, or more than the shortest of the last lists had.
+    /// Before the first list under a grammar.
+    pub(crate) fn of(grammar: &Grammar) -> Self {
+        let is_crowded = grammar.rules.len() >= CROWDED * grammar.symbols as usize;
+        Self { is_crowded, ..Self::default() }
+    }
+
+    /// How many to ask for first: few, or more than the shortest of the last lists had. Of a crowded grammar's first list all.
     pub(crate) fn first(&self, wanted: u32) -> u32 {
+        if self.is_crowded && self.lists == 0 {
+            return wanted;
+        }
         let shortest = self.last.iter().take(self.lists).min().copied().unwrap_or(0);
         wanted.min((shortest + 1).next_power_of_two().max(FEW))
     }
@@ -68,6 +83,16 @@ mod tests {
     #[test]
     fn of_the_first_list_all_come_next() {
         assert_eq!(asked(&mut FewFirst::default(), 256, 300), [16, 256]);
+    }
+
+    #[test]
+    fn of_a_crowded_grammar_s_first_list_all_come_first() {
+        let rule = crate::Rule { head: 0, weight: 0, body: crate::Body::Word(0) };
+        let under = |rules| FewFirst::of(&Grammar { symbols: 2, words: 1, rules: vec![rule; rules] });
+        assert_eq!(asked(&mut under(31), 256, 3), [16]);
+        let crowded = &mut under(32);
+        assert_eq!(asked(crowded, 256, 3), [256]);
+        assert_eq!(asked(crowded, 256, 300), [16, 64, 256]);
     }
 
     #[test]

@@ -48,14 +48,8 @@ impl Lister {
 
     /// Lists under a grammar that is packed already.
     pub fn of(grammar: PackedGrammar) -> Self {
-        Self {
-            grammar,
-            work: Vec::new(),
-            out: Vec::new(),
-            service: listing,
-            most: MAX_READINGS,
-            few_first: FewFirst::default(),
-        }
+        let few_first = FewFirst::of(grammar.grammar());
+        Self { grammar, work: Vec::new(), out: Vec::new(), service: listing, most: MAX_READINGS, few_first }
     }
 
     /// Lists within the limits of a desk panel from now on, those of [`panel_listing`].
