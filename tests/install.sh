@@ -171,7 +171,8 @@ readme_lines() {
     [ "$(wc -l <"$folder/lines")" -ge 5 ] || return 1
     mkdir -p "$folder/copied" && cp -r README.md examples "$folder/copied" || return 1
     (cd "$folder/copied" && env -u LD_LIBRARY_PATH -u PKG_CONFIG_PATH MANPAGER=cat bash -e "$folder/lines") >"$folder/log" 2>&1 &&
-        grep -q '^SEE ALSO$' "$folder/log" && grep -q '^weight 13: door four$' "$folder/log" && grep -q "^('door', .*)$" "$folder/log"
+        grep -q '^SEE ALSO$' "$folder/log" && grep -q '^weight 13: door four$' "$folder/log" && grep -q "^('door', .*)$" "$folder/log" ||
+        { cat "$folder/log" && return 1; }
 }
 
 # Nothing is left but folders that others may use.

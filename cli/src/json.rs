@@ -101,7 +101,12 @@ pub fn push_path(json: &mut Vec<u8>, reading: &Reading, origin: Origin) {
 
 /// A time in seconds without digits that say nothing.
 fn in_milliseconds(time: f64) -> f64 {
-    (time * 1e3).round() / 1e3
+    let rounded = (time * 1e3).round() / 1e3;
+    if rounded.is_finite() {
+        rounded
+    } else {
+        time
+    }
 }
 
 /// Adds a list of strings.

@@ -206,7 +206,11 @@ fn mistakes_in_lattices() {
         ),
         ("start=0 end=1", &["S=0 E=1"], "6:1: refused 13: there is no word on a path to the end"),
         ("start=1 end=0", &["S=0 E=1 W=x"], "6:1: refused 13: there is no word on a path to the end"),
-        ("base=0", &["S=0 E=1 W=x a=-0.5"], "6:17: `-0.5` is not a number that can stand here: it has to be finite"),
+        (
+            "base=0",
+            &["S=0 E=1 W=x a=-0.5"],
+            "6:17: `-0.5` is not a number that can stand here: by base=0 it is a likelihood, 0 or more",
+        ),
     ] {
         let text = format!("VERSION=1.0\n{header}\n{}", lattice(2, links));
         expect(read(&text), &text, message);

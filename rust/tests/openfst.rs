@@ -155,7 +155,8 @@ impl Compared {
 #[test]
 fn the_same_acceptor_as_openfst() {
     if piped(TOOLS, "0 1 1 2\n1\n").is_none() {
-        println!("OpenFst's tools are not installed: nothing was compared");
+        // not by a macro, whose output cargo keeps of tests that pass
+        writeln!(std::io::stderr(), "skipped: OpenFst's tools are not installed").expect("standard error");
         return;
     }
     let grammar = NamedGrammar::parse(&text("grammar.txt")).expect("a grammar");

@@ -112,17 +112,18 @@ const NOTATION: [(&str, &str); 9] = [
     ("a translation", "=> \"$1$2\""),
 ];
 
-/// A folder with a user's grammar, sentences, and something else.
+/// A folder with a user's grammar, sentences, and something else, by whose name it is another than those of other tests, which run
+/// at the same time.
 fn folder_of(name: &str, other: (&str, &[u8])) -> PathBuf {
     let user = USERS.iter().find(|user| user.name == name).expect("a user");
     let files = [("g", user.grammar.as_bytes()), ("s", user.sentences.as_bytes()), other];
-    folder(&format!("user_{name}"), &files)
+    folder(&format!("user_{name}_{}", other.0), &files)
 }
 
 #[test]
 fn grammars_pass_lint_and_their_sentences() {
     for User { name, sentences, .. } in USERS {
-        let folder = folder_of(name, ("nothing", b""));
+        let folder = folder_of(name, ("all", b""));
         let lint = answer_in(&folder, "lint g");
         assert!(lint.lines().count() == 1 && lint.contains(" left), "), "{name}: {lint}");
         assert_eq!(answer_in(&folder, "test g s"), format!("s: {} passed\n", sentences.lines().count()), "{name}");

@@ -111,8 +111,7 @@ impl Whole {
             let count = fails / 2;
             match beams.whole(count) {
                 Some(whole) => break (whole, count),
-                // so does every place with the same slack
-                None => fails = beams.sorted.partition_point(|slack| *slack < beams.sorted[count]),
+                None => fails = beams.first_of(count),
             }
             if fails == 0 {
                 let least = beams.slacks.prune(0);
@@ -120,13 +119,14 @@ impl Whole {
             }
         };
         for _ in 0..WIDENINGS {
-            let middle = (count + fails) / 2;
-            if middle == count || beams.sorted[middle] == beams.sorted[count] || whole.fitted.is_none() {
+            let beyond = beams.beyond(count);
+            if beyond >= fails || whole.fitted.is_none() {
                 break;
             }
+            let middle = (beyond + fails) / 2;
             match beams.whole(middle) {
                 Some(wider) => (whole, count) = (wider, middle),
-                None => fails = middle,
+                None => fails = beams.first_of(middle),
             }
         }
         Ok(whole)
@@ -155,11 +155,19 @@ impl<'a> Beams<'a> {
 
     /// What is left by the slack at a place of the list, if it can be determinised in time.
     fn whole(&self, place: usize) -> Option<Whole> {
-        let beam = self.sorted[place];
-        let words = words_alone(&self.slacks.prune(beam), self.keep).ok()?;
-        let beyond = self.sorted.partition_point(|slack| *slack <= beam);
-        let below = self.sorted.get(beyond).map(|next| self.slacks.least() + next);
+        let words = words_alone(&self.slacks.prune(self.sorted[place]), self.keep).ok()?;
+        let below = self.sorted.get(self.beyond(place)).map(|next| self.slacks.least() + next);
         Some(Whole::of(&words, self.keep, below))
+    }
+
+    /// The first place with the slack of this one.
+    fn first_of(&self, place: usize) -> usize {
+        self.sorted.partition_point(|slack| *slack < self.sorted[place])
+    }
+
+    /// The first place with a greater slack.
+    fn beyond(&self, place: usize) -> usize {
+        self.sorted.partition_point(|slack| *slack <= self.sorted[place])
     }
 }
 

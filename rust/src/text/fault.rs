@@ -334,7 +334,14 @@ impl Fault {
     /// What is wrong in a lattice.
     fn lattice_words(&self, formatter: &mut Formatter) -> std::fmt::Result {
         match self {
-            Self::Real(item) => write!(formatter, "`{item}` is not a number that can stand here: it has to be finite"),
+            Self::Real(item) => {
+                let why = match item.parse::<f64>() {
+                    Ok(number) if number.is_finite() && number < 0.0 => "by base=0 it is a likelihood, 0 or more",
+                    Ok(number) if number.is_finite() => "with its scale it is too large",
+                    _ => "it has to be finite",
+                };
+                write!(formatter, "`{item}` is not a number that can stand here: {why}")
+            }
             Self::Base(item) => write!(formatter, "`{item}` is not a base of logarithms"),
             Self::Bytes(item) => write!(formatter, "`{item}` has bytes that are no characters"),
             Self::Sublattice => write!(formatter, "a lattice within a lattice is not read"),
