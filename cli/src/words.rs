@@ -7,6 +7,7 @@ use crate::anchor;
 use crate::failure::Failure;
 use crate::files::{self, GrammarFile, Written};
 use crate::json::Origin;
+use crate::names::shown;
 use crate::options::{Arguments, EXACT, PATHS, SAID, SKIP};
 use spireyerba::lattice::{reduce, word_label, Acceptor, Automaton, Keep, Misfit, Reduced};
 use spireyerba::limits::{MAX_EDGES, MAX_PLACES};
@@ -50,6 +51,21 @@ impl Changed {
 impl From<Lattice> for Changed {
     fn from(lattice: Lattice) -> Self {
         Self { lattice, slots: None }
+    }
+}
+
+/// One of those that a text has, of which an archive has many.
+pub struct Entry {
+    /// Its own name, if it has one.
+    pub id: Option<String>,
+    /// What was heard, as a command line asks for it, or why it cannot be.
+    pub changed: Result<Changed, String>,
+}
+
+impl Entry {
+    /// Where it stands in a file, for messages.
+    pub fn place(&self, file: &str) -> String {
+        self.id.as_ref().map_or_else(|| file.to_owned(), |id| format!("{file}: {}", shown(id)))
     }
 }
 
@@ -115,29 +131,43 @@ impl<'a> Words<'a> {
         self.cost.is_some()
     }
 
-    /// Reads a text that has one utterance; answers a reason if what it has cannot be changed as the command line says.
-    pub fn read(&self, reader: &UtteranceReader, text: &str) -> Result<Result<Changed, String>, Error> {
+    /// Reads a text that has one utterance.
+    pub fn read(&self, reader: &UtteranceReader, text: &str) -> Result<Entry, Error> {
         if !self.takes_acceptor() {
-            return reader.read_heard(text).map(|lattice| self.anchored(lattice));
+            return reader.read_heard(text).map(|lattice| self.entry_of(lattice));
         }
         match reader.read_plain(text) {
-            Some(plain) => plain.map(|plain| self.apply(Written::Plain(plain))),
-            None => reader.recognised_alone(text).map(|recognised| self.apply(Written::Lattice(recognised))),
+            Some(plain) => plain.map(|plain| self.entry(Written::Plain(plain))),
+            None => reader.recognised_alone(text).map(|recognised| self.entry(Written::Lattice(recognised))),
         }
     }
 
     /// Reads all that a text has.
-    pub fn read_all(&self, reader: &UtteranceReader, text: &str) -> Result<Vec<Result<Changed, String>>, Error> {
+    pub fn read_all(&self, reader: &UtteranceReader, text: &str) -> Result<Vec<Entry>, Error> {
         if !self.takes_acceptor() {
-            return Ok(reader.read_all_heard(text)?.into_iter().map(|lattice| self.anchored(lattice)).collect());
+            return Ok(reader.read_all_heard(text)?.into_iter().map(|lattice| self.entry_of(lattice)).collect());
         }
         match reader.read_plain(text) {
-            Some(plain) => plain.map(|plain| vec![self.apply(Written::Plain(plain))]),
+            Some(plain) => plain.map(|plain| vec![self.entry(Written::Plain(plain))]),
             None => {
                 let all = reader.recognised(text)?.into_iter();
-                Ok(all.map(|recognised| self.apply(Written::Lattice(recognised))).collect())
+                Ok(all.map(|recognised| self.entry(Written::Lattice(recognised))).collect())
             }
         }
+    }
+
+    /// What was heard, with its name and the words of slots that are known.
+    fn entry_of(&self, lattice: Lattice) -> Entry {
+        Entry { id: lattice.id.clone(), changed: self.anchored(lattice) }
+    }
+
+    /// What was heard, with its name and as the command line asks for it.
+    fn entry(&self, written: Written) -> Entry {
+        let id = match &written {
+            Written::Plain(_) => None,
+            Written::Lattice(recognised) => recognised.id.clone(),
+        };
+        Entry { id, changed: self.apply(written) }
     }
 
     /// What was heard, with the words of slots that are known.

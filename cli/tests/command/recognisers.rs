@@ -101,7 +101,7 @@ fn files_that_cannot_be_answered() {
         lines[0],
         r#"{"line":1,"id":"l","readings":[{"rank":1,"weight":9,"words":["x","x"],"rules":[0,1,1],"edges":[0,1],"links":[0,2]}],"dropped":["um"]}"#
     );
-    assert_eq!(lines[1], format!("{{\"line\":2,\"error\":\"{missing}\"}}"));
+    assert_eq!(lines[1], format!("{{\"line\":2,\"id\":\"none\",\"error\":\"{missing}\"}}"));
     for (words, message) in [
         ("g l --files list", "--files and FILE: only one of them"),
         ("g", "FILE is missing: name one, `-` for standard input, or a list by --files"),
@@ -109,6 +109,40 @@ fn files_that_cannot_be_answered() {
         let usage = refused(run_in(&folder, &format!("batch {words}")), 2);
         assert_eq!(usage, format!("spireyerba batch: {message}\ntry `spireyerba batch --help`\n"));
     }
+}
+
+/// A lattice of an archive that is refused has its name, as one that is answered; messages that say the same are counted all the same.
+#[test]
+fn refused_lattices_have_names() {
+    const COPIES: usize = 12;
+    let read = |name: &str| std::fs::read_to_string(example("formats").join(name)).expect(name);
+    let (grammar, archive) = (read("grammar.txt"), read("kaldi.txt"));
+    let numbered = |number: usize| {
+        archive.replace("house-0017", &format!("a{number}")).replace("house-0018", &format!("b{number}"))
+    };
+    let many: String = (0..COPIES).map(numbered).collect();
+    let folder = folder(
+        "batch_names",
+        &[("g", grammar.as_bytes()), ("kaldi.txt", archive.as_bytes()), ("many", many.as_bytes())],
+    );
+    let why = "kaldi.txt: house-0018: --said twenty: no path has it";
+    for (words, input) in [("g kaldi.txt", ""), ("g --files -", "mine\tkaldi.txt\n")] {
+        let run = run_with(&folder, &format!("batch {words} --scale 1 --said twenty -n 1"), input.as_bytes());
+        assert_eq!((run.status, run.err), (1, format!("{why}\n1 of 2 utterances refused\n")));
+        let [first, second] = [0, 1].map(|line| run.out.lines().nth(line).expect("two answers"));
+        assert!(first.starts_with(r#"{"line":1,"id":"house-0017","readings":["#), "{first}");
+        assert_eq!(second, format!(r#"{{"line":1,"id":"house-0018","error":"{why}"}}"#));
+        let words = format!("schedule {words} --columns Number --scale 1 --said twenty");
+        let rows = run_with(&folder, &words, input.as_bytes()).out;
+        assert_eq!(rows.lines().nth(2), Some(format!("1,house-0018,,,{why}").as_str()), "{rows}");
+    }
+    let run = run_in(&folder, "batch g many --scale 1 --said twenty -n 1");
+    assert_eq!(run.out.matches(r#","error":"many: b"#).count(), COPIES, "{}", run.out);
+    assert!(
+        run.err.ends_with("many: 2 more lines: --said twenty: no path has it\n12 of 24 utterances refused\n"),
+        "{}",
+        run.err
+    );
 }
 
 /// Wherever a run over files was interrupted, which may have several lattices, none is answered twice or left out.

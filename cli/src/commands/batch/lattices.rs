@@ -6,7 +6,7 @@ use crate::files::{self, File};
 use crate::json;
 use crate::names::{path, shown};
 use crate::options::{Arguments, FILES};
-use crate::words::{Changed, Words};
+use crate::words::{Entry, Words};
 use spireyerba::text::{Format, Lattice, UtteranceReader};
 use std::io::{Cursor, Read};
 use std::os::unix::ffi::OsStringExt;
@@ -68,7 +68,7 @@ fn is_of_lattices(operand: &str, format: Option<Format>) -> Result<bool, Failure
 }
 
 /// The lattices of a file, each as the command line asks for it or why it cannot be.
-pub fn read(words: &Words, reader: &UtteranceReader, name: &str) -> Result<Vec<Result<Changed, String>>, Refused> {
+pub fn read(words: &Words, reader: &UtteranceReader, name: &str) -> Result<Vec<Entry>, Refused> {
     let lattices = File::read(name).and_then(|file| file.text(|text| words.read_all(reader, text)));
     lattices.map_err(|failure| Refused::of_file(failure, &shown(name)))
 }
