@@ -51,13 +51,14 @@ answers are lines of JSON in the same order, with the number of the line; what i
 have N sentences, though there may be more. Where there is no reading, \"prefix\" has the words that begin a sentence, the
 place or slot where they end, and what could follow there.
 A name without blanks and a tab may stand before what was heard: the name comes back as \"id\". Where a number alone
-follows the tab, such as a cost, it is a blank like any other.
+follows the tab, such as a cost, it is a blank like any other. A line may also have a value of a recogniser's JSON.
 Lattices stand in files of their own: --files names a list of them, one a line, also with a name and a tab before it. A file
-in HTK's format, of Kaldi's or of JSON may be FILE itself, and one in another with --format. Each lattice is an answer, with its own
-name as \"id\", or the line's, or the file's; \"complete_up_to\" says that it was pruned and up to which weight every reading
-is there, and \"dropped\" has the words that --drop-unknown left out. For each word of a reading \"edges\" has the number of its
-edge in the word graph that the lattice was reduced to, \"links\" that of its link as links stand in the file, from 0, and
-\"times\" when it began and ended, if the file has times. With --skip \"slots\" has the slots of an utterance's words instead.
+in HTK's format, of Kaldi's, a confusion network or one value of JSON may be FILE itself, and one in another format with
+--format. Each lattice is an answer, with its own name as \"id\", or the line's, or the file's; \"complete_up_to\" says that it
+was pruned and up to which weight every reading is there, and \"dropped\" has the words that --drop-unknown left out. For
+each word of a reading \"edges\" has the number of its edge in the word graph that the lattice was reduced to, \"links\" that
+of its link as links stand in the file, from 0, and \"times\" when it began and ended, if the file has times. With --skip
+\"slots\" has the slots of an utterance's words instead.
 With --resume a run that was interrupted goes on: no line, and no lattice of a file, is answered twice or left out.",
     example: "spireyerba batch grammar.txt utterances.txt -n 1 --resume readings.jsonl",
     run,
@@ -283,12 +284,15 @@ impl<'a> Worker<'a> {
         Ok(())
     }
 
-    /// Reads a line: a word graph, or else slots, whose block is then at hand and which are not answered.
+    /// Reads a line: a word graph, a recogniser's JSON, or else slots, whose block is then at hand and which are not answered.
     fn read(&mut self, line: &str) -> Result<Option<Entry>, Error> {
         let Batch { reader, words, .. } = self.batch;
-        let is_graph = || line.trim_start().starts_with(|first: char| first.is_ascii_digit()) && is_graph(line);
+        let is_other = || match line.trim_start().chars().next() {
+            Some('0'..='9') => is_graph(line),
+            first => matches!(first, Some('{' | '[')),
+        };
         // what is left out is said
-        if !words.are_none() || reader.drop_unknown || is_graph() {
+        if !words.are_none() || reader.drop_unknown || is_other() {
             return words.read(reader, line).map(Some);
         }
         reader.read_block(line, &mut self.sheet, &mut self.block)?;

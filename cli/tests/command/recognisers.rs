@@ -111,6 +111,43 @@ fn files_that_cannot_be_answered() {
     }
 }
 
+/// Values of JSON, one a line, are answered line by line, and one value over many lines is one lattice.
+#[test]
+fn values_of_json() {
+    let [grammar, one] = ["grammar.txt", "vosk_words.json"]
+        .map(|name| std::fs::read_to_string(example("formats").join(name)).expect(name));
+    let value = |words: &str| format!(r#"{{"text": "{words}", "note": "}} \" ["}}"#);
+    let lines = format!("{}\n\n{}\n{{\"text\": \"door um\n", value("door four"), value("door um twenty"));
+    let files = [("g", grammar.as_bytes()), ("one.json", one.as_bytes()), ("lines.jsonl", lines.as_bytes())];
+    let folder = folder("batch_json", &files);
+    assert!(one.trim_end().lines().count() > 1, "{one}");
+    let whole = answer_in(&folder, "batch g one.json --scale 100 -n 1");
+    assert!(
+        whole.starts_with(r#"{"line":1,"id":"one.json","readings":[{"rank":1,"#) && whole.lines().count() == 1,
+        "{whole}"
+    );
+    let same = answer_in(&folder, "batch g one.json --scale 100 -n 1 --format json");
+    assert_eq!(same, whole);
+    let begins = [
+        r#"{"line":1,"readings":[{"rank":1,"weight":5,"words":["door","four"],"#,
+        r#"{"line":3,"error":"lines.jsonl:3:1: refused 14: the grammar has no word `um`"}"#,
+        r#"{"line":4,"error":"lines.jsonl:4:10: a quoted word has no quote at its end"}"#,
+    ];
+    for words in ["lines.jsonl", "lines.jsonl --format json"] {
+        let run = run_in(&folder, &format!("batch g {words} --scale 100 -n 1"));
+        assert!(run.out.lines().count() == 3 && run.status == 1, "{}", run.out);
+        run.out.lines().zip(begins).for_each(|(line, begin)| assert!(line.starts_with(begin), "{line}"));
+    }
+    let input = run_with(&folder, "batch g - --scale 100 -n 1", lines.as_bytes());
+    assert!(input.out.starts_with(begins[0]) && input.out.lines().count() == 3, "{}", input.out);
+    let dropped = run_in(&folder, "batch g lines.jsonl --scale 100 -n 1 --drop-unknown");
+    assert!(dropped.out.starts_with(begins[0]) && dropped.out.lines().count() == 3, "{}", dropped.out);
+    let rows = run_in(&folder, "schedule g lines.jsonl --columns Number --scale 100").out;
+    assert!(rows.starts_with("line,Number,weight,note\r\n1,four,5,\r\n3,") && rows.lines().count() == 4, "{rows}");
+    let row = answer_in(&folder, "schedule g one.json --columns Number --scale 100");
+    assert_eq!(row.lines().count(), 2, "{row}");
+}
+
 /// A lattice of an archive that is refused has its name, as one that is answered; messages that say the same are counted all the same.
 #[test]
 fn refused_lattices_have_names() {
