@@ -6,7 +6,7 @@
 use crate::anchor;
 use crate::failure::Failure;
 use crate::files::{self, GrammarFile, Written};
-use crate::json::Origin;
+use crate::json::{self, Origin};
 use crate::names::shown;
 use crate::options::{Arguments, EXACT, PATHS, SAID, SKIP};
 use spireyerba::lattice::{reduce, word_label, Acceptor, Automaton, Keep, Misfit, Reduced};
@@ -69,6 +69,18 @@ impl Entry {
     }
 }
 
+/// Adds what is to be said of what was heard to its answer: the weight up to which every reading is there, and words left out.
+pub fn push_notes(json: &mut Vec<u8>, complete_up_to: Option<i64>, dropped: &[String]) {
+    if let Some(weight) = complete_up_to {
+        json::push_key(json, "complete_up_to");
+        json.extend_from_slice(weight.to_string().as_bytes());
+    }
+    if !dropped.is_empty() {
+        json::push_key(json, "dropped");
+        json::push_words(json, dropped.iter().map(String::as_str));
+    }
+}
+
 /// What was heard, as the command line asks for it. Says on standard error what was pruned or left out.
 pub fn heard(arguments: &Arguments, grammar: &GrammarFile, input: Input) -> Result<Changed, Failure> {
     let (words, name) = (Words::new(arguments, &grammar.named)?, input.name());
@@ -79,7 +91,7 @@ pub fn heard(arguments: &Arguments, grammar: &GrammarFile, input: Input) -> Resu
             return words.anchored(files::heard(arguments, grammar, operand)?).map_err(in_input);
         }
         Input::File(operand) => words.apply(files::written(arguments, grammar, operand, words.may_skip())?),
-        Input::Words(said) => words.apply(Written::Plain(files::words(arguments, grammar, said)?)),
+        Input::Words(said) => words.apply(Written::Plain(files::words(arguments, grammar, said)?.into())),
     };
     let changed = changed.map_err(in_input)?;
     changed.lattice.notes().iter().for_each(|note| eprintln!("{name}: {note}"));
@@ -211,13 +223,13 @@ struct Source {
 impl Source {
     fn new(words: &Words, written: Written) -> Result<Self, String> {
         match written {
-            Written::Plain(mut heard) => {
-                let known = anchor::apply(&words.anchors, words.named, &mut heard)?;
-                let (acceptor, is_slots) = match &heard {
+            Written::Plain(mut rest) => {
+                let known = anchor::apply(&words.anchors, words.named, &mut rest.heard)?;
+                let (acceptor, is_slots) = match &rest.heard {
                     Heard::Slots(utterance) => (Acceptor::from(utterance), true),
                     Heard::Graph(graph) => (Acceptor::from(graph), false),
                 };
-                Ok(Self { acceptor, is_slots, known, keep: Keep::Paths, rest: heard.into() })
+                Ok(Self { acceptor, is_slots, known, keep: Keep::Paths, rest })
             }
             Written::Lattice(recognised) => {
                 let mut rest = Lattice::from(Heard::Graph(Graph { places: 0, edges: Vec::new() }));

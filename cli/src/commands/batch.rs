@@ -18,9 +18,9 @@ use crate::options::{
     SAID, SCALE, SKIP, WANTED,
 };
 use crate::output::Output;
-use crate::words::{Changed, Entry, Words};
+use crate::words::{push_notes, Changed, Entry, Words};
+use lattices::Lines;
 pub use lattices::{are_lattices, named};
-use lattices::{push_notes, Lines};
 pub use line::Line;
 use resume::Answered;
 use sink::{Answers, Refused, Sink};
@@ -279,7 +279,9 @@ impl<'a> Worker<'a> {
             self.push_why(json, heard)?;
         }
         json.extend_from_slice(if used_up { b",\"used_up\":true" } else { b"" });
-        changed.iter().for_each(|changed| push_notes(json, &changed.lattice));
+        if let Some(Changed { lattice, .. }) = changed {
+            push_notes(json, lattice.complete_up_to(), &lattice.dropped);
+        }
         json.extend_from_slice(b"}\n");
         Ok(())
     }

@@ -235,3 +235,31 @@ fn what_is_left_out_of_slots_is_said() {
         assert_eq!(run, Run { status: 0, out: "1  4  x x\n".to_owned(), err: note });
     }
 }
+
+/// They are said as well where words are known for certain or may be too many, by each command.
+#[test]
+fn what_is_left_out_is_said_with_other_options() {
+    let files: [(&str, &[u8]); 4] = [
+        ("g", b"A -> A A | \"x\""),
+        ("slots", b"x 1 | um 2; x 3 | ah 4\n"),
+        ("graph", b"0 1 x 1; 0 1 um 2; 1 2 x 3; 1 2 ah 4\n"),
+        ("l.slf", b"VERSION=1.0\nI=0\nI=1\nI=2\nJ=0 S=0 E=1 W=x a=-1\nJ=1 S=0 E=1 W=um a=-2\nJ=2 S=1 E=2 W=x a=-3\nJ=3 S=1 E=2 W=ah a=-4\n"),
+    ];
+    let folder = folder("left_out_options", &files);
+    let note = "left out, for the grammar does not have them: um, ah";
+    for file in ["slots", "graph", "l.slf"] {
+        for option in ["", "--said x", "--skip 50", "--said x --skip 50"] {
+            let run = |words: &str| run_in(&folder, &format!("{words} --scale 1 --drop-unknown {option}"));
+            let list = run(&format!("list g {file} -n 1"));
+            assert_eq!((list.out.as_str(), list.err), ("1  4  x x\n", format!("{file}: {note}\n")), "{file} {option}");
+            for words in [format!("list g {file} -n 1 --json"), format!("batch g {file} -n 1")] {
+                let json = run(&words).out;
+                assert!(json.ends_with("],\"dropped\":[\"um\",\"ah\"]}\n"), "{words} {option}: {json}");
+            }
+            let rows = run(&format!("schedule g {file} --columns A")).out;
+            assert!(rows.ends_with(&format!(",x x,4,\"{note}\"\r\n")), "{file} {option}: {rows}");
+        }
+        let kept = run_in(&folder, &format!("list g {file} -n 1 --scale 1 --skip 50 --json"));
+        assert!(kept.err.is_empty() && !kept.out.contains("dropped"), "{file}: {kept:?}");
+    }
+}

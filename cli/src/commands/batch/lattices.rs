@@ -3,11 +3,10 @@
 use super::sink::Refused;
 use crate::failure::Failure;
 use crate::files::{self, File};
-use crate::json;
 use crate::names::{path, shown};
 use crate::options::{Arguments, FILES};
 use crate::words::{Entry, Words};
-use spireyerba::text::{Format, Lattice, UtteranceReader};
+use spireyerba::text::{Format, UtteranceReader};
 use std::io::{BufRead, BufReader, Cursor, Read};
 use std::os::unix::ffi::OsStringExt;
 
@@ -102,16 +101,4 @@ fn front(operand: &str) -> std::io::Result<Vec<u8>> {
 pub fn read(words: &Words, reader: &UtteranceReader, name: &str) -> Result<Vec<Entry>, Refused> {
     let lattices = File::read(name).and_then(|file| file.text(|text| words.read_all(reader, text)));
     lattices.map_err(|failure| Refused::of_file(failure, &shown(name)))
-}
-
-/// Adds what is to be said of a lattice to its answer: the weight up to which every reading is there, and words left out.
-pub fn push_notes(json: &mut Vec<u8>, lattice: &Lattice) {
-    if let Some(weight) = lattice.complete_up_to() {
-        json::push_key(json, "complete_up_to");
-        json.extend_from_slice(weight.to_string().as_bytes());
-    }
-    if !lattice.dropped.is_empty() {
-        json::push_key(json, "dropped");
-        json::push_words(json, lattice.dropped.iter().map(String::as_str));
-    }
 }
