@@ -203,7 +203,7 @@ pub fn heard(arguments: &Arguments, grammar: &GrammarFile, operand: &str) -> Res
 /// What a file has before it is made fit for the library.
 pub enum Written {
     /// Slots or a word graph as they stand. Slots may have no word if words that the grammar does not have are passed over.
-    Plain(Heard),
+    Plain(Lattice),
     /// What a recogniser wrote otherwise.
     Lattice(Recognised),
 }
@@ -219,7 +219,7 @@ pub fn written(
     let mut reader = utterance_reader(arguments, &grammar.named)?;
     reader.keep_unknown = may_skip;
     let file = File::read(operand)?;
-    let accepted = Heard::from_block(grammar.packed.block(), &file.bytes).map(Written::Plain);
+    let accepted = Heard::from_block(grammar.packed.block(), &file.bytes).map(|heard| Written::Plain(heard.into()));
     file.block_or_text(accepted, |text| match reader.read_plain(text) {
         Some(plain) => plain.map(Written::Plain),
         None => reader.recognised_alone(text).map(Written::Lattice),

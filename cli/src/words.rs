@@ -6,7 +6,8 @@
 use crate::anchor;
 use crate::failure::Failure;
 use crate::files::{self, GrammarFile, Written};
-use crate::json::Origin;
+use crate::json::{self, Origin};
+use crate::names::shown;
 use crate::options::{Arguments, EXACT, PATHS, SAID, SKIP};
 use spireyerba::lattice::{reduce, word_label, Acceptor, Automaton, Keep, Misfit, Reduced};
 use spireyerba::limits::{MAX_EDGES, MAX_PLACES};
@@ -53,6 +54,33 @@ impl From<Lattice> for Changed {
     }
 }
 
+/// One of those that a text has, of which an archive has many.
+pub struct Entry {
+    /// Its own name, if it has one.
+    pub id: Option<String>,
+    /// What was heard, as a command line asks for it, or why it cannot be.
+    pub changed: Result<Changed, String>,
+}
+
+impl Entry {
+    /// Where it stands in a file, for messages.
+    pub fn place(&self, file: &str) -> String {
+        self.id.as_ref().map_or_else(|| file.to_owned(), |id| format!("{file}: {}", shown(id)))
+    }
+}
+
+/// Adds what is to be said of what was heard to its answer: the weight up to which every reading is there, and words left out.
+pub fn push_notes(json: &mut Vec<u8>, complete_up_to: Option<i64>, dropped: &[String]) {
+    if let Some(weight) = complete_up_to {
+        json::push_key(json, "complete_up_to");
+        json.extend_from_slice(weight.to_string().as_bytes());
+    }
+    if !dropped.is_empty() {
+        json::push_key(json, "dropped");
+        json::push_words(json, dropped.iter().map(String::as_str));
+    }
+}
+
 /// What was heard, as the command line asks for it. Says on standard error what was pruned or left out.
 pub fn heard(arguments: &Arguments, grammar: &GrammarFile, input: Input) -> Result<Changed, Failure> {
     let (words, name) = (Words::new(arguments, &grammar.named)?, input.name());
@@ -63,7 +91,7 @@ pub fn heard(arguments: &Arguments, grammar: &GrammarFile, input: Input) -> Resu
             return words.anchored(files::heard(arguments, grammar, operand)?).map_err(in_input);
         }
         Input::File(operand) => words.apply(files::written(arguments, grammar, operand, words.may_skip())?),
-        Input::Words(said) => words.apply(Written::Plain(files::words(arguments, grammar, said)?)),
+        Input::Words(said) => words.apply(Written::Plain(files::words(arguments, grammar, said)?.into())),
     };
     let changed = changed.map_err(in_input)?;
     changed.lattice.notes().iter().for_each(|note| eprintln!("{name}: {note}"));
@@ -115,29 +143,43 @@ impl<'a> Words<'a> {
         self.cost.is_some()
     }
 
-    /// Reads a text that has one utterance; answers a reason if what it has cannot be changed as the command line says.
-    pub fn read(&self, reader: &UtteranceReader, text: &str) -> Result<Result<Changed, String>, Error> {
+    /// Reads a text that has one utterance.
+    pub fn read(&self, reader: &UtteranceReader, text: &str) -> Result<Entry, Error> {
         if !self.takes_acceptor() {
-            return reader.read_heard(text).map(|lattice| self.anchored(lattice));
+            return reader.read_heard(text).map(|lattice| self.entry_of(lattice));
         }
         match reader.read_plain(text) {
-            Some(plain) => plain.map(|plain| self.apply(Written::Plain(plain))),
-            None => reader.recognised_alone(text).map(|recognised| self.apply(Written::Lattice(recognised))),
+            Some(plain) => plain.map(|plain| self.entry(Written::Plain(plain))),
+            None => reader.recognised_alone(text).map(|recognised| self.entry(Written::Lattice(recognised))),
         }
     }
 
     /// Reads all that a text has.
-    pub fn read_all(&self, reader: &UtteranceReader, text: &str) -> Result<Vec<Result<Changed, String>>, Error> {
+    pub fn read_all(&self, reader: &UtteranceReader, text: &str) -> Result<Vec<Entry>, Error> {
         if !self.takes_acceptor() {
-            return Ok(reader.read_all_heard(text)?.into_iter().map(|lattice| self.anchored(lattice)).collect());
+            return Ok(reader.read_all_heard(text)?.into_iter().map(|lattice| self.entry_of(lattice)).collect());
         }
         match reader.read_plain(text) {
-            Some(plain) => plain.map(|plain| vec![self.apply(Written::Plain(plain))]),
+            Some(plain) => plain.map(|plain| vec![self.entry(Written::Plain(plain))]),
             None => {
                 let all = reader.recognised(text)?.into_iter();
-                Ok(all.map(|recognised| self.apply(Written::Lattice(recognised))).collect())
+                Ok(all.map(|recognised| self.entry(Written::Lattice(recognised))).collect())
             }
         }
+    }
+
+    /// What was heard, with its name and the words of slots that are known.
+    fn entry_of(&self, lattice: Lattice) -> Entry {
+        Entry { id: lattice.id.clone(), changed: self.anchored(lattice) }
+    }
+
+    /// What was heard, with its name and as the command line asks for it.
+    fn entry(&self, written: Written) -> Entry {
+        let id = match &written {
+            Written::Plain(_) => None,
+            Written::Lattice(recognised) => recognised.id.clone(),
+        };
+        Entry { id, changed: self.apply(written) }
     }
 
     /// What was heard, with the words of slots that are known.
@@ -181,13 +223,13 @@ struct Source {
 impl Source {
     fn new(words: &Words, written: Written) -> Result<Self, String> {
         match written {
-            Written::Plain(mut heard) => {
-                let known = anchor::apply(&words.anchors, words.named, &mut heard)?;
-                let (acceptor, is_slots) = match &heard {
+            Written::Plain(mut rest) => {
+                let known = anchor::apply(&words.anchors, words.named, &mut rest.heard)?;
+                let (acceptor, is_slots) = match &rest.heard {
                     Heard::Slots(utterance) => (Acceptor::from(utterance), true),
                     Heard::Graph(graph) => (Acceptor::from(graph), false),
                 };
-                Ok(Self { acceptor, is_slots, known, keep: Keep::Paths, rest: heard.into() })
+                Ok(Self { acceptor, is_slots, known, keep: Keep::Paths, rest })
             }
             Written::Lattice(recognised) => {
                 let mut rest = Lattice::from(Heard::Graph(Graph { places: 0, edges: Vec::new() }));

@@ -18,9 +18,9 @@ use crate::options::{
     SAID, SCALE, SKIP, WANTED,
 };
 use crate::output::Output;
-use crate::words::{Changed, Words};
+use crate::words::{push_notes, Changed, Entry, Words};
+use lattices::Lines;
 pub use lattices::{are_lattices, named};
-use lattices::{push_notes, Lines};
 pub use line::Line;
 use resume::Answered;
 use sink::{Answers, Refused, Sink};
@@ -51,13 +51,14 @@ answers are lines of JSON in the same order, with the number of the line; what i
 have N sentences, though there may be more. Where there is no reading, \"prefix\" has the words that begin a sentence, the
 place or slot where they end, and what could follow there.
 A name without blanks and a tab may stand before what was heard: the name comes back as \"id\". Where a number alone
-follows the tab, such as a cost, it is a blank like any other.
+follows the tab, such as a cost, it is a blank like any other. A line may also have a value of a recogniser's JSON.
 Lattices stand in files of their own: --files names a list of them, one a line, also with a name and a tab before it. A file
-in HTK's format, of Kaldi's or of JSON may be FILE itself, and one in another with --format. Each lattice is an answer, with its own
-name as \"id\", or the line's, or the file's; \"complete_up_to\" says that it was pruned and up to which weight every reading
-is there, and \"dropped\" has the words that --drop-unknown left out. For each word of a reading \"edges\" has the number of its
-edge in the word graph that the lattice was reduced to, \"links\" that of its link as links stand in the file, from 0, and
-\"times\" when it began and ended, if the file has times. With --skip \"slots\" has the slots of an utterance's words instead.
+in HTK's format, of Kaldi's, a confusion network or one value of JSON may be FILE itself, and one in another format with
+--format. Each lattice is an answer, with its own name as \"id\", or the line's, or the file's; \"complete_up_to\" says that it
+was pruned and up to which weight every reading is there, and \"dropped\" has the words that --drop-unknown left out. For
+each word of a reading \"edges\" has the number of its edge in the word graph that the lattice was reduced to, \"links\" that
+of its link as links stand in the file, from 0, and \"times\" when it began and ended, if the file has times. With --skip
+\"slots\" has the slots of an utterance's words instead.
 With --resume a run that was interrupted goes on: no line, and no lattice of a file, is answered twice or left out.",
     example: "spireyerba batch grammar.txt utterances.txt -n 1 --resume readings.jsonl",
     run,
@@ -188,10 +189,7 @@ impl<'a> Worker<'a> {
             if self.batch.are_files {
                 self.answer_file(&line, &mut answers);
             } else {
-                answers.utterances += 1;
-                if let Err(refused) = self.answer(&line, &mut answers.json) {
-                    refuse(&mut answers, refused, &line);
-                }
+                self.answer_line(&line, &mut answers);
             }
         }
         answers
@@ -202,34 +200,51 @@ impl<'a> Worker<'a> {
         let name = line.heard.trim();
         let lattices = match lattices::read(&self.batch.words, &self.batch.reader, name) {
             Ok(lattices) => lattices,
-            Err(refused) => {
-                answers.utterances += 1;
-                return refuse(answers, refused, line);
-            }
+            Err(refused) => return refuse(answers, refused, |json| line.begin_lattice(json, None, true)),
         };
         let is_alone = lattices.len() == 1;
-        for changed in lattices {
-            answers.utterances += 1;
-            let answered = changed.map_err(|why| Refused::new(&shown(name), why)).and_then(|changed| {
-                let own = changed.lattice.id.as_deref();
-                let begin = |json: &mut Vec<u8>| line.begin_lattice(json, own, is_alone);
-                let answered = self.answer_heard(Some(&changed), begin, &mut answers.json);
-                answered.map_err(|refusal| Error::from(refusal).in_file(&shown(name)).into())
-            });
-            if let Err(refused) = answered {
-                refuse(answers, refused, line);
+        for entry in lattices {
+            let begin = |json: &mut Vec<u8>| line.begin_lattice(json, entry.id.as_deref(), is_alone);
+            self.answer(Some(&entry.changed), || entry.place(&shown(name)), begin, answers);
+        }
+    }
+
+    /// Adds the answer of a line.
+    fn answer_line(&mut self, line: &Line, answers: &mut Answers) {
+        let name = self.batch.name;
+        match self.read(line.heard) {
+            Err(error) => {
+                let error = error.in_file(name).after_columns(line.columns()).after_lines(line.before);
+                refuse(answers, error.into(), |json| line.begin(json, None));
+            }
+            Ok(entry) => {
+                let own = entry.as_ref().and_then(|entry| entry.id.as_deref());
+                let changed = entry.as_ref().map(|entry| &entry.changed);
+                let place = || format!("{name}:{}", line.before + 1);
+                self.answer(changed, place, |json| line.begin(json, own), answers);
             }
         }
     }
 
-    /// Adds the answer of a line, or nothing if it is refused.
-    fn answer(&mut self, line: &Line, json: &mut Vec<u8>) -> Result<(), Refused> {
-        let name = self.batch.name;
-        let in_file = |error: Error| error.in_file(name).after_columns(line.columns()).after_lines(line.before);
-        let changed = self.read(line.heard).map_err(in_file)?;
-        let changed = changed.map_err(|why| Refused::new(&format!("{name}:{}", line.before + 1), why))?;
-        let answered = self.answer_heard(changed.as_ref(), |json| line.begin(json), json);
-        answered.map_err(|refusal| in_file(refusal.into()).into())
+    /// Adds the answer of what was heard at some place, or of the slots whose block is at hand, or why it is refused.
+    fn answer(
+        &mut self,
+        changed: Option<&Result<Changed, String>>,
+        place: impl Fn() -> String,
+        begin: impl Fn(&mut Vec<u8>),
+        answers: &mut Answers,
+    ) {
+        let answered = match changed.map(Result::as_ref).transpose() {
+            Err(why) => Err(Refused::new(&place(), why.clone())),
+            Ok(changed) => {
+                let answered = self.answer_heard(changed, &begin, &mut answers.json);
+                answered.map_err(|refusal| Error::from(refusal).in_file(&place()).into())
+            }
+        };
+        match answered {
+            Ok(()) => answers.utterances += 1,
+            Err(refused) => refuse(answers, refused, begin),
+        }
     }
 
     /// Adds the answer of what was heard, or of the slots whose block is at hand; nothing if it is refused.
@@ -264,22 +279,26 @@ impl<'a> Worker<'a> {
             self.push_why(json, heard)?;
         }
         json.extend_from_slice(if used_up { b",\"used_up\":true" } else { b"" });
-        changed.iter().for_each(|changed| push_notes(json, &changed.lattice));
+        if let Some(Changed { lattice, .. }) = changed {
+            push_notes(json, lattice.complete_up_to(), &lattice.dropped);
+        }
         json.extend_from_slice(b"}\n");
         Ok(())
     }
 
-    /// Reads a line: a word graph, or else slots, whose block is then at hand. Answers why it cannot be if words are not as the
-    /// command line says.
-    fn read(&mut self, line: &str) -> Result<Result<Option<Changed>, String>, Error> {
+    /// Reads a line: a word graph, a recogniser's JSON, or else slots, whose block is then at hand and which are not answered.
+    fn read(&mut self, line: &str) -> Result<Option<Entry>, Error> {
         let Batch { reader, words, .. } = self.batch;
-        let is_graph = || line.trim_start().starts_with(|first: char| first.is_ascii_digit()) && is_graph(line);
+        let is_other = || match line.trim_start().chars().next() {
+            Some('0'..='9') => is_graph(line),
+            first => matches!(first, Some('{' | '[')),
+        };
         // what is left out is said
-        if !words.are_none() || reader.drop_unknown || is_graph() {
-            return words.read(reader, line).map(|changed| changed.map(Some));
+        if !words.are_none() || reader.drop_unknown || is_other() {
+            return words.read(reader, line).map(Some);
         }
         reader.read_block(line, &mut self.sheet, &mut self.block)?;
-        Ok(Ok(None))
+        Ok(None)
     }
 
     /// Adds why what was heard, or the slots whose block is at hand, has no reading.
@@ -326,9 +345,10 @@ fn begin_reading(json: &mut Vec<u8>, batch: &Batch, before: usize, reading: &Rea
     }
 }
 
-/// Adds the answer of a line that is refused.
-fn refuse(answers: &mut Answers, refused: Refused, line: &Line) {
-    line.begin(&mut answers.json);
+/// Adds the answer of what is refused.
+fn refuse(answers: &mut Answers, refused: Refused, begin: impl Fn(&mut Vec<u8>)) {
+    answers.utterances += 1;
+    begin(&mut answers.json);
     json::push_key(&mut answers.json, "error");
     json::push_string(&mut answers.json, &refused.message);
     answers.json.extend_from_slice(b"}\n");

@@ -33,7 +33,8 @@ A line has rank, weight and words. Fewer readings than were asked for are all th
 says how far what was heard goes along with the grammar, and what could follow there (\"prefix\" in JSON). With --distinct no words stand
 twice: (+2 trees) says that 2 more of the first 256 readings have these, and a message if there may be more sentences.
 In JSON \"edges\" are numbers of the word graph, of a lattice those of the graph that it was reduced to (`unpack` prints it),
-\"links\" numbers of the file's links as they stand, from 0, and \"times\" when each word began and ended, if the file says it.
+\"links\" numbers of the file's links as they stand, from 0, and \"times\" when each word began and ended, if the file says it;
+\"dropped\" has the words that --drop-unknown left out.
 In a tree [5] is a rule's weight, and 12 behind a word its cost. With --skip some slots may have been words too many: as
 many in a row as 96 edges of a word graph have room for, and a message says how many that is.",
     example: "spireyerba list grammar.txt utterance.txt -n 3 --tree --said 0=door",
@@ -60,6 +61,8 @@ pub struct Listed {
     pub times: Option<Vec<f64>>,
     /// The link of each edge, if the graph was made of a lattice.
     pub links: Vec<u32>,
+    /// Words that were left out since the grammar does not have them.
+    pub dropped: Vec<String>,
     /// What was heard and left out, a sentence without its end each.
     pub left_out: Vec<String>,
 }
@@ -82,7 +85,7 @@ impl Listed {
     /// No reading yet of what was heard, with the slot of each edge if slots may be passed over.
     pub fn of(grammar: GrammarFile, lattice: Lattice, slots: Option<Vec<u32>>) -> Self {
         let (complete_up_to, left_out) = (lattice.complete_up_to(), lattice.notes());
-        let Lattice { heard, times, sources: links, .. } = lattice;
+        let Lattice { heard, times, sources: links, dropped, .. } = lattice;
         Self {
             grammar,
             heard,
@@ -93,6 +96,7 @@ impl Listed {
             slots,
             times,
             links,
+            dropped,
             left_out,
         }
     }
@@ -244,10 +248,7 @@ pub fn json_of(listed: &Listed, ranks: RangeInclusive<usize>) -> Vec<u8> {
     if listed.used_up {
         line.extend(b",\"used_up\":true");
     }
-    if let Some(weight) = listed.complete_up_to {
-        json::push_key(&mut line, "complete_up_to");
-        line.extend(weight.to_string().bytes());
-    }
+    words::push_notes(&mut line, listed.complete_up_to, &listed.dropped);
     if let Some(none) = listed.no_reading() {
         none.push_json(&mut line);
     }

@@ -12,7 +12,7 @@ use crate::options::{
 };
 use crate::output::Output;
 use crate::rows::{csv, html, Row};
-use crate::words::{Changed, Words};
+use crate::words::{Entry, Words};
 use spireyerba::limits::MAX_READINGS;
 use spireyerba::text::{nearest, Lattice, UtteranceReader};
 use spireyerba::{Error, Part, Reading, Refusal, Tree};
@@ -128,14 +128,16 @@ impl Schedule<'_> {
         let line = Line::new(text, 0);
         match self.words.read_all(&self.reader, text) {
             Err(error) => vec![self.refused(&line, None, error.in_file(self.name).to_string())],
-            Ok(lattices) => lattices.into_iter().map(|lattice| self.row_of(&line, None, self.name, lattice)).collect(),
+            Ok(lattices) => {
+                lattices.iter().map(|entry| self.row_of(&line, None, &entry.place(self.name), entry)).collect()
+            }
         }
     }
 
     fn row_of_line(&self, line: &Line) -> Row {
         let place = format!("{}:{}", self.name, line.before + 1);
         match self.words.read(&self.reader, line.heard) {
-            Ok(changed) => self.row_of(line, line.name, &place, changed),
+            Ok(entry) => self.row_of(line, line.name, &place, &entry),
             Err(error) => {
                 let error = error.in_file(self.name).after_columns(line.columns()).after_lines(line.before);
                 self.refused(line, line.name, error.to_string())
@@ -154,26 +156,22 @@ impl Schedule<'_> {
             }
             Ok(lattices) => {
                 let is_alone = lattices.len() == 1;
-                let row = |lattice: Result<Changed, String>| {
-                    let own = lattice.as_ref().ok().and_then(|changed| changed.lattice.id.clone());
-                    let id = shown(line.name_of(own.as_deref(), is_alone));
-                    self.row_of(&line, Some(&id), &shown(file), lattice)
+                let row = |entry: &Entry| {
+                    let id = shown(line.name_of(entry.id.as_deref(), is_alone));
+                    self.row_of(&line, Some(&id), &entry.place(&shown(file)), entry)
                 };
-                lattices.into_iter().map(row).collect()
+                lattices.iter().map(row).collect()
             }
         }
     }
 
-    /// The row of what was heard, with its own name if none is given, or of why it is not as the command line says.
-    fn row_of(&self, line: &Line, id: Option<&str>, place: &str, changed: Result<Changed, String>) -> Row {
-        match changed {
-            Ok(Changed { lattice, .. }) => self.row(line, id.or(lattice.id.as_deref()), &lattice),
-            Err(why) => self.refused(line, id, format!("{place}: {why}")),
-        }
-    }
-
-    /// The row of what was heard.
-    fn row(&self, line: &Line, id: Option<&str>, lattice: &Lattice) -> Row {
+    /// The row of what was heard at some place, with its own name if none is given, or of why it is not as the command line says.
+    fn row_of(&self, line: &Line, id: Option<&str>, place: &str, entry: &Entry) -> Row {
+        let id = id.or(entry.id.as_deref());
+        let lattice = match &entry.changed {
+            Ok(changed) => &changed.lattice,
+            Err(why) => return self.refused(line, id, format!("{place}: {why}")),
+        };
         let missing = lattice.notes().join("; ");
         match self.first_of(lattice) {
             Ok(Ok(Found { cells, weight, other })) => {
@@ -185,9 +183,7 @@ impl Schedule<'_> {
                 Row { cells, weight: Some(weight), other, missing, ..self.refused(line, id, note) }
             }
             Ok(Err(none)) => Row { missing, ..self.refused(line, id, none) },
-            Err(refusal) => {
-                Row { missing, ..self.refused(line, id, Error::from(refusal).in_file(self.name).to_string()) }
-            }
+            Err(refusal) => Row { missing, ..self.refused(line, id, Error::from(refusal).in_file(place).to_string()) },
         }
     }
 

@@ -101,7 +101,7 @@ fn files_that_cannot_be_answered() {
         lines[0],
         r#"{"line":1,"id":"l","readings":[{"rank":1,"weight":9,"words":["x","x"],"rules":[0,1,1],"edges":[0,1],"links":[0,2]}],"dropped":["um"]}"#
     );
-    assert_eq!(lines[1], format!("{{\"line\":2,\"error\":\"{missing}\"}}"));
+    assert_eq!(lines[1], format!("{{\"line\":2,\"id\":\"none\",\"error\":\"{missing}\"}}"));
     for (words, message) in [
         ("g l --files list", "--files and FILE: only one of them"),
         ("g", "FILE is missing: name one, `-` for standard input, or a list by --files"),
@@ -109,6 +109,77 @@ fn files_that_cannot_be_answered() {
         let usage = refused(run_in(&folder, &format!("batch {words}")), 2);
         assert_eq!(usage, format!("spireyerba batch: {message}\ntry `spireyerba batch --help`\n"));
     }
+}
+
+/// Values of JSON, one a line, are answered line by line, and one value over many lines is one lattice.
+#[test]
+fn values_of_json() {
+    let [grammar, one] = ["grammar.txt", "vosk_words.json"]
+        .map(|name| std::fs::read_to_string(example("formats").join(name)).expect(name));
+    let value = |words: &str| format!(r#"{{"text": "{words}", "note": "}} \" ["}}"#);
+    let lines = format!("{}\n\n{}\n{{\"text\": \"door um\n", value("door four"), value("door um twenty"));
+    let files = [("g", grammar.as_bytes()), ("one.json", one.as_bytes()), ("lines.jsonl", lines.as_bytes())];
+    let folder = folder("batch_json", &files);
+    assert!(one.trim_end().lines().count() > 1, "{one}");
+    let whole = answer_in(&folder, "batch g one.json --scale 100 -n 1");
+    assert!(
+        whole.starts_with(r#"{"line":1,"id":"one.json","readings":[{"rank":1,"#) && whole.lines().count() == 1,
+        "{whole}"
+    );
+    let same = answer_in(&folder, "batch g one.json --scale 100 -n 1 --format json");
+    assert_eq!(same, whole);
+    let begins = [
+        r#"{"line":1,"readings":[{"rank":1,"weight":5,"words":["door","four"],"#,
+        r#"{"line":3,"error":"lines.jsonl:3:1: refused 14: the grammar has no word `um`"}"#,
+        r#"{"line":4,"error":"lines.jsonl:4:10: a quoted word has no quote at its end"}"#,
+    ];
+    for words in ["lines.jsonl", "lines.jsonl --format json"] {
+        let run = run_in(&folder, &format!("batch g {words} --scale 100 -n 1"));
+        assert!(run.out.lines().count() == 3 && run.status == 1, "{}", run.out);
+        run.out.lines().zip(begins).for_each(|(line, begin)| assert!(line.starts_with(begin), "{line}"));
+    }
+    let input = run_with(&folder, "batch g - --scale 100 -n 1", lines.as_bytes());
+    assert!(input.out.starts_with(begins[0]) && input.out.lines().count() == 3, "{}", input.out);
+    let dropped = run_in(&folder, "batch g lines.jsonl --scale 100 -n 1 --drop-unknown");
+    assert!(dropped.out.starts_with(begins[0]) && dropped.out.lines().count() == 3, "{}", dropped.out);
+    let rows = run_in(&folder, "schedule g lines.jsonl --columns Number --scale 100").out;
+    assert!(rows.starts_with("line,Number,weight,note\r\n1,four,5,\r\n3,") && rows.lines().count() == 4, "{rows}");
+    let row = answer_in(&folder, "schedule g one.json --columns Number --scale 100");
+    assert_eq!(row.lines().count(), 2, "{row}");
+}
+
+/// A lattice of an archive that is refused has its name, as one that is answered; messages that say the same are counted all the same.
+#[test]
+fn refused_lattices_have_names() {
+    const COPIES: usize = 12;
+    let read = |name: &str| std::fs::read_to_string(example("formats").join(name)).expect(name);
+    let (grammar, archive) = (read("grammar.txt"), read("kaldi.txt"));
+    let numbered = |number: usize| {
+        archive.replace("house-0017", &format!("a{number}")).replace("house-0018", &format!("b{number}"))
+    };
+    let many: String = (0..COPIES).map(numbered).collect();
+    let folder = folder(
+        "batch_names",
+        &[("g", grammar.as_bytes()), ("kaldi.txt", archive.as_bytes()), ("many", many.as_bytes())],
+    );
+    let why = "kaldi.txt: house-0018: --said twenty: no path has it";
+    for (words, input) in [("g kaldi.txt", ""), ("g --files -", "mine\tkaldi.txt\n")] {
+        let run = run_with(&folder, &format!("batch {words} --scale 1 --said twenty -n 1"), input.as_bytes());
+        assert_eq!((run.status, run.err), (1, format!("{why}\n1 of 2 utterances refused\n")));
+        let [first, second] = [0, 1].map(|line| run.out.lines().nth(line).expect("two answers"));
+        assert!(first.starts_with(r#"{"line":1,"id":"house-0017","readings":["#), "{first}");
+        assert_eq!(second, format!(r#"{{"line":1,"id":"house-0018","error":"{why}"}}"#));
+        let words = format!("schedule {words} --columns Number --scale 1 --said twenty");
+        let rows = run_with(&folder, &words, input.as_bytes()).out;
+        assert_eq!(rows.lines().nth(2), Some(format!("1,house-0018,,,{why}").as_str()), "{rows}");
+    }
+    let run = run_in(&folder, "batch g many --scale 1 --said twenty -n 1");
+    assert_eq!(run.out.matches(r#","error":"many: b"#).count(), COPIES, "{}", run.out);
+    assert!(
+        run.err.ends_with("many: 2 more lines: --said twenty: no path has it\n12 of 24 utterances refused\n"),
+        "{}",
+        run.err
+    );
 }
 
 /// Wherever a run over files was interrupted, which may have several lattices, none is answered twice or left out.
@@ -162,5 +233,33 @@ fn what_is_left_out_of_slots_is_said() {
         let note = format!("{file}: left out, for the grammar does not have them: {words}\n");
         let run = run_in(&folder, &format!("list g {file} --drop-unknown"));
         assert_eq!(run, Run { status: 0, out: "1  4  x x\n".to_owned(), err: note });
+    }
+}
+
+/// They are said as well where words are known for certain or may be too many, by each command.
+#[test]
+fn what_is_left_out_is_said_with_other_options() {
+    let files: [(&str, &[u8]); 4] = [
+        ("g", b"A -> A A | \"x\""),
+        ("slots", b"x 1 | um 2; x 3 | ah 4\n"),
+        ("graph", b"0 1 x 1; 0 1 um 2; 1 2 x 3; 1 2 ah 4\n"),
+        ("l.slf", b"VERSION=1.0\nI=0\nI=1\nI=2\nJ=0 S=0 E=1 W=x a=-1\nJ=1 S=0 E=1 W=um a=-2\nJ=2 S=1 E=2 W=x a=-3\nJ=3 S=1 E=2 W=ah a=-4\n"),
+    ];
+    let folder = folder("left_out_options", &files);
+    let note = "left out, for the grammar does not have them: um, ah";
+    for file in ["slots", "graph", "l.slf"] {
+        for option in ["", "--said x", "--skip 50", "--said x --skip 50"] {
+            let run = |words: &str| run_in(&folder, &format!("{words} --scale 1 --drop-unknown {option}"));
+            let list = run(&format!("list g {file} -n 1"));
+            assert_eq!((list.out.as_str(), list.err), ("1  4  x x\n", format!("{file}: {note}\n")), "{file} {option}");
+            for words in [format!("list g {file} -n 1 --json"), format!("batch g {file} -n 1")] {
+                let json = run(&words).out;
+                assert!(json.ends_with("],\"dropped\":[\"um\",\"ah\"]}\n"), "{words} {option}: {json}");
+            }
+            let rows = run(&format!("schedule g {file} --columns A")).out;
+            assert!(rows.ends_with(&format!(",x x,4,\"{note}\"\r\n")), "{file} {option}: {rows}");
+        }
+        let kept = run_in(&folder, &format!("list g {file} -n 1 --scale 1 --skip 50 --json"));
+        assert!(kept.err.is_empty() && !kept.out.contains("dropped"), "{file}: {kept:?}");
     }
 }

@@ -1,12 +1,13 @@
 //! The text of a word graph.
 
-use super::formats::Format;
+use super::formats::{Draft, Format, Link};
 use super::lattice::is_lattice;
 use super::scan::{digits, weight, Token, Tokens, UTTERANCE};
 use super::utterance::UtteranceReader;
 use super::{without_mark, Fault, NamedGrammar};
 use crate::limits::{MAX_EDGES, MAX_PLACES};
 use crate::{Candidate, Edge, Error, Graph, Heard, Position, Refusal};
+use std::borrow::Cow;
 
 /// Whether a text is a word graph: it has a line with two numbers and a word, which no text of slots can have, or it is a
 /// lattice of HTK.
@@ -33,6 +34,8 @@ struct Lines {
     reached: u32,
     /// The last place and where it stands, if the text has it.
     last: Option<(u32, Position)>,
+    /// Every edge as it is written, if that is asked for; then words that the grammar does not have are left out.
+    links: Option<Vec<Link>>,
 }
 
 impl UtteranceReader<'_> {
@@ -50,13 +53,27 @@ impl UtteranceReader<'_> {
 
     /// Reads a word graph of whole numbers.
     pub(super) fn read_plain_graph(&self, text: &str) -> Result<Graph, Error> {
-        let mut graph = Lines::default();
+        let (graph, last, _) = self.graph_lines(text, Lines::default())?;
+        Ok(Graph { places: last + 1, edges: graph.edges })
+    }
+
+    /// Reads the same as a lattice, with the words that the grammar does not have.
+    pub(super) fn graph_draft(&self, text: &str) -> Result<Draft, Error> {
+        let as_written = Lines { links: Some(Vec::new()), ..Lines::default() };
+        let (graph, last, end) = self.graph_lines(text, as_written)?;
+        let (times, links) = (vec![None; last as usize + 1], graph.links.unwrap_or_default());
+        Ok(Draft { times, links, ends: vec![(last, 0.0)], end_of_text: Some(end), ..Draft::default() })
+    }
+
+    /// Reads the lines of a graph; answers its last place and where the text ends, too.
+    fn graph_lines(&self, text: &str, mut graph: Lines) -> Result<(Lines, u32, Position), Error> {
         let mut end = Position { line: 1, column: 1 };
         for (before, line) in text.lines().enumerate() {
             end.line = before + 1;
             self.graph_line(&mut graph, &mut Tokens::new(line, end.line, &UTTERANCE))?;
         }
-        graph.finish(end)
+        let last = graph.last_place(end)?;
+        Ok((graph, last, end))
     }
 
     /// Reads what stands in a line, with semicolons between: edges, and the last place.
@@ -87,17 +104,23 @@ impl UtteranceReader<'_> {
         if to >= MAX_PLACES {
             return Err(tokens.fault(too_many("places", MAX_PLACES)));
         }
-        let word = match tokens.next()? {
-            Some(Token::Bare(word)) => self.number(word),
-            Some(Token::Quoted(word)) => self.number(&word),
+        let said = match tokens.next()? {
+            Some(Token::Bare(word)) => Cow::Borrowed(word),
+            Some(Token::Quoted(word)) => word,
             other => return tokens.expected("a word", other),
         };
-        let word = word.map_err(|fault| tokens.fault(fault))?;
+        let word = match graph.links {
+            Some(_) => self.known(&said),
+            None => self.number(&said).map_err(|fault| tokens.fault(fault))?,
+        };
         let (cost, behind) = match tokens.next()? {
             Some(Token::Bare(item)) => (weight(item, "cost").map_err(|fault| tokens.fault(fault))?, tokens.next()?),
             other @ (None | Some(Token::Mark(';'))) => (0, other),
             other => return tokens.expected("a cost", other),
         };
+        if let Some(links) = &mut graph.links {
+            links.push(Link { from, to, word: Some(said.into_owned()), cost: cost.into(), position: begin });
+        }
         graph.lay(from, to, word.map(|word| Candidate { word, cost }), begin).map(|()| behind)
     }
 }
@@ -129,18 +152,18 @@ impl Lines {
         }
     }
 
-    /// The graph of a text that ends there.
-    fn finish(self, end: Position) -> Result<Graph, Error> {
-        let Self { edges, reached, .. } = self;
+    /// The last place of a graph whose text ends there.
+    fn last_place(&self, end: Position) -> Result<u32, Error> {
+        let reached = self.reached;
         let (last, at) = self.last.unwrap_or((reached, end));
-        let fault = if edges.is_empty() {
+        let fault = if self.links.as_ref().map_or(self.edges.is_empty(), Vec::is_empty) {
             Fault::None { what: "edge", refusal: Refusal::UtteranceRange }
         } else if last >= MAX_PLACES {
             too_many("places", MAX_PLACES)
         } else if last < reached {
             Fault::EarlyEnd { reached }
         } else {
-            return Ok(Graph { places: last + 1, edges });
+            return Ok(last);
         };
         Err(Error::at(at, fault))
     }

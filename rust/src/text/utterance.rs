@@ -54,7 +54,8 @@ pub struct UtteranceReader<'a> {
     /// Refuse a lattice that a word graph has no room for in place of pruning it.
     pub exact: bool,
     /// Keep words that the grammar does not have, as [`UNKNOWN`](crate::lattice::UNKNOWN), in
-    /// [`recognised`](Self::recognised).
+    /// [`recognised`](Self::recognised). Those that would be left out otherwise are named as such all the same: no reading has
+    /// them.
     pub keep_unknown: bool,
 }
 

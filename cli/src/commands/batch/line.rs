@@ -27,9 +27,9 @@ impl<'a> Line<'a> {
         self.name.map_or(0, |name| name.chars().count() + 1)
     }
 
-    /// Begins its answer.
-    pub fn begin(&self, json: &mut Vec<u8>) {
-        self.begin_as(json, self.name);
+    /// Begins its answer, with its name or that of what was heard.
+    pub fn begin(&self, json: &mut Vec<u8>, own: Option<&str>) {
+        self.begin_as(json, self.name.or(own));
     }
 
     /// The name of a lattice of the file that it names: one of several has its own, and one alone the line's, or its own, or that

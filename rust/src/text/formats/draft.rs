@@ -124,16 +124,14 @@ impl Draft {
         if is_silence(word) {
             return Ok(Some(EPSILON));
         }
-        if reader.keep_unknown {
-            return Ok(Some(UNKNOWN));
+        if reader.drop_unknown && !dropped.iter().any(|known| known == word) {
+            dropped.push(word.to_owned());
         }
-        if reader.drop_unknown {
-            if !dropped.iter().any(|known| known == word) {
-                dropped.push(word.to_owned());
-            }
-            return Ok(None);
+        match (reader.keep_unknown, reader.drop_unknown) {
+            (true, _) => Ok(Some(UNKNOWN)),
+            (false, true) => Ok(None),
+            (false, false) => Err(Error::at(link.position, Fault::UnknownWord(word.to_owned()))),
         }
-        Err(Error::at(link.position, Fault::UnknownWord(word.to_owned())))
     }
 
     /// A word as it is said: without the number of its pronunciation, and if words are written out without capitals and the

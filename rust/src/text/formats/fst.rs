@@ -22,6 +22,11 @@ const FRAME: f64 = 0.01;
 /// The items of an arc: both states, two labels and a weight.
 const MOST_ITEMS: usize = 5;
 
+/// Whether a text has marks that stand in no FST.
+pub(super) fn has_other_marks(text: &str) -> bool {
+    text.contains(OTHER_MARKS)
+}
+
 /// Whether every line of a text can be one of an FST, and one is an arc.
 pub(super) fn is_fst(text: &str) -> bool {
     let is_line = |line: &str| {
@@ -36,7 +41,7 @@ pub(super) fn is_fst(text: &str) -> bool {
         }
     };
     let is_arc = |line: &str| line.split_whitespace().nth(2).is_some();
-    !text.contains(OTHER_MARKS) && text.lines().all(is_line) && text.lines().any(is_arc)
+    !has_other_marks(text) && text.lines().all(is_line) && text.lines().any(is_arc)
 }
 
 /// Whether a text is an FST that no plain word graph can be: it has a fraction, a label that says nothing, two labels on an arc,

@@ -152,7 +152,7 @@ impl UtteranceReader<'_> {
     /// ```
     pub fn read_heard(&self, text: &str) -> Result<Lattice, Error> {
         match self.read_plain(text) {
-            Some(plain) => Ok(Lattice { dropped: self.left_out(text), ..Lattice::from(plain?) }),
+            Some(plain) => plain,
             None => self.recognised_alone(text)?.reduce(self.keep, self.exact),
         }
     }
@@ -165,7 +165,7 @@ impl UtteranceReader<'_> {
     /// Reads all that a text has, of which only some formats have several.
     pub fn read_all_heard(&self, text: &str) -> Result<Vec<Lattice>, Error> {
         match self.read_plain(text) {
-            Some(plain) => Ok(vec![Lattice { dropped: self.left_out(text), ..Lattice::from(plain?) }]),
+            Some(plain) => plain.map(|plain| vec![plain]),
             None => self.recognised(text)?.iter().map(|recognised| recognised.reduce(self.keep, self.exact)).collect(),
         }
     }
@@ -187,7 +187,7 @@ impl UtteranceReader<'_> {
     /// Reads a text in one of the formats that take no lattice: slots, a network that is slots, or a plain word graph; nothing if
     /// it is another. If words that the grammar does not have are kept, a slot of such words is empty, and a graph with one is
     /// a lattice.
-    pub fn read_plain(&self, text: &str) -> Option<Result<Heard, Error>> {
+    pub fn read_plain(&self, text: &str) -> Option<Result<Lattice, Error>> {
         let text = without_mark(text);
         let format = self.format.unwrap_or_else(|| Format::of(text));
         if format == Format::Graph && self.keep_unknown {
@@ -205,7 +205,7 @@ impl UtteranceReader<'_> {
         // where states are numbered otherwise, and only there, it is OpenFst's
         let is_fst = || fst::is_fst(text) && fst::parse_openfst(text).and_then(|draft| draft.recognised(self)).is_ok();
         let is_other_fst = self.format.is_none() && fault.is_some_and(is_plain_fault) && is_fst();
-        (!is_wide && !is_other_fst).then_some(plain)
+        (!is_wide && !is_other_fst).then(|| Ok(Lattice { dropped: self.left_out(text), ..Lattice::from(plain?) }))
     }
 
     fn drafts(&self, text: &str) -> Result<Vec<Draft>, Error> {
@@ -213,6 +213,7 @@ impl UtteranceReader<'_> {
         match self.format.unwrap_or_else(|| Format::of(text)) {
             Format::Slots => self.slots_draft(text).map(one),
             Format::Network => Alignments::parse(text)?.draft(self).map(one),
+            Format::Graph if fst::has_other_marks(text) => self.graph_draft(text).map(Draft::of_plain).map(one),
             Format::Graph => fst::parse_openfst(text).map(Draft::of_plain).map(one),
             Format::OpenFst => fst::parse_openfst(text).map(one),
             Format::Slf => self.slf_draft(text).map(one),
@@ -225,7 +226,7 @@ impl UtteranceReader<'_> {
 }
 
 /// Whether a word is not known.
-fn is_unknown(plain: &Result<Heard, Error>) -> bool {
+fn is_unknown(plain: &Result<Lattice, Error>) -> bool {
     matches!(plain.as_ref().err().and_then(Error::fault), Some(Fault::UnknownWord(_)))
 }
 
