@@ -10,12 +10,13 @@ use packing::format::RULE_SECOND_AT;
 use packing::format::RULE_WEIGHT_AT;
 ghost use mathlib.Core.Path.{_≡_};
 ghost use Prim.Native.Nat.{_<_};
-ghost use lib.ListN.{getD, set};
+ghost use Rattle.bits.specs.Width.{u32Values};
+ghost use lib.ListN.{length, replicate, getD, set};
 ghost use Rattle.packing.specs.Flat.{ruleAt};
 
 // A number in the width of an index.
 pub fn wide(x: u32) -> usize
-    ensures { λ r. ⌜ (r ≡ x) × (r < 4294967296) ⌝ }
+    ensures { λ r. ⌜ (r ≡ x) × (r < u32Values) ⌝ }
 {
     x as usize
 }
@@ -29,7 +30,7 @@ pub fn narrow_at(s: &[u32], at: usize) -> u32
 
 // The same in the width of an index.
 pub fn number_at(s: &[u32], at: usize) -> usize
-    ensures { λ r. ⌜ (r ≡ getD (now (s .entry)) at 0) × (r < 4294967296) ⌝ }
+    ensures { λ r. ⌜ (r ≡ getD (now (s .entry)) at 0) × (r < u32Values) ⌝ }
 {
     wide(narrow_at(s, at))
 }
@@ -43,9 +44,19 @@ pub fn store(t: &mut [u32], at: usize, x: u32)
     }
 }
 
+// Makes every number 0.
+pub fn zero(t: &mut [u32])
+    ensures { λ _. ⌜ now (t .exit) ≡ replicate (length (now (t .entry))) 0 ⌝ }
+{
+    let n = t.len();
+    for x in 0..n {
+        t[x] = 0;
+    }
+}
+
 // Rule r of an array of five numbers a rule.
 pub fn rule_at(rules: &[u32], r: usize) -> Rule
-    requires { ⌜ r < 4294967296 ⌝ }
+    requires { ⌜ r < u32Values ⌝ }
     ensures { λ x. ⌜ x ≡ ruleAt (now (rules .entry)) r ⌝ }
 {
     let at = NUMBERS_PER_RULE * r;

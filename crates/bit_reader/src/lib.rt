@@ -2,6 +2,7 @@
 use bits::MAX_FIELD_WIDTH;
 ghost use mathlib.Core.Path.{_≡_};
 ghost use Prim.Native.Nat.{_+_, _*_, _^_, _≤_, _<_};
+ghost use Rattle.bits.specs.Width.{u32Values};
 ghost use lib.ListN.{length};
 ghost use Rattle.bits.specs.Bits.{field, ended};
 
@@ -39,7 +40,7 @@ fn two_bytes(s: &[u8], first: usize) -> usize
 // The number in four bytes from byte `first`, without a loop.
 fn four_bytes(s: &[u8], first: usize) -> usize
     requires { ⌜ first + 4 ≤ length (now s) ⌝ }
-    ensures { λ r. ⌜ (r ≡ field (now (s .entry)) (8 * first) 32) × (r < 4294967296) ⌝ }
+    ensures { λ r. ⌜ (r ≡ field (now (s .entry)) (8 * first) 32) × (r < u32Values) ⌝ }
 {
     two_bytes(s, first) * TWO_BYTES + two_bytes(s, first + 2)
 }

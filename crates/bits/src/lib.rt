@@ -11,8 +11,10 @@ pub const MAX_BELOW: usize = 256;
 
 pub const MAX_WIDTH: usize = 8;
 
-// The bits of a u32.
+// The bits of a u32, and how many values it has.
 const BITS: u32 = 32;
+
+pub const U32_VALUES: usize = 4294967296;
 
 // The lower `width` bits of a number.
 pub fn lower(value: u32, width: usize) -> u32

@@ -2,7 +2,10 @@
 // table cleared.
 pub mod steps;
 
+use arrays::zero;
 use chart_clearing::clear;
+use chart_entries::first_missing;
+use chart_entries::price_at;
 use chart_index::INDEX_NUMBERS;
 use chart_index::make_index;
 use chart_keys::WEIGHT_UNIT;
@@ -10,10 +13,7 @@ use chart_search::search;
 use chart_table::ENTRY_NUMBERS;
 use chart_table::Layout;
 use chart_table::cell_number;
-use chart_table::first_missing;
-use chart_table::price_at;
 use chart_table::root;
-use chart_table::zero;
 use chart_trace::trace_back;
 ghost use mathlib.Core.Path.{_≡_};
 ghost use Prim.Native.Nat.{_-_, _*_, _/_, _<_, _≤_};

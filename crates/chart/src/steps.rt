@@ -1,13 +1,13 @@
 // The ranks of the root one by one, in a table that comes back as it was left, and what was written over put back.
 use crate::root_weight;
 use arrays::wide;
+use chart_entries::price_at;
 use chart_index::make_index;
 use chart_journal::put_back;
 use chart_search::next_of_root;
 use chart_table::Layout;
 use chart_table::Part;
 use chart_table::cell_number;
-use chart_table::price_at;
 use chart_table::root;
 use chart_trace::checked::Scope;
 use chart_trace::checked::Traced;

@@ -1,9 +1,9 @@
 // Clearing: the entries of the ranks that were found made 0.
 use arrays::store;
 use arrays::wide;
-use chart_table::COUNTS;
+use chart_entries::COUNTS;
+use chart_entries::beside_at;
 use chart_table::Layout;
-use chart_table::beside_at;
 use chart_table::entry_of;
 ghost use mathlib.Core.Bool.{true};
 ghost use mathlib.Core.Path.{_≡_};

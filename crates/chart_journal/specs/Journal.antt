@@ -4,6 +4,7 @@ use mathlib.Core.List.{List}
 use Prim.Native.Nat.{ℕ, zero, suc, _+_, _*_, _/_, _%_, _<_}
 use lib.Dec.{ltb}
 use lib.ListN.{getD, set}
+use Rattle.bits.specs.Width.{u32Values}
 use Rattle.bits.specs.Bits.{pick}
 use Rattle.chart_journal.specs.declared.EntryNumbers.{EntryNumbers}
 use Rattle.chart_journal.specs.declared.Places.{Places}
@@ -11,6 +12,10 @@ use Rattle.chart_journal.specs.declared.Places.{Places}
 -- the most entries that are kept
 abbrev pub mostKept : ℕ
 mostKept = 188
+
+-- a bound of where an entry of the table starts
+abbrev pub entryBound : ℕ
+entryBound = 17592186044416
 
 -- where the kept entry x stands
 abbrev pub keptAt : ℕ → ℕ
@@ -23,7 +28,7 @@ entryNumbers t at = record { first = getD t at 0; second = getD t (at + 1) 0; th
 -- where it starts and its numbers, written to a place of the journal k
 unfoldable pub writeKept : (k : List ℕ) → (to at : ℕ) → EntryNumbers → List ℕ
 writeKept k to at e =
-    set (set (set (set (set (set k to (at % 4294967296)) (to + 1) (at / 4294967296)) (to + 2) (e .first)) (to + 3) (e .second)) (to + 4) (e .third)) (to + 5)
+    set (set (set (set (set (set k to (at % u32Values)) (to + 1) (at / u32Values)) (to + 2) (e .first)) (to + 3) (e .second)) (to + 4) (e .third)) (to + 5)
     (e .fourth)
 
 -- the entry that starts at a place of the table t is kept in the journal k, if that has room
@@ -35,10 +40,10 @@ keepEntry t k at =
 
 -- four places that entries start at
 pub record Below (at : Places) : Type 0 where
-  pub first : at .first < 17592186044416
-  pub second : at .second < 17592186044416
-  pub third : at .third < 17592186044416
-  pub fourth : at .fourth < 17592186044416
+  pub first : at .first < entryBound
+  pub second : at .second < entryBound
+  pub third : at .third < entryBound
+  pub fourth : at .fourth < entryBound
 
 -- the entries there, written one behind another, and kept
 unfoldable pub writeFour : (t k : List ℕ) → ℕ → Places → List ℕ
@@ -53,7 +58,7 @@ keepFour t k at = keepEntry t (keepEntry t (keepEntry t (keepEntry t k (at .firs
 unfoldable pub restoreEntry : (k : List ℕ) → ℕ → List ℕ → List ℕ
 restoreEntry k x t =
     let from = keptAt x in
-    let at = getD k (from + 1) 0 * 4294967296 + getD k from 0 in
+    let at = getD k (from + 1) 0 * u32Values + getD k from 0 in
     set (set (set (set t (at + 0) (getD k (from + 2) 0)) (at + 1) (getD k (from + 3) 0)) (at + 2) (getD k (from + 4) 0)) (at + 3) (getD k (from + 5) 0)
 
 -- the first n are, the last of them first; and all of them

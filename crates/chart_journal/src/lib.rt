@@ -3,13 +3,12 @@
 use arrays::narrow_at;
 use arrays::number_at;
 use arrays::store;
+use bits::U32_VALUES;
 ghost use mathlib.Core.Path.{_≡_};
 ghost use Prim.Native.Nat.{_+_, _<_};
+ghost use Rattle.bits.specs.Width.{u32Values};
 ghost use lib.ListN.{length, set};
-ghost use Rattle.chart_journal.specs.Journal.{entryNumbers, writeKept, keepEntry, Below, writeFour, keepFour, restoreEntry, putBack};
-
-// The numbers of 32 bits.
-const NUMBERS: usize = 4294967296;
+ghost use Rattle.chart_journal.specs.Journal.{entryBound, entryNumbers, writeKept, keepEntry, Below, writeFour, keepFour, restoreEntry, putBack};
 
 // The most entries that are kept.
 pub const MOST_KEPT: usize = 188;
@@ -32,7 +31,7 @@ struct EntryNumbers {
 
 // The numbers of the entry that starts at a place of the table. One test suffices where all four stand in it.
 fn numbers_at(t: &[u32], at: usize) -> EntryNumbers
-    requires { ⌜ at < 17592186044416 ⌝ }
+    requires { ⌜ at < entryBound ⌝ }
     ensures { λ e. ⌜ e ≡ entryNumbers (now (t .entry)) at ⌝ }
 {
     if at + 3 < t.len() {
@@ -53,11 +52,11 @@ fn numbers_at(t: &[u32], at: usize) -> EntryNumbers
 
 // Writes where an entry starts and its numbers to a place of the journal that has room for them.
 fn write_within(kept: &mut [u32], to: usize, at: usize, entry: EntryNumbers)
-    requires { ⌜ (to + 5 < length (now kept)) × (at < 17592186044416) ⌝ }
+    requires { ⌜ (to + 5 < length (now kept)) × (at < entryBound) ⌝ }
     ensures { λ _. ⌜ now (kept .exit) ≡ writeKept (now (kept .entry)) to at entry ⌝ }
 {
-    kept[to] = (at % NUMBERS) as u32;
-    kept[to + 1] = (at / NUMBERS) as u32;
+    kept[to] = (at % U32_VALUES) as u32;
+    kept[to + 1] = (at / U32_VALUES) as u32;
     kept[to + 2] = entry.first;
     kept[to + 3] = entry.second;
     kept[to + 4] = entry.third;
@@ -66,15 +65,15 @@ fn write_within(kept: &mut [u32], to: usize, at: usize, entry: EntryNumbers)
 
 // The same to any place of the journal.
 fn write_kept(kept: &mut [u32], to: usize, at: usize, entry: EntryNumbers)
-    requires { ⌜ (to < 65536) × (at < 17592186044416) ⌝ }
+    requires { ⌜ (to < 65536) × (at < entryBound) ⌝ }
     ensures { λ _. ⌜ now (kept .exit) ≡ writeKept (now (kept .entry)) to at entry ⌝ }
 {
     if to + KEPT_NUMBERS - 1 < kept.len() {
         write_within(kept, to, at, entry);
         return;
     }
-    store(kept, to, (at % NUMBERS) as u32);
-    store(kept, to + 1, (at / NUMBERS) as u32);
+    store(kept, to, (at % U32_VALUES) as u32);
+    store(kept, to + 1, (at / U32_VALUES) as u32);
     store(kept, to + 2, entry.first);
     store(kept, to + 3, entry.second);
     store(kept, to + 4, entry.third);
@@ -83,7 +82,7 @@ fn write_kept(kept: &mut [u32], to: usize, at: usize, entry: EntryNumbers)
 
 // Keeps the entry that starts at a place of the table.
 fn keep_entry(t: &[u32], kept: &mut [u32], at: usize)
-    requires { ⌜ at < 17592186044416 ⌝ }
+    requires { ⌜ at < entryBound ⌝ }
     ensures { λ _. ⌜ now (kept .exit) ≡ keepEntry (now (t .entry)) (now (kept .entry)) at ⌝ }
 {
     let n = number_at(&kept[..], 0);
@@ -103,7 +102,7 @@ pub struct Places {
 
 // Writes the entry that starts at a place of the table to a place of the journal that has room for it.
 fn copy_entry(t: &[u32], kept: &mut [u32], to: usize, at: usize)
-    requires { ⌜ (to + 5 < length (now kept)) × (at < 17592186044416) ⌝ }
+    requires { ⌜ (to + 5 < length (now kept)) × (at < entryBound) ⌝ }
     ensures { λ _. ⌜ now (kept .exit) ≡ writeKept (now (kept .entry)) to at (entryNumbers (now (t .entry)) at) ⌝ }
 {
     write_within(kept, to, at, numbers_at(t, at));
@@ -161,11 +160,11 @@ fn store_behind(t: &mut [u32], at: usize, behind: usize, x: u32)
 
 // Puts back the kept entry x.
 fn restore_entry(t: &mut [u32], kept: &[u32], x: usize)
-    requires { ⌜ x < 4294967296 ⌝ }
+    requires { ⌜ x < u32Values ⌝ }
     ensures { λ _. ⌜ now (t .exit) ≡ restoreEntry (now (kept .entry)) x (now (t .entry)) ⌝ }
 {
     let from = 1 + KEPT_NUMBERS * x;
-    let at = number_at(kept, from + 1) * NUMBERS + number_at(kept, from);
+    let at = number_at(kept, from + 1) * U32_VALUES + number_at(kept, from);
     store_behind(t, at, 0, narrow_at(kept, from + 2));
     store_behind(t, at, 1, narrow_at(kept, from + 3));
     store_behind(t, at, 2, narrow_at(kept, from + 4));

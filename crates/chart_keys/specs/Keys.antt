@@ -3,6 +3,7 @@
 -- Nobody need believe this page: the theorems of chart_theory join it to the derivations. Assumes nothing.
 use Prim.Native.Nat.{ℕ, _+_, _-_, _*_, _/_, _%_, _<_}
 use lib.Dec.{ltb, eqb}
+use Rattle.bits.specs.Width.{u32Values}
 use Rattle.bits.specs.Bits.{pick}
 use Rattle.chart_keys.specs.declared.BackPointer.{BackPointer}
 use Rattle.chart_keys.specs.declared.Key.{Key}
@@ -57,7 +58,7 @@ backPointer x = back (ruleDigit x) (splitDigit x) (leftDigit x) (rightDigit x)
 
 -- what its numbers are bounded by
 pub record Digits (b : BackPointer) : Type 0 where
-  pub rule : b .rule < 4294967296
+  pub rule : b .rule < u32Values
   pub split : b .split < splits
   pub left : b .left < digits
   pub right : b .right < digits

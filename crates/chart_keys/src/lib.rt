@@ -4,6 +4,7 @@ pub mod seed_numbers;
 use arrays::wide;
 ghost use mathlib.Core.Path.{_≡_};
 ghost use Prim.Native.Nat.{_+_, _*_, _<_, _≤_};
+ghost use Rattle.bits.specs.Width.{u32Values};
 ghost use lib.Dec.{ltb};
 ghost use Rattle.chart_keys.specs.Keys.{
   splits,
@@ -65,7 +66,7 @@ pub fn with_ranks(b: BackPointer, left: usize, right: usize) -> BackPointer
 
 // A back pointer as one number.
 pub fn back_number(b: BackPointer) -> usize
-    requires { ⌜ (b .rule < 4294967296) × (b .split < splits) × (b .left < 4294967296) × (b .right ≤ digits) ⌝ }
+    requires { ⌜ (b .rule < u32Values) × (b .split < splits) × (b .left < u32Values) × (b .right ≤ digits) ⌝ }
     ensures { λ x. ⌜ (x ≡ backNumber b) × (x < 18014398509481984) ⌝ }
 {
     ((b.rule * SPLITS + b.split) * DIGITS + b.left) * DIGITS + b.right
@@ -73,7 +74,7 @@ pub fn back_number(b: BackPointer) -> usize
 
 // The back pointer that a number stands for.
 pub fn back_pointer(x: usize) -> BackPointer
-    requires { ⌜ x < 4294967296 ⌝ }
+    requires { ⌜ x < u32Values ⌝ }
     ensures { λ b. ⌜ (b ≡ backPointer x) × Digits b ⌝ }
 {
     BackPointer {
@@ -94,7 +95,7 @@ fn part_price(x: usize) -> usize
 
 // The price plus 1 of a leaf: a rule of weight w and a word's cost.
 pub fn leaf_price(w: u32, cost: usize) -> usize
-    requires { ⌜ cost < 4294967296 ⌝ }
+    requires { ⌜ cost < u32Values ⌝ }
     ensures { λ p. ⌜ p ≡ leafPrice w cost ⌝ }
 {
     (wide(w) + cost) * WEIGHT_UNIT + cost + 1

@@ -26,6 +26,7 @@ use packing::format::NUMBERS_PER_RULE;
 use packing::format::RULE_FIRST_AT;
 ghost use mathlib.Core.Path.{_≡_};
 ghost use Prim.Native.Nat.{_+_, _*_, _<_, _≤_};
+ghost use Rattle.bits.specs.Width.{u32Values};
 ghost use lib.ListN.{getD};
 ghost use Rattle.packing.specs.Flat.{ruleAt};
 ghost use Rattle.chart_keys.specs.Keys.{keyNumber, noKey};
@@ -39,7 +40,7 @@ const FILTER_BITS: u32 = 64;
 
 // The best so far and the leaf of an edge by a rule, if that is a rule of the edge's word.
 fn rule_leaf(rules: &[u32], edges: &[u32], e: usize, r: usize, floor: Key, best: Key) -> Key
-    requires { ⌜ (e < 4294967296) × (r < 4294967296) ⌝ }
+    requires { ⌜ (e < u32Values) × (r < u32Values) ⌝ }
     ensures { λ x. ⌜ keyNumber x ≡ wordLeaf (now (edges .entry)) e (keyNumber floor) (keyNumber best) r (ruleAt (now (rules .entry)) r) ⌝ }
 {
     let rule = rule_at(rules, r);
@@ -73,7 +74,7 @@ fn word_leaf(
     floor: Key,
     best: Key,
 ) -> Key
-    requires { ⌜ (e < 4294967296) × (r < 4294967296) × (heard ≡ getD (now edges) (4 * e + 2) 0) ⌝ }
+    requires { ⌜ (e < u32Values) × (r < u32Values) × (heard ≡ getD (now edges) (4 * e + 2) 0) ⌝ }
     ensures { λ x. ⌜ keyNumber x ≡ wordLeaf (now (edges .entry)) e (keyNumber floor) (keyNumber best) r (ruleAt (now (rules .entry)) r) ⌝ }
 {
     let word = narrow_at(rules, NUMBERS_PER_RULE * r + RULE_FIRST_AT);
@@ -93,7 +94,7 @@ fn edge_leaves(
     floor: Key,
     best: Key,
 ) -> Key
-    requires { ⌜ e < 4294967296 ⌝ }
+    requires { ⌜ e < u32Values ⌝ }
     ensures { λ x. ⌜ keyNumber x ≡ edgeLeaves (now (rules .entry)) (now (edges .entry)) (now (index .entry)) c (keyNumber floor) (keyNumber best) e ⌝ }
 {
     if number_at(edges, NUMBERS_PER_EDGE * e + EDGE_TO_AT) != c.to {
@@ -119,7 +120,7 @@ fn word_bit(word: u32) -> u64
 
 // A filter of the words that the rules of a head have.
 fn word_filter(rules: &[u32], index: &[u32], head: usize) -> u64
-    requires { ⌜ head < 4294967296 ⌝ }
+    requires { ⌜ head < u32Values ⌝ }
     ensures { λ r. ⌜ WordFilter (now (rules .entry)) (now (index .entry)) head r ⌝ }
 {
     let start = class_start(index, WORD_BASE, head);
@@ -142,7 +143,7 @@ fn filtered_leaves(
     e: usize,
     range: Range,
 ) -> Key
-    requires { ⌜ (e < 4294967296) × (WordFilter (now rules) (now index) (c .head .0) filter) ⌝ }
+    requires { ⌜ (e < u32Values) × (WordFilter (now rules) (now index) (c .head .0) filter) ⌝ }
     ensures { λ x. ⌜ keyNumber x ≡ edgeLeaves (now (rules .entry)) (now (edges .entry)) (now (index .entry)) c (keyNumber (range .floor))
         (keyNumber (range .best)) e ⌝ }
 {
@@ -194,7 +195,7 @@ fn masked_leaves(
     e: usize,
     best: Key,
 ) -> Key
-    requires { ⌜ (e < 4294967296) × (c .head .0 ≤ lastPlace) × (Worded (now rules) (now index) (now masks) (c .head .0)) ⌝ }
+    requires { ⌜ (e < u32Values) × (c .head .0 ≤ lastPlace) × (Worded (now rules) (now index) (now masks) (c .head .0)) ⌝ }
     ensures { λ x. ⌜ keyNumber x ≡ edgeLeaves (now (rules .entry)) (now (edges .entry)) (now (index .entry)) c 0 (keyNumber best) e ⌝ }
 {
     if lacks(edge_heads(masks, edges, e, c.to), wide(c.head.0)) {

@@ -24,6 +24,7 @@ use packing::format::RULE_SECOND_AT;
 ghost use mathlib.Core.Bool.{true, false};
 ghost use mathlib.Core.Path.{_≡_};
 ghost use Prim.Native.Nat.{ℕ, _+_, _<_, _≤_};
+ghost use Rattle.bits.specs.Width.{u32Values};
 ghost use lib.ListN.{length, getD};
 ghost use Rattle.chart_index.specs.Index.{indexNumbers, classEnd};
 ghost use Rattle.chart_table.specs.Table.{lastPlace};
@@ -232,7 +233,7 @@ pub fn mark_rules(masks: &mut [u32], rules: &[u32], index: &[u32], d: Layout)
 
 // The heads that have the word of an edge, if that reaches a place.
 pub fn edge_heads(masks: &[u32], edges: &[u32], e: usize, to: usize) -> u32
-    requires { ⌜ e < 4294967296 ⌝ }
+    requires { ⌜ e < u32Values ⌝ }
     ensures { λ r. ⌜ EdgeHeads (now (masks .entry)) (now (edges .entry)) e to r ⌝ }
 {
     if number_at(edges, NUMBERS_PER_EDGE * e + EDGE_TO_AT) != to {

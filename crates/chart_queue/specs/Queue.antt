@@ -4,6 +4,7 @@ use mathlib.Core.List.{List}
 use mathlib.Core.Bool.{Bool, true, false}
 use Prim.Native.Nat.{ℕ, _+_, _-_, _*_, _/_, _%_}
 use lib.Dec.{ltb, eqb}
+use Rattle.bits.specs.Width.{u32Values}
 use Rattle.bits.specs.Bits.{pick}
 use Rattle.packing.specs.Loop.{iter}
 use Rattle.chart_keys.specs.declared.BackPointer.{BackPointer}
@@ -55,8 +56,8 @@ keepInitial t d number back =
 -- a key that is met as a rank is looked for is written at place y
 unfoldable pub putQueued : List ℕ → Layout → ℕ → ℕ → ℕ → ℕ → List ℕ
 putQueued t d number rank y key =
-    putBeside (keepInitial t d number (key % keyUnit % 4294967296)) d number (y + 1)
-    (key / keyUnit * 1024 + tagOf t d number rank (key % keyUnit % 4294967296))
+    putBeside (keepInitial t d number (key % keyUnit % u32Values)) d number (y + 1)
+    (key / keyUnit * 1024 + tagOf t d number rank (key % keyUnit % u32Values))
 
 unfoldable pub moveQueued : List ℕ → Layout → ℕ → ℕ → ℕ → List ℕ
 moveQueued t d number from y = putBeside t d number (y + 1) (besideAt t d number (from + 1))

@@ -2,6 +2,11 @@
 // how many. A cell is given by its number. There is no room for a candidate's back pointer: it is given by a tag, the rank that
 // was the last found when the candidate was met, and how its back pointer comes from that rank's. Of the candidates that follow
 // none at most one is queued; its back pointer stands beside the first rank.
+use chart_entries::COUNTS;
+use chart_entries::back_at;
+use chart_entries::beside_at;
+use chart_entries::put_beside;
+use chart_entries::put_key;
 use chart_journal::Places;
 use chart_journal::keep_four;
 use chart_keys::BackPointer;
@@ -9,15 +14,11 @@ use chart_keys::Key;
 use chart_keys::back_pointer;
 use chart_keys::before;
 use chart_keys::is_some;
-use chart_table::COUNTS;
 use chart_table::Layout;
-use chart_table::back_at;
-use chart_table::beside_at;
 use chart_table::entry_of;
-use chart_table::put_beside;
-use chart_table::put_key;
 ghost use mathlib.Core.Path.{_≡_};
 ghost use Prim.Native.Nat.{_+_, _*_, _/_, _<_, _≤_};
+ghost use Rattle.bits.specs.Width.{u32Values};
 ghost use Rattle.chart_keys.specs.Keys.{prices, keyNumber};
 ghost use Rattle.chart_table.specs.Table.{mostRanks, cellBound, Sized};
 ghost use Rattle.chart_queue.specs.Queue.{
@@ -79,7 +80,7 @@ pub fn is_initial(b: BackPointer) -> bool
 
 // How a back pointer comes from that of the last rank found, and the back pointer again.
 fn code_of(last: usize, back: usize) -> usize
-    requires { ⌜ last < 4294967296 ⌝ }
+    requires { ⌜ last < u32Values ⌝ }
     ensures { λ r. ⌜ (r ≡ codeOf last back) × (r < 4) ⌝ }
 {
     if back == last + NEXT_RIGHT {
@@ -95,7 +96,7 @@ fn code_of(last: usize, back: usize) -> usize
 }
 
 fn shifted(last: usize, code: usize) -> usize
-    requires { ⌜ last < 4294967296 ⌝ }
+    requires { ⌜ last < u32Values ⌝ }
     ensures { λ r. ⌜ r ≡ shifted last code ⌝ }
 {
     if code == 0 {
@@ -112,7 +113,7 @@ fn shifted(last: usize, code: usize) -> usize
 
 // The tag of a candidate that is met as a rank is looked for.
 fn tag_of(t: &[u32], d: Layout, number: usize, rank: usize, back: usize) -> usize
-    requires { ⌜ (Sized d) × (number < cellBound) × (0 < rank) × (rank ≤ mostRanks) × (back < 4294967296) ⌝ }
+    requires { ⌜ (Sized d) × (number < cellBound) × (0 < rank) × (rank ≤ mostRanks) × (back < u32Values) ⌝ }
     ensures { λ r. ⌜ (r ≡ tagOf (now (t .entry)) d number rank back) × (r < tags) ⌝ }
 {
     if is_initial(back_pointer(back)) {
@@ -164,7 +165,7 @@ fn queue_length(t: &[u32], d: Layout, number: usize) -> usize
 
 // Keeps the back pointer of a candidate that follows none.
 fn keep_initial(t: &mut [u32], d: Layout, number: usize, back: usize)
-    requires { ⌜ (Sized d) × (number < cellBound) × (back < 4294967296) ⌝ }
+    requires { ⌜ (Sized d) × (number < cellBound) × (back < u32Values) ⌝ }
     ensures { λ _. ⌜ now (t .exit) ≡ keepInitial (now (t .entry)) d number back ⌝ }
 {
     if is_initial(back_pointer(back)) {

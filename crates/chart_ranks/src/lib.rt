@@ -1,6 +1,9 @@
 // One rank of a cell written into the work table, from what the table has of it and of its parts.
 mod selection;
 
+use chart_entries::back_at;
+use chart_entries::price_at;
+use chart_entries::put_key;
 use chart_keys::BackPointer;
 use chart_keys::Key;
 use chart_keys::PRICES;
@@ -13,10 +16,7 @@ use chart_seeds::first_seeds;
 use chart_table::Cell;
 use chart_table::Layout;
 use chart_table::Part;
-use chart_table::back_at;
 use chart_table::cell_number;
-use chart_table::price_at;
-use chart_table::put_key;
 use selection::replacement;
 use selection::successors;
 ghost use mathlib.Core.Path.{_≡_};

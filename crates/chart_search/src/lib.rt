@@ -1,5 +1,7 @@
 // The search: the ranked trees of every cell, found one after another in a lent work table.
 use arrays::rule_at;
+use chart_entries::back_at;
+use chart_entries::price_at;
 use chart_keys::BackPointer;
 use chart_keys::back_pointer;
 use chart_leaves::first_leaf;
@@ -13,11 +15,9 @@ use chart_ranks::next_rank;
 use chart_table::Cell;
 use chart_table::Layout;
 use chart_table::Part;
-use chart_table::back_at;
 use chart_table::cell_number;
 use chart_table::left_part;
 use chart_table::of_head;
-use chart_table::price_at;
 use chart_table::right_part;
 use chart_table::root;
 use packing::Rule;

@@ -5,6 +5,7 @@ use arrays::wide;
 use chart_candidates::PairRule;
 use chart_candidates::Range;
 use chart_candidates::pair_key;
+use chart_entries::price_within;
 use chart_index::PAIR_BASE;
 use chart_index::class_end;
 use chart_index::class_start;
@@ -25,7 +26,6 @@ use chart_table::Layout;
 use chart_table::cell_number;
 use chart_table::entry_of;
 use chart_table::left_part;
-use chart_table::price_within;
 use chart_table::right_part;
 use packing::Rule;
 use packing::Sym;
@@ -37,6 +37,7 @@ use packing::format::RULE_SECOND_AT;
 ghost use mathlib.Core.Path.{_≡_};
 ghost use mathlib.Core.Bool.{true, false};
 ghost use Prim.Native.Nat.{_+_, _-_, _*_, _<_, _≤_};
+ghost use Rattle.bits.specs.Width.{u32Values};
 ghost use lib.ListN.{length};
 ghost use Rattle.packing.specs.Flat.{ruleAt};
 ghost use Rattle.chart_keys.specs.Keys.{back, keyNumber, noKey};
@@ -60,7 +61,7 @@ fn seed(r: usize, split: usize) -> BackPointer
 
 // The best so far and the first with the first of a pair rule's parts, for each split.
 fn split_seeds_anywhere(t: &[u32], d: Layout, rule: PairRule, c: Cell, floor: Key, best: Key) -> Key
-    requires { ⌜ (InTable d c) × (rule .number < 4294967296) ⌝ }
+    requires { ⌜ (InTable d c) × (rule .number < u32Values) ⌝ }
     ensures { λ x. ⌜ keyNumber x ≡ splitSeeds (now (t .entry)) d rule c (keyNumber floor) (keyNumber best) ⌝ }
 {
     let mut so_far = best;
@@ -112,7 +113,7 @@ fn split_seeds_within(t: &[u32], d: Layout, rule: PairRule, c: Cell, floor: Key,
 
 // The same: no part's entry stands behind that of the last split.
 fn split_seeds(t: &[u32], d: Layout, rule: PairRule, c: Cell, floor: Key, best: Key) -> Key
-    requires { ⌜ (InTable d c) × (rule .number < 4294967296) ⌝ }
+    requires { ⌜ (InTable d c) × (rule .number < u32Values) ⌝ }
     ensures { λ x. ⌜ keyNumber x ≡ splitSeeds (now (t .entry)) d rule c (keyNumber floor) (keyNumber best) ⌝ }
 {
     if c.from + 1 < c.to {
@@ -134,7 +135,7 @@ fn split_seeds(t: &[u32], d: Layout, rule: PairRule, c: Cell, floor: Key, best: 
 
 // The same for rule r, if it is a pair rule.
 fn rule_seeds(t: &[u32], d: Layout, rules: &[u32], c: Cell, r: usize, floor: Key, best: Key) -> Key
-    requires { ⌜ (InTable d c) × (r < 4294967296) ⌝ }
+    requires { ⌜ (InTable d c) × (r < u32Values) ⌝ }
     ensures { λ x. ⌜ keyNumber x ≡ ruleSeeds (now (t .entry)) d c (keyNumber floor) (keyNumber best) r (ruleAt (now (rules .entry)) r) ⌝ }
 {
     let rule = rule_at(rules, r);
@@ -154,7 +155,7 @@ fn rule_seeds(t: &[u32], d: Layout, rules: &[u32], c: Cell, r: usize, floor: Key
 
 // Whether the parts of rule r can be found in a cell. Its symbols are looked at before it is taken apart.
 fn parts_meet(masks: &[u32], d: Layout, rules: &[u32], c: Cell, r: usize) -> bool
-    requires { ⌜ (InTable d c) × (r < 4294967296) ⌝ }
+    requires { ⌜ (InTable d c) × (r < u32Values) ⌝ }
     ensures { λ x. ⌜ (x ≡ false → RuleApart (now (masks .entry)) d (now (rules .entry)) c r) ⌝ }
 {
     let at = NUMBERS_PER_RULE * r;
@@ -176,7 +177,7 @@ fn masked_seeds(
     r: usize,
     range: Range,
 ) -> Key
-    requires { ⌜ (InTable d c) × (r < 4294967296) × (Covered (now masks) (now t) d) × (keyNumber (range .best) ≤ noKey) ⌝ }
+    requires { ⌜ (InTable d c) × (r < u32Values) × (Covered (now masks) (now t) d) × (keyNumber (range .best) ≤ noKey) ⌝ }
     ensures { λ x. ⌜ keyNumber x ≡ ruleSeeds (now (t .entry)) d c (keyNumber (range .floor)) (keyNumber (range .best)) r (ruleAt (now (rules .entry)) r) ⌝ }
 {
     if parts_meet(masks, d, rules, c, r) {

@@ -1,6 +1,3 @@
--- Bounds of the layout, neighbouring cells, and zeros.
+-- Bounds of the layout, and neighbouring cells.
 pub mod Cells
 pub mod Places
-pub mod Zeros
-pub mod Keys
-pub mod Missing

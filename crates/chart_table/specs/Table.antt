@@ -6,6 +6,7 @@ use mathlib.Core.List.{List}
 use Prim.Native.Nat.{ℕ, zero, suc, _+_, _-_, _*_, _/_, _%_, _≤_, _<_}
 use lib.Dec.{ltb, eqb}
 use lib.ListN.{getD, set}
+use Rattle.bits.specs.Width.{u32Values}
 use Rattle.bits.specs.Bits.{pick}
 use Rattle.packing.specs.Meaning.{symbolOf}
 use Rattle.packing.specs.Loop.{iter}
@@ -14,7 +15,7 @@ use Rattle.chart_keys.specs.Keys.{keyUnit, noKey}
 use Rattle.chart_table.specs.declared.Cell.{Cell}
 use Rattle.chart_table.specs.declared.Layout.{Layout}
 
--- the last place that a span may reach, the most ranks that are kept of a cell, and a bound of the cells' numbers
+-- the last place that a span may reach, the most ranks that are kept of a cell, and bounds of the cells' numbers and of where an entry starts
 abbrev pub lastPlace : ℕ
 lastPlace = 31
 
@@ -23,6 +24,9 @@ mostRanks = 256
 
 abbrev pub cellBound : ℕ
 cellBound = 8589934592
+
+abbrev pub entryBound : ℕ
+entryBound = 17592186044416
 
 -- a head over a span; the parts of a cell that is split at a place; the cell of the start symbol over all places
 abbrev pub cell : Sym → ℕ → ℕ → Cell
@@ -48,7 +52,7 @@ entryOf d number rank = pick (eqb rank 0) (number * 4) ((d .cells + number * (d 
 
 -- the price plus 1 is the first number and the lower 11 bits of the second
 abbrev pub priceOf : ℕ → ℕ → ℕ
-priceOf low high = high % 2048 * 4294967296 + low
+priceOf low high = high % 2048 * u32Values + low
 
 abbrev pub priceIn : List ℕ → ℕ → ℕ
 priceIn t at = priceOf (getD t at 0) (getD t (at + 1) 0)
@@ -64,20 +68,20 @@ abbrev pub besides : ℕ
 besides = 9007199254740992
 
 unfoldable pub besideAt : List ℕ → Layout → ℕ → ℕ → ℕ
-besideAt t d number rank = getD t (entryOf d number rank + 1) 0 / 2048 * 4294967296 + getD t (entryOf d number rank + 3) 0
+besideAt t d number rank = getD t (entryOf d number rank + 1) 0 / 2048 * u32Values + getD t (entryOf d number rank + 3) 0
 
 -- each is written without the other
 unfoldable pub putBeside : List ℕ → Layout → ℕ → ℕ → ℕ → List ℕ
 putBeside t d number rank n =
-    set (set t (entryOf d number rank + 1) (n / 4294967296 * 2048 + getD t (entryOf d number rank + 1) 0 % 2048)) (entryOf d number rank + 3)
-    (n % 4294967296)
+    set (set t (entryOf d number rank + 1) (n / u32Values * 2048 + getD t (entryOf d number rank + 1) 0 % 2048)) (entryOf d number rank + 3)
+    (n % u32Values)
 
 unfoldable pub putFound : List ℕ → Layout → ℕ → ℕ → ℕ → ℕ → List ℕ
 putFound t d number rank price back =
     set
-    (set (set t (entryOf d number rank) (price % 4294967296)) (entryOf d number rank + 1)
-    (getD t (entryOf d number rank + 1) 0 / 2048 * 2048 + price / 4294967296))
-    (entryOf d number rank + 2) (back % 4294967296)
+    (set (set t (entryOf d number rank) (price % u32Values)) (entryOf d number rank + 1)
+    (getD t (entryOf d number rank + 1) 0 / 2048 * 2048 + price / u32Values))
+    (entryOf d number rank + 2) (back % u32Values)
 
 -- beside the first rank stand the queue's length (chart_queue), the last rank found, each below `counts`, and above them a back
 -- pointer of the queue

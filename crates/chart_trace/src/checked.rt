@@ -6,6 +6,9 @@ use arrays::number_at;
 use arrays::rule_at;
 use arrays::store;
 use arrays::wide;
+use chart_entries::back_at;
+use chart_entries::price_at;
+use chart_entries::price_within;
 use chart_keys::BackPointer;
 use chart_keys::Key;
 use chart_keys::SPLITS;
@@ -13,12 +16,9 @@ use chart_keys::back_pointer;
 use chart_table::Cell;
 use chart_table::Layout;
 use chart_table::Part;
-use chart_table::back_at;
 use chart_table::cell_number;
 use chart_table::entry_of;
 use chart_table::left_part;
-use chart_table::price_at;
-use chart_table::price_within;
 use packing::Rule;
 use packing::Sym;
 use packing::Word;
@@ -37,6 +37,7 @@ use packing::format::RULE_WEIGHT_AT;
 ghost use mathlib.Core.Path.{_≡_};
 ghost use mathlib.Core.Option.{some};
 ghost use Prim.Native.Nat.{ℕ, _+_, _-_, _*_, _<_, _≤_};
+ghost use Rattle.bits.specs.Width.{u32Values};
 ghost use lib.Dec.{ltb};
 ghost use lib.ListN.{length, getD, set};
 ghost use Rattle.packing.specs.Meaning.{notHeard};
@@ -84,7 +85,7 @@ struct EdgeNumbers {
 fn tree_of(t: &[u32], d: Layout, part: Part) -> Key
     requires { ⌜ (InTable d (part .cell)) × (part .rank ≤ mostRanks) ⌝ }
     ensures { λ r. ⌜ (r .price ≡ priceAt (now (t .entry)) d (cellNumber d (part .cell)) (part .rank))
-        × (r .back ≡ backAt (now (t .entry)) d (cellNumber d (part .cell)) (part .rank)) × (r .back < 4294967296) ⌝ }
+        × (r .back ≡ backAt (now (t .entry)) d (cellNumber d (part .cell)) (part .rank)) × (r .back < u32Values) ⌝ }
 {
     let c = cell_number(d, part.cell);
     if part.rank < d.ranks {
@@ -104,7 +105,7 @@ fn tree_of(t: &[u32], d: Layout, part: Part) -> Key
 
 // Writes the rule number of a node and the number of its left part, which of a leaf is its edge's.
 fn store_node(trace: &mut [u32], at: usize, b: BackPointer)
-    requires { ⌜ (Digits b) × (at < 4294967296) ⌝ }
+    requires { ⌜ (Digits b) × (at < u32Values) ⌝ }
     ensures { λ _. ⌜ now (trace .exit) ≡ set (set (now (trace .entry)) at (b .rule)) (at + 1) (b .left) ⌝ }
 {
     if at + 1 < trace.len() {
@@ -118,7 +119,7 @@ fn store_node(trace: &mut [u32], at: usize, b: BackPointer)
 
 // Rule r of an array of five numbers a rule.
 fn whole_rule(rules: &[u32], r: usize) -> Rule
-    requires { ⌜ r < 4294967296 ⌝ }
+    requires { ⌜ r < u32Values ⌝ }
     ensures { λ x. ⌜ x ≡ ruleAt (now (rules .entry)) r ⌝ }
 {
     let at = NUMBERS_PER_RULE * r;

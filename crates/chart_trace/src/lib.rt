@@ -4,6 +4,7 @@ pub mod checked;
 use arrays::rule_at;
 use arrays::store;
 use arrays::wide;
+use chart_entries::back_at;
 use chart_keys::BackPointer;
 use chart_keys::DIGITS;
 use chart_keys::SPLITS;
@@ -11,7 +12,6 @@ use chart_keys::back_pointer;
 use chart_table::Cell;
 use chart_table::Layout;
 use chart_table::Part;
-use chart_table::back_at;
 use chart_table::cell_number;
 use chart_table::left_part;
 use packing::Rule;
@@ -20,6 +20,7 @@ use packing::Word;
 use packing::format::NUMBERS_PER_NODE;
 ghost use mathlib.Core.Path.{_≡_};
 ghost use Prim.Native.Nat.{ℕ, _+_, _-_, _*_, _/_, _%_, _<_, _≤_};
+ghost use Rattle.bits.specs.Width.{u32Values};
 ghost use lib.Dec.{ltb};
 ghost use lib.ListN.{length, set};
 ghost use Rattle.bits.specs.Bits.{pick};
@@ -34,7 +35,7 @@ ghost use Rattle.chart_trace.specs.Trace.{traceBack};
 // Writes the rule number of a part's node and the number of its left part, which of a leaf is its edge's, and answers its back
 // pointer.
 fn trace_node(t: &[u32], d: Layout, part: Part, trace: &mut [u32], at: usize) -> BackPointer
-    requires { ⌜ (InTable d (part .cell)) × (part .rank ≤ mostRanks) × (at < 4294967296) ⌝ }
+    requires { ⌜ (InTable d (part .cell)) × (part .rank ≤ mostRanks) × (at < u32Values) ⌝ }
     ensures { λ b. ⌜ (b ≡ backPointer (backAt (now (t .entry)) d (cellNumber d (part .cell)) (part .rank))) × (Digits b)
         × (now (trace .exit) ≡ set (set (now (trace .entry)) at (b .rule)) (at + 1) (b .left)) ⌝ }
 {

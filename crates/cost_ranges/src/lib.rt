@@ -22,6 +22,7 @@ use packing::format::TRACE_LENGTH;
 use packing::refused;
 ghost use mathlib.Core.Path.{_≡_};
 ghost use Prim.Native.Nat.{_+_, _*_, _≤_, _<_};
+ghost use Rattle.bits.specs.Width.{u32Values};
 ghost use lib.ListN.{length, take};
 ghost use Rattle.packing.specs.Flat.{ruleAt, nodeBy, nodesIn};
 ghost use Rattle.cost_changes.specs.Ranges.{costRises};
@@ -79,7 +80,7 @@ fn cost_rises(low: u32, high: u32) -> bool
 
 // Whether edge e of two arrays is one edge but for its cost, which rises.
 fn edge_rises(low: &[u32], high: &[u32], e: usize) -> bool
-    requires { ⌜ e < 4294967296 ⌝ }
+    requires { ⌜ e < u32Values ⌝ }
     ensures { λ r. ⌜ r ≡ edgeRises (now (low .entry)) (now (high .entry)) e ⌝ }
 {
     let at = NUMBERS_PER_EDGE * e;
@@ -95,7 +96,7 @@ fn edge_rises(low: &[u32], high: &[u32], e: usize) -> bool
 
 // Whether so are the first `count` edges.
 fn edges_rise(low: &[u32], high: &[u32], count: usize) -> bool
-    requires { ⌜ count < 4294967296 ⌝ }
+    requires { ⌜ count < u32Values ⌝ }
     ensures { λ r. ⌜ r ≡ edgesRise (now (low .entry)) (now (high .entry)) 0 count ⌝ }
 {
     let mut e: usize = 0;

@@ -17,7 +17,7 @@ use Rattle.packing.specs.Reading.{readingLength}
 use Rattle.packing.specs.GraphReading.{graphReadingLength}
 use Rattle.derivation.specs.Heard.{outputLength}
 use Rattle.listing.specs.Conditions.{library, askedListing}
-use Rattle.inputs.specs.Answer.{listedOf}
+use Rattle.inputs.specs.Answer.{listedOf, Lists}
 use Rattle.listing.specs.Listing.{readingsOf, list, outputAfter}
 use Rattle.chart.specs.WorkTable.{workAfter}
 use Rattle.listing.specs.Demand3.{Demand3}
@@ -69,8 +69,8 @@ room-is out shown h = rw (le-ltb (length shown) 400 h)
 -- what is promised of the answer and of what was lent, where so many bytes of output count
 abbrev pub Promised : (grammar heard work out shown : List ℕ) (room : ℕ) → Listed → (work′ out′ shown′ : List ℕ) → Type 0
 Promised grammar heard work out shown room r work′ out′ shown′ =
-    let v = list library grammar heard 8 (length work) room in
-    (r ≡ listedOf v) × ((work′ ≡ workAfter v work) × ((out′ ≡ outputAfter v out) × Told grammar heard (length work) room r shown shown′))
+    Lists workAfter outputAfter (list library grammar heard 8 (length work) room) work out r work′ out′
+    × Told grammar heard (length work) room r shown shown′
 
 pub no-room : (grammar heard work out shown : List ℕ) {r : Listed} {work′ : List ℕ} → length shown < 400
     → r ≡ listedOf (list library grammar heard 8 (length work) 0) → work′ ≡ workAfter (list library grammar heard 8 (length work) 0) work
@@ -79,7 +79,8 @@ no-room grammar heard work out shown {r} short answer after =
     let none = no-output grammar heard (length work) in
     let is : r ≡ Refused (none .number) = rw (none .due) at answer in
     let told = subst (λ (x : Listed). Told grammar heard (length work) 0 x shown shown) (sym is) (none .asked, refl) in
-    rw (lt-ltb (length shown) 400 short, none .due) (is, (rw (none .due) at after, (refl, told)))
+    let after′ = rw (none .due) at after in
+    rw (lt-ltb (length shown) 400 short, none .due) (record { answer = is; work-is = after′; output-is = refl }, told)
 
 -- where readings were found, what both blocks mean
 record Meant (grammar heard : List ℕ) (work out : ℕ) : Type 0 where

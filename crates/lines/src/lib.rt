@@ -20,7 +20,7 @@ ghost use mathlib.Core.List.{[], _∷_, _++_};
 ghost use Prim.Native.Nat.{_+_, _-_, _*_, _≤_, _<_};
 ghost use lib.ListN.{length, take, drop};
 ghost use Rattle.listing.specs.Conditions.{library};
-ghost use Rattle.inputs.specs.Answer.{listedOf};
+ghost use Rattle.inputs.specs.Answer.{Lists};
 ghost use Rattle.chart.specs.WorkTable.{workAfter};
 ghost use Rattle.listing.specs.Listing.{list, outputAfter};
 ghost use Rattle.office_theory.specs.Matching.{withoutMarked};
@@ -184,7 +184,7 @@ fn write_row(block: &[u8], rules: &[u32], marks: &[u32], s: Shape, rank: u32, ro
 {
     let mut walk = [0u32; WALK_LENGTH];
     let line = line_of(block, rules, s, &mut walk);
-    chart_table::zero(row);
+    arrays::zero(row);
     let count = leave_out(&walk, line.nodes, marks, &mut row[RULES_AT..]);
     arrays::store(row, RANK_AT, rank);
     arrays::store(row, WEIGHT_AT, line.weight);
@@ -222,11 +222,9 @@ fn lines_within(
     shown: &mut [u32],
 ) -> Listed
     requires { ⌜ 400 ≤ length (now shown) ⌝ }
-    ensures { λ r. ⌜ r ≡ listedOf (list library (now (grammar .entry)) (now (heard .entry)) 8 (length (now (work .entry))) (length (now (out .entry)))) ⌝ }
-    ensures { λ r. ⌜ now (work .exit) ≡ workAfter
-        (list library (now (grammar .entry)) (now (heard .entry)) 8 (length (now (work .entry))) (length (now (out .entry)))) (now (work .entry)) ⌝ }
-    ensures { λ r. ⌜ now (out .exit) ≡ outputAfter
-        (list library (now (grammar .entry)) (now (heard .entry)) 8 (length (now (work .entry))) (length (now (out .entry)))) (now (out .entry)) ⌝ }
+    ensures { λ r. ⌜ Lists workAfter outputAfter
+        (list library (now (grammar .entry)) (now (heard .entry)) 8 (length (now (work .entry))) (length (now (out .entry))))
+        (now (work .entry)) (now (out .entry)) r (now (work .exit)) (now (out .exit)) ⌝ }
     ensures { λ r. ⌜ Told (now (grammar .entry)) (now (heard .entry)) (length (now (work .entry))) (length (now (out .entry))) r (now (shown .entry))
         (now (shown .exit)) ⌝ }
 {
@@ -250,18 +248,10 @@ pub fn lines(
     out: &mut [u8],
     shown: &mut [u32],
 ) -> Listed
-    ensures { λ r. ⌜ r ≡ listedOf
+    ensures { λ r. ⌜ Lists workAfter outputAfter
         (list library (now (grammar .entry)) (now (heard .entry)) 8 (length (now (work .entry)))
         (roomFor (length (now (out .entry))) (length (now (shown .entry)))))
-        ⌝ }
-    ensures { λ r. ⌜ now (work .exit) ≡ workAfter
-        (list library (now (grammar .entry)) (now (heard .entry)) 8 (length (now (work .entry)))
-        (roomFor (length (now (out .entry))) (length (now (shown .entry)))))
-        (now (work .entry)) ⌝ }
-    ensures { λ r. ⌜ now (out .exit) ≡ outputAfter
-        (list library (now (grammar .entry)) (now (heard .entry)) 8 (length (now (work .entry)))
-        (roomFor (length (now (out .entry))) (length (now (shown .entry)))))
-        (now (out .entry)) ⌝ }
+        (now (work .entry)) (now (out .entry)) r (now (work .exit)) (now (out .exit)) ⌝ }
     ensures { λ r. ⌜ Told (now (grammar .entry)) (now (heard .entry)) (length (now (work .entry)))
         (roomFor (length (now (out .entry))) (length (now (shown .entry)))) r (now (shown .entry)) (now (shown .exit)) ⌝ }
 {

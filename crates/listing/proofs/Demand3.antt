@@ -24,12 +24,11 @@ use Rattle.derivation.proofs.Lists.{at-map, length-at}
 use Rattle.derivation.proofs.HeardReadings.{heard-last}
 use Rattle.derivation.proofs.HeardTheorems.{finitely-many, one-comes-before, never-both, least-element, readings-differ}
 use Rattle.listing.specs.Conditions.{library, Within}
-use Rattle.inputs.specs.Answer.{listedOf}
+use Rattle.inputs.specs.Answer.{Lists}
 use Rattle.chart.specs.WorkTable.{workAfter}
 use Rattle.listing.specs.Listing.{joined, list, outputAfter}
 use Rattle.traced_readings.specs.Ranked.{Ranked}
 use Rattle.listing.specs.Demand3.{kthBytes, Either, RankedList, Demand3}
-use Rattle.listing.specs.Model.{Promised}
 use Rattle.listing.specs.declared.Limits.{Limits}
 use Rattle.inputs.specs.declared.Listed.{Listed}
 use Rattle.inputs.specs.declared.Listed.the-variants.{Found}
@@ -113,11 +112,11 @@ module _ (l : Limits) (grammar heard : List ℕ) (N : ℕ) (work out : List ℕ)
       ranked-list AnswerIs work′ out′ works writes p q met (answers (blocks g h N) met)
 
   -- the promises of `listing_within`: its answer and both slices, and so demand 3
-  pub promised : (r : Listed) (work′ out′ : List ℕ) → Promised due work out r work′ out′
-      → (r ≡ listedOf due) × ((work′ ≡ workAfter due work) × ((out′ ≡ outputAfter due out)
-      × (Within l grammar heard N → Demand3 grammar heard N work out (λ m. r ≡ Found m) work′ out′)))
-  promised r work′ out′ (answers, (works, writes)) =
-      (answers, (works, (writes, demand-3 (λ m. r ≡ Found m) (λ ls e. rw e at answers) work′ out′ works writes)))
+  pub promised : (r : Listed) (work′ out′ : List ℕ) → Lists workAfter outputAfter due work out r work′ out′
+      → Lists workAfter outputAfter due work out r work′ out′
+      × (Within l grammar heard N → Demand3 grammar heard N work out (λ m. r ≡ Found m) work′ out′)
+  promised r work′ out′ lists =
+      (lists, demand-3 (λ m. r ≡ Found m) (λ ls e. rw e at (lists .answer)) work′ out′ (lists .work-is) (lists .output-is))
 
 -- of the library it holds outright: every accepted block is within its slots
 pub in-library : (grammar heard : List ℕ) (N : ℕ) (work out : List ℕ) (AnswerIs : ℕ → Type 0) (work′ out′ : List ℕ)

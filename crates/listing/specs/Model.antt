@@ -6,7 +6,6 @@ use Prim.Native.Nat.{ℕ, _+_, _*_}
 use lib.Dec.{ltb}
 use lib.ListN.{length, drop}
 use Rattle.bits.specs.Bits.{pick}
-use Rattle.packing.specs.Parse.{Verdict}
 use Rattle.packing.specs.Heard.{heardBlock}
 use Rattle.packing.specs.Loop.{iter}
 use Rattle.inputs.specs.Inputs.{ReadOf}
@@ -15,7 +14,7 @@ use Rattle.chart_table.specs.declared.Layout.{Layout}
 use Rattle.chart_table.specs.Table.{clear}
 use Rattle.chart.specs.Chart.{enumerate, rootsFound}
 use Rattle.chart.specs.WorkTable.{tableSize, workAfter}
-use Rattle.inputs.specs.Answer.{listedOf}
+use Rattle.inputs.specs.Answer.{Lists}
 use Rattle.listing.specs.Listing.{list, outputAfter}
 use Rattle.listing.specs.declared.Asked.{Asked}
 use Rattle.inputs.specs.declared.Listed.{Listed}
@@ -49,12 +48,8 @@ pub record Filled (rules : List ℕ) (f : Form) (edges : List ℕ) (E : ℕ) (d 
   pub size : length table ≡ length work
   pub emptied : work′ ≡ clear table d
 
--- what is promised of the answer and of both slices afterwards, where this verdict is due
-abbrev pub Promised : Verdict (List (List ℕ)) → (work out : List ℕ) → Listed → (work′ out′ : List ℕ) → Type 0
-Promised v work out r work′ out′ = (r ≡ listedOf v) × ((work′ ≡ workAfter v work) × (out′ ≡ outputAfter v out))
-
 -- what is promised of inputs that were read
 abbrev pub ReadListed : (rules edges : List ℕ) → Inputs → Asked → (work out : List ℕ) → Listed → (work′ out′ : List ℕ) → Type 0
 ReadListed rules edges z a work out r work′ out′ =
     (grammar heard rules₀ edges₀ : List ℕ) → ReadOf heardBlock grammar heard rules₀ edges₀ z rules edges
-    → Promised (list (a .limits) grammar heard (a .wanted) (length work) (length out)) work out r work′ out′
+    → Lists workAfter outputAfter (list (a .limits) grammar heard (a .wanted) (length work) (length out)) work out r work′ out′

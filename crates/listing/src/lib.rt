@@ -23,7 +23,7 @@ ghost use lib.ListN.{length, drop};
 ghost use Rattle.inputs.specs.Inputs.{Bounds};
 ghost use Rattle.chart_table.specs.Table.{Sized};
 ghost use Rattle.listing.specs.Conditions.{library, Within};
-ghost use Rattle.inputs.specs.Answer.{listedOf};
+ghost use Rattle.inputs.specs.Answer.{Lists};
 ghost use Rattle.chart.specs.WorkTable.{workAfter};
 ghost use Rattle.listing.specs.Listing.{list, outputAfter};
 ghost use Rattle.listing.specs.Demand3.{Demand3};
@@ -162,11 +162,9 @@ pub fn listing_within(
     work: &mut [u32],
     out: &mut [u8],
 ) -> Listed
-    ensures { λ r. ⌜ r ≡ listedOf (list limits (now (grammar .entry)) (now (heard .entry)) wanted (length (now (work .entry))) (length (now (out .entry)))) ⌝ }
-    ensures { λ r. ⌜ now (work .exit) ≡ workAfter
-        (list limits (now (grammar .entry)) (now (heard .entry)) wanted (length (now (work .entry))) (length (now (out .entry)))) (now (work .entry)) ⌝ }
-    ensures { λ r. ⌜ now (out .exit) ≡ outputAfter
-        (list limits (now (grammar .entry)) (now (heard .entry)) wanted (length (now (work .entry))) (length (now (out .entry)))) (now (out .entry)) ⌝ }
+    ensures { λ r. ⌜ Lists workAfter outputAfter
+        (list limits (now (grammar .entry)) (now (heard .entry)) wanted (length (now (work .entry))) (length (now (out .entry))))
+        (now (work .entry)) (now (out .entry)) r (now (work .exit)) (now (out .exit)) ⌝ }
     ensures { λ r. ⌜ (Within limits (now (grammar .entry)) (now (heard .entry)) wanted
         → Demand3 (now (grammar .entry)) (now (heard .entry)) wanted (now (work .entry)) (now (out .entry)) (λ m. r ≡ Listed.Found m) (now (work .exit))
         (now (out .exit))) ⌝ }
@@ -189,11 +187,9 @@ pub fn listing(
     work: &mut [u32],
     out: &mut [u8],
 ) -> Listed
-    ensures { λ r. ⌜ r ≡ listedOf (list library (now (grammar .entry)) (now (heard .entry)) wanted (length (now (work .entry))) (length (now (out .entry)))) ⌝ }
-    ensures { λ r. ⌜ now (work .exit) ≡ workAfter
-        (list library (now (grammar .entry)) (now (heard .entry)) wanted (length (now (work .entry))) (length (now (out .entry)))) (now (work .entry)) ⌝ }
-    ensures { λ r. ⌜ now (out .exit) ≡ outputAfter
-        (list library (now (grammar .entry)) (now (heard .entry)) wanted (length (now (work .entry))) (length (now (out .entry)))) (now (out .entry)) ⌝ }
+    ensures { λ r. ⌜ Lists workAfter outputAfter
+        (list library (now (grammar .entry)) (now (heard .entry)) wanted (length (now (work .entry))) (length (now (out .entry))))
+        (now (work .entry)) (now (out .entry)) r (now (work .exit)) (now (out .exit)) ⌝ }
     ensures { λ r. ⌜ Demand3 (now (grammar .entry)) (now (heard .entry)) wanted (now (work .entry)) (now (out .entry)) (λ m. r ≡ Listed.Found m)
         (now (work .exit)) (now (out .exit)) ⌝ }
 {

@@ -31,7 +31,7 @@ use Rattle.inputs.specs.declared.Inputs.{Inputs}
 use Rattle.inputs.proofs.BlocksRead.{rules-begin, edges-begin, both-accepted, meant-first}
 use Rattle.open_listing.specs.Open as S
 use Rattle.open_listing.specs.Model.{Planned, planOf, zeros, Answered, Searched, unchanged, seeks}
-use Rattle.open_listing.specs.Model.{tableBy, soughtBy, callBy, nextBy, nextOf, searched, As}
+use Rattle.open_listing.specs.Model.{tableBy, soughtBy, callBy, nextBy, nextOf, searched, As, OpensAs}
 use Rattle.open_listing.specs.declared.Place.{Place}
 use Rattle.open_listing.specs.declared.Plan.{Plan}
 use Rattle.open_listing.specs.declared.Opened.{Opened}
@@ -269,11 +269,10 @@ inputs-not-called grammar heard p work out e =
 
 -- opening
 abbrev OpenedAs : (grammar heard work : List ℕ) → Opened → (work′ : List ℕ) → Type 0
-OpenedAs grammar heard work r work′ =
-    (r ≡ S.openedOf (S.opening grammar heard (length work))) × (work′ ≡ S.tableOpened (S.opening grammar heard (length work)) work)
+OpenedAs grammar heard work r work′ = OpensAs (S.opening grammar heard (length work)) work r work′
 
 pub inputs-not-opened : (grammar heard work : List ℕ) {n : ℕ} → meantBy heardBlock grammar heard ≡ refused n → OpenedAs grammar heard work (O.Refused n) work
-inputs-not-opened grammar heard work e = rw (inputs-refused grammar heard (length work) e) (refl, refl)
+inputs-not-opened grammar heard work e = rw (inputs-refused grammar heard (length work) e) (record { answer = refl; table = refl })
 
 module _ {grammar heard rules₀ edges₀ : List ℕ} {z : Inputs} {rules edges : List ℕ} (k : ReadOf heardBlock grammar heard rules₀ edges₀ z rules edges)
     {q : Plan} (is : q ≡ planOf z) {r : ℕ} (er : r ≡ 4 * q .layout .cells * q .layout .ranks) (work : List ℕ) where
@@ -283,9 +282,9 @@ module _ {grammar heard rules₀ edges₀ : List ℕ} {z : Inputs} {rules edges 
   pub not-opened-short : length work < r → OpenedAs grammar heard work (O.Refused 22) work
   not-opened-short short =
       rw (opening-short grammar heard (k .meant .grammar) (k .meant .heard) (k .grammar-is) (k .heard-is) (length work) (omega (arith, size, short)))
-      (refl, refl)
+      (record { answer = refl; table = refl })
 
   pub opened-zeros : r ≤ length work → {work′ : List ℕ} → work′ ≡ replicate (length work) 0 → OpenedAs grammar heard work O.Opened work′
   opened-zeros room is-zeros =
       rw (opening-accepts grammar heard (k .meant .grammar) (k .meant .heard) (k .grammar-is) (k .heard-is) (length work) (omega (arith, size, room)))
-      (refl, is-zeros)
+      (record { answer = refl; table = is-zeros })

@@ -13,9 +13,10 @@ use Rattle.chart_index.specs.Build.{makeIndex}
 use Rattle.chart_search.specs.Search.{nextOfRoot}
 use Rattle.chart.specs.Chart.{layOut, enumerate, rootFound, rootSpelled}
 use Rattle.traced_readings.specs.Model.{formOf, FormFor, blockAt}
-use Rattle.open_listing.specs.Open.{Left, left}
+use Rattle.open_listing.specs.Open.{Blocks, openedOf, tableOpened, Lent, Left, left, Called, Kept}
 use Rattle.open_listing.specs.declared.Place.{Place}
 use Rattle.open_listing.specs.declared.Plan.{Plan}
+use Rattle.open_listing.specs.declared.Opened.{Opened}
 use Rattle.inputs.specs.Inputs.{Meant, inputsOf, meantBy, rulesArray, edgesArray}
 use Rattle.inputs.specs.declared.Inputs.{Inputs}
 use Rattle.packing.specs.Meaning.{Grammar, Heard}
@@ -138,3 +139,14 @@ pub record As (l : Left) (r : A.Answer) (work′ out′ : List ℕ) : Type 0 whe
   pub answer : r ≡ l .answer
   pub table : work′ ≡ l .table
   pub output : out′ ≡ l .output
+
+-- What a call answers and leaves, of what it was lent: what holds of any place and table, what holds of those that were left alone, and the equation
+pub record CallsAs (l : Lent) (r : Left) : Type 0 where
+  pub called : Called searched l r
+  pub kept : Kept searched l r
+  pub computed : As (nextOf (l .grammar) (l .heard) (l .place) (l .work) (l .out)) (r .answer) (r .table) (r .output)
+
+-- what opening answers and leaves, of what is due
+pub record OpensAs (due : Verdict Blocks) (work : List ℕ) (r : Opened) (work′ : List ℕ) : Type 0 where
+  pub answer : r ≡ openedOf due
+  pub table : work′ ≡ tableOpened due work

@@ -7,6 +7,7 @@ use mathlib.Core.List.{List}
 use Prim.Native.Nat.{ℕ, zero, suc, _+_, _-_, _*_, _/_, _%_, _≤_, _<_}
 use lib.Dec.{ltb, eqb}
 use lib.ListN.{getD, getElem?}
+use Rattle.bits.specs.Width.{u32Values}
 use Rattle.bits.specs.Bits.{pick}
 use Rattle.packing.specs.Meaning.{symbolOf, Grammar, Heard, slots, graph, lastPlace, heardEdges}
 use Rattle.packing.specs.declared.Sym.{Sym}
@@ -55,7 +56,7 @@ module _ (g : Grammar) (h : Heard) (table : List ℕ) (A : Sym) (i k x : ℕ) wh
 
   -- the first, and of the second the lower 11 bits: 0 where no tree stands, else 1 + weight × 1,572,864 + costs
   unfoldable pub priceNumber : ℕ
-  priceNumber = pick (ltb x 256) (number 1 % 2048 * 4294967296 + getD table (firstNumber g h A i k x) 0) 0
+  priceNumber = pick (ltb x 256) (number 1 % 2048 * u32Values + getD table (firstNumber g h A i k x) 0) 0
 
   -- the third: the rule, then 5 bits of split, 8 of the left part's rank or the edge, and 8 of the right part's rank
   unfoldable pub entry : Option TableEntry

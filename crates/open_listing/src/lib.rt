@@ -1,11 +1,11 @@
 // Readings one by one: an open listing keeps its place between calls, and each call hands out one more reading from a work table for as
 // many ranks as can be listed.
+use arrays::zero;
 use chart::steps;
 use chart_index::INDEX_NUMBERS;
 use chart_journal::JOURNAL_NUMBERS;
 use chart_table::Layout;
 use chart_table::MOST_RANKS;
-use chart_table::zero;
 use chart_trace::checked::Scope;
 use inputs::Inputs;
 use inputs::InputsRead;
@@ -25,9 +25,9 @@ ghost use Prim.Native.Nat.{_-_, _*_, _≤_, _<_};
 ghost use lib.ListN.{length};
 ghost use Rattle.chart.specs.Chart.{rootFound};
 ghost use Rattle.inputs.specs.Inputs.{Bounds};
-ghost use Rattle.open_listing.specs.Open.{opening, openedOf, tableOpened, lent, left, Called, Kept};
+ghost use Rattle.open_listing.specs.Open.{opening, lent, left};
 ghost use Rattle.open_listing.specs.Model.{zeros, Planned, planOf, handsOut, settled, isReading, outputBy};
-ghost use Rattle.open_listing.specs.Model.{nextTable, Searched, FirstCalled, As, callBy, nextOf, searched};
+ghost use Rattle.open_listing.specs.Model.{nextTable, Searched, FirstCalled, As, callBy, OpensAs, CallsAs};
 
 // An open listing's place: how many readings were handed out, and whether it was opened.
 #[repr(C)]
@@ -260,12 +260,8 @@ fn next_read(
 
 // One more reading of what was heard, slots or a graph, under the grammar, to the front of `out`, for a place and a work table as they were left.
 pub fn next(grammar: &[u8], heard: &[u8], place: Place, work: &mut [u32], out: &mut [u8]) -> Answer
-    ensures { λ r. ⌜ Called searched (lent (now (grammar .entry)) (now (heard .entry)) place (now (work .entry)) (now (out .entry)))
+    ensures { λ r. ⌜ CallsAs (lent (now (grammar .entry)) (now (heard .entry)) place (now (work .entry)) (now (out .entry)))
         (left r (now (work .exit)) (now (out .exit))) ⌝ }
-    ensures { λ r. ⌜ Kept searched (lent (now (grammar .entry)) (now (heard .entry)) place (now (work .entry)) (now (out .entry)))
-        (left r (now (work .exit)) (now (out .exit))) ⌝ }
-    ensures { λ r. ⌜ As (nextOf (now (grammar .entry)) (now (heard .entry)) place (now (work .entry)) (now (out .entry))) r (now (work .exit)) (now (out .exit))
-        ⌝ }
 {
     let mut rules = [0u32; RULES_LENGTH];
     let mut edges = [0u32; EDGES_LENGTH];
@@ -277,8 +273,7 @@ pub fn next(grammar: &[u8], heard: &[u8], place: Place, work: &mut [u32], out: &
 
 // Opens a listing of what was heard, slots or a graph, under the grammar, in a work table for all ranks that can be listed.
 pub fn open(grammar: &[u8], heard: &[u8], work: &mut [u32]) -> Opened
-    ensures { λ r. ⌜ r ≡ openedOf (opening (now (grammar .entry)) (now (heard .entry)) (length (now (work .entry)))) ⌝ }
-    ensures { λ r. ⌜ now (work .exit) ≡ tableOpened (opening (now (grammar .entry)) (now (heard .entry)) (length (now (work .entry)))) (now (work .entry)) ⌝ }
+    ensures { λ r. ⌜ OpensAs (opening (now (grammar .entry)) (now (heard .entry)) (length (now (work .entry)))) (now (work .entry)) r (now (work .exit)) ⌝ }
 {
     let mut rules = [0u32; RULES_LENGTH];
     let mut edges = [0u32; EDGES_LENGTH];

@@ -29,7 +29,7 @@ use Rattle.packing.specs.Valid.{ValidGrammar, ValidUtterance}
 use Rattle.chart_table.specs.declared.Layout.{Layout}
 use Rattle.chart.specs.Chart.{layOut}
 use Rattle.chart.specs.WorkTable.{tableSize, workAfter}
-use Rattle.inputs.specs.Answer.{listedOf}
+use Rattle.inputs.specs.Answer.{listedOf, Lists}
 use Rattle.inputs.specs.declared.Listed.{Listed}
 use Rattle.inputs.specs.declared.Listed.the-variants.{Found, Refused}
 use Rattle.one_best.specs.Model.{tableBy}
@@ -37,7 +37,7 @@ use Rattle.one_best.specs.declared.Pass.{Pass}
 use Rattle.one_best.proofs.Found.{passOf}
 use Rattle.word_margins.specs.Conditions.{marginsConditions, askedMargins}
 use Rattle.word_margins.specs.WordMargins.{listed, margins, outputAfter, Meant}
-use Rattle.word_margins.specs.Model.{passList, Promised, ReadMargins}
+use Rattle.word_margins.specs.Model.{passList, ReadMargins}
 use Rattle.word_margins.proofs.PassListed.{pass-list}
 use Rattle.word_margins.proofs.Insertion.{numbers-length, table-length}
 
@@ -46,7 +46,7 @@ module _ (rules array : List ℕ) (z : Inputs) (work out : List ℕ) where
   -- from what is due of the grammar and the utterance that they are of
   read-due : {r : Listed} {work′ out′ : List ℕ}
       → ((g : Grammar) (u : Utterance) → ValidGrammar g → ValidUtterance (g .words) u → z ≡ inputsOf (both g (slots u)) → Begins (ruleNumbers g) rules
-      → Begins (edgeNumbers (edges u)) array → Promised (listed g u (length work) (length out)) work out r work′ out′)
+      → Begins (edgeNumbers (edges u)) array → Lists workAfter outputAfter (listed g u (length work) (length out)) work out r work′ out′)
       → ReadMargins rules array z work out r work′ out′
   unfolding margins
   read-due due grammar utterance rules₀ edges₀ k =
@@ -61,7 +61,7 @@ module _ (rules array : List ℕ) (z : Inputs) (work out : List ℕ) where
   unfolding listed marginsConditions
   edges-short short = read-due λ g u okg oku ez begun begun′.
       let short′ : length work < tableSize (g .symbols) (length u) 1 = rw ez at short in
-      rw (lt-ltb _ _ short′) (refl, refl, refl)
+      rw (lt-ltb _ _ short′) (record { answer = refl; work-is = refl; output-is = refl })
 
   module _ (room : tableSize (z .sizes .symbols) (z .heard .last) 1 ≤ length work) where
     pub edges-narrow : length out < 4 * z .heard .edges → ReadMargins rules array z work out (Refused 43) work out
@@ -69,7 +69,7 @@ module _ (rules array : List ℕ) (z : Inputs) (work out : List ℕ) where
     edges-narrow short = read-due λ g u okg oku ez begun begun′.
         let room′ : tableSize (g .symbols) (length u) 1 ≤ length work = rw ez at room in
         let short′ : length out < 4 * length (edges u) = rw ez at short in
-        rw (le-ltb _ _ room′, lt-ltb _ _ short′) (refl, refl, refl)
+        rw (le-ltb _ _ room′, lt-ltb _ _ short′) (record { answer = refl; work-is = refl; output-is = refl })
 
     pub edges-listed : 4 * z .heard .edges ≤ length out → {d : Layout} → d ≡ layOut (z .sizes .symbols) (z .heard .last) 1 → {m : ℕ} {work′ out′ : List ℕ}
         → m ≡ length (passList rules array (record { rules = z .sizes .rules; edges = z .heard .edges; table = d }) (length work))
@@ -90,11 +90,8 @@ module _ (rules array : List ℕ) (z : Inputs) (work out : List ℕ) where
         rw (pass-list g okg rules begun (length work) u oku array begun′ room′ kept′) at (pass-length (passOf g u)) in
         let n = numbers-length (marginsOf g u) in
         let front = store-at out 0 (listNumbers (marginsOf g u)) (omega arith) in
-        rw (le-ltb _ _ room′, le-ltb _ _ wide′) (
-          ap Found (em ∙ ap length same),
-          ew,
-          eo ∙ ap (λ (l : List M.MarginEntry). storeAll out 0 (listNumbers l)) same ∙ front ∙ rw zero-add,
-        )
+        let written = eo ∙ ap (λ (l : List M.MarginEntry). storeAll out 0 (listNumbers l)) same ∙ front ∙ rw zero-add in
+        rw (le-ltb _ _ room′, le-ltb _ _ wide′) (record { answer = ap Found (em ∙ ap length same); work-is = ew; output-is = written })
       where
         pass-length : (p : Pass) → length (passList rules array p (length work)) ≤ p .edges
         pass-length p = table-length rules array p (length work)
@@ -102,9 +99,10 @@ module _ (rules array : List ℕ) (z : Inputs) (work out : List ℕ) where
 -- and of blocks that were not
 module _ (grammar utterance work out : List ℕ) where
   pub not-read : {n : ℕ} → meantBy asSlots grammar utterance ≡ refused n
-      → Promised (margins grammar utterance (length work) (length out)) work out (Refused n) work out
+      → Lists workAfter outputAfter (margins grammar utterance (length work) (length out)) work out (Refused n) work out
   unfolding margins
-  not-read e = rw (slots-refused grammar utterance (λ g u. listed g u (length work) (length out)) e) (refl, refl, refl)
+  not-read e = rw (slots-refused grammar utterance (λ g u. listed g u (length work) (length out)) e)
+      (record { answer = refl; work-is = refl; output-is = refl })
 
   -- what is made of what is asked is the list
   pub margins-listed : (size room : ℕ) {b : Grammar × Utterance} → askedMargins grammar utterance size room ≡ accepted b
@@ -118,22 +116,14 @@ module _ (grammar utterance work out : List ℕ) where
       (margins-are (g .words) g u (utterance-block-out (g .words) utterance u q .0))
 
   -- what is due is what is meant
-  pub meant : {r : Listed} {work′ out′ : List ℕ} → Promised (margins grammar utterance (length work) (length out)) work out r work′ out′
-      → (r ≡ listedOf (margins grammar utterance (length work) (length out)))
-      × ((work′ ≡ workAfter (margins grammar utterance (length work) (length out)) work)
-      × ((out′ ≡ outputAfter (margins grammar utterance (length work) (length out)) out)
-      × Meant grammar utterance work out (λ l. r ≡ listedOf (accepted l)) work′ out′))
+  pub meant : {r : Listed} {work′ out′ : List ℕ} → Lists workAfter outputAfter (margins grammar utterance (length work) (length out)) work out r work′ out′
+      → Lists workAfter outputAfter (margins grammar utterance (length work) (length out)) work out r work′ out′
+      × Meant grammar utterance work out (λ l. r ≡ listedOf (accepted l)) work′ out′
   unfolding margins listed marginsConditions
   meant due = (
-    due .0,
-    (
-      due .1,
-      (
-        due .2,
-        λ g eg u eu room wide.
-            let is : margins grammar utterance (length work) (length out) ≡ accepted (marginsOf g u) = rw (eg, eu, le-ltb _ _ room, le-ltb _ _ wide) in
-            let due′ = rw is at due in
-            (marginsOf g u, due′ .0, margins-are (g .words) g u (utterance-block-out (g .words) utterance u eu .0), due′ .2, due′ .1),
-      ),
-    ),
+    due,
+    λ g eg u eu room wide.
+        let is : margins grammar utterance (length work) (length out) ≡ accepted (marginsOf g u) = rw (eg, eu, le-ltb _ _ room, le-ltb _ _ wide) in
+        let due′ = rw is at due in
+        (marginsOf g u, due′ .answer, margins-are (g .words) g u (utterance-block-out (g .words) utterance u eu .0), due′ .output-is, due′ .work-is),
   )

@@ -7,8 +7,8 @@ mod outside;
 use arrays::rule_at;
 use arrays::store;
 use arrays::wide;
+use arrays::zero;
 use chart_table::Layout;
-use chart_table::zero;
 use entries::NUMBERS_PER_ENTRY;
 use entries::put_entries;
 use inputs::Inputs;
@@ -34,7 +34,7 @@ ghost use Rattle.inputs.specs.Inputs.{Bounds};
 ghost use Rattle.packing.specs.Store.{storeAll};
 ghost use Rattle.chart_table.specs.Table.{Sized};
 ghost use Rattle.cost_changes.specs.Margins.{listNumbers};
-ghost use Rattle.inputs.specs.Answer.{listedOf};
+ghost use Rattle.inputs.specs.Answer.{listedOf, Lists};
 ghost use Rattle.chart.specs.WorkTable.{workAfter};
 ghost use Rattle.one_best.specs.Model.{Passable, tableBy};
 ghost use Rattle.word_margins.specs.WordMargins.{margins, outputAfter, Meant};
@@ -151,11 +151,9 @@ fn margins_read(
 // The list of words to listen to again, of four numbers each, at the front of the output, and their number. The work table is all zeros
 // afterwards.
 pub fn word_margins(grammar: &[u8], utterance: &[u8], work: &mut [u32], out: &mut [u32]) -> Listed
-    ensures { λ r. ⌜ r ≡ listedOf (margins (now (grammar .entry)) (now (utterance .entry)) (length (now (work .entry))) (length (now (out .entry)))) ⌝ }
-    ensures { λ r. ⌜ now (work .exit) ≡ workAfter
-        (margins (now (grammar .entry)) (now (utterance .entry)) (length (now (work .entry))) (length (now (out .entry)))) (now (work .entry)) ⌝ }
-    ensures { λ r. ⌜ now (out .exit) ≡ outputAfter
-        (margins (now (grammar .entry)) (now (utterance .entry)) (length (now (work .entry))) (length (now (out .entry)))) (now (out .entry)) ⌝ }
+    ensures { λ r. ⌜ Lists workAfter outputAfter
+        (margins (now (grammar .entry)) (now (utterance .entry)) (length (now (work .entry))) (length (now (out .entry))))
+        (now (work .entry)) (now (out .entry)) r (now (work .exit)) (now (out .exit)) ⌝ }
     ensures { λ r. ⌜ Meant (now (grammar .entry)) (now (utterance .entry)) (now (work .entry)) (now (out .entry)) (λ l. r ≡ listedOf (accepted l))
         (now (work .exit)) (now (out .exit)) ⌝ }
 {

@@ -1,10 +1,10 @@
 // Masks of the cells that hold a tree, as chart_masks has them: for each head and place the places where a span ends that starts there, and where
 // one starts that ends there. By them the outside pass passes over rules whose parts meet nowhere.
+use chart_entries::price_at;
 use chart_masks::mark;
 use chart_table::Cell;
 use chart_table::Layout;
 use chart_table::cell_number;
-use chart_table::price_at;
 use packing::Sym;
 ghost use mathlib.Core.Path.{_≡_};
 ghost use Prim.Native.Nat.{_≤_, _<_};

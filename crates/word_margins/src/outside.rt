@@ -6,6 +6,8 @@ use arrays::number_at;
 use arrays::rule_at;
 use arrays::store;
 use arrays::wide;
+use bits::U32_VALUES;
+use chart_entries::price_at;
 use chart_index::INDEX_NUMBERS;
 use chart_index::PAIR_BASE;
 use chart_index::class_end;
@@ -18,13 +20,13 @@ use chart_table::Cell;
 use chart_table::ENTRY_NUMBERS;
 use chart_table::Layout;
 use chart_table::cell_number;
-use chart_table::price_at;
 use chart_table::root;
 use one_best::Pass;
 use packing::Rule;
 use packing::Sym;
 ghost use mathlib.Core.Path.{_≡_};
 ghost use Prim.Native.Nat.{_+_, _/_, _≤_, _<_};
+ghost use Rattle.bits.specs.Width.{u32Values};
 ghost use lib.ListN.{length, getD, replicate};
 ghost use Rattle.packing.specs.Flat.{ruleAt};
 ghost use Rattle.chart_table.specs.Table.{cellBound, Sized};
@@ -47,9 +49,6 @@ ghost use Rattle.word_margins.specs.Model.{
   overLengths,
   fill,
 };
-
-// The numbers of 32 bits.
-const NUMBERS: usize = 4294967296;
 
 // Where an entry's free number stands.
 const FREE_AT: usize = 3;
@@ -89,7 +88,7 @@ fn inside_at(t: &[u32], d: Layout, number: usize) -> usize
 // The outside weight of a cell, plus 1.
 pub fn outside_at(t: &[u32], number: usize) -> usize
     requires { ⌜ number < cellBound ⌝ }
-    ensures { λ r. ⌜ (r ≡ getD (fourths (now (t .entry))) number 0) × (r < 4294967296) ⌝ }
+    ensures { λ r. ⌜ (r ≡ getD (fourths (now (t .entry))) number 0) × (r < u32Values) ⌝ }
 {
     number_at(t, ENTRY_NUMBERS * number + FREE_AT)
 }
@@ -103,7 +102,7 @@ fn lower(t: &mut [u32], number: usize, x: usize)
     store(
         t,
         ENTRY_NUMBERS * number + FREE_AT,
-        (least % NUMBERS) as u32,
+        (least % U32_VALUES) as u32,
     );
 }
 
@@ -178,8 +177,8 @@ fn push_rule(
     node: Cell,
     outer: usize,
 )
-    requires { ⌜ (Sized d) × (node .from < node .to) × (node .to ≤ d .last) × (Found (plain (now t)) d (now masks)) × (r < 4294967296)
-        × (outer < 4294967296) ⌝ }
+    requires { ⌜ (Sized d) × (node .from < node .to) × (node .to ≤ d .last) × (Found (plain (now t)) d (now masks)) × (r < u32Values)
+        × (outer < u32Values) ⌝ }
     ensures { λ _. ⌜ (fourths (now (t .exit)) ≡ pushRule (fourths (now (t .entry))) (plain (now (t .entry))) d node outer (ruleAt (now (rules .entry)) r))
         × (plain (now (t .exit)) ≡ plain (now (t .entry))) ⌝ }
 {
@@ -202,8 +201,8 @@ fn push_rules(
     node: Cell,
     outer: usize,
 )
-    requires { ⌜ (Sized d) × (node .from < node .to) × (node .to ≤ d .last) × (Found (plain (now t)) d (now masks)) × (node .head .0 < 4294967296)
-        × (outer < 4294967296) ⌝ }
+    requires { ⌜ (Sized d) × (node .from < node .to) × (node .to ≤ d .last) × (Found (plain (now t)) d (now masks)) × (node .head .0 < u32Values)
+        × (outer < u32Values) ⌝ }
     ensures { λ _. ⌜ (fourths (now (t .exit))
         ≡ pushRules (fourths (now (t .entry))) (plain (now (t .entry))) (now (rules .entry)) (now (index .entry)) d node outer)
         × (plain (now (t .exit)) ≡ plain (now (t .entry))) ⌝ }
@@ -217,7 +216,7 @@ fn push_rules(
 
 // If the node has an outside weight.
 fn push_node(t: &mut [u32], masks: &[u32], rules: &[u32], index: &[u32], d: Layout, node: Cell)
-    requires { ⌜ (Sized d) × (node .from < node .to) × (node .to ≤ d .last) × (Found (plain (now t)) d (now masks)) × (node .head .0 < 4294967296) ⌝ }
+    requires { ⌜ (Sized d) × (node .from < node .to) × (node .to ≤ d .last) × (Found (plain (now t)) d (now masks)) × (node .head .0 < u32Values) ⌝ }
     ensures { λ _. ⌜ (fourths (now (t .exit))
         ≡ pushNode (fourths (now (t .entry))) (plain (now (t .entry))) (now (rules .entry)) (now (index .entry)) d node)
         × (plain (now (t .exit)) ≡ plain (now (t .entry))) ⌝ }

@@ -24,7 +24,7 @@ use Rattle.chart_search.proofs.back_before.Reads as back-before-reads
 use Rattle.chart_search.proofs.part_of.Reads as part-of-reads
 use Rattle.chart_table.proofs.cell_number.Reads as cell-number-reads
 use Rattle.chart_table.proofs.left_part.Reads as left-part-reads
-use Rattle.chart_table.proofs.price_at.Reads as price-at-reads
+use Rattle.chart_entries.proofs.price_at.Reads as price-at-reads
 use Rattle.chart_table.proofs.right_part.Reads as right-part-reads
 use Rattle.chart_search.proofs.+advance_pairing+extend+next_of_span.{statement}
 use Rattle.chart_search.proofs.+advance_pairing+extend+next_of_span.Tie.{close}

@@ -22,7 +22,7 @@ returns c =
     let at-if1 = at-listing .before .before .before in
     let a = at-if1 .before .before .before .before .before .before .args in
     let l = at-listing .listing .ensures in
-    no-room (a .grammar .now) (a .heard .now) (a .work .now) (a .out .now) (a .shown .now) (at-if1 .if1 .taken) (l .0) (l .1 .0)
+    no-room (a .grammar .now) (a .heard .now) (a .work .now) (a .out .now) (a .shown .now) (at-if1 .if1 .taken) (l .0 .answer) (l .0 .work-is)
 
 lines-within-requires : tie.Need-lines-within-requires
 lines-within-requires c κs = search needs

@@ -40,7 +40,7 @@ write-rows-requires c κs =
     let at-shape-of = at-listing .before .before .before .before .before in
     let at-args = at-shape-of .before .before .before .before .before .before .before .before in
     let bounded = at-shape-of .shape-of .ensures .bounded in
-    let few : at-m .m .given .0 .0 ≤ 8 = found-few library _ _ 8 _ _ (at-listing .listing .ensures .0) (at-m .m .given .1) in (
+    let few : at-m .m .given .0 .0 ≤ 8 = found-few library _ _ 8 _ _ (at-listing .listing .ensures .0 .answer) (at-m .m .given .1) in (
       bounded,
       few,
       omega (
@@ -48,7 +48,7 @@ write-rows-requires c κs =
         at-listing .listing .kept,
         room-for (at-args .args .grammar .now) (at-args .args .heard .now) (at-shape-of .shape-of .last .1 .1 .0) (at-shape-of .shape-of .last .1 .1 .1 .0)
             (at-shape-of .shape-of .result) (at-shape-of .shape-of .ensures) (at-args .args .work .now) (at-args .args .out .now) (at-m .m .given .0 .0)
-            (at-listing .listing .result) (at-listing .listing .ensures .0) (at-m .m .given .1) few,
+            (at-listing .listing .result) (at-listing .listing .ensures .0 .answer) (at-m .m .given .1) few,
       ),
       at-args .pre,
     )
@@ -62,8 +62,8 @@ same-length-2 c = search needs
 returns : tie.Need-returns
 returns c =
     let l = c .before .before .before .before .before .before .before .listing .ensures in
-    let answer = sym (c .before .n .given .1) ∙ l .0 in
-    (answer, (l .1 .0, (l .1 .1 .0, (asked-refused _ _ _ _ (sym answer), refl))))
+    let answer = sym (c .before .n .given .1) ∙ l .0 .answer in
+    (record { answer = answer; work-is = l .0 .work-is; output-is = l .0 .output-is }, (asked-refused _ _ _ _ (sym answer), refl))
 
 same-length-3 : tie.Need-same-length-3
 same-length-3 c = search needs
@@ -82,22 +82,16 @@ returns-2 c =
     let at-args = at-shape-of .before .before .before .before .before .before .before .before in
     let l = at-listing .listing .ensures in
     let a = at-args .args in (
-      sym (at-m .m .given .1) ∙ l .0,
+      record { answer = sym (at-m .m .given .1) ∙ l .0 .answer; work-is = l .0 .work-is; output-is = l .0 .output-is },
       (
-        l .1 .0,
-        (
-          l .1 .1 .0,
-          (
-            accepts (a .grammar .now) (a .heard .now) (at-shape-of .shape-of .last .1 .1 .0) (at-shape-of .shape-of .last .1 .1 .1 .0)
-                (at-shape-of .shape-of .result) (at-shape-of .shape-of .ensures) (a .work .now) (a .out .now) (at-m .m .given .0 .0)
-                (at-listing .listing .result) (l .0) (at-m .m .given .1),
-            rows-told (a .grammar .now) (a .heard .now) (at-shape-of .shape-of .last .1 .1 .0) (at-shape-of .shape-of .last .1 .1 .1 .0)
-                (at-shape-of .shape-of .result) (at-shape-of .shape-of .ensures) (a .work .now) (a .out .now) (at-m .m .given .0 .0)
-                (at-listing .listing .result) (l .0) (at-m .m .given .1) (at-listing .listing .last .1 .1 .1 .0)
-                (at-listing .listing .last .1 .1 .1 .1 .0) (a .shown .now) (c .before .before .write-rows .last .1 .1 .1 .1 .1 .0) (l .1 .1 .1)
-                (c .before .before .write-rows .ensures),
-          ),
-        ),
+        accepts (a .grammar .now) (a .heard .now) (at-shape-of .shape-of .last .1 .1 .0) (at-shape-of .shape-of .last .1 .1 .1 .0)
+            (at-shape-of .shape-of .result) (at-shape-of .shape-of .ensures) (a .work .now) (a .out .now) (at-m .m .given .0 .0)
+            (at-listing .listing .result) (l .0 .answer) (at-m .m .given .1),
+        rows-told (a .grammar .now) (a .heard .now) (at-shape-of .shape-of .last .1 .1 .0) (at-shape-of .shape-of .last .1 .1 .1 .0)
+            (at-shape-of .shape-of .result) (at-shape-of .shape-of .ensures) (a .work .now) (a .out .now) (at-m .m .given .0 .0)
+            (at-listing .listing .result) (l .0 .answer) (at-m .m .given .1) (at-listing .listing .last .1 .1 .1 .0)
+            (at-listing .listing .last .1 .1 .1 .1 .0) (a .shown .now) (c .before .before .write-rows .last .1 .1 .1 .1 .1 .0) (l .1)
+            (c .before .before .write-rows .ensures),
       ),
     )
 

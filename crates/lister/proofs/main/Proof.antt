@@ -69,7 +69,7 @@ print-rows-requires : tie.Need-print-rows-requires
 print-rows-requires c κs =
     let at-m = c .before .before .before .before .before .before in
     let at-lines = at-m .before .before .before .before .before in
-    found-few library _ _ 8 _ _ (at-lines .lines .ensures .0) (at-m .m .given .1)
+    found-few library _ _ 8 _ _ (at-lines .lines .ensures .0 .answer) (at-m .m .given .1)
 
 enum-known-n : tie.Need-enum-known-n
 enum-known-n c = search needs

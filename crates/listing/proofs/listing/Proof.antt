@@ -16,7 +16,7 @@ same-length-2 c = search needs
 returns : tie.Need-returns
 returns c =
     let answered = c .before .before .before .before .listing-within .ensures in
-    (answered .0, (answered .1 .0, (answered .1 .1 .0, in-library _ _ _ _ _ _ _ _ (answered .1 .1 .1))))
+    (answered .0, in-library _ _ _ _ _ _ _ _ (answered .1))
 
 pub listing-spec : {M : Type 1} → statement M
 listing-spec = tie.close (tie.spec listing-within-requires same-length same-length-2 returns)

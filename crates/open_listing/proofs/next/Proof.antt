@@ -38,7 +38,7 @@ returns : tie.Need-returns
 returns c =
     let e = rw (c .before .n .given .1) at (c .before .before .before .before .before .read-inputs .ensures) in
     let p = inputs-not-called _ _ _ _ _ e in
-    (p .0, (p .1, refused-next _ _ _ _ _ e))
+    record { called = p .0; kept = p .1; computed = refused-next _ _ _ _ _ e }
 
 same-length : tie.Need-same-length
 same-length c = search needs
@@ -54,7 +54,8 @@ returns-2 c =
     let at-read-inputs = at-inputs .before .before .before .before in
     let k = rw (at-inputs .inputs .given .1) at (at-read-inputs .read-inputs .ensures) in
     let p = read-called k _ (at-plan-of .plan-of .ensures .0) (at-plan-of .plan-of .ensures .1) _ _ _ (at-next-read .next-read .ensures) in
-    (p .0, (p .1, read-next k _ (at-plan-of .plan-of .ensures .0) _ _ _ (at-next-read .next-read .ensures)))
+    let computed = read-next k _ (at-plan-of .plan-of .ensures .0) _ _ _ (at-next-read .next-read .ensures) in
+    record { called = p .0; kept = p .1; computed = computed }
 
 pub next-spec : {M : Type 1} → statement M
 next-spec =

@@ -29,7 +29,7 @@ slice-aggregate-print-rows c = search needs
 print-rows-requires : tie.Need-print-rows-requires
 print-rows-requires c κs =
     let at-lines = c .before .before .before .before .before .before .before .before in
-    found-few library _ _ 8 _ _ (at-lines .lines .ensures .0) (c .before .before .answer .given .1)
+    found-few library _ _ 8 _ _ (at-lines .lines .ensures .0 .answer) (c .before .before .answer .given .1)
 
 enum-told : tie.Need-enum-told
 enum-told c = search needs

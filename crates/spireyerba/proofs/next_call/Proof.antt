@@ -25,7 +25,7 @@ add-t15 c =
     omega (
       arith,
       call-reading (a .grammar .now) (a .utterance .now) (placeAt (a .handed) (a .opened)) (a .work .now) (a .out .now)
-          (e .0) (e .1 .0) (e .1 .1) (t .next .kept .1 .1 .1 .0) (c .enum-told .given .1),
+          (e .called) (e .kept) (e .computed) (t .next .kept .1 .1 .1 .0) (c .enum-told .given .1),
     )
 
 enum-told-2 : tie.Need-enum-told-2
@@ -43,7 +43,7 @@ refusal-requires c κs =
     let a = start t .args in
     let e = t .next .ensures in
     call-refusal (a .grammar .now) (a .utterance .now) (placeAt (a .handed) (a .opened)) (a .work .now) (a .out .now)
-    (e .0) (e .1 .0) (e .1 .1) (t .next .kept .1 .1 .1 .0) (c .before .answer .given .1)
+    (e .called) (e .kept) (e .computed) (t .next .kept .1 .1 .1 .0) (c .before .answer .given .1)
 
 same-length : tie.Need-same-length
 same-length c = search needs
@@ -57,7 +57,7 @@ returns c =
     let a = start t .args in
     let e = t .next .ensures in
     answered (a .grammar .now) (a .utterance .now) (placeAt (a .handed) (a .opened)) (a .work .now) (a .out .now)
-    (e .0) (e .1 .0) (e .1 .1) (t .next .kept .1 .1 .1 .0) Reading (c .enum-told .given .1)
+    (e .called) (e .kept) (e .computed) (t .next .kept .1 .1 .1 .0) Reading (c .enum-told .given .1)
 
 same-length-3 : tie.Need-same-length-3
 same-length-3 c = search needs
@@ -71,7 +71,7 @@ returns-2 c =
     let a = start t .args in
     let e = t .next .ensures in
     answered (a .grammar .now) (a .utterance .now) (placeAt (a .handed) (a .opened)) (a .work .now) (a .out .now)
-    (e .0) (e .1 .0) (e .1 .1) (t .next .kept .1 .1 .1 .0) NoMore (c .enum-told2 .given .1)
+    (e .called) (e .kept) (e .computed) (t .next .kept .1 .1 .1 .0) NoMore (c .enum-told2 .given .1)
 
 same-length-5 : tie.Need-same-length-5
 same-length-5 c = search needs
@@ -85,7 +85,7 @@ returns-3 c =
     let a = start t .args in
     let e = t .next .ensures in
     answered (a .grammar .now) (a .utterance .now) (placeAt (a .handed) (a .opened)) (a .work .now) (a .out .now)
-    (e .0) (e .1 .0) (e .1 .1) (t .next .kept .1 .1 .1 .0) Full (c .enum-told3 .given .1)
+    (e .called) (e .kept) (e .computed) (t .next .kept .1 .1 .1 .0) Full (c .enum-told3 .given .1)
 
 same-length-7 : tie.Need-same-length-7
 same-length-7 c = search needs
@@ -99,7 +99,7 @@ returns-4 c =
     let a = start t .args in
     let e = t .next .ensures in
     turned-away (a .grammar .now) (a .utterance .now) (placeAt (a .handed) (a .opened)) (a .work .now) (a .out .now)
-    (e .0) (e .1 .0) (e .1 .1) (t .next .kept .1 .1 .1 .0) (c .before .before .answer .given .1) (c .refusal .ensures)
+    (e .called) (e .kept) (e .computed) (t .next .kept .1 .1 .1 .0) (c .before .before .answer .given .1) (c .refusal .ensures)
 
 pub next-call-spec : {M : Type 1} → statement M
 next-call-spec =

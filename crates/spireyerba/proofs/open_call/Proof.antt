@@ -20,7 +20,7 @@ refusal-requires c κs =
     let start = at-open .before .before .before .before .before in
     let a = start .args in
     let e = at-open .«open» .ensures in
-    not-opened-small (a .grammar .now) (a .utterance .now) (a .work .now) (placeAt (a .handed) (a .opened)) (e .0) (e .1) (c .before .answer .given .1)
+    not-opened-small (a .grammar .now) (a .utterance .now) (a .work .now) (placeAt (a .handed) (a .opened)) (e .answer) (e .table) (c .before .answer .given .1)
 
 same-length : tie.Need-same-length
 same-length c = search needs
@@ -31,7 +31,7 @@ returns c =
     let start = at-open .before .before .before .before .before in
     let a = start .args in
     let e = at-open .«open» .ensures in
-    opened (a .grammar .now) (a .utterance .now) (a .work .now) (placeAt (a .handed) (a .opened)) (e .0) (e .1) (c .enum-told .given .1)
+    opened (a .grammar .now) (a .utterance .now) (a .work .now) (placeAt (a .handed) (a .opened)) (e .answer) (e .table) (c .enum-told .given .1)
 
 same-length-2 : tie.Need-same-length-2
 same-length-2 c = search needs
@@ -42,8 +42,8 @@ returns-2 c =
     let start = at-open .before .before .before .before .before in
     let a = start .args in
     let e = at-open .«open» .ensures in
-    not-opened (a .grammar .now) (a .utterance .now) (a .work .now) (placeAt (a .handed) (a .opened)) (e .0) (e .1) (c .before .before .answer .given .1)
-    (c .refusal .ensures)
+    not-opened (a .grammar .now) (a .utterance .now) (a .work .now) (placeAt (a .handed) (a .opened)) (e .answer) (e .table)
+    (c .before .before .answer .given .1) (c .refusal .ensures)
 
 pub open-call-spec : {M : Type 1} → statement M
 open-call-spec =

@@ -15,7 +15,7 @@ listed-code-requires c κs =
     let at-word-margins = c .before .before .before .before in
     let at-args = at-word-margins .before .before .before .before .before .before .before in
     listed-small (margins-small (at-args .args .grammar .now) (at-args .args .utterance .now) (length (at-args .args .work .now))
-    (length (at-args .args .out .now))) (at-word-margins .word-margins .ensures .0)
+    (length (at-args .args .out .now))) (at-word-margins .word-margins .ensures .0 .answer)
 
 same-length : tie.Need-same-length
 same-length c = search needs
@@ -27,13 +27,13 @@ returns : tie.Need-returns
 returns c =
     let at-word-margins = c .before .before .before .before .before in
     let at-args = at-word-margins .before .before .before .before .before .before .before in
-    let e = at-word-margins .word-margins .ensures in let code =
+    let e = at-word-margins .word-margins .ensures .0 in let code =
     listed-number (margins-small (at-args .args .grammar .now) (at-args .args .utterance .now)
-    (length (at-args .args .work .now)) (length (at-args .args .out .now))) (e .0)
+    (length (at-args .args .work .now)) (length (at-args .args .out .now))) (e .answer)
     (c .listed-code .ensures) in (
-      record { code-is = code; work-is = e .1 .0; output-is = e .1 .1 .0 },
-      margins-told (at-args .args .grammar .now) (at-args .args .utterance .now) (at-args .args .work .now) (at-args .args .out .now) code (e .1 .0)
-          (e .1 .1 .0),
+      record { code-is = code; work-is = e .work-is; output-is = e .output-is },
+      margins-told (at-args .args .grammar .now) (at-args .args .utterance .now) (at-args .args .work .now) (at-args .args .out .now) code (e .work-is)
+          (e .output-is),
     )
 
 pub spireyerba-word-margins-spec : {M : Type 1} → statement M

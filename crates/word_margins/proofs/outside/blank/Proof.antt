@@ -4,7 +4,7 @@ use mathlib.Core.List.{_++_}
 use native.Mathlib.Omega.{arith}
 use Prim.Native.Nat.{_-_, _/_, _≤_}
 use lib.ListN.{length, length-set, replicate, drop}
-use Rattle.chart_table.proofs.Zeros.{zeros-more, zeros-end}
+use Rattle.arrays.proofs.Zeros.{zeros-more, zeros-end}
 use Rattle.word_margins.specs.Model.{fourths, plain}
 use Rattle.word_margins.proofs.Views.{fourth-set, plain-set, fourths-length}
 use borrow.Author.Needs.{needs}

@@ -1,9 +1,9 @@
 -- A rank that is not kept is not read.
 use borrow.Author.Tests.{lt-ltb, le-ltb}
 use Rattle.chart_table.specs.Table.{priceAt}
 use borrow.Author.Needs.{needs}
-use Rattle.chart_table.proofs.price_at.Statement.{statement}
-use Rattle.chart_table.proofs.price_at.Tie as tie
+use Rattle.chart_entries.proofs.price_at.Statement.{statement}
+use Rattle.chart_entries.proofs.price_at.Tie as tie
 
 entry-of-requires : tie.Need-entry-of-requires
 entry-of-requires c κs = search needs

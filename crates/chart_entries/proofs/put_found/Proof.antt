@@ -1,8 +1,8 @@
 -- The upper bits of the second number are read before it is stored.
 use Rattle.chart_table.specs.Table.{putFound}
 use borrow.Author.Needs.{needs}
-use Rattle.chart_table.proofs.put_found.Statement.{statement}
-use Rattle.chart_table.proofs.put_found.Tie as tie
+use Rattle.chart_entries.proofs.put_found.Statement.{statement}
+use Rattle.chart_entries.proofs.put_found.Tie as tie
 
 entry-of-requires : tie.Need-entry-of-requires
 entry-of-requires c κs = search needs

@@ -3,10 +3,10 @@ use mathlib.Core.Path.{_≡_, sym, _∙_}
 use Prim.Native.Nat.{_-_, _≤_}
 use native.Mathlib.Omega.{arith}
 use borrow.Author.Needs.{needs}
 use Rattle.chart_table.specs.Table.{missingFrom, firstMissing}
-use Rattle.chart_table.proofs.Missing.{missing-end, missing-here, missing-behind}
-use Rattle.chart_table.proofs.first_missing.Statement.{statement}
-use Rattle.chart_table.proofs.first_missing.Tie as tie
+use Rattle.chart_entries.proofs.Missing.{missing-end, missing-here, missing-behind}
+use Rattle.chart_entries.proofs.first_missing.Statement.{statement}
+use Rattle.chart_entries.proofs.first_missing.Tie as tie
 
 abbrev Inv-loop : tie.InvT-loop
 Inv-loop t d c ranks x₀ x = (x ≤ d .ranks) × (firstMissing t d c ≡ missingFrom t d c (d .ranks - x) x)

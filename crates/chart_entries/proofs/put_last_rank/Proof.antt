@@ -1,9 +1,9 @@
 -- The test is the definition's.
 use borrow.Author.Tests.{lt-ltb, le-ltb}
 use Rattle.chart_table.specs.Table.{lastRank, putLastRank}
 use borrow.Author.Needs.{needs}
-use Rattle.chart_table.proofs.put_last_rank.Statement.{statement}
-use Rattle.chart_table.proofs.put_last_rank.Tie as tie
+use Rattle.chart_entries.proofs.put_last_rank.Statement.{statement}
+use Rattle.chart_entries.proofs.put_last_rank.Tie as tie
 
 beside-at-requires : tie.Need-beside-at-requires
 beside-at-requires c κs = search needs

@@ -1,8 +1,8 @@
 -- The lower bits of the second number are read before it is stored.
 use Rattle.chart_table.specs.Table.{putBeside}
 use borrow.Author.Needs.{needs}
-use Rattle.chart_table.proofs.put_beside.Statement.{statement}
-use Rattle.chart_table.proofs.put_beside.Tie as tie
+use Rattle.chart_entries.proofs.put_beside.Statement.{statement}
+use Rattle.chart_entries.proofs.put_beside.Tie as tie
 
 entry-of-requires : tie.Need-entry-of-requires
 entry-of-requires c κs = search needs

@@ -1,13 +1,13 @@
 -- What is passed is 0: the list is that many zeros and what stood behind them.
 use lib.ListN.{length-set, length, replicate, drop}
-use Rattle.chart_table.proofs.Zeros.{zeros-more, zeros-end}
+use Rattle.arrays.proofs.Zeros.{zeros-more, zeros-end}
 use Prim.Native.Nat.{_≤_, _-_}
 use mathlib.Core.Path.{_≡_, refl, _∙_}
 use mathlib.Core.List.{_++_}
 use native.Mathlib.Omega.{arith}
 use borrow.Author.Needs.{needs}
-use Rattle.chart_table.proofs.zero.Statement.{statement}
-use Rattle.chart_table.proofs.zero.Tie as tie
+use Rattle.arrays.proofs.zero.Statement.{statement}
+use Rattle.arrays.proofs.zero.Tie as tie
 
 abbrev Inv-loop : tie.InvT-loop
 Inv-loop t₀ n x₀ t x = (n ≡ length t₀) × (x ≤ n) × (length t ≡ length t₀) × (t ≡ replicate x 0 ++ drop x t₀)

@@ -1,9 +1,9 @@
 -- The price decides whether it is one.
 use mathlib.Core.Path.{sym}
-use Rattle.chart_table.proofs.Keys.{put-some, put-none}
+use Rattle.chart_entries.proofs.Keys.{put-some, put-none}
 use borrow.Author.Needs.{needs}
-use Rattle.chart_table.proofs.put_key.Statement.{statement}
-use Rattle.chart_table.proofs.put_key.Tie as tie
+use Rattle.chart_entries.proofs.put_key.Statement.{statement}
+use Rattle.chart_entries.proofs.put_key.Tie as tie
 
 put-found-requires : tie.Need-put-found-requires
 put-found-requires c κs = search needs

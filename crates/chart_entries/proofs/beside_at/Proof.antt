@@ -1,8 +1,8 @@
 -- The numbers of an entry are below 2 ^ 32.
 use Rattle.chart_table.specs.Table.{besideAt}
 use borrow.Author.Needs.{needs}
-use Rattle.chart_table.proofs.beside_at.Statement.{statement}
-use Rattle.chart_table.proofs.beside_at.Tie as tie
+use Rattle.chart_entries.proofs.beside_at.Statement.{statement}
+use Rattle.chart_entries.proofs.beside_at.Tie as tie
 
 entry-of-requires : tie.Need-entry-of-requires
 entry-of-requires c κs = search needs

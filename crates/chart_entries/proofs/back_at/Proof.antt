@@ -1,8 +1,8 @@
 -- The back pointer is the third number of the entry.
 use Rattle.chart_table.specs.Table.{backAt}
 use borrow.Author.Needs.{needs}
-use Rattle.chart_table.proofs.back_at.Statement.{statement}
-use Rattle.chart_table.proofs.back_at.Tie as tie
+use Rattle.chart_entries.proofs.back_at.Statement.{statement}
+use Rattle.chart_entries.proofs.back_at.Tie as tie
 
 entry-of-requires : tie.Need-entry-of-requires
 entry-of-requires c κs = search needs
