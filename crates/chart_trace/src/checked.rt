@@ -28,12 +28,6 @@ use packing::format::EDGE_WORD_AT;
 use packing::format::NOT_HEARD;
 use packing::format::NUMBERS_PER_EDGE;
 use packing::format::NUMBERS_PER_NODE;
-use packing::format::NUMBERS_PER_RULE;
-use packing::format::PAIR_RULE;
-use packing::format::RULE_FIRST_AT;
-use packing::format::RULE_HEAD_AT;
-use packing::format::RULE_SECOND_AT;
-use packing::format::RULE_WEIGHT_AT;
 ghost use mathlib.Core.Path.{_≡_};
 ghost use mathlib.Core.Option.{some};
 ghost use Prim.Native.Nat.{ℕ, _+_, _-_, _*_, _<_, _≤_};
@@ -115,24 +109,6 @@ fn store_node(trace: &mut [u32], at: usize, b: BackPointer)
     }
     store(trace, at, b.rule as u32);
     store(trace, at + 1, b.left as u32);
-}
-
-// Rule r of an array of five numbers a rule.
-fn whole_rule(rules: &[u32], r: usize) -> Rule
-    requires { ⌜ r < u32Values ⌝ }
-    ensures { λ x. ⌜ x ≡ ruleAt (now (rules .entry)) r ⌝ }
-{
-    let at = NUMBERS_PER_RULE * r;
-    if at + RULE_SECOND_AT < rules.len() {
-        let head = Sym(rules[at + RULE_HEAD_AT]);
-        let weight = rules[at + RULE_WEIGHT_AT];
-        let first = rules[at + RULE_FIRST_AT];
-        if rules[at] == PAIR_RULE {
-            return Rule::Pair(head, Sym(first), Sym(rules[at + RULE_SECOND_AT]), weight);
-        }
-        return Rule::Word(head, Word(first), weight);
-    }
-    rule_at(rules, r)
 }
 
 // Edge e of an array of four numbers an edge.
@@ -227,7 +203,7 @@ fn checked_node(rules: &[u32], edges: &[u32], scope: Scope, c: Cell, b: BackPoin
     if scope.rules <= b.rule {
         return CheckedNode::Wrong;
     }
-    let rule = whole_rule(rules, b.rule);
+    let rule = rule_at(rules, b.rule);
     match rule {
         Rule::Pair(head, first, second, weight) => {
             if head.0 != c.head.0 {

@@ -11,8 +11,8 @@ returns : tie.Need-returns
 unfolding checkedNode
 returns c = (simp (le-ltb _ _ (c .if1 .taken)), omega arith)
 
-whole-rule-requires : tie.Need-whole-rule-requires
-whole-rule-requires c κs = search needs
+rule-at-requires : tie.Need-rule-at-requires
+rule-at-requires c κs = search needs
 
 enum-known-rule : tie.Need-enum-known-rule
 enum-known-rule c = search needs
@@ -24,7 +24,7 @@ returns-2 c =
     let c₇ = c₆ .before in
     let c₁₂ = c₇ .before .before .before .before .before in (
       simp (
-        by-rule (c₁₂ .args .rules .now) (c₁₂ .args .edges .now) (c₁₂ .args .scope) (c₁₂ .args .c) (c₁₂ .args .b) (c₇ .if1 .left) (c₆ .whole-rule .ensures)
+        by-rule (c₁₂ .args .rules .now) (c₁₂ .args .edges .now) (c₁₂ .args .scope) (c₁₂ .args .c) (c₁₂ .args .b) (c₇ .if1 .left) (c₆ .rule-at .ensures)
             (c₄ .rule .given .1),
         ne-eqb _ _ (c .if2 .taken),
       ),
@@ -39,7 +39,7 @@ returns-3 c =
     let c₁₀ = c₉ .before in
     let c₁₅ = c₁₀ .before .before .before .before .before in (
       simp (
-        by-rule (c₁₅ .args .rules .now) (c₁₅ .args .edges .now) (c₁₅ .args .scope) (c₁₅ .args .c) (c₁₅ .args .b) (c₁₀ .if1 .left) (c₉ .whole-rule .ensures)
+        by-rule (c₁₅ .args .rules .now) (c₁₅ .args .edges .now) (c₁₅ .args .scope) (c₁₅ .args .c) (c₁₅ .args .b) (c₁₀ .if1 .left) (c₉ .rule-at .ensures)
             (c₇ .rule .given .1),
         eq-eqb _ _ (c₃ .if2 .left),
         le-ltb _ _ (c .if3 .taken),
@@ -56,7 +56,7 @@ returns-4 c =
     let c₁₃ = c₁₂ .before in
     let c₁₈ = c₁₃ .before .before .before .before .before in (
       simp (
-        by-rule (c₁₈ .args .rules .now) (c₁₈ .args .edges .now) (c₁₈ .args .scope) (c₁₈ .args .c) (c₁₈ .args .b) (c₁₃ .if1 .left) (c₁₂ .whole-rule .ensures)
+        by-rule (c₁₈ .args .rules .now) (c₁₈ .args .edges .now) (c₁₈ .args .scope) (c₁₈ .args .c) (c₁₈ .args .b) (c₁₃ .if1 .left) (c₁₂ .rule-at .ensures)
             (c₁₀ .rule .given .1),
         eq-eqb _ _ (c₆ .if2 .left),
         lt-ltb _ _ (c₃ .if3 .left),
@@ -78,7 +78,7 @@ returns-5 c =
     let c₇ = c₆ .before in
     let c₁₂ = c₇ .before .before .before .before .before in (
       simp (
-        by-rule (c₁₂ .args .rules .now) (c₁₂ .args .edges .now) (c₁₂ .args .scope) (c₁₂ .args .c) (c₁₂ .args .b) (c₇ .if1 .left) (c₆ .whole-rule .ensures)
+        by-rule (c₁₂ .args .rules .now) (c₁₂ .args .edges .now) (c₁₂ .args .scope) (c₁₂ .args .c) (c₁₂ .args .b) (c₇ .if1 .left) (c₆ .rule-at .ensures)
             (c₄ .rule2 .given .1),
         ne-eqb _ _ (c .if5 .taken),
       ),
@@ -97,7 +97,7 @@ returns-6 c =
     let c₁₄ = c₁₃ .before in
     let c₁₉ = c₁₄ .before .before .before .before .before in (
       simp (
-        by-rule (c₁₉ .args .rules .now) (c₁₉ .args .edges .now) (c₁₉ .args .scope) (c₁₉ .args .c) (c₁₉ .args .b) (c₁₄ .if1 .left) (c₁₃ .whole-rule .ensures)
+        by-rule (c₁₉ .args .rules .now) (c₁₉ .args .edges .now) (c₁₉ .args .scope) (c₁₉ .args .c) (c₁₉ .args .b) (c₁₄ .if1 .left) (c₁₃ .rule-at .ensures)
             (c₁₁ .rule .given .1),
         eq-eqb _ _ (c₇ .if2 .left),
         lt-ltb _ _ (c₄ .if3 .left),
@@ -114,7 +114,7 @@ returns-7 c =
     let c₈ = c₇ .before in
     let c₁₃ = c₈ .before .before .before .before .before in (
       rw (
-        by-rule (c₁₃ .args .rules .now) (c₁₃ .args .edges .now) (c₁₃ .args .scope) (c₁₃ .args .c) (c₁₃ .args .b) (c₈ .if1 .left) (c₇ .whole-rule .ensures)
+        by-rule (c₁₃ .args .rules .now) (c₁₃ .args .edges .now) (c₁₃ .args .scope) (c₁₃ .args .c) (c₁₃ .args .b) (c₈ .if1 .left) (c₇ .rule-at .ensures)
             (c₅ .rule2 .given .1),
         eq-eqb _ _ (c .before .if5 .left),
       ) (c .checked-leaf .ensures .0),
@@ -126,7 +126,7 @@ checked-node-spec =
     tie.close
     (tie.spec
     returns
-    whole-rule-requires
+    rule-at-requires
     enum-known-rule
     returns-2
     returns-3
