@@ -1,5 +1,4 @@
--- The sizes of a table, its front, and the checked trace of the root.
+-- The sizes of a table, and its front.
 pub mod Sizes
 pub mod Front
-pub mod Checked
 pub mod WorkTable

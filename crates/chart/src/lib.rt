@@ -1,7 +1,5 @@
 // The chart as its callers see it: a work table laid out, the least trees of the root enumerated in it, traced back, and the
 // table cleared.
-pub mod steps;
-
 use arrays::zero;
 use chart_clearing::clear;
 use chart_entries::first_missing;

@@ -1,7 +1,6 @@
 // Readings one by one: an open listing keeps its place between calls, and each call hands out one more reading from a work table for as
 // many ranks as can be listed.
 use arrays::zero;
-use chart::steps;
 use chart_index::INDEX_NUMBERS;
 use chart_journal::JOURNAL_NUMBERS;
 use chart_table::Layout;
@@ -107,7 +106,7 @@ fn hand_out(
         named: plan.form.graph,
     };
     let mut trace = [0u32; TRACE_LENGTH];
-    let numbers = steps::checked_root(t, rules, edges, scope, d, rank, &mut trace);
+    let numbers = root_steps::checked_root(t, rules, edges, scope, d, rank, &mut trace);
     if numbers == 0 {
         return false;
     }
@@ -148,7 +147,7 @@ fn settle(
     ensures { λ r. ⌜ (r ≡ settled (now (t .entry)) (now (rules .entry)) (now (edges .entry)) plan rank (rootFound (now (t .entry)) (plan .layout) rank))
         × (now (out .exit) ≡ outputBy (isReading r) (now (t .entry)) (now (rules .entry)) plan rank (now (out .entry))) ⌝ }
 {
-    if steps::root_found(t, plan.layout, rank) {
+    if root_steps::root_found(t, plan.layout, rank) {
         return as_spelled(t, rules, edges, plan, rank, out);
     }
     Answer::NoMore
@@ -203,13 +202,13 @@ fn later(
     let d = plan.layout;
     let mut index = [0u32; INDEX_NUMBERS];
     let mut kept = [0u32; JOURNAL_NUMBERS];
-    steps::index_of(rules, plan.form.rules, edges, plan.edges, d, &mut index);
-    steps::step(work, &mut kept, rules, edges, &index, d, handed - 1);
+    root_steps::index_of(rules, plan.form.rules, edges, plan.edges, d, &mut index);
+    root_steps::step(work, &mut kept, rules, edges, &index, d, handed - 1);
     let answer = settle(&work[..], rules, edges, plan, handed, out);
     if is_reading(answer) {
         return answer;
     }
-    steps::undo(work, &kept);
+    root_steps::undo(work, &kept);
     answer
 }
 

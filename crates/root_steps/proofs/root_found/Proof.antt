@@ -1,8 +1,8 @@
 -- A rank is found if its price plus 1 is not 0.
 use Rattle.chart.specs.Chart.{rootFound}
 use borrow.Author.Needs.{needs}
-use Rattle.chart.proofs.steps.root_found.Statement.{statement}
-use Rattle.chart.proofs.steps.root_found.Tie as tie
+use Rattle.root_steps.proofs.root_found.Statement.{statement}
+use Rattle.root_steps.proofs.root_found.Tie as tie
 
 root-requires : tie.Need-root-requires
 root-requires c κs = search needs

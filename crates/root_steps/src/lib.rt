@@ -1,6 +1,6 @@
 // The ranks of the root one by one, in a table that comes back as it was left, and what was written over put back.
-use crate::root_weight;
 use arrays::wide;
+use chart::root_weight;
 use chart_entries::price_at;
 use chart_index::make_index;
 use chart_journal::put_back;

@@ -1,0 +1,2 @@
+-- The checked trace of the root.
+pub mod Checked
