@@ -32,11 +32,12 @@ use Rattle.chart_theory.proofs.Accepted.{layout, chart-firsts}
 use Rattle.chart.specs.WorkTable.{tableSize}
 use Rattle.one_best.specs.Model.{tableBy}
 use Rattle.one_best.proofs.Found.{passOf, pass-none, pass-some}
-use Rattle.word_margins.specs.Model.{plain, fill, useNode, useNodes, firstUsed, tableList, passList}
-use Rattle.word_margins.proofs.Decoded.{read, inside-read}
-use Rattle.word_margins.proofs.Views.{inside-plain}
-use Rattle.word_margins.proofs.Spans.{Source}
-use Rattle.word_margins.proofs.Filled.{fill-is}
+use Rattle.outside_weights.specs.Model.{plain, fill}
+use Rattle.word_margins.specs.Model.{useNode, useNodes, firstUsed, tableList, passList}
+use Rattle.outside_weights.proofs.Decoded.{read, inside-read}
+use Rattle.outside_weights.proofs.Views.{inside-plain}
+use Rattle.outside_weights.proofs.Spans.{Source}
+use Rattle.outside_weights.proofs.Filled.{fill-is}
 use Rattle.word_margins.proofs.Collected.{entries-are}
 
 -- the edges of a tree, marked
