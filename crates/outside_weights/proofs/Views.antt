@@ -80,7 +80,7 @@ unfolding insideAt
 inside-plain t d c = rw (price-plain t d c)
 
 -- what is around the root, in zeros
-zeros-read : (n c : ℕ) → getD {A = ℕ} (replicate n 0) c 0 ≡ 0
+pub zeros-read : (n c : ℕ) → getD {A = ℕ} (replicate n 0) c 0 ≡ 0
 zeros-read zero c = refl
 zeros-read (suc n) zero = refl
 zeros-read (suc n) (suc c) = zeros-read n c
