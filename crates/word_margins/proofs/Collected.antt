@@ -17,6 +17,7 @@ use Rattle.packing.specs.declared.Rule as R
 use Rattle.packing.specs.declared.Rule.the-variants.{Pair, Word}
 use Rattle.packing.specs.Meaning.{notHeard, symbolOf, word, Grammar, Utterance, edge, edges}
 use Rattle.packing.specs.Flat.{ruleAt}
+use Rattle.packing.specs.Loop.{iter}
 use Rattle.derivation.specs.Derivation.{At, Tree, weight}
 use Rattle.derivation.proofs.Ranges.{Ascending}
 use Rattle.derivation.proofs.Slots.{edge-slot, edges-short}
@@ -27,22 +28,31 @@ use Rattle.chart_theory.proofs.Table.Cells.{InChart}
 use Rattle.cost_changes.specs.Costs.{First}
 use Rattle.cost_changes.specs.Margins as M
 use Rattle.cost_changes.specs.Outside as O
-use Rattle.cost_changes.specs.Outside.{sum, outside, throughBy}
+use Rattle.cost_changes.specs.Outside.{leastUpto, sum, outside, throughBy}
 use Rattle.cost_changes.specs.Listed.{entryFrom, entryOf, listed}
 use Rattle.cost_changes.proofs.Theorems.{edges-forward}
 use Rattle.cost_changes.proofs.Least.{upto-same}
 use Rattle.cost_changes.proofs.Agree.{AgreeAbove, through-same}
 use Rattle.cost_changes.proofs.Through.{through-bound}
 use Rattle.cost_changes.proofs.Margins.{first-under}
-use Rattle.word_margins.specs.Model.{joined, leafThrough, through, noEntry, asEntry, marginOf, edgeEntry, entriesUpto}
-use Rattle.word_margins.proofs.Decoded.{read, read-some, joined-read, iter-read, outerIn}
-use Rattle.word_margins.proofs.Spans.{Source}
-use Rattle.word_margins.proofs.Filled.{passWith}
+use Rattle.outside_weights.specs.Model.{lesser}
+use Rattle.outside_weights.proofs.Decoded.{read, read-some, not-zero, lesser-read, outerIn}
+use Rattle.outside_weights.proofs.Spans.{Source}
+use Rattle.outside_weights.proofs.Filled.{passWith}
+use Rattle.word_margins.specs.Model.{heavier, leafThrough, through, noEntry, asEntry, marginOf, edgeEntry, entriesUpto}
 
-sum-leaf : (w c : ℕ) (o : Option ℕ) → sum (w + c) o (some 0) ≡ sum w (some c) o
-unfolding sum
-sum-leaf w c none = refl
-sum-leaf w c (some v) = let h : w + c + v + 0 ≡ w + c + v = omega arith in ap some h
+heavier-read : (a w c : ℕ) → read (heavier a (w + c)) ≡ sum w (some c) (read a)
+unfolding heavier read sum
+heavier-read zero w c = refl
+heavier-read (suc a) w c =
+    let h : suc a + (w + c) ≡ suc (w + c + a) = omega arith in
+    rw (not-zero a, h)
+
+-- a loop that keeps the least so far
+iter-read : (f : ℕ → ℕ) (n : ℕ) → read (iter (λ m x. lesser m (f x)) 0 n) ≡ leastUpto (λ x. read (f x)) n
+unfolding iter read leastUpto
+iter-read f zero = refl
+iter-read f (suc n) = lesser-read (iter (λ m x. lesser m (f x)) 0 n) (f n) ∙ rw (iter-read f n)
 
 -- the least weight through a word
 module _ (o : List ℕ) (d : Layout) (s x c : ℕ) where
@@ -51,10 +61,10 @@ module _ (o : List ℕ) (d : Layout) (s x c : ℕ) where
   leaf-read (Pair H L R w) = refl
   leaf-read (Word H y w) = go (eqb (y .0) x)
     where
-      go : (b : Bool) → read (pick b (joined (getD o (cellNumber d (cell H s (s + 1))) 0) (w + c) 1) 0)
+      go : (b : Bool) → read (pick b (heavier (getD o (cellNumber d (cell H s (s + 1))) 0) (w + c)) 0)
           ≡ pick b (sum w (some c) (outerIn d o H s (suc s))) none
       go false = refl
-      go true = rw (add-one s) (joined-read (getD o (cellNumber d (cell H s (suc s))) 0) (w + c) 1 ∙ sum-leaf w c (outerIn d o H s (suc s)))
+      go true = rw (add-one s) (heavier-read (getD o (cellNumber d (cell H s (suc s))) 0) w c)
 
   through-read : (g : Grammar) (rules : List ℕ) → ((r : ℕ) → r < length (g .rules) → At (g .rules) r (ruleAt rules r))
       → read (through o rules (length (g .rules)) d s x c) ≡ O.through g (outerIn d o) (edge s (suc s) (word x) c)

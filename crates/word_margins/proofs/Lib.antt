@@ -1,11 +1,6 @@
-pub mod Views
 pub mod Steps
-pub mod Marking
 pub mod Carried
 pub mod Insertion
-pub mod Decoded
-pub mod Spans
-pub mod Filled
 pub mod Collected
 pub mod PassListed
 pub mod WaysOut

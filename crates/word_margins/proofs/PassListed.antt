@@ -3,7 +3,7 @@
 use mathlib.Core.Path.{_≡_, refl, sym, ap, _∙_}
 use mathlib.Core.Bool.{Bool, true, false}
 use mathlib.Core.List.{List, [], _∷_, _++_}
-use Prim.Native.Nat.{ℕ, zero, suc, _+_, _*_, _/_, _≤_, _<_}
+use Prim.Native.Nat.{ℕ, _+_, _*_, _/_, _≤_, _<_}
 use native.Mathlib.Nat.{le-refl, mul-assoc}
 use native.Mathlib.Omega.{arith}
 use native.Mathlib.Decide.{ℕ-discrete}
@@ -32,11 +32,12 @@ use Rattle.chart_theory.proofs.Accepted.{layout, chart-firsts}
 use Rattle.chart.specs.WorkTable.{tableSize}
 use Rattle.one_best.specs.Model.{tableBy}
 use Rattle.one_best.proofs.Found.{passOf, pass-none, pass-some}
-use Rattle.word_margins.specs.Model.{plain, fill, useNode, useNodes, firstUsed, tableList, passList}
-use Rattle.word_margins.proofs.Decoded.{read, inside-read}
-use Rattle.word_margins.proofs.Views.{inside-plain}
-use Rattle.word_margins.proofs.Spans.{Source}
-use Rattle.word_margins.proofs.Filled.{fill-is}
+use Rattle.outside_weights.specs.Model.{plain, fill}
+use Rattle.word_margins.specs.Model.{useNode, useNodes, firstUsed, tableList, passList}
+use Rattle.outside_weights.proofs.Decoded.{read, inside-read}
+use Rattle.outside_weights.proofs.Views.{inside-plain, zeros-read}
+use Rattle.outside_weights.proofs.Spans.{Source}
+use Rattle.outside_weights.proofs.Filled.{fill-is}
 use Rattle.word_margins.proofs.Collected.{entries-are}
 
 -- the edges of a tree, marked
@@ -75,11 +76,6 @@ marked (node r j a b) used e l =
     go true true = refl
     go true false = refl
     go false q = refl
-
-zeros : (n z : ℕ) → getD {A = ℕ} (replicate n 0) z 0 ≡ 0
-zeros zero z = refl
-zeros (suc n) zero = refl
-zeros (suc n) (suc z) = zeros n z
 
 pub few-edges : (W : ℕ) (u : Utterance) → ValidUtterance W u → length (edges u) ≤ 168
 unfolding utteranceEntries
@@ -130,14 +126,14 @@ module _ (g : Grammar) (okg : ValidGrammar g) (rules : List ℕ) (has-rules : Be
       rw (rank .has .weighs, rank .has .nodes, first-place g u first)
       (entries-are u (source z first) refl (valid-ascending (g .words) u oku) z first array (λ e. edge-at (edges u) array e has-edges)
       (fill free (plain table) rules (passOf g u))
-      (λ A i k in-chart. fill-is (source z first) free (rw length-replicate few-cells) (zeros (length table / 4)) (length (edges u)) A i k in-chart)
+      (λ A i k in-chart. fill-is (source z first) free (rw length-replicate few-cells) (zeros-read (length table / 4)) (length (edges u)) A i k in-chart)
       (useNodes (replicate 168 0) (trace z)) (λ e. has e (edgesOf z)) (λ e l. used-is z e l) (length (edges u)) (length (edges u)) (le-refl _))
     where
       used-is : (z : Tree) (e : ℕ) → e < length (edges u)
           → has e (edgesOf z) ≡ pick (eqb (getD (useNodes (replicate 168 0) (trace z)) e 0) 0) false true
       used-is z e l =
           let flag = marked z (replicate 168 0) e (rw length-replicate (omega (arith, few-edges (g .words) u oku))) in
-          rw (flag, zeros 168 e) (go (has e (edgesOf z)))
+          rw (flag, zeros-read 168 e) (go (has e (edgesOf z)))
         where
           go : (b : Bool) → b ≡ pick (eqb (pick b 1 0) 0) false true
           go true = refl

@@ -1,8 +1,6 @@
 // Which word to listen to again: for each offered word that the first reading does not use in its slot, the least amount by which its cost
 // alone must fall for another reading to be strictly lighter than the first is now.
 mod entries;
-mod marks;
-mod outside;
 
 use arrays::rule_at;
 use arrays::store;
@@ -16,7 +14,7 @@ use inputs::InputsRead;
 use inputs::Listed;
 use inputs::read_slot_inputs;
 use one_best::Pass;
-use outside::fill;
+use outside_weights::fill;
 use packing::Rule;
 use packing::format::EDGES_LENGTH;
 use packing::format::MAX_CANDIDATES;
