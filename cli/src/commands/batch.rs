@@ -18,7 +18,7 @@ use crate::options::{
     SAID, SCALE, SKIP, WANTED,
 };
 use crate::output::Output;
-use crate::words::{push_notes, Changed, Entry, Words};
+use crate::words::{push_notes, Changed, Entry, Why, Words};
 use lattices::Lines;
 pub use lattices::{are_lattices, named};
 pub use line::Line;
@@ -229,13 +229,13 @@ impl<'a> Worker<'a> {
     /// Adds the answer of what was heard at some place, or of the slots whose block is at hand, or why it is refused.
     fn answer(
         &mut self,
-        changed: Option<&Result<Changed, String>>,
+        changed: Option<&Result<Changed, Why>>,
         place: impl Fn() -> String,
         begin: impl Fn(&mut Vec<u8>),
         answers: &mut Answers,
     ) {
         let answered = match changed.map(Result::as_ref).transpose() {
-            Err(why) => Err(Refused::new(&place(), why.clone())),
+            Err(why) => Err(Refused::new(&place(), why.reason.clone())),
             Ok(changed) => {
                 let answered = self.answer_heard(changed, &begin, &mut answers.json);
                 answered.map_err(|refusal| Error::from(refusal).in_file(&place()).into())

@@ -170,7 +170,7 @@ impl Schedule<'_> {
         let id = id.or(entry.id.as_deref());
         let lattice = match &entry.changed {
             Ok(changed) => &changed.lattice,
-            Err(why) => return self.refused(line, id, format!("{place}: {why}")),
+            Err(why) => return self.refused(line, id, format!("{place}: {}", why.reason)),
         };
         let missing = lattice.notes().join("; ");
         match self.first_of(lattice) {

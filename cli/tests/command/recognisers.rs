@@ -182,6 +182,61 @@ fn refused_lattices_have_names() {
     );
 }
 
+/// Of an archive each lattice that cannot be read or does not fit is refused by itself, with its name, and the others are answered;
+/// if none can be read, the file is refused.
+#[test]
+fn lattices_beside_refused_ones() {
+    let long: String = (0..30).map(|state| format!("{state} {} x 1\n", state + 1)).collect();
+    let (unknown, empty) = ("unknown\n0 1 x 1\n1 2 window 2\n2\n\n", "empty\n\n");
+    let archive = format!("{unknown}one\n0 1 x 1\n1\n\n{empty}long\n{long}30\n\ntwo\n0 1 x 2\n1\n");
+    let none = format!("{unknown}{empty}");
+    let files = [
+        ("g", &b"A -> A A | \"x\""[..]),
+        ("archive", archive.as_bytes()),
+        ("none", none.as_bytes()),
+        ("list", b"archive\n"),
+    ];
+    let folder = folder("batch_beside_refused", &files);
+    let why = [
+        "archive:3:1: unknown: refused 14: the grammar has no word `window`",
+        "archive:11:1: empty: refused 13: there is no arc",
+        "archive:44:1: long: refused 13: even what weighs the least takes 31 places and 30 edges, and a word graph has 25 places and \
+         96 edges: cut the utterance in two, or give words different scores",
+    ];
+    let reading =
+        |weight| format!(r#"{{"rank":1,"weight":{weight},"words":["x"],"rules":[1],"edges":[0],"links":[0]}}"#);
+    let refused = |id: &str, why: &str| format!("{{\"line\":1,\"id\":\"{id}\",\"error\":\"{why}\"}}\n");
+    let read = |id: &str, weight| format!("{{\"line\":1,\"id\":\"{id}\",\"readings\":[{}]}}\n", reading(weight));
+    let answers =
+        [refused("unknown", why[0]), read("one", 1), refused("empty", why[1]), refused("long", why[2]), read("two", 2)];
+    let errors = format!("{}\n3 of 5 utterances refused\n", why.join("\n"));
+    for words in ["archive", "--files list"] {
+        let run = run_in(&folder, &format!("batch g {words}"));
+        assert_eq!(run, Run { status: 1, out: answers.concat(), err: errors.clone() }, "{words}");
+    }
+    for words in ["archive", "--files list"] {
+        let rows = run_in(&folder, &format!("schedule g {words} --columns A"));
+        let [unknown, empty, long] = why;
+        let table = format!(
+            "line,id,A,weight,note\r\n1,unknown,,,{unknown}\r\n1,one,x,1,\r\n1,empty,,,{empty}\r\n1,long,,,\"{long}\"\r\n1,two,x,2,\r\n"
+        );
+        assert_eq!(rows, Run { status: 0, out: table, err: String::new() }, "{words}");
+    }
+    // with what the command line says of words
+    let run = run_in(&folder, "batch g archive --said x");
+    assert_eq!((run.status, run.out.matches("\"error\":").count()), (1, 3), "{}", run.out);
+    assert!(run.err.starts_with(&format!("{}\n{}\narchive: long: ", why[0], why[1])), "{}", run.err);
+    let all = "none:3:1: refused 14: the grammar has no word `window`";
+    let run = run_in(&folder, "batch g none");
+    let answer = format!("{{\"line\":1,\"id\":\"none\",\"error\":\"{all}\"}}\n");
+    assert_eq!(run, Run { status: 1, out: answer, err: format!("{all}\n1 of 1 utterances refused\n") });
+    let one = run_in(&folder, "list g archive");
+    assert_eq!(
+        (one.status, one.err.as_str()),
+        (1, "archive:47:1: the text has 5 utterances, and one is read here: `batch` takes many\n")
+    );
+}
+
 /// Wherever a run over files was interrupted, which may have several lattices, none is answered twice or left out.
 #[test]
 fn an_interrupted_run_over_files_goes_on() {

@@ -209,6 +209,15 @@ impl Recognised {
     }
 }
 
+/// One of several that a text has which cannot be read.
+#[derive(Clone, Debug, PartialEq)]
+pub struct Unread {
+    /// The name of the utterance, if the text has one.
+    pub id: Option<String>,
+    /// Why.
+    pub error: Error,
+}
+
 /// What was heard, and what it is of what a text has.
 #[derive(Clone, Debug, PartialEq)]
 pub struct Lattice {

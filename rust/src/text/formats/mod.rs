@@ -16,7 +16,7 @@ use super::utterance::UtteranceReader;
 use super::{without_mark, Fault};
 use crate::{Error, Heard};
 pub(super) use draft::{Draft, Link, MAX_LINKS};
-pub use draft::{Lattice, Recognised};
+pub use draft::{Lattice, Recognised, Unread};
 
 /// A format of what was heard.
 #[derive(Clone, Copy, Debug, PartialEq, Eq)]
@@ -159,29 +159,53 @@ impl UtteranceReader<'_> {
 
     /// Reads the one lattice of a text as an acceptor, over the labels of the grammar's words.
     pub fn recognised_alone(&self, text: &str) -> Result<Recognised, Error> {
-        alone(self.drafts(without_mark(text))?, text)?.recognised(self)
+        alone(self.drafts(without_mark(text))?, text)?.map_err(|unread| unread.error)?.recognised(self)
     }
 
-    /// Reads all that a text has, of which only some formats have several.
-    pub fn read_all_heard(&self, text: &str) -> Result<Vec<Lattice>, Error> {
+    /// Reads all that a text has, of which only some formats have several. Of several one that cannot be read stands between the
+    /// others with the reason; if none can be read, the text is refused for the first one's.
+    ///
+    /// ```
+    /// use spireyerba::text::{NamedGrammar, UtteranceReader};
+    ///
+    /// let doors = NamedGrammar::parse("Entry -> Door Number\nDoor -> \"door\"\nNumber -> \"four\" | \"five\"")?;
+    /// let archive = "one\n0 1 door 1\n1 2 four 2\n2\n\ntwo\n0 1 window 1\n1\n";
+    /// let all = UtteranceReader::new(&doors).read_all_heard(archive)?;
+    /// assert_eq!(all[0].as_ref().map(|lattice| lattice.id.as_deref()), Ok(Some("one")));
+    /// let unread = all[1].as_ref().unwrap_err();
+    /// assert_eq!(unread.id.as_deref(), Some("two"));
+    /// assert_eq!(unread.error.to_string(), "text:7:1: refused 14: the grammar has no word `window`");
+    /// # Ok::<(), spireyerba::Error>(())
+    /// ```
+    pub fn read_all_heard(&self, text: &str) -> Result<Vec<Result<Lattice, Unread>>, Error> {
+        let reduce = |read: Result<Recognised, Unread>| {
+            let recognised = read?;
+            recognised.reduce(self.keep, self.exact).map_err(|error| Unread { id: recognised.id, error })
+        };
         match self.read_plain(text) {
-            Some(plain) => plain.map(|plain| vec![plain]),
-            None => self.recognised(text)?.iter().map(|recognised| recognised.reduce(self.keep, self.exact)).collect(),
+            Some(plain) => plain.map(|plain| vec![Ok(plain)]),
+            None => some_read(self.recognised(text)?.into_iter().map(reduce)),
         }
     }
 
     /// The words of a text that are left out, each once.
     fn left_out(&self, text: &str) -> Vec<String> {
+        let recognised = || self.recognised(text).into_iter().flatten().flatten();
         match self.drop_unknown {
-            true => self.recognised(text).into_iter().flatten().flat_map(|recognised| recognised.dropped).collect(),
+            true => recognised().flat_map(|recognised| recognised.dropped).collect(),
             false => Vec::new(),
         }
     }
 
-    /// Reads all that a text has as acceptors, over the labels of the grammar's words.
-    pub fn recognised(&self, text: &str) -> Result<Vec<Recognised>, Error> {
-        let drafts = self.drafts(without_mark(text))?;
-        drafts.into_iter().map(|draft| draft.recognised(self)).collect()
+    /// Reads all that a text has as acceptors, over the labels of the grammar's words. Of several one that cannot be read stands
+    /// between the others, as in [`read_all_heard`](Self::read_all_heard).
+    pub fn recognised(&self, text: &str) -> Result<Vec<Result<Recognised, Unread>>, Error> {
+        let recognised = |draft: Result<Draft, Unread>| {
+            let draft = draft?;
+            let id = draft.id.clone();
+            draft.recognised(self).map_err(|error| Unread { id, error })
+        };
+        some_read(self.drafts(without_mark(text))?.into_iter().map(recognised))
     }
 
     /// Reads a text in one of the formats that take no lattice: slots, a network that is slots, or a plain word graph; nothing if
@@ -208,8 +232,8 @@ impl UtteranceReader<'_> {
         (!is_wide && !is_other_fst).then(|| Ok(Lattice { dropped: self.left_out(text), ..Lattice::from(plain?) }))
     }
 
-    fn drafts(&self, text: &str) -> Result<Vec<Draft>, Error> {
-        let one = |draft: Draft| vec![draft];
+    fn drafts(&self, text: &str) -> Result<Vec<Result<Draft, Unread>>, Error> {
+        let one = |draft: Draft| vec![Ok(draft)];
         match self.format.unwrap_or_else(|| Format::of(text)) {
             Format::Slots => self.slots_draft(text).map(one),
             Format::Network => Alignments::parse(text)?.draft(self).map(one),
@@ -228,6 +252,16 @@ impl UtteranceReader<'_> {
 /// Whether a word is not known.
 fn is_unknown(plain: &Result<Lattice, Error>) -> bool {
     matches!(plain.as_ref().err().and_then(Error::fault), Some(Fault::UnknownWord(_)))
+}
+
+/// All that a text has if some of it can be read, and else why the first cannot.
+fn some_read<T>(all: impl Iterator<Item = Result<T, Unread>>) -> Result<Vec<Result<T, Unread>>, Error> {
+    let all: Vec<Result<T, Unread>> = all.collect();
+    if all.iter().any(Result::is_ok) {
+        return Ok(all);
+    }
+    let first = all.into_iter().find_map(Result::err);
+    first.map_or_else(|| Ok(Vec::new()), |unread| Err(unread.error))
 }
 
 /// The only one of some that a text has.
