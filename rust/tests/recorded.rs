@@ -1,10 +1,9 @@
 //! The lattices of a real recogniser in examples/recogniser/recorded: how many are read, pruned and right.
 
-mod clock;
-
 use spireyerba::lattice::{reduce, Acceptor, Keep, UNKNOWN};
 use spireyerba::text::{Lattice, NamedGrammar, UtteranceReader};
 use spireyerba::Heard;
+use spireyerba_tests::clock;
 use std::collections::{BTreeMap, BTreeSet};
 use std::path::{Path, PathBuf};
 use std::time::Duration;
