@@ -291,6 +291,32 @@ fn what_is_left_out_of_slots_is_said() {
     }
 }
 
+/// Words for silence as well, which slots and plain graphs have no place for; a lattice has, and nothing is left out of it.
+#[test]
+fn silences_that_are_left_out_are_said() {
+    let files: [(&str, &[u8]); 5] = [
+        ("g", b"A -> A A | \"x\""),
+        ("slots", b"x 1 | sil 2 | um 3; x 3 | <noise> 4\n"),
+        ("graph", b"0 1 x 1; 0 1 sil 2; 0 1 um 3; 1 2 <noise> 4; 1 2 x 3\n"),
+        ("network", b"numaligns 2\nalign 0 x 0.37 sil 0.3 um 0.2\nalign 1 x 0.05 <noise> 0.05\n"),
+        (
+            "l.slf",
+            b"VERSION=1.0\nI=0\nI=1\nI=2\nI=3\nJ=0 S=0 E=1 W=x a=-1\nJ=1 S=1 E=2 W=sil a=0\nJ=2 S=2 E=3 W=x a=-3\n",
+        ),
+    ];
+    let folder = folder("left_out_silences", &files);
+    for (file, words) in [("slots", "sil, um, <noise>"), ("graph", "sil, um, <noise>"), ("network", "sil, um, <noise>")]
+    {
+        for option in ["", " --said x"] {
+            let run = run_in(&folder, &format!("list g {file} -n 1 --scale 1 --drop-unknown{option}"));
+            let note = format!("{file}: left out, for the grammar does not have them: {words}\n");
+            assert_eq!(run, Run { status: 0, out: "1  4  x x\n".to_owned(), err: note }, "{file}{option}");
+        }
+    }
+    let whole = Run { status: 0, out: "1  4  x x\n".to_owned(), err: String::new() };
+    assert_eq!(run_in(&folder, "list g l.slf -n 1 --scale 1 --drop-unknown"), whole);
+}
+
 /// They are said as well where words are known for certain or may be too many, by each command.
 #[test]
 fn what_is_left_out_is_said_with_other_options() {

@@ -17,6 +17,7 @@ use super::{without_mark, Fault};
 use crate::{Error, Heard};
 pub(super) use draft::{Draft, Link, MAX_LINKS};
 pub use draft::{Lattice, Recognised, Unread};
+use std::collections::HashSet;
 
 /// A format of what was heard.
 #[derive(Clone, Copy, Debug, PartialEq, Eq)]
@@ -188,13 +189,20 @@ impl UtteranceReader<'_> {
         }
     }
 
-    /// The words of a text that are left out, each once.
-    fn left_out(&self, text: &str) -> Vec<String> {
-        let recognised = || self.recognised(text).into_iter().flatten().flatten();
-        match self.drop_unknown {
-            true => recognised().flat_map(|recognised| recognised.dropped).collect(),
-            false => Vec::new(),
+    /// The words that are left out of a text in one of the formats that take no lattice, each once: words for silence too, since
+    /// slots and plain graphs have no place for them.
+    fn left_out(&self, text: &str, format: Format) -> Vec<String> {
+        if !self.drop_unknown {
+            return Vec::new();
         }
+        let draft = match format {
+            Format::Slots => self.slots_draft(text),
+            Format::Network => Alignments::parse(text).and_then(|network| network.draft(self)),
+            _ => self.graph_draft(text),
+        };
+        let words = draft.into_iter().flat_map(|draft| draft.links).filter_map(|link| link.word);
+        let mut seen = HashSet::new();
+        words.filter(|word| self.known(word).is_none() && seen.insert(word.clone())).collect()
     }
 
     /// Reads all that a text has as acceptors, over the labels of the grammar's words. Of several one that cannot be read stands
@@ -229,7 +237,7 @@ impl UtteranceReader<'_> {
         // where states are numbered otherwise, and only there, it is OpenFst's
         let is_fst = || fst::is_fst(text) && fst::parse_openfst(text).and_then(|draft| draft.recognised(self)).is_ok();
         let is_other_fst = self.format.is_none() && fault.is_some_and(is_plain_fault) && is_fst();
-        (!is_wide && !is_other_fst).then(|| Ok(Lattice { dropped: self.left_out(text), ..Lattice::from(plain?) }))
+        (!is_wide && !is_other_fst).then(|| Ok(Lattice { dropped: self.left_out(text, format), ..Lattice::from(plain?) }))
     }
 
     fn drafts(&self, text: &str) -> Result<Vec<Result<Draft, Unread>>, Error> {
