@@ -287,6 +287,9 @@ impl Source {
         }
         let slots = is_slots.then(|| sources.clone());
         let lattice = Lattice { heard: Heard::Graph(graph), times, sources, taken_off, pruned, ..rest };
+        // what was left out of the text counts too
+        let number = |edge: u32| rest.sources.get(edge as usize).map_or(edge, |number| *number);
+        let sources = sources.into_iter().map(number).collect();
         Ok(Changed { lattice, slots })
     }
 }

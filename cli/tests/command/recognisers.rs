@@ -317,6 +317,25 @@ fn silences_that_are_left_out_are_said() {
     assert_eq!(run_in(&folder, "list g l.slf -n 1 --scale 1 --drop-unknown"), whole);
 }
 
+/// Links are counted as the file has them, whatever is left out of a plain word graph or of a lattice.
+#[test]
+fn links_are_those_of_the_file() {
+    let files: [(&str, &[u8]); 3] = [
+        ("g", b"A -> A A | \"x\""),
+        ("graph", b"0 1 um 2; 0 1 x 1; 1 2 ah 4; 1 2 x 3\n"),
+        ("l.slf", b"VERSION=1.0\nI=0\nI=1\nI=2\nJ=0 S=0 E=1 W=um a=-2\nJ=1 S=0 E=1 W=x a=-1\nJ=2 S=1 E=2 W=ah a=-4\nJ=3 S=1 E=2 W=x a=-3\n"),
+    ];
+    let folder = folder("left_out_links", &files);
+    let reading = r#"{"readings":[{"rank":1,"weight":4,"words":["x","x"],"rules":[0,1,1],"edges":[0,1],"links":[1,3],"#;
+    let rest = r#""tree":["A",["A","x"],["A","x"]]}],"dropped":["um","ah"]}"#;
+    for file in ["graph", "l.slf"] {
+        for option in ["", " --said x"] {
+            let json = run_in(&folder, &format!("list g {file} -n 1 --json --scale 1 --drop-unknown{option}")).out;
+            assert_eq!(json, format!("{reading}{rest}\n"), "{file}{option}");
+        }
+    }
+}
+
 /// They are said as well where words are known for certain or may be too many, by each command.
 #[test]
 fn what_is_left_out_is_said_with_other_options() {

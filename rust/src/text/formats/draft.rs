@@ -227,8 +227,8 @@ pub struct Lattice {
     pub heard: Heard,
     /// When each place of the graph was reached, if that is known.
     pub times: Option<Vec<f64>>,
-    /// For each edge of a graph that was made of a lattice the number of the link whose word it has, as links stand in the
-    /// text.
+    /// For each edge of a graph that was made of a lattice, or of which words were left out, the number of the link whose word it
+    /// has, as links stand in the text.
     pub sources: Vec<u32>,
     /// By how much all weights are less than in the text, since no edge could hold them otherwise; below 0, greater.
     pub taken_off: i64,

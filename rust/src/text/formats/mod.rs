@@ -228,8 +228,11 @@ impl UtteranceReader<'_> {
             return strict.read_plain(text).filter(|plain| !is_unknown(plain));
         }
         let plain = match format {
-            Format::Slots | Format::Network => self.read(text).map(Heard::Slots),
-            Format::Graph => self.read_plain_graph(text).map(Heard::Graph),
+            Format::Slots | Format::Network => self.read(text).map(|slots| Lattice::from(Heard::Slots(slots))),
+            Format::Graph => self.read_numbered_graph(text).map(|(graph, sources)| {
+                let graph = Lattice::from(Heard::Graph(graph));
+                Lattice { sources, ..graph }
+            }),
             _ => return None,
         };
         let fault = plain.as_ref().err().and_then(Error::fault);
@@ -237,7 +240,7 @@ impl UtteranceReader<'_> {
         // where states are numbered otherwise, and only there, it is OpenFst's
         let is_fst = || fst::is_fst(text) && fst::parse_openfst(text).and_then(|draft| draft.recognised(self)).is_ok();
         let is_other_fst = self.format.is_none() && fault.is_some_and(is_plain_fault) && is_fst();
-        (!is_wide && !is_other_fst).then(|| Ok(Lattice { dropped: self.left_out(text, format), ..Lattice::from(plain?) }))
+        (!is_wide && !is_other_fst).then(|| Ok(Lattice { dropped: self.left_out(text, format), ..plain? }))
     }
 
     fn drafts(&self, text: &str) -> Result<Vec<Result<Draft, Unread>>, Error> {
