@@ -33,6 +33,7 @@ use std::borrow::Cow;
 use std::ffi::OsStr;
 use std::os::unix::ffi::OsStrExt;
 use std::sync::Mutex;
+use std::thread::Builder;
 
 pub const COMMAND: Command = Command {
     name: "batch",
@@ -66,10 +67,12 @@ With --resume a run that was interrupted goes on: no line, and no lattice of a f
 
 /// Pieces that a thread may be ahead of what is written.
 const AHEAD: usize = 4;
+/// With more threads for each core nothing is done sooner.
+const MOST_FOR_A_CORE: usize = 4;
 
 fn run(arguments: &Arguments, output: &mut Output) -> Result<(), Failure> {
     let cores = std::thread::available_parallelism().map_or(1, usize::from);
-    let jobs = arguments.number(&JOBS)?.unwrap_or(cores).max(1);
+    let jobs = arguments.number(&JOBS)?.unwrap_or(cores).clamp(1, MOST_FOR_A_CORE * cores);
     let grammar = files::grammar(arguments.operands[0])?;
     let words = Words::new(arguments, &grammar.named)?;
     let mut reader = files::utterance_reader(arguments, &grammar.named)?;
@@ -93,9 +96,11 @@ fn run(arguments: &Arguments, output: &mut Output) -> Result<(), Failure> {
     let sink = Sink::new(resumed.as_mut().unwrap_or(output), by_line, AHEAD * jobs);
     let source = Mutex::new(source);
     std::thread::scope(|scope| {
-        // this thread is one of them
+        // this thread is one of them, and does the work of those for which the system has no room
         for _ in 1..jobs {
-            scope.spawn(|| batch.work(&source, &sink));
+            if Builder::new().spawn_scoped(scope, || batch.work(&source, &sink)).is_err() {
+                break;
+            }
         }
         batch.work(&source, &sink);
     });
