@@ -8,10 +8,11 @@ use crate::failure::Failure;
 use crate::files::{self, GrammarFile, Written};
 use crate::json::{self, Origin};
 use crate::names::shown;
+use crate::no_reading::enumerated;
 use crate::options::{Arguments, EXACT, PATHS, SAID, SKIP};
 use spireyerba::lattice::{reduce, word_label, Acceptor, Automaton, Keep, Misfit, Reduced};
 use spireyerba::limits::{MAX_EDGES, MAX_PLACES};
-use spireyerba::text::{Lattice, NamedGrammar, Unread, UtteranceReader};
+use spireyerba::text::{nearest, Lattice, NamedGrammar, Unread, UtteranceReader};
 use spireyerba::{Error, Graph, Heard, Position};
 
 /// Where what was heard comes from.
@@ -147,7 +148,7 @@ impl<'a> Words<'a> {
         let words = Self { named, cost, said, anchors, keep, is_exact: arguments.has(&EXACT) };
         let missing = words.said.iter().find(|word| words.label(word).is_none());
         match missing {
-            Some(word) => Err(Failure::Refused(format!("--said {word}: the grammar has no such word"))),
+            Some(word) => Err(Failure::Refused(no_such_word(word, &named.words))),
             None => Ok(words),
         }
     }
@@ -286,10 +287,10 @@ impl Source {
             return Err(format!("takes {edges} edges and a word graph has {fits}: not --exact"));
         }
         let slots = is_slots.then(|| sources.clone());
-        let lattice = Lattice { heard: Heard::Graph(graph), times, sources, taken_off, pruned, ..rest };
         // what was left out of the text counts too
         let number = |edge: u32| rest.sources.get(edge as usize).map_or(edge, |number| *number);
         let sources = sources.into_iter().map(number).collect();
+        let lattice = Lattice { heard: Heard::Graph(graph), times, sources, taken_off, pruned, ..rest };
         Ok(Changed { lattice, slots })
     }
 }
@@ -297,6 +298,13 @@ impl Source {
 /// Whether every slot has a word, so that the library takes them.
 fn has_words(heard: &Heard) -> bool {
     matches!(heard, Heard::Slots(utterance) if utterance.slots.iter().all(|slot| !slot.is_empty()))
+}
+
+/// That the grammar has no such word, and which it has.
+fn no_such_word(word: &str, words: &[String]) -> String {
+    let meant = nearest(word, words.iter().map(String::as_str));
+    let meant = meant.map_or(String::new(), |meant| format!(" (did you mean `{meant}`?)"));
+    format!("--said {word}: the grammar has no such word{meant}: give one of {}", enumerated(words.to_vec()))
 }
 
 fn why_not(misfit: Misfit) -> String {
