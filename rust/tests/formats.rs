@@ -1,8 +1,8 @@
 //! What recognisers write: an example of each format, what it says, and how formats are told apart.
 
-use spireyerba::lattice::Keep;
+use spireyerba::lattice::{Keep, Pruned};
 use spireyerba::text::{binary_kind, Format, Lattice, NamedGrammar, Unread, UtteranceReader};
-use spireyerba::{Error, Heard};
+use spireyerba::{Edge, Error, Graph, Heard};
 use std::path::Path;
 
 const SCALE: f64 = 100.0;
@@ -135,6 +135,20 @@ fn some_of_several_cannot_be_read() {
         ("e 1", ""),
     ];
     assert_eq!(names(words, Format::Ctm), expected(&all));
+}
+
+/// What is said of a lattice that was pruned, also where not every beam was tried.
+#[test]
+fn what_was_pruned_is_said() {
+    let graph = Graph { places: 2, edges: vec![Edge { from: 0, to: 1, word: 0, cost: 3 }] };
+    let notes = |untried| {
+        let pruned = Some(Pruned { kept: 90, of: 200, complete_up_to: 7, untried });
+        Lattice { pruned, ..Lattice::from(Heard::Graph(graph.clone())) }.notes()
+    };
+    let kept = "kept 90 of 200 edges: every reading of weight up to 7 is in the list (a word graph has 25 places and 96 edges)";
+    assert_eq!(notes(0), [kept]);
+    let untried = "; more may fit, but 3 wider beams were not tried, since that takes too long";
+    assert_eq!(notes(3), [format!("{kept}{untried}")]);
 }
 
 #[test]

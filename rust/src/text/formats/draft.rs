@@ -256,10 +256,14 @@ impl Lattice {
 
     /// What a user is to be told, a line each.
     pub fn notes(&self) -> Vec<String> {
-        let pruned = self.pruned.map(|Pruned { kept, of, complete_up_to }| {
+        let pruned = self.pruned.map(|Pruned { kept, of, complete_up_to, untried }| {
             let limits = format!("a word graph has {MAX_PLACES} places and {MAX_EDGES} edges");
+            let untried = match untried {
+                0 => String::new(),
+                _ => format!("; more may fit, but {untried} wider beams were not tried, since that takes too long"),
+            };
             format!(
-                "kept {kept} of {of} edges: every reading of weight up to {complete_up_to} is in the list ({limits})"
+                "kept {kept} of {of} edges: every reading of weight up to {complete_up_to} is in the list ({limits}){untried}"
             )
         });
         let amount = self.taken_off.unsigned_abs();
