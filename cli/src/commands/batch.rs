@@ -9,7 +9,7 @@ mod source;
 
 pub use super::Command;
 use crate::failure::Failure;
-use crate::files;
+use crate::files::{self, File};
 use crate::json;
 use crate::names::{carried, shown};
 use crate::no_reading::NoReading;
@@ -20,13 +20,12 @@ use crate::options::{
 use crate::output::Output;
 use crate::words::{push_notes, Changed, Entry, Why, Words};
 use lattices::Lines;
-pub use lattices::{are_lattices, named};
+pub use lattices::{are_lattices, named, read_all};
 pub use line::Line;
 use resume::Answered;
 use sink::{Answers, Refused, Sink};
 use source::{Piece, Source};
 use spireyerba::limits::MAX_READINGS;
-
 use spireyerba::text::{is_graph, NamedGrammar, UtteranceReader};
 use spireyerba::{Distinct, Error, Found, Heard, Lister, Reading, Refusal};
 use std::borrow::Cow;
@@ -54,8 +53,8 @@ place or slot where they end, and what could follow there.
 A name without blanks and a tab may stand before what was heard: the name comes back as \"id\". Where a number alone
 follows the tab, such as a cost, it is a blank like any other. A line may also have a value of a recogniser's JSON.
 Lattices stand in files of their own: --files names a list of them, one a line, also with a name and a tab before it. A file
-in HTK's format, of Kaldi's, a confusion network or one value of JSON may be FILE itself, and one in another format with
---format. Each lattice is an answer, with its own name as \"id\", or the line's, or the file's; \"complete_up_to\" says that it
+in HTK's format, of Kaldi's, a confusion network or one value of JSON may be FILE itself, and one in another format, or from
+standard input, with --format. Each lattice is an answer, with its own name as \"id\", or the line's, or the file's; \"complete_up_to\" says that it
 was pruned and up to which weight every reading is there, and \"dropped\" has the words that --drop-unknown left out. For
 each word of a reading \"edges\" has the number of its edge in the word graph that the lattice was reduced to, \"links\" that
 of its link as links stand in the file, from 0, and \"times\" when it began and ended, if the file has times. With --skip
@@ -77,11 +76,12 @@ fn run(arguments: &Arguments, output: &mut Output) -> Result<(), Failure> {
     let words = Words::new(arguments, &grammar.named)?;
     let mut reader = files::utterance_reader(arguments, &grammar.named)?;
     reader.keep_unknown = words.may_skip();
-    let Lines { operand, are_files, file } = Lines::open(arguments, reader.format)?;
+    let Lines { operand, are_files, file, whole } = Lines::open(arguments, reader.format)?;
     let name = files::name_of(operand);
     let batch = Batch {
         name: &name,
         are_files,
+        whole,
         wanted: arguments.wanted()?,
         distinct: arguments.has(&DISTINCT),
         named: &grammar.named,
@@ -121,6 +121,8 @@ struct Batch<'a> {
     distinct: bool,
     /// Whether each line is the name of a file with lattices.
     are_files: bool,
+    /// What the one file has, if it was read.
+    whole: Option<File>,
 }
 
 impl Batch<'_> {
@@ -203,7 +205,8 @@ impl<'a> Worker<'a> {
     /// Adds the answer of each lattice of a file that a line names.
     fn answer_file(&mut self, line: &Line, answers: &mut Answers) {
         let name = line.heard.trim();
-        let lattices = match lattices::read(&self.batch.words, &self.batch.reader, name) {
+        let Batch { words, reader, whole, .. } = self.batch;
+        let lattices = match lattices::read(words, reader, name, whole.as_ref()) {
             Ok(lattices) => lattices,
             Err(refused) => return refuse(answers, refused, |json| line.begin_lattice(json, None, true)),
         };

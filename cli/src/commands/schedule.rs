@@ -1,6 +1,6 @@
 //! `schedule`: a row for each utterance.
 
-use super::batch::{are_lattices, named, Line};
+use super::batch::{are_lattices, named, read_all, Line};
 use super::Command;
 use crate::failure::Failure;
 use crate::files::{self, File, GrammarFile};
@@ -126,7 +126,7 @@ impl Schedule<'_> {
             return files::lines_of(text).map(|(before, line)| self.row_of_line(&Line::new(line, before))).collect();
         }
         let line = Line::new(text, 0);
-        match self.words.read_all(&self.reader, text) {
+        match read_all(&self.words, &self.reader, text) {
             Err(error) => vec![self.refused(&line, None, error.in_file(self.name).to_string())],
             Ok(lattices) => {
                 lattices.iter().map(|entry| self.row_of(&line, None, &entry.place(self.name), entry)).collect()
@@ -149,7 +149,7 @@ impl Schedule<'_> {
     fn rows_of_file(&self, before: usize, line: &str) -> Vec<Row> {
         let line = Line::new(line, before);
         let file = line.heard.trim();
-        let read = File::read(file).and_then(|file| file.text(|text| self.words.read_all(&self.reader, text)));
+        let read = File::read(file).and_then(|file| file.text(|text| read_all(&self.words, &self.reader, text)));
         match read {
             Err(failure) => {
                 vec![self.refused(&line, Some(&shown(line.name_of(None, true))), failure.message().to_owned())]

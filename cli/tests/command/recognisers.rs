@@ -138,14 +138,48 @@ fn values_of_json() {
         assert!(run.out.lines().count() == 3 && run.status == 1, "{}", run.out);
         run.out.lines().zip(begins).for_each(|(line, begin)| assert!(line.starts_with(begin), "{line}"));
     }
-    let input = run_with(&folder, "batch g - --scale 100 -n 1", lines.as_bytes());
-    assert!(input.out.starts_with(begins[0]) && input.out.lines().count() == 3, "{}", input.out);
+    for format in ["", " --format json"] {
+        let input = run_with(&folder, &format!("batch g - --scale 100 -n 1{format}"), lines.as_bytes());
+        let answers = begins.map(|begin| begin.replace("lines.jsonl", "<stdin>"));
+        assert!(input.out.lines().count() == 3 && input.status == 1, "{}", input.out);
+        input.out.lines().zip(&answers).for_each(|(line, begin)| assert!(line.starts_with(begin), "{line}"));
+    }
+    let streamed = run_with(&folder, "batch g - --scale 100 -n 1 --format json", one.as_bytes());
+    assert_eq!((streamed.status, streamed.out), (0, whole.replace("one.json", "-")), "{}", streamed.err);
     let dropped = run_in(&folder, "batch g lines.jsonl --scale 100 -n 1 --drop-unknown");
     assert!(dropped.out.starts_with(begins[0]) && dropped.out.lines().count() == 3, "{}", dropped.out);
     let rows = run_in(&folder, "schedule g lines.jsonl --columns Number --scale 100").out;
     assert!(rows.starts_with("line,Number,weight,note\r\n1,four,5,\r\n3,") && rows.lines().count() == 4, "{rows}");
     let row = answer_in(&folder, "schedule g one.json --columns Number --scale 100");
     assert_eq!(row.lines().count(), 2, "{row}");
+}
+
+/// A list of files may have such files among others; each value is an answer, and its name that before a tab, its own, or the file's.
+#[test]
+fn values_of_json_in_a_list() {
+    let grammar = std::fs::read_to_string(example("formats").join("grammar.txt")).expect("the grammar");
+    let lines = "# two\n{\"text\": \"door four\"}\nu2\t{\"text\": \"door um\"}\n\n{\"text\": \"door forty\", \"id\": \"mine\"}\n";
+    let files = [("g", grammar.as_bytes()), ("lines.jsonl", lines.as_bytes()), ("list", b"lines.jsonl\n")];
+    let folder = folder("batch_json_list", &files);
+    let why = "lines.jsonl:3:4: u2: refused 14: the grammar has no word `um`";
+    let reading = |words: &str, weight: u32, rule: u32| {
+        format!("[{{\"rank\":1,\"weight\":{weight},\"words\":[{words}],\"rules\":[0,{rule}],\"edges\":[0,1],\"links\":[0,1]}}]")
+    };
+    let answers = [
+        format!("{{\"line\":1,\"id\":\"lines.jsonl\",\"readings\":{}}}\n", reading(r#""door","four""#, 5, 4)),
+        format!("{{\"line\":1,\"id\":\"u2\",\"error\":\"{why}\"}}\n"),
+        format!("{{\"line\":1,\"id\":\"mine\",\"readings\":{}}}\n", reading(r#""door","forty""#, 10, 3)),
+    ];
+    for format in ["", " --format json"] {
+        let run = run_in(&folder, &format!("batch g --files list --scale 100 -n 1{format}"));
+        let expected = Run { status: 1, out: answers.concat(), err: format!("{why}\n1 of 3 utterances refused\n") };
+        assert_eq!(run, expected, "{format}");
+        let rows = answer_in(&folder, &format!("schedule g --files list --scale 100 --columns Number{format}"));
+        assert_eq!(
+            rows,
+            format!("line,id,Number,weight,note\r\n1,lines.jsonl,four,5,\r\n1,u2,,,{why}\r\n1,mine,forty,10,\r\n")
+        );
+    }
 }
 
 /// A lattice of an archive that is refused has its name, as one that is answered; messages that say the same are counted all the same.
