@@ -6,6 +6,7 @@ mod messages;
 mod resume;
 mod sink;
 mod source;
+mod told;
 
 pub use super::Command;
 use crate::failure::Failure;
@@ -33,6 +34,7 @@ use std::ffi::OsStr;
 use std::os::unix::ffi::OsStrExt;
 use std::sync::Mutex;
 use std::thread::Builder;
+pub use told::refuse_other;
 
 pub const COMMAND: Command = Command {
     name: "batch",
@@ -92,6 +94,7 @@ fn run(arguments: &Arguments, output: &mut Output) -> Result<(), Failure> {
     };
     let mut source = Source::new(file);
     let mut resumed = arguments.value(&RESUME).map(|out| batch.resume(out, &mut source)).transpose()?;
+    batch.refuse_other(&mut source)?;
     let by_line = arguments.has(&LINE) || !files::is_still(operand);
     let sink = Sink::new(resumed.as_mut().unwrap_or(output), by_line, AHEAD * jobs);
     let source = Mutex::new(source);
@@ -138,6 +141,16 @@ impl Batch<'_> {
             eprintln!("{}: goes on behind line {lines}", shown(out));
         }
         Ok(Output::file(out, file))
+    }
+
+    /// Refuses lines that look like another format, if none was given.
+    fn refuse_other(&self, source: &mut Source) -> Result<(), Failure> {
+        if self.are_files || self.reader.format.is_some() {
+            return Ok(());
+        }
+        let Some(front) = source.front().map_err(|error| Failure::file(self.name, &error))? else { return Ok(()) };
+        let mut worker = Worker::new(self);
+        told::refuse_other(self.name, &String::from_utf8_lossy(front), |line| worker.has_reading(line.heard))
     }
 
     /// Answers lines until there are none, or nobody wants the answers.
@@ -307,6 +320,16 @@ impl<'a> Worker<'a> {
         }
         reader.read_block(line, &mut self.sheet, &mut self.block)?;
         Ok(None)
+    }
+
+    /// Whether a line can be read and has a reading.
+    fn has_reading(&mut self, line: &str) -> bool {
+        let found = match self.read(line) {
+            Ok(Some(Entry { changed: Ok(changed), .. })) => self.lister.find(&changed.lattice.heard, 1),
+            Ok(None) => self.lister.find_in_block(&self.block, 1),
+            Ok(Some(_)) | Err(_) => return false,
+        };
+        found.is_ok_and(|found| !found.is_empty())
     }
 
     /// Adds why what was heard, or the slots whose block is at hand, has no reading.

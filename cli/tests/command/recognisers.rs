@@ -182,6 +182,59 @@ fn values_of_json_in_a_list() {
     }
 }
 
+/// A text in a format that lines do not have is refused once, with what to give; what may be lines is read line by line.
+#[test]
+fn texts_in_other_formats_are_refused_once() {
+    let formats = example("formats");
+    let message = |name: &str, format: &str| {
+        format!(
+            "{name}: the first lines look like a text in the format {format} and not like utterances, a line each: give --format {format} \
+             (with --format slots or graph each line is read by itself)\n"
+        )
+    };
+    for (name, format) in [
+        ("openfst.txt", "openfst"),
+        ("openfst_transducer.txt", "openfst"),
+        ("nbest.txt", "nbest"),
+        ("nbest_srilm.txt", "nbest"),
+        ("nbest_decipher.txt", "nbest"),
+        ("nbest_kaldi.txt", "nbest"),
+        ("words.ctm", "ctm"),
+    ] {
+        for words in [format!("batch grammar.txt {name}"), format!("schedule grammar.txt {name} --columns Number")] {
+            for option in ["", " --drop-unknown", " --skip 20"] {
+                let refused = refused(run_in(&formats, &format!("{words} --scale 100{option}")), 1);
+                assert_eq!(refused, message(name, format), "{words}{option}");
+            }
+        }
+        let given = run_in(&formats, &format!("batch grammar.txt {name} --scale 100 -n 1 --format {format}"));
+        assert!(given.out.starts_with("{\"line\":1,\"id\":\""), "{given:?}");
+    }
+    // what stands in a file of its own is read there, and cannot be told in time from standard input
+    for (name, format) in
+        [("kaldi.txt", "kaldi"), ("pocketsphinx.slf", "slf"), ("network.txt", "network"), ("vosk_words.json", "json")]
+    {
+        let text = std::fs::read(formats.join(name)).expect(name);
+        let refused = refused(run_with(&formats, "batch grammar.txt - --scale 100", &text), 1);
+        assert_eq!(refused, message("<stdin>", format));
+    }
+    // names that are numbers, as scores are, and single lines
+    for (lines, refused) in [
+        ("1\tdoor 4\n2\tdoor 3 ; four 2\n", 0),
+        ("1\tdoor 4 ; green 1\n2\tdoor 3 ; blue 2\n", 2),
+        ("-1.5 door four\n", 1),
+        ("-1.5 door four\ndoor 3 ; four 2\n", 1),
+    ] {
+        let run = run_with(&formats, "batch grammar.txt - -n 1", lines.as_bytes());
+        let answers = run.out.lines().count();
+        assert_eq!(
+            (answers, run.out.matches("\"error\":").count()),
+            (lines.lines().count(), refused),
+            "{lines}{run:?}"
+        );
+    }
+}
+
 /// A lattice of an archive that is refused has its name, as one that is answered; messages that say the same are counted all the same.
 #[test]
 fn refused_lattices_have_names() {

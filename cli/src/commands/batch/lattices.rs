@@ -97,7 +97,7 @@ fn are_values(text: &str) -> bool {
 }
 
 /// Whether all brackets and quotes that a line of JSON opens are closed in it.
-fn is_closed(line: &str) -> bool {
+pub fn is_closed(line: &str) -> bool {
     let (mut open, mut is_quoted, mut is_escaped) = (0_usize, false, false);
     for letter in line.chars() {
         match letter {

@@ -65,12 +65,18 @@ impl Format {
         NAMES.iter().map(|(name, _)| *name)
     }
 
+    /// The name of this one.
+    pub fn name(self) -> &'static str {
+        NAMES.iter().find(|(_, format)| *format == self).map_or("", |(name, _)| name)
+    }
+
     /// The format with a name.
     ///
     /// ```
     /// use spireyerba::text::Format;
     ///
     /// assert_eq!(Format::named("slf"), Some(Format::Slf));
+    /// assert_eq!(Format::Slf.name(), "slf");
     /// assert_eq!(Format::of("{\"text\": \"door four\"}"), Format::Json);
     /// assert_eq!(Format::of("door 4 | four 61"), Format::Slots);
     /// ```
