@@ -95,7 +95,7 @@ impl Entry {
 /// One of several that cannot be read.
 impl From<Unread> for Entry {
     fn from(Unread { id, error }: Unread) -> Self {
-        Self { id, changed: Err(error.into()) }
+        Self { id, changed: Err((*error).into()) }
     }
 }
 

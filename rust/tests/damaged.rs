@@ -146,7 +146,7 @@ fn damaged_files_are_answered_or_refused() {
         reader.scale = Some(100.0).filter(|_| rng.below(8) > 0);
         reader.drop_unknown = rng.below(2) == 0;
         reader.format = Format::named(Format::names().nth(rng.below(30)).unwrap_or_default());
-        let all = reader.read_all_heard(&text).unwrap_or_else(|error| vec![Err(Unread { id: None, error })]);
+        let all = reader.read_all_heard(&text).unwrap_or_else(|error| vec![Err(Unread::new(None, error))]);
         in_part += usize::from(all.iter().any(Result::is_ok) && all.iter().any(Result::is_err));
         for one in all {
             match one {

@@ -20,7 +20,7 @@ fn read_all(text: &str) -> Result<Vec<Lattice>, Error> {
     let grammar = grammar();
     let mut reader = UtteranceReader::new(&grammar);
     reader.scale = Some(SCALE);
-    reader.read_all_heard(text)?.into_iter().map(|read| read.map_err(|unread| unread.error)).collect()
+    reader.read_all_heard(text)?.into_iter().map(|read| read.map_err(|unread| *unread.error)).collect()
 }
 
 /// The weights and words of the first readings, and what all weights are less than in the text.

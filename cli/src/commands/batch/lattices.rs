@@ -157,9 +157,7 @@ pub fn read_all(words: &Words, reader: &UtteranceReader, text: &str) -> Result<V
         let name = line.name.map(str::to_owned);
         match words.read(reader, line.heard) {
             Ok(Entry { id, changed }) => Entry { id: name.or(id), changed },
-            Err(error) => {
-                Entry::from(Unread { id: name, error: error.after_columns(line.columns()).after_lines(before) })
-            }
+            Err(error) => Unread::new(name, error.after_columns(line.columns()).after_lines(before)).into(),
         }
     };
     Ok(files::lines_of(text).map(read).collect())

@@ -131,7 +131,7 @@ impl Utterance {
         let is_open = self.fork.is_some();
         let open = || Error::at(end, Fault::Expected { wanted: END, found: None });
         if let Some(error) = self.error.or_else(|| is_open.then(open)) {
-            return Err(Unread { id: self.draft.id, error });
+            return Err(Unread::new(self.draft.id, error));
         }
         (self.draft.ends, self.draft.end_of_text) = (vec![(self.at, 0.0)], Some(end));
         Ok(self.draft)

@@ -215,7 +215,14 @@ pub struct Unread {
     /// The name of the utterance, if the text has one.
     pub id: Option<String>,
     /// Why.
-    pub error: Error,
+    pub error: Box<Error>,
+}
+
+impl Unread {
+    /// What has this name, if any, cannot be read.
+    pub fn new(id: Option<String>, error: Error) -> Self {
+        Self { id, error: Box::new(error) }
+    }
 }
 
 /// What was heard, and what it is of what a text has.

@@ -143,7 +143,7 @@ impl Parser {
     fn end_of_lattice(mut self, end: Position) -> Result<Draft, Unread> {
         let id = self.id.clone();
         let draft = self.error.take().map_or_else(|| self.finish(end), Err);
-        draft.map_err(|error| Unread { id, error })
+        draft.map_err(|error| Unread::new(id, error))
     }
 
     fn line(&mut self, line: Line) -> Result<(), Error> {

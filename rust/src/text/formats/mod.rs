@@ -166,7 +166,7 @@ impl UtteranceReader<'_> {
 
     /// Reads the one lattice of a text as an acceptor, over the labels of the grammar's words.
     pub fn recognised_alone(&self, text: &str) -> Result<Recognised, Error> {
-        alone(self.drafts(without_mark(text))?, text)?.map_err(|unread| unread.error)?.recognised(self)
+        alone(self.drafts(without_mark(text))?, text)?.map_err(|unread| *unread.error)?.recognised(self)
     }
 
     /// Reads all that a text has, of which only some formats have several. Of several one that cannot be read stands between the
@@ -187,7 +187,7 @@ impl UtteranceReader<'_> {
     pub fn read_all_heard(&self, text: &str) -> Result<Vec<Result<Lattice, Unread>>, Error> {
         let reduce = |read: Result<Recognised, Unread>| {
             let recognised = read?;
-            recognised.reduce(self.keep, self.exact).map_err(|error| Unread { id: recognised.id, error })
+            recognised.reduce(self.keep, self.exact).map_err(|error| Unread::new(recognised.id, error))
         };
         match self.read_plain(text) {
             Some(plain) => plain.map(|plain| vec![Ok(plain)]),
@@ -217,7 +217,7 @@ impl UtteranceReader<'_> {
         let recognised = |draft: Result<Draft, Unread>| {
             let draft = draft?;
             let id = draft.id.clone();
-            draft.recognised(self).map_err(|error| Unread { id, error })
+            draft.recognised(self).map_err(|error| Unread::new(id, error))
         };
         some_read(self.drafts(without_mark(text))?.into_iter().map(recognised))
     }
@@ -278,7 +278,7 @@ fn some_read<T>(all: impl Iterator<Item = Result<T, Unread>>) -> Result<Vec<Resu
         return Ok(all);
     }
     let first = all.into_iter().find_map(Result::err);
-    first.map_or_else(|| Ok(Vec::new()), |unread| Err(unread.error))
+    first.map_or_else(|| Ok(Vec::new()), |unread| Err(*unread.error))
 }
 
 /// The only one of some that a text has.
