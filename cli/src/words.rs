@@ -70,6 +70,13 @@ pub struct Why {
     pub reason: String,
 }
 
+impl Why {
+    /// The same of what stands in a line.
+    pub fn in_line(self, line: usize) -> Self {
+        Self { position: self.position.or(Some(Position { line, column: 1 })), ..self }
+    }
+}
+
 impl From<String> for Why {
     fn from(reason: String) -> Self {
         Self { position: None, reason }

@@ -55,12 +55,12 @@ place or slot where they end, and what could follow there.
 A name without blanks and a tab may stand before what was heard: the name comes back as \"id\". Where a number alone
 follows the tab, such as a cost, it is a blank like any other. A line may also have a value of a recogniser's JSON.
 Lattices stand in files of their own: --files names a list of them, one a line, also with a name and a tab before it. A file
-in HTK's format, of Kaldi's, a confusion network or one value of JSON may be FILE itself, and one in another format, or from
-standard input, with --format. Each lattice is an answer, with its own name as \"id\", or the line's, or the file's; \"complete_up_to\" says that it
-was pruned and up to which weight every reading is there, and \"dropped\" has the words that --drop-unknown left out. For
-each word of a reading \"edges\" has the number of its edge in the word graph that the lattice was reduced to, \"links\" that
-of its link as links stand in the file, from 0, and \"times\" when it began and ended, if the file has times. With --skip
-\"slots\" has the slots of an utterance's words instead.
+in HTK's format, of Kaldi's, a confusion network or one value of JSON may be FILE itself, and one in another format, or one
+that comes from standard input, with --format. Each lattice is an answer, with its own name as \"id\", or the line's, or the
+file's; \"complete_up_to\" says that it was pruned and up to which weight every reading is there, and \"dropped\" has the
+words that --drop-unknown left out. For each word of a reading \"edges\" has the number of its edge in the word graph that
+the lattice was reduced to, \"links\" that of its link as links stand in the file, from 0, and \"times\" when it began and
+ended, if the file has times. With --skip \"slots\" has the slots of an utterance's words instead.
 With --resume a run that was interrupted goes on: no line, and no lattice of a file, is answered twice or left out.",
     example: "spireyerba batch grammar.txt utterances.txt -n 1 --resume readings.jsonl",
     run,
@@ -93,8 +93,8 @@ fn run(arguments: &Arguments, output: &mut Output) -> Result<(), Failure> {
         names: json::Names::new(&grammar.named),
     };
     let mut source = Source::new(file);
-    let mut resumed = arguments.value(&RESUME).map(|out| batch.resume(out, &mut source)).transpose()?;
     batch.refuse_other(&mut source)?;
+    let mut resumed = arguments.value(&RESUME).map(|out| batch.resume(out, &mut source)).transpose()?;
     let by_line = arguments.has(&LINE) || !files::is_still(operand);
     let sink = Sink::new(resumed.as_mut().unwrap_or(output), by_line, AHEAD * jobs);
     let source = Mutex::new(source);

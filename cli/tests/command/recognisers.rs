@@ -174,6 +174,9 @@ fn values_of_json_in_a_list() {
         let run = run_in(&folder, &format!("batch g --files list --scale 100 -n 1{format}"));
         let expected = Run { status: 1, out: answers.concat(), err: format!("{why}\n1 of 3 utterances refused\n") };
         assert_eq!(run, expected, "{format}");
+        let said = run_in(&folder, &format!("batch g --files list --scale 100 -n 1 --said four{format}"));
+        let no_path = "lines.jsonl:5:1: mine: --said four: no path has it";
+        assert_eq!(said.err, format!("{why}\n{no_path}\n2 of 3 utterances refused\n"));
         let rows = answer_in(&folder, &format!("schedule g --files list --scale 100 --columns Number{format}"));
         assert_eq!(
             rows,

@@ -156,7 +156,9 @@ pub fn read_all(words: &Words, reader: &UtteranceReader, text: &str) -> Result<V
         let line = Line::new(line, before);
         let name = line.name.map(str::to_owned);
         match words.read(reader, line.heard) {
-            Ok(Entry { id, changed }) => Entry { id: name.or(id), changed },
+            Ok(Entry { id, changed }) => {
+                Entry { id: name.or(id), changed: changed.map_err(|why| why.in_line(before + 1)) }
+            }
             Err(error) => Unread::new(name, error.after_columns(line.columns()).after_lines(before)).into(),
         }
     };
