@@ -103,22 +103,29 @@ python_package() {
     put 644 "$made" "$PYTHONDIR/spireyerba/_installed.py"
 }
 
-# unless_in LIST FOLDER NAME=VALUE: the setting, unless the folder stands in the list, whose colons part folders.
+# quoted TEXT: the text as one word of a shell.
+quoted() {
+    printf "'%s'" "$(printf '%s' "$1" | sed "s/'/'\\\\''/g")"
+}
+
+# unless_in LIST FOLDER NAME [VALUE [REST]]: sets the name to the value, or else to the folder, and to the rest, which the shell
+# reads; unless the folder stands in the list, whose colons part folders.
 unless_in() {
-    case ":$1:" in *":$2:"*) ;; *) printf ' %s' "$3" ;; esac
+    case ":$1:" in *":$2:"*) ;; *) printf ' %s=%s%s' "$3" "$(quoted "${4:-$2}")" "${5:-}" ;; esac
 }
 
 # What has to be set for what was installed to be found from here.
 settings() {
-    unless_in "$PATH" "$BINDIR" "PATH=$BINDIR:\$PATH"
-    unless_in "$(manpath -q 2>/dev/null || true)" "$DATADIR/man" "MANPATH=$DATADIR/man:"
+    # shellcheck disable=SC2016 # it is for the shell into which it is copied
+    unless_in "$PATH" "$BINDIR" PATH "$BINDIR" '":$PATH"'
+    unless_in "$(manpath -q 2>/dev/null || true)" "$DATADIR/man" MANPATH "$DATADIR/man:"
     unless_in "$(ldconfig -N -v 2>/dev/null | sed -n 's|^\(/[^:]*\):.*|\1|p' | tr '\n' :)${LD_LIBRARY_PATH:-}" "$LIBDIR" \
-        "LD_LIBRARY_PATH=$LIBDIR"
+        LD_LIBRARY_PATH
     if command -v pkg-config >/dev/null; then
-        unless_in "$(pkg-config --variable pc_path pkg-config):${PKG_CONFIG_PATH:-}" "$LIBDIR/pkgconfig" "PKG_CONFIG_PATH=$LIBDIR/pkgconfig"
+        unless_in "$(pkg-config --variable pc_path pkg-config):${PKG_CONFIG_PATH:-}" "$LIBDIR/pkgconfig" PKG_CONFIG_PATH
     fi
     if [ -n "$PYTHONDIR" ]; then
-        unless_in "$(python3 -c 'import sys; print(*sys.path, sep=":")')" "$PYTHONDIR" "PYTHONPATH=$PYTHONDIR"
+        unless_in "$(python3 -c 'import sys; print(*sys.path, sep=":")')" "$PYTHONDIR" PYTHONPATH
     fi
 }
 

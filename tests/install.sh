@@ -175,6 +175,16 @@ readme_lines() {
         { cat "$folder/log" && return 1; }
 }
 
+# What is said to be set can be copied where a path has a blank and a quote in it.
+odd_path_is_copied() {
+    local odd="$folder/it's here"
+    env -u LD_LIBRARY_PATH -u PKG_CONFIG_PATH PREFIX="$odd" packaging/install.sh install >"$folder/odd" || return 1
+    sed -n 's/^for it to be found, set: //p' "$folder/odd" >"$folder/lines"
+    # shellcheck disable=SC2016 # the shell that reads the lines knows them
+    printf '%s\n' 'printf "%s\n" "${PATH%%:*}" "$LD_LIBRARY_PATH"' 'command -v spireyerba' >>"$folder/lines"
+    env -u LD_LIBRARY_PATH -u PKG_CONFIG_PATH sh -e "$folder/lines" | diff - <(printf '%s\n' "$odd/bin" "$odd/lib" "$odd/bin/spireyerba")
+}
+
 # Nothing is left but folders that others may use.
 is_taken_away() {
     make -s uninstall PREFIX="$prefix" >"$folder/log" 2>&1 && [ -z "$(find "$prefix" ! -type d)" ] &&
@@ -202,6 +212,7 @@ if command -v man >/dev/null && command -v python3 >/dev/null; then
 else
     echo 'passed over, since there is no man or no python3: readme_lines'
 fi
+part odd_path_is_copied
 part is_taken_away
 echo "$passed passed, $failed failed"
 [ "$failed" -eq 0 ]

@@ -1,5 +1,6 @@
 //! Times of several functions in one process: called in turn, so that what disturbs one disturbs all.
 
+pub use spireyerba_tests::clock::thread_time;
 use std::process::Command;
 use std::time::{Duration, Instant};
 
@@ -34,26 +35,6 @@ pub fn samples<const COUNT: usize>(plan: Plan, mut functions: [&mut dyn FnMut();
 pub fn median(mut times: Vec<Duration>) -> Duration {
     times.sort_unstable();
     times[times.len() / 2]
-}
-
-/// The time that this thread has had a processor so far: what else runs on the machine does not count.
-#[expect(unsafe_code, reason = "std has no clock of a thread's own time")]
-pub fn thread_time() -> Duration {
-    #[repr(C)]
-    struct Timespec {
-        seconds: i64,
-        nanoseconds: i64,
-    }
-    extern "C" {
-        fn clock_gettime(clock: i32, time: *mut Timespec) -> i32;
-    }
-    // CLOCK_THREAD_CPUTIME_ID of Linux
-    const THREAD: i32 = 3;
-    let mut time = Timespec { seconds: 0, nanoseconds: 0 };
-    // SAFETY: the call writes one timespec of a 64-bit Linux, which is lent to it.
-    let answer = unsafe { clock_gettime(THREAD, &mut time) };
-    assert_eq!(answer, 0, "no such clock");
-    Duration::new(time.seconds as u64, time.nanoseconds as u32)
 }
 
 /// What a program took that was run to its end.

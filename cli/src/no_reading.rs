@@ -45,7 +45,7 @@ impl<'a> NoReading<'a> {
     pub fn lines(&self) -> Lines {
         let goes_along = if self.words.is_empty() { "nothing".into() } else { self.words.join(" ") };
         let next = self.prefix.next.iter().map(|word| self.named.word(*word).to_owned());
-        let mut next = named(next.collect());
+        let mut next = enumerated(next.collect());
         if self.prefix.may_end {
             next += if next.is_empty() { "the end" } else { ", or the end" };
         } else if next.is_empty() {
@@ -68,7 +68,7 @@ impl<'a> NoReading<'a> {
         let mut heard: Vec<_> = groups.into_iter().flatten().filter(|taken| taken.span[0] == place).collect();
         heard.retain(|taken| taken.candidate.is_offered());
         heard.sort_by_key(|taken| taken.candidate.cost);
-        match named(heard.iter().map(|taken| self.named.candidate_text(taken.candidate)).collect()) {
+        match enumerated(heard.iter().map(|taken| self.named.candidate_text(taken.candidate)).collect()) {
             words if words.is_empty() => (there, "nothing".into()),
             words => (there, words),
         }
@@ -97,7 +97,7 @@ impl<'a> NoReading<'a> {
 }
 
 /// Words with commas between them, those of a long list cut off.
-fn named(mut words: Vec<String>) -> String {
+pub fn enumerated(mut words: Vec<String>) -> String {
     let more = words.len().saturating_sub(MOST_NAMED);
     words.truncate(MOST_NAMED);
     if more > 0 {

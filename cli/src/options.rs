@@ -140,7 +140,7 @@ pub const JOBS: Opt = Opt {
     long: "jobs",
     short: Some('j'),
     value: Some("N"),
-    help: "use so many threads; one for each core unless given",
+    help: "use so many threads, of which there are at most four for each core; one for each unless given",
 };
 pub const LINE: Opt = Opt {
     long: "line",

@@ -8,11 +8,12 @@ use crate::failure::Failure;
 use crate::files::{self, GrammarFile, Written};
 use crate::json::{self, Origin};
 use crate::names::shown;
+use crate::no_reading::enumerated;
 use crate::options::{Arguments, EXACT, PATHS, SAID, SKIP};
 use spireyerba::lattice::{reduce, word_label, Acceptor, Automaton, Keep, Misfit, Reduced};
 use spireyerba::limits::{MAX_EDGES, MAX_PLACES};
-use spireyerba::text::{Lattice, NamedGrammar, UtteranceReader};
-use spireyerba::{Error, Graph, Heard};
+use spireyerba::text::{nearest, Lattice, NamedGrammar, Unread, UtteranceReader};
+use spireyerba::{Error, Graph, Heard, Position};
 
 /// Where what was heard comes from.
 #[derive(Clone, Copy)]
@@ -59,13 +60,49 @@ pub struct Entry {
     /// Its own name, if it has one.
     pub id: Option<String>,
     /// What was heard, as a command line asks for it, or why it cannot be.
-    pub changed: Result<Changed, String>,
+    pub changed: Result<Changed, Why>,
+}
+
+/// Why one of those that a text has is not answered.
+pub struct Why {
+    /// Where in the text, if it cannot be read.
+    position: Option<Position>,
+    pub reason: String,
+}
+
+impl Why {
+    /// The same of what stands in a line.
+    pub fn in_line(self, line: usize) -> Self {
+        Self { position: self.position.or(Some(Position { line, column: 1 })), ..self }
+    }
+}
+
+impl From<String> for Why {
+    fn from(reason: String) -> Self {
+        Self { position: None, reason }
+    }
+}
+
+impl From<Error> for Why {
+    fn from(error: Error) -> Self {
+        Self { position: error.position(), reason: error.reason() }
+    }
 }
 
 impl Entry {
-    /// Where it stands in a file, for messages.
+    /// Where it stands in a file, and its name, for messages.
     pub fn place(&self, file: &str) -> String {
-        self.id.as_ref().map_or_else(|| file.to_owned(), |id| format!("{file}: {}", shown(id)))
+        let position = self.changed.as_ref().err().and_then(|why| why.position);
+        let at = position.map_or(String::new(), |Position { line, column }| format!(":{line}:{column}"));
+        let name = self.id.as_ref().map_or(String::new(), |id| format!(": {}", shown(id)));
+        format!("{file}{at}{name}")
+    }
+}
+
+/// One of several that cannot be read.
+impl From<Unread> for Entry {
+    fn from(Unread { id, error }: Unread) -> Self {
+        Self { id, changed: Err((*error).into()) }
     }
 }
 
@@ -118,7 +155,7 @@ impl<'a> Words<'a> {
         let words = Self { named, cost, said, anchors, keep, is_exact: arguments.has(&EXACT) };
         let missing = words.said.iter().find(|word| words.label(word).is_none());
         match missing {
-            Some(word) => Err(Failure::Refused(format!("--said {word}: the grammar has no such word"))),
+            Some(word) => Err(Failure::Refused(no_such_word(word, &named.words))),
             None => Ok(words),
         }
     }
@@ -154,23 +191,25 @@ impl<'a> Words<'a> {
         }
     }
 
-    /// Reads all that a text has.
+    /// Reads all that a text has. Of several those that cannot be read stand between the others.
     pub fn read_all(&self, reader: &UtteranceReader, text: &str) -> Result<Vec<Entry>, Error> {
         if !self.takes_acceptor() {
-            return Ok(reader.read_all_heard(text)?.into_iter().map(|lattice| self.entry_of(lattice)).collect());
+            let all = reader.read_all_heard(text)?.into_iter();
+            return Ok(all.map(|read| read.map_or_else(Entry::from, |lattice| self.entry_of(lattice))).collect());
         }
         match reader.read_plain(text) {
             Some(plain) => plain.map(|plain| vec![self.entry(Written::Plain(plain))]),
             None => {
                 let all = reader.recognised(text)?.into_iter();
-                Ok(all.map(|recognised| self.entry(Written::Lattice(recognised))).collect())
+                let entry = |recognised| self.entry(Written::Lattice(recognised));
+                Ok(all.map(|read| read.map_or_else(Entry::from, entry)).collect())
             }
         }
     }
 
     /// What was heard, with its name and the words of slots that are known.
     fn entry_of(&self, lattice: Lattice) -> Entry {
-        Entry { id: lattice.id.clone(), changed: self.anchored(lattice) }
+        Entry { id: lattice.id.clone(), changed: self.anchored(lattice).map_err(Why::from) }
     }
 
     /// What was heard, with its name and as the command line asks for it.
@@ -179,7 +218,7 @@ impl<'a> Words<'a> {
             Written::Plain(_) => None,
             Written::Lattice(recognised) => recognised.id.clone(),
         };
-        Entry { id, changed: self.apply(written) }
+        Entry { id, changed: self.apply(written).map_err(Why::from) }
     }
 
     /// What was heard, with the words of slots that are known.
@@ -255,6 +294,9 @@ impl Source {
             return Err(format!("takes {edges} edges and a word graph has {fits}: not --exact"));
         }
         let slots = is_slots.then(|| sources.clone());
+        // what was left out of the text counts too
+        let number = |edge: u32| rest.sources.get(edge as usize).map_or(edge, |number| *number);
+        let sources = sources.into_iter().map(number).collect();
         let lattice = Lattice { heard: Heard::Graph(graph), times, sources, taken_off, pruned, ..rest };
         Ok(Changed { lattice, slots })
     }
@@ -263,6 +305,13 @@ impl Source {
 /// Whether every slot has a word, so that the library takes them.
 fn has_words(heard: &Heard) -> bool {
     matches!(heard, Heard::Slots(utterance) if utterance.slots.iter().all(|slot| !slot.is_empty()))
+}
+
+/// That the grammar has no such word, and which it has.
+fn no_such_word(word: &str, words: &[String]) -> String {
+    let meant = nearest(word, words.iter().map(String::as_str));
+    let meant = meant.map_or(String::new(), |meant| format!(" (did you mean `{meant}`?)"));
+    format!("--said {word}: the grammar has no such word{meant}: give one of {}", enumerated(words.to_vec()))
 }
 
 fn why_not(misfit: Misfit) -> String {

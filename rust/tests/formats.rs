@@ -1,8 +1,8 @@
 //! What recognisers write: an example of each format, what it says, and how formats are told apart.
 
-use spireyerba::lattice::Keep;
-use spireyerba::text::{binary_kind, Format, Lattice, NamedGrammar, UtteranceReader};
-use spireyerba::{Error, Heard};
+use spireyerba::lattice::{Keep, Pruned};
+use spireyerba::text::{binary_kind, Format, Lattice, NamedGrammar, Unread, UtteranceReader};
+use spireyerba::{Edge, Error, Graph, Heard};
 use std::path::Path;
 
 const SCALE: f64 = 100.0;
@@ -20,7 +20,7 @@ fn read_all(text: &str) -> Result<Vec<Lattice>, Error> {
     let grammar = grammar();
     let mut reader = UtteranceReader::new(&grammar);
     reader.scale = Some(SCALE);
-    reader.read_all_heard(text)
+    reader.read_all_heard(text)?.into_iter().map(|read| read.map_err(|unread| *unread.error)).collect()
 }
 
 /// The weights and words of the first readings, and what all weights are less than in the text.
@@ -81,6 +81,74 @@ fn lattices_of_kaldi() {
     reader.scale = Some(1.0);
     let message = reader.read_heard(&example("kaldi.txt")).unwrap_err().to_string();
     assert!(message.ends_with("the text has 2 utterances, and one is read here: `batch` takes many"), "{message}");
+}
+
+/// The names of what a text has, each with the reason if it cannot be read.
+fn names(text: &str, format: Format) -> Vec<(String, Option<String>)> {
+    let grammar = grammar();
+    let mut reader = UtteranceReader::new(&grammar);
+    reader.format = Some(format);
+    let all = reader.read_all_heard(text).expect("some can be read");
+    let name = |id: Option<String>| id.expect("a name");
+    let one = |read: Result<Lattice, Unread>| match read {
+        Ok(lattice) => (name(lattice.id), None),
+        Err(Unread { id, error }) => (name(id), Some(error.to_string())),
+    };
+    all.into_iter().map(one).collect()
+}
+
+/// Why 30 words in a row are refused whose text ends in line 55.
+const LONG: &str =
+    "55:1: refused 13: even what weighs the least takes 31 places and 30 edges, and a word graph has 25 places and 96 \
+                    edges: cut the utterance in two, or give words different scores";
+
+/// Of several each that cannot be read has its name and the reason, and the others are read.
+#[test]
+fn some_of_several_cannot_be_read() {
+    let expected = |all: &[(&str, &str)]| -> Vec<(String, Option<String>)> {
+        let reason = |reason: &str| Some(format!("text:{reason}")).filter(|_| !reason.is_empty());
+        all.iter().map(|(name, why)| ((*name).to_owned(), reason(why))).collect()
+    };
+    let long: String = (0..30).map(|state| format!("{state} {} door 0\n", state + 1)).collect();
+    let archive = format!(
+        "unknown\n0 1 door 1,2,\n1 2 window 1,2,\n2\n\nempty\n\none\n0 1 door 0\n1 2 four 0\n2\n\n\
+         number\n0 1 door x,y\n1 2 four 0\n2\n\ncircle\n0 1 door 0\n1 0 four 0\n1\n\n\
+         long\n{long}30\n\nsilent\n0 1 <eps> 0\n1\n\ntwo\n0 1 door 0\n1 2 forty 0\n2\n"
+    );
+    let all = [
+        ("unknown", "3:1: refused 14: the grammar has no word `window`"),
+        ("empty", "7:1: refused 13: there is no arc"),
+        ("one", ""),
+        ("number", "14:10: `x` is not a number that can stand here: it has to be finite"),
+        ("circle", "20:1: links go round in a circle, and this is one of them: a lattice has no way back"),
+        ("long", LONG),
+        ("silent", "59:1: refused 13: there is no word on a path to the end"),
+        ("two", ""),
+    ];
+    assert_eq!(names(&archive, Format::Kaldi), expected(&all));
+    let words = "a 1 0 1 door\na 1 1 1 four\nb 1 0 1 door\nb 1 1 1 window\nc 1 0 x door\nc 1 1\nd 1 0 1\ne 1 0 1 door\ne 1 1 1 forty\n";
+    let all = [
+        ("a 1", ""),
+        ("b 1", "4:9: refused 14: the grammar has no word `window`"),
+        ("c 1", "5:7: `x` is not a number that can stand here: it has to be finite"),
+        ("d 1", "7:8: the line ends where file, channel, beginning, duration and word should stand"),
+        ("e 1", ""),
+    ];
+    assert_eq!(names(words, Format::Ctm), expected(&all));
+}
+
+/// What is said of a lattice that was pruned, also where not every beam was tried.
+#[test]
+fn what_was_pruned_is_said() {
+    let graph = Graph { places: 2, edges: vec![Edge { from: 0, to: 1, word: 0, cost: 3 }] };
+    let notes = |untried| {
+        let pruned = Some(Pruned { kept: 90, of: 200, complete_up_to: 7, untried });
+        Lattice { pruned, ..Lattice::from(Heard::Graph(graph.clone())) }.notes()
+    };
+    let kept = "kept 90 of 200 edges: every reading of weight up to 7 is in the list (a word graph has 25 places and 96 edges)";
+    assert_eq!(notes(0), [kept]);
+    let untried = "; more may fit, but 3 wider beams were not tried, since that takes too long";
+    assert_eq!(notes(3), [format!("{kept}{untried}")]);
 }
 
 #[test]

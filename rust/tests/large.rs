@@ -1,10 +1,10 @@
 //! Lattices of 400 nodes and 3,000 links, such as recognisers write and such as are hard to determinise, to prune or to close over:
 //! how long reading and reducing takes, and how much memory.
 
-mod clock;
-
 use spireyerba::lattice::{reduce, Keep};
 use spireyerba::text::{NamedGrammar, UtteranceReader};
+use spireyerba_tests::clock;
+use spireyerba_tests::seeded::rng::Rng;
 use std::alloc::{GlobalAlloc, Layout, System};
 use std::sync::atomic::{AtomicUsize, Ordering};
 use std::time::Duration;
@@ -54,19 +54,6 @@ fn bytes(run: impl FnOnce()) -> usize {
     MOST.load(Ordering::Relaxed) - before
 }
 
-/// SplitMix64.
-struct Rng(u64);
-
-impl Rng {
-    fn below(&mut self, count: usize) -> usize {
-        self.0 = self.0.wrapping_add(0x9e37_79b9_7f4a_7c15);
-        let mut z = self.0;
-        z = (z ^ (z >> 30)).wrapping_mul(0xbf58_476d_1ce4_e5b9);
-        z = (z ^ (z >> 27)).wrapping_mul(0x94d0_49bb_1331_11eb);
-        ((z ^ (z >> 31)) % count as u64) as usize
-    }
-}
-
 /// A kind of lattice.
 #[derive(Clone, Copy, Debug)]
 struct Kind {
@@ -99,7 +86,7 @@ const KINDS: [Kind; 12] = [
 impl Kind {
     /// A lattice in HTK's format.
     fn text(self, seed: u64) -> String {
-        let mut rng = Rng(seed);
+        let mut rng = Rng::new(seed);
         let nodes: String = (0..NODES).map(|node| format!("I={node} t={}\n", node as f64 / 100.0)).collect();
         let mut links = String::new();
         for number in 0..LINKS {

@@ -1,10 +1,9 @@
 //! The lattices of a real recogniser in examples/recogniser/recorded: how many are read, pruned and right.
 
-mod clock;
-
 use spireyerba::lattice::{reduce, Acceptor, Keep, UNKNOWN};
 use spireyerba::text::{Lattice, NamedGrammar, UtteranceReader};
 use spireyerba::Heard;
+use spireyerba_tests::clock;
 use std::collections::{BTreeMap, BTreeSet};
 use std::path::{Path, PathBuf};
 use std::time::Duration;
@@ -95,11 +94,11 @@ fn the_whole_vocabulary_in_time() {
     reader.keep_unknown = true;
     for number in 0..GENERAL {
         let text = text(&format!("general/u{number}.slf"));
-        let acceptor = with_words(reader.recognised(&text).expect("a lattice").remove(0).acceptor);
+        let acceptor = with_words(reader.recognised_alone(&text).expect("a lattice").acceptor);
         let reduced = reduce(&acceptor, Keep::Strings).expect("what weighs the least fits");
         assert!(reduced.graph.edges.len() <= 96 && reduced.graph.places <= 25);
         pruned += usize::from(reduced.pruned.is_some());
-        slowest = slowest.max(clock::time(|| (reader.recognised(&text), reduce(&acceptor, Keep::Strings))));
+        slowest = slowest.max(clock::time(|| (reader.recognised_alone(&text), reduce(&acceptor, Keep::Strings))));
     }
     println!("the slowest took {slowest:?}, {pruned} pruned");
     assert!(slowest < LONGEST, "{slowest:?}");

@@ -17,11 +17,13 @@
 //! | `compare` | one call of both on the same slices, held to each other |
 //! | `both`, `documents` | both held to the same examples; blocks of the documents |
 //! | `seeded` | seeded inputs, valid and damaged |
+//! | `clock` | the time that something takes |
 
 pub mod bits;
 pub mod both;
 pub mod chance;
 pub mod check;
+pub mod clock;
 pub mod compare;
 pub mod conversions;
 pub mod cost_ranges;

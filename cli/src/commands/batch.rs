@@ -6,10 +6,11 @@ mod messages;
 mod resume;
 mod sink;
 mod source;
+mod told;
 
 pub use super::Command;
 use crate::failure::Failure;
-use crate::files;
+use crate::files::{self, File};
 use crate::json;
 use crate::names::{carried, shown};
 use crate::no_reading::NoReading;
@@ -18,21 +19,22 @@ use crate::options::{
     SAID, SCALE, SKIP, WANTED,
 };
 use crate::output::Output;
-use crate::words::{push_notes, Changed, Entry, Words};
+use crate::words::{push_notes, Changed, Entry, Why, Words};
 use lattices::Lines;
-pub use lattices::{are_lattices, named};
+pub use lattices::{are_lattices, named, read_all};
 pub use line::Line;
 use resume::Answered;
 use sink::{Answers, Refused, Sink};
 use source::{Piece, Source};
 use spireyerba::limits::MAX_READINGS;
-
 use spireyerba::text::{is_graph, NamedGrammar, UtteranceReader};
 use spireyerba::{Distinct, Error, Found, Heard, Lister, Reading, Refusal};
 use std::borrow::Cow;
 use std::ffi::OsStr;
 use std::os::unix::ffi::OsStrExt;
 use std::sync::Mutex;
+use std::thread::Builder;
+pub use told::refuse_other;
 
 pub const COMMAND: Command = Command {
     name: "batch",
@@ -53,12 +55,12 @@ place or slot where they end, and what could follow there.
 A name without blanks and a tab may stand before what was heard: the name comes back as \"id\". Where a number alone
 follows the tab, such as a cost, it is a blank like any other. A line may also have a value of a recogniser's JSON.
 Lattices stand in files of their own: --files names a list of them, one a line, also with a name and a tab before it. A file
-in HTK's format, of Kaldi's, a confusion network or one value of JSON may be FILE itself, and one in another format with
---format. Each lattice is an answer, with its own name as \"id\", or the line's, or the file's; \"complete_up_to\" says that it
-was pruned and up to which weight every reading is there, and \"dropped\" has the words that --drop-unknown left out. For
-each word of a reading \"edges\" has the number of its edge in the word graph that the lattice was reduced to, \"links\" that
-of its link as links stand in the file, from 0, and \"times\" when it began and ended, if the file has times. With --skip
-\"slots\" has the slots of an utterance's words instead.
+in HTK's format, of Kaldi's, a confusion network or one value of JSON may be FILE itself, and one in another format, or one
+that comes from standard input, with --format. Each lattice is an answer, with its own name as \"id\", or the line's, or the
+file's; \"complete_up_to\" says that it was pruned and up to which weight every reading is there, and \"dropped\" has the
+words that --drop-unknown left out. For each word of a reading \"edges\" has the number of its edge in the word graph that
+the lattice was reduced to, \"links\" that of its link as links stand in the file, from 0, and \"times\" when it began and
+ended, if the file has times. With --skip \"slots\" has the slots of an utterance's words instead.
 With --resume a run that was interrupted goes on: no line, and no lattice of a file, is answered twice or left out.",
     example: "spireyerba batch grammar.txt utterances.txt -n 1 --resume readings.jsonl",
     run,
@@ -66,19 +68,22 @@ With --resume a run that was interrupted goes on: no line, and no lattice of a f
 
 /// Pieces that a thread may be ahead of what is written.
 const AHEAD: usize = 4;
+/// With more threads for each core nothing is done sooner.
+const MOST_FOR_A_CORE: usize = 4;
 
 fn run(arguments: &Arguments, output: &mut Output) -> Result<(), Failure> {
     let cores = std::thread::available_parallelism().map_or(1, usize::from);
-    let jobs = arguments.number(&JOBS)?.unwrap_or(cores).max(1);
+    let jobs = arguments.number(&JOBS)?.unwrap_or(cores).clamp(1, MOST_FOR_A_CORE * cores);
     let grammar = files::grammar(arguments.operands[0])?;
     let words = Words::new(arguments, &grammar.named)?;
     let mut reader = files::utterance_reader(arguments, &grammar.named)?;
     reader.keep_unknown = words.may_skip();
-    let Lines { operand, are_files, file } = Lines::open(arguments, reader.format)?;
+    let Lines { operand, are_files, file, whole } = Lines::open(arguments, reader.format)?;
     let name = files::name_of(operand);
     let batch = Batch {
         name: &name,
         are_files,
+        whole,
         wanted: arguments.wanted()?,
         distinct: arguments.has(&DISTINCT),
         named: &grammar.named,
@@ -88,14 +93,17 @@ fn run(arguments: &Arguments, output: &mut Output) -> Result<(), Failure> {
         names: json::Names::new(&grammar.named),
     };
     let mut source = Source::new(file);
+    batch.refuse_other(&mut source)?;
     let mut resumed = arguments.value(&RESUME).map(|out| batch.resume(out, &mut source)).transpose()?;
     let by_line = arguments.has(&LINE) || !files::is_still(operand);
     let sink = Sink::new(resumed.as_mut().unwrap_or(output), by_line, AHEAD * jobs);
     let source = Mutex::new(source);
     std::thread::scope(|scope| {
-        // this thread is one of them
+        // this thread is one of them, and does the work of those for which the system has no room
         for _ in 1..jobs {
-            scope.spawn(|| batch.work(&source, &sink));
+            if Builder::new().spawn_scoped(scope, || batch.work(&source, &sink)).is_err() {
+                break;
+            }
         }
         batch.work(&source, &sink);
     });
@@ -116,6 +124,8 @@ struct Batch<'a> {
     distinct: bool,
     /// Whether each line is the name of a file with lattices.
     are_files: bool,
+    /// What the one file has, if it was read.
+    whole: Option<File>,
 }
 
 impl Batch<'_> {
@@ -131,6 +141,16 @@ impl Batch<'_> {
             eprintln!("{}: goes on behind line {lines}", shown(out));
         }
         Ok(Output::file(out, file))
+    }
+
+    /// Refuses lines that look like another format, if none was given.
+    fn refuse_other(&self, source: &mut Source) -> Result<(), Failure> {
+        if self.are_files || self.reader.format.is_some() {
+            return Ok(());
+        }
+        let Some(front) = source.front().map_err(|error| Failure::file(self.name, &error))? else { return Ok(()) };
+        let mut worker = Worker::new(self);
+        told::refuse_other(self.name, &String::from_utf8_lossy(front), |line| worker.has_reading(line.heard))
     }
 
     /// Answers lines until there are none, or nobody wants the answers.
@@ -198,7 +218,8 @@ impl<'a> Worker<'a> {
     /// Adds the answer of each lattice of a file that a line names.
     fn answer_file(&mut self, line: &Line, answers: &mut Answers) {
         let name = line.heard.trim();
-        let lattices = match lattices::read(&self.batch.words, &self.batch.reader, name) {
+        let Batch { words, reader, whole, .. } = self.batch;
+        let lattices = match lattices::read(words, reader, name, whole.as_ref()) {
             Ok(lattices) => lattices,
             Err(refused) => return refuse(answers, refused, |json| line.begin_lattice(json, None, true)),
         };
@@ -229,13 +250,13 @@ impl<'a> Worker<'a> {
     /// Adds the answer of what was heard at some place, or of the slots whose block is at hand, or why it is refused.
     fn answer(
         &mut self,
-        changed: Option<&Result<Changed, String>>,
+        changed: Option<&Result<Changed, Why>>,
         place: impl Fn() -> String,
         begin: impl Fn(&mut Vec<u8>),
         answers: &mut Answers,
     ) {
         let answered = match changed.map(Result::as_ref).transpose() {
-            Err(why) => Err(Refused::new(&place(), why.clone())),
+            Err(why) => Err(Refused::new(&place(), why.reason.clone())),
             Ok(changed) => {
                 let answered = self.answer_heard(changed, &begin, &mut answers.json);
                 answered.map_err(|refusal| Error::from(refusal).in_file(&place()).into())
@@ -299,6 +320,16 @@ impl<'a> Worker<'a> {
         }
         reader.read_block(line, &mut self.sheet, &mut self.block)?;
         Ok(None)
+    }
+
+    /// Whether a line can be read and has a reading.
+    fn has_reading(&mut self, line: &str) -> bool {
+        let found = match self.read(line) {
+            Ok(Some(Entry { changed: Ok(changed), .. })) => self.lister.find(&changed.lattice.heard, 1),
+            Ok(None) => self.lister.find_in_block(&self.block, 1),
+            Ok(Some(_)) | Err(_) => return false,
+        };
+        found.is_ok_and(|found| !found.is_empty())
     }
 
     /// Adds why what was heard, or the slots whose block is at hand, has no reading.

@@ -1,6 +1,6 @@
 //! `schedule`: a row for each utterance.
 
-use super::batch::{are_lattices, named, Line};
+use super::batch::{are_lattices, named, read_all, refuse_other, Line};
 use super::Command;
 use crate::failure::Failure;
 use crate::files::{self, File, GrammarFile};
@@ -79,7 +79,7 @@ fn run(arguments: &Arguments, output: &mut Output) -> Result<(), Failure> {
     let schedule = Schedule { columns, close, reader, words, grammar: &grammar, name };
     let rows = match are_files {
         true => files::list(operand)?.iter().flat_map(|(before, line)| schedule.rows_of_file(*before, line)).collect(),
-        false => schedule.rows(&File::read(operand)?.text(|text| Ok(text.to_owned()))?),
+        false => schedule.rows(&File::read(operand)?.text(|text| Ok(text.to_owned()))?)?,
     };
     let names: Vec<&str> = schedule.columns.iter().map(|symbol| grammar.named.symbol(*symbol)).collect();
     let text = if arguments.has(&HTML) { html(&names, &rows, name) } else { csv(&names, &rows) };
@@ -121,17 +121,28 @@ struct Schedule<'a> {
 
 impl Schedule<'_> {
     /// The rows of a text: of each lattice, or of each line.
-    fn rows(&self, text: &str) -> Vec<Row> {
+    fn rows(&self, text: &str) -> Result<Vec<Row>, Failure> {
         if !are_lattices(text, self.reader.format) {
-            return files::lines_of(text).map(|(before, line)| self.row_of_line(&Line::new(line, before))).collect();
+            if self.reader.format.is_none() {
+                refuse_other(self.name, text, |line| self.has_reading(line))?;
+            }
+            let lines = files::lines_of(text);
+            return Ok(lines.map(|(before, line)| self.row_of_line(&Line::new(line, before))).collect());
         }
         let line = Line::new(text, 0);
-        match self.words.read_all(&self.reader, text) {
+        Ok(match read_all(&self.words, &self.reader, text) {
             Err(error) => vec![self.refused(&line, None, error.in_file(self.name).to_string())],
             Ok(lattices) => {
                 lattices.iter().map(|entry| self.row_of(&line, None, &entry.place(self.name), entry)).collect()
             }
-        }
+        })
+    }
+
+    /// Whether a line can be read and has a reading.
+    fn has_reading(&self, line: &Line) -> bool {
+        let changed = self.words.read(&self.reader, line.heard).ok().and_then(|entry| entry.changed.ok());
+        let readings = changed.and_then(|changed| self.grammar.packed.list(&changed.lattice.heard, 1).ok());
+        readings.is_some_and(|readings| !readings.is_empty())
     }
 
     fn row_of_line(&self, line: &Line) -> Row {
@@ -149,7 +160,7 @@ impl Schedule<'_> {
     fn rows_of_file(&self, before: usize, line: &str) -> Vec<Row> {
         let line = Line::new(line, before);
         let file = line.heard.trim();
-        let read = File::read(file).and_then(|file| file.text(|text| self.words.read_all(&self.reader, text)));
+        let read = File::read(file).and_then(|file| file.text(|text| read_all(&self.words, &self.reader, text)));
         match read {
             Err(failure) => {
                 vec![self.refused(&line, Some(&shown(line.name_of(None, true))), failure.message().to_owned())]
@@ -170,7 +181,7 @@ impl Schedule<'_> {
         let id = id.or(entry.id.as_deref());
         let lattice = match &entry.changed {
             Ok(changed) => &changed.lattice,
-            Err(why) => return self.refused(line, id, format!("{place}: {why}")),
+            Err(why) => return self.refused(line, id, format!("{place}: {}", why.reason)),
         };
         let missing = lattice.notes().join("; ");
         match self.first_of(lattice) {

@@ -130,6 +130,25 @@ fn each_line_is_answered_before_the_next_is_waited_for() {
     assert!(child.wait().expect("an end").success());
 }
 
+/// There are no more threads than there is use for, however many are asked for.
+#[test]
+#[cfg(target_os = "linux")]
+fn no_more_threads_than_there_is_use_for() {
+    let cores = std::thread::available_parallelism().map_or(1, usize::from);
+    let mut command = Command::new(PROGRAM);
+    let command = command.current_dir(doors()).args(["batch", "grammar.txt", "-", "-n", "1", "-j", "100000"]);
+    let mut child = command.stdin(Stdio::piped()).stdout(Stdio::piped()).spawn().expect("a run");
+    let (mut stdin, stdout) = (child.stdin.take().expect("a pipe"), child.stdout.take().expect("a pipe"));
+    stdin.write_all(b"door 1 ; four 1 ; oak 2\n").expect("a line is taken");
+    let mut answer = String::new();
+    BufReader::new(stdout).read_line(&mut answer).expect("an answer");
+    assert!(answer.starts_with(r#"{"line":1,"readings":[{"rank":1,"weight":39,"#), "{answer}");
+    let threads = std::fs::read_dir(format!("/proc/{}/task", child.id())).expect("its threads").count();
+    assert!((1..=4 * cores).contains(&threads), "{threads} threads on {cores} cores");
+    drop(stdin);
+    assert!(child.wait().expect("an end").success());
+}
+
 #[test]
 fn a_file_may_be_answered_line_by_line_too() {
     let expected = answer("batch grammar.txt utterances.txt -n 2");

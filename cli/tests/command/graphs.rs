@@ -64,7 +64,11 @@ fn a_word_that_was_said() {
     let skipped = said("graph.txt --said glass --skip 5").out;
     assert!(skipped.lines().count() == 3 && skipped.lines().all(|line| line.contains(" glass")), "{skipped}");
     assert_eq!(refused(said("graph.txt --said steel"), 1), "graph.txt: --said steel: no path has it\n");
-    assert_eq!(refused(said("graph.txt --said green"), 1), "--said green: the grammar has no such word\n");
+    let all = "give one of twenty, forty, four, five, door, oak, glass, steel, fire, thirty, sixty, left, and 1 more";
+    for (word, meant) in [("green", ""), ("fourty", " (did you mean `forty`?)")] {
+        let message = format!("--said {word}: the grammar has no such word{meant}: {all}\n");
+        assert_eq!(refused(said(&format!("graph.txt --said {word}")), 1), message);
+    }
 }
 
 #[test]

@@ -138,14 +138,104 @@ fn values_of_json() {
         assert!(run.out.lines().count() == 3 && run.status == 1, "{}", run.out);
         run.out.lines().zip(begins).for_each(|(line, begin)| assert!(line.starts_with(begin), "{line}"));
     }
-    let input = run_with(&folder, "batch g - --scale 100 -n 1", lines.as_bytes());
-    assert!(input.out.starts_with(begins[0]) && input.out.lines().count() == 3, "{}", input.out);
+    for format in ["", " --format json"] {
+        let input = run_with(&folder, &format!("batch g - --scale 100 -n 1{format}"), lines.as_bytes());
+        let answers = begins.map(|begin| begin.replace("lines.jsonl", "<stdin>"));
+        assert!(input.out.lines().count() == 3 && input.status == 1, "{}", input.out);
+        input.out.lines().zip(&answers).for_each(|(line, begin)| assert!(line.starts_with(begin), "{line}"));
+    }
+    let streamed = run_with(&folder, "batch g - --scale 100 -n 1 --format json", one.as_bytes());
+    assert_eq!((streamed.status, streamed.out), (0, whole.replace("one.json", "-")), "{}", streamed.err);
     let dropped = run_in(&folder, "batch g lines.jsonl --scale 100 -n 1 --drop-unknown");
     assert!(dropped.out.starts_with(begins[0]) && dropped.out.lines().count() == 3, "{}", dropped.out);
     let rows = run_in(&folder, "schedule g lines.jsonl --columns Number --scale 100").out;
     assert!(rows.starts_with("line,Number,weight,note\r\n1,four,5,\r\n3,") && rows.lines().count() == 4, "{rows}");
     let row = answer_in(&folder, "schedule g one.json --columns Number --scale 100");
     assert_eq!(row.lines().count(), 2, "{row}");
+}
+
+/// A list of files may have such files among others; each value is an answer, and its name that before a tab, its own, or the file's.
+#[test]
+fn values_of_json_in_a_list() {
+    let grammar = std::fs::read_to_string(example("formats").join("grammar.txt")).expect("the grammar");
+    let lines = "# two\n{\"text\": \"door four\"}\nu2\t{\"text\": \"door um\"}\n\n{\"text\": \"door forty\", \"id\": \"mine\"}\n";
+    let files = [("g", grammar.as_bytes()), ("lines.jsonl", lines.as_bytes()), ("list", b"lines.jsonl\n")];
+    let folder = folder("batch_json_list", &files);
+    let why = "lines.jsonl:3:4: u2: refused 14: the grammar has no word `um`";
+    let reading = |words: &str, weight: u32, rule: u32| {
+        format!("[{{\"rank\":1,\"weight\":{weight},\"words\":[{words}],\"rules\":[0,{rule}],\"edges\":[0,1],\"links\":[0,1]}}]")
+    };
+    let answers = [
+        format!("{{\"line\":1,\"id\":\"lines.jsonl\",\"readings\":{}}}\n", reading(r#""door","four""#, 5, 4)),
+        format!("{{\"line\":1,\"id\":\"u2\",\"error\":\"{why}\"}}\n"),
+        format!("{{\"line\":1,\"id\":\"mine\",\"readings\":{}}}\n", reading(r#""door","forty""#, 10, 3)),
+    ];
+    for format in ["", " --format json"] {
+        let run = run_in(&folder, &format!("batch g --files list --scale 100 -n 1{format}"));
+        let expected = Run { status: 1, out: answers.concat(), err: format!("{why}\n1 of 3 utterances refused\n") };
+        assert_eq!(run, expected, "{format}");
+        let said = run_in(&folder, &format!("batch g --files list --scale 100 -n 1 --said four{format}"));
+        let no_path = "lines.jsonl:5:1: mine: --said four: no path has it";
+        assert_eq!(said.err, format!("{why}\n{no_path}\n2 of 3 utterances refused\n"));
+        let rows = answer_in(&folder, &format!("schedule g --files list --scale 100 --columns Number{format}"));
+        assert_eq!(
+            rows,
+            format!("line,id,Number,weight,note\r\n1,lines.jsonl,four,5,\r\n1,u2,,,{why}\r\n1,mine,forty,10,\r\n")
+        );
+    }
+}
+
+/// A text in a format that lines do not have is refused once, with what to give; what may be lines is read line by line.
+#[test]
+fn texts_in_other_formats_are_refused_once() {
+    let formats = example("formats");
+    let message = |name: &str, format: &str| {
+        format!(
+            "{name}: the first lines look like a text in the format {format} and not like utterances, a line each: give --format {format} \
+             (with --format slots or graph each line is read by itself)\n"
+        )
+    };
+    for (name, format) in [
+        ("openfst.txt", "openfst"),
+        ("openfst_transducer.txt", "openfst"),
+        ("nbest.txt", "nbest"),
+        ("nbest_srilm.txt", "nbest"),
+        ("nbest_decipher.txt", "nbest"),
+        ("nbest_kaldi.txt", "nbest"),
+        ("words.ctm", "ctm"),
+    ] {
+        for words in [format!("batch grammar.txt {name}"), format!("schedule grammar.txt {name} --columns Number")] {
+            for option in ["", " --drop-unknown", " --skip 20"] {
+                let refused = refused(run_in(&formats, &format!("{words} --scale 100{option}")), 1);
+                assert_eq!(refused, message(name, format), "{words}{option}");
+            }
+        }
+        let given = run_in(&formats, &format!("batch grammar.txt {name} --scale 100 -n 1 --format {format}"));
+        assert!(given.out.starts_with("{\"line\":1,\"id\":\""), "{given:?}");
+    }
+    // what stands in a file of its own is read there, and cannot be told in time from standard input
+    for (name, format) in
+        [("kaldi.txt", "kaldi"), ("pocketsphinx.slf", "slf"), ("network.txt", "network"), ("vosk_words.json", "json")]
+    {
+        let text = std::fs::read(formats.join(name)).expect(name);
+        let refused = refused(run_with(&formats, "batch grammar.txt - --scale 100", &text), 1);
+        assert_eq!(refused, message("<stdin>", format));
+    }
+    // names that are numbers, as scores are, and single lines
+    for (lines, refused) in [
+        ("1\tdoor 4\n2\tdoor 3 ; four 2\n", 0),
+        ("1\tdoor 4 ; green 1\n2\tdoor 3 ; blue 2\n", 2),
+        ("-1.5 door four\n", 1),
+        ("-1.5 door four\ndoor 3 ; four 2\n", 1),
+    ] {
+        let run = run_with(&formats, "batch grammar.txt - -n 1", lines.as_bytes());
+        let answers = run.out.lines().count();
+        assert_eq!(
+            (answers, run.out.matches("\"error\":").count()),
+            (lines.lines().count(), refused),
+            "{lines}{run:?}"
+        );
+    }
 }
 
 /// A lattice of an archive that is refused has its name, as one that is answered; messages that say the same are counted all the same.
@@ -179,6 +269,61 @@ fn refused_lattices_have_names() {
         run.err.ends_with("many: 2 more lines: --said twenty: no path has it\n12 of 24 utterances refused\n"),
         "{}",
         run.err
+    );
+}
+
+/// Of an archive each lattice that cannot be read or does not fit is refused by itself, with its name, and the others are answered;
+/// if none can be read, the file is refused.
+#[test]
+fn lattices_beside_refused_ones() {
+    let long: String = (0..30).map(|state| format!("{state} {} x 1\n", state + 1)).collect();
+    let (unknown, empty) = ("unknown\n0 1 x 1\n1 2 window 2\n2\n\n", "empty\n\n");
+    let archive = format!("{unknown}one\n0 1 x 1\n1\n\n{empty}long\n{long}30\n\ntwo\n0 1 x 2\n1\n");
+    let none = format!("{unknown}{empty}");
+    let files = [
+        ("g", &b"A -> A A | \"x\""[..]),
+        ("archive", archive.as_bytes()),
+        ("none", none.as_bytes()),
+        ("list", b"archive\n"),
+    ];
+    let folder = folder("batch_beside_refused", &files);
+    let why = [
+        "archive:3:1: unknown: refused 14: the grammar has no word `window`",
+        "archive:11:1: empty: refused 13: there is no arc",
+        "archive:44:1: long: refused 13: even what weighs the least takes 31 places and 30 edges, and a word graph has 25 places and \
+         96 edges: cut the utterance in two, or give words different scores",
+    ];
+    let reading =
+        |weight| format!(r#"{{"rank":1,"weight":{weight},"words":["x"],"rules":[1],"edges":[0],"links":[0]}}"#);
+    let refused = |id: &str, why: &str| format!("{{\"line\":1,\"id\":\"{id}\",\"error\":\"{why}\"}}\n");
+    let read = |id: &str, weight| format!("{{\"line\":1,\"id\":\"{id}\",\"readings\":[{}]}}\n", reading(weight));
+    let answers =
+        [refused("unknown", why[0]), read("one", 1), refused("empty", why[1]), refused("long", why[2]), read("two", 2)];
+    let errors = format!("{}\n3 of 5 utterances refused\n", why.join("\n"));
+    for words in ["archive", "--files list"] {
+        let run = run_in(&folder, &format!("batch g {words}"));
+        assert_eq!(run, Run { status: 1, out: answers.concat(), err: errors.clone() }, "{words}");
+    }
+    for words in ["archive", "--files list"] {
+        let rows = run_in(&folder, &format!("schedule g {words} --columns A"));
+        let [unknown, empty, long] = why;
+        let table = format!(
+            "line,id,A,weight,note\r\n1,unknown,,,{unknown}\r\n1,one,x,1,\r\n1,empty,,,{empty}\r\n1,long,,,\"{long}\"\r\n1,two,x,2,\r\n"
+        );
+        assert_eq!(rows, Run { status: 0, out: table, err: String::new() }, "{words}");
+    }
+    // with what the command line says of words
+    let run = run_in(&folder, "batch g archive --said x");
+    assert_eq!((run.status, run.out.matches("\"error\":").count()), (1, 3), "{}", run.out);
+    assert!(run.err.starts_with(&format!("{}\n{}\narchive: long: ", why[0], why[1])), "{}", run.err);
+    let all = "none:3:1: refused 14: the grammar has no word `window`";
+    let run = run_in(&folder, "batch g none");
+    let answer = format!("{{\"line\":1,\"id\":\"none\",\"error\":\"{all}\"}}\n");
+    assert_eq!(run, Run { status: 1, out: answer, err: format!("{all}\n1 of 1 utterances refused\n") });
+    let one = run_in(&folder, "list g archive");
+    assert_eq!(
+        (one.status, one.err.as_str()),
+        (1, "archive:47:1: the text has 5 utterances, and one is read here: `batch` takes many\n")
     );
 }
 
@@ -233,6 +378,51 @@ fn what_is_left_out_of_slots_is_said() {
         let note = format!("{file}: left out, for the grammar does not have them: {words}\n");
         let run = run_in(&folder, &format!("list g {file} --drop-unknown"));
         assert_eq!(run, Run { status: 0, out: "1  4  x x\n".to_owned(), err: note });
+    }
+}
+
+/// Words for silence as well, which slots and plain graphs have no place for; a lattice has, and nothing is left out of it.
+#[test]
+fn silences_that_are_left_out_are_said() {
+    let files: [(&str, &[u8]); 5] = [
+        ("g", b"A -> A A | \"x\""),
+        ("slots", b"x 1 | sil 2 | um 3; x 3 | <noise> 4\n"),
+        ("graph", b"0 1 x 1; 0 1 sil 2; 0 1 um 3; 1 2 <noise> 4; 1 2 x 3\n"),
+        ("network", b"numaligns 2\nalign 0 x 0.37 sil 0.3 um 0.2\nalign 1 x 0.05 <noise> 0.05\n"),
+        (
+            "l.slf",
+            b"VERSION=1.0\nI=0\nI=1\nI=2\nI=3\nJ=0 S=0 E=1 W=x a=-1\nJ=1 S=1 E=2 W=sil a=0\nJ=2 S=2 E=3 W=x a=-3\n",
+        ),
+    ];
+    let folder = folder("left_out_silences", &files);
+    for (file, words) in [("slots", "sil, um, <noise>"), ("graph", "sil, um, <noise>"), ("network", "sil, um, <noise>")]
+    {
+        for option in ["", " --said x"] {
+            let run = run_in(&folder, &format!("list g {file} -n 1 --scale 1 --drop-unknown{option}"));
+            let note = format!("{file}: left out, for the grammar does not have them: {words}\n");
+            assert_eq!(run, Run { status: 0, out: "1  4  x x\n".to_owned(), err: note }, "{file}{option}");
+        }
+    }
+    let whole = Run { status: 0, out: "1  4  x x\n".to_owned(), err: String::new() };
+    assert_eq!(run_in(&folder, "list g l.slf -n 1 --scale 1 --drop-unknown"), whole);
+}
+
+/// Links are counted as the file has them, whatever is left out of a plain word graph or of a lattice.
+#[test]
+fn links_are_those_of_the_file() {
+    let files: [(&str, &[u8]); 3] = [
+        ("g", b"A -> A A | \"x\""),
+        ("graph", b"0 1 um 2; 0 1 x 1; 1 2 ah 4; 1 2 x 3\n"),
+        ("l.slf", b"VERSION=1.0\nI=0\nI=1\nI=2\nJ=0 S=0 E=1 W=um a=-2\nJ=1 S=0 E=1 W=x a=-1\nJ=2 S=1 E=2 W=ah a=-4\nJ=3 S=1 E=2 W=x a=-3\n"),
+    ];
+    let folder = folder("left_out_links", &files);
+    let reading = r#"{"readings":[{"rank":1,"weight":4,"words":["x","x"],"rules":[0,1,1],"edges":[0,1],"links":[1,3],"#;
+    let rest = r#""tree":["A",["A","x"],["A","x"]]}],"dropped":["um","ah"]}"#;
+    for file in ["graph", "l.slf"] {
+        for option in ["", " --said x"] {
+            let json = run_in(&folder, &format!("list g {file} -n 1 --json --scale 1 --drop-unknown{option}")).out;
+            assert_eq!(json, format!("{reading}{rest}\n"), "{file}{option}");
+        }
     }
 }
 

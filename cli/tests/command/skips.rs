@@ -166,5 +166,6 @@ fn in_batches_and_schedules() {
     let rows = run_with(&doors(), "schedule grammar.txt - --skip 20 --columns Number,Leaf", &input);
     assert!(rows.out.lines().count() == 4 && rows.out.contains(",oak,112,"), "{}", rows.out);
     let green = refused(run_with(&doors(), "batch grammar.txt - --said green", &input), 1);
-    assert_eq!(green, "--said green: the grammar has no such word\n");
+    let all = "twenty, forty, four, five, door, oak, glass, steel, fire, thirty, sixty, left, and 1 more";
+    assert_eq!(green, format!("--said green: the grammar has no such word: give one of {all}\n"));
 }

@@ -7,7 +7,7 @@
 //! most as much is a reading of the graph. It is pruned by the widest beam that fits, of what can be determinised in time.
 
 use super::prune::Slacks;
-use super::widest::{Fitted, Minimal, Room};
+use super::widest::{Fitted, Minimal, Room, Widest};
 use super::{Acceptor, Arc, TooLarge, UNKNOWN};
 use crate::{Edge, Graph};
 
@@ -37,6 +37,8 @@ pub struct Pruned {
     pub of: usize,
     /// Every reading that weighs at most as much is a reading of the graph.
     pub complete_up_to: i64,
+    /// So many wider beams may leave more that fits, and were not tried since that takes too long.
+    pub untried: usize,
 }
 
 /// A word graph, and what it is of the lattice.
@@ -77,16 +79,16 @@ pub fn reduce(lattice: &Acceptor, keep: Keep) -> Result<Reduced, Misfit> {
         return Err(Misfit::NoWord);
     }
     let of = if below.is_some() { known.arcs() } else { minimal.acceptor.arcs() };
-    let (fitted, below) = match (fitted, below) {
+    let Widest { fitted, below, untried } = match (fitted, below) {
         (Some(fitted), None) => return Ok(reduced(fitted, None)),
-        (Some(fitted), Some(below)) => (fitted, below),
+        (Some(fitted), Some(below)) => Widest { fitted, below, untried: 0 },
         (None, whole_below) => {
-            let (fitted, below) = minimal.widest(&Room::GRAPH, MOST_TRIED)?;
-            (fitted, whole_below.map_or(below, |whole_below| below.min(whole_below)))
+            let widest = minimal.widest(&Room::GRAPH, MOST_TRIED)?;
+            Widest { below: whole_below.map_or(widest.below, |whole_below| widest.below.min(whole_below)), ..widest }
         }
     };
     let (kept, complete_up_to) = (fitted.acceptor.arcs(), below - 1 - fitted.taken_off);
-    Ok(reduced(fitted, Some(Pruned { kept, of, complete_up_to })))
+    Ok(reduced(fitted, Some(Pruned { kept, of, complete_up_to, untried })))
 }
 
 /// A lattice with one end and a word on every arc, minimal, with all of its strings or those below a weight.

@@ -5,7 +5,8 @@
 //! need not grow with the beam, for with more behind them states may become alike; so every beam is tried from the widest on, but for
 //! those by which too much is left for certain. Two states of which different strings weigh the least from there on are two by every
 //! beam that leaves both, and so are arcs between such states, of different words or weights: how many there are grows with the beam.
-//! If all that is tried has more arcs than are allowed, what the beams that are left leave has to fit before it is minimised again.
+//! If all that is tried has more arcs than are allowed, what the beams that are left leave has to fit before it is minimised again,
+//! but for the narrowest, and those of which that is not so are counted.
 
 use super::{Acceptor, Arc, Keep, Misfit, State};
 use crate::limits::{MAX_EDGES, MAX_PLACES, NOT_HEARD};
@@ -34,6 +35,15 @@ pub(super) struct Fitted {
     pub(super) acceptor: Acceptor,
     /// By how much every path weighs less than in the lattice.
     pub(super) taken_off: i64,
+}
+
+/// What is left by the widest beam that fits.
+pub(super) struct Widest {
+    pub(super) fitted: Fitted,
+    /// The weight below which nothing is missing.
+    pub(super) below: i64,
+    /// So many wider beams may fit and were not tried.
+    pub(super) untried: usize,
 }
 
 /// A pushed acceptor with one end, and if each string is kept once a minimal one.
@@ -87,21 +97,28 @@ impl Minimal {
         Some(Fitted { acceptor, taken_off: least - weight })
     }
 
-    /// The part by the widest beam that fits, and the weight below which nothing is missing.
-    pub(super) fn widest(&self, room: &Room, most_tried: usize) -> Result<(Fitted, i64), Misfit> {
+    /// The part by the widest beam that fits.
+    pub(super) fn widest(&self, room: &Room, most_tried: usize) -> Result<Widest, Misfit> {
         let slacks = self.acceptor.shortest_distance();
         let search = Search::new(&self.acceptor, &slacks, self.keep);
         let beams = search.beams();
-        let (possible, mut tried) = (search.possible(&beams, room), 0);
-        let mut is_small = |beam: i64| match tried < most_tried {
-            true => search.is_small(beam, room, &mut tried),
-            false => search.is_small_as_it_is(beam, room),
-        };
-        for place in (0..possible).rev().filter(|place| is_small(beams[*place])) {
-            let below = beams.get(place + 1).map_or(i64::MAX, |next| self.least + next);
-            if let Some(fitted) = self.part(&slacks, beams[place]).fitted(room) {
-                return Ok((fitted, below));
+        let (mut end, mut tried, mut untried) = (search.possible(&beams, room), 0, 0);
+        while let Some(mut place) = end.checked_sub(1) {
+            if tried >= most_tried {
+                let small = beams[..end].partition_point(|beam| search.is_small_as_it_is(*beam, room));
+                // the narrowest is tried in any case
+                place = small.saturating_sub(1);
+                untried += place.abs_diff(end - 1);
+            } else if !search.is_small(beams[place], room, &mut tried) {
+                end = place;
+                continue;
             }
+            tried += self.acceptor.arcs();
+            if let Some(fitted) = self.part(&slacks, beams[place]).fitted(room) {
+                let below = beams.get(place + 1).map_or(i64::MAX, |next| self.least + next);
+                return Ok(Widest { fitted, below, untried });
+            }
+            end = place;
         }
         let least = self.part(&slacks, 0).acceptor;
         Err(Misfit::TooLarge { places: least.states().len(), edges: least.arcs() })
@@ -163,17 +180,17 @@ impl<'a> Search<'a> {
         beams.len()
     }
 
-    /// Whether what is left by a beam has room but for its costs, without being minimised again.
+    /// Whether what is left by a beam has room but for its costs, without being minimised again. Then so has what a narrower leaves.
     fn is_small_as_it_is(&self, beam: i64, room: &Room) -> bool {
         let places = self.slacks.iter().filter(|slack| **slack <= beam).count();
         room.has(places, self.arcs().filter(|(state, arc)| self.slacks[*state] + arc.weight <= beam).count())
     }
 
     /// Whether what is left by a beam, minimised, has room but for its costs. It ends as soon as there are too many, and counts the
-    /// arcs that it looks at.
+    /// states and arcs that it looks at. Paths are not minimised, and of them every possible beam leaves what has room.
     fn is_small(&self, beam: i64, room: &Room, tried: &mut usize) -> bool {
         if self.keep == Keep::Paths {
-            return self.is_small_as_it_is(beam, room);
+            return true;
         }
         let mut class_of = vec![0; self.states.len()];
         let mut known: HashMap<Vec<Behind>, u32> = HashMap::new();
@@ -256,6 +273,8 @@ mod tests {
         /// A narrower beam than the widest does not fit.
         uneven: usize,
         by_costs: usize,
+        /// A wider beam would have fitted and was not tried.
+        untried: usize,
     }
 
     /// Holds the widest beam to every beam.
@@ -265,15 +284,22 @@ mod tests {
         if words.is_empty() || minimal.fitted(room).is_some() {
             return;
         }
+        let again = every_beam(&words, keep, room, true);
         for (most_tried, is_again) in [(usize::MAX, true), (0, false)] {
-            let beams = every_beam(&words, keep, room, is_again);
+            let mut beams = every_beam(&words, keep, room, is_again);
+            // the narrowest is tried in any case
+            beams[0] = again[0];
             let widest = beams.iter().rposition(|(_, fits)| *fits);
             let found = minimal.widest(room, most_tried);
             assert_eq!(found.is_ok(), widest.is_some());
-            let (Ok((fitted, below)), Some(widest)) = (found, widest) else {
+            let (Ok(Widest { fitted, below, untried }), Some(widest)) = (found, widest) else {
                 met.refused += 1;
                 continue;
             };
+            // what was not tried is counted
+            let passed_over = again[widest + 1..].iter().filter(|(_, fits)| *fits).count();
+            assert!(passed_over <= untried && (untried == 0 || most_tried == 0 && keep == Keep::Strings), "{untried}");
+            met.untried += usize::from(passed_over > 0);
             assert_eq!(below, beams.get(widest + 1).map_or(i64::MAX, |(next, _)| minimal.least + next));
             assert!(room.has(fitted.acceptor.states().len(), fitted.acceptor.arcs()));
             let arcs = fitted.acceptor.states().iter().flat_map(|state| &state.arcs);
@@ -281,7 +307,7 @@ mod tests {
             met.pruned += 1;
             met.uneven += usize::from(beams[..widest].iter().any(|(_, fits)| !fits));
             let unlimited = Room { cost: i64::MAX / 4, ..*room };
-            met.by_costs += usize::from(minimal.widest(&unlimited, most_tried).is_ok_and(|(_, wider)| wider > below));
+            met.by_costs += usize::from(minimal.widest(&unlimited, most_tried).is_ok_and(|wider| wider.below > below));
         }
     }
 
@@ -303,5 +329,6 @@ mod tests {
         }
         println!("{met:?}");
         assert!(met.pruned > 1_000 && met.refused > 100 && met.uneven > 10 && met.by_costs > 100, "{met:?}");
+        assert!(met.untried > 10, "{met:?}");
     }
 }

@@ -28,8 +28,11 @@ pub(super) fn begins_with_edge(line: &str) -> bool {
 #[derive(Default)]
 struct Lines {
     edges: Vec<Edge>,
-    /// The line in which each edge stands.
+    /// The line in which each edge stands, and its number among those that are written.
     lines: Vec<usize>,
+    numbers: Vec<u32>,
+    /// How many edges are written.
+    written: u32,
     /// The last place that an edge reaches, of those that are left out too.
     reached: u32,
     /// The last place and where it stands, if the text has it.
@@ -53,8 +56,14 @@ impl UtteranceReader<'_> {
 
     /// Reads a word graph of whole numbers.
     pub(super) fn read_plain_graph(&self, text: &str) -> Result<Graph, Error> {
+        self.read_numbered_graph(text).map(|(graph, _)| graph)
+    }
+
+    /// Reads the same, with the number that each edge has in the text if words were left out.
+    pub(super) fn read_numbered_graph(&self, text: &str) -> Result<(Graph, Vec<u32>), Error> {
         let (graph, last, _) = self.graph_lines(text, Lines::default())?;
-        Ok(Graph { places: last + 1, edges: graph.edges })
+        let is_whole = graph.edges.len() == graph.written as usize;
+        Ok((Graph { places: last + 1, edges: graph.edges }, if is_whole { Vec::new() } else { graph.numbers }))
     }
 
     /// Reads the same as a lattice, with the words that the grammar does not have.
@@ -129,6 +138,8 @@ impl Lines {
     /// Adds an edge, unless its word is left out.
     fn lay(&mut self, from: u32, to: u32, taken: Option<Candidate>, begin: Position) -> Result<(), Error> {
         self.reached = self.reached.max(to);
+        let number = self.written;
+        self.written += 1;
         let Some(Candidate { word, cost }) = taken else { return Ok(()) };
         let edge = Edge { from, to, word, cost };
         let known = self.edges.iter().position(|known| known.is_alike(edge));
@@ -138,6 +149,7 @@ impl Lines {
             None => {
                 self.edges.push(edge);
                 self.lines.push(begin.line);
+                self.numbers.push(number);
                 return Ok(());
             }
         };

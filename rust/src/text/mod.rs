@@ -175,7 +175,7 @@ mod translation;
 mod utterance;
 
 pub use fault::{shortened, Fault};
-pub use formats::{binary_kind, Format, Lattice, Recognised};
+pub use formats::{binary_kind, Format, Lattice, Recognised, Unread};
 pub use grammar::Places;
 pub use graph::is_graph;
 pub use names::NamedGrammar;

@@ -12,6 +12,8 @@ pub struct Source {
     file: Box<dyn Read + Send>,
     /// The front of a line whose end was not read yet.
     rest: Vec<u8>,
+    /// The first lines, if they were looked at and are still to be taken.
+    first: Option<Piece>,
     /// The pieces and the lines that were taken.
     pub pieces: usize,
     taken: usize,
@@ -26,7 +28,7 @@ pub struct Piece {
 
 impl Source {
     pub fn new(file: Box<dyn Read + Send>) -> Self {
-        Self { file, rest: Vec::new(), pieces: 0, taken: 0 }
+        Self { file, rest: Vec::new(), first: None, pieces: 0, taken: 0 }
     }
 
     /// Passes over so many lines; answers how many there were, if there are fewer.
@@ -47,8 +49,28 @@ impl Source {
         Ok(Ok(()))
     }
 
+    /// The lines that are taken first; nothing if there are none, or some were taken.
+    pub fn front(&mut self) -> std::io::Result<Option<&[u8]>> {
+        if self.taken == 0 {
+            self.first = self.next()?;
+            (self.pieces, self.taken) = (0, 0);
+        }
+        Ok(self.first.as_ref().map(|piece| &piece.text[..]))
+    }
+
     /// The next lines, as many as can be read at once, and at least one; nothing if there are none.
     pub fn next(&mut self) -> std::io::Result<Option<Piece>> {
+        let piece = match self.first.take() {
+            Some(first) => Some(first),
+            None => self.read()?,
+        };
+        self.pieces += 1;
+        self.taken += piece.iter().flat_map(|piece| &piece.text).filter(|byte| **byte == b'\n').count();
+        Ok(piece)
+    }
+
+    /// Reads the next lines.
+    fn read(&mut self) -> std::io::Result<Option<Piece>> {
         let mut text = std::mem::take(&mut self.rest);
         let mut end = lines_end(&text, 0);
         while end.is_none() {
@@ -67,10 +89,7 @@ impl Source {
         if self.taken == 0 && text.starts_with(BYTE_ORDER_MARK) {
             text.drain(..BYTE_ORDER_MARK.len());
         }
-        let piece = Piece { before: self.taken, text };
-        self.pieces += 1;
-        self.taken += piece.text.iter().filter(|byte| **byte == b'\n').count();
-        Ok((!piece.text.is_empty()).then_some(piece))
+        Ok(Some(Piece { before: self.taken, text }).filter(|piece| !piece.text.is_empty()))
     }
 }
 

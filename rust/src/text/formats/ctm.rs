@@ -2,7 +2,7 @@
 //! Lines `* * <ALT_BEGIN>`, `<ALT>` and `<ALT_END>` in the place of times and word stand around alternatives. The word `@`
 //! says nothing. Each file and channel is an utterance.
 
-use super::{Draft, Link};
+use super::{Draft, Link, Unread};
 use crate::text::items::{end_of, lines, Item, Line};
 use crate::text::Fault;
 use crate::{Error, Position};
@@ -18,6 +18,7 @@ const NO_TIME: &str = "*";
 const NO_CONFIDENCE: &str = "NA";
 /// File, channel, beginning, duration and word.
 const NEEDED: usize = 5;
+const WANTED: &str = "file, channel, beginning, duration and word";
 
 fn is_line(line: &Line) -> bool {
     let line = line.text.trim_start();
@@ -37,20 +38,18 @@ pub(super) fn is_ctm(text: &str) -> bool {
     is_whole && lines(text).find(is_line).is_some_and(is_word)
 }
 
-/// Reads the utterances of a text.
-pub(super) fn parse(text: &str) -> Result<Vec<Draft>, Error> {
+/// Reads the utterances of a text, of which some may be wrong.
+pub(super) fn parse(text: &str) -> Result<Vec<Result<Draft, Unread>>, Error> {
     let mut utterances: Vec<Utterance> = Vec::new();
     for line in lines(text).filter(is_line) {
         let items: Vec<Item> = line.items().take(NEEDED + 1).collect();
-        let [file, channel, begin, duration, word, ..] = items[..] else {
-            return Err(line.ends("file, channel, beginning, duration and word"));
-        };
+        let [file, channel, ..] = items[..] else { return Err(line.ends(WANTED)) };
         let is_known = |last: &Utterance| last.is_of(file.text, channel.text);
         if !utterances.last().is_some_and(is_known) {
             utterances.push(Utterance::new(format!("{} {}", file.text, channel.text)));
         }
-        if let Some(utterance) = utterances.last_mut() {
-            utterance.take(begin, duration, word, items.get(NEEDED))?;
+        if let Some(utterance) = utterances.last_mut().filter(|utterance| utterance.error.is_none()) {
+            utterance.error = utterance.line(line, &items).err();
         }
     }
     if utterances.is_empty() {
@@ -58,7 +57,7 @@ pub(super) fn parse(text: &str) -> Result<Vec<Draft>, Error> {
         return Err(Error::at(end_of(text), fault));
     }
     let end = end_of(text);
-    utterances.into_iter().map(|utterance| utterance.finish(end)).collect()
+    Ok(utterances.into_iter().map(|utterance| utterance.finish(end)).collect())
 }
 
 /// An utterance that is being read.
@@ -68,18 +67,27 @@ struct Utterance {
     at: u32,
     /// Where alternatives begin and end, if some are being read.
     fork: Option<[u32; 2]>,
+    /// What is wrong with it.
+    error: Option<Error>,
 }
 
 impl Utterance {
     fn new(name: String) -> Self {
         let mut draft = Draft { id: Some(name), scored: Some(("CTM", "confidences")), ..Draft::default() };
         let at = draft.node(None);
-        Self { draft, at, fork: None }
+        Self { draft, at, fork: None, error: None }
     }
 
     fn is_of(&self, file: &str, channel: &str) -> bool {
         let name = self.draft.id.as_deref().and_then(|name| name.strip_prefix(file));
         name.and_then(|rest| rest.strip_prefix(' ')) == Some(channel)
+    }
+
+    fn line(&mut self, line: Line, items: &[Item]) -> Result<(), Error> {
+        match items {
+            [_, _, begin, duration, word, confidence @ ..] => self.take(*begin, *duration, *word, confidence.first()),
+            _ => Err(line.ends(WANTED)),
+        }
     }
 
     fn take(&mut self, begin: Item, duration: Item, word: Item, confidence: Option<&Item>) -> Result<(), Error> {
@@ -119,9 +127,11 @@ impl Utterance {
         Ok(())
     }
 
-    fn finish(mut self, end: Position) -> Result<Draft, Error> {
-        if self.fork.is_some() {
-            return Err(Error::at(end, Fault::Expected { wanted: END, found: None }));
+    fn finish(mut self, end: Position) -> Result<Draft, Unread> {
+        let is_open = self.fork.is_some();
+        let open = || Error::at(end, Fault::Expected { wanted: END, found: None });
+        if let Some(error) = self.error.or_else(|| is_open.then(open)) {
+            return Err(Unread::new(self.draft.id, error));
         }
         (self.draft.ends, self.draft.end_of_text) = (vec![(self.at, 0.0)], Some(end));
         Ok(self.draft)

@@ -209,6 +209,22 @@ impl Recognised {
     }
 }
 
+/// One of several that a text has which cannot be read.
+#[derive(Clone, Debug, PartialEq)]
+pub struct Unread {
+    /// The name of the utterance, if the text has one.
+    pub id: Option<String>,
+    /// Why.
+    pub error: Box<Error>,
+}
+
+impl Unread {
+    /// What has this name, if any, cannot be read.
+    pub fn new(id: Option<String>, error: Error) -> Self {
+        Self { id, error: Box::new(error) }
+    }
+}
+
 /// What was heard, and what it is of what a text has.
 #[derive(Clone, Debug, PartialEq)]
 pub struct Lattice {
@@ -218,8 +234,8 @@ pub struct Lattice {
     pub heard: Heard,
     /// When each place of the graph was reached, if that is known.
     pub times: Option<Vec<f64>>,
-    /// For each edge of a graph that was made of a lattice the number of the link whose word it has, as links stand in the
-    /// text.
+    /// For each edge of a graph that was made of a lattice, or of which words were left out, the number of the link whose word it
+    /// has, as links stand in the text.
     pub sources: Vec<u32>,
     /// By how much all weights are less than in the text, since no edge could hold them otherwise; below 0, greater.
     pub taken_off: i64,
@@ -247,10 +263,14 @@ impl Lattice {
 
     /// What a user is to be told, a line each.
     pub fn notes(&self) -> Vec<String> {
-        let pruned = self.pruned.map(|Pruned { kept, of, complete_up_to }| {
+        let pruned = self.pruned.map(|Pruned { kept, of, complete_up_to, untried }| {
             let limits = format!("a word graph has {MAX_PLACES} places and {MAX_EDGES} edges");
+            let untried = match untried {
+                0 => String::new(),
+                _ => format!("; more may fit, but {untried} wider beams were not tried, since that takes too long"),
+            };
             format!(
-                "kept {kept} of {of} edges: every reading of weight up to {complete_up_to} is in the list ({limits})"
+                "kept {kept} of {of} edges: every reading of weight up to {complete_up_to} is in the list ({limits}){untried}"
             )
         });
         let amount = self.taken_off.unsigned_abs();

@@ -6,7 +6,7 @@
 //! acoustic cost; the third is the transition of each frame. Before a lattice of Kaldi stands its name in a line, and behind it
 //! an empty line.
 
-use super::{Draft, Link};
+use super::{Draft, Link, Unread};
 use crate::text::items::{end_of, lines, Item, Line};
 use crate::text::scan::digits;
 use crate::text::Fault;
@@ -93,29 +93,29 @@ pub(super) fn parse_openfst(text: &str) -> Result<Draft, Error> {
     parser.finish(end_of(text))
 }
 
-/// Reads all lattices of a text.
-pub(super) fn parse_kaldi(text: &str) -> Result<Vec<Draft>, Error> {
-    let mut drafts = Vec::new();
+/// Reads all lattices of a text, of which some may be wrong.
+pub(super) fn parse_kaldi(text: &str) -> Result<Vec<Result<Draft, Unread>>, Error> {
+    let mut all = Vec::new();
     let mut parser: Option<Parser> = None;
     for line in lines(text) {
         let first = line.items().next();
         let is_name = line.items().nth(1).is_none()
             && first.is_some_and(|first| parser.is_none() || digits(first.text).is_none());
         match (first, is_name) {
-            (None, _) => drafts.extend(parser.take().map(|parser| parser.finish(line.position())).transpose()?),
+            (None, _) => all.extend(parser.take().map(|parser| parser.end_of_lattice(line.position()))),
             (Some(name), true) => {
-                drafts.extend(parser.take().map(|parser| parser.finish(line.position())).transpose()?);
+                all.extend(parser.take().map(|parser| parser.end_of_lattice(line.position())));
                 parser = Some(Parser { id: Some(name.text.to_owned()), ..Parser::default() });
             }
-            (Some(_), false) => parser.get_or_insert_with(Parser::default).line(line)?,
+            (Some(_), false) => parser.get_or_insert_with(Parser::default).line_of_lattice(line),
         }
     }
-    drafts.extend(parser.map(|parser| parser.finish(end_of(text))).transpose()?);
-    if drafts.is_empty() {
+    all.extend(parser.map(|parser| parser.end_of_lattice(end_of(text))));
+    if all.is_empty() {
         let fault = Fault::None { what: "lattice", refusal: crate::Refusal::UtteranceRange };
         return Err(Error::at(end_of(text), fault));
     }
-    Ok(drafts)
+    Ok(all)
 }
 
 /// An FST that is being read.
@@ -127,9 +127,25 @@ struct Parser {
     nodes: HashMap<u32, u32>,
     start: Option<u32>,
     has_parts: bool,
+    /// What is wrong with it, if other lattices stand behind it.
+    error: Option<Error>,
 }
 
 impl Parser {
+    /// Takes a line of one of several lattices, unless something is wrong with that already.
+    fn line_of_lattice(&mut self, line: Line) {
+        if self.error.is_none() {
+            self.error = self.line(line).err();
+        }
+    }
+
+    /// One of several lattices, whose text ends there.
+    fn end_of_lattice(mut self, end: Position) -> Result<Draft, Unread> {
+        let id = self.id.clone();
+        let draft = self.error.take().map_or_else(|| self.finish(end), Err);
+        draft.map_err(|error| Unread::new(id, error))
+    }
+
     fn line(&mut self, line: Line) -> Result<(), Error> {
         let items: Vec<Item> = line.items().take(MOST_ITEMS + 1).collect();
         match &items[..] {

@@ -16,7 +16,8 @@ use super::utterance::UtteranceReader;
 use super::{without_mark, Fault};
 use crate::{Error, Heard};
 pub(super) use draft::{Draft, Link, MAX_LINKS};
-pub use draft::{Lattice, Recognised};
+pub use draft::{Lattice, Recognised, Unread};
+use std::collections::HashSet;
 
 /// A format of what was heard.
 #[derive(Clone, Copy, Debug, PartialEq, Eq)]
@@ -64,12 +65,18 @@ impl Format {
         NAMES.iter().map(|(name, _)| *name)
     }
 
+    /// The name of this one.
+    pub fn name(self) -> &'static str {
+        NAMES.iter().find(|(_, format)| *format == self).map_or("", |(name, _)| name)
+    }
+
     /// The format with a name.
     ///
     /// ```
     /// use spireyerba::text::Format;
     ///
     /// assert_eq!(Format::named("slf"), Some(Format::Slf));
+    /// assert_eq!(Format::Slf.name(), "slf");
     /// assert_eq!(Format::of("{\"text\": \"door four\"}"), Format::Json);
     /// assert_eq!(Format::of("door 4 | four 61"), Format::Slots);
     /// ```
@@ -159,29 +166,60 @@ impl UtteranceReader<'_> {
 
     /// Reads the one lattice of a text as an acceptor, over the labels of the grammar's words.
     pub fn recognised_alone(&self, text: &str) -> Result<Recognised, Error> {
-        alone(self.drafts(without_mark(text))?, text)?.recognised(self)
+        alone(self.drafts(without_mark(text))?, text)?.map_err(|unread| *unread.error)?.recognised(self)
     }
 
-    /// Reads all that a text has, of which only some formats have several.
-    pub fn read_all_heard(&self, text: &str) -> Result<Vec<Lattice>, Error> {
+    /// Reads all that a text has, of which only some formats have several. Of several one that cannot be read stands between the
+    /// others with the reason; if none can be read, the text is refused for the first one's.
+    ///
+    /// ```
+    /// use spireyerba::text::{NamedGrammar, UtteranceReader};
+    ///
+    /// let doors = NamedGrammar::parse("Entry -> Door Number\nDoor -> \"door\"\nNumber -> \"four\" | \"five\"")?;
+    /// let archive = "one\n0 1 door 1\n1 2 four 2\n2\n\ntwo\n0 1 window 1\n1\n";
+    /// let all = UtteranceReader::new(&doors).read_all_heard(archive)?;
+    /// assert_eq!(all[0].as_ref().map(|lattice| lattice.id.as_deref()), Ok(Some("one")));
+    /// let unread = all[1].as_ref().unwrap_err();
+    /// assert_eq!(unread.id.as_deref(), Some("two"));
+    /// assert_eq!(unread.error.to_string(), "text:7:1: refused 14: the grammar has no word `window`");
+    /// # Ok::<(), spireyerba::Error>(())
+    /// ```
+    pub fn read_all_heard(&self, text: &str) -> Result<Vec<Result<Lattice, Unread>>, Error> {
+        let reduce = |read: Result<Recognised, Unread>| {
+            let recognised = read?;
+            recognised.reduce(self.keep, self.exact).map_err(|error| Unread::new(recognised.id, error))
+        };
         match self.read_plain(text) {
-            Some(plain) => plain.map(|plain| vec![plain]),
-            None => self.recognised(text)?.iter().map(|recognised| recognised.reduce(self.keep, self.exact)).collect(),
+            Some(plain) => plain.map(|plain| vec![Ok(plain)]),
+            None => some_read(self.recognised(text)?.into_iter().map(reduce)),
         }
     }
 
-    /// The words of a text that are left out, each once.
-    fn left_out(&self, text: &str) -> Vec<String> {
-        match self.drop_unknown {
-            true => self.recognised(text).into_iter().flatten().flat_map(|recognised| recognised.dropped).collect(),
-            false => Vec::new(),
+    /// The words that are left out of a text in one of the formats that take no lattice, each once: words for silence too, since
+    /// slots and plain graphs have no place for them.
+    fn left_out(&self, text: &str, format: Format) -> Vec<String> {
+        if !self.drop_unknown {
+            return Vec::new();
         }
+        let draft = match format {
+            Format::Slots => self.slots_draft(text),
+            Format::Network => Alignments::parse(text).and_then(|network| network.draft(self)),
+            _ => self.graph_draft(text),
+        };
+        let words = draft.into_iter().flat_map(|draft| draft.links).filter_map(|link| link.word);
+        let mut seen = HashSet::new();
+        words.filter(|word| self.known(word).is_none() && seen.insert(word.clone())).collect()
     }
 
-    /// Reads all that a text has as acceptors, over the labels of the grammar's words.
-    pub fn recognised(&self, text: &str) -> Result<Vec<Recognised>, Error> {
-        let drafts = self.drafts(without_mark(text))?;
-        drafts.into_iter().map(|draft| draft.recognised(self)).collect()
+    /// Reads all that a text has as acceptors, over the labels of the grammar's words. Of several one that cannot be read stands
+    /// between the others, as in [`read_all_heard`](Self::read_all_heard).
+    pub fn recognised(&self, text: &str) -> Result<Vec<Result<Recognised, Unread>>, Error> {
+        let recognised = |draft: Result<Draft, Unread>| {
+            let draft = draft?;
+            let id = draft.id.clone();
+            draft.recognised(self).map_err(|error| Unread::new(id, error))
+        };
+        some_read(self.drafts(without_mark(text))?.into_iter().map(recognised))
     }
 
     /// Reads a text in one of the formats that take no lattice: slots, a network that is slots, or a plain word graph; nothing if
@@ -196,8 +234,11 @@ impl UtteranceReader<'_> {
             return strict.read_plain(text).filter(|plain| !is_unknown(plain));
         }
         let plain = match format {
-            Format::Slots | Format::Network => self.read(text).map(Heard::Slots),
-            Format::Graph => self.read_plain_graph(text).map(Heard::Graph),
+            Format::Slots | Format::Network => self.read(text).map(|slots| Lattice::from(Heard::Slots(slots))),
+            Format::Graph => self.read_numbered_graph(text).map(|(graph, sources)| {
+                let graph = Lattice::from(Heard::Graph(graph));
+                Lattice { sources, ..graph }
+            }),
             _ => return None,
         };
         let fault = plain.as_ref().err().and_then(Error::fault);
@@ -205,11 +246,11 @@ impl UtteranceReader<'_> {
         // where states are numbered otherwise, and only there, it is OpenFst's
         let is_fst = || fst::is_fst(text) && fst::parse_openfst(text).and_then(|draft| draft.recognised(self)).is_ok();
         let is_other_fst = self.format.is_none() && fault.is_some_and(is_plain_fault) && is_fst();
-        (!is_wide && !is_other_fst).then(|| Ok(Lattice { dropped: self.left_out(text), ..Lattice::from(plain?) }))
+        (!is_wide && !is_other_fst).then(|| Ok(Lattice { dropped: self.left_out(text, format), ..plain? }))
     }
 
-    fn drafts(&self, text: &str) -> Result<Vec<Draft>, Error> {
-        let one = |draft: Draft| vec![draft];
+    fn drafts(&self, text: &str) -> Result<Vec<Result<Draft, Unread>>, Error> {
+        let one = |draft: Draft| vec![Ok(draft)];
         match self.format.unwrap_or_else(|| Format::of(text)) {
             Format::Slots => self.slots_draft(text).map(one),
             Format::Network => Alignments::parse(text)?.draft(self).map(one),
@@ -228,6 +269,16 @@ impl UtteranceReader<'_> {
 /// Whether a word is not known.
 fn is_unknown(plain: &Result<Lattice, Error>) -> bool {
     matches!(plain.as_ref().err().and_then(Error::fault), Some(Fault::UnknownWord(_)))
+}
+
+/// All that a text has if some of it can be read, and else why the first cannot.
+fn some_read<T>(all: impl Iterator<Item = Result<T, Unread>>) -> Result<Vec<Result<T, Unread>>, Error> {
+    let all: Vec<Result<T, Unread>> = all.collect();
+    if all.iter().any(Result::is_ok) {
+        return Ok(all);
+    }
+    let first = all.into_iter().find_map(Result::err);
+    first.map_or_else(|| Ok(Vec::new()), |unread| Err(*unread.error))
 }
 
 /// The only one of some that a text has.
