@@ -7,7 +7,7 @@ use chart_entries::price_at;
 use chart_index::INDEX_NUMBERS;
 use chart_index::make_index;
 use chart_keys::WEIGHT_UNIT;
-use chart_search::search;
+use chart_passes::search;
 use chart_table::ENTRY_NUMBERS;
 use chart_table::Layout;
 use chart_table::cell_number;

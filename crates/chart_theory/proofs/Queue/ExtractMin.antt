@@ -37,7 +37,7 @@ use Rattle.chart_queue.specs.Queue.{
   extractMin,
 }
 use Rattle.chart_theory.proofs.Table.Entries.{entry-within}
-use Rattle.chart_search.proofs.Fuel.{put-above}
+use Rattle.chart_passes.proofs.Fuel.{put-above}
 use Rattle.chart_theory.proofs.Table.Numbers.{beside-size, beside-back, beside-same, put-back-other, put-beside}
 use Rattle.chart_theory.proofs.Queue.Numbers.{
   tagAt,

@@ -25,7 +25,7 @@ use Rattle.chart_ranks.specs.Ranks.{successors, leastInitial, replacement, firs
 use Rattle.chart_theory.proofs.Table.Keys.{rowKey, key-back, key-lt, order-key}
 use Rattle.chart_theory.proofs.Table.Cells.{rankedIn, RowAtIn, row-unique, rank-below, FrontierIn, BeyondIn}
 use Rattle.chart_theory.proofs.Table.Entries.{cell-below, entry-within}
-use Rattle.chart_search.proofs.Fuel.{put-above}
+use Rattle.chart_passes.proofs.Fuel.{put-above}
 use Rattle.chart_theory.proofs.Table.Numbers.{put-back}
 use Rattle.chart_theory.proofs.Queue.Numbers.{tagAt, put-queued-again, put-queue-length}
 use Rattle.chart_theory.proofs.Queue.Owners.{owned}

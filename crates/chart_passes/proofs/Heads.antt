@@ -13,8 +13,8 @@ use Rattle.chart_table.specs.declared.Layout.{Layout}
 use Rattle.chart_table.specs.Table.{InTable, cell}
 use Rattle.chart_masks.specs.Masks.{digit, Covers, Ruled, HeadsOver, Live}
 use Rattle.chart_masks.proofs.Covering.{heads-complete, unjoined-apart}
 use Rattle.chart_search.specs.Search.{nextOfSpan}
-use Rattle.chart_search.proofs.Fuel.{nothing-found}
+use Rattle.chart_passes.proofs.Fuel.{nothing-found}
 
 -- turns that change nothing
 iter-idle : {A : Type 0} (g : A → ℕ → A) (b : A) (m n : ℕ) → m ≤ n → ((x : ℕ) → m ≤ x → x < n → g (iter g b m) x ≡ iter g b m)

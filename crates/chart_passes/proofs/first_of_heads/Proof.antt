@@ -11,11 +11,11 @@ use Rattle.packing.proofs.Loop.{iter-more, iter-end}
 use Rattle.chart_table.specs.Table.{cell}
 use Rattle.chart_masks.specs.Masks.{Covers, Ruled, Live}
 use Rattle.chart_masks.proofs.Covering.{heads-complete}
 use Rattle.chart_search.specs.Search.{nextOfSpan, firstOfHeads}
-use Rattle.chart_search.proofs.Fuel.{first-of-span}
-use Rattle.chart_search.proofs.Heads.{lacked-heads}
-use Rattle.chart_search.proofs.first_of_heads.Statement.{statement}
-use Rattle.chart_search.proofs.first_of_heads.Tie as tie
+use Rattle.chart_passes.proofs.Fuel.{first-of-span}
+use Rattle.chart_passes.proofs.Heads.{lacked-heads}
+use Rattle.chart_passes.proofs.first_of_heads.Statement.{statement}
+use Rattle.chart_passes.proofs.first_of_heads.Tie as tie
 
 abbrev Inv-loop : tie.InvT-loop
 Inv-loop t₀ masks₀ rules edges index d span leafy live₀ n a₀ t masks live a =

@@ -6,9 +6,9 @@ use borrow.Author.Needs.{needs}
 use Rattle.packing.specs.Loop.{iter}
 use Rattle.packing.proofs.Loop.{iter-more, iter-end}
 use Rattle.chart_masks.specs.Masks.{Covers, Ruled}
 use Rattle.chart_search.specs.Search.{firstOfHeads, firstOfLength}
-use Rattle.chart_search.proofs.first_of_length.Statement.{statement}
-use Rattle.chart_search.proofs.first_of_length.Tie as tie
+use Rattle.chart_passes.proofs.first_of_length.Statement.{statement}
+use Rattle.chart_passes.proofs.first_of_length.Tie as tie
 
 abbrev Inv-loop : tie.InvT-loop
 Inv-loop t₀ masks₀ rules edges index d len m i₀ t masks i =

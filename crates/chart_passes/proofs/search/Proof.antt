@@ -6,12 +6,12 @@ use native.Mathlib.Omega.{arith}
 use lib.ListN.{length}
 use Rattle.chart_masks.specs.Masks.{maskNumbers}
 use Rattle.chart_masks.proofs.Covering.{covers-zeros}
 use Rattle.chart_search.specs.Search as model
-use Rattle.chart_search.proofs.Further.{further-end, further-none, further-next}
+use Rattle.chart_passes.proofs.Further.{further-end, further-none, further-next}
 use Rattle.chart_index.proofs.Zeros.{zeros-at}
 use borrow.Author.Needs.{needs}
-use Rattle.chart_search.proofs.search.Statement.{statement}
-use Rattle.chart_search.proofs.search.Tie as tie
+use Rattle.chart_passes.proofs.search.Statement.{statement}
+use Rattle.chart_passes.proofs.search.Tie as tie
 
 abbrev Inv-loop : tie.InvT-loop
 Inv-loop t₀ rules edges index d kept₀ m x₀ t kept x = (x ≤ m) × (length t ≡ length t₀)

@@ -6,9 +6,9 @@ use borrow.Author.Needs.{needs}
 use Rattle.packing.specs.Loop.{iter}
 use Rattle.packing.proofs.Loop.{iter-more, iter-end}
 use Rattle.chart_masks.specs.Masks.{Covers, Ruled}
 use Rattle.chart_search.specs.Search.{firstOfLength, firstPass}
-use Rattle.chart_search.proofs.first_pass.Statement.{statement}
-use Rattle.chart_search.proofs.first_pass.Tie as tie
+use Rattle.chart_passes.proofs.first_pass.Statement.{statement}
+use Rattle.chart_passes.proofs.first_pass.Tie as tie
 
 abbrev Inv-loop : tie.InvT-loop
 Inv-loop t₀ masks₀ rules edges index d n x₀ t masks x =
