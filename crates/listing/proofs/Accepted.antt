@@ -24,7 +24,7 @@ use Rattle.chart.specs.WorkTable.{tableSize}
 use Rattle.listing.specs.Conditions.{conditions, askedListing}
 use Rattle.inputs.specs.Answer.{listedOf}
 use Rattle.listing.specs.Listing.{readingsOf, listed, list}
-use Rattle.listing.specs.declared.Limits.{Limits}
+use Rattle.listing_limits.specs.declared.Limits.{Limits}
 use Rattle.inputs.specs.declared.Listed.{Listed}
 use Rattle.inputs.specs.declared.Listed.the-variants.{Found}
 use Rattle.listing.proofs.Joined.{Sized}

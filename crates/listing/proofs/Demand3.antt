@@ -29,7 +29,7 @@ use Rattle.chart.specs.WorkTable.{workAfter}
 use Rattle.listing.specs.Listing.{joined, list, outputAfter}
 use Rattle.traced_readings.specs.Ranked.{Ranked}
 use Rattle.listing.specs.Demand3.{kthBytes, Either, RankedList, Demand3}
-use Rattle.listing.specs.declared.Limits.{Limits}
+use Rattle.listing_limits.specs.declared.Limits.{Limits}
 use Rattle.inputs.specs.declared.Listed.{Listed}
 use Rattle.inputs.specs.declared.Listed.the-variants.{Found}
 use Rattle.listing.proofs.Joined.{length-joined, joined-at}

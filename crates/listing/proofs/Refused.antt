@@ -24,7 +24,7 @@ use Rattle.heard_reader.specs.Answer.{isGraph}
 use Rattle.chart.specs.WorkTable.{tableSize}
 use Rattle.listing.specs.Conditions.{library, panel, conditions}
 use Rattle.listing.specs.Listing.{listed, list}
-use Rattle.listing.specs.declared.Limits.{Limits}
+use Rattle.listing_limits.specs.declared.Limits.{Limits}
 use Rattle.traced_readings.proofs.Sizes.{size-is}
 use Rattle.listing.proofs.Sizes.{mostNumbers, mostBytes, table-within, output-within}
 use Rattle.listing.proofs.Accepted.{listing-accepts}

@@ -9,19 +9,15 @@ use borrow.Author.Tests.{ltb-false}
 use Rattle.bits.specs.Bits.{pick}
 use Rattle.packing.specs.Meaning.{Grammar, Heard, slots, lastPlace}
 use Rattle.packing.specs.Parse.{refused}
-use Rattle.packing.specs.GraphReading.{graphReadingLength}
 use Rattle.derivation.specs.Heard.{outputLength}
 use Rattle.chart.specs.WorkTable.{tableSize}
 use Rattle.listing.specs.Conditions.{conditions}
 use Rattle.listing.specs.Listing.{listed}
 use Rattle.traced_readings.specs.Model.{sizeOf}
-use Rattle.traced_readings.proofs.Sizes.{longest-is, size-within, longest-small}
-use Rattle.listing.specs.Model.{firstRefusal, shortage}
-use Rattle.listing.specs.declared.Asked.{Asked}
-use Rattle.listing.specs.declared.Limits.{Limits}
-
-pub output-small : (limit : ℕ) {N size : ℕ} → N ≤ 256 → size ≤ graphReadingLength limit 256 → N * size ≤ 256 * (3 * limit + 5)
-output-small limit h k = mul-le-mul h (omega (arith, k, longest-small limit))
+use Rattle.traced_readings.proofs.Sizes.{longest-is, size-within}
+use Rattle.listing_limits.specs.Shortage.{firstRefusal, shortage}
+use Rattle.listing_limits.specs.declared.Asked.{Asked}
+use Rattle.listing_limits.specs.declared.Limits.{Limits}
 
 -- Within limits nothing needs more than the limits themselves do: of the table, with 32 symbols, and of a reading, with 256 rules, in a graph, whose
 -- readings are the longer ones.

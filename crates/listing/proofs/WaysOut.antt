@@ -22,10 +22,11 @@ use Rattle.chart_theory.proofs.Accepted.{Holds, layout, chart-holds}
 use Rattle.chart.specs.WorkTable.{tableSize, workAfter}
 use Rattle.listing.specs.Listing.{joined, listed, list, outputAfter}
 use Rattle.traced_readings.specs.Model.{formOf}
-use Rattle.listing.specs.Model.{shortage, Filled, ReadListed}
-use Rattle.listing.specs.declared.Asked.{Asked}
+use Rattle.listing_limits.specs.Shortage.{shortage}
+use Rattle.listing.specs.Model.{Filled, ReadListed}
+use Rattle.listing_limits.specs.declared.Asked.{Asked}
 use Rattle.traced_readings.specs.declared.Form.{Form}
-use Rattle.listing.specs.declared.Limits.{Limits}
+use Rattle.listing_limits.specs.declared.Limits.{Limits}
 use Rattle.inputs.specs.declared.Listed.the-variants.{Found, Refused}
 use Rattle.traced_readings.proofs.Sizes.{size-is}
 use Rattle.listing.proofs.Sizes.{Met, all-met, short}

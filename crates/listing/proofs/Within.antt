@@ -8,7 +8,7 @@ use Rattle.packing.specs.Parse.{Verdict, accepted, refused, _then_}
 use Rattle.packing.specs.Grammar.{grammarBlock}
 use Rattle.packing.specs.Heard.{heardBlock}
 use Rattle.listing.specs.Conditions.{Within, conditions, askedListing}
-use Rattle.listing.specs.declared.Limits.{Limits}
+use Rattle.listing_limits.specs.declared.Limits.{Limits}
 
 module _ (l m : Limits) (grammar heard : List ℕ) (N work out : ℕ) (in-l : Within l grammar heard N) (in-m : Within m grammar heard N) where
   conditions-alike : (g : Grammar) (h : Heard) → lastPlace h ≤ l .slots → lastPlace h ≤ m .slots

@@ -12,7 +12,7 @@ use Rattle.packing.specs.Grammar.{grammarBlock}
 use Rattle.packing.specs.Heard.{heardBlock}
 use Rattle.derivation.specs.Heard.{outputLength}
 use Rattle.chart.specs.WorkTable.{tableSize}
-use Rattle.listing.specs.declared.Limits.{Limits}
+use Rattle.listing_limits.specs.declared.Limits.{Limits}
 
 -- the most slots, in a graph one less than its places, and the most readings: "The library keeps 24 and 256", the panel has "at most 12 slots and
 -- 16 readings", "12 slots or 13 places"

@@ -10,7 +10,7 @@ use Rattle.packing.specs.Heard.{heardBlock}
 use Rattle.derivation.specs.Heard.{packed}
 use Rattle.derivation.specs.HeardList.{leastDerivations}
 use Rattle.listing.specs.Conditions.{conditions}
-use Rattle.listing.specs.declared.Limits.{Limits}
+use Rattle.listing_limits.specs.declared.Limits.{Limits}
 
 -- the N least readings, each packed as it stands in the output
 abbrev pub readingsOf : ℕ → Grammar × Heard → List (List ℕ)

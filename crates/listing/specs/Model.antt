@@ -2,10 +2,8 @@
 use mathlib.Core.Path.{_≡_}
 use mathlib.Core.Bool.{Bool}
 use mathlib.Core.List.{List, [], _++_}
-use Prim.Native.Nat.{ℕ, _+_, _*_}
-use lib.Dec.{ltb}
+use Prim.Native.Nat.{ℕ, _*_}
 use lib.ListN.{length, drop}
-use Rattle.bits.specs.Bits.{pick}
 use Rattle.packing.specs.Heard.{heardBlock}
 use Rattle.packing.specs.Loop.{iter}
 use Rattle.inputs.specs.Inputs.{ReadOf}
@@ -13,25 +11,13 @@ use Rattle.inputs.specs.declared.Inputs.{Inputs}
 use Rattle.chart_table.specs.declared.Layout.{Layout}
 use Rattle.chart_table.specs.Table.{clear}
 use Rattle.chart.specs.Chart.{enumerate, rootsFound}
-use Rattle.chart.specs.WorkTable.{tableSize, workAfter}
+use Rattle.chart.specs.WorkTable.{workAfter}
 use Rattle.inputs.specs.Answer.{Lists}
 use Rattle.listing.specs.Listing.{list, outputAfter}
-use Rattle.listing.specs.declared.Asked.{Asked}
+use Rattle.listing_limits.specs.declared.Asked.{Asked}
 use Rattle.inputs.specs.declared.Listed.{Listed}
 use Rattle.traced_readings.specs.Model.{blockAt}
 use Rattle.traced_readings.specs.declared.Form.{Form}
-
--- the refusal of the first test that holds: too long for the limits, none asked for, too many, too many for the limits, the table short,
--- the output short; 0 where none holds
-abbrev pub firstRefusal : (long none many beyond table output : Bool) → ℕ
-firstRefusal long none many beyond table output =
-    pick long 57 (pick none 21 (pick many 21 (pick beyond 58 (pick table 22 (pick output 23 0)))))
-
--- the refusal of what is asked for and lent, for S symbols, the last place n and readings of L bytes
-unfoldable pub shortage : Asked → (S n L work out : ℕ) → ℕ
-shortage a S n L work out =
-    firstRefusal (ltb (a .limits .slots) n) (ltb (a .wanted) 1) (ltb 256 (a .wanted)) (ltb (a .limits .readings) (a .wanted))
-    (ltb work (tableSize S n (a .wanted))) (ltb out (a .wanted * L))
 
 -- the readings of the ranks below m, one after another
 unfoldable pub blocksAt : List ℕ → List ℕ → Layout → Form → ℕ → List ℕ

@@ -1,17 +1,17 @@
 // The listing of the N least readings, within the limits of the library or of the panel.
 use chart_table::Layout;
-use chart_table::MOST_RANKS;
 use inputs::Inputs;
 use inputs::InputsRead;
 use inputs::Listed;
 use inputs::read_inputs;
+use listing_limits::Asked;
+use listing_limits::LIBRARY;
+use listing_limits::Limits;
+use listing_limits::shortage;
 use packing::format::EDGES_LENGTH;
-use packing::format::MAX_RULES;
 use packing::format::MAX_SLOTS;
-use packing::format::MAX_SYMBOLS;
 use packing::format::RULES_LENGTH;
 use packing::format::TRACE_LENGTH;
-use packing::refused;
 use traced_readings::Form;
 use traced_readings::TracedRank;
 use traced_readings::form_of;
@@ -27,63 +27,8 @@ ghost use Rattle.inputs.specs.Answer.{Lists};
 ghost use Rattle.chart.specs.WorkTable.{workAfter};
 ghost use Rattle.listing.specs.Listing.{list, outputAfter};
 ghost use Rattle.listing.specs.Demand3.{Demand3};
-ghost use Rattle.packing.specs.GraphReading.{graphReadingLength};
 ghost use Rattle.traced_readings.specs.Model.{FormFor, blockAt};
-ghost use Rattle.listing.specs.Model.{shortage, blocksAt, Filled, ReadListed};
-
-// The most slots that a service takes, of a graph one less than its places, and the most readings that it lists.
-pub struct Limits {
-    pub slots: usize,
-    pub readings: u32,
-}
-
-// The most readings that can be asked for: as many as ranks are kept.
-const MAX_WANTED: u32 = MOST_RANKS as u32;
-
-// The library's limits, and the panel's.
-const LIBRARY: Limits = Limits {
-    slots: MAX_SLOTS,
-    readings: MAX_WANTED,
-};
-
-pub const PANEL: Limits = Limits {
-    slots: 12,
-    readings: 16,
-};
-
-// What is asked for: so many readings, within these limits.
-struct Asked {
-    limits: Limits,
-    wanted: u32,
-}
-
-// The refusal of what was heard, up to the last place n, and of what is asked for or lent; 0 where all is within the limits and nothing short.
-fn shortage(asked: Asked, symbols: usize, n: usize, size: usize, work: usize, out: usize) -> u32
-    requires { do ⌜ (symbols ≤ (← ⟦MAX_SYMBOLS⟧)) × (n ≤ (← ⟦MAX_SLOTS⟧)) × (size ≤ graphReadingLength (← ⟦MAX_SLOTS⟧) (← ⟦MAX_RULES⟧)) ⌝ }
-    ensures { λ r. ⌜ r ≡ shortage asked symbols n size work out ⌝ }
-{
-    let wanted = asked.wanted;
-    if asked.limits.slots < n {
-        return refused::PANEL_SLOTS;
-    }
-    if wanted < 1 {
-        return refused::LISTING_WANTED;
-    }
-    if MAX_WANTED < wanted {
-        return refused::LISTING_WANTED;
-    }
-    if asked.limits.readings < wanted {
-        return refused::PANEL_WANTED;
-    }
-    let ranks = wanted as usize;
-    if work < chart::table_numbers(chart::lay_out(symbols, n, ranks)) {
-        return refused::LISTING_WORK;
-    }
-    if out < ranks * size {
-        return refused::LISTING_OUTPUT;
-    }
-    0
-}
+ghost use Rattle.listing.specs.Model.{blocksAt, Filled, ReadListed};
 
 // The reading of a rank of the root, traced back.
 fn write_rank(t: &[u32], rules: &[u32], form: Form, d: Layout, x: usize, out: &mut [u8])

@@ -4,8 +4,8 @@
 // of kind 4; 400 numbers are enough for its rows, 399 are not.
 use inputs::Listed;
 use lines::SHOWN_NUMBERS;
-use listing::PANEL;
 use listing::listing_within;
+use listing_limits::PANEL;
 use printing::print;
 use printing::print_end;
 use printing::print_number;

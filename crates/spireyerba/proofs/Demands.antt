@@ -51,7 +51,7 @@ use Rattle.chance.proofs.Shown.{chance-row, chance-asked}
 use Rattle.chart.specs.WorkTable.{workAfter}
 use Rattle.listing.specs.Conditions.{library, panel, Within, askedListing}
 use Rattle.listing.specs.Listing.{readingsOf, list, outputAfter}
-use Rattle.listing.specs.declared.Limits.{Limits}
+use Rattle.listing_limits.specs.declared.Limits.{Limits}
 use Rattle.listing.specs.Demand3.{Demand3}
 use Rattle.listing.proofs.Accepted.{asked-out, list-asked}
 use Rattle.listing.proofs.Demand3.{ranked-list, demand-3, in-library}

@@ -44,7 +44,7 @@ use Rattle.chance.proofs.Shown.{chance-row}
 use Rattle.chart.specs.WorkTable.{tableSize}
 use Rattle.listing.specs.Conditions.{library, panel}
 use Rattle.listing.specs.Listing.{list}
-use Rattle.listing.specs.declared.Limits.{Limits}
+use Rattle.listing_limits.specs.declared.Limits.{Limits}
 use Rattle.listing.proofs.Accepted.{accepted-few}
 use Rattle.listing.proofs.Refused.{library-row, panel-row}
 use Rattle.cost_changes.specs.Listed.{marginsOf}

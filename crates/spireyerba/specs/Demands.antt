@@ -27,7 +27,7 @@ use Rattle.derivation.specs.Rank.{_∈_}
 use Rattle.checker.specs.Judgement.{OfDerivation, NoWalk, OtherWeight, Surplus, Judgement}
 use Rattle.chance.specs.Chance.{askedChance, Shown}
 use Rattle.listing.specs.Conditions.{library, panel, Within, askedListing}
-use Rattle.listing.specs.declared.Limits.{Limits}
+use Rattle.listing_limits.specs.declared.Limits.{Limits}
 use Rattle.listing.specs.Demand3.{RankedList, Demand3}
 use Rattle.cost_changes.specs.Ranges as ranges
 use Rattle.cost_changes.specs.Ranges.{nothing, outweighed, stands, Answers}

@@ -5,7 +5,7 @@ use borrow.Author.Needs.{needs}
 use lib.ListN.{length}
 use Rattle.traced_readings.specs.Model.{FormFor}
 use Rattle.listing.specs.Conditions.{library}
-use Rattle.listing.specs.Model.{shortage}
+use Rattle.listing_limits.specs.Shortage.{shortage}
 use Rattle.chart.proofs.WorkTable.{layout-is}
 use Rattle.listing.proofs.Sizes.{all-met}
 use Rattle.listing.proofs.WaysOut.{read-refused, read-found}

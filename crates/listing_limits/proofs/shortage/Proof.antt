@@ -7,12 +7,11 @@ use borrow.Author.Tests.{lt-ltb, le-ltb}
 use lib.Dec.{ltb}
 use Rattle.bits.specs.Bits.{pick}
 use Rattle.chart.specs.WorkTable.{tableSize}
-use Rattle.listing.specs.Conditions.{library}
-use Rattle.listing.specs.Model.{shortage}
+use Rattle.listing_limits.specs.Shortage.{shortage}
 use Rattle.chart.proofs.WorkTable.{table-is}
-use Rattle.listing.proofs.Sizes.{output-small}
-use Rattle.listing.proofs.shortage.Statement.{statement}
-use Rattle.listing.proofs.shortage.Tie as tie
+use Rattle.listing_limits.proofs.Outputs.{output-small}
+use Rattle.listing_limits.proofs.shortage.Statement.{statement}
+use Rattle.listing_limits.proofs.shortage.Tie as tie
 
 -- the numbers of the table that is laid out for what is asked for
 numbers : (c : tie.After-table-numbers)
@@ -96,7 +95,7 @@ returns-5 c =
 mul-if6 : tie.Need-mul-if6
 mul-if6 c =
     let at-if3 = c .before .before .before .before .before in
-    omega (arith, output-small (library .slots) (at-if3 .if3 .left) (at-if3 .before .before .before .before .pre .2))
+    omega (arith, output-small _ (at-if3 .if3 .left) (at-if3 .before .before .before .before .pre .2))
 
 -- what both ways out of the last test know
 table : (c : tie.Else5)

@@ -1,0 +1,2 @@
+-- What is refused of a listing.
+pub mod Shortage
