@@ -24,7 +24,8 @@ ghost use Prim.Native.Nat.{_-_, _<_, _≤_};
 ghost use Rattle.chart_keys.specs.Keys.{Digits, keyNumber, noKey};
 ghost use Rattle.chart_queue.specs.Queue.{keepMin};
 ghost use Rattle.chart_table.specs.Table.{InTable, Sized, mostRanks, cellBound, cellNumber, putKey};
-ghost use Rattle.chart_masks.specs.Masks.{Covers, Ruled};
+ghost use Rattle.chart_masks.specs.Masks.{Covers};
+ghost use Rattle.chart_heads.specs.Heads.{Ruled};
 ghost use Rattle.chart_candidates.specs.Candidates.{seeds};
 ghost use Rattle.chart_ranks.specs.Ranks.{foundAt, nextRank};
 

@@ -2,13 +2,13 @@
 use arrays::rule_at;
 use chart_entries::back_at;
 use chart_entries::price_at;
+use chart_heads::heads_over;
+use chart_heads::live_heads;
+use chart_heads::mark_rules;
 use chart_keys::BackPointer;
 use chart_keys::back_pointer;
 use chart_leaves::first_leaf;
 use chart_masks::MASKS;
-use chart_masks::heads_over;
-use chart_masks::live_heads;
-use chart_masks::mark_rules;
 use chart_masks::next_head;
 use chart_ranks::first_rank;
 use chart_ranks::next_rank;
@@ -27,7 +27,8 @@ ghost use Prim.Native.Nat.{ℕ, suc, _+_, _-_, _<_, _≤_};
 ghost use lib.ListN.{getD};
 ghost use Rattle.chart_keys.specs.Keys.{Digits};
 ghost use Rattle.chart_table.specs.Table.{Sized, InTable};
-ghost use Rattle.chart_masks.specs.Masks.{Covers, Ruled};
+ghost use Rattle.chart_masks.specs.Masks.{Covers};
+ghost use Rattle.chart_heads.specs.Heads.{Ruled};
 ghost use Rattle.chart_search.specs.Search.{
   extend,
   advancePairing,

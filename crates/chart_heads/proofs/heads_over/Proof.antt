@@ -2,10 +2,10 @@
 use Prim.Native.Nat.{_-_, _≤_}
 use native.Mathlib.Omega.{arith}
 use borrow.Author.Needs.{needs}
-use Rattle.chart_masks.specs.Masks.{HeadsBefore}
-use Rattle.chart_masks.proofs.Covering.{heads-next}
-use Rattle.chart_masks.proofs.heads_over.Statement.{statement}
-use Rattle.chart_masks.proofs.heads_over.Tie as tie
+use Rattle.chart_heads.specs.Heads.{HeadsBefore}
+use Rattle.chart_heads.proofs.Members.{heads-next}
+use Rattle.chart_heads.proofs.heads_over.Statement.{statement}
+use Rattle.chart_heads.proofs.heads_over.Tie as tie
 
 abbrev Inv-loop : tie.InvT-loop
 Inv-loop masks edges index from to start end heads₀ y₀ heads y = (start ≤ y) × HeadsBefore masks edges index start to y heads

@@ -2,11 +2,11 @@
 use mathlib.Core.Path.{_≡_}
 use Prim.Native.Nat.{_-_, _≤_}
 use lib.ListN.{length}
-use Rattle.chart_masks.specs.Masks.{Grown, Members}
-use Rattle.chart_masks.proofs.Covering.{grown-none, grown-more, members-none, members-next, members-end}
+use Rattle.chart_heads.specs.Heads.{Grown, Members}
+use Rattle.chart_heads.proofs.Members.{grown-none, grown-more, members-none, members-next, members-end}
 use borrow.Author.Needs.{needs}
-use Rattle.chart_masks.proofs.mark_heads.Statement.{statement}
-use Rattle.chart_masks.proofs.mark_heads.Tie as tie
+use Rattle.chart_heads.proofs.mark_heads.Statement.{statement}
+use Rattle.chart_heads.proofs.mark_heads.Tie as tie
 
 abbrev Inv-loop : tie.InvT-loop
 Inv-loop masks₀ rules index column n head₀ masks head =

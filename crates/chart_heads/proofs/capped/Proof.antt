@@ -2,9 +2,9 @@
 use native.Mathlib.Omega.{arith}
 use native.Mathlib.Nat.{le-refl}
 use borrow.Author.Tests.{lt-ltb, le-ltb}
-use Rattle.chart_masks.specs.Masks as model
-use Rattle.chart_masks.proofs.capped.Statement.{statement}
-use Rattle.chart_masks.proofs.capped.Tie as tie
+use Rattle.chart_heads.specs.Heads as model
+use Rattle.chart_heads.proofs.capped.Statement.{statement}
+use Rattle.chart_heads.proofs.capped.Tie as tie
 
 returns : tie.Need-returns
 unfolding model.capped

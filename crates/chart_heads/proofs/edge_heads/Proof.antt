@@ -1,8 +1,8 @@
 -- An edge that goes elsewhere says nothing; else the mask of its word is the answer.
 
 use borrow.Author.Needs.{needs}
-use Rattle.chart_masks.proofs.edge_heads.Statement.{statement}
-use Rattle.chart_masks.proofs.edge_heads.Tie as tie
+use Rattle.chart_heads.proofs.edge_heads.Statement.{statement}
+use Rattle.chart_heads.proofs.edge_heads.Tie as tie
 
 mul-number-at : tie.Need-mul-number-at
 mul-number-at c = search needs

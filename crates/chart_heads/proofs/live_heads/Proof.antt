@@ -1,8 +1,8 @@
 -- By the digits of the parts.
-use Rattle.chart_masks.proofs.Covering.{live-parts}
+use Rattle.chart_heads.proofs.Members.{live-parts}
 use borrow.Author.Needs.{needs}
-use Rattle.chart_masks.proofs.live_heads.Statement.{statement}
-use Rattle.chart_masks.proofs.live_heads.Tie as tie
+use Rattle.chart_heads.proofs.live_heads.Statement.{statement}
+use Rattle.chart_heads.proofs.live_heads.Tie as tie
 
 add-narrow-at : tie.Need-add-narrow-at
 add-narrow-at c = search needs

@@ -1,8 +1,8 @@
 -- Three columns, one after another.
-use Rattle.chart_masks.proofs.Covering.{ruled-zeros}
+use Rattle.chart_heads.proofs.Members.{ruled-zeros}
 use borrow.Author.Needs.{needs}
-use Rattle.chart_masks.proofs.mark_rules.Statement.{statement}
-use Rattle.chart_masks.proofs.mark_rules.Tie as tie
+use Rattle.chart_heads.proofs.mark_rules.Statement.{statement}
+use Rattle.chart_heads.proofs.mark_rules.Tie as tie
 
 mark-heads-requires : tie.Need-mark-heads-requires
 mark-heads-requires c κs = search needs

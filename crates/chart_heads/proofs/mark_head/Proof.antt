@@ -4,11 +4,11 @@ use Prim.Native.Nat.{_-_, _≤_}
 use native.Mathlib.Omega.{arith}
 use lib.ListN.{length}
 use Rattle.chart_index.specs.Index.{classStart}
-use Rattle.chart_masks.specs.Masks.{MembersMore}
-use Rattle.chart_masks.proofs.Covering.{more-none, more-next}
+use Rattle.chart_heads.specs.Heads.{MembersMore}
+use Rattle.chart_heads.proofs.Members.{more-none, more-next}
 use borrow.Author.Needs.{needs}
-use Rattle.chart_masks.proofs.mark_head.Statement.{statement}
-use Rattle.chart_masks.proofs.mark_head.Tie as tie
+use Rattle.chart_heads.proofs.mark_head.Statement.{statement}
+use Rattle.chart_heads.proofs.mark_head.Tie as tie
 
 abbrev Inv-loop : tie.InvT-loop
 Inv-loop masks₀ rules index column head start end own y₀ masks y =
