@@ -14,7 +14,8 @@ use Rattle.chart_heads.specs.Heads.{NoLeaf}
 use Rattle.chart_candidates.specs.Candidates.{leaves, seeds}
 use Rattle.chart_candidates.specs.PassedOver.{NoSeed}
 use Rattle.chart_candidates.proofs.PassedOver.{no-leaves, seeds-passed}
-use Rattle.chart_ranks.specs.Ranks.{leastInitial, firstRank}
+use Rattle.chart_successors.specs.Successors.{leastInitial}
+use Rattle.chart_ranks.specs.Ranks.{firstRank}
 use Rattle.chart_search.specs.Search.{nextOfSpan}
 
 fueled : (rules edges index : List ℕ) (d : Layout) (f : ℕ) (t : List ℕ) (c : Cell) → 0 < f

@@ -1,7 +1,7 @@
--- A back pointer that is not of a leaf or a seed has a split; a rank that is kept is below the most.
+-- A back pointer that is not of a leaf or a seed has a split.
 use mathlib.Core.Path.{_≡_, refl}
 use mathlib.Core.Bool.{Bool, true, false}
-use Prim.Native.Nat.{ℕ, zero, suc, _≤_, _<_}
+use Prim.Native.Nat.{ℕ, zero, suc, _<_}
 use native.Mathlib.Omega.{arith}
 use Rattle.chart_keys.specs.declared.BackPointer.{BackPointer}
 use Rattle.chart_queue.specs.Queue.{isInitial}
@@ -12,6 +12,3 @@ inner-split b e = go (b .split) refl
     go : (j : ℕ) → b .split ≡ j → 0 < b .split
     go zero s = let z : _≡_ {A = Bool} true false = rw s at e in absurd (let n : _≡_ {A = ℕ} 0 1 = cc in omega arith)
     go (suc j) s = omega arith
-
-pub kept-fits : (rank ranks : ℕ) → rank < ranks → ranks ≤ 256 → rank ≤ 256
-kept-fits rank ranks h l = omega arith

@@ -1,10 +1,10 @@
 -- By the test, as in the definition.
 use mathlib.Core.Path.{sym, _∙_}
-use Rattle.chart_ranks.proofs.Initial.{inner-split}
-use Rattle.chart_ranks.specs.Ranks.{replacement}
+use Rattle.chart_successors.proofs.Initial.{inner-split}
+use Rattle.chart_successors.specs.Successors.{replacement}
 use borrow.Author.Needs.{needs}
-use Rattle.chart_ranks.proofs.selection.replacement.Statement.{statement}
-use Rattle.chart_ranks.proofs.selection.replacement.Tie as tie
+use Rattle.chart_successors.proofs.replacement.Statement.{statement}
+use Rattle.chart_successors.proofs.replacement.Tie as tie
 
 is-initial-requires : tie.Need-is-initial-requires
 is-initial-requires c κs = search needs

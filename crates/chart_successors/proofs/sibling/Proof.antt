@@ -1,10 +1,10 @@
 -- By the rule's variant and the tests of the ranks.
 use mathlib.Core.Logic.{⊎-elim}
 use borrow.Author.Tests.{eq-eqb, ne-eqb, lt-ltb, le-ltb}
-use Rattle.chart_ranks.specs.Ranks.{sibling, pairSibling}
+use Rattle.chart_successors.specs.Successors.{sibling, pairSibling}
 use borrow.Author.Needs.{needs}
-use Rattle.chart_ranks.proofs.selection.sibling.Statement.{statement}
-use Rattle.chart_ranks.proofs.selection.sibling.Tie as tie
+use Rattle.chart_successors.proofs.sibling.Statement.{statement}
+use Rattle.chart_successors.proofs.sibling.Tie as tie
 
 rule-at-requires : tie.Need-rule-at-requires
 rule-at-requires c κs = search needs

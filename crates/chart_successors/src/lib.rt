@@ -1,8 +1,8 @@
 // What is met with a rank found: its successors, and what replaces it in the queue.
-use crate::Found;
 use arrays::rule_at;
 use chart_candidates::Range;
 use chart_candidates::pair_key;
+use chart_keys::BackPointer;
 use chart_keys::Key;
 use chart_keys::lesser;
 use chart_keys::no_key;
@@ -19,7 +19,13 @@ ghost use mathlib.Core.Path.{_≡_};
 ghost use Prim.Native.Nat.{_+_, _-_, _<_};
 ghost use Rattle.chart_keys.specs.Keys.{Digits, keyNumber};
 ghost use Rattle.chart_table.specs.Table.{InTable};
-ghost use Rattle.chart_ranks.specs.Ranks.{successors, sibling, leastInitial, replacement};
+ghost use Rattle.chart_successors.specs.Successors.{successors, sibling, leastInitial, replacement};
+
+// A rank that is found: its key and its back pointer.
+pub struct Found {
+    pub key: Key,
+    pub back: BackPointer,
+}
 
 // The best so far and the successors of a found pairing: the next of its right part, and where that was the first, the next of
 // its left part. A leaf has no split and no successors.

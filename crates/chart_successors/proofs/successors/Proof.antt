@@ -1,9 +1,9 @@
 -- By the tests of the split and of the right part's rank, and by the rule's variant.
 use borrow.Author.Tests.{eq-eqb, ne-eqb}
-use Rattle.chart_ranks.specs.Ranks.{successors, pairSuccessors}
+use Rattle.chart_successors.specs.Successors.{successors, pairSuccessors}
 use borrow.Author.Needs.{needs}
-use Rattle.chart_ranks.proofs.selection.successors.Statement.{statement}
-use Rattle.chart_ranks.proofs.selection.successors.Tie as tie
+use Rattle.chart_successors.proofs.successors.Statement.{statement}
+use Rattle.chart_successors.proofs.successors.Tie as tie
 
 returns : tie.Need-returns
 unfolding successors

@@ -2,10 +2,10 @@
 use native.Mathlib.Omega.{arith}
 use Rattle.chart_keys.specs.Keys.{noKey}
 use Rattle.chart_candidates.proofs.PassedOver.{leaves-below}
-use Rattle.chart_ranks.specs.Ranks.{leastInitial}
+use Rattle.chart_successors.specs.Successors.{leastInitial}
 use borrow.Author.Needs.{needs}
-use Rattle.chart_ranks.proofs.selection.least_initial.Statement.{statement}
-use Rattle.chart_ranks.proofs.selection.least_initial.Tie as tie
+use Rattle.chart_successors.proofs.least_initial.Statement.{statement}
+use Rattle.chart_successors.proofs.least_initial.Tie as tie
 
 no-key-requires : tie.Need-no-key-requires
 no-key-requires c κs = search needs
