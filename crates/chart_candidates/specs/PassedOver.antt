@@ -9,7 +9,8 @@ use Rattle.packing.specs.Meaning.{symbolOf}
 use Rattle.chart_table.specs.declared.Cell.{Cell}
 use Rattle.chart_table.specs.declared.Layout.{Layout}
 use Rattle.chart_index.specs.Index.{pairBase, wordBase, classStart, classEnd}
-use Rattle.chart_masks.specs.Masks.{digit, wordOf, Apart}
+use Rattle.chart_masks.specs.Masks.{digit, Apart}
+use Rattle.chart_heads.specs.Heads.{wordOf}
 
 abbrev pub RuleApart : List ℕ → Layout → List ℕ → Cell → ℕ → Type 0
 RuleApart m d rules c r = Apart m d (symbolOf (getD rules (5 * r + 3) 0)) (symbolOf (getD rules (5 * r + 4) 0)) c

@@ -9,11 +9,13 @@ use Rattle.chart_keys.specs.Keys.{noKey}
 use Rattle.chart_table.specs.declared.Cell.{Cell}
 use Rattle.chart_table.specs.declared.Layout.{Layout}
 use Rattle.chart_table.specs.Table.{lastPlace, cellNumber, putKey}
-use Rattle.chart_masks.specs.Masks.{Covers, NoLeaf}
+use Rattle.chart_masks.specs.Masks.{Covers}
+use Rattle.chart_heads.specs.Heads.{NoLeaf}
 use Rattle.chart_candidates.specs.Candidates.{leaves, seeds}
 use Rattle.chart_candidates.specs.PassedOver.{NoSeed}
 use Rattle.chart_candidates.proofs.PassedOver.{no-leaves, seeds-passed}
-use Rattle.chart_ranks.specs.Ranks.{leastInitial, firstRank}
+use Rattle.chart_successors.specs.Successors.{leastInitial}
+use Rattle.chart_ranks.specs.Ranks.{firstRank}
 use Rattle.chart_search.specs.Search.{nextOfSpan}
 
 fueled : (rules edges index : List ℕ) (d : Layout) (f : ℕ) (t : List ℕ) (c : Cell) → 0 < f

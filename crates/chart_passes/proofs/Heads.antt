@@ -11,8 +11,9 @@ use Rattle.packing.specs.Meaning.{symbolOf}
 use Rattle.chart_table.specs.declared.Cell.{Cell}
 use Rattle.chart_table.specs.declared.Layout.{Layout}
 use Rattle.chart_table.specs.Table.{InTable, cell}
-use Rattle.chart_masks.specs.Masks.{digit, Covers, Ruled, HeadsOver, Live}
-use Rattle.chart_masks.proofs.Covering.{heads-complete, unjoined-apart}
+use Rattle.chart_masks.specs.Masks.{digit, Covers}
+use Rattle.chart_heads.specs.Heads.{Ruled, HeadsOver, Live}
+use Rattle.chart_heads.proofs.Members.{heads-complete, unjoined-apart}
 use Rattle.chart_search.specs.Search.{nextOfSpan}
 use Rattle.chart_passes.proofs.Fuel.{nothing-found}
 

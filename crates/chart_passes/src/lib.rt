@@ -1,10 +1,10 @@
 // All ranks of the root in a table of zeros: the first pass, which finds the first rank of every cell, and then one rank after another.
 use chart_entries::price_at;
+use chart_heads::heads_over;
+use chart_heads::live_heads;
+use chart_heads::mark_rules;
 use chart_leaves::first_leaf;
 use chart_masks::MASKS;
-use chart_masks::heads_over;
-use chart_masks::live_heads;
-use chart_masks::mark_rules;
 use chart_masks::next_head;
 use chart_ranks::first_rank;
 use chart_search::next_of_root;
@@ -18,7 +18,8 @@ ghost use mathlib.Core.Path.{_≡_};
 ghost use Prim.Native.Nat.{ℕ, _<_, _≤_};
 ghost use lib.ListN.{getD};
 ghost use Rattle.chart_table.specs.Table.{Sized, InTable};
-ghost use Rattle.chart_masks.specs.Masks.{Covers, Ruled};
+ghost use Rattle.chart_masks.specs.Masks.{Covers};
+ghost use Rattle.chart_heads.specs.Heads.{Ruled};
 ghost use Rattle.chart_search.specs.Search.{firstOfHeads, firstOfLength, firstPass, search};
 
 // Finds the first rank of every head over a cell's span. The masks cover the table before and afterwards, here and below, and say

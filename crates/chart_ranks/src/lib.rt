@@ -1,10 +1,7 @@
 // One rank of a cell written into the work table, from what the table has of it and of its parts.
-mod selection;
-
 use chart_entries::back_at;
 use chart_entries::price_at;
 use chart_entries::put_key;
-use chart_keys::BackPointer;
 use chart_keys::Key;
 use chart_keys::PRICES;
 use chart_keys::back_pointer;
@@ -13,26 +10,22 @@ use chart_keys::no_key;
 use chart_masks::mark;
 use chart_queue::extract_min;
 use chart_seeds::first_seeds;
+use chart_successors::Found;
+use chart_successors::replacement;
+use chart_successors::successors;
 use chart_table::Cell;
 use chart_table::Layout;
 use chart_table::Part;
 use chart_table::cell_number;
-use selection::replacement;
-use selection::successors;
 ghost use mathlib.Core.Path.{_≡_};
 ghost use Prim.Native.Nat.{_-_, _<_, _≤_};
 ghost use Rattle.chart_keys.specs.Keys.{Digits, keyNumber, noKey};
 ghost use Rattle.chart_queue.specs.Queue.{keepMin};
 ghost use Rattle.chart_table.specs.Table.{InTable, Sized, mostRanks, cellBound, cellNumber, putKey};
-ghost use Rattle.chart_masks.specs.Masks.{Covers, Ruled};
+ghost use Rattle.chart_masks.specs.Masks.{Covers};
+ghost use Rattle.chart_heads.specs.Heads.{Ruled};
 ghost use Rattle.chart_candidates.specs.Candidates.{seeds};
 ghost use Rattle.chart_ranks.specs.Ranks.{foundAt, nextRank};
-
-// A rank that is found: its key and its back pointer.
-pub struct Found {
-    pub key: Key,
-    pub back: BackPointer,
-}
 
 // A rank that is found, of a cell given by its number.
 fn found_at(t: &[u32], d: Layout, number: usize, rank: usize) -> Found

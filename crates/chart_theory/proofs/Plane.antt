@@ -22,7 +22,8 @@ use Rattle.chart_table.specs.Table.{cell, leftPart, rightPart, cellNumber, entr
 use Rattle.chart_index.specs.Index.{pairBase, classStart, classEnd}
 use Rattle.chart_candidates.specs.declared.PairRule.{PairRule}
 use Rattle.chart_candidates.specs.Candidates.{pairKey, splitSeeds, ruleSeeds, seeds, leaves}
-use Rattle.chart_ranks.specs.Ranks.{leastInitial, firstRank}
+use Rattle.chart_successors.specs.Successors.{leastInitial}
+use Rattle.chart_ranks.specs.Ranks.{firstRank}
 use Rattle.chart_search.specs.Search.{nextOfSpan, firstOfHeads, firstOfLength, firstPass}
 use Rattle.chart_theory.proofs.Table.Cells.{InChart}
 use Rattle.chart_theory.proofs.Table.Entries.{cell-below}

@@ -67,7 +67,8 @@ use Rattle.chart_queue.specs.Queue.{
 }
 use Rattle.chart_index.specs.Build.{ruleClass, edgeClass, membersOf, countBelow, group, indexRules, indexEdges, makeIndex}
 use Rattle.chart_candidates.specs.Candidates.{pairKey, wordLeaf, edgeLeaves, leaves, splitSeeds, ruleSeeds, seeds}
-use Rattle.chart_ranks.specs.Ranks.{foundAt, pairSuccessors, successors, pairSibling, sibling, leastInitial, replacement, firstRank, nextRank}
+use Rattle.chart_successors.specs.Successors.{pairSuccessors, successors, pairSibling, sibling, leastInitial, replacement}
+use Rattle.chart_ranks.specs.Ranks.{foundAt, firstRank, nextRank}
 use Rattle.chart_search.specs.Search.{
   extend,
   extendParts,

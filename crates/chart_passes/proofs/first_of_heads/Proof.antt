@@ -9,8 +9,9 @@ use Rattle.packing.specs.Meaning.{symbolOf}
 use Rattle.packing.specs.Loop.{iter}
 use Rattle.packing.proofs.Loop.{iter-more, iter-end}
 use Rattle.chart_table.specs.Table.{cell}
-use Rattle.chart_masks.specs.Masks.{Covers, Ruled, Live}
-use Rattle.chart_masks.proofs.Covering.{heads-complete}
+use Rattle.chart_masks.specs.Masks.{Covers}
+use Rattle.chart_heads.specs.Heads.{Ruled, Live}
+use Rattle.chart_heads.proofs.Members.{heads-complete}
 use Rattle.chart_search.specs.Search.{nextOfSpan, firstOfHeads}
 use Rattle.chart_passes.proofs.Fuel.{first-of-span}
 use Rattle.chart_passes.proofs.Heads.{lacked-heads}

@@ -5,7 +5,8 @@ use lib.ListN.{length}
 use borrow.Author.Needs.{needs}
 use Rattle.packing.specs.Loop.{iter}
 use Rattle.packing.proofs.Loop.{iter-more, iter-end}
-use Rattle.chart_masks.specs.Masks.{Covers, Ruled}
+use Rattle.chart_masks.specs.Masks.{Covers}
+use Rattle.chart_heads.specs.Heads.{Ruled}
 use Rattle.chart_search.specs.Search.{firstOfHeads, firstOfLength}
 use Rattle.chart_passes.proofs.first_of_length.Statement.{statement}
 use Rattle.chart_passes.proofs.first_of_length.Tie as tie

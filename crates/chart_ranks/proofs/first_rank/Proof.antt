@@ -1,7 +1,8 @@
 -- What is found is stored and marked; where nothing is found, there is nothing to store.
 use mathlib.Core.Path.{sym}
 use Rattle.chart_entries.proofs.Keys.{put-none}
-use Rattle.chart_masks.proofs.Covering.{covers-found, ruled-marked}
+use Rattle.chart_masks.proofs.Covering.{covers-found}
+use Rattle.chart_heads.proofs.Members.{ruled-marked}
 use borrow.Author.Needs.{needs}
 use Rattle.chart_ranks.proofs.first_rank.Statement.{statement}
 use Rattle.chart_ranks.proofs.first_rank.Tie as tie

@@ -1,10 +1,15 @@
 -- Each call has the meaning of its part of the definition; the two more are ordered as there.
 use mathlib.Core.Path.{sym, _∙_}
-use Rattle.chart_ranks.proofs.Initial.{kept-fits}
+use Prim.Native.Nat.{ℕ, _≤_, _<_}
+use native.Mathlib.Omega.{arith}
 use Rattle.chart_ranks.specs.Ranks.{nextRank}
 use borrow.Author.Needs.{needs}
 use Rattle.chart_ranks.proofs.next_rank.Statement.{statement}
 use Rattle.chart_ranks.proofs.next_rank.Tie as tie
+
+-- a rank that is kept is below the most
+kept-fits : (rank ranks : ℕ) → rank < ranks → ranks ≤ 256 → rank ≤ 256
+kept-fits rank ranks h l = omega arith
 
 cell-number-requires : tie.Need-cell-number-requires
 cell-number-requires c κs = search needs

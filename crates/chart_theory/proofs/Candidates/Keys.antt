@@ -26,8 +26,9 @@ use Rattle.chart_table.specs.declared.Layout.{Layout}
 use Rattle.chart_table.specs.Table.{leftPart, rightPart, cellNumber}
 use Rattle.chart_index.specs.Index.{wordBase, pairBase, edgeBase, WordWith, PairWith, Leaves}
 use Rattle.chart_candidates.specs.Candidates.{pairKey, wordLeaf, edgeLeaves, leaves, splitSeeds, ruleSeeds, seeds}
-use Rattle.chart_ranks.specs.declared.Found.{Found}
-use Rattle.chart_ranks.specs.Ranks.{foundAt, pairSuccessors, successors}
+use Rattle.chart_successors.specs.declared.Found.{Found}
+use Rattle.chart_successors.specs.Successors.{pairSuccessors, successors}
+use Rattle.chart_ranks.specs.Ranks.{foundAt}
 use Rattle.chart_theory.proofs.Table.Keys.{rowNumber, rowBack, rowKey}
 use Rattle.chart_theory.proofs.Table.Cells.{InChart, rankedIn, RowOfIn, RowAtIn, row-unique}
 use Rattle.chart_theory.proofs.Invariant.{Setting, HoldsRow, row-back}

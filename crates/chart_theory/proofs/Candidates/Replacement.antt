@@ -17,7 +17,7 @@ use Rattle.chart_table.specs.declared.Cell.{Cell}
 use Rattle.chart_table.specs.declared.Layout.{Layout}
 use Rattle.chart_table.specs.Table.{leftPart, rightPart}
 use Rattle.chart_queue.specs.Queue.{isInitial}
-use Rattle.chart_ranks.specs.Ranks.{leastInitial, pairSibling, sibling, replacement}
+use Rattle.chart_successors.specs.Successors.{leastInitial, pairSibling, sibling, replacement}
 use Rattle.chart_theory.proofs.Table.Keys.{rowBack, rowKey}
 use Rattle.chart_theory.proofs.Table.Cells.{rankedIn, RowOfIn, RowAtIn, row-unique}
 use Rattle.chart_theory.proofs.Queue.Owners.{OwnerOf, owner-unique, seed-owner, right-owned, left-owned}

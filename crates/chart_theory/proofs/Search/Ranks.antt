@@ -21,7 +21,8 @@ use Rattle.chart_table.specs.declared.Layout.{Layout}
 use Rattle.chart_table.specs.Table.{cellNumber, entryOf, backAt, putKey}
 use Rattle.chart_queue.specs.Queue.{queuedKey, queueLength, extractMin}
 use Rattle.chart_candidates.specs.Candidates.{leaves, seeds}
-use Rattle.chart_ranks.specs.Ranks.{successors, leastInitial, replacement, firstRank, nextRank}
+use Rattle.chart_successors.specs.Successors.{successors, leastInitial, replacement}
+use Rattle.chart_ranks.specs.Ranks.{firstRank, nextRank}
 use Rattle.chart_theory.proofs.Table.Keys.{rowKey, key-back, key-lt, order-key}
 use Rattle.chart_theory.proofs.Table.Cells.{rankedIn, RowAtIn, row-unique, rank-below, FrontierIn, BeyondIn}
 use Rattle.chart_theory.proofs.Table.Entries.{cell-below, entry-within}

@@ -1,0 +1,2 @@
+-- Masks of heads.
+pub mod Heads

@@ -1,0 +1,2 @@
+-- What is met with a rank found.
+pub mod Successors
