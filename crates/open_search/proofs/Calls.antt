@@ -9,12 +9,12 @@ use lib.Dec.{ltb}
 use lib.ListN.{length, take}
 use Rattle.bits.specs.Bits.{pick}
 use Rattle.chart.specs.Chart.{rootFound}
-use Rattle.open_listing.specs.Model.{zeros, firstTable, nextTable, Answered, Searched, FirstCalled, answeredBy, seeks, tableBy, soughtBy, callBy, As}
-use Rattle.open_listing.specs.Open.{Left}
-use Rattle.open_listing.specs.declared.Place.{Place}
-use Rattle.open_listing.specs.declared.Plan.{Plan}
-use Rattle.open_listing.specs.declared.Answer as A
-use Rattle.open_listing.specs.declared.Answer.the-variants.{Full, Refused}
+use Rattle.open_search.specs.Model.{zeros, firstTable, nextTable, Answered, Searched, FirstCalled, answeredBy, seeks, tableBy, soughtBy, callBy, As}
+use Rattle.open_search.specs.Left.{Left}
+use Rattle.open_search.specs.declared.Place.{Place}
+use Rattle.open_answer.specs.declared.Plan.{Plan}
+use Rattle.open_answer.specs.declared.Answer as A
+use Rattle.open_answer.specs.declared.Answer.the-variants.{Full, Refused}
 
 answered-as : {found : Bool} {table rules edges : List ℕ} {q : Plan} {x : ℕ} {work out : List ℕ} {r : A.Answer} {work′ out′ : List ℕ}
     → Answered found table rules edges q x work out r work′ out′ → As (answeredBy found table rules edges q x work out) r work′ out′

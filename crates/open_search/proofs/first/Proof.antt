@@ -3,11 +3,11 @@ use mathlib.Core.Path.{refl, sym}
 use native.Mathlib.Omega.{arith}
 use lib.ListN.{length-append}
 use lib.Seq.{length-take-le}
-use Rattle.open_listing.specs.Model.{firstTable}
-use Rattle.open_listing.proofs.Searched.{stays, goes-back, table-first, promised, zeros-again, not-zeros, front-size}
+use Rattle.open_search.specs.Model.{firstTable}
+use Rattle.open_search.proofs.Searched.{stays, goes-back, table-first, promised, zeros-again, not-zeros, front-size}
 use borrow.Author.Needs.{needs}
-use Rattle.open_listing.proofs.first.Statement.{statement}
-use Rattle.open_listing.proofs.first.Tie as tie
+use Rattle.open_search.proofs.first.Statement.{statement}
+use Rattle.open_search.proofs.first.Tie as tie
 
 mul-front : tie.Need-mul-front
 mul-front c = search needs

@@ -1,11 +1,11 @@
 -- The journal is empty before the step, so what the step wrote over can be put back.
 use Prim.Native.Nat.{_-_}
-use Rattle.open_listing.specs.Model.{nextTable}
-use Rattle.open_listing.proofs.Searched.{stays, goes-back, table-next, put-back}
+use Rattle.open_search.specs.Model.{nextTable}
+use Rattle.open_search.proofs.Searched.{stays, goes-back, table-next, put-back}
 use native.Mathlib.Omega.{arith}
 use borrow.Author.Needs.{needs}
-use Rattle.open_listing.proofs.later.Statement.{statement}
-use Rattle.open_listing.proofs.later.Tie as tie
+use Rattle.open_search.proofs.later.Statement.{statement}
+use Rattle.open_search.proofs.later.Tie as tie
 
 slice-aggregate-index-of : tie.Need-slice-aggregate-index-of
 slice-aggregate-index-of c = search needs

@@ -16,10 +16,11 @@ use Rattle.chart_search.specs.Search.{nextOfRoot, keepOfRoot}
 use Rattle.chart.specs.Chart.{enumerate, rootFound}
 use Rattle.chart_theory.proofs.Plane.{single}
 use Rattle.chart_steps.proofs.Undo.{search-undone}
-use Rattle.open_listing.specs.Model.{Planned, zeros, isReading, settled, outputBy, firstTable, nextTable, Answered, Searched, FirstCalled}
-use Rattle.open_listing.specs.declared.Plan.{Plan}
-use Rattle.open_listing.specs.declared.Answer as A
-use Rattle.open_listing.proofs.Zeros.{zeros-are}
+use Rattle.open_answer.specs.Model.{Planned, isReading, settled, outputBy}
+use Rattle.open_search.specs.Model.{zeros, firstTable, nextTable, Answered, Searched, FirstCalled}
+use Rattle.open_answer.specs.declared.Plan.{Plan}
+use Rattle.open_answer.specs.declared.Answer as A
+use Rattle.open_search.proofs.Zeros.{zeros-are}
 
 -- the new table stays where a reading is handed out, and something else where not
 module _ (table rules edges : List ℕ) (p : Plan) (x : ℕ) (work out : List ℕ) where
@@ -62,6 +63,10 @@ as-it-stands rules edges p work out x {r} answer output = record { answer = answ
     either : (b : Bool) → work ≡ pick b work work
     either true = refl
     either false = refl
+
+-- the table has its front
+pub front-fits : {limit : ℕ} (p : Plan) → Planned limit p → {r n : ℕ} → r ≡ 4 * p .layout .cells * p .layout .ranks → r ≤ n → 4 * p .layout .cells ≤ n
+front-fits p planned e room = omega (arith, rw (planned .all-ranks) at e, room)
 
 -- of a first call
 module _ (rules edges : List ℕ) (p : Plan) (work out : List ℕ) (fits : 4 * p .layout .cells ≤ length work) where

@@ -1,11 +1,10 @@
 -- What is short, what was handed out and whether the place was opened decide between the refusals and the search.
 use native.Mathlib.Omega.{arith}
-use Rattle.open_listing.proofs.Plans.{front-fits}
-use Rattle.open_listing.proofs.Searched.{as-it-stands}
-use Rattle.open_listing.proofs.Calls.{short-table, short-output, full, unopened-call, first-call, later-call}
+use Rattle.open_search.proofs.Searched.{as-it-stands, front-fits}
+use Rattle.open_search.proofs.Calls.{short-table, short-output, full, unopened-call, first-call, later-call}
 use borrow.Author.Needs.{needs}
-use Rattle.open_listing.proofs.next_read.Statement.{statement}
-use Rattle.open_listing.proofs.next_read.Tie as tie
+use Rattle.open_search.proofs.next_read.Statement.{statement}
+use Rattle.open_search.proofs.next_read.Tie as tie
 
 table-numbers-requires : tie.Need-table-numbers-requires
 table-numbers-requires c κs = search needs
