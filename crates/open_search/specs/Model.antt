@@ -45,11 +45,6 @@ pub record Answered (found : Bool) (table rules edges : List ℕ) (p : Plan) (x 
 abbrev pub Searched : (table rules edges : List ℕ) → Plan → ℕ → (work out : List ℕ) → A.Answer → (work′ out′ : List ℕ) → Type 0
 Searched table rules edges p x = Answered (rootFound table (p .layout) x) table rules edges p x
 
--- what a first call leaves: it searches a table whose front is zeros, and takes another as it is
-pub record FirstCalled (rules edges : List ℕ) (p : Plan) (work out : List ℕ) (r : A.Answer) (work′ out′ : List ℕ) : Type 0 where
-  pub clear : zeros (take (4 * p .layout .cells) work) ≡ true → Searched (firstTable rules edges p work) rules edges p 0 work out r work′ out′
-  pub altered : zeros (take (4 * p .layout .cells) work) ≡ false → Answered true work rules edges p 0 work out r work′ out′
-
 -- nothing is changed; rank x decides, where it is there or not, as the first test says
 abbrev pub unchanged : A.Answer → (work out : List ℕ) → Left
 unchanged r work out = left r work out

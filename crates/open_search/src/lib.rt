@@ -4,6 +4,7 @@ use arrays::zero;
 use chart::steps;
 use chart_index::INDEX_NUMBERS;
 use chart_journal::JOURNAL_NUMBERS;
+use chart_table::ENTRY_NUMBERS;
 use chart_table::Layout;
 use chart_table::MOST_RANKS;
 use open_answer::Answer;
@@ -13,10 +14,12 @@ use open_answer::settle;
 use packing::format::MAX_SLOTS;
 use packing::refused;
 ghost use mathlib.Core.Path.{_≡_};
+ghost use mathlib.Core.Bool.{true};
 ghost use Prim.Native.Nat.{_-_, _*_, _≤_, _<_};
-ghost use lib.ListN.{length};
+ghost use lib.ListN.{length, take};
 ghost use Rattle.open_answer.specs.Model.{Planned, isReading};
-ghost use Rattle.open_search.specs.Model.{zeros, nextTable, Searched, FirstCalled, As, callBy};
+ghost use Rattle.open_search.specs.Model as model;
+ghost use Rattle.open_search.specs.Model.{zeros, firstTable, nextTable, Searched, As, callBy};
 
 // An open listing's place: how many readings were handed out, and whether it was opened.
 #[repr(C)]
@@ -55,37 +58,49 @@ fn all_zero(t: &[u32]) -> bool
     true
 }
 
-// The first call: one rank of each cell is looked for, at the table's front, if that is zeros. If not, the table is taken as it is.
-fn first(work: &mut [u32], rules: &[u32], edges: &[u32], plan: Plan, out: &mut [u8]) -> Answer
-    requires { do ⌜ (Planned (← ⟦MAX_SLOTS⟧) plan) × (plan .form .size ≤ length (now out)) × (4 * plan .layout .cells ≤ length (now work)) ⌝ }
-    ensures { λ r. ⌜ FirstCalled (now (rules .entry)) (now (edges .entry)) plan (now (work .entry)) (now (out .entry)) r (now (work .exit))
-        (now (out .exit)) ⌝ }
+// Whether a call looks for a rank: at an opened place, and of a first call in a table whose front is zeros.
+fn seeks(plan: Plan, place: Place, work: &[u32]) -> bool
+    requires { do ⌜ (Planned (← ⟦MAX_SLOTS⟧) plan) × (4 * plan .layout .cells ≤ length (now work)) ⌝ }
+    ensures { λ r. ⌜ r ≡ model.seeks plan place (now (work .entry)) ⌝ }
 {
-    let d = plan.layout;
-    let front = chart_table::ENTRY_NUMBERS * d.cells;
-    if all_zero(&work[..front]) {
-        let single = Layout {
-            symbols: d.symbols,
-            last: d.last,
-            ranks: 1,
-            cells: d.cells,
-        };
-        chart::enumerate(
-            &mut work[..front],
-            rules,
-            plan.form.rules,
-            edges,
-            plan.edges,
-            single,
-        );
-        let answer = settle(&work[..], rules, edges, plan, 0, out);
-        if is_reading(answer) {
-            return answer;
-        }
-        zero(&mut work[..front]);
+    if place.opened != OPENED {
+        return false;
+    }
+    if place.handed == 0 {
+        return all_zero(&work[..ENTRY_NUMBERS * plan.layout.cells]);
+    }
+    true
+}
+
+// The first call: one rank of each cell is looked for, at the table's front, which is zeros. Unless a reading is handed out, it is made zeros again.
+fn first(work: &mut [u32], rules: &[u32], edges: &[u32], plan: Plan, out: &mut [u8]) -> Answer
+    requires { do
+      ⌜ (Planned (← ⟦MAX_SLOTS⟧) plan) × (plan .form .size ≤ length (now out)) × (4 * plan .layout .cells ≤ length (now work))
+          × (zeros (take (4 * plan .layout .cells) (now work)) ≡ true) ⌝ }
+    ensures { λ r. ⌜ Searched (firstTable (now (rules .entry)) (now (edges .entry)) plan (now (work .entry))) (now (rules .entry)) (now (edges .entry)) plan 0
+        (now (work .entry)) (now (out .entry)) r (now (work .exit)) (now (out .exit)) ⌝ }
+{
+    let front = ENTRY_NUMBERS * plan.layout.cells;
+    let single = Layout {
+        symbols: plan.layout.symbols,
+        last: plan.layout.last,
+        ranks: 1,
+        cells: plan.layout.cells,
+    };
+    chart::enumerate(
+        &mut work[..front],
+        rules,
+        plan.form.rules,
+        edges,
+        plan.edges,
+        single,
+    );
+    let answer = settle(&work[..], rules, edges, plan, 0, out);
+    if is_reading(answer) {
         return answer;
     }
-    as_spelled(&work[..], rules, edges, plan, 0, out)
+    zero(&mut work[..front]);
+    answer
 }
 
 // A later call: the rank behind the last that was handed out is looked for. Unless it is handed out, what was written over is put back.
@@ -101,11 +116,10 @@ fn later(
     ensures { λ r. ⌜ Searched (nextTable (now (rules .entry)) (now (edges .entry)) plan (handed - 1) (now (work .entry))) (now (rules .entry))
         (now (edges .entry)) plan handed (now (work .entry)) (now (out .entry)) r (now (work .exit)) (now (out .exit)) ⌝ }
 {
-    let d = plan.layout;
     let mut index = [0u32; INDEX_NUMBERS];
     let mut kept = [0u32; JOURNAL_NUMBERS];
-    steps::index_of(rules, plan.form.rules, edges, plan.edges, d, &mut index);
-    steps::step(work, &mut kept, rules, edges, &index, d, handed - 1);
+    steps::index_of(rules, plan.form.rules, edges, plan.edges, plan.layout, &mut index);
+    steps::step(work, &mut kept, rules, edges, &index, plan.layout, handed - 1);
     let answer = settle(&work[..], rules, edges, plan, handed, out);
     if is_reading(answer) {
         return answer;
@@ -137,11 +151,11 @@ pub fn next_read(
     if MOST_RANKS <= handed {
         return Answer::Full;
     }
-    if place.opened != OPENED {
-        return as_spelled(&work[..], rules, edges, plan, handed, out);
+    if seeks(plan, place, &work[..]) {
+        if handed == 0 {
+            return first(work, rules, edges, plan, out);
+        }
+        return later(work, rules, edges, plan, handed, out);
     }
-    if handed == 0 {
-        return first(work, rules, edges, plan, out);
-    }
-    later(work, rules, edges, plan, handed, out)
+    as_spelled(&work[..], rules, edges, plan, handed, out)
 }

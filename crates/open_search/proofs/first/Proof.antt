@@ -1,10 +1,10 @@
--- The table's front is filled, and made zeros again unless a reading is handed out. Where it was not zeros, the table is taken as it is.
+-- The table's front is filled, and made zeros again unless a reading is handed out.
 use mathlib.Core.Path.{refl, sym}
 use native.Mathlib.Omega.{arith}
 use lib.ListN.{length-append}
 use lib.Seq.{length-take-le}
 use Rattle.open_search.specs.Model.{firstTable}
-use Rattle.open_search.proofs.Searched.{stays, goes-back, table-first, promised, zeros-again, not-zeros, front-size}
+use Rattle.open_search.proofs.Searched.{stays, goes-back, table-first, zeros-again, front-size}
 use borrow.Author.Needs.{needs}
 use Rattle.open_search.proofs.first.Statement.{statement}
 use Rattle.open_search.proofs.first.Tie as tie
@@ -12,23 +12,12 @@ use Rattle.open_search.proofs.first.Tie as tie
 mul-front : tie.Need-mul-front
 mul-front c = search needs
 
-slice-reshare-prefix-all-zero : tie.Need-slice-reshare-prefix-all-zero
-slice-reshare-prefix-all-zero c = search needs
-
-slice-aggregate-all-zero : tie.Need-slice-aggregate-all-zero
-slice-aggregate-all-zero c =
-    let start = c .before .before .before .before .before .before .before in
-    sym (length-take-le _ _ (start .pre .2))
-
-all-zero-requires : tie.Need-all-zero-requires
-all-zero-requires c κs = search needs
-
 slice-relend-prefix-enumerate : tie.Need-slice-relend-prefix-enumerate
 slice-relend-prefix-enumerate c = search needs
 
 slice-aggregate-enumerate : tie.Need-slice-aggregate-enumerate
 slice-aggregate-enumerate c =
-    let start = c .before .before .before .before .before .before .before .before .before .before in
+    let start = c .before .before .before .before .before .before in
     sym (length-take-le _ _ (start .pre .2))
 
 enumerate-requires : tie.Need-enumerate-requires
@@ -50,19 +39,13 @@ returns : tie.Need-returns
 returns c =
     let at-settle = c .before .before .before .before in
     let at-enumerate = at-settle .before .before .before .before .before in
-    let at-if1 = at-enumerate .before .before in
-    let at-all-zero = at-if1 .before in
-    let start = at-all-zero .before .before .before .before .before .before .before .before in
+    let start = at-enumerate .before .before .before .before .before .before .before in
     let a = start .args in
-    let planned = start .pre .0 in
-    let fits = start .pre .2 in
-    let made = at-enumerate .enumerate .ensures .0 in
     let table = firstTable (a .rules .now) (a .edges .now) (a .plan) (a .work .now) in
-    let first = table-first (a .rules .now) (a .edges .now) (a .plan) (a .work .now) (a .out .now) fits (at-all-zero .all-zero .ensures) (at-if1 .if1 .taken)
-    made in
-    promised (a .rules .now) (a .edges .now) (a .plan) (a .work .now) (a .out .now) fits (at-all-zero .all-zero .ensures) (at-if1 .if1 .taken) made
-    (stays table (a .rules .now) (a .edges .now) (a .plan) 0 (a .work .now) (a .out .now) first (at-settle .settle .ensures .0) (at-settle .settle .ensures .1)
-    (c .before .is-reading .ensures) (c .if2 .taken))
+    let made = at-enumerate .enumerate .ensures .0 in
+    let first = table-first (a .rules .now) (a .edges .now) (a .plan) (a .work .now) (start .pre .2) (start .pre .3) made in
+    stays table (a .rules .now) (a .edges .now) (a .plan) 0 (a .work .now) (a .out .now) first (at-settle .settle .ensures .0) (at-settle .settle .ensures .1)
+    (c .before .is-reading .ensures) (c .if1 .taken)
 
 slice-relend-prefix-zero : tie.Need-slice-relend-prefix-zero
 slice-relend-prefix-zero c = search needs
@@ -70,10 +53,10 @@ slice-relend-prefix-zero c = search needs
 slice-aggregate-zero : tie.Need-slice-aggregate-zero
 slice-aggregate-zero c =
     let at-enumerate = c .before .before .before .before .before .before .before .before .before .before in
-    let start = at-enumerate .before .before .before .before .before .before .before .before .before .before .before in
+    let start = at-enumerate .before .before .before .before .before .before .before in
     let a = start .args in
     sym (length-take-le _ _ (rw length-append
-    (omega (arith, at-enumerate .enumerate .kept .0, front-size (a .rules .now) (a .edges .now) (a .plan) (a .work .now) (a .out .now) (start .pre .2)))))
+    (omega (arith, at-enumerate .enumerate .kept .0, front-size (a .rules .now) (a .edges .now) (a .plan) (a .work .now) (start .pre .2)))))
 
 zero-requires : tie.Need-zero-requires
 zero-requires c κs = search needs
@@ -86,52 +69,25 @@ same-length-4 c = search needs
 
 returns-2 : tie.Need-returns-2
 returns-2 c =
-    let at-if2 = c .before .before .before .before in
-    let at-is-reading = at-if2 .before in
+    let at-if1 = c .before .before .before .before in
+    let at-is-reading = at-if1 .before in
     let at-settle = at-is-reading .before .before .before in
     let at-enumerate = at-settle .before .before .before .before .before in
-    let at-if1 = at-enumerate .before .before in
-    let at-all-zero = at-if1 .before in
-    let start = at-all-zero .before .before .before .before .before .before .before .before in
+    let start = at-enumerate .before .before .before .before .before .before .before in
     let a = start .args in
-    let planned = start .pre .0 in
-    let fits = start .pre .2 in
-    let made = at-enumerate .enumerate .ensures .0 in
     let table = firstTable (a .rules .now) (a .edges .now) (a .plan) (a .work .now) in
-    let first = table-first (a .rules .now) (a .edges .now) (a .plan) (a .work .now) (a .out .now) fits (at-all-zero .all-zero .ensures) (at-if1 .if1 .taken)
-    made in
-    promised (a .rules .now) (a .edges .now) (a .plan) (a .work .now) (a .out .now) fits (at-all-zero .all-zero .ensures) (at-if1 .if1 .taken) made
-    (goes-back table (a .rules .now) (a .edges .now) (a .plan) 0 (a .work .now) (a .out .now) first (at-settle .settle .ensures .0)
-    (at-settle .settle .ensures .1) (at-is-reading .is-reading .ensures) (at-if2 .if2 .left)
-    (zeros-again (a .rules .now) (a .edges .now) (a .plan) (a .work .now) (a .out .now) fits (at-all-zero .all-zero .ensures) (at-if1 .if1 .taken) made
-    (at-enumerate .enumerate .kept .0) (c .before .before .zero .ensures) refl))
-
-as-spelled-requires : tie.Need-as-spelled-requires
-as-spelled-requires c κs = search needs
-
-same-length-5 : tie.Need-same-length-5
-same-length-5 c = search needs
-
-same-length-6 : tie.Need-same-length-6
-same-length-6 c = search needs
-
-returns-3 : tie.Need-returns-3
-returns-3 c =
-    let at-if1 = c .before .before .before .before .before in
-    let at-all-zero = at-if1 .before in
-    let start = at-all-zero .before .before .before .before .before .before .before .before in
-    let a = start .args in
-    not-zeros (a .rules .now) (a .edges .now) (a .plan) (a .work .now) (a .out .now) (start .pre .2) (at-all-zero .all-zero .ensures) (at-if1 .if1 .left)
-    (c .before .before .as-spelled .ensures .0) (c .before .before .as-spelled .ensures .1)
+    let made = at-enumerate .enumerate .ensures .0 in
+    let first = table-first (a .rules .now) (a .edges .now) (a .plan) (a .work .now) (start .pre .2) (start .pre .3) made in
+    goes-back table (a .rules .now) (a .edges .now) (a .plan) 0 (a .work .now) (a .out .now) first (at-settle .settle .ensures .0)
+    (at-settle .settle .ensures .1) (at-is-reading .is-reading .ensures) (at-if1 .if1 .left)
+    (zeros-again (a .rules .now) (a .edges .now) (a .plan) (a .work .now) (start .pre .2) (start .pre .3) made (at-enumerate .enumerate .kept .0)
+    (c .before .before .zero .ensures) refl)
 
 pub first-spec : {M : Type 1} → statement M
 first-spec =
     tie.close
     (tie.spec
     mul-front
-    slice-reshare-prefix-all-zero
-    slice-aggregate-all-zero
-    all-zero-requires
     slice-relend-prefix-enumerate
     slice-aggregate-enumerate
     enumerate-requires
@@ -145,8 +101,4 @@ first-spec =
     zero-requires
     same-length-3
     same-length-4
-    returns-2
-    as-spelled-requires
-    same-length-5
-    same-length-6
-    returns-3)
+    returns-2)

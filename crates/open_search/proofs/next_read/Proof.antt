@@ -1,7 +1,9 @@
--- What is short, what was handed out and whether the place was opened decide between the refusals and the search.
+-- What is short, what was handed out and whether the place was opened decide between the refusals, the search and the table as it stands.
+use mathlib.Core.Path.{sym, _∙_}
 use native.Mathlib.Omega.{arith}
 use Rattle.open_search.proofs.Searched.{as-it-stands, front-fits}
-use Rattle.open_search.proofs.Calls.{short-table, short-output, full, unopened-call, first-call, later-call}
+use Rattle.open_search.proofs.Sought.{first-clear}
+use Rattle.open_search.proofs.Calls.{short-table, short-output, full, unsought-call, first-call, later-call}
 use borrow.Author.Needs.{needs}
 use Rattle.open_search.proofs.next_read.Statement.{statement}
 use Rattle.open_search.proofs.next_read.Tie as tie
@@ -38,10 +40,24 @@ short e = e .before .before .before .before .before
 abbrev start : tie.Else3 → tie.Start
 start e = short e .before .before .before .before .before
 
-as-spelled-requires : tie.Need-as-spelled-requires
-as-spelled-requires c κs =
-    let e = c .before .before .before .before in
-    (start e .pre, omega (arith, start e .pre .all-ranks, e .if3 .left), omega (arith, e .before .before .if2 .left))
+seeks-requires : tie.Need-seeks-requires
+seeks-requires c κs =
+    let e = c .before in
+    let s = start e in
+    (s .pre, front-fits (s .args .plan) (s .pre) (short e .table-numbers .ensures .0) (omega (arith, e .before .before .before .before .if1 .left)))
+
+first-requires : tie.Need-first-requires
+first-requires c κs =
+    let at-if4 = c .before .before .before in
+    let at-seeks = at-if4 .before in
+    let e = at-seeks .before .before in
+    let s = start e in
+    let a = s .args in (
+      s .pre,
+      omega (arith, e .before .before .if2 .left),
+      front-fits (a .plan) (s .pre) (short e .table-numbers .ensures .0) (omega (arith, e .before .before .before .before .if1 .left)),
+      first-clear (a .plan) (a .place) (a .work .now) (sym (at-seeks .seeks .ensures) ∙ at-if4 .if4 .taken) (c .before .before .if5 .taken),
+    )
 
 same-length : tie.Need-same-length
 same-length c = search needs
@@ -51,26 +67,18 @@ same-length-2 c = search needs
 
 returns-4 : tie.Need-returns-4
 returns-4 c =
-    let at-if4 = c .before .before .before .before .before in
-    let at-before = at-if4 .before in
-    let e = at-before .before in
+    let at-first = c .before .before .before .before in
+    let at-if5 = at-first .before .before .before in
+    let at-if4 = at-if5 .before in
+    let at-seeks = at-if4 .before in
+    let e = at-seeks .before .before in
     let a = start e .args in
-    let told = c .before .before .as-spelled .ensures in
-    unopened-call (a .rules .now) (a .edges .now) (a .plan) (a .place) (a .work .now) (a .out .now) (short e .table-numbers .ensures .0)
+    first-call (a .rules .now) (a .edges .now) (a .plan) (a .place) (a .work .now) (a .out .now) (short e .table-numbers .ensures .0)
     (omega (arith, e .before .before .before .before .if1 .left)) (omega (arith, e .before .before .if2 .left)) (omega (arith, e .if3 .left))
-    (at-if4 .if4 .taken)
-    (as-it-stands (a .rules .now) (a .edges .now) (a .plan) (a .work .now) (a .out .now) (a .place .handed) (told .0) (told .1))
+    (sym (at-seeks .seeks .ensures) ∙ at-if4 .if4 .taken) (at-if5 .if5 .taken) (at-first .first .ensures)
 
-first-requires : tie.Need-first-requires
-first-requires c κs =
-    let at-before = c .before .before .before .before in
-    let e = at-before .before in
-    let s = start e in (
-      s .pre,
-      omega (arith, e .before .before .if2 .left),
-      front-fits (s .args .plan) (s .pre) (short e .table-numbers .ensures .0)
-          (omega (arith, e .before .before .before .before .if1 .left)),
-    )
+later-requires : tie.Need-later-requires
+later-requires c κs = search needs
 
 same-length-3 : tie.Need-same-length-3
 same-length-3 c = search needs
@@ -80,21 +88,18 @@ same-length-4 c = search needs
 
 returns-5 : tie.Need-returns-5
 returns-5 c =
-    let at-first = c .before .before .before .before in
-    let at-if5 = at-first .before .before .before in
+    let at-later = c .before .before .before .before in
+    let at-if5 = at-later .before .before .before in
     let at-if4 = at-if5 .before in
-    let at-before = at-if4 .before in
-    let e = at-before .before in
+    let at-seeks = at-if4 .before in
+    let e = at-seeks .before .before in
     let a = start e .args in
-    first-call (a .rules .now) (a .edges .now) (a .plan) (a .place) (a .work .now) (a .out .now) (short e .table-numbers .ensures .0)
+    later-call (a .rules .now) (a .edges .now) (a .plan) (a .place) (a .work .now) (a .out .now) (short e .table-numbers .ensures .0)
     (omega (arith, e .before .before .before .before .if1 .left)) (omega (arith, e .before .before .if2 .left)) (omega (arith, e .if3 .left))
-    (at-if4 .if4 .left) (at-if5 .if5 .taken) (at-first .first .ensures)
+    (sym (at-seeks .seeks .ensures) ∙ at-if4 .if4 .taken) (omega (arith, at-if5 .if5 .left)) (at-later .later .ensures)
 
-later-requires : tie.Need-later-requires
-later-requires c κs =
-    let e = c .before .before .before .before .before in
-    let s = start e in
-    (s .pre, omega (arith, c .before .before .if5 .left), omega (arith, s .pre .all-ranks, e .if3 .left), omega (arith, e .before .before .if2 .left))
+as-spelled-requires : tie.Need-as-spelled-requires
+as-spelled-requires c κs = search needs
 
 same-length-5 : tie.Need-same-length-5
 same-length-5 c = search needs
@@ -104,15 +109,15 @@ same-length-6 c = search needs
 
 returns-6 : tie.Need-returns-6
 returns-6 c =
-    let at-later = c .before .before .before .before in
-    let at-if5 = at-later .before .before .before in
-    let at-if4 = at-if5 .before in
-    let at-before = at-if4 .before in
-    let e = at-before .before in
+    let at-if4 = c .before .before .before .before .before in
+    let at-seeks = at-if4 .before in
+    let e = at-seeks .before .before in
     let a = start e .args in
-    later-call (a .rules .now) (a .edges .now) (a .plan) (a .place) (a .work .now) (a .out .now) (short e .table-numbers .ensures .0)
+    let told = c .before .before .as-spelled .ensures in
+    unsought-call (a .rules .now) (a .edges .now) (a .plan) (a .place) (a .work .now) (a .out .now) (short e .table-numbers .ensures .0)
     (omega (arith, e .before .before .before .before .if1 .left)) (omega (arith, e .before .before .if2 .left)) (omega (arith, e .if3 .left))
-    (at-if4 .if4 .left) (omega (arith, at-if5 .if5 .left)) (at-later .later .ensures)
+    (sym (at-seeks .seeks .ensures) ∙ at-if4 .if4 .left)
+    (as-it-stands (a .rules .now) (a .edges .now) (a .plan) (a .work .now) (a .out .now) (a .place .handed) (told .0) (told .1))
 
 pub next-read-spec : {M : Type 1} → statement M
 next-read-spec =
@@ -123,15 +128,16 @@ next-read-spec =
     returns-2
     cast-handed
     returns-3
-    as-spelled-requires
+    seeks-requires
+    first-requires
     same-length
     same-length-2
     returns-4
-    first-requires
+    later-requires
     same-length-3
     same-length-4
     returns-5
-    later-requires
+    as-spelled-requires
     same-length-5
     same-length-6
     returns-6)
