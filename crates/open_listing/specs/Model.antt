@@ -24,11 +24,11 @@ planOf b = record {
   edges = b .heard .edges;
 }
 
--- of what both blocks mean
+-- the table that a call's search makes, of what both blocks mean
 abbrev pub searched : Grammar → Heard → Place → List ℕ → List ℕ
 searched g h p work = tableBy (rulesArray g) (edgesArray h) (planOf (inputsOf (record { grammar = g; heard = h }))) p work
 
--- by the verdict on both blocks
+-- what a call answers and leaves, by the verdict on both blocks
 abbrev pub nextBy : Verdict Meant → Place → (work out : List ℕ) → Left
 nextBy (accepted m) p work out = callBy (rulesArray (m .grammar)) (edgesArray (m .heard)) (planOf (inputsOf m)) p work out
 nextBy (refused n) p work out = unchanged (Refused n) work out

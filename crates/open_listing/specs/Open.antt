@@ -1,5 +1,6 @@
 -- Readings one by one: document 02, N2, with the rows grammar block, utterance block and listing of document 01's "Where each check stands".
--- Stands on packing's and derivation's definitions, on traced_readings' Ranked, on the chart's size of a table, and on specs/Stands: what stands in it.
+-- Stands on packing's and derivation's definitions, on traced_readings' Ranked, on the chart's size of a table, on open_search's Left, and on
+-- specs/Stands: what stands in it.
 use mathlib.Core.Path.{_≡_}
 use mathlib.Core.Option.{none, some}
 use mathlib.Core.List.{List, _++_}

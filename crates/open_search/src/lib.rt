@@ -118,8 +118,23 @@ fn later(
 {
     let mut index = [0u32; INDEX_NUMBERS];
     let mut kept = [0u32; JOURNAL_NUMBERS];
-    steps::index_of(rules, plan.form.rules, edges, plan.edges, plan.layout, &mut index);
-    steps::step(work, &mut kept, rules, edges, &index, plan.layout, handed - 1);
+    steps::index_of(
+        rules,
+        plan.form.rules,
+        edges,
+        plan.edges,
+        plan.layout,
+        &mut index,
+    );
+    steps::step(
+        work,
+        &mut kept,
+        rules,
+        edges,
+        &index,
+        plan.layout,
+        handed - 1,
+    );
     let answer = settle(&work[..], rules, edges, plan, handed, out);
     if is_reading(answer) {
         return answer;
