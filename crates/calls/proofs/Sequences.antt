@@ -29,9 +29,9 @@ use Rattle.chart.specs.WorkTable.{tableSize}
 use Rattle.listing.specs.Demand3.{kthBytes, RankedList}
 use Rattle.open_listing.specs.Open as S
 use Rattle.open_listing.proofs.Decided.{answer-decided, table-decided, output-decided, opening-blocks, calling-blocks}
-use Rattle.open_listing.specs.declared.Place.{Place}
-use Rattle.open_listing.specs.declared.Answer as A
-use Rattle.open_listing.specs.declared.Answer.the-variants.{Reading, NoMore, Full, Refused}
+use Rattle.open_search.specs.declared.Place.{Place}
+use Rattle.open_answer.specs.declared.Answer as A
+use Rattle.open_answer.specs.declared.Answer.the-variants.{Reading, NoMore, Full, Refused}
 use Rattle.spireyerba.specs.Demands as D
 use Rattle.spireyerba.specs.Demands.{answers, refuses}
 use Rattle.spireyerba.specs.OneByOne.{placeAt, nextCode, returned, Open, Next, Sequence, CallsInTurn, HandsOut, Idle, Room, OneByOne}

@@ -24,8 +24,8 @@ use Rattle.derivation.proofs.HeardReadings.{heard-one-edge}
 use Rattle.chart.specs.WorkTable.{tableSize}
 use Rattle.open_listing.specs.Stands.{TableEntry, entry, Spelled, leaf-spelled, node-spelled, SpelledReading}
 use Rattle.open_listing.specs.Open as S
-use Rattle.open_listing.specs.declared.Answer as A
-use Rattle.open_listing.specs.declared.Answer.the-variants.{Reading, NoMore, Full, Refused}
+use Rattle.open_answer.specs.declared.Answer as A
+use Rattle.open_answer.specs.declared.Answer.the-variants.{Reading, NoMore, Full, Refused}
 
 -- answers that hand out nothing
 refusal-reads : (n : ℕ) → Refused n ≡ Reading → ⊥

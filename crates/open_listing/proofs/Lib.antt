@@ -1,14 +1,10 @@
 pub mod Stands
 pub mod Sums
 pub mod Standing
-pub mod Zeros
-pub mod HandOut
-pub mod Searched
 pub mod Counted
 pub mod Plans
 pub mod Promises
 pub mod Steps
-pub mod Calls
 pub mod WaysOut
 pub mod Refused
 pub mod Decided

@@ -15,8 +15,9 @@ use Rattle.traced_readings.specs.Model.{formOf}
 use Rattle.traced_readings.specs.declared.Form.{Form}
 use Rattle.chart.proofs.WorkTable.{table-is}
 use Rattle.traced_readings.proofs.Sizes.{size-is}
-use Rattle.open_listing.specs.Model.{Planned, planOf}
-use Rattle.open_listing.specs.declared.Plan.{Plan}
+use Rattle.open_answer.specs.Model.{Planned}
+use Rattle.open_listing.specs.Model.{planOf}
+use Rattle.open_answer.specs.declared.Plan.{Plan}
 use Rattle.inputs.specs.declared.Inputs.{Inputs}
 
 module _ (b : Inputs) (bounds : Bounds b) {f : Form} {d : Layout} (formed : f ≡ formOf (b .heard .graph) (b .heard .last) (b .sizes .rules))
@@ -52,7 +53,3 @@ module _ (g : Grammar) (h : Heard) {p : Plan} (is : p ≡ plan g h) where
 
   pub bytes-are : p .form .size ≡ outputLength g h
   bytes-are = rw is (size-is g h)
-
--- the table has its front
-pub front-fits : {limit : ℕ} (p : Plan) → Planned limit p → {r n : ℕ} → r ≡ 4 * p .layout .cells * p .layout .ranks → r ≤ n → 4 * p .layout .cells ≤ n
-front-fits p planned e room = omega (arith, rw (planned .all-ranks) at e, room)

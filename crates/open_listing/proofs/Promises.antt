@@ -36,10 +36,11 @@ use Rattle.traced_readings.proofs.Sizes.{size-is}
 use Rattle.traced_readings.proofs.Packed.{block-is}
 use Rattle.open_listing.specs.Stands.{entry, SpelledReading, Standing}
 use Rattle.open_listing.specs.Open as S
-use Rattle.open_listing.specs.Model.{Planned, isReading, handsOut, settled, Answered, Searched}
-use Rattle.open_listing.specs.declared.Place.{Place}
-use Rattle.open_listing.specs.declared.Answer as A
-use Rattle.open_listing.specs.declared.Answer.the-variants.{Reading, NoMore, Refused}
+use Rattle.open_answer.specs.Model.{Planned, isReading, handsOut, settled}
+use Rattle.open_search.specs.Model.{Answered, Searched}
+use Rattle.open_search.specs.declared.Place.{Place}
+use Rattle.open_answer.specs.declared.Answer as A
+use Rattle.open_answer.specs.declared.Answer.the-variants.{Reading, NoMore, Refused}
 use Rattle.open_listing.proofs.Plans.{plan}
 use Rattle.open_listing.proofs.Stands.{found-entry, no-entry, reading-to, reading-from}
 use Rattle.open_listing.proofs.Standing.{standing}

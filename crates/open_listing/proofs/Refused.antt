@@ -14,7 +14,7 @@ use Rattle.derivation.specs.Heard.{outputLength}
 use Rattle.chart.specs.WorkTable.{tableSize}
 use Rattle.open_listing.specs.Open as S
 use Rattle.open_listing.specs.Open.{opening, calling}
-use Rattle.open_listing.specs.declared.Answer.the-variants.{Reading, Refused}
+use Rattle.open_answer.specs.declared.Answer.the-variants.{Reading, Refused}
 
 pub opening-row : (grammar heard : List ℕ) (work : ℕ) → Refuses (GrammarBlockRow ∪ HeardBlockRow ∪ OpenRow) (opening grammar heard work)
 unfolding opening

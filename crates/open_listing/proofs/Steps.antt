@@ -22,14 +22,14 @@ use Rattle.chart_theory.proofs.Table.Entries.{cell-below}
 use Rattle.chart.specs.WorkTable.{tableSize}
 use Rattle.open_listing.specs.Open as S
 use Rattle.open_listing.specs.Stands.{Over}
-use Rattle.open_listing.specs.Model.{zeros, firstTable, nextTable, seeks, tableBy}
-use Rattle.open_listing.specs.declared.Place.{Place}
+use Rattle.open_search.specs.Model.{zeros, firstTable, nextTable, seeks, tableBy}
+use Rattle.open_search.specs.declared.Place.{Place}
 use Rattle.open_listing.proofs.Plans.{plan}
 use Rattle.open_listing.proofs.Counted as counted
 use Rattle.open_listing.proofs.Stands.{numberOf, entry-found, entry-stays}
 use Rattle.open_listing.proofs.Sums.{over-is, ranks-are}
 use Rattle.open_listing.proofs.Standing.{in-chart}
-use Rattle.open_listing.proofs.Zeros.{zeros-all, drop-zeros}
+use Rattle.open_search.proofs.Zeros.{zeros-all, drop-zeros}
 
 module _ (g : Grammar) (h : Heard) (okg : ValidGrammar g) (okh : ValidHeard (g .words) h) (rules edges : List ℕ) (begun : Begins (ruleNumbers g) rules)
     (begun′ : Begins (edgeNumbers (heardEdges h)) edges) (work : List ℕ) where

@@ -30,16 +30,18 @@ use Rattle.inputs.specs.Inputs.{meantBy, ReadOf, rulesArray, edgesArray}
 use Rattle.inputs.specs.declared.Inputs.{Inputs}
 use Rattle.inputs.proofs.BlocksRead.{rules-begin, edges-begin, both-accepted, meant-first}
 use Rattle.open_listing.specs.Open as S
-use Rattle.open_listing.specs.Model.{Planned, planOf, zeros, Answered, Searched, unchanged, seeks}
-use Rattle.open_listing.specs.Model.{tableBy, soughtBy, callBy, nextBy, nextOf, searched, As, OpensAs}
-use Rattle.open_listing.specs.declared.Place.{Place}
-use Rattle.open_listing.specs.declared.Plan.{Plan}
+use Rattle.open_answer.specs.Model.{Planned}
+use Rattle.open_search.specs.Model.{zeros, Answered, Searched, unchanged, seeks, tableBy, soughtBy, callBy, As}
+use Rattle.open_listing.specs.Model.{planOf, nextBy, nextOf, searched, OpensAs}
+use Rattle.open_search.specs.declared.Place.{Place}
+use Rattle.open_answer.specs.declared.Plan.{Plan}
 use Rattle.open_listing.specs.declared.Opened.{Opened}
 use Rattle.open_listing.specs.declared.Opened.the-variants as O
-use Rattle.open_listing.specs.declared.Answer as A
-use Rattle.open_listing.specs.declared.Answer.the-variants.{Full, Refused}
-use Rattle.open_listing.proofs.Zeros.{zeros-are, zeros-all}
-use Rattle.open_listing.proofs.Plans.{plan, numbers-are, bytes-are, front-fits}
+use Rattle.open_answer.specs.declared.Answer as A
+use Rattle.open_answer.specs.declared.Answer.the-variants.{Full, Refused}
+use Rattle.open_search.proofs.Zeros.{zeros-are, zeros-all}
+use Rattle.open_search.proofs.Searched.{front-fits}
+use Rattle.open_listing.proofs.Plans.{plan, numbers-are, bytes-are}
 use Rattle.open_listing.proofs.Promises.{blocks, opening-short, opening-accepts, calling-short, calling-output, calling-accepts, called, after}
 use Rattle.open_listing.proofs.Steps as steps
 

@@ -1,5 +1,6 @@
 -- Readings one by one: document 02, N2, with the rows grammar block, utterance block and listing of document 01's "Where each check stands".
--- Stands on packing's and derivation's definitions, on traced_readings' Ranked, on the chart's size of a table, and on specs/Stands: what stands in it.
+-- Stands on packing's and derivation's definitions, on traced_readings' Ranked, on the chart's size of a table, on open_search's Left, and on
+-- specs/Stands: what stands in it.
 use mathlib.Core.Path.{_≡_}
 use mathlib.Core.Option.{none, some}
 use mathlib.Core.List.{List, _++_}
@@ -17,12 +18,13 @@ use Rattle.derivation.specs.Heard.{outputLength, packed}
 use Rattle.derivation.specs.Rank.{Number}
 use Rattle.chart.specs.WorkTable.{tableSize}
 use Rattle.traced_readings.specs.Ranked.{Ranked}
+pub use Rattle.open_search.specs.Left.{Left, left}
 use Rattle.open_listing.specs.Stands.{TableEntry, front, entry, Found, Over, foundOver, foundRanks, SpelledReading, Standing}
-use Rattle.open_listing.specs.declared.Place.{Place}
+use Rattle.open_search.specs.declared.Place.{Place}
 use Rattle.open_listing.specs.declared.Opened.{Opened}
 use Rattle.open_listing.specs.declared.Opened.the-variants as O
-use Rattle.open_listing.specs.declared.Answer as A
-use Rattle.open_listing.specs.declared.Answer.the-variants.{Reading, NoMore, Full, Refused}
+use Rattle.open_answer.specs.declared.Answer as A
+use Rattle.open_answer.specs.declared.Answer.the-variants.{Reading, NoMore, Full, Refused}
 
 -- a grammar and what was heard, both accepted
 pub record Blocks : Type 0 where
@@ -100,7 +102,7 @@ module _ (g : Grammar) (h : Heard) (p : Place) (work table : List ℕ) where
     pub sought : LooksFor g h p work
     pub missing : entry g h table (symbolOf 0) 0 (lastPlace h) (p .handed) ≡ none
 
--- what a call is lent, and what it answers and leaves
+-- what a call is lent
 pub record Lent : Type 0 where
   pub grammar : List ℕ
   pub heard : List ℕ
@@ -108,16 +110,8 @@ pub record Lent : Type 0 where
   pub work : List ℕ
   pub out : List ℕ
 
-pub record Left : Type 0 where
-  pub answer : A.Answer
-  pub table : List ℕ
-  pub output : List ℕ
-
 abbrev pub lent : (grammar heard : List ℕ) → Place → (work out : List ℕ) → Lent
 lent grammar heard p work out = record { grammar = grammar; heard = heard; place = p; work = work; out = out }
-
-abbrev pub left : A.Answer → (table output : List ℕ) → Left
-left a table output = record { answer = a; table = table; output = output }
 
 -- what is refused before the search, or the blocks
 abbrev pub asked : Lent → Verdict Blocks

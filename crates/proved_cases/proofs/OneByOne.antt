@@ -90,9 +90,11 @@ use Rattle.inputs.specs.Inputs.{both, inputsOf, rulesArray, edgesArray, meantBy
 use Rattle.traced_readings.specs.Model.{blockAt}
 use Rattle.open_listing.specs.Stands.{foundRanks}
 use Rattle.open_listing.specs.Open.{opening, openedOf, placeOf, Left, left}
-use Rattle.open_listing.specs.Model.{zeros, planOf, settled, firstTable, nextTable, answeredBy, seeks, tableBy, soughtBy, callBy, searched, nextOf}
+use Rattle.open_answer.specs.Model.{settled}
+use Rattle.open_search.specs.Model.{zeros, firstTable, nextTable, answeredBy, seeks, tableBy, soughtBy, callBy}
+use Rattle.open_listing.specs.Model.{planOf, searched, nextOf}
 use Rattle.open_listing.specs.declared.Opened.{Opened}
-use Rattle.open_listing.specs.declared.Answer.the-variants.{Reading, NoMore}
+use Rattle.open_answer.specs.declared.Answer.the-variants.{Reading, NoMore}
 use Rattle.proved_cases.specs.Table.{opens, hands, ends, Row, row, AllHold, all, _and_, tableLeft, outputLent, callAfter, ByRank, G, U, walked, N2-cases}
 use Rattle.proved_cases.specs.Table.{first-reading, second-reading, third-reading, fourth-reading, fifth-reading}
 use Rattle.proved_cases.proofs.Rows.{by-rank}

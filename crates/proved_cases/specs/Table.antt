@@ -31,7 +31,7 @@ use Rattle.open_listing.specs.Open.{opening, openedOf, placeOf, tableAfter, Lef
 use Rattle.open_listing.specs.Model.{searched, nextOf}
 use Rattle.open_listing.specs.declared.Opened.{Opened}
 use Rattle.open_listing.specs.declared.Opened.the-variants as O
-use Rattle.open_listing.specs.declared.Answer.the-variants as A
+use Rattle.open_answer.specs.declared.Answer.the-variants as A
 use Rattle.checker.specs.Judgement.{OfDerivation, Judgement}
 use Rattle.checker.specs.Check.{check, checkedOf}
 use Rattle.checker.specs.declared.Checked.the-variants.{Passes}

@@ -12,14 +12,15 @@ use Rattle.packing.specs.Parse.{Verdict, accepted, refused}
 use Rattle.packing.specs.Rows.{_∪_, GrammarBlockRow, HeardBlockRow, OpenRow, CallRow}
 use Rattle.packing.proofs.Refusals.{refusal-number}
 use Rattle.open_listing.specs.Open as S
-use Rattle.open_listing.specs.declared.Place.{Place}
+use Rattle.open_search.specs.declared.Place.{Place}
 use Rattle.open_listing.specs.declared.Opened.{Opened}
 use Rattle.open_listing.specs.declared.Opened.the-variants as O
-use Rattle.open_listing.specs.declared.Answer as A
-use Rattle.open_listing.specs.declared.Answer.the-variants.{Reading, Refused}
+use Rattle.open_answer.specs.declared.Answer as A
+use Rattle.open_answer.specs.declared.Answer.the-variants.{Reading, Refused}
 use Rattle.open_listing.proofs.Refused.{opening-row, refused-row, reading-below}
 use Rattle.spireyerba.specs.Demands.{answers, refuses}
-use Rattle.open_listing.specs.Model.{nextOf, As}
+use Rattle.open_search.specs.Model.{As}
+use Rattle.open_listing.specs.Model.{nextOf}
 use Rattle.spireyerba.specs.Code.{openCode, placeOpened, OpenedAs, CalledAs}
 use Rattle.spireyerba.specs.OneByOne.{placeAt, nextCode, Returned, returned, Open, Next}
 use Rattle.spireyerba.proofs.Signed.{back, fits-neg}

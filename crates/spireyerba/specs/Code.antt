@@ -13,7 +13,7 @@ use Rattle.chart.specs.WorkTable.{workAfter}
 use Rattle.cost_changes.specs.Ranges.{Answer}
 use Rattle.cost_changes.specs.Margins.{MarginEntry}
 use Rattle.open_listing.specs.Open.{Blocks, tableOpened, placeAfter, Left}
-use Rattle.open_listing.specs.declared.Place.{Place}
+use Rattle.open_search.specs.declared.Place.{Place}
 use Rattle.spireyerba.specs.Demands.{rangesNumber, leastOf, greatestOf}
 use Rattle.spireyerba.specs.OneByOne.{placeAt, nextCode, Returned}
 

@@ -14,9 +14,9 @@ use Rattle.traced_readings.specs.Ranked.{Ranked}
 use Rattle.listing.specs.Demand3.{kthBytes}
 use Rattle.open_listing.specs.Stands.{Standing}
 use Rattle.open_listing.specs.Open.{Blocks, opening, placeAfter, Search, Lent, lent, left, asked, Called, Kept}
-use Rattle.open_listing.specs.declared.Place.{Place}
-use Rattle.open_listing.specs.declared.Answer as A
-use Rattle.open_listing.specs.declared.Answer.the-variants.{Reading, NoMore, Full, Refused}
+use Rattle.open_search.specs.declared.Place.{Place}
+use Rattle.open_answer.specs.declared.Answer as A
+use Rattle.open_answer.specs.declared.Answer.the-variants.{Reading, NoMore, Full, Refused}
 use Rattle.spireyerba.specs.Demands.{Demand1, Check, Listing}
 
 -- a place

@@ -1,6 +1,6 @@
 -- Each arm is the definition's code of that answer, and the place after it.
 use native.Mathlib.Omega.{arith}
-use Rattle.open_listing.specs.declared.Answer.the-variants.{Reading, NoMore, Full}
+use Rattle.open_answer.specs.declared.Answer.the-variants.{Reading, NoMore, Full}
 use Rattle.spireyerba.specs.OneByOne.{placeAt}
 use Rattle.spireyerba.proofs.OpenCalls.{call-refusal, call-reading, answered, turned-away}
 use borrow.Author.Needs.{needs}

@@ -49,10 +49,10 @@ use denote.Signature.{Slot, plain}
 use Rattle.open_listing.specs.Model.{searched}
 use Rattle.spireyerba.specs.OneByOne.{placeAt, returned}
 use Rattle.spireyerba.proofs.OpenCalls.{NextTold}
-use Rattle.open_listing.specs.declared.Place.{Place}
+use Rattle.open_search.specs.declared.Place.{Place}
 use Rattle.spireyerba.specs.declared.Moved.{Moved}
-use Rattle.open_listing.proofs.Place as T
-use Rattle.open_listing.proofs.Place.Laws as T′
+use Rattle.open_search.proofs.Place as T
+use Rattle.open_search.proofs.Place.Laws as T′
 use Rattle.spireyerba.proofs.Moved as S
 use Rattle.spireyerba.proofs.Moved.Laws as S′
 use Rattle.spireyerba.proofs.next_call as call

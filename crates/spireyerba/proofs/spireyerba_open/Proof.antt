@@ -47,10 +47,10 @@ use denote.Exit.{yes}
 use denote.Signature.{Slot, plain}
 use Rattle.spireyerba.specs.OneByOne.{placeAt, returned}
 use Rattle.spireyerba.proofs.OpenCalls.{OpenTold}
-use Rattle.open_listing.specs.declared.Place.{Place}
+use Rattle.open_search.specs.declared.Place.{Place}
 use Rattle.spireyerba.specs.declared.Moved.{Moved}
-use Rattle.open_listing.proofs.Place as T
-use Rattle.open_listing.proofs.Place.Laws as T′
+use Rattle.open_search.proofs.Place as T
+use Rattle.open_search.proofs.Place.Laws as T′
 use Rattle.spireyerba.proofs.Moved as S
 use Rattle.spireyerba.proofs.Moved.Laws as S′
 use Rattle.spireyerba.proofs.open_call as call

@@ -1,5 +1,5 @@
 -- What is left where a rank of the root was looked for: the new table, or the old one. Of a later call it is put back from the journal, of a first
--- call the front is made zeros again, which it was; where it was not, the table is taken as it is.
+-- call the front is made zeros again, which it was. Where none was looked for, the table is taken as it is.
 use mathlib.Core.Path.{_≡_, refl, sym, ap, _∙_}
 use mathlib.Core.Bool.{Bool, true, false, false≢true}
 use mathlib.Core.List.{List, _++_}
@@ -16,10 +16,11 @@ use Rattle.chart_search.specs.Search.{nextOfRoot, keepOfRoot}
 use Rattle.chart.specs.Chart.{enumerate, rootFound}
 use Rattle.chart_theory.proofs.Plane.{single}
 use Rattle.chart_steps.proofs.Undo.{search-undone}
-use Rattle.open_listing.specs.Model.{Planned, zeros, isReading, settled, outputBy, firstTable, nextTable, Answered, Searched, FirstCalled}
-use Rattle.open_listing.specs.declared.Plan.{Plan}
-use Rattle.open_listing.specs.declared.Answer as A
-use Rattle.open_listing.proofs.Zeros.{zeros-are}
+use Rattle.open_answer.specs.Model.{Planned, isReading, settled, outputBy}
+use Rattle.open_search.specs.Model.{zeros, firstTable, nextTable, Answered, Searched}
+use Rattle.open_answer.specs.declared.Plan.{Plan}
+use Rattle.open_answer.specs.declared.Answer as A
+use Rattle.open_search.proofs.Zeros.{zeros-are}
 
 -- the new table stays where a reading is handed out, and something else where not
 module _ (table rules edges : List ℕ) (p : Plan) (x : ℕ) (work out : List ℕ) where
@@ -63,27 +64,23 @@ as-it-stands rules edges p work out x {r} answer output = record { answer = answ
     either true = refl
     either false = refl
 
+-- the table has its front
+pub front-fits : {limit : ℕ} (p : Plan) → Planned limit p → {r n : ℕ} → r ≡ 4 * p .layout .cells * p .layout .ranks → r ≤ n → 4 * p .layout .cells ≤ n
+front-fits p planned e room = omega (arith, rw (planned .all-ranks) at e, room)
+
 -- of a first call
-module _ (rules edges : List ℕ) (p : Plan) (work out : List ℕ) (fits : 4 * p .layout .cells ≤ length work) where
+module _ (rules edges : List ℕ) (p : Plan) (work : List ℕ) (fits : 4 * p .layout .cells ≤ length work) where
   abbrev front : ℕ
   front = 4 * p .layout .cells
 
   pub front-size : length (take front work) ≡ front
   front-size = length-take-le front work fits
 
-  pub not-zeros : {b : Bool} {r : A.Answer} {out′ : List ℕ} → b ≡ zeros (take front work) → b ≡ false → r ≡ settled work rules edges p 0 true
-      → out′ ≡ outputBy (isReading r) work rules p 0 out → FirstCalled rules edges p work out r work out′
-  not-zeros e f answer output = record { clear = λ z. absurd (false≢true (sym f ∙ e ∙ z)); altered = λ z. as-it-stands rules edges p work out 0 answer output }
-
-  module _ {b : Bool} (test : b ≡ zeros (take front work)) (clear : b ≡ true) {e : List ℕ}
+  module _ (clear : zeros (take front work) ≡ true) {e : List ℕ}
       (made : e ≡ enumerate rules (p .form .rules) edges (p .edges) (single (p .layout)) (length (take front work))) where
     pub table-first : e ++ drop front work ≡ firstTable rules edges p work
     unfolding firstTable
     table-first = rw (made, front-size)
-
-    pub promised : {r : A.Answer} {work′ out′ : List ℕ} → Searched (firstTable rules edges p work) rules edges p 0 work out r work′ out′
-        → FirstCalled rules edges p work out r work′ out′
-    promised s = record { clear = λ z. s; altered = λ z. absurd (false≢true (sym z ∙ sym test ∙ clear)) }
 
     -- the front was zeros
     pub zeros-again : length e ≡ length (take front work) → {z work′ : List ℕ} → z ≡ replicate (length (take front (e ++ drop front work))) 0
@@ -91,5 +88,5 @@ module _ (rules edges : List ℕ) (p : Plan) (work out : List ℕ) (fits : 4 * p
     zeros-again size is left =
         let same : length e ≡ front = size ∙ front-size in
         let taken : length (take front (e ++ drop front work)) ≡ front = rw (take-at e (drop front work) front same) same in
-        let were : take front work ≡ replicate front 0 = rw front-size at (zeros-are (take front work) (sym test ∙ clear)) in
+        let were : take front work ≡ replicate front 0 = rw front-size at (zeros-are (take front work) clear) in
         left ∙ rw (is, taken, drop-at e (drop front work) front same, ← were) (take-append-drop front work)

@@ -4,27 +4,18 @@ use mathlib.Core.Bool.{Bool, true, false}
 use mathlib.Core.List.{List}
 use Prim.Native.Nat.{ℕ, _-_, _*_, _≤_, _<_}
 use native.Mathlib.Omega.{arith}
-use borrow.Author.Tests.{lt-ltb, le-ltb, eq-eqb, ne-eqb}
+use borrow.Author.Tests.{lt-ltb, le-ltb, ne-eqb}
 use lib.Dec.{ltb}
-use lib.ListN.{length, take}
-use Rattle.bits.specs.Bits.{pick}
-use Rattle.chart.specs.Chart.{rootFound}
-use Rattle.open_listing.specs.Model.{zeros, firstTable, nextTable, Answered, Searched, FirstCalled, answeredBy, seeks, tableBy, soughtBy, callBy, As}
-use Rattle.open_listing.specs.Open.{Left}
-use Rattle.open_listing.specs.declared.Place.{Place}
-use Rattle.open_listing.specs.declared.Plan.{Plan}
-use Rattle.open_listing.specs.declared.Answer as A
-use Rattle.open_listing.specs.declared.Answer.the-variants.{Full, Refused}
+use lib.ListN.{length}
+use Rattle.open_search.specs.Model.{firstTable, nextTable, Answered, Searched, answeredBy, seeks, tableBy, soughtBy, callBy, As}
+use Rattle.open_search.specs.declared.Place.{Place}
+use Rattle.open_answer.specs.declared.Plan.{Plan}
+use Rattle.open_answer.specs.declared.Answer as A
+use Rattle.open_answer.specs.declared.Answer.the-variants.{Full, Refused}
 
 answered-as : {found : Bool} {table rules edges : List ℕ} {q : Plan} {x : ℕ} {work out : List ℕ} {r : A.Answer} {work′ out′ : List ℕ}
     → Answered found table rules edges q x work out r work′ out′ → As (answeredBy found table rules edges q x work out) r work′ out′
 answered-as s = record { answer = s .answer; table = rw (s .answer) at (s .left); output = rw (s .answer) at (s .output) }
-
--- a first call, by the test of its table's front
-abbrev firstBy : (rules edges : List ℕ) → Plan → (work out : List ℕ) → Bool → Left
-firstBy rules edges q work out clear =
-    let t = pick clear (firstTable rules edges q work) work in
-    answeredBy (pick clear (rootFound t (q .layout) 0) true) t rules edges q 0 work out
 
 -- the tests, one behind the other
 module _ (rules edges : List ℕ) (q : Plan) (p : Place) (work out : List ℕ) {n : ℕ} (e : n ≡ 4 * q .layout .cells * q .layout .ranks) where
@@ -58,22 +49,18 @@ module _ (rules edges : List ℕ) (q : Plan) (p : Place) (work out : List ℕ) {
       more below = lt-ltb (p .handed) 256 below
 
       module _ (below : p .handed < 256) {r : A.Answer} {work′ out′ : List ℕ} where
-        pub unopened-call : (p .opened ≡ 1 → ⊥) → Answered true work rules edges q (p .handed) work out r work′ out′ → Calls r work′ out′
-        unfolding callBy soughtBy tableBy seeks
-        unopened-call other s = rw (fits, fits′, more below, ne-eqb (p .opened) 1 other) (answered-as s)
+        pub unsought-call : seeks q p work ≡ false → Answered true work rules edges q (p .handed) work out r work′ out′ → Calls r work′ out′
+        unfolding callBy soughtBy tableBy
+        unsought-call other s = rw (fits, fits′, more below, other) (answered-as s)
 
-        module _ (opened : p .opened ≡ 1) where
-          pub first-call : p .handed ≡ 0 → FirstCalled rules edges q work out r work′ out′ → Calls r work′ out′
-          unfolding callBy soughtBy tableBy seeks
-          first-call none s = rw (fits, fits′, more below, eq-eqb (p .opened) 1 opened, none) (go (zeros (take (4 * q .layout .cells) work)) refl)
-            where
-              go : (b : Bool) → zeros (take (4 * q .layout .cells) work) ≡ b → As (firstBy rules edges q work out b) r work′ out′
-              go true z = answered-as (s .clear z)
-              go false z = answered-as (s .altered z)
+        module _ (sought : seeks q p work ≡ true) where
+          pub first-call : p .handed ≡ 0 → Searched (firstTable rules edges q work) rules edges q 0 work out r work′ out′ → Calls r work′ out′
+          unfolding callBy soughtBy tableBy
+          first-call none s = rw (fits, fits′, more below, sought, none) (answered-as s)
 
           pub later-call : 1 ≤ p .handed → Searched (nextTable rules edges q (p .handed - 1) work) rules edges q (p .handed) work out r work′ out′
               → Calls r work′ out′
-          unfolding callBy soughtBy tableBy seeks
+          unfolding callBy soughtBy tableBy
           later-call some s =
               let other : p .handed ≡ 0 → ⊥ = λ z. omega arith in
-              rw (fits, fits′, more below, eq-eqb (p .opened) 1 opened, ne-eqb (p .handed) 0 other) (answered-as s)
+              rw (fits, fits′, more below, sought, ne-eqb (p .handed) 0 other) (answered-as s)

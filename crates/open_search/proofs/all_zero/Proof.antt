@@ -4,10 +4,10 @@ use Prim.Native.Nat.{_-_}
 use native.Mathlib.Omega.{arith}
 use borrow.Author.Needs.{needs}
 use lib.ListN.{length, drop}
-use Rattle.open_listing.specs.Model.{zeros}
-use Rattle.open_listing.proofs.Zeros.{zero-on, not-zero, none-left}
-use Rattle.open_listing.proofs.all_zero.Statement.{statement}
-use Rattle.open_listing.proofs.all_zero.Tie as tie
+use Rattle.open_search.specs.Model.{zeros}
+use Rattle.open_search.proofs.Zeros.{zero-on, not-zero, none-left}
+use Rattle.open_search.proofs.all_zero.Statement.{statement}
+use Rattle.open_search.proofs.all_zero.Tie as tie
 
 abbrev Inv-loop : tie.InvT-loop
 Inv-loop t n x₀ x = (n ≡ length t) × (zeros t ≡ zeros (drop x t))

@@ -1,11 +1,11 @@
 -- The journal is empty before the step, so what the step wrote over can be put back.
 use Prim.Native.Nat.{_-_}
-use Rattle.open_listing.specs.Model.{nextTable}
-use Rattle.open_listing.proofs.Searched.{stays, goes-back, table-next, put-back}
+use Rattle.open_search.specs.Model.{nextTable}
+use Rattle.open_search.proofs.Searched.{stays, goes-back, table-next, put-back}
 use native.Mathlib.Omega.{arith}
 use borrow.Author.Needs.{needs}
-use Rattle.open_listing.proofs.later.Statement.{statement}
-use Rattle.open_listing.proofs.later.Tie as tie
+use Rattle.open_search.proofs.later.Statement.{statement}
+use Rattle.open_search.proofs.later.Tie as tie
 
 slice-aggregate-index-of : tie.Need-slice-aggregate-index-of
 slice-aggregate-index-of c = search needs
@@ -42,7 +42,7 @@ returns c =
     let at-settle = c .before .before .before .before in
     let at-step = at-settle .before .before .before .before .before .before in
     let at-index-of = at-step .before .before .before .before .before in
-    let start = at-index-of .before .before .before .before .before .before .before in
+    let start = at-index-of .before .before .before .before .before .before in
     let a = start .args in
     let planned = start .pre .0 in
     let x = a .handed - 1 in
@@ -71,7 +71,7 @@ returns-2 c =
     let at-settle = at-is-reading .before .before .before in
     let at-step = at-settle .before .before .before .before .before .before in
     let at-index-of = at-step .before .before .before .before .before in
-    let start = at-index-of .before .before .before .before .before .before .before in
+    let start = at-index-of .before .before .before .before .before .before in
     let a = start .args in
     let planned = start .pre .0 in
     let x = a .handed - 1 in

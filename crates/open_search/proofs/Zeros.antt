@@ -10,7 +10,7 @@ use lib.Dec.{eqb}
 use lib.ListN.{length, getD, drop, replicate, drop-of-length-le}
 use lib.Seq.{drop-cons}
 use Rattle.bits.specs.Bits.{pick}
-use Rattle.open_listing.specs.Model.{zeros}
+use Rattle.open_search.specs.Model.{zeros}
 
 module _ (l : List ℕ) (x : ℕ) where
   pub zero-on : x < length l → getD l x 0 ≡ 0 → zeros (drop x l) ≡ zeros (drop (x + 1) l)

@@ -1,9 +1,9 @@
 -- The trace is written into zeros, and where it passes the reading of its rank is written.
 use mathlib.Core.Path.{refl, sym}
-use Rattle.open_listing.proofs.HandOut.{spelled, not-spelled}
+use Rattle.open_answer.proofs.HandOut.{spelled, not-spelled}
 use borrow.Author.Needs.{needs}
-use Rattle.open_listing.proofs.hand_out.Statement.{statement}
-use Rattle.open_listing.proofs.hand_out.Tie as tie
+use Rattle.open_answer.proofs.hand_out.Statement.{statement}
+use Rattle.open_answer.proofs.hand_out.Tie as tie
 
 slice-aggregate-checked-root : tie.Need-slice-aggregate-checked-root
 slice-aggregate-checked-root c = search needs

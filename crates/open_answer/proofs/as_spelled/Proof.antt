@@ -1,8 +1,8 @@
 -- Handed out or not.
-use Rattle.open_listing.proofs.HandOut.{spelled-settled, output-by}
+use Rattle.open_answer.proofs.HandOut.{spelled-settled, output-by}
 use borrow.Author.Needs.{needs}
-use Rattle.open_listing.proofs.as_spelled.Statement.{statement}
-use Rattle.open_listing.proofs.as_spelled.Tie as tie
+use Rattle.open_answer.proofs.as_spelled.Statement.{statement}
+use Rattle.open_answer.proofs.as_spelled.Tie as tie
 
 hand-out-requires : tie.Need-hand-out-requires
 hand-out-requires c κs = search needs

@@ -9,10 +9,10 @@ use Rattle.bits.specs.Bits.{pick}
 use Rattle.chart_table.specs.Table.{root}
 use Rattle.chart_trace.proofs.Shape.{shape}
 use Rattle.chart.specs.Chart.{rootTrace, rootFound}
-use Rattle.open_listing.specs.Model.{Planned, handsOut, settled, outputBy}
-use Rattle.open_listing.specs.declared.Answer as A
-use Rattle.open_listing.specs.declared.Answer.the-variants.{Reading, NoMore, Refused}
-use Rattle.open_listing.specs.declared.Plan.{Plan}
+use Rattle.open_answer.specs.Model.{Planned, handsOut, settled, outputBy}
+use Rattle.open_answer.specs.declared.Answer as A
+use Rattle.open_answer.specs.declared.Answer.the-variants.{Reading, NoMore, Refused}
+use Rattle.open_answer.specs.declared.Plan.{Plan}
 
 module _ (t rules edges : List ℕ) (p : Plan) (x : ℕ) {limit : ℕ} (planned : Planned limit p) where
   abbrev numbers : ℕ

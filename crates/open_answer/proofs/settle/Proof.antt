@@ -1,9 +1,9 @@
 -- Found or not.
 use mathlib.Core.Path.{refl}
-use Rattle.open_listing.proofs.HandOut.{found-settled, not-found-settled}
+use Rattle.open_answer.proofs.HandOut.{found-settled, not-found-settled}
 use borrow.Author.Needs.{needs}
-use Rattle.open_listing.proofs.settle.Statement.{statement}
-use Rattle.open_listing.proofs.settle.Tie as tie
+use Rattle.open_answer.proofs.settle.Statement.{statement}
+use Rattle.open_answer.proofs.settle.Tie as tie
 
 root-found-requires : tie.Need-root-found-requires
 root-found-requires c κs = search needs

@@ -1,0 +1,4 @@
+pub mod Zeros
+pub mod Sought
+pub mod Searched
+pub mod Calls
