@@ -1,26 +1,23 @@
--- The check's code as functions: the walk and the weight of the derivation by the runs of derivation's Walk and Path, and the states of the walk's
--- run as numbers in flat arrays. Nobody need believe this page: the proofs join it to Check. Assumes nothing.
+-- The check's code as functions: the walk and the weight of the derivation by the runs of derivation's Walk and Path. Nobody need believe this page:
+-- the proofs join it to Check. Assumes nothing.
 use mathlib.Core.Path.{_≡_}
 use mathlib.Core.List.{List, []}
 use mathlib.Core.Option.{Option, none, some}
-use Prim.Native.Nat.{ℕ, _+_, _-_, _*_}
+use Prim.Native.Nat.{ℕ, _-_, _*_}
 use lib.Dec.{eqb}
-use lib.ListN.{length, getD}
+use lib.ListN.{length}
 use Rattle.bits.specs.Bits.{pick, field, ended}
-use Rattle.packing.specs.Meaning.{Utterance, Candidate, Reading, Edge}
+use Rattle.packing.specs.Meaning.{Utterance, Reading, Edge}
 use Rattle.packing.specs.Parse.{Parse, parsed, failed, Verdict, accepted, refused, _then_}
 use Rattle.packing.specs.Source.{bytes}
 use Rattle.packing.specs.Utterance.{utteranceBlock}
 use Rattle.packing.specs.Graph.{graphBlock}
 use Rattle.packing.specs.Reading.{readingFrom}
 use Rattle.packing.specs.GraphReading.{GraphHead, graphHeadFrom, graphReadingBits}
-use Rattle.packing.specs.Flat.{Begins, candidatesOf, slotsOf}
+use Rattle.packing.specs.Flat.{Begins}
 use Rattle.packing.specs.declared.Rule as R
-use Rattle.derivation.specs.Walk.{State, onward, stuck, walkWeight}
+use Rattle.derivation.specs.Walk.{walkWeight}
 use Rattle.derivation.specs.Path.{rulesRead, pathWeight}
-use Rattle.parse_stack.specs.Stack.{headsOf}
-use Rattle.parse_stack.specs.declared.Step.{Step}
-use Rattle.parse_stack.specs.declared.Step.the-variants.{Onward, Stuck}
 use Rattle.checker.specs.declared.Checked.{Checked}
 use Rattle.checker.specs.declared.Checked.the-variants.{Passes, Refused}
 use Rattle.checker.specs.declared.Walked as W
@@ -81,15 +78,3 @@ Judges block w at own nodes r = (walk : List ℕ) → length walk ≡ nodes → 
 abbrev pub checkedBy : W.Walked → Checked
 checkedBy (W.the-variants.Nodes n) = Passes
 checkedBy (W.the-variants.Refused n) = Refused n
-
--- the slot at place p, and the place behind it
-abbrev pub slotAt : List ℕ → ℕ → List Candidate
-slotAt l p = candidatesOf l (getD l p 0) (p + 1)
-
-abbrev pub behind : List ℕ → ℕ → ℕ
-behind l p = p + 1 + 2 * getD l p 0
-
--- what the code's answers say
-abbrev pub stateOf : List ℕ → List ℕ → Step → State
-stateOf slots stack (Onward p) = onward (slotsOf slots (p .left) (p .place)) (headsOf stack (p .height)) (p .weight)
-stateOf slots stack Stuck = stuck

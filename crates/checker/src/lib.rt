@@ -1,6 +1,4 @@
 // The check of a reading, and the walk of the derivation that was found.
-mod walk; // walk.rt: the weight of the derivation that has a walk
-
 use grammar_reader::GrammarRead;
 use graph_check::Graph;
 use graph_reader::GraphRead;
@@ -82,7 +80,7 @@ fn check_walk(
                 reading,
                 at,
                 weight,
-                walk::weight_of(rules, count, slots, n, walk),
+                slots_check::weight_of(rules, count, slots, n, walk),
                 2 * n - 1,
             )
         }

@@ -28,7 +28,7 @@ use Rattle.parse_stack.specs.declared.Step.{Step}
 use Rattle.parse_stack.specs.declared.Step.the-variants.{Onward, Stuck}
 use Rattle.parse_stack.proofs.Heads.{length-heads, heads-top}
 use Rattle.parse_stack.proofs.Fits.{pair-there, word-there}
-use Rattle.checker.specs.Run.{slotAt, behind, stateOf}
+use Rattle.slots_check.specs.Slots.{slotAt, behind, stateOf}
 
 -- where no rule fits
 lost : (slots : Utterance) (A : Sym) (heads : List Sym) (w : ℕ) (o : Option R.Rule) → withHead A o ≡ F.the-variants.Nothing → ruleStep slots A heads w o

@@ -15,7 +15,7 @@ ghost use lib.ListN.{length, take};
 ghost use Rattle.derivation.specs.Walk.{costOf, leafStep, step, walkWeight};
 ghost use Rattle.packing.specs.Flat.{rulesOf, candidatesOf, slotsOf};
 ghost use Rattle.parse_stack.specs.Stack.{headsOf, numberOf, Small, Within, Further};
-ghost use Rattle.checker.specs.Run.{slotAt, behind, stateOf};
+ghost use Rattle.slots_check.specs.Slots.{slotAt, behind, stateOf};
 
 // The cost of a word that was not heard, in the width of an index. Such a word is not offered.
 const UNHEARD: usize = NOT_HEARD as usize;

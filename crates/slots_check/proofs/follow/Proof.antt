@@ -4,10 +4,10 @@ use native.Mathlib.Omega.{arith}
 use Rattle.packing.specs.Flat.{rulesOf, slotsOf}
 use Rattle.parse_stack.specs.Stack.{headsOf}
 use Rattle.parse_stack.proofs.Fits.{pair-there, word-there}
-use Rattle.checker.proofs.Steps.{nothing-fits, pair-fits, word-fits}
+use Rattle.slots_check.proofs.Steps.{nothing-fits, pair-fits, word-fits}
 use borrow.Author.Needs.{needs}
-use Rattle.checker.proofs.walk.follow.Statement.{statement}
-use Rattle.checker.proofs.walk.follow.Tie as tie
+use Rattle.slots_check.proofs.follow.Statement.{statement}
+use Rattle.slots_check.proofs.follow.Tie as tie
 
 fitting-requires : tie.Need-fitting-requires
 fitting-requires c κs = search needs

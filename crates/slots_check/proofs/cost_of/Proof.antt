@@ -12,9 +12,9 @@ use Rattle.packing.specs.declared.Word as W
 use Rattle.packing.specs.Meaning.{notHeard, word}
 use Rattle.derivation.specs.Walk.{costOf}
 use Rattle.packing.specs.Flat.{candidatesOf}
-use Rattle.checker.proofs.Arrays.{cost-end, cost-here, cost-next}
-use Rattle.checker.proofs.walk.cost_of.Statement.{statement}
-use Rattle.checker.proofs.walk.cost_of.Tie as tie
+use Rattle.slots_check.proofs.Arrays.{cost-end, cost-here, cost-next}
+use Rattle.slots_check.proofs.cost_of.Statement.{statement}
+use Rattle.slots_check.proofs.cost_of.Tie as tie
 
 abbrev Inv-loop : tie.InvT-loop
 Inv-loop slots start count wanted k₀ k =

@@ -5,9 +5,9 @@ use native.Mathlib.Omega.{arith}
 use borrow.Author.Needs.{needs}
 use Rattle.derivation.specs.Walk.{costOf, leafStep}
 use Rattle.parse_stack.specs.Stack.{numberOf}
-use Rattle.checker.specs.Run.{slotAt}
-use Rattle.checker.proofs.walk.word_step.Statement.{statement}
-use Rattle.checker.proofs.walk.word_step.Tie as tie
+use Rattle.slots_check.specs.Slots.{slotAt}
+use Rattle.slots_check.proofs.word_step.Statement.{statement}
+use Rattle.slots_check.proofs.word_step.Tie as tie
 
 number-at-requires : tie.Need-number-at-requires
 number-at-requires c κs = search needs

@@ -10,11 +10,11 @@ use Rattle.packing.specs.Meaning.{symbolOf}
 use Rattle.derivation.specs.Walk.{State, onward, run, finished, walkWeight}
 use Rattle.packing.specs.Flat.{rulesOf, slotsOf}
 use Rattle.parse_stack.specs.Stack.{headsOf}
-use Rattle.checker.specs.Run.{stateOf}
+use Rattle.slots_check.specs.Slots.{stateOf}
 use Rattle.parse_stack.specs.declared.Step.the-variants.{Onward}
-use Rattle.checker.proofs.Steps.{run-more, run-lost, run-over, at-end, not-at-end}
-use Rattle.checker.proofs.walk.weight_of.Statement.{statement}
-use Rattle.checker.proofs.walk.weight_of.Tie as tie
+use Rattle.slots_check.proofs.Steps.{run-more, run-lost, run-over, at-end, not-at-end}
+use Rattle.slots_check.proofs.weight_of.Statement.{statement}
+use Rattle.slots_check.proofs.weight_of.Tie as tie
 
 abbrev Inv-loop : tie.InvT-loop
 Inv-loop rules count slots n walk stack₀ at₀ numbers i₀ stack at i =
