@@ -4,10 +4,8 @@ use mathlib.Core.List.{List, _++_}
 use Prim.Native.Nat.{ℕ, _+_, _-_, _*_, _≤_, _<_}
 use lib.ListN.{length, take, drop}
 use Rattle.packing.specs.Meaning.{Grammar, Marked, grammarOf, Heard, lastPlace, heardEdges, Reading}
-use Rattle.packing.specs.Parse.{accepted, parsed}
+use Rattle.packing.specs.Parse.{parsed}
 use Rattle.packing.specs.Source.{bytes}
-use Rattle.packing.specs.Grammar.{markedBlock}
-use Rattle.packing.specs.Heard.{heardBlock}
 use Rattle.packing.specs.Reading.{blockOfReading}
 use Rattle.packing.specs.GraphReading.{GraphHead, graphHeadFrom}
 use Rattle.packing.specs.Flat.{Begins, ruleNumbers, markNumbers, rulesOf}
@@ -35,12 +33,6 @@ shapeOf g h = record { graph = isGraph h; last = lastPlace h; rules = length (g 
 
 abbrev pub sizeOf : Shape → ℕ
 sizeOf s = Traced.sizeOf (s .graph) (s .last) (s .rules)
-
--- the shape of what both blocks mean, and the rules with their marks
-pub record ShapeOf (grammar heard rules marks : List ℕ) (s : Shape) : Type 0 where
-  pub bounded : Bounded s
-  pub right : (m : Marked) (h : Heard) → markedBlock grammar ≡ accepted m → heardBlock (m .words) heard ≡ accepted h
-      → (s ≡ shapeOf (grammarOf m) h) × Begins (ruleNumbers (grammarOf m)) rules × Begins (markNumbers m) marks
 
 -- no derivation has more nodes
 abbrev pub Few : Line → Type 0

@@ -1,16 +1,10 @@
-// What the lister prints, as rows of numbers: the eight least readings of what was heard, slots or a word graph, under a grammar. Nodes whose
-// rule is marked, as helpers' rules are, are left out.
-use grammar_reader::MarkedRead;
+// What the lister prints of readings, of slots or of a word graph, as rows of numbers. Nodes whose rule is marked, as helpers' rules are, are left
+// out.
 use graph_reading_reader::HeadRead;
 use graph_reading_reader::NodeRead;
 use graph_reading_reader::read_head;
 use graph_reading_reader::read_node;
-use heard_reader::HeardRead;
-use inputs::Listed;
-use packing::format::EDGES_LENGTH;
 use packing::format::GRAPH_READING_HEAD;
-use packing::format::MAX_RULES;
-use packing::format::RULES_LENGTH;
 use packing::format::UNMARKED;
 use packing::format::WALK_LENGTH;
 use reading_reader::ReadingRead;
@@ -19,16 +13,8 @@ ghost use mathlib.Core.Path.{_≡_};
 ghost use mathlib.Core.List.{[], _∷_, _++_};
 ghost use Prim.Native.Nat.{_+_, _-_, _*_, _≤_, _<_};
 ghost use lib.ListN.{length, take, drop};
-ghost use Rattle.listing.specs.Conditions.{library};
-ghost use Rattle.inputs.specs.Answer.{Lists};
-ghost use Rattle.chart.specs.WorkTable.{workAfter};
-ghost use Rattle.listing.specs.Listing.{list, outputAfter};
 ghost use Rattle.office_theory.specs.Matching.{withoutMarked};
-ghost use Rattle.lines.specs.Rows.{roomFor, Told};
-ghost use Rattle.lines.specs.Model.{Bounded, ShapeOf, sizeOf, Few, Says, SlotsSay, GraphSays, WalkRead, Shown, RowSays, RowsSay};
-
-// The number of readings that document 01 has the lister ask for.
-const WANTED: u32 = 8;
+ghost use Rattle.lines.specs.Model.{Bounded, sizeOf, Few, Says, SlotsSay, GraphSays, WalkRead, Shown, RowSays, RowsSay};
 
 // A row: rank, weight, how many rule numbers, these, and zeros; and the numbers of all rows.
 pub const RANK_AT: usize = 0;
@@ -44,42 +30,16 @@ pub const ROW_NUMBERS: usize = 50;
 pub const SHOWN_NUMBERS: usize = 400;
 
 // Whether readings are of a graph, the last place (n, or P - 1), and R: on these the length of a reading depends.
-struct Shape {
-    graph: bool,
-    last: usize,
-    rules: usize,
+pub struct Shape {
+    pub graph: bool,
+    pub last: usize,
+    pub rules: usize,
 }
 
 // What a row has beside its rank and its rule numbers: the weight, and how many numbers there are.
 struct Line {
     weight: u32,
     nodes: usize,
-}
-
-// The shape of what the blocks mean, with the rules and their marks in the arrays; slots, 1 and 1 where a block is refused.
-fn shape_of(grammar: &[u8], utterance: &[u8], rules: &mut [u32], marks: &mut [u32]) -> Shape
-    requires { do ⌜ ((← ⟦RULES_LENGTH⟧) ≤ length (now rules)) × ((← ⟦MAX_RULES⟧) ≤ length (now marks)) ⌝ }
-    ensures { λ s. ⌜ ShapeOf (now (grammar .entry)) (now (utterance .entry)) (now (rules .exit)) (now (marks .exit)) s ⌝ }
-{
-    let none = Shape {
-        graph: false,
-        last: 1,
-        rules: 1,
-    };
-    let read = grammar_reader::read_marked_block(grammar, rules, marks);
-    let MarkedRead::Grammar(sizes, _) = read else {
-        return none;
-    };
-    let mut edges = [0u32; EDGES_LENGTH];
-    let heard = heard_reader::read_heard(utterance, sizes.words, &mut edges);
-    let HeardRead::Heard(found) = heard else {
-        return none;
-    };
-    Shape {
-        graph: found.graph,
-        last: found.last,
-        rules: sizes.rules as usize,
-    }
 }
 
 // The length of a reading in the output.
@@ -192,7 +152,7 @@ fn write_row(block: &[u8], rules: &[u32], marks: &[u32], s: Shape, rank: u32, ro
 }
 
 // A row for each of the first m readings of the output.
-fn write_rows(out: &[u8], m: usize, rules: &[u32], marks: &[u32], s: Shape, shown: &mut [u32])
+pub fn write_rows(out: &[u8], m: usize, rules: &[u32], marks: &[u32], s: Shape, shown: &mut [u32])
     requires { ⌜ (Bounded s) × (m ≤ 8) × (m * sizeOf s ≤ length (now out)) × (400 ≤ length (now shown)) ⌝ }
     ensures { λ _. ⌜ RowsSay (now (rules .entry)) (now (marks .entry)) s (now (out .entry)) m (now (shown .entry)) (now (shown .exit)) ⌝ }
 {
@@ -211,53 +171,4 @@ fn write_rows(out: &[u8], m: usize, rules: &[u32], marks: &[u32], s: Shape, show
             &mut shown[at..end],
         );
     }
-}
-
-// The listing of eight readings, where `shown` has room for their rows.
-fn lines_within(
-    grammar: &[u8],
-    heard: &[u8],
-    work: &mut [u32],
-    out: &mut [u8],
-    shown: &mut [u32],
-) -> Listed
-    requires { ⌜ 400 ≤ length (now shown) ⌝ }
-    ensures { λ r. ⌜ Lists workAfter outputAfter
-        (list library (now (grammar .entry)) (now (heard .entry)) 8 (length (now (work .entry))) (length (now (out .entry))))
-        (now (work .entry)) (now (out .entry)) r (now (work .exit)) (now (out .exit)) ⌝ }
-    ensures { λ r. ⌜ Told (now (grammar .entry)) (now (heard .entry)) (length (now (work .entry))) (length (now (out .entry))) r (now (shown .entry))
-        (now (shown .exit)) ⌝ }
-{
-    let mut rules = [0u32; RULES_LENGTH];
-    let mut marks = [0u32; MAX_RULES];
-    let s = shape_of(grammar, heard, &mut rules, &mut marks);
-    match listing::listing(grammar, heard, WANTED, work, out) {
-        Listed::Refused(n) => Listed::Refused(n),
-        Listed::Found(m) => {
-            write_rows(&out[..], m, &rules, &marks, s, shown);
-            Listed::Found(m)
-        }
-    }
-}
-
-// The listing of eight readings, with a row for each that is found in `shown`. Where that is shorter than eight rows, no output suffices.
-pub fn lines(
-    grammar: &[u8],
-    heard: &[u8],
-    work: &mut [u32],
-    out: &mut [u8],
-    shown: &mut [u32],
-) -> Listed
-    ensures { λ r. ⌜ Lists workAfter outputAfter
-        (list library (now (grammar .entry)) (now (heard .entry)) 8 (length (now (work .entry)))
-        (roomFor (length (now (out .entry))) (length (now (shown .entry)))))
-        (now (work .entry)) (now (out .entry)) r (now (work .exit)) (now (out .exit)) ⌝ }
-    ensures { λ r. ⌜ Told (now (grammar .entry)) (now (heard .entry)) (length (now (work .entry)))
-        (roomFor (length (now (out .entry))) (length (now (shown .entry)))) r (now (shown .entry)) (now (shown .exit)) ⌝ }
-{
-    if shown.len() < SHOWN_NUMBERS {
-        let mut none = [0u8; 1];
-        return listing::listing(grammar, heard, WANTED, work, &mut none[..0]);
-    }
-    lines_within(grammar, heard, work, out, shown)
 }

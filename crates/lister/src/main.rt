@@ -36,7 +36,7 @@ fn main() {
     let mut work = [0u32; WORK_NUMBERS];
     let mut out = [0u8; OUTPUT_BYTES];
     let mut shown = [0u32; SHOWN_NUMBERS];
-    match lines::lines(
+    match listed_lines::lines(
         &grammar[..g],
         &utterance[..u],
         &mut work,

@@ -88,7 +88,7 @@ fn run_lines(name: &[u8], grammar: &[u8], heard: &[u8]) {
     let mut work = [12345u32; 8192];
     let mut out = [123u8; 1024];
     let mut shown = [12345u32; SHOWN_NUMBERS];
-    let answer = lines::lines(grammar, heard, &mut work, &mut out, &mut shown);
+    let answer = listed_lines::lines(grammar, heard, &mut work, &mut out, &mut shown);
     print_answer(name, answer);
     if let Listed::Found(m) = answer {
         print_rows(&shown, m);
@@ -120,7 +120,7 @@ fn run_rows(name: &[u8], numbers: usize)
     let mut work = [12345u32; 321];
     let mut out = [123u8; 49];
     let mut shown = [12345u32; SHOWN_NUMBERS];
-    let answer = lines::lines(&g, &u, &mut work, &mut out, &mut shown[..numbers]);
+    let answer = listed_lines::lines(&g, &u, &mut work, &mut out, &mut shown[..numbers]);
     print_answer(name, answer);
 }
 

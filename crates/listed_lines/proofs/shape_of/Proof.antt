@@ -3,9 +3,9 @@ use mathlib.Core.Path.{sym, _∙_}
 use borrow.Author.Needs.{needs}
 use Rattle.packing.specs.Heard.{heardBlock}
 use Rattle.heard_reader.proofs.BlockInversion as heard
-use Rattle.lines.proofs.Shapes.{no-grammar, no-heard, both-accepted}
-use Rattle.lines.proofs.shape_of.Statement.{statement}
-use Rattle.lines.proofs.shape_of.Tie as tie
+use Rattle.listed_lines.proofs.Shapes.{no-grammar, no-heard, both-accepted}
+use Rattle.listed_lines.proofs.shape_of.Statement.{statement}
+use Rattle.listed_lines.proofs.shape_of.Tie as tie
 
 read-marked-block-requires : tie.Need-read-marked-block-requires
 read-marked-block-requires c κs = search needs

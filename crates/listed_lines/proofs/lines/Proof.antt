@@ -1,8 +1,8 @@
 -- Where the rows have no room, the listing is lent no output and so refuses; else they are written.
 use borrow.Author.Needs.{needs}
-use Rattle.lines.proofs.RowsMeant.{no-room, room-is}
-use Rattle.lines.proofs.lines.Statement.{statement}
-use Rattle.lines.proofs.lines.Tie as tie
+use Rattle.listed_lines.proofs.RowsMeant.{no-room, room-is}
+use Rattle.listed_lines.proofs.lines.Statement.{statement}
+use Rattle.listed_lines.proofs.lines.Tie as tie
 
 array-borrow-prefix-none : tie.Need-array-borrow-prefix-none
 array-borrow-prefix-none c = search needs

@@ -4,10 +4,10 @@ use Prim.Native.Nat.{_≤_}
 use native.Mathlib.Omega.{arith}
 use Rattle.listing.specs.Conditions.{library}
 use Rattle.listing.proofs.Accepted.{found-few}
-use Rattle.lines.proofs.RowsMeant.{asked-refused, accepts, room-for, rows-told}
+use Rattle.listed_lines.proofs.RowsMeant.{asked-refused, accepts, room-for, rows-told}
 use borrow.Author.Needs.{needs}
-use Rattle.lines.proofs.lines_within.Statement.{statement}
-use Rattle.lines.proofs.lines_within.Tie as tie
+use Rattle.listed_lines.proofs.lines_within.Statement.{statement}
+use Rattle.listed_lines.proofs.lines_within.Tie as tie
 
 slice-aggregate-shape-of : tie.Need-slice-aggregate-shape-of
 slice-aggregate-shape-of c = search needs
