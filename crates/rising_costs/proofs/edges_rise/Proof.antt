@@ -3,10 +3,10 @@ use mathlib.Core.Path.{_≡_, sym, _∙_}
 use Prim.Native.Nat.{_-_, _≤_}
 use native.Mathlib.Nat.{sub-zero}
 use native.Mathlib.Omega.{arith}
-use Rattle.cost_ranges.specs.Model.{edgesRise}
-use Rattle.cost_ranges.proofs.Rise.{none-left, falls-here, rises-here}
-use Rattle.cost_ranges.proofs.edges_rise.Statement.{statement}
-use Rattle.cost_ranges.proofs.edges_rise.Tie as tie
+use Rattle.rising_costs.specs.Model.{edgesRise}
+use Rattle.rising_costs.proofs.Rise.{none-left, falls-here, rises-here}
+use Rattle.rising_costs.proofs.edges_rise.Statement.{statement}
+use Rattle.rising_costs.proofs.edges_rise.Tie as tie
 
 abbrev Inv-loop : tie.InvT-loop
 Inv-loop low high count e₀ e = (e ≤ count) × (edgesRise low high e (count - e) ≡ edgesRise low high 0 count)

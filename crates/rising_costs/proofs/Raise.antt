@@ -13,7 +13,7 @@ use Rattle.packing.specs.Meaning.{Node}
 use Rattle.packing.specs.Flat.{ruleAt, nodeBy, nodesIn}
 use Rattle.derivation.specs.Derivation.{ruleWeight}
 use Rattle.one_best.proofs.Trace.{nodeAt, rest, rest-more, rest-end}
-use Rattle.cost_ranges.specs.Model.{raiseNode, nodeWeight, raiseNodes, nodesWeight}
+use Rattle.rising_costs.specs.Model.{raiseNode, nodeWeight, raiseNodes, nodesWeight}
 
 -- the ways out of one node
 module _ (rules high costs : List ℕ) (r e : ℕ) {x : Rule} {i : ℕ} (found : x ≡ ruleAt rules i) (same : i ≡ r) where

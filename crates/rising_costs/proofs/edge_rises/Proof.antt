@@ -1,9 +1,9 @@
 -- Each test of the code is one of the definition's, of the numbers from 4 e on.
 use mathlib.Core.Path.{_∙_}
-use Rattle.cost_ranges.proofs.Rise.{edge-same, other-word, other-place}
+use Rattle.rising_costs.proofs.Rise.{edge-same, other-word, other-place}
 use borrow.Author.Needs.{needs}
-use Rattle.cost_ranges.proofs.edge_rises.Statement.{statement}
-use Rattle.cost_ranges.proofs.edge_rises.Tie as tie
+use Rattle.rising_costs.proofs.edge_rises.Statement.{statement}
+use Rattle.rising_costs.proofs.edge_rises.Tie as tie
 
 mul-at : tie.Need-mul-at
 mul-at c = search needs

@@ -14,7 +14,7 @@ use Rattle.derivation.specs.Heard.{trace}
 use Rattle.derivation.proofs.Lists.{at-length}
 use Rattle.cost_changes.specs.Costs.{edgesOf}
 use Rattle.cost_changes.specs.Passes.{raise, raised}
-use Rattle.cost_ranges.specs.Model.{raiseNodes, nodesWeight}
+use Rattle.rising_costs.specs.Model.{raiseNodes, nodesWeight}
 
 -- one edge
 edges-set : (e : ℕ) (es fs : List Edge) → length es ≡ length fs → e < length es

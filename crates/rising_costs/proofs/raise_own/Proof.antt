@@ -5,9 +5,9 @@ use native.Mathlib.Omega.{arith}
 use borrow.Author.Needs.{needs}
 use lib.ListN.{length, take}
 use Rattle.packing.specs.Flat.{nodesIn}
-use Rattle.cost_ranges.proofs.Raise.{Remains, all-remain, next-remain, none-remain}
-use Rattle.cost_ranges.proofs.raise_own.Statement.{statement}
-use Rattle.cost_ranges.proofs.raise_own.Tie as tie
+use Rattle.rising_costs.proofs.Raise.{Remains, all-remain, next-remain, none-remain}
+use Rattle.rising_costs.proofs.raise_own.Statement.{statement}
+use Rattle.rising_costs.proofs.raise_own.Tie as tie
 
 abbrev Inv-loop : tie.InvT-loop
 Inv-loop rules trace nodes high costs₀ own₀ i₀ costs own i =

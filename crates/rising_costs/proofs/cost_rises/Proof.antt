@@ -1,7 +1,7 @@
 -- Each test of the code is one of the definition's.
 use borrow.Author.Tests.{le-leb, lt-leb, lt-ltb, le-ltb}
-use Rattle.cost_ranges.proofs.cost_rises.Statement.{statement}
-use Rattle.cost_ranges.proofs.cost_rises.Tie as tie
+use Rattle.rising_costs.proofs.cost_rises.Statement.{statement}
+use Rattle.rising_costs.proofs.cost_rises.Tie as tie
 
 returns : tie.Need-returns
 returns c = let a = c .before .args in rw (lt-leb (a .low) (a .high) (c .if1 .taken))

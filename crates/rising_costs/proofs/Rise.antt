@@ -21,7 +21,7 @@ use Rattle.cost_changes.proofs.Utterances.{risen-length}
 use Rattle.cost_changes.proofs.Valid.{risen-edges}
 use Rattle.heard_reader.specs.Answer.{heardSize}
 use Rattle.heard_reader.specs.declared.HeardSize.{HeardSize}
-use Rattle.cost_ranges.specs.Model.{edgeRises, edgesRise, bothRise}
+use Rattle.rising_costs.specs.Model.{edgeRises, edgesRise, bothRise}
 
 -- the ways out of one test
 module _ (low high : List ℕ) (e : ℕ) where

@@ -1,9 +1,9 @@
 -- Each test of the code is one of the definition's.
 use mathlib.Core.Path.{_∙_}
 use native.Mathlib.Omega.{arith}
-use Rattle.cost_ranges.proofs.Rise.{sizes-same, other-count, other-last}
-use Rattle.cost_ranges.proofs.both_rise.Statement.{statement}
-use Rattle.cost_ranges.proofs.both_rise.Tie as tie
+use Rattle.rising_costs.proofs.Rise.{sizes-same, other-count, other-last}
+use Rattle.rising_costs.proofs.both_rise.Statement.{statement}
+use Rattle.rising_costs.proofs.both_rise.Tie as tie
 
 edges-rise-requires : tie.Need-edges-rise-requires
 edges-rise-requires c κs = omega (arith, c .before .before .before .before .before .before .before .before .pre)

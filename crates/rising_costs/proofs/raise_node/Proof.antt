@@ -1,9 +1,9 @@
 -- The rule's kind decides whether the node is a leaf.
 use native.Mathlib.Omega.{arith}
-use Rattle.cost_ranges.proofs.Raise.{pair-node, word-node}
+use Rattle.rising_costs.proofs.Raise.{pair-node, word-node}
 use borrow.Author.Needs.{needs}
-use Rattle.cost_ranges.proofs.raise_node.Statement.{statement}
-use Rattle.cost_ranges.proofs.raise_node.Tie as tie
+use Rattle.rising_costs.proofs.raise_node.Statement.{statement}
+use Rattle.rising_costs.proofs.raise_node.Tie as tie
 
 wide-requires : tie.Need-wide-requires
 wide-requires c κs = search needs
