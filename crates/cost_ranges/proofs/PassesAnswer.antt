@@ -14,7 +14,8 @@ use Rattle.chart_table.specs.Table.{clear}
 use Rattle.chart.specs.Chart.{rootsFound, rootWeight, rootTrace}
 use Rattle.one_best.specs.Model.{tableBy, weightBy}
 use Rattle.one_best.proofs.Trace.{trace-front}
-use Rattle.cost_ranges.specs.Model.{raiseNodes, nodesWeight, hasLeast, decide, found, passed, leftBy}
+use Rattle.rising_costs.specs.Model.{raiseNodes, nodesWeight}
+use Rattle.cost_ranges.specs.Model.{hasLeast, decide, found, passed, leftBy}
 use Rattle.one_best.specs.declared.Pass.{Pass}
 use Rattle.cost_ranges.specs.declared.Ranged.{Ranged}
 use Rattle.cost_ranges.specs.declared.Ranged.the-variants.{Nothing}

@@ -27,10 +27,11 @@ use Rattle.chart.specs.WorkTable.{tableSize}
 use Rattle.one_best.proofs.Found.{passOf, pass-none, pass-some, pass-clears, pass-weight}
 use Rattle.cost_ranges.specs.CostRanges.{answered}
 use Rattle.one_best.specs.Model.{tableBy, weightBy}
-use Rattle.cost_ranges.specs.Model.{nodesWeight, found, firstNodes, mixed, passed, leftBy}
+use Rattle.rising_costs.specs.Model.{nodesWeight}
+use Rattle.cost_ranges.specs.Model.{found, firstNodes, mixed, passed, leftBy}
 use Rattle.one_best.specs.declared.Pass.{Pass}
 use Rattle.cost_ranges.specs.declared.Ranged.the-variants.{Outweighed, Stands}
-use Rattle.cost_ranges.proofs.Flat.{raise-tree, tree-weight}
+use Rattle.rising_costs.proofs.Flat.{raise-tree, tree-weight}
 
 -- where one utterance rises to another, it is the same
 pub pass-same : (g : Grammar) (u v : Utterance) → rises u v ≡ true → passOf g u ≡ passOf g v

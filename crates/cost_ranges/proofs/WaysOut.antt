@@ -32,13 +32,14 @@ use Rattle.chart.specs.Chart.{layOut}
 use Rattle.chart.specs.WorkTable.{tableSize}
 use Rattle.cost_ranges.specs.Conditions.{rangesConditions, askedRanges}
 use Rattle.cost_ranges.specs.CostRanges.{answered, ranged, ranges, Meant}
-use Rattle.cost_ranges.specs.Model.{bothRise, passed, leftBy, Promised, AlikeRanged, EdgesRanged, LowRanged}
+use Rattle.cost_ranges.specs.Model.{passed, leftBy, Promised, AlikeRanged, EdgesRanged, LowRanged}
 use Rattle.one_best.specs.declared.Pass.{Pass}
 use Rattle.cost_ranges.specs.declared.Ranged.{Ranged}
 use Rattle.cost_ranges.specs.declared.Ranged.the-variants.{Refused}
 use Rattle.one_best.proofs.Found.{passOf}
 use Rattle.cost_ranges.proofs.ThreePasses.{passed-answer, left-zeros}
-use Rattle.cost_ranges.proofs.Rise.{both-rise}
+use Rattle.rising_costs.specs.Model.{bothRise}
+use Rattle.rising_costs.proofs.Rise.{both-rise}
 
 -- what is all zeros and has kept its length
 zeros-kept : (work : List ℕ) {work′ : List ℕ} (k : ℕ) → work′ ≡ replicate k 0 → length work′ ≡ length work → work′ ≡ replicate (length work) 0

@@ -1,19 +1,17 @@
 -- The parts of the service's code as functions. Nobody need believe this page: the theorems of proofs/ join it to specs/CostRanges.
 use mathlib.Core.Path.{_≡_}
-use mathlib.Core.Bool.{Bool, true, _&&_}
-use mathlib.Core.List.{List, [], _∷_}
-use mathlib.Core.Option.{some}
-use Prim.Native.Nat.{ℕ, zero, suc, _+_, _*_}
+use mathlib.Core.Bool.{Bool, true}
+use mathlib.Core.List.{List}
+use Prim.Native.Nat.{ℕ}
 use lib.Dec.{eqb}
-use lib.ListN.{length, getD, set}
+use lib.ListN.{length}
 use Rattle.bits.specs.Bits.{pick}
-use Rattle.packing.specs.Meaning.{Grammar, Utterance, slots, edges, Node, byPair, byWord}
+use Rattle.packing.specs.Meaning.{Grammar, Utterance, slots, edges, Node}
 use Rattle.packing.specs.Parse.{Verdict, _then_}
-use Rattle.packing.specs.Flat.{Begins, ruleNumbers, edgeNumbers, ruleAt, nodesIn}
+use Rattle.packing.specs.Flat.{Begins, ruleNumbers, edgeNumbers, nodesIn}
 use Rattle.packing.specs.Utterance.{utteranceBlock}
 use Rattle.packing.specs.Valid.{ValidGrammar, ValidUtterance}
-use Rattle.derivation.specs.Derivation.{ruleWeight}
-use Rattle.cost_changes.specs.Ranges.{costRises, rises, Answer}
+use Rattle.cost_changes.specs.Ranges.{rises, Answer}
 use Rattle.grammar_reader.specs.Answer.{sizes}
 use Rattle.grammar_reader.specs.declared.Sizes.{Sizes}
 use Rattle.heard_reader.specs.Answer.{heardSize}
@@ -24,41 +22,12 @@ use Rattle.chart.specs.WorkTable.{workAfter}
 use Rattle.cost_ranges.specs.CostRanges.{ranged, rangedOf}
 use Rattle.one_best.specs.declared.Pass.{Pass}
 use Rattle.one_best.specs.Model.{tableBy, weightBy}
+use Rattle.rising_costs.specs.Model.{raiseNodes, nodesWeight}
 use Rattle.cost_ranges.specs.declared.Ranged.{Ranged}
 use Rattle.cost_ranges.specs.declared.Ranged.the-variants.{Nothing, Outweighed, Stands}
 use Rattle.cost_ranges.specs.declared.Weights.{Weights}
 
--- edge e of two arrays is one edge but for its cost, which rises; and so are n edges from edge e on
-abbrev pub edgeRises : List ℕ → List ℕ → ℕ → Bool
-edgeRises low high e =
-    eqb (getD low (4 * e) 0) (getD high (4 * e) 0) && eqb (getD low (4 * e + 2) 0) (getD high (4 * e + 2) 0)
-    && costRises (getD low (4 * e + 3) 0) (getD high (4 * e + 3) 0)
-
-unfoldable pub edgesRise : List ℕ → List ℕ → ℕ → ℕ → Bool
-edgesRise low high e zero = true
-edgesRise low high e (suc n) = edgeRises low high e && edgesRise low high (suc e) n
-
-abbrev pub bothRise : List ℕ → HeardSize → List ℕ → HeardSize → Bool
-bothRise low y high z = eqb (y .last) (z .last) && eqb (y .edges) (z .edges) && edgesRise low high 0 (y .edges)
-
--- the costs of an array of edges with a leaf's raised, and a node's weight
-abbrev pub raiseNode : List ℕ → List ℕ → Node → List ℕ
-raiseNode high costs (byPair r) = costs
-raiseNode high costs (byWord r e) = set costs (4 * e + 3) (getD high (4 * e + 3) 0)
-
-abbrev pub nodeWeight : List ℕ → List ℕ → Node → ℕ
-nodeWeight rules high (byPair r) = ruleWeight (some (ruleAt rules r))
-nodeWeight rules high (byWord r e) = ruleWeight (some (ruleAt rules r)) + getD high (4 * e + 3) 0
-
--- the same of all nodes of a tree
-unfoldable pub raiseNodes : List ℕ → List ℕ → List Node → List ℕ
-raiseNodes high costs [] = costs
-raiseNodes high costs (x ∷ xs) = raiseNodes high (raiseNode high costs x) xs
-
-unfoldable pub nodesWeight : List ℕ → List ℕ → List Node → ℕ
-nodesWeight rules high [] = 0
-nodesWeight rules high (x ∷ xs) = nodeWeight rules high x + nodesWeight rules high xs
-
+-- a tree has least weight with its own words high and all others as they are
 abbrev pub hasLeast : List ℕ → List Node → List ℕ → List ℕ → Pass → ℕ → Bool
 hasLeast rules nodes high costs p size = eqb (nodesWeight rules high nodes) (weightBy rules (raiseNodes high costs nodes) p size)
 

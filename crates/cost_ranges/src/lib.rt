@@ -1,7 +1,5 @@
 // Costs known within ranges: the least and the greatest first weight over all choices of costs between those of two utterance blocks, and
 // whether the first reading for the low costs can be outweighed.
-use arrays::narrow_at;
-use arrays::rule_at;
 use arrays::wide;
 use grammar_reader::Sizes;
 use heard_reader::HeardRead;
@@ -10,42 +8,20 @@ use heard_reader::read_slots;
 use inputs::InputsRead;
 use inputs::read_slot_inputs;
 use one_best::Pass;
-use packing::Rule;
-use packing::format::EDGE_COST_AT;
-use packing::format::EDGE_WORD_AT;
 use packing::format::EDGES_LENGTH;
-use packing::format::NOT_HEARD;
-use packing::format::NUMBERS_PER_EDGE;
 use packing::format::NUMBERS_PER_NODE;
 use packing::format::RULES_LENGTH;
 use packing::format::TRACE_LENGTH;
 use packing::refused;
 ghost use mathlib.Core.Path.{_≡_};
-ghost use Prim.Native.Nat.{_+_, _*_, _≤_, _<_};
-ghost use Rattle.bits.specs.Width.{u32Values};
+ghost use Prim.Native.Nat.{_*_, _≤_};
 ghost use lib.ListN.{length, take};
-ghost use Rattle.packing.specs.Flat.{ruleAt, nodeBy, nodesIn};
-ghost use Rattle.cost_changes.specs.Ranges.{costRises};
+ghost use Rattle.packing.specs.Flat.{nodesIn};
 ghost use Rattle.grammar_reader.specs.Answer.{Bounded};
 ghost use Rattle.cost_ranges.specs.CostRanges.{answered, ranges, Meant};
 ghost use Rattle.one_best.specs.Model.{Passable, tableBy, weightBy};
-ghost use Rattle.cost_ranges.specs.Model.{
-  edgeRises,
-  edgesRise,
-  raiseNode,
-  nodeWeight,
-  raiseNodes,
-  nodesWeight,
-  hasLeast,
-  decide,
-  passed,
-  leftBy,
-  bothRise,
-  AlikeRanged,
-  EdgesRanged,
-  Promised,
-  LowRanged,
-};
+ghost use Rattle.rising_costs.specs.Model.{raiseNodes};
+ghost use Rattle.cost_ranges.specs.Model.{hasLeast, decide, passed, leftBy, AlikeRanged, EdgesRanged, Promised, LowRanged};
 
 // The least and the greatest first weight.
 pub struct Weights {
@@ -64,85 +40,6 @@ pub enum Ranged {
 
 // One reading is looked for in each pass.
 const ONE: usize = 1;
-
-// Whether a cost does not fall, and is that of a word not heard in both or in neither.
-fn cost_rises(low: u32, high: u32) -> bool
-    ensures { λ r. ⌜ r ≡ costRises low high ⌝ }
-{
-    if high < low {
-        return false;
-    }
-    if low < NOT_HEARD {
-        return high < NOT_HEARD;
-    }
-    true
-}
-
-// Whether edge e of two arrays is one edge but for its cost, which rises.
-fn edge_rises(low: &[u32], high: &[u32], e: usize) -> bool
-    requires { ⌜ e < u32Values ⌝ }
-    ensures { λ r. ⌜ r ≡ edgeRises (now (low .entry)) (now (high .entry)) e ⌝ }
-{
-    let at = NUMBERS_PER_EDGE * e;
-    if narrow_at(low, at) == narrow_at(high, at) {
-        let word = at + EDGE_WORD_AT;
-        if narrow_at(low, word) == narrow_at(high, word) {
-            let cost = at + EDGE_COST_AT;
-            return cost_rises(narrow_at(low, cost), narrow_at(high, cost));
-        }
-    }
-    false
-}
-
-// Whether so are the first `count` edges.
-fn edges_rise(low: &[u32], high: &[u32], count: usize) -> bool
-    requires { ⌜ count < u32Values ⌝ }
-    ensures { λ r. ⌜ r ≡ edgesRise (now (low .entry)) (now (high .entry)) 0 count ⌝ }
-{
-    let mut e: usize = 0;
-    while e < count {
-        if edge_rises(low, high, e) {
-            e += 1;
-        } else {
-            return false;
-        }
-    }
-    true
-}
-
-// Gives the edge of a leaf its high cost. The answer is the node's weight for high costs.
-fn raise_node(rules: &[u32], rule: u32, edge: u32, high: &[u32], costs: &mut [u32]) -> usize
-    ensures { λ r. ⌜ now (costs .exit) ≡ raiseNode (now (high .entry)) (now (costs .entry)) (nodeBy (ruleAt (now (rules .entry)) rule) rule edge) ⌝ }
-    ensures { λ r. ⌜ (r ≡ nodeWeight (now (rules .entry)) (now (high .entry)) (nodeBy (ruleAt (now (rules .entry)) rule) rule edge)) × (r < 8589934592) ⌝ }
-{
-    let kind = rule_at(rules, wide(rule));
-    match kind {
-        Rule::Pair(_, _, _, weight) => wide(weight),
-        Rule::Word(_, _, weight) => {
-            let at = NUMBERS_PER_EDGE * wide(edge) + EDGE_COST_AT;
-            let cost = narrow_at(high, at);
-            arrays::store(costs, at, cost);
-            wide(weight) + wide(cost)
-        }
-    }
-}
-
-// Gives the edges of a tree, whose nodes are traced, their high costs. The answer is the tree's weight for high costs.
-fn raise_own(rules: &[u32], trace: &[u32], nodes: usize, high: &[u32], costs: &mut [u32]) -> usize
-    requires { ⌜ (nodes ≤ 47) × (2 * nodes ≤ length (now trace)) ⌝ }
-    ensures { λ r. ⌜ now (costs .exit) ≡ raiseNodes (now (high .entry)) (now (costs .entry))
-        (nodesIn (now (rules .entry)) (take (2 * nodes) (now (trace .entry)))) ⌝ }
-    ensures { λ r. ⌜ r ≡ nodesWeight (now (rules .entry)) (now (high .entry)) (nodesIn (now (rules .entry)) (take (2 * nodes) (now (trace .entry)))) ⌝ }
-{
-    let mut own: usize = 0;
-    let mut i: usize = 0;
-    while i < nodes {
-        let p = NUMBERS_PER_NODE * i;
-        own += raise_node(rules, trace[p], trace[p + 1], high, costs);
-        i += 1;
-    }
-    own
-}
 
 // The first weight for the costs of these edges.
 fn first_weight(rules: &[u32], edges: &[u32], pass: Pass, work: &mut [u32]) -> u32
@@ -172,7 +69,7 @@ fn has_least(
         (raiseNodes (now (high .entry)) (now (costs .entry)) (nodesIn (now (rules .entry)) (take (2 * nodes) (now (trace .entry))))) pass
         (length (now (work .entry))) ⌝ }
 {
-    let own = raise_own(rules, trace, nodes, high, costs);
+    let own = rising_costs::raise_own(rules, trace, nodes, high, costs);
     let least = first_weight(rules, &costs[..], pass, work);
     own == wide(least)
 }
@@ -207,19 +104,6 @@ fn passes(rules: &[u32], low: &mut [u32], high: &[u32], pass: Pass, work: &mut [
     let stands = has_least(rules, &trace, nodes, high, low, pass, work);
     chart::clear_table(work, d);
     decide(stands, Weights { least, greatest })
-}
-
-// Whether the edges of two utterances are alike but for their costs, and no cost falls.
-fn both_rise(low: &[u32], heard: HeardSize, high: &[u32], other: HeardSize) -> bool
-    requires { ⌜ heard .edges ≤ 168 ⌝ }
-    ensures { λ r. ⌜ r ≡ bothRise (now (low .entry)) heard (now (high .entry)) other ⌝ }
-{
-    if heard.last == other.last {
-        if heard.edges == other.edges {
-            return edges_rise(low, high, heard.edges);
-        }
-    }
-    false
 }
 
 // The answer where the edges are alike but for their costs, and no cost falls.
@@ -259,7 +143,7 @@ fn ranges_edges(
     requires { ⌜ (Bounded sizes) × (1 ≤ heard .last) × (heard .last ≤ 24) × (heard .edges ≤ 168) ⌝ }
     ensures { λ r. ⌜ EdgesRanged (now (rules .entry)) sizes (now (low .entry)) heard (now (high .entry)) other (now (work .entry)) r (now (work .exit)) ⌝ }
 {
-    if both_rise(&low[..], heard, high, other) {
+    if rising_costs::both_rise(&low[..], heard, high, other) {
         return ranges_alike(rules, sizes, low, high, heard, work);
     }
     Ranged::Refused(refused::COST_RANGES)

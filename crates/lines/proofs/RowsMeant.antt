@@ -25,9 +25,10 @@ use Rattle.inputs.specs.declared.Listed.{Listed}
 use Rattle.inputs.specs.declared.Listed.the-variants.{Found, Refused}
 use Rattle.listing.proofs.Accepted.{Asks, asked-out, list-asked}
 use Rattle.traced_readings.proofs.Sizes.{size-is}
-use Rattle.lines.specs.Rows.{Rows, roomFor, Told}
-use Rattle.lines.specs.Model.{sizeOf, ShapeOf, RowsSay}
-use Rattle.lines.specs.declared.Shape.{Shape}
+use Rattle.reading_rows.specs.Rows.{Rows, roomFor, Told}
+use Rattle.reading_rows.specs.Model.{sizeOf, RowsSay}
+use Rattle.lines.specs.Shapes.{ShapeOf}
+use Rattle.reading_rows.specs.declared.Shape.{Shape}
 
 module _ (grammar heard : List ℕ) (work out : ℕ) where
   -- a refusal of the listing is that of what is asked

@@ -17,8 +17,9 @@ use Rattle.grammar_reader.specs.declared.MarkedRead as answer
 use Rattle.grammar_reader.proofs.FieldInversion.{marked-refused, of-marked}
 use Rattle.heard_reader.specs.Answer.{heardSize}
 use Rattle.heard_reader.specs.declared.HeardSize.{HeardSize}
-use Rattle.lines.specs.Model.{Bounded, ShapeOf, shapeOf}
-use Rattle.lines.specs.declared.Shape.{Shape}
+use Rattle.reading_rows.specs.Model.{Bounded, shapeOf}
+use Rattle.lines.specs.Shapes.{ShapeOf}
+use Rattle.reading_rows.specs.declared.Shape.{Shape}
 
 -- slots, 1 and 1
 abbrev least : Shape

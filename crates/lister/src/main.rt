@@ -1,11 +1,11 @@
 // The lister of document 01: the eight least readings of what utterance.bin has, slots or a word graph, under the grammar in
 // grammar.bin. It reads both files and prints the numbers that `lines` shows.
 use inputs::Listed;
-use lines::SHOWN_NUMBERS;
 use printing::print;
 use printing::print_end;
 use printing::print_further;
 use printing::print_rows;
+use reading_rows::SHOWN_NUMBERS;
 ghost use Rattle.io.specs.Counts.{Counts};
 
 // What document 01 has the lister take of each file and lend to the listing.

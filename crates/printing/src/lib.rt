@@ -1,11 +1,11 @@
 // What programs print: bytes, numbers, and rows that `lines` shows.
 use arrays::number_at;
 use libc::STDOUT_FILENO;
-use lines::COUNT_AT;
-use lines::RANK_AT;
-use lines::ROW_NUMBERS;
-use lines::RULES_AT;
-use lines::WEIGHT_AT;
+use reading_rows::COUNT_AT;
+use reading_rows::RANK_AT;
+use reading_rows::ROW_NUMBERS;
+use reading_rows::RULES_AT;
+use reading_rows::WEIGHT_AT;
 ghost use Prim.Native.Nat.{_≤_, _<_};
 
 // Bytes as they are.

@@ -3,13 +3,13 @@
 // Then those of the panel (document 02, N8), of G with slots and with word graphs, and the lister's lines (N1, N5) of a graph and of grammars
 // of kind 4; 400 numbers are enough for its rows, 399 are not.
 use inputs::Listed;
-use lines::SHOWN_NUMBERS;
 use listing::listing_within;
 use listing_limits::PANEL;
 use printing::print;
 use printing::print_end;
 use printing::print_number;
 use printing::print_rows;
+use reading_rows::SHOWN_NUMBERS;
 ghost use Prim.Native.Nat.{_≤_};
 
 fn print_answer(name: &[u8], answer: Listed) {

@@ -1,0 +1,5 @@
+pub mod Says
+pub mod Unmarked
+pub mod Walks
+pub mod Rows
+pub mod Theorems
