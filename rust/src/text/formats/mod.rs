@@ -271,14 +271,21 @@ fn is_unknown(plain: &Result<Lattice, Error>) -> bool {
     matches!(plain.as_ref().err().and_then(Error::fault), Some(Fault::UnknownWord(_)))
 }
 
-/// All that a text has if some of it can be read, and else why the first cannot.
+/// All that a text has if some of it can be read, and else why the first cannot. A scale that one lacks is lacking for all, since
+/// the costs of an archive are by one scale.
 fn some_read<T>(all: impl Iterator<Item = Result<T, Unread>>) -> Result<Vec<Result<T, Unread>>, Error> {
     let all: Vec<Result<T, Unread>> = all.collect();
-    if all.iter().any(Result::is_ok) {
+    let without_scale = all.iter().position(|read| read.as_ref().is_err_and(lacks_scale));
+    if without_scale.is_none() && all.iter().any(Result::is_ok) {
         return Ok(all);
     }
-    let first = all.into_iter().find_map(Result::err);
-    first.map_or_else(|| Ok(Vec::new()), |unread| Err(*unread.error))
+    let refusing = all.into_iter().skip(without_scale.unwrap_or(0)).find_map(Result::err);
+    refusing.map_or_else(|| Ok(Vec::new()), |unread| Err(*unread.error))
+}
+
+/// Whether a scale was to be given.
+fn lacks_scale(unread: &Unread) -> bool {
+    matches!(unread.error.fault(), Some(Fault::NoScale { .. }))
 }
 
 /// The only one of some that a text has.
