@@ -7,7 +7,7 @@ use inputs::InputsRead;
 use inputs::read_inputs;
 use open_answer::Answer;
 use open_answer::Plan;
-use open_search::Place;
+pub use open_search::Place;
 use open_search::next_read;
 use packing::format::EDGES_LENGTH;
 use packing::format::MAX_SLOTS;
