@@ -17,7 +17,7 @@ const WHOLE: f64 = 1024.0;
 const MIN_SHARE: u32 = 1;
 
 // What the service answers.
-#[derive(Drop)]
+#[derive(Clone, Copy)]
 pub enum Outcome {
     Product(f64),
     Refused(u32),

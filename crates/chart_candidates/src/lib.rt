@@ -11,7 +11,7 @@ use chart_table::{Cell, Layout, cell_number};
 use packing::Sym;
 
 // A pair rule: its number, its two symbols and its weight.
-#[derive(Drop)]
+#[derive(Clone, Copy)]
 pub struct PairRule {
     pub number: usize,
     pub first: Sym,
@@ -20,7 +20,7 @@ pub struct PairRule {
 }
 
 // What is looked for: the least key above a floor and below the best so far.
-#[derive(Drop)]
+#[derive(Clone, Copy)]
 pub struct Range {
     pub floor: Key,
     pub best: Key,

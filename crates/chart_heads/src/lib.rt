@@ -18,7 +18,7 @@ use packing::format::{
 
 // Which masks are those of a number that rules have: the rules' group, where the number stands in a rule, where the masks start, and
 // how many numbers there are.
-#[derive(Drop)]
+#[derive(Clone, Copy)]
 struct Column {
     base: usize,
     field: usize,

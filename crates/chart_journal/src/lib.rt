@@ -19,7 +19,7 @@ pub const JOURNAL_NUMBERS: usize = 1 + KEPT_NUMBERS * MOST_KEPT;
 const AT_ONCE: usize = 4;
 
 // The four numbers of an entry.
-#[derive(Drop)]
+#[derive(Clone, Copy)]
 struct EntryNumbers {
     first: u32,
     second: u32,
@@ -91,7 +91,7 @@ fn keep_entry(t: &[u32], kept: &mut [u32], at: usize)
 }
 
 // The places of four entries.
-#[derive(Drop)]
+#[derive(Clone, Copy)]
 pub struct Places {
     pub first: usize,
     pub second: usize,

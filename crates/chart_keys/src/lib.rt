@@ -36,7 +36,7 @@ pub const WEIGHT_UNIT: usize = 1572864;
 pub const PRICES: usize = 8796093022208;
 
 // How a tree was made: its rule, the place where its parts meet, and their ranks; of a leaf the rule, 0, the edge, 0.
-#[derive(Drop)]
+#[derive(Clone, Copy)]
 pub struct BackPointer {
     pub rule: usize,
     pub split: usize,
@@ -45,7 +45,7 @@ pub struct BackPointer {
 }
 
 // What trees of a cell are compared by: the price plus 1, then the back pointer's number.
-#[derive(Drop)]
+#[derive(Clone, Copy)]
 pub struct Key {
     pub price: usize,
     pub back: usize,

@@ -14,7 +14,7 @@ use chart_tags::is_initial;
 use packing::Rule;
 
 // A rank that is found: its key and its back pointer.
-#[derive(Drop)]
+#[derive(Clone, Copy)]
 pub struct Found {
     pub key: Key,
     pub back: BackPointer,

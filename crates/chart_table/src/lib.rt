@@ -25,7 +25,7 @@ pub const MOST_RANKS: usize = DIGITS;
 pub const ENTRY_NUMBERS: usize = 4;
 
 // A head over a span.
-#[derive(Drop)]
+#[derive(Clone, Copy)]
 pub struct Cell {
     pub head: Sym,
     pub from: usize,
@@ -33,14 +33,14 @@ pub struct Cell {
 }
 
 // A rank of a cell.
-#[derive(Drop)]
+#[derive(Clone, Copy)]
 pub struct Part {
     pub cell: Cell,
     pub rank: usize,
 }
 
 // The work table's layout: the number of symbols, the last place, the ranks kept of each cell, and the number of cells.
-#[derive(Drop)]
+#[derive(Clone, Copy)]
 pub struct Layout {
     pub symbols: usize,
     pub last: usize,

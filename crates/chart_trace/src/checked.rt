@@ -22,7 +22,7 @@ use packing::{Rule, Sym, Word};
 
 // What a trace is checked against: how many rules and edges there are, in arrays that have room for more, and whether a leaf names its edge,
 // as those of a graph do.
-#[derive(Drop)]
+#[derive(Clone, Copy)]
 pub struct Scope {
     pub rules: usize,
     pub edges: usize,
@@ -31,7 +31,7 @@ pub struct Scope {
 
 // What a node's back pointer says in its cell: a leaf of a weight, a pairing of parts with these heads by a rule of a weight, or
 // nothing that can stand there.
-#[derive(Drop)]
+#[derive(Clone, Copy)]
 pub enum CheckedNode {
     Leaf(usize),
     Pairing(Sym, Sym, usize),
@@ -39,14 +39,14 @@ pub enum CheckedNode {
 }
 
 // What a checked trace answers: how many numbers it has and what the tree weighs, or that the table spells no tree.
-#[derive(Drop)]
+#[derive(Clone, Copy)]
 pub enum Traced {
     Tree(usize, usize),
     Nothing,
 }
 
 // An edge's four numbers.
-#[derive(Drop)]
+#[derive(Clone, Copy)]
 struct EdgeNumbers {
     from: usize,
     to: usize,

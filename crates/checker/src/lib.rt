@@ -22,7 +22,7 @@ use reading_reader::ReadingRead;
 use utterance_reader::UtteranceRead;
 
 // What the check answers.
-#[derive(Drop)]
+#[derive(Clone, Copy)]
 pub enum Checked {
     Passes,
     Refused(u32),

@@ -17,7 +17,7 @@ use packing::format::{EDGES_LENGTH, NUMBERS_PER_NODE, RULES_LENGTH, TRACE_LENGTH
 use packing::refused;
 
 // The least and the greatest first weight.
-#[derive(Drop)]
+#[derive(Clone, Copy)]
 pub struct Weights {
     pub least: u32,
     pub greatest: u32,
@@ -25,7 +25,7 @@ pub struct Weights {
 
 // What the service answers: no derivation, or the weights, where the first reading for the low costs is outweighed under some choice, or
 // under none.
-#[derive(Drop)]
+#[derive(Clone, Copy)]
 pub enum Ranged {
     Nothing,
     Outweighed(Weights),

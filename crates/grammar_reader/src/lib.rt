@@ -16,7 +16,7 @@ use packing::{Cursor, Field, Read, Source, format, refused};
 use rules_reader::RulesForm;
 
 // S, W and R of a grammar.
-#[derive(Drop)]
+#[derive(Clone, Copy)]
 pub struct Sizes {
     pub symbols: u32,
     pub words: u32,
@@ -24,21 +24,21 @@ pub struct Sizes {
 }
 
 // What a grammar block or sheet says: its sizes, with its rules in the lent array, or the refusal.
-#[derive(Drop)]
+#[derive(Clone, Copy)]
 pub enum GrammarRead {
     Grammar(Sizes),
     Refused(u32),
 }
 
 // The same with marks, in a lent array too: whether the grammar is of the kind that has them.
-#[derive(Drop)]
+#[derive(Clone, Copy)]
 pub enum MarkedRead {
     Grammar(Sizes, bool),
     Refused(u32),
 }
 
 // Sizes and the next place, or the refusal.
-#[derive(Drop)]
+#[derive(Clone, Copy)]
 pub enum SizesRead {
     Sizes(Sizes, Cursor),
     Refused(u32),

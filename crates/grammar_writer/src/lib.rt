@@ -22,7 +22,7 @@ use packing::{Rule, Written, format, refused};
 const MAX_RULES_WIDTH: usize = MAX_RULES * MAX_MARKED_RULE_WIDTH;
 
 // S, W and R of a grammar, and whether its rules bear marks.
-#[derive(Drop)]
+#[derive(Clone, Copy)]
 pub struct GrammarForm {
     pub symbols: u32,
     pub words: u32,

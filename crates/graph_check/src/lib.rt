@@ -15,7 +15,7 @@ use packing::format::{
 use parse_stack::{Fit, Found, MAX_PARTS, Progress, Step};
 
 // A graph whose edges stand in an array: how many they are, and its last place.
-#[derive(Drop)]
+#[derive(Clone, Copy)]
 pub struct Graph {
     pub edges: usize,
     pub last: usize,

@@ -12,28 +12,28 @@ use packing::{Cursor, Field, Read, Source, format, refused};
 use slots_reader::CandidateRead;
 
 // P, and the number of edges.
-#[derive(Drop)]
+#[derive(Clone, Copy)]
 pub struct GraphSize {
     pub places: usize,
     pub edges: usize,
 }
 
 // What reading a graph gives.
-#[derive(Drop)]
+#[derive(Clone, Copy)]
 pub enum GraphRead {
     Graph(GraphSize),
     Refused(u32),
 }
 
 // What reading an edge gives: from, to, word and cost, and the next place of the block.
-#[derive(Drop)]
+#[derive(Clone, Copy)]
 enum EdgeRead {
     Edge(u32, u32, u32, u32, Cursor),
     Refused(u32),
 }
 
 // What reading P and the edges gives, with the next place of the block.
-#[derive(Drop)]
+#[derive(Clone, Copy)]
 enum BodyRead {
     Read(GraphSize, Cursor),
     Refused(u32),

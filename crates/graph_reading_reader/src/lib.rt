@@ -10,28 +10,28 @@ use packing::format::{EDGE_NUMBER_WIDTH, GRAPH_READING_HEAD, MAX_PATH_EDGES, MAX
 use packing::{Cursor, Field, Read, Rule, format, refused};
 
 // n and the weight.
-#[derive(Drop)]
+#[derive(Clone, Copy)]
 pub struct GraphHead {
     pub edges: usize,
     pub weight: u32,
 }
 
 // These and the place behind the reading, or the refusal.
-#[derive(Drop)]
+#[derive(Clone, Copy)]
 pub enum HeadRead {
     Head(GraphHead, Cursor),
     Refused(u32),
 }
 
 // A node: its rule's number, and of a word rule an edge's.
-#[derive(Drop)]
+#[derive(Clone, Copy)]
 pub struct Node {
     pub rule: usize,
     pub edge: usize,
 }
 
 // A node and the place behind it, where there is one.
-#[derive(Drop)]
+#[derive(Clone, Copy)]
 pub enum NodeRead {
     Node(Node, Cursor),
     Nothing,

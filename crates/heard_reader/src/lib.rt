@@ -9,7 +9,7 @@ use packing::format::{EDGES_LENGTH, GRAPH_BLOCK, MAX_WORDS, SLOTS_LENGTH};
 use utterance_reader::UtteranceRead;
 
 // Whether it is a graph, its last place, and the number of edges.
-#[derive(Drop)]
+#[derive(Clone, Copy)]
 pub struct HeardSize {
     pub graph: bool,
     pub last: usize,
@@ -17,7 +17,7 @@ pub struct HeardSize {
 }
 
 // What reading a block gives.
-#[derive(Drop)]
+#[derive(Clone, Copy)]
 pub enum HeardRead {
     Heard(HeardSize),
     Refused(u32),

@@ -9,21 +9,21 @@ use heard_reader::{HeardRead, HeardSize};
 use packing::format::{EDGES_LENGTH, RULES_LENGTH};
 
 // The sizes of a grammar, and of what was heard.
-#[derive(Drop)]
+#[derive(Clone, Copy)]
 pub struct Inputs {
     pub sizes: Sizes,
     pub heard: HeardSize,
 }
 
 // What reading both gives: their sizes, with the rules and the edges in the lent arrays, or the first refusal.
-#[derive(Drop)]
+#[derive(Clone, Copy)]
 pub enum InputsRead {
     Read(Inputs),
     Refused(u32),
 }
 
 // What a service answers that lists something: how many were found, or the first refusal.
-#[derive(Drop)]
+#[derive(Clone, Copy)]
 pub enum Listed {
     Found(usize),
     Refused(u32),

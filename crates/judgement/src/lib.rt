@@ -7,7 +7,7 @@ use packing::refused;
 use parse_stack::Found;
 
 // What was found: how many nodes the derivation has, whose rule numbers stand at the front of an array, or the refusal.
-#[derive(Drop)]
+#[derive(Clone, Copy)]
 pub enum Walked {
     Nodes(usize),
     Refused(u32),

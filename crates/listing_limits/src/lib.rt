@@ -8,7 +8,7 @@ use packing::format::{MAX_RULES, MAX_SLOTS, MAX_SYMBOLS};
 use packing::refused;
 
 // The most slots that a service takes, of a graph one less than its places, and the most readings that it lists.
-#[derive(Drop)]
+#[derive(Clone, Copy)]
 pub struct Limits {
     pub slots: usize,
     pub readings: u32,
@@ -29,7 +29,7 @@ pub const PANEL: Limits = Limits {
 };
 
 // What is asked for: so many readings, within these limits.
-#[derive(Drop)]
+#[derive(Clone, Copy)]
 pub struct Asked {
     pub limits: Limits,
     pub wanted: u32,

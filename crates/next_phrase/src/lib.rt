@@ -60,14 +60,14 @@ const SYMBOLS: u32 = MAX_SYMBOLS as u32;
 const BYTES: u32 = 256;
 
 // A part of the string: where it begins, and its length.
-#[derive(Drop)]
+#[derive(Clone, Copy)]
 pub struct Part {
     pub from: usize,
     pub length: usize,
 }
 
 // Of a symbol and a part the part itself, if it is derived; the least string above it; and the least of its length.
-#[derive(Drop)]
+#[derive(Clone, Copy)]
 pub struct Cell {
     pub same: u64,
     pub above: u64,

@@ -19,14 +19,14 @@ use packing::refused;
 
 // What an office sheet's grammar is: its sizes, with its rules in the lent array, and the number from which on they are helpers'
 // and marked; or the refusal.
-#[derive(Drop)]
+#[derive(Clone, Copy)]
 pub enum OfficeGrammar {
     Grammar(Sizes, u32),
     Refused(u32),
 }
 
 // S and R of an office grammar: helper k is symbol S + k, and its rule is rule R + k.
-#[derive(Drop)]
+#[derive(Clone, Copy)]
 pub struct Base {
     pub symbols: u32,
     pub rules: u32,

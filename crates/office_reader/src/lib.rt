@@ -28,14 +28,14 @@ pub const SYMBOL_ITEM: u32 = 0;
 pub const WORD_ITEM: u32 = 1;
 
 // The place behind a part of the sheet, or the refusal.
-#[derive(Drop)]
+#[derive(Clone, Copy)]
 pub enum Reached {
     Upto(usize),
     Refused(u32),
 }
 
 // What an office sheet says: its sizes, or the refusal.
-#[derive(Drop)]
+#[derive(Clone, Copy)]
 pub enum OfficeRead {
     Office(Sizes),
     Refused(u32),

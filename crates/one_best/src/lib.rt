@@ -2,7 +2,7 @@
 use chart_table::Layout;
 
 // What a pass is over: so many rules and edges of arrays, and a table.
-#[derive(Drop)]
+#[derive(Clone, Copy)]
 pub struct Pass {
     pub rules: usize,
     pub edges: usize,

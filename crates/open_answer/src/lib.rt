@@ -10,7 +10,7 @@ use packing::refused;
 use traced_readings::{Form, TracedRank, write_traced};
 
 // What a call answers: a reading, that there are no more, that all that can be listed were handed out.
-#[derive(Drop)]
+#[derive(Clone, Copy)]
 pub enum Answer {
     Reading,
     NoMore,
@@ -19,7 +19,7 @@ pub enum Answer {
 }
 
 // What a search goes by: the form of readings, the table's layout and the number of edges.
-#[derive(Drop)]
+#[derive(Clone, Copy)]
 pub struct Plan {
     pub form: Form,
     pub layout: Layout,

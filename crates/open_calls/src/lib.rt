@@ -17,7 +17,7 @@ const ONE_READING: i32 = 1;
 const ALL_HANDED: i32 = 2;
 
 // What a call of an open listing answers, as a C number, and its place afterwards.
-#[derive(Drop)]
+#[derive(Clone, Copy)]
 pub struct Moved {
     pub code: i32,
     pub handed: u32,

@@ -17,7 +17,7 @@ use packing::refused;
 use traced_readings::form_of;
 
 // What opening answers.
-#[derive(Drop)]
+#[derive(Clone, Copy)]
 pub enum Opened {
     Opened,
     Refused(u32),

@@ -17,7 +17,7 @@ use packing::refused;
 
 // An open listing's place: how many readings were handed out, and whether it was opened.
 #[repr(C)]
-#[derive(Drop)]
+#[derive(Clone, Copy)]
 pub struct Place {
     pub handed: u32,
     pub opened: u32,

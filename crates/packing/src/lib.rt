@@ -10,15 +10,15 @@ ghost use Rattle.packing.specs.Read.{read_of, refusal_of, source_of};
 use bits::MAX_FIELD_WIDTH;
 
 // A symbol of the grammar, V of document 001.
-#[derive(Drop)]
+#[derive(Clone, Copy)]
 pub struct Sym(pub u32);
 
 // A word, Σ of document 001.
-#[derive(Drop)]
+#[derive(Clone, Copy)]
 pub struct Word(pub u32);
 
 // A rule of the grammar.
-#[derive(Drop)]
+#[derive(Clone, Copy)]
 pub enum Rule {
     // head, first, second, weight
     Pair(Sym, Sym, Sym, u32),
@@ -28,7 +28,7 @@ pub enum Rule {
 
 // A number of a block or a sheet: its width in a block, its least and greatest value, and the refusals of a
 // value below and above.
-#[derive(Drop)]
+#[derive(Clone, Copy)]
 pub struct Field {
     pub width: usize,
     pub least: u32,
@@ -38,27 +38,27 @@ pub struct Field {
 }
 
 // A place: a bit of a block, or a number of a sheet.
-#[derive(Drop)]
+#[derive(Clone, Copy)]
 pub struct Cursor {
     pub at: usize,
 }
 
 // What reading a field gives: its value and the next place, or the refusal.
-#[derive(Drop)]
+#[derive(Clone, Copy)]
 pub enum Read {
     Number(u32, Cursor),
     Refused(u32),
 }
 
 // What a writer answers: the length written, or the refusal.
-#[derive(Drop)]
+#[derive(Clone, Copy)]
 pub enum Written {
     Length(usize),
     Refused(u32),
 }
 
 // Where numbers are read from: a block, with the refusal of a field that passes its end, or a sheet.
-#[derive(Drop)]
+#[derive(Clone, Copy)]
 pub enum Source {
     Block(u32),
     Sheet,

@@ -12,7 +12,7 @@ use packing::{Rule, Sym, Word};
 pub const MAX_PARTS: usize = MAX_SLOTS;
 
 // A number, where there is one.
-#[derive(Drop)]
+#[derive(Clone, Copy)]
 pub enum Found {
     Number(usize),
     Nothing,
@@ -20,7 +20,7 @@ pub enum Found {
 
 // How far a derivation has come: its place, the slots or edges that are left, the parts that are to come, whose symbols are on the
 // stack, and the weight so far.
-#[derive(Drop)]
+#[derive(Clone, Copy)]
 pub struct Progress {
     pub place: usize,
     pub left: usize,
@@ -29,14 +29,14 @@ pub struct Progress {
 }
 
 // What a node leads to.
-#[derive(Drop)]
+#[derive(Clone, Copy)]
 pub enum Step {
     Onward(Progress),
     Stuck,
 }
 
 // A rule that has the next part's symbol as its head: its two symbols, or its word, and its weight.
-#[derive(Drop)]
+#[derive(Clone, Copy)]
 pub enum Fit {
     Pair(Sym, Sym, u32),
     Word(Word, u32),

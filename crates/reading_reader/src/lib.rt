@@ -10,7 +10,7 @@ use packing::format::{MAX_RULES, MAX_SLOTS};
 use packing::{Cursor, Field, Read, Source, format, refused};
 
 // The weight and the place behind the fields, or the refusal.
-#[derive(Drop)]
+#[derive(Clone, Copy)]
 pub enum ReadingRead {
     Reading(u32, Cursor),
     Refused(u32),

@@ -23,7 +23,7 @@ pub const ROW_NUMBERS: usize = 50;
 pub const SHOWN_NUMBERS: usize = 400;
 
 // Whether readings are of a graph, the last place (n, or P - 1), and R: on these the length of a reading depends.
-#[derive(Drop)]
+#[derive(Clone, Copy)]
 pub struct Shape {
     pub graph: bool,
     pub last: usize,
@@ -31,7 +31,7 @@ pub struct Shape {
 }
 
 // What a row has beside its rank and its rule numbers: the weight, and how many numbers there are.
-#[derive(Drop)]
+#[derive(Clone, Copy)]
 struct Line {
     weight: u32,
     nodes: usize,

@@ -16,14 +16,14 @@ use packing::format::{
 use packing::{Cursor, Field, Read, Source, format, refused};
 
 // S and W, on which the fields of a rule depend.
-#[derive(Drop)]
+#[derive(Clone, Copy)]
 pub struct Vocabulary {
     pub symbols: u32,
     pub words: u32,
 }
 
 // What decides how rules are read: S and W, how many there are, and whether each bears a mark.
-#[derive(Drop)]
+#[derive(Clone, Copy)]
 pub struct RulesForm {
     pub symbols: u32,
     pub words: u32,
@@ -32,7 +32,7 @@ pub struct RulesForm {
 }
 
 // The five numbers of a rule. For a word rule, kind 1, the first is the word and the second 0.
-#[derive(Drop)]
+#[derive(Clone, Copy)]
 struct RuleNumbers {
     kind: u32,
     head: u32,
@@ -42,14 +42,14 @@ struct RuleNumbers {
 }
 
 // A rule's numbers and the next place, or the refusal.
-#[derive(Drop)]
+#[derive(Clone, Copy)]
 enum RuleRead {
     Rule(RuleNumbers, Cursor),
     Refused(u32),
 }
 
 // A rule's numbers, its mark and the next place, or the refusal.
-#[derive(Drop)]
+#[derive(Clone, Copy)]
 enum MarkedRead {
     Rule(RuleNumbers, u32, Cursor),
     Refused(u32),

@@ -14,21 +14,21 @@ use packing::format::{
 use packing::{Cursor, Field, Read, Source, format, refused};
 
 // What reading a candidate gives: its word, its cost and the next place.
-#[derive(Drop)]
+#[derive(Clone, Copy)]
 pub enum CandidateRead {
     Candidate(u32, u32, Cursor),
     Refused(u32),
 }
 
 // A place of the source and a place of the array.
-#[derive(Drop)]
+#[derive(Clone, Copy)]
 pub struct Places {
     pub at: usize,
     pub to: usize,
 }
 
 // What reading a part into the array gives: the next places.
-#[derive(Drop)]
+#[derive(Clone, Copy)]
 pub enum Placed {
     Upto(Places),
     Refused(u32),

@@ -20,7 +20,7 @@ use packing::{Rule, Sym, refused};
 use padded_strings::NO_STRING;
 
 // What the specimen answers: that the string was written, that there is none, or the refusal.
-#[derive(Drop)]
+#[derive(Clone, Copy)]
 pub enum Answered {
     Written,
     Nothing,

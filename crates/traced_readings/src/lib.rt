@@ -10,7 +10,7 @@ use packing::format::{MAX_RULES, MAX_SLOTS, NUMBERS_PER_NODE, TRACE_LENGTH};
 use reading_writer::{reading_length, write_reading};
 
 // How readings are written: of a graph or of slots, by this many rules, each into this many bytes of the output.
-#[derive(Drop)]
+#[derive(Clone, Copy)]
 pub struct Form {
     pub graph: bool,
     pub rules: usize,
@@ -18,7 +18,7 @@ pub struct Form {
 }
 
 // A rank of the root, and how many numbers its trace has.
-#[derive(Drop)]
+#[derive(Clone, Copy)]
 pub struct TracedRank {
     pub rank: usize,
     pub numbers: usize,

@@ -12,21 +12,21 @@ use packing::{Cursor, Read, Source, format, refused};
 use slots_reader::Placed;
 
 // n, and how many numbers of the array the slots take.
-#[derive(Drop)]
+#[derive(Clone, Copy)]
 pub struct Slots {
     pub count: usize,
     pub numbers: usize,
 }
 
 // What reading an utterance gives.
-#[derive(Drop)]
+#[derive(Clone, Copy)]
 pub enum UtteranceRead {
     Utterance(Slots),
     Refused(u32),
 }
 
 // What reading n and the slots gives, with the next place.
-#[derive(Drop)]
+#[derive(Clone, Copy)]
 enum SlotsRead {
     Read(Slots, Cursor),
     Refused(u32),
