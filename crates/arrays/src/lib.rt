@@ -1,4 +1,6 @@
 // Flat arrays of numbers: reads that give 0 past the end, stores that do nothing there, and the rules of such an array.
+#![tactic(auto)]
+
 ghost use Rattle.std.specs.Prelude.{◌≡◌, ◌<◌, length, replicate, get_or, set};
 ghost use Rattle.bits.specs.Width.{u32_values};
 ghost use Rattle.packing.specs.Flat.{rule_at};

@@ -1,4 +1,6 @@
 // Fields of bits read from bytes, most significant bit first.
+#![tactic(auto)]
+
 ghost use Rattle.std.specs.Prelude.{◌≡◌, ◌+◌, ◌*◌, ◌^◌, ◌≤◌, ◌<◌, length};
 ghost use Rattle.bits.specs.Width.{u32_values};
 ghost use Rattle.bits.specs.Bits.{field, ended};

@@ -1,4 +1,6 @@
 // Numbers of bits: the width of a number, and its lower bits.
+#![tactic(auto)]
+
 ghost use Rattle.std.specs.Prelude.{◌≡◌, ◌-◌, ◌%◌, ◌^◌, ◌≤◌, ◌<◌};
 ghost use Rattle.bits.specs.Width.{width_of};
 

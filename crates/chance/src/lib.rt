@@ -1,4 +1,6 @@
 // The chance of a reading: the product of its nodes' shares as a 64-bit float.
+#![tactic(auto)]
+
 ghost use Rattle.std.specs.Prelude.{◌≡◌, true, ◌≤◌, Float, length, take};
 ghost use Rattle.chance.specs.Answer as definition;
 ghost use Rattle.chance.specs.Answer.{chance_of};

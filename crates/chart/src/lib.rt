@@ -1,5 +1,7 @@
 // The chart as its callers see it: a work table laid out, the least trees of the root enumerated in it, traced back, and the
 // table cleared.
+#![tactic(auto)]
+
 ghost use Rattle.std.specs.Prelude.{◌≡◌, ◌-◌, ◌/◌, ◌<◌, ◌≤◌, length, drop, replicate};
 ghost use Rattle.packing.specs.Store.{store_all};
 ghost use Rattle.chart_keys.specs.Keys.{prices, weight_unit};

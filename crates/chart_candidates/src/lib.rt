@@ -1,4 +1,6 @@
 // The key of a pairing. What the leaves and the seeds of a cell are stands in specs/ and proofs/; chart_leaves and chart_seeds find the least.
+#![tactic(auto)]
+
 ghost use Rattle.std.specs.Prelude.{◌≡◌, ◌<◌, ◌≤◌};
 ghost use Rattle.bits.specs.Width.{u32_values};
 ghost use Rattle.chart_keys.specs.Keys.{splits, digits, key_number};

@@ -1,5 +1,7 @@
 // The classes of an index: rules by kind and head, and edges by the place that they leave. Where an index has the members of a
 // class, one after another.
+#![tactic(auto)]
+
 ghost use Rattle.std.specs.Prelude.{◌≡◌, ◌<◌, ◌≤◌};
 ghost use Rattle.bits.specs.Width.{u32_values};
 ghost use Rattle.chart_classes.specs.Classes.{index_numbers, class_start, class_end};

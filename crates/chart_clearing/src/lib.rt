@@ -1,4 +1,6 @@
 // Clearing: the entries of the ranks that were found made 0.
+#![tactic(auto)]
+
 ghost use Rattle.std.specs.Prelude.{true, ◌≡◌, ◌+◌, ◌<◌, ◌≤◌, length, set};
 ghost use Rattle.chart_table.specs.Table.{most_ranks, cell_bound, counts, entry_of, last_rank, ranks_to_clear, clear_entry, clear_cell, clear, Clear, Sized};
 

@@ -1,4 +1,6 @@
 // The entries of the work table: a tree's price and back pointer, and what stands beside them.
+#![tactic(auto)]
+
 ghost use Rattle.std.specs.Prelude.{◌≡◌, ◌+◌, ◌<◌, ◌≤◌, length};
 ghost use Rattle.bits.specs.Width.{u32_values};
 ghost use Rattle.chart_keys.specs.Keys.{prices, key_number};

@@ -1,5 +1,7 @@
 // The heads that the first pass looks at over a span: masks of the heads that have a word or a part in a rule, and of those that have
 // the word of an edge over the span, or parts found at both its ends (chart_masks has where the masks stand).
+#![tactic(auto)]
+
 ghost use Rattle.std.specs.Prelude.{◌≡◌, ℕ, ◌+◌, ◌<◌, ◌≤◌, length, get_or};
 ghost use Rattle.bits.specs.Width.{u32_values};
 ghost use Rattle.chart_classes.specs.Classes.{index_numbers, class_end};

@@ -1,5 +1,7 @@
 // The journal: entries of the table as they were before they were written, so that they can be put back. It has first how many
 // entries are kept, then of each where it starts, in two numbers, and its four numbers. An empty slice keeps nothing.
+#![tactic(auto)]
+
 ghost use Rattle.std.specs.Prelude.{◌≡◌, ◌+◌, ◌<◌, length, set};
 ghost use Rattle.bits.specs.Width.{u32_values};
 ghost use Rattle.chart_journal.specs.Journal.{entry_bound, entry_numbers, write_kept, keep_entry, Below, write_four, keep_four, restore_entry, put_back};

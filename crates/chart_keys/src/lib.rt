@@ -1,4 +1,6 @@
 // Back pointers, prices and keys: how a tree of a cell was made, what it costs, and how two trees compare.
+#![tactic(auto)]
+
 ghost use Rattle.std.specs.Prelude.{◌≡◌, ◌+◌, ◌*◌, ◌<◌, ◌≤◌, nat_lt};
 ghost use Rattle.bits.specs.Width.{u32_values};
 ghost use Rattle.chart_keys.specs.Keys.{

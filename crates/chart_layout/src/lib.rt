@@ -1,4 +1,6 @@
 // The work table's layout, and how many numbers the table has.
+#![tactic(auto)]
+
 ghost use Rattle.std.specs.Prelude.{◌≡◌, ◌*◌, ◌<◌, ◌≤◌};
 ghost use Rattle.chart_table.specs.Table.{last_place, most_ranks, Sized};
 ghost use Rattle.chart_layout.specs.Layout.{lay_out};

@@ -1,4 +1,6 @@
 // The leaves of a cell: edges over its span by the word rules of its head.
+#![tactic(auto)]
+
 ghost use Rattle.std.specs.Prelude.{◌≡◌, ◌+◌, ◌*◌, ◌<◌, ◌≤◌, get_or};
 ghost use Rattle.bits.specs.Width.{u32_values};
 ghost use Rattle.packing.specs.Flat.{rule_at};

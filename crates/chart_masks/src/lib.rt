@@ -3,6 +3,8 @@
 // word has a mask of the heads that have it in a rule, and each symbol one of the heads that have it as their first part, and one as
 // their second (chart_heads). And for each place there is a mask of the heads of which a first part is found that starts there, and one
 // of the heads of which a second part is found that ends there. How masks are made, joined and read is in masks.
+#![tactic(auto)]
+
 ghost use Rattle.std.specs.Prelude.{false, ◌≡◌, ◌≤◌, length};
 ghost use Rattle.chart_table.specs.Table.{last_place};
 ghost use Rattle.chart_masks.specs.Masks.{mask_numbers, Marked, Apart};

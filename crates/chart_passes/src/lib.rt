@@ -1,4 +1,6 @@
 // All ranks of the root in a table of zeros: the first pass, which finds the first rank of every cell, and then one rank after another.
+#![tactic(auto)]
+
 ghost use Rattle.std.specs.Prelude.{◌≡◌, ℕ, ◌<◌, ◌≤◌, get_or};
 ghost use Rattle.chart_table.specs.Table.{Sized, InTable};
 ghost use Rattle.chart_masks.specs.Masks.{Covers};

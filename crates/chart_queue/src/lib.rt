@@ -1,6 +1,8 @@
 // The priority queue of a cell: candidates that were met and not found yet, beside ranks 1, 2, .., and beside the first rank
 // how many. A cell is given by its number. A candidate's back pointer is given by a tag (chart_tags). Of the candidates that follow
 // none at most one is queued; its back pointer stands beside the first rank.
+#![tactic(auto)]
+
 ghost use Rattle.std.specs.Prelude.{◌≡◌, ◌+◌, ◌*◌, ◌/◌, ◌<◌, ◌≤◌};
 ghost use Rattle.bits.specs.Width.{u32_values};
 ghost use Rattle.chart_keys.specs.Keys.{prices, key_number};

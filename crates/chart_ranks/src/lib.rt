@@ -1,4 +1,6 @@
 // One rank of a cell written into the work table, from what the table has of it and of its parts.
+#![tactic(auto)]
+
 ghost use Rattle.std.specs.Prelude.{◌≡◌, ◌-◌, ◌<◌, ◌≤◌};
 ghost use Rattle.chart_keys.specs.Keys.{Digits, key_number, no_key};
 ghost use Rattle.chart_queue.specs.Queue.{keep_min};

@@ -1,4 +1,6 @@
 // The search for one more rank: of a cell, with what it needs of the parts, and so of the root.
+#![tactic(auto)]
+
 ghost use Rattle.std.specs.Prelude.{◌≡◌, ℕ, suc, ◌+◌, ◌-◌, ◌<◌, ◌≤◌};
 ghost use Rattle.chart_keys.specs.Keys.{Digits};
 ghost use Rattle.chart_table.specs.Table.{Sized, InTable};

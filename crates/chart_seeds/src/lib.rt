@@ -1,4 +1,6 @@
 // The seeds of a cell: for each pair rule of its head and each split, the first of the left part with the first of the right.
+#![tactic(auto)]
+
 ghost use Rattle.std.specs.Prelude.{◌≡◌, true, false, ◌+◌, ◌-◌, ◌*◌, ◌<◌, ◌≤◌, length};
 ghost use Rattle.bits.specs.Width.{u32_values};
 ghost use Rattle.packing.specs.Flat.{rule_at};

@@ -1,4 +1,6 @@
 // What is met with a rank found: its successors, and what replaces it in the queue.
+#![tactic(auto)]
+
 ghost use Rattle.std.specs.Prelude.{◌≡◌, ◌+◌, ◌-◌, ◌<◌};
 ghost use Rattle.chart_keys.specs.Keys.{Digits, key_number};
 ghost use Rattle.chart_table.specs.Table.{InTable};

@@ -1,4 +1,6 @@
 // The work table's cells, and where their entries stand.
+#![tactic(auto)]
+
 ghost use Rattle.std.specs.Prelude.{◌≡◌, ◌<◌, ◌≤◌};
 ghost use Rattle.chart_table.specs.Table.{
   last_place,

@@ -1,6 +1,8 @@
 // Tags of queued candidates. There is no room for a queued candidate's back pointer: it is given by a tag, the rank that was the
 // last found when the candidate was met, and how its back pointer comes from that rank's. The candidates that follow none have one
 // tag.
+#![tactic(auto)]
+
 ghost use Rattle.std.specs.Prelude.{◌≡◌, ◌<◌};
 ghost use Rattle.bits.specs.Width.{u32_values};
 ghost use Rattle.chart_tags.specs.Tags.{is_initial, code_of, shifted};

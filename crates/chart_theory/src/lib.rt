@@ -1,1 +1,2 @@
 // Theorems only: see proofs/. The chart finds the ranked derivations (Accepted).
+#![tactic(auto)]

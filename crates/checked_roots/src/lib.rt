@@ -1,4 +1,6 @@
 // The ranks of the root in a table that may hold anything: whether one is found, and its trace, each node checked.
+#![tactic(auto)]
+
 ghost use Rattle.std.specs.Prelude.{◌≡◌, true, ◌≤◌, ◌<◌, length};
 ghost use Rattle.bits.specs.Bits.{pick};
 ghost use Rattle.packing.specs.Store.{store_all};

@@ -1,4 +1,6 @@
 // The check of a reading, and the walk of the derivation that was found.
+#![tactic(auto)]
+
 ghost use Rattle.std.specs.Prelude.{◌≡◌, ◌↔◌, ◌≤◌, ◌<◌, length};
 ghost use Rattle.packing.specs.Reading.{reading_from};
 ghost use Rattle.packing.specs.GraphReading.{graph_head_from};

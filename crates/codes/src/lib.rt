@@ -1,4 +1,6 @@
 // Answers as C numbers: 0 or more is the answer, less than 0 is minus the refusal's number.
+#![tactic(auto)]
+
 ghost use Rattle.std.specs.Prelude.{◌≡◌, ◌<◌, pos, neg_ℤ};
 ghost use Rattle.codes.specs.Code.{written_code, SmallWritten, listed_code, SmallListed, checked_code, SmallChecked};
 

@@ -1,5 +1,7 @@
 // Costs known within ranges: the least and the greatest first weight over all choices of costs between those of two utterance blocks, and
 // whether the first reading for the low costs can be outweighed.
+#![tactic(auto)]
+
 ghost use Rattle.std.specs.Prelude.{◌≡◌, ◌*◌, ◌≤◌, length, take};
 ghost use Rattle.packing.specs.Flat.{nodes_in};
 ghost use Rattle.grammar_reader.specs.Answer.{Bounded};

@@ -1,5 +1,7 @@
 // Masks of the cells that hold a tree, as chart_masks has them: for each head and place the places where a span ends that starts there, and where
 // one starts that ends there. By them the outside pass passes over rules whose parts meet nowhere.
+#![tactic(auto)]
+
 ghost use Rattle.std.specs.Prelude.{◌≤◌, ◌<◌, length};
 ghost use Rattle.chart_masks.specs.Masks.{mask_numbers};
 ghost use Rattle.chart_table.specs.Table.{Sized};

@@ -1,4 +1,6 @@
 // Grammar sheets and blocks of either kind, turned into each other.
+#![tactic(auto)]
+
 ghost use Rattle.std.specs.Prelude.{◌≡◌, ◌*◌, ◌≤◌};
 ghost use Rattle.packing.specs.Conversion.{grammar_to_block, grammar_to_sheet, TurnsBack};
 ghost use Rattle.packing.specs.Store.{store_all};

@@ -1,4 +1,6 @@
 // Grammar blocks and sheets, read into flat arrays of numbers that the caller lends: five for each rule, and its mark.
+#![tactic(auto)]
+
 ghost use Rattle.std.specs.Prelude.{◌≡◌, List, ℕ, ◌+◌, ◌*◌, ◌^◌, ◌≤◌, ◌<◌, eqb, length, get_or};
 ghost use Rattle.packing.specs.Read.{source_of};
 ghost use Rattle.packing.specs.Grammar.{block_kind, kind_number, block_by, marked_block, marked_sheet, grammar_block};

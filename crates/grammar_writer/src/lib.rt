@@ -1,4 +1,6 @@
 // Grammar blocks of either kind, written from an array of five numbers a rule and an array of marks.
+#![tactic(auto)]
+
 ghost use Rattle.std.specs.Prelude.{◌≡◌, List, [], ◌∷◌, ℕ, ◌+◌, ◌*◌, ◌^◌, ◌≤◌, ◌<◌, length};
 ghost use Rattle.bits.specs.Fields.{fld, widths};
 ghost use Rattle.bits.specs.Put.{puts};

@@ -1,4 +1,6 @@
 // The weight and the walk of the derivation whose nodes stand in a graph's reading block: one node after the other along a path.
+#![tactic(auto)]
+
 ghost use Rattle.std.specs.Prelude.{◌≡◌, List, ℕ, ◌+◌, ◌-◌, ◌*◌, ◌^◌, ◌≤◌, ◌<◌, length};
 ghost use Rattle.std.proofs.Math.ListN.{get_elem?};
 ghost use Rattle.packing.specs.Flat.{rule_at, rules_of, node_by};

@@ -1,4 +1,6 @@
 // Graph blocks, read into a flat array of numbers that the caller lends: four for each edge.
+#![tactic(auto)]
+
 ghost use Rattle.std.specs.Prelude.{◌≡◌, ◌+◌, ◌*◌, ◌^◌, ◌≤◌, ◌<◌, length, []};
 ghost use Rattle.packing.specs.Source.{bytes, field_at};
 ghost use Rattle.packing.specs.Read.{read_of};

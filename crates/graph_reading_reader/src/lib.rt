@@ -1,4 +1,6 @@
 // Reading blocks of graphs: n and the weight, and one node after the other.
+#![tactic(auto)]
+
 ghost use Rattle.std.specs.Prelude.{◌≡◌, ◌*◌, ◌^◌, ◌≤◌, ◌<◌, ltb, length};
 ghost use Rattle.packing.specs.Flat.{rules_of};
 ghost use Rattle.packing.specs.Source.{bytes};

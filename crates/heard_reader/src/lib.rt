@@ -1,4 +1,6 @@
 // Blocks of what was heard, of slots or of a graph, read into a flat array of edges that the caller lends: four numbers for each.
+#![tactic(auto)]
+
 ghost use Rattle.std.specs.Prelude.{◌≡◌, ◌≤◌, ◌<◌, eqb, length};
 ghost use Rattle.bits.specs.Bits.{field};
 ghost use Rattle.packing.specs.Heard.{as_slots, as_graph, heard_block};

@@ -1,5 +1,7 @@
 // A grammar block and a block of what was heard, read one after the other into flat arrays of numbers that the caller lends: five for each
 // rule, four for each edge.
+#![tactic(auto)]
+
 ghost use Rattle.std.specs.Prelude.{◌≡◌, ◌≤◌, length};
 ghost use Rattle.packing.specs.Heard.{as_slots, heard_block};
 ghost use Rattle.inputs.specs.Inputs.{joined_of, InputsTold};

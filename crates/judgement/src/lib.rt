@@ -1,4 +1,6 @@
 // The judgement on a reading by the derivation that has its nodes: 34, 35 and 36, in this order, or how many nodes it has.
+#![tactic(auto)]
+
 ghost use Rattle.std.specs.Prelude.{◌^◌, ◌<◌};
 ghost use Rattle.parse_stack.specs.Stack.{number_of};
 ghost use Rattle.judgement.specs.Weighed.{Judges};

@@ -1,4 +1,6 @@
 // The eight least readings of what was heard, slots or a word graph, under a grammar, with the row that the lister prints of each.
+#![tactic(auto)]
+
 ghost use Rattle.std.specs.Prelude.{◌≡◌, ◌≤◌, length};
 ghost use Rattle.listing.specs.Conditions.{library};
 ghost use Rattle.inputs.specs.Answer.{Lists};

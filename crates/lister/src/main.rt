@@ -1,5 +1,7 @@
 // The lister of document 01: the eight least readings of what utterance.bin has, slots or a word graph, under the grammar in
 // grammar.bin. It reads both files and prints the numbers that `lines` shows.
+#![tactic(auto)]
+
 ghost use Rattle.io.specs.Counts.{IsPrefixLen};
 
 use inputs::Listed;

@@ -1,4 +1,6 @@
 // The listing of the N least readings, within the limits of the library or of the panel.
+#![tactic(auto)]
+
 ghost use Rattle.std.specs.Prelude.{◌≡◌, ◌++◌, ◌+◌, ◌*◌, ◌≤◌, ◌<◌, length, drop};
 ghost use Rattle.inputs.specs.Inputs.{Bounds};
 ghost use Rattle.chart_table.specs.Table.{Sized};

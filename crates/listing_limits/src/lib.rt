@@ -1,4 +1,6 @@
 // The limits of the library and of the panel, and what is refused of a listing that is beyond them or short of memory.
+#![tactic(auto)]
+
 ghost use Rattle.std.specs.Prelude.{◌≡◌, ◌≤◌};
 ghost use Rattle.packing.specs.GraphReading.{graph_reading_length};
 ghost use Rattle.listing_limits.specs.Shortage.{shortage};

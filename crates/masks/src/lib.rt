@@ -1,4 +1,6 @@
 // Masks of 32 bits: sets of places, or of heads.
+#![tactic(auto)]
+
 ghost use Rattle.std.specs.Prelude.{true, ◌≡◌, ℕ, ◌<◌, ◌≤◌, length};
 ghost use Rattle.masks.specs.Digits.{digit, Disjoint, Put};
 

@@ -3,6 +3,8 @@
 // over the parts of the string at hand, from short to long. For each symbol it finds whether the symbol derives the part itself, the
 // least string of the part's length above it, and the least of that length. A string is above a joined one if its left part is above,
 // whatever follows, or if its left part is the same and its right part is above.
+#![tactic(auto)]
+
 ghost use Rattle.std.specs.Prelude.{◌≡◌, List, ◌++◌, ℕ, ◌≤◌, ◌<◌, ◌+◌, ◌*◌, ◌-◌, eqb, length, take, drop};
 ghost use Rattle.bits.specs.Bits.{pick};
 ghost use Rattle.packing.specs.Flat.{Begins, rule_numbers};

@@ -1,4 +1,6 @@
 // Office sheets, turned into grammar blocks with marks.
+#![tactic(auto)]
+
 ghost use Rattle.std.specs.Prelude.{◌≡◌, ◌-◌, ◌≤◌, replicate};
 ghost use Rattle.packing.specs.Store.{store_all};
 ghost use Rattle.sheet_writer.specs.Answer.{Writes};

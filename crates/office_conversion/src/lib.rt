@@ -1,4 +1,6 @@
 // An office grammar in normal form: the rules of a sheet, in one pass, into an array of five numbers for each rule.
+#![tactic(auto)]
+
 ghost use Rattle.std.specs.Prelude.{◌≡◌, List, [], ◌∷◌, ◌++◌, ℕ, ◌+◌, ◌-◌, ◌*◌, ◌^◌, ◌≤◌, ◌<◌, length};
 ghost use Rattle.packing.specs.Meaning.{word};
 ghost use Rattle.packing.specs.Store.{store_all};

@@ -1,4 +1,6 @@
 // Office sheets: whether one is accepted, and its sizes. The sheet is itself a flat array of its rules, so nothing is copied.
+#![tactic(auto)]
+
 ghost use Rattle.std.specs.Prelude.{◌≡◌, ◌+◌, ◌^◌, ◌≤◌, ◌<◌, length, []};
 ghost use Rattle.packing.specs.Source.{numbers, field_at};
 ghost use Rattle.packing.specs.Read.{read_of};

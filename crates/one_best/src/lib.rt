@@ -1,4 +1,6 @@
 // The pass for one reading: what it is over. What it finds, and the nodes of the tree that it traces back, are proofs/.
+#![tactic(auto)]
+
 use chart_table::Layout;
 
 // What a pass is over: so many rules and edges of arrays, and a table.

@@ -1,4 +1,6 @@
 // What a call of an open listing answers, by what its work table spells at a rank of the root.
+#![tactic(auto)]
+
 ghost use Rattle.std.specs.Prelude.{◌≡◌, true, ◌≤◌, ◌<◌, length};
 ghost use Rattle.chart.specs.Chart.{root_found};
 ghost use Rattle.open_answer.specs.Model.{Planned, hands_out, settled, is_reading, output_by};

@@ -1,4 +1,6 @@
 // The calls of an open listing, with its place as two numbers: what each answers, as a C number, and the place afterwards.
+#![tactic(auto)]
+
 ghost use Rattle.std.specs.Prelude.{length};
 ghost use Rattle.open_listing.specs.Open.{opening, lent};
 ghost use Rattle.open_listing.specs.Model.{searched, next_of};

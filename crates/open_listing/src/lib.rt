@@ -1,5 +1,7 @@
 // Readings one by one: an open listing keeps its place between calls, and each call hands out one more reading from a work table for as
 // many ranks as can be listed.
+#![tactic(auto)]
+
 ghost use Rattle.std.specs.Prelude.{◌≡◌, length};
 ghost use Rattle.inputs.specs.Inputs.{Bounds};
 ghost use Rattle.open_answer.specs.Model.{Planned};

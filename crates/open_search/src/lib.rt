@@ -1,5 +1,7 @@
 // One call of an open listing over arrays of rules and edges: the rank behind those that were handed out is looked for, and what was written over is
 // put back unless it is handed out.
+#![tactic(auto)]
+
 ghost use Rattle.std.specs.Prelude.{◌≡◌, true, ◌-◌, ◌*◌, ◌≤◌, ◌<◌, length, take};
 ghost use Rattle.open_answer.specs.Model.{Planned, is_reading};
 ghost use Rattle.open_search.specs.Model as model;

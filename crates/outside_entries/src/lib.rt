@@ -1,5 +1,7 @@
 // The outside weights in the entries of a table for one reading. Such a table has four numbers a cell and leaves the fourth free; there they stand, plus
 // 1, with 0 for none. Inside weights, the least of a cell's own trees, are those of its first rank.
+#![tactic(auto)]
+
 ghost use Rattle.std.specs.Prelude.{◌≡◌, ◌/◌, ◌<◌, length, get_or, set, replicate};
 ghost use Rattle.bits.specs.Width.{u32_values};
 ghost use Rattle.chart_table.specs.Table.{cell_bound, cell_number, root, Sized};

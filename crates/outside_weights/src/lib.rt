@@ -1,5 +1,7 @@
 // Outside weights: of each cell that holds a tree, the least weight of what stands around it in a derivation. A node that has an outside weight hands
 // on what stands around its parts, each of its rules once for both, the longer nodes first.
+#![tactic(auto)]
+
 ghost use Rattle.std.specs.Prelude.{◌≡◌, ◌/◌, ◌≤◌, ◌<◌, length, replicate};
 ghost use Rattle.bits.specs.Width.{u32_values};
 ghost use Rattle.packing.specs.Flat.{rule_at};

@@ -1,4 +1,6 @@
 // What blocks and sheets are made of, and the reading of one number of them.
+#![tactic(auto)]
+
 pub mod format; // format.rt: ranges, widths and fields of the formats
 pub mod refused; // refused.rt: the numbers of document 01's table
 

@@ -1,5 +1,7 @@
 // Word strings padded to the greatest length: the words, a byte each, then zeros. For no string a byte that is no word, then zeros.
 // Of two strings of one length the lesser is the one whose bytes come first.
+#![tactic(auto)]
+
 ghost use Rattle.std.specs.Prelude.{◌≡◌, ◌+◌, ◌≤◌, ◌<◌, length, get_or};
 ghost use Rattle.std.proofs.Math.Seq.{paste};
 ghost use Rattle.phrases.specs.Phrases.{word_order};

@@ -1,4 +1,6 @@
 // A derivation node by node: the symbols of the parts that are to come stand on a stack.
+#![tactic(auto)]
+
 ghost use Rattle.std.specs.Prelude.{◌≡◌, ◌∷◌, ◌+◌, ◌-◌, ◌^◌, ◌≤◌, ◌<◌, ltb, length};
 ghost use Rattle.bits.specs.Bits.{pick};
 ghost use Rattle.packing.specs.Flat.{rules_of};

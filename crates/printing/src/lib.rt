@@ -1,4 +1,6 @@
 // What programs print: bytes, numbers, and rows that `lines` shows.
+#![tactic(auto)]
+
 ghost use Rattle.std.specs.Prelude.{◌≤◌, ◌<◌};
 
 use arrays::number_at;

@@ -1,4 +1,6 @@
 // Reading blocks, read up to their last rule number.
+#![tactic(auto)]
+
 ghost use Rattle.std.specs.Prelude.{◌≡◌, ◌-◌, ◌*◌, ◌^◌, ◌≤◌, ◌<◌, length};
 ghost use Rattle.packing.specs.Source.{bytes, field_at};
 ghost use Rattle.packing.specs.Read.{read_of};

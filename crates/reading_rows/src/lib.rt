@@ -1,5 +1,7 @@
 // What the lister prints of readings, of slots or of a word graph, as rows of numbers. Nodes whose rule is marked, as helpers' rules are, are left
 // out.
+#![tactic(auto)]
+
 ghost use Rattle.std.specs.Prelude.{◌≡◌, [], ◌∷◌, ◌++◌, ◌+◌, ◌-◌, ◌*◌, ◌≤◌, ◌<◌, length, take, drop};
 ghost use Rattle.office_theory.specs.Matching.{without_marked};
 ghost use Rattle.reading_rows.specs.Model.{Bounded, size_of, Few, Says, SlotsSay, GraphSays, WalkRead, Shown, RowSays, RowsSay};

@@ -1,4 +1,6 @@
 // Reading blocks: measured, and written.
+#![tactic(auto)]
+
 ghost use Rattle.std.specs.Prelude.{◌≡◌, ◌++◌, ◌+◌, ◌-◌, ◌*◌, ◌≤◌, length, take, drop};
 ghost use Rattle.bits.specs.Fields.{widths};
 ghost use Rattle.bits.specs.Put.{puts};

@@ -1,4 +1,6 @@
 // Costs that rise from one array of edges to another: whether those of two utterances do, and a tree's own edges given their high costs.
+#![tactic(auto)]
+
 ghost use Rattle.std.specs.Prelude.{◌≡◌, ◌*◌, ◌≤◌, ◌<◌, length, take};
 ghost use Rattle.bits.specs.Width.{u32_values};
 ghost use Rattle.packing.specs.Flat.{rule_at, node_by, nodes_in};

@@ -1,5 +1,7 @@
 // The rules of a grammar, read from a block or a sheet into flat arrays of numbers that the caller lends: five for each rule, and its
 // mark.
+#![tactic(auto)]
+
 ghost use Rattle.std.specs.Prelude.{◌≡◌, ◌+◌, ◌-◌, ◌*◌, ◌^◌, ◌≤◌, ◌<◌, length, take};
 ghost use Rattle.packing.specs.Source.{within};
 ghost use Rattle.packing.specs.Read.{read_of, source_of};

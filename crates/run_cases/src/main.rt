@@ -2,6 +2,8 @@
 // are not; 48 bytes of output are enough, 47 are not; other N; another G. Where a case is not about them, both are longer.
 // Then those of the panel (document 02, N8), of G with slots and with word graphs, and the lister's lines (N1, N5) of a graph and of grammars
 // of kind 4; 400 numbers are enough for its rows, 399 are not.
+#![tactic(auto)]
+
 ghost use Rattle.std.specs.Prelude.{◌≤◌};
 
 use inputs::Listed;

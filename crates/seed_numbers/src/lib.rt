@@ -1,5 +1,7 @@
 // Seeds as numbers of 64 bits. Of a seed both ranks are the first, so its price plus 1 and, below it, rule and split decide its key.
 // A floor and a best so far, which may be keys of other trees, go by the numbers that divide the seeds as they do.
+#![tactic(auto)]
+
 ghost use Rattle.std.specs.Prelude.{◌≡◌, ◌+◌, ◌*◌, ◌^◌, ◌<◌, ◌≤◌, true};
 ghost use Rattle.chart_keys.specs.Keys.{splits, rules, key_number, lesser};
 ghost use Rattle.seed_numbers.specs.Seeds.{InNumbers, Divides, seed_number, floor_number, ceiling_number, key_of_number};

@@ -1,4 +1,6 @@
 // The weight of the derivation that has a walk: one number after the other, with a stack of the symbols that are to come.
+#![tactic(auto)]
+
 ghost use Rattle.std.specs.Prelude.{◌≡◌, List, ℕ, ◌+◌, ◌-◌, ◌*◌, ◌^◌, ◌≤◌, ◌<◌, length, take};
 ghost use Rattle.derivation.specs.Walk.{cost_of, leaf_step, step, walk_weight};
 ghost use Rattle.packing.specs.Flat.{rules_of, candidates_of, slots_of};

@@ -1,5 +1,7 @@
 // The slots of an utterance, read from a block or a sheet into a flat array of numbers that the caller lends: for each slot its
 // count and its words and costs.
+#![tactic(auto)]
+
 ghost use Rattle.std.specs.Prelude.{◌≡◌, ◌+◌, ◌*◌, ◌^◌, ◌≤◌, ◌<◌, length, [], ◌∷◌};
 ghost use Rattle.packing.specs.Read.{source_of};
 ghost use Rattle.packing.specs.Utterance.{offered, candidates_from, slot_from, slots_from};

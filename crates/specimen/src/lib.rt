@@ -1,5 +1,7 @@
 // The specimen: the least word string of a wanted length that a grammar derives, compared word number by word number from the left.
 // The least of a symbol and a length is the least, over rules and splits, of least left part joined with least right part.
+#![tactic(auto)]
+
 ghost use Rattle.std.specs.Prelude.{◌≡◌, ◌≤◌, ◌<◌, ◌+◌, ◌*◌, length};
 ghost use Rattle.packing.specs.Flat.{Begins, rule_numbers, rule_at};
 ghost use Rattle.packing.specs.Meaning.{Grammar};

@@ -1,5 +1,7 @@
 // The library for C and Rust (include/spireyerba.h): each exported function is a call of a service, with the answer as one
 // number: 0 or more is the answer, less than 0 is minus the refusal's number.
+#![tactic(auto)]
+
 ghost use Rattle.std.specs.Prelude.{◌≡◌, length};
 ghost use Rattle.packing.specs.Conversion.{grammar_to_block, grammar_to_sheet, utterance_to_block, utterance_to_sheet, fitting, written};
 ghost use Rattle.office_block.specs.Block.{office_to_block};

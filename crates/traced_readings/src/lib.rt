@@ -1,4 +1,6 @@
 // The reading of a rank of the root, by its trace: of slots the walk, of a graph the walk with the edges of its leaves.
+#![tactic(auto)]
+
 ghost use Rattle.std.specs.Prelude.{◌≡◌, ◌++◌, ◌≤◌, ◌<◌, length, drop};
 ghost use Rattle.chart_table.specs.Table.{Sized};
 ghost use Rattle.packing.specs.GraphReading.{graph_reading_length};

@@ -1,4 +1,6 @@
 // Utterance sheets and blocks, turned into each other under a grammar.
+#![tactic(auto)]
+
 ghost use Rattle.std.specs.Prelude.{◌≡◌, ◌≤◌};
 ghost use Rattle.packing.specs.Conversion.{utterance_to_block, utterance_to_sheet, block_under, sheet_under, TurnsBack};
 ghost use Rattle.sheet_writer.specs.Answer.{Writes};

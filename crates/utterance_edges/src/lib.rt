@@ -1,4 +1,6 @@
 // The edges of an utterance whose slots stand in a flat array, into an array of their own.
+#![tactic(auto)]
+
 ghost use Rattle.std.specs.Prelude.{◌≡◌, [], ◌∷◌, ◌+◌, ◌*◌, ◌^◌, ◌≤◌, ◌<◌, length};
 ghost use Rattle.packing.specs.Flat.{Begins, Overlaid, edge_numbers};
 ghost use Rattle.packing.specs.Store.{store_all};

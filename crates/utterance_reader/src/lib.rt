@@ -1,4 +1,6 @@
 // Utterance blocks and sheets, read into a flat array of numbers.
+#![tactic(auto)]
+
 ghost use Rattle.std.specs.Prelude.{◌≡◌, ◌+◌, ◌*◌, ◌^◌, ◌≤◌, ◌<◌, length, [], ◌∷◌};
 ghost use Rattle.packing.specs.Read.{source_of};
 ghost use Rattle.packing.specs.Utterance.{utterance_from, utterance_block, utterance_sheet};

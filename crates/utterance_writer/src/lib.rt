@@ -1,4 +1,6 @@
 // Utterance blocks, written from an array that has for each slot its count and its words and costs.
+#![tactic(auto)]
+
 ghost use Rattle.std.specs.Prelude.{◌≡◌, ◌+◌, ◌*◌, ◌/◌, ◌^◌, ◌≤◌, ◌<◌, length};
 ghost use Rattle.bits.specs.Fields.{widths};
 ghost use Rattle.bits.specs.Put.{puts};

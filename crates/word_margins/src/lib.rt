@@ -1,5 +1,7 @@
 // Which word to listen to again: for each offered word that the first reading does not use in its slot, the least amount by which its cost
 // alone must fall for another reading to be strictly lighter than the first is now.
+#![tactic(auto)]
+
 ghost use Rattle.std.specs.Prelude.{◌≡◌, ◌+◌, ◌*◌, ◌≤◌, ◌<◌, length, take, replicate};
 ghost use Rattle.packing.specs.Parse.{accepted};
 ghost use Rattle.packing.specs.Flat.{rule_at, node_by, nodes_in};

@@ -1,0 +1,15 @@
+-- After each turn the bits put are the upper ones of the value, and each part is put within one byte.
+use mathlib.Core.Path.{◌≡◌, refl}
+use Prim.Native.Nat.{◌≤◌, ◌-◌, ◌/◌, ◌^◌}
+use native.Mathlib.Omega.{arith}
+use borrow.Author.Rules.{rules}
+use lib.ListN.{length}
+use Rattle.bits.specs.Put.{put}
+use Rattle.bits.proofs.Put.{put_more, put_all}
+use Rattle.bit_writer.proofs.write_parts.Given as goal
+
+abbrev pub invariant-loop-done : goal.invariant-loop-done
+invariant-loop-done l = (l.done ≤ l.width) × (length l.out ≡ length l.initial.out) × (l.out ≡ put l.initial.out l.at l.done (l.value / 2 ^ (l.width - l.done)))
+
+abbrev pub decreases-loop-done : goal.decreases-loop-done
+decreases-loop-done l = l.width - l.done

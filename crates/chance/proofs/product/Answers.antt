@@ -1,0 +1,49 @@
+-- What the factors that are left make of the product so far is the whole product.
+use mathlib.Core.Path.{◌≡◌, sym, ap, ◌∙◌}
+use Prim.Native.Nat.{◌-◌, ◌≤◌}
+use native.Mathlib.Omega.{arith}
+use borrow.Author.Rules.{rules}
+use lib.Ieee.{of_bits}
+use lib.ListN.{get_or, take}
+use Rattle.chance.specs.Chance.{shares_of, one, factor_of, product_of}
+use Rattle.chance.proofs.Shares.{at_most, onward, all_done, one_node}
+use Rattle.chance.proofs.product.Goals as goal
+
+pub loop-left-init : goal.loop-left-init
+unfolding of_bits
+loop-left-init c =
+    let n = c.args.nodes in
+    let z : n - n ≡ 0 = omega arith in
+    (omega arith, rw z)
+
+pub overflow_sub-i : goal.overflow_sub-i
+overflow_sub-i c = omega arith
+
+pub factor-f-requires : goal.factor-f-requires
+factor-f-requires c =
+    let at-args = c in
+    rw c.narrow_at-share.ensures (at_most at-args.args.shares.now at-args.requires.0 _)
+
+pub overflow_sub-left : goal.overflow_sub-left
+overflow_sub-left c = omega arith
+
+pub loop-left-smaller : goal.loop-left-smaller
+loop-left-smaller c = omega arith
+
+pub loop-left-preserved : goal.loop-left-preserved
+loop-left-preserved c =
+    let at-loop-test = c in
+    let at-loop = at-loop-test in
+    let at-args = at-loop in
+    let a = at-args.args in
+    let share = c.narrow_at-share.ensures ∙ ap (λ r. get_or a.shares.now r 0) c.number_at.ensures.0 in
+    let node = one_node a.shares.now a.walk.now a.nodes at-loop.loop-left.left at-loop.loop-left.p c.factor-f.result at-args.requires.1
+    at-loop-test.loop-left-test.true at-loop.loop-left.invariant.0
+    (c.factor-f.ensures ∙ ap factor_of share) in
+    (omega arith, node ∙ at-loop.loop-left.invariant.1)
+
+pub returns : goal.returns
+returns c =
+    let at-args = c in
+    sym (all_done at-args.args.shares.now at-args.args.walk.now at-args.args.nodes c.loop-left.left c.loop-left.p at-args.requires.1
+    c.loop-left-test.false) ∙ c.loop-left.invariant.1

@@ -1,0 +1,15 @@
+-- The number of places is fuel enough for the root.
+use native.Mathlib.Omega.{arith}
+use Rattle.chart.specs.Chart.{root_trace}
+use borrow.Author.Rules.{rules}
+use Rattle.chart.proofs.trace_root.Goals as goal
+
+pub trace_back-requires : goal.trace_back-requires
+trace_back-requires c = rw c.root.ensures (search rules)
+
+pub returns : goal.returns
+unfolding root_trace
+returns c =
+    let c₂ = c in
+    let c₄ = c₂ in
+    rw (← c₄.root.ensures) (c₂.trace_back.ensures _ (rw c₄.root.ensures (omega arith)))

@@ -1,0 +1,16 @@
+-- The loop is the iteration over the ranks up to the last found; of a cell that is clear nothing is left to clear.
+use mathlib.Core.Path.{◌≡◌, refl, ◌∙◌}
+use Prim.Native.Nat.{◌-◌, ◌≤◌}
+use lib.ListN.{length}
+use Rattle.packing.specs.Loop.{iter}
+use Rattle.packing.proofs.Loop.{iter_more, iter_end}
+use Rattle.chart_table.specs.Table.{clear_entry, clear_cell}
+use Rattle.chart_clearing.proofs.Cleared.{cell_clear}
+use borrow.Author.Rules.{rules}
+use Rattle.chart_clearing.proofs.clear_cell.Given as goal
+
+abbrev pub invariant-loop-x : goal.invariant-loop-x
+invariant-loop-x l = (l.x ≤ l.m) × (length l.t ≡ length l.initial.t) × (l.t ≡ iter (λ u l.x. clear_entry u l.d l.number l.x) l.initial.t l.x)
+
+abbrev pub decreases-loop-x : goal.decreases-loop-x
+decreases-loop-x l = l.m - l.x

@@ -1,0 +1,38 @@
+-- Each number so far has the head in its mask, and nothing is taken from a mask.
+use mathlib.Core.Path.{◌≡◌}
+use Prim.Native.Nat.{◌-◌, ◌≤◌}
+use native.Mathlib.Omega.{arith}
+use lib.ListN.{length}
+use Rattle.chart_classes.specs.Classes.{class_start}
+use Rattle.chart_heads.specs.Heads.{MembersMore}
+use Rattle.chart_heads.proofs.Members.{more_none, more_next}
+use borrow.Author.Rules.{rules}
+use Rattle.chart_heads.proofs.mark_head.Goals as goal
+
+pub loop-y-init : goal.loop-y-init
+loop-y-init c = (search rules, c.class_start-start.ensures.0, search rules, rw c.class_start-start.ensures.0 (more_none _ _ _ _ _))
+
+pub loop-y-preserved : goal.loop-y-preserved
+loop-y-preserved c =
+    let at-capped = c in
+    let at-number-at2 = at-capped in
+    let at-number-at = at-number-at2 in
+    let at-loop = at-number-at in
+    let at_only = at-loop in
+    let at_pre = at_only in (
+      search rules,
+      search rules,
+      search rules,
+      more_next at-capped.capped.result at-number-at2.number_at-x.result at_only.only-own.result at_pre.requires.0.3 at-loop.loop-y.invariant.3
+          (rw (← at-number-at.number_at.ensures.0) at-number-at2.number_at-x.ensures.0) at-capped.capped.ensures.0 at_only.only-own.ensures
+          c.put.ensures,
+    )
+
+pub shape_of-masks : goal.shape_of-masks
+shape_of-masks c = c.loop-y.invariant.2
+
+pub returns : goal.returns
+returns c = record {
+  grown = c.loop-y.invariant.3.grown;
+  more = λ z h l. c.loop-y.invariant.3.more z h (omega (arith, c.class_end-end.ensures.0, c.loop-y-test.false));
+}

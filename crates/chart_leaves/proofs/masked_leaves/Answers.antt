@@ -1,0 +1,14 @@
+-- A head that is not in the mask of the edge's word has no rule with it.
+use mathlib.Core.Path.{sym}
+use Rattle.chart_keys.specs.Keys.{key_number}
+use Rattle.chart_candidates.proofs.PassedOver.{word_passed}
+use borrow.Author.Rules.{rules}
+use Rattle.chart_leaves.proofs.masked_leaves.Goals as goal
+
+pub returns-then-lacks : goal.returns-then-lacks
+returns-then-lacks c =
+    let at-edge-heads = c in
+    let at-args = at-edge-heads in
+    let a = at-args.args in
+    sym (word_passed a.rules.now a.edges.now a.index.now a.masks.now a.c 0 (key_number a.best) a.e at-edge-heads.edge_heads.result
+    at-args.requires.2 at-edge-heads.edge_heads.ensures (rw c.wide.ensures.0 at (c.lacks.ensures c.if-lacks.true)))

@@ -1,0 +1,50 @@
+-- The loop is the iteration over the members of the head's class. What is found so far is no more than what was before, so a rule
+-- that is passed over changes nothing.
+use Prim.Native.Nat.{◌≤◌, ◌-◌}
+use mathlib.Core.Path.{◌≡◌, sym, ◌∙◌}
+use native.Mathlib.Nat.{le_trans}
+use native.Mathlib.Omega.{arith}
+use lib.ListN.{get_or}
+use borrow.Author.Rules.{rules}
+use Rattle.packing.specs.Loop.{over}
+use Rattle.packing.proofs.Loop.{iter_end}
+use Rattle.chart_candidates.proofs.Loops.{from_none, from_more, from_turn}
+use Rattle.chart_candidates.proofs.PassedOver.{rules_below}
+use Rattle.packing.specs.Flat.{rule_at}
+use Rattle.chart_keys.specs.Keys.{key_number}
+use Rattle.chart_candidates.specs.Candidates.{rule_seeds, seeds}
+use Rattle.chart_seeds.proofs.seeds.Goals as goal
+
+pub loop-y-init : goal.loop-y-init
+loop-y-init c = (search rules, search rules, sym (from_none _ _ _))
+
+pub masked_seeds-so_far-requires : goal.masked_seeds-so_far-requires
+masked_seeds-so_far-requires c =
+    let at-class-start = c in
+    let at-args = at-class-start in
+    let a = at-args.args in (
+      at-args.requires.0,
+      c.number_at-r.ensures.1,
+      at-args.requires.1,
+      rw c.loop-y.invariant.2 (le_trans
+          (rules_below a.t.now a.d a.index.now a.rules.now a.c (key_number a.range.floor) (key_number a.range.best)
+          at-class-start.class_start-start.result c.loop-y.y) at-args.requires.2),
+    )
+
+pub loop-y-preserved : goal.loop-y-preserved
+loop-y-preserved c =
+    let at-loop = c in
+    let h = at-loop.loop-y.invariant.0 in (
+      search rules,
+      search rules,
+      rw (from_more, from_turn, ← at-loop.loop-y.invariant.2, ← c.number_at-r.ensures.0) c.masked_seeds-so_far.ensures,
+    )
+
+pub returns : goal.returns
+unfolding seeds
+returns c =
+    let at-class-end = c in
+    let at-class-start = at-class-end in
+    let at_wide = at-class-start in
+    simp (← at_wide.wide-head.ensures.0, ← at-class-start.class_start-start.ensures.0, ← at-class-end.class_end-end.ensures.0)
+    (c.loop-y.invariant.2 ∙ iter_end _ _ _ _ c.loop-y.invariant.1 (omega (arith, c.loop-y-test.false)))

@@ -1,0 +1,21 @@
+-- The weights compared are the tree's for high costs and the first for mixed costs.
+use borrow.Author.Rules.{rules}
+use Prim.Native.Nat.{◌*◌}
+use lib.ListN.{length, take}
+use Rattle.packing.specs.Flat.{nodes_in}
+use Rattle.cost_ranges.proofs.PassesAnswer.{least_told}
+use Rattle.cost_ranges.proofs.has_least.Goals as goal
+
+pub raise_own-own-requires : goal.raise_own-own-requires
+raise_own-own-requires c = (c.requires.1, c.requires.2)
+
+pub first_weight-least-requires : goal.first_weight-least-requires
+first_weight-least-requires c = c.requires.0
+
+pub returns : goal.returns
+returns c =
+    let a = c.args in
+    let raised = c.raise_own-own.ensures in
+    let pass = c.first_weight-least.ensures in
+    least_told a.rules.now (nodes_in a.rules.now (take (2 * a.nodes) a.trace.now)) a.high.now a.costs.now a.pass (length a.work.now)
+    raised.0 raised.1 pass.0 pass.1 c.wide.ensures.0

@@ -1,0 +1,51 @@
+-- The length of the work table decides between the refusal and the passes.
+use Prim.Native.Nat.{◌≤◌, ◌<◌}
+use native.Mathlib.Omega.{arith}
+use borrow.Author.Rules.{rules}
+use lib.ListN.{length}
+use Rattle.chart.specs.WorkTable.{table_size}
+use Rattle.chart.proofs.WorkTable.{table_is, layout_is}
+use Rattle.cost_ranges.proofs.WaysOut.{alike_short, alike_passed}
+use Rattle.cost_ranges.proofs.ranges_alike.Goals as goal
+
+pub lay_out-table-requires : goal.lay_out-table-requires
+lay_out-table-requires c = let p = c.requires in (p.0.symbols, omega (arith, p.2), omega arith, omega arith)
+
+pub table_numbers-requires : goal.table_numbers-requires
+table_numbers-requires c = c.lay_out-table.ensures.1
+
+pub returns-then-work-table_numbers : goal.returns-then-work-table_numbers
+returns-then-work-table_numbers c =
+    let a = c.args in
+    let numbers = table_is a.sizes.symbols a.heard.last 1 c.lay_out-table.ensures.0 c.table_numbers.ensures.0 in
+    let short : length a.work.now < table_size a.sizes.symbols a.heard.last 1 = rw numbers at c.if-work-table_numbers.true in
+    alike_short a.rules.now a.sizes a.low.now a.high.now a.heard a.work.now short
+
+pub passes-requires : goal.passes-requires
+passes-requires c =
+    let a = c.args in
+    let p = c.requires in
+    let (places, ranks) = layout_is a.sizes.symbols a.heard.last 1 c.lay_out-table.ensures.0 in (
+      record {
+        sized = c.lay_out-table.ensures.1;
+        some_place = omega (arith, places, p.1);
+        some_rank = omega (arith, ranks);
+        rules = p.0.rules;
+        edges = omega (arith, p.3);
+      },
+      omega (arith, places, p.2),
+    )
+
+pub returns : goal.returns
+returns c =
+    let at-passes = c in
+    let at-if1 = at-passes in
+    let at-table-numbers = at-if1 in
+    let at-lay-out = at-table-numbers in
+    let at-args = at-lay-out in
+    let a = at-args.args in
+    let numbers = table_is a.sizes.symbols a.heard.last 1 at-lay-out.lay_out-table.ensures.0 at-table-numbers.table_numbers.ensures.0 in
+    let room : table_size a.sizes.symbols a.heard.last 1 ≤ length a.work.now = rw numbers at at-if1.if-work-table_numbers.false in
+    alike_passed a.rules.now a.sizes a.low.now a.high.now a.heard a.work.now room at-lay-out.lay_out-table.ensures.0
+    at-passes.passes.ensures.0
+    at-passes.passes.ensures.1 at-passes.passes.auto.1.1.1.1.0

@@ -1,0 +1,26 @@
+-- What the reader says of the high block decides between its refusal and the answer.
+use borrow.Author.Rules.{rules}
+use Rattle.packing.specs.Heard.{as_slots}
+use Rattle.heard_reader.proofs.BlockInversion.{accepted_told, refused_told}
+use Rattle.cost_ranges.proofs.WaysOut.{high_refused, high_read}
+use Rattle.cost_ranges.proofs.ranges_high.Goals as goal
+
+pub ranges_edges-requires : goal.ranges_edges-requires
+ranges_edges-requires c = c.requires
+
+pub returns-in-Refused : goal.returns-in-Refused
+returns-in-Refused c =
+    let a = c.args in
+    high_refused a.rules.now a.sizes a.low.now a.heard a.high.now a.work.now
+    (refused_told (as_slots a.sizes.words a.high.now) c.read_slots.ensures.answer c.in-Refused.is)
+
+pub returns-in-Heard : goal.returns-in-Heard
+returns-in-Heard c =
+    let at-ranges-edges = c in
+    let at_other = at-ranges-edges in
+    let at-read-slots = at_other in
+    let at-args = at-read-slots in
+    let a = at-args.args in
+    let (h, v, y) = accepted_told (as_slots a.sizes.words a.high.now) at-read-slots.read_slots.ensures.answer at_other.in-Heard.is in
+    high_read a.rules.now a.sizes a.low.now a.heard a.high.now a.work.now at-read-slots.read_slots.new.1.1.0 h v y
+    (rw v at at-read-slots.read_slots.ensures.edges) at-ranges-edges.ranges_edges.ensures

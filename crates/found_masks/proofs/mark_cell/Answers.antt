@@ -1,0 +1,13 @@
+-- A cell without a tree is passed over.
+use Rattle.found_masks.proofs.Marking.{cell_passed, cell_marked}
+use borrow.Author.Rules.{rules}
+use Rattle.found_masks.proofs.mark_cell.Goals as goal
+
+pub returns-then-price_at-eq0 : goal.returns-then-price_at-eq0
+returns-then-price_at-eq0 c =
+    let at-args = c in
+    cell_passed at-args.args.t.now at-args.args.d at-args.args.c c.cell_number.ensures.0
+    c.price_at.ensures.0 c.if-price_at-eq0.true
+
+pub returns : goal.returns
+returns c = cell_marked c.mark.ensures

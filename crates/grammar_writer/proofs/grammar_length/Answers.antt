@@ -1,0 +1,17 @@
+-- The head takes 27 bits.
+use mathlib.Core.Path.{sym, ap, ◌∙◌}
+use Prim.Native.Nat.{ℕ, ◌+◌, ◌/◌}
+use native.Mathlib.Omega.{arith}
+use borrow.Author.Rules.{rules}
+use Rattle.bits.specs.Fields.{widths}
+use Rattle.bits.proofs.Fields.{length_block}
+use Rattle.sheet_writer.specs.Arrays.{grammar_fields}
+use Rattle.grammar_writer.proofs.grammar_length.Goals as goal
+
+pub returns : goal.returns
+unfolding widths
+returns c =
+    let a = c.args in
+    let f = a.form in
+    λ marks. ap (λ (k : ℕ). (k + 7) / 8) (omega (arith, c.rules_bits.ensures.0 marks))
+    ∙ sym (length_block (grammar_fields f.marked f.symbols f.words f.rules a.rules.now marks))

@@ -1,0 +1,20 @@
+-- What was added up and what the rules behind the first i take is what all of them take, whatever their marks.
+use mathlib.Core.Path.{◌≡◌}
+use mathlib.Core.List.{List}
+use Prim.Native.Nat.{ℕ, ◌+◌, ◌-◌, ◌*◌, ◌≤◌}
+use native.Mathlib.Nat.{sub-zero}
+use native.Mathlib.Omega.{arith}
+use lib.ListN.{get_or}
+use Rattle.bits.specs.Fields.{widths}
+use Rattle.sheet_writer.specs.Arrays.{rules_fields}
+use Rattle.grammar_writer.proofs.Rules.{widths_more, rules_end}
+use Rattle.grammar_writer.proofs.rules_bits.Given as goal
+
+abbrev pub invariant-loop-i : goal.invariant-loop-i
+invariant-loop-i l =
+    (l.i ≤ l.n) × (l.total ≤ 42 * l.i)
+    × ((marks : List ℕ) → l.total + widths (rules_fields l.form.marked l.form.symbols l.form.words l.rules marks l.i (l.n - l.i))
+    ≡ widths (rules_fields l.form.marked l.form.symbols l.form.words l.rules marks 0 l.n))
+
+abbrev pub decreases-loop-i : goal.decreases-loop-i
+decreases-loop-i l = l.n - l.i

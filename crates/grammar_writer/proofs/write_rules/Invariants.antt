@@ -1,0 +1,17 @@
+-- What remains behind the first i rules is written from bit `at` on, and at the end nothing remains.
+use Prim.Native.Nat.{◌+◌, ◌-◌, ◌*◌, ◌≤◌}
+use native.Mathlib.Nat.{sub-zero}
+use native.Mathlib.Omega.{arith}
+use Rattle.bits.proofs.Remaining.{Remaining, all_remain, none_remain, some_written, some_within}
+use Rattle.sheet_writer.specs.Arrays.{rules_fields}
+use Rattle.grammar_writer.proofs.Rules.{rule_fields, rules_more, rules_end}
+use Rattle.grammar_writer.proofs.write_rules.Given as goal
+
+abbrev pub invariant-loop-i : goal.invariant-loop-i
+invariant-loop-i l =
+    (l.i ≤ l.n) × (l.at ≤ 27 + 42 * l.i)
+    × Remaining l.initial.out l.start (rules_fields l.form.marked l.form.symbols l.form.words l.rules l.marks 0 l.n) l.out l.at
+    (rules_fields l.form.marked l.form.symbols l.form.words l.rules l.marks l.i (l.n - l.i))
+
+abbrev pub decreases-loop-i : goal.decreases-loop-i
+decreases-loop-i l = l.n - l.i

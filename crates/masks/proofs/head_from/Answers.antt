@@ -1,0 +1,19 @@
+-- By the digits below the first that is 1, counted from a place on.
+use Prim.Native.Nat.{◌/◌, ◌^◌}
+use native.Mathlib.Omega.{arith}
+use lib.Count.{trailing_le}
+use Rattle.masks.proofs.Digits.{lacks_before}
+use borrow.Author.Rules.{rules}
+use Rattle.masks.proofs.head_from.Goals as goal
+
+pub overflow_cast-next-2 : goal.overflow_cast-next-2
+overflow_cast-next-2 c = search (rules, trailing_le 32 (c.args.heads / 2 ^ c.args.from))
+
+pub overflow_add-next : goal.overflow_add-next
+overflow_add-next c = search (rules, trailing_le 32 (c.args.heads / 2 ^ c.args.from))
+
+pub returns-then-next-n : goal.returns-then-next-n
+returns-then-next-n c = (search rules, search rules, λ b h l. lacks_before 32 c.args.heads c.args.from b h (omega (arith, l)))
+
+pub returns-else-next-n : goal.returns-else-next-n
+returns-else-next-n c = (search rules, search rules, λ b h l. lacks_before 32 c.args.heads c.args.from b h (omega (arith, l)))

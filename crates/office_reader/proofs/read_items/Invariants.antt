@@ -1,0 +1,17 @@
+-- `office_reader::read_items` meets its contract: what is left ends where all ends.
+use mathlib.Core.Path.{◌≡◌, sym, ◌∙◌}
+use Prim.Native.Nat.{◌+◌, ◌-◌, ◌*◌, ◌≤◌}
+use native.Mathlib.Omega.{arith}
+use borrow.Author.Rules.{rules}
+use Rattle.office.specs.Sheet.{items_from}
+use Rattle.office_reader.specs.Answer.{reached_of}
+use Rattle.office_reader.proofs.Passing.{Items, items_stop, items_go_on, item_end, items_end}
+use Rattle.office_reader.proofs.read_items.Given as goal
+
+abbrev pub invariant-loop-i : goal.invariant-loop-i
+invariant-loop-i l =
+    (l.i ≤ l.count) × (l.at ≡ l.start + 2 * l.i)
+    × (Items l.sheet l.v.symbols l.v.words l.count (l.count - l.i) l.at ≡ reached_of (items_from l.sheet l.v.symbols l.v.words l.count l.count l.start))
+
+abbrev pub decreases-loop-i : goal.decreases-loop-i
+decreases-loop-i l = l.count - l.i

@@ -1,0 +1,94 @@
+-- `office_reader::read_rules` meets its contract: the rules read so far stand in the sheet and in the filter, and what is left ends where all ends.
+use mathlib.Core.Path.{◌≡◌, refl, sym, ◌∙◌}
+use mathlib.Core.List.{[]}
+use Prim.Native.Nat.{◌+◌, ◌-◌, ◌*◌, ◌≤◌}
+use native.Mathlib.Omega.{arith}
+use borrow.Author.Rules.{rules}
+use lib.ListN.{length, replicate, length-set}
+use Rattle.office.specs.Sheet.{rule_alike, office_rules_from}
+use Rattle.office.specs.Flat.{behind_all, office_rules_at}
+use Rattle.rules_reader.specs.Rules.{Filters}
+use Rattle.rules_reader.proofs.Filter.{filters_none}
+use Rattle.office_reader.specs.Answer.{reached_of}
+use Rattle.office_reader.specs.Filter.{rule_place}
+use Rattle.office_reader.proofs.Places.{filters_next}
+use Rattle.office_reader.proofs.Passing.{Rules, rules_start, rules_stop, rules_repeat, rules_go_on, rule_end, rules_end}
+use Rattle.office_reader.proofs.read_rules.Goals as goal
+
+pub loop-i-init : goal.loop-i-init
+unfolding behind_all office_rules_at
+loop-i-init c =
+    let a = c.args in (
+      omega arith,
+      refl,
+      omega arith,
+      rules_start a.sheet.now a.v.symbols a.v.words a.count,
+      refl,
+      filters_none rule_alike rule_place (replicate 4093 0),
+    )
+
+pub read_rule-requires : goal.read_rule-requires
+read_rule-requires c = (omega arith, c.requires.1)
+
+pub returns-in-Refused : goal.returns-in-Refused
+returns-in-Refused c =
+    let at-read-rule = c in
+    let l = at-read-rule.loop-i in
+    let a = at-read-rule.args in
+    sym (rules_stop a.sheet.now a.v.symbols a.v.words a.count l.i l.at at-read-rule.loop-i-test.true l.invariant.1
+    at-read-rule.read_rule.ensures c.in-Refused.is) ∙ l.invariant.3
+
+pub rule_place-place-requires : goal.rule_place-place-requires
+rule_place-place-requires c = omega arith
+
+pub repeated-requires : goal.repeated-requires
+repeated-requires c =
+    let place = c.rule_place-place.ensures in
+    let l = c.loop-i in
+    (omega arith, omega arith, omega (arith, place.1, l.invariant.4), place.0, l.invariant.5)
+
+pub returns-then-repeated : goal.returns-then-repeated
+returns-then-repeated c =
+    let at_next = c in
+    let at-read-rule = at_next in
+    let l = at-read-rule.loop-i in
+    let s = at-read-rule in
+    let a = s.args in
+    sym (rules_repeat a.sheet.now a.v.symbols a.v.words a.count l.i l.at at-read-rule.loop-i-test.true l.invariant.1
+    at-read-rule.read_rule.ensures s.requires.1.some_symbol s.requires.1.some_word at_next.in-Upto.is
+    (sym c.if-repeated.true ∙ c.repeated.ensures)) ∙ l.invariant.3
+
+pub bounds-filter-place : goal.bounds-filter-place
+bounds-filter-place c =
+    omega (arith, c.rule_place-place.ensures.1, c.loop-i.invariant.4)
+
+pub overflow_add-i : goal.overflow_add-i
+overflow_add-i c = omega arith
+
+pub loop-i-smaller : goal.loop-i-smaller
+loop-i-smaller c = omega arith
+
+pub loop-i-preserved : goal.loop-i-preserved
+loop-i-preserved c =
+    let place = c.rule_place-place.ensures in
+    let at_next = c in
+    let at-read-rule = at_next in
+    let l = at-read-rule.loop-i in
+    let s = at-read-rule in
+    let a = s.args in
+    let end = rule_end a.sheet.now a.v.symbols a.v.words a.count l.i l.at at-read-rule.loop-i-test.true l.invariant.1
+    at-read-rule.read_rule.ensures s.requires.1.some_symbol s.requires.1.some_word at_next.in-Upto.is in (
+      omega (arith, at-read-rule.loop-i-test.true),
+      end.0,
+      omega (arith, end.1, l.invariant.2),
+      sym (rules_go_on a.sheet.now a.v.symbols a.v.words a.count l.i l.at at-read-rule.loop-i-test.true l.invariant.1
+          at-read-rule.read_rule.ensures s.requires.1.some_symbol s.requires.1.some_word at_next.in-Upto.is
+          (sym c.if-repeated.false ∙ c.repeated.ensures)) ∙ l.invariant.3,
+      simp length-set l.invariant.4,
+      filters_next a.sheet.now l.filter l.i l.at _ l.invariant.1 place.0 (omega (arith, place.1, l.invariant.4)) l.invariant.5,
+    )
+
+pub returns : goal.returns
+returns c =
+    let a = c.args in
+    sym (rules_end a.sheet.now a.v.symbols a.v.words a.count c.loop-i.i c.loop-i.at (omega arith)) ∙ c.loop-i.invariant.3

@@ -1,0 +1,50 @@
+-- The table's front is filled, and made zeros again unless a reading is handed out.
+use mathlib.Core.Path.{refl, sym}
+use native.Mathlib.Omega.{arith}
+use lib.ListN.{length-append}
+use lib.Seq.{length-take-le}
+use Rattle.open_search.specs.Model.{first_table}
+use Rattle.open_search.proofs.Searched.{stays, goes_back, table_first, zeros_again, front_size}
+use borrow.Author.Rules.{rules}
+use Rattle.open_search.proofs.first.Goals as goal
+
+pub slice_bounds-enumerate-end-2 : goal.slice_bounds-enumerate-end-2
+slice_bounds-enumerate-end-2 c =
+    let start = c in
+    sym (length-take-le _ _ start.requires.2)
+
+pub returns-then-is_reading : goal.returns-then-is_reading
+returns-then-is_reading c =
+    let at-settle = c in
+    let at-enumerate = at-settle in
+    let start = at-enumerate in
+    let a = start.args in
+    let table = first_table a.rules.now a.edges.now a.plan a.work.now in
+    let made = at-enumerate.enumerate.ensures.0 in
+    let first = table_first a.rules.now a.edges.now a.plan a.work.now start.requires.2 start.requires.3 made in
+    stays table a.rules.now a.edges.now a.plan 0 a.work.now a.out.now first at-settle.settle-answer.ensures.0 at-settle.settle-answer.ensures.1
+    c.is_reading.ensures c.if-is_reading.true
+
+pub slice_bounds-zero-end-2 : goal.slice_bounds-zero-end-2
+slice_bounds-zero-end-2 c =
+    let at-enumerate = c in
+    let start = at-enumerate in
+    let a = start.args in
+    sym (length-take-le _ _ (rw length-append
+    (omega (arith, at-enumerate.enumerate.auto.0, front_size a.rules.now a.edges.now a.plan a.work.now start.requires.2))))
+
+pub returns : goal.returns
+returns c =
+    let at-if1 = c in
+    let at-is-reading = at-if1 in
+    let at-settle = at-is-reading in
+    let at-enumerate = at-settle in
+    let start = at-enumerate in
+    let a = start.args in
+    let table = first_table a.rules.now a.edges.now a.plan a.work.now in
+    let made = at-enumerate.enumerate.ensures.0 in
+    let first = table_first a.rules.now a.edges.now a.plan a.work.now start.requires.2 start.requires.3 made in
+    goes_back table a.rules.now a.edges.now a.plan 0 a.work.now a.out.now first at-settle.settle-answer.ensures.0
+    at-settle.settle-answer.ensures.1 at-is-reading.is_reading.ensures at-if1.if-is_reading.false
+    (zeros_again a.rules.now a.edges.now a.plan a.work.now start.requires.2 start.requires.3 made at-enumerate.enumerate.auto.0
+    c.zero.ensures refl)

@@ -1,0 +1,58 @@
+-- Up to the place reached both are equal, so that the order is that of the rest. Assumes nothing.
+use mathlib.Core.Path.{◌≡◌, refl}
+use Prim.Native.Nat.{◌-◌, ◌≤◌}
+use native.Mathlib.Omega.{arith}
+use lib.ListN.{drop}
+use borrow.Author.Rules.{rules}
+use Rattle.phrases.specs.Phrases.{word_order}
+use Rattle.phrases.specs.Padded.{join}
+use Rattle.padded_strings.proofs.Joined.{join_size}
+use Rattle.padded_strings.proofs.Compared.{compared_less, compared_more, compared_on, compared_end}
+use Rattle.padded_strings.proofs.join_precedes.Goals as goal
+
+pub loop-x-init : goal.loop-x-init
+loop-x-init c = (omega arith, refl)
+
+pub returns-then-p-q : goal.returns-then-p-q
+returns-then-p-q c =
+    let at-join-at = c in
+    let at-loop-test = at-join-at in
+    let at-loop = at-loop-test in
+    let at-start = at-loop in
+    let a = at-start.args in
+    let n = join_size a.a.now a.b.now a.i (search rules) (search rules) (search rules) in
+    compared_less (join a.a.now a.b.now a.i) a.best.now at-loop.loop-x.x at-loop.loop-x.invariant.1
+    (omega (arith, n, at-loop-test.loop-x-test.true)) (search rules) (omega (arith, at-join-at.join_at-p.ensures, c.if-p-q.true))
+
+pub returns-then-q-p : goal.returns-then-q-p
+returns-then-q-p c =
+    let at-join-at = c in
+    let at-loop-test = at-join-at in
+    let at-loop = at-loop-test in
+    let at-start = at-loop in
+    let a = at-start.args in
+    let n = join_size a.a.now a.b.now a.i (search rules) (search rules) (search rules) in
+    compared_more (join a.a.now a.b.now a.i) a.best.now at-loop.loop-x.x at-loop.loop-x.invariant.1
+    (omega (arith, n, at-loop-test.loop-x-test.true)) (search rules) (omega (arith, at-join-at.join_at-p.ensures, c.if-q-p.true))
+
+pub loop-x-preserved : goal.loop-x-preserved
+loop-x-preserved c =
+    let at-join-at = c in
+    let at-loop-test = at-join-at in
+    let at-loop = at-loop-test in
+    let at-start = at-loop in
+    let a = at-start.args in
+    let n = join_size a.a.now a.b.now a.i (search rules) (search rules) (search rules) in (
+      search rules,
+      compared_on (join a.a.now a.b.now a.i) a.best.now at-loop.loop-x.x at-loop.loop-x.invariant.1
+          (omega (arith, n, at-loop-test.loop-x-test.true)) (search rules) (omega (arith, at-join-at.join_at-p.ensures, c.if-p-q.false))
+          (omega (arith, at-join-at.join_at-p.ensures, c.if-q-p.false)),
+    )
+
+pub returns : goal.returns
+returns c =
+    let at-args = c in
+    let a = at-args.args in
+    let n = join_size a.a.now a.b.now a.i (search rules) (search rules) (search rules) in
+    compared_end (join a.a.now a.b.now a.i) a.best.now c.loop-x.x c.loop-x.invariant.1 (omega (arith, n, c.loop-x-test.false))
+    (search rules)

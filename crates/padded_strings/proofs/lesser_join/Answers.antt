@@ -1,0 +1,28 @@
+-- Each way out is one of the definition's cases. Assumes nothing.
+use borrow.Author.Rules.{rules}
+use borrow.Author.Tests.{eq-eqb, ne_eqb}
+use Rattle.phrases.specs.Padded.{lesser_join}
+use Rattle.padded_strings.proofs.lesser_join.Goals as goal
+
+pub returns-then-a : goal.returns-then-a
+unfolding lesser_join
+returns-then-a c = rw (eq-eqb _ _ c.if-a.true)
+
+pub returns-then-b : goal.returns-then-b
+unfolding lesser_join
+returns-then-b c = rw (ne_eqb _ _ c.if-a.false, eq-eqb _ _ c.if-b.true)
+
+pub returns-then-join_precedes : goal.returns-then-join_precedes
+unfolding lesser_join
+returns-then-join_precedes c =
+    let at-join-precedes = c in
+    let at-if2 = at-join-precedes in
+    let at-if1 = at-if2 in
+    rw (ne_eqb _ _ at-if1.if-a.false, ne_eqb _ _ at-if2.if-b.false, ← at-join-precedes.join_precedes.ensures, c.if-join_precedes.true) c.join.ensures
+
+pub returns : goal.returns
+unfolding lesser_join
+returns c =
+    let at-if2 = c in
+    let at-if1 = at-if2 in
+    rw (ne_eqb _ _ at-if1.if-a.false, ne_eqb _ _ at-if2.if-b.false, ← c.join_precedes.ensures, c.if-join_precedes.false)

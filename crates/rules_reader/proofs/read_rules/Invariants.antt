@@ -1,0 +1,22 @@
+-- `rules_reader::read_rules` meets its contract: after each turn the rules read so far are those of the definition, and their
+-- numbers and marks stand at the arrays' fronts. Assumes nothing.
+use mathlib.Core.Path.{◌≡◌, refl, sym, subst, ◌∙◌}
+use Prim.Native.Nat.{◌+◌, ◌-◌, ◌*◌, ◌≤◌, ◌<◌}
+use native.Mathlib.Omega.{arith}
+use borrow.Author.Rules.{rules}
+use lib.Dec.{eqb}
+use lib.ListN.{length, take, replicate, length-set}
+use Rattle.packing.specs.Read.{source_of}
+use Rattle.rules_reader.specs.Rules.{MarkedNear, Sound, filter_place, Filtered}
+use Rattle.rules_reader.proofs.Filter.{filters_none, filtered_more}
+use Rattle.rules_reader.proofs.Turns.{ReadSoFar, none_passed, all_passed, rule_refused, rule_repeated, rule_passed}
+use Rattle.rules_reader.proofs.read_rules.Given as goal
+
+abbrev pub invariant-loop-i : goal.invariant-loop-i
+invariant-loop-i l =
+    (l.i ≤ l.end) × (l.at ≤ l.start + 42 * l.i) × (length l.keys ≡ 256) × (length l.rules ≡ length l.initial.rules) × (length l.marks ≡ length l.initial.marks)
+    × ReadSoFar l.marked (source_of l.src l.block l.sheet) l.v.symbols l.v.words l.count l.start l.i l.at l.keys l.initial.rules l.rules l.marks
+    × (length l.filter ≡ 1021) × Filtered (take l.i l.keys) l.filter
+
+abbrev pub decreases-loop-i : goal.decreases-loop-i
+decreases-loop-i l = l.end - l.i

@@ -1,0 +1,96 @@
+-- After i numbers the arrays hold the state that the run has come to, with no more parts than slots.
+use mathlib.Core.Path.{◌≡◌, refl, sym, ap, ◌∙◌}
+use mathlib.Core.List.{List, [], ◌∷◌}
+use Prim.Native.Nat.{◌-◌, ◌*◌, ◌^◌, ◌≤◌}
+use native.Mathlib.Omega.{arith}
+use borrow.Author.Rules.{rules}
+use lib.ListN.{length, take, drop}
+use Rattle.packing.specs.declared.Rule as R
+use Rattle.packing.specs.Meaning.{symbol_of}
+use Rattle.derivation.specs.Walk.{State, onward, run, finished, walk_weight}
+use Rattle.packing.specs.Flat.{rules_of, slots_of}
+use Rattle.parse_stack.specs.Stack.{heads_of}
+use Rattle.slots_check.specs.Slots.{state_of}
+use Rattle.parse_stack.specs.declared.Step.TheVariants.{Onward}
+use Rattle.slots_check.proofs.Steps.{run_more, run_lost, run_over, at_end, not_at_end}
+use Rattle.slots_check.proofs.weight_of.Goals as goal
+
+pub overflow_mul-numbers : goal.overflow_mul-numbers
+overflow_mul-numbers c = omega arith
+
+pub overflow_sub-numbers : goal.overflow_sub-numbers
+overflow_sub-numbers c = omega arith
+
+pub loop-i-init : goal.loop-i-init
+unfolding heads_of
+loop-i-init c = (omega arith, refl, omega arith, omega arith, omega arith, omega arith, refl)
+
+pub slice_bounds-follow-end : goal.slice_bounds-follow-end
+slice_bounds-follow-end c = omega arith
+
+pub follow-requires : goal.follow-requires
+follow-requires c = omega (arith, c.number_at.ensures.1)
+
+pub returns-in_default : goal.returns-in_default
+unfolding walk_weight finished
+returns-in_default c =
+    let at-follow = c in
+    let at_test = at-follow in
+    let at-loop = at_test in
+    let a = at-loop.args in
+    let l = at-loop.loop-i in
+    let followed = at-follow.follow in
+    let rules : List R.Rule = rules_of a.rules.now a.count in
+    let from : State = state_of a.slots.now l.stack (Onward l.at) in
+    let next = sym (ap (state_of a.slots.now followed.new.1.1.1.0) c.in_default.is) ∙ followed.ensures.0 in
+    let lost = run_lost rules from a.walk.now (2 * a.n - 1) l.i (omega arith) at_test.loop-i-test.true
+    at-follow.number_at.ensures.0 next in
+    ap finished (sym lost ∙ l.invariant.6)
+
+pub overflow_add-i : goal.overflow_add-i
+overflow_add-i c = omega arith
+
+pub loop-i-smaller : goal.loop-i-smaller
+loop-i-smaller c = omega arith
+
+pub loop-i-preserved : goal.loop-i-preserved
+loop-i-preserved c =
+    let at_next = c in
+    let at-follow = at_next in
+    let at_test = at-follow in
+    let at-loop = at_test in
+    let a = at-loop.args in
+    let l = at-loop.loop-i in
+    let followed = at-follow.follow in
+    let rules : List R.Rule = rules_of a.rules.now a.count in
+    let from : State = state_of a.slots.now l.stack (Onward l.at) in
+    let next = sym (ap (state_of a.slots.now followed.new.1.1.1.0) at_next.in-Onward.is) ∙ followed.ensures.0 in
+    let more = run_more rules from a.walk.now (2 * a.n - 1) l.i (omega arith) at_test.loop-i-test.true
+    at-follow.number_at.ensures.0 next in
+    let further = rw at_next.in-Onward.is at followed.ensures.1 in
+    let kept = followed.auto.1.1.1.0 in
+    (omega arith, kept ∙ l.invariant.1, omega arith, omega arith, omega arith, omega arith, more ∙ l.invariant.6)
+
+pub returns-then-at-eq0 : goal.returns-then-at-eq0
+unfolding walk_weight
+returns-then-at-eq0 c =
+    let at_test = c in
+    let at-loop = at_test in
+    let a = at-loop.args in
+    let l = at-loop.loop-i in
+    let rules : List R.Rule = rules_of a.rules.now a.count in
+    let from : State = state_of a.slots.now l.stack (Onward l.at) in
+    let over = run_over rules from a.walk.now (2 * a.n - 1) l.i at_test.loop-i-test.false in
+    sym (at_end a.slots.now l.stack l.at c.if-at-eq0.true l.invariant.2) ∙ ap finished (sym over ∙ l.invariant.6)
+
+pub returns : goal.returns
+unfolding walk_weight
+returns c =
+    let at_test = c in
+    let at-loop = at_test in
+    let a = at-loop.args in
+    let l = at-loop.loop-i in
+    let rules : List R.Rule = rules_of a.rules.now a.count in
+    let from : State = state_of a.slots.now l.stack (Onward l.at) in
+    let over = run_over rules from a.walk.now (2 * a.n - 1) l.i at_test.loop-i-test.false in
+    sym (not_at_end a.slots.now l.stack l.at c.if-at-eq0.false) ∙ ap finished (sym over ∙ l.invariant.6)

@@ -1,0 +1,26 @@
+-- After i numbers the arrays hold the state that the run has come to, with no more parts than slots.
+use mathlib.Core.Path.{◌≡◌, refl, sym, ap, ◌∙◌}
+use mathlib.Core.List.{List, [], ◌∷◌}
+use Prim.Native.Nat.{◌-◌, ◌*◌, ◌^◌, ◌≤◌}
+use native.Mathlib.Omega.{arith}
+use borrow.Author.Rules.{rules}
+use lib.ListN.{length, take, drop}
+use Rattle.packing.specs.declared.Rule as R
+use Rattle.packing.specs.Meaning.{symbol_of}
+use Rattle.derivation.specs.Walk.{State, onward, run, finished, walk_weight}
+use Rattle.packing.specs.Flat.{rules_of, slots_of}
+use Rattle.parse_stack.specs.Stack.{heads_of}
+use Rattle.slots_check.specs.Slots.{state_of}
+use Rattle.parse_stack.specs.declared.Step.TheVariants.{Onward}
+use Rattle.slots_check.proofs.Steps.{run_more, run_lost, run_over, at_end, not_at_end}
+use Rattle.slots_check.proofs.weight_of.Given as goal
+
+abbrev pub invariant-loop-i : goal.invariant-loop-i
+invariant-loop-i l =
+    (l.i ≤ l.numbers) × (length l.stack ≡ 24) × (l.at.height ≤ l.at.left) × (l.at.left ≤ 24) × (l.at.place ≤ 2 ^ 33 * l.i)
+    × (l.at.weight ≤ 2 ^ 33 * l.i)
+    × (run (rules_of l.rules l.count) (state_of l.slots l.stack (Onward l.at)) (drop l.i (take l.numbers l.walk))
+    ≡ run (rules_of l.rules l.count) (onward (slots_of l.slots l.n 0) (symbol_of 0 ∷ []) 0) (take l.numbers l.walk))
+
+abbrev pub decreases-loop-i : goal.decreases-loop-i
+decreases-loop-i l = l.numbers - l.i

@@ -1,0 +1,15 @@
+-- The service's answer is small, and its code is the verdict's; so the demands are met. Assumes nothing.
+use borrow.Author.Rules.{rules}
+use Rattle.spireyerba.proofs.Small.{small_utterance_sheet}
+use Rattle.spireyerba.proofs.Codes.{written_small, written_number}
+use Rattle.spireyerba.proofs.Demands.{utterance_to_sheet_lem}
+use Rattle.spireyerba.proofs.spireyerba_utterance_to_sheet.Goals as goal
+
+pub written_code-requires : goal.written_code-requires
+written_code-requires c = written_small (small_utterance_sheet _ _ _) c.utterance_to_sheet.ensures.0.0
+
+pub returns : goal.returns
+returns c =
+    let answered = c.utterance_to_sheet.ensures in
+    let code = written_number (small_utterance_sheet _ _ _) answered.0.0 c.written_code.ensures in
+    (record { code_is = code; left_is = answered.0.1 }, utterance_to_sheet_lem _ _ _ code answered.0.1 answered.0.0 answered.1)

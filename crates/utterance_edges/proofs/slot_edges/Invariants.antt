@@ -1,0 +1,24 @@
+-- `utterance_edges::slot_edges` meets its contract: the edges stored so far and those that are left are the slot's. Assumes
+-- nothing.
+use mathlib.Core.Path.{◌≡◌, refl, sym, ◌∙◌}
+use mathlib.Core.List.{List, [], ◌∷◌, ◌++◌}
+use Prim.Native.Nat.{◌+◌, ◌-◌, ◌*◌, ◌≤◌}
+use native.Mathlib.Nat.{add-zero}
+use native.Mathlib.Omega.{arith}
+use borrow.Author.Rules.{rules}
+use lib.ListN.{length, length-append}
+use Rattle.packing.specs.Meaning.{Edge, edge, word}
+use Rattle.packing.specs.Flat.{edge_numbers}
+use Rattle.packing.specs.Store.{store_all}
+use Rattle.utterance_edges.specs.Edges.{candidate_edges}
+use Rattle.utterance_edges.proofs.Edges.{edges_stored, candidate_edge, candidate_edges_end}
+use Rattle.utterance_edges.proofs.slot_edges.Given as goal
+
+abbrev pub invariant-loop-k : goal.invariant-loop-k
+invariant-loop-k l =
+    (l.k ≤ l.count) × (length l.edges ≡ length l.initial.edges)
+    × ((es : List Edge) × (length es ≡ l.k) × (l.edges ≡ store_all l.initial.edges l.to (edge_numbers es))
+    × (es ++ candidate_edges l.slots l.slot (l.count - l.k) (l.p + 2 * l.k) ≡ candidate_edges l.slots l.slot l.count l.p))
+
+abbrev pub decreases-loop-k : goal.decreases-loop-k
+decreases-loop-k l = l.count - l.k
