@@ -119,9 +119,9 @@ module _ {A : Type 0} (src : Source) (item : ℕ → Parse A) (like : A → A �
     where
       go : {at : ℕ} → Taken src at [] next → parsed l at ≡ parsed (l ++ []) next
       go all = rw append-nil
-  unlike_back back {at} l (x ∷ new) (p, f) (o, os) t =
+  unlike_back back {at} l (x ∷ new) {next = next} (p, f) (o, os) t =
       let (mid, a, b) = taken_split (one x) (rw cons at t) in
-      rw (back at x mid o a, p, unlike_back back (l ++ (x ∷ [])) new f os b, append_assoc)
+      rw (back at x mid o a, p, unlike_back back {at = mid} (l ++ (x ∷ [])) new {next = next} f os b, append_assoc)
 
   -- all items
   module _ (like-sym : (x y : A) → like x y ≡ like y x) where

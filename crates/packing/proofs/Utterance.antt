@@ -73,9 +73,9 @@ module _ (src : Source) (W : ℕ) where
   slots_back : {at : ℕ} (u new : Utterance) {next : ℕ} → Taken src at (slots_entries W new) next → slots_from src W (length new) at u ≡ parsed (u ++ new) next
   unfolding slots_from slots_entries
   slots_back u [] all = rw append-nil
-  slots_back u (cs ∷ new) t =
+  slots_back {at = at} u (cs ∷ new) {next = next} t =
       let (mid, a, b) = taken_split (slot_entries W cs) t in
-      rw (slot_back cs a, slots_back (u ++ (cs ∷ [])) new b, append_assoc)
+      rw (slot_back cs a, slots_back {at = mid} (u ++ (cs ∷ [])) new {next = next} b, append_assoc)
 
   pub utterance_out : (at : ℕ) {u : Utterance} {next : ℕ} → utterance_from src W at ≡ parsed u next → Taken src at (utterance_entries W u) next
   unfolding utterance_from utterance_entries
