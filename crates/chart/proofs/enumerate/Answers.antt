@@ -12,8 +12,8 @@ search-requires c =
     let at-zero-front = c in
     let at-zero-behind = at-zero-front in
     let at_pre = at-zero-behind in
-    (let zeros = at-zero-front.zero_front.ensures (rw at-zero-behind.zero_behind.auto.0 at-zero-behind.zero_behind.ensures)
-    ∙ ap (λ (n : ℕ). replicate n 0) at-zero-behind.zero_behind.auto.0 in
+    (let zeros = at-zero-front.zero_front.ensures (rw at-zero-behind.zero_behind.auto.t at-zero-behind.zero_behind.ensures)
+    ∙ ap (λ (n : ℕ). replicate n 0) at-zero-behind.zero_behind.auto.t in
     (at_pre.requires.0, search rules, λ x. rw zeros (zeros_at (length at_pre.args.t.now) x)))
 
 pub cell_number-requires : goal.cell_number-requires
@@ -26,8 +26,8 @@ returns c =
     let at-zero-front = at-search in
     let at-make-index = at-zero-front in
     let at-zero-behind = at-make-index in
-    let zeros = at-zero-front.zero_front.ensures (rw at-zero-behind.zero_behind.auto.0 at-zero-behind.zero_behind.ensures)
-    ∙ ap (λ (n : ℕ). replicate n 0) at-zero-behind.zero_behind.auto.0 in (
+    let zeros = at-zero-front.zero_front.ensures (rw at-zero-behind.zero_behind.auto.t at-zero-behind.zero_behind.ensures)
+    ∙ ap (λ (n : ℕ). replicate n 0) at-zero-behind.zero_behind.auto.t in (
       rw (← at-make-index.make_index.ensures, ← zeros) at-search.search.ensures,
       (
         rw (← c.root.ensures, ← c.cell_number.ensures.0) c.first_missing.ensures.0,

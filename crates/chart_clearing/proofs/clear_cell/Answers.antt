@@ -21,7 +21,7 @@ loop-x-preserved c =
     let c₂ = c in
     let c₅ = c₂ in (
       search rules,
-      c₂.clear_entry.auto.0 ∙ c₅.loop-x.invariant.1,
+      c₂.clear_entry.auto.t ∙ c₅.loop-x.invariant.1,
       rw (iter_more, ← c₅.loop-x.invariant.2) c₂.clear_entry.ensures,
     )
 

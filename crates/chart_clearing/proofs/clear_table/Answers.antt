@@ -17,7 +17,7 @@ loop-c-preserved c =
     let c₂ = c in
     let c₅ = c₂ in (
       search rules,
-      c₂.clear_cell.auto.0 ∙ c₅.loop-c.invariant.1,
+      c₂.clear_cell.auto.t ∙ c₅.loop-c.invariant.1,
       rw (iter_more, ← c₅.loop-c.invariant.2) c₂.clear_cell.ensures,
     )
 

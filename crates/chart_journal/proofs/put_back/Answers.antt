@@ -28,7 +28,7 @@ loop-n-preserved c =
     let at-loop = c in (
       search (rules, at-loop.loop-n.invariant),
       at-loop.loop-n.invariant.1,
-      c.restore_entry.auto.0 ∙ at-loop.loop-n.invariant.2,
+      c.restore_entry.auto.t ∙ at-loop.loop-n.invariant.2,
       rw c.restore_entry.ensures (restore_less _ _ _ (search rules) ∙ at-loop.loop-n.invariant.3),
     )
 

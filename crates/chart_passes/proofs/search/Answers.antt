@@ -20,7 +20,7 @@ first_pass-requires c =
     let at-mark-rules = c in
     let at_pre = at-mark-rules in (
       at_pre.requires.0,
-      covers_zeros _ _ at_pre.args.d (omega (arith, at-mark-rules.mark_rules.auto.0)) at_pre.requires.2,
+      covers_zeros _ _ at_pre.args.d (omega (arith, at-mark-rules.mark_rules.auto.masks)) at_pre.requires.2,
       at-mark-rules.mark_rules.ensures,
     )
 
@@ -36,7 +36,7 @@ pub shape_of-t-then-price_at-eq0 : goal.shape_of-t-then-price_at-eq0
 shape_of-t-then-price_at-eq0 c =
     let at-loop = c in
     let at-first-pass = at-loop in
-    at-loop.loop-x.invariant.1 ∙ at-first-pass.first_pass.auto.0
+    at-loop.loop-x.invariant.1 ∙ at-first-pass.first_pass.auto.t
 
 pub returns-then-price_at-eq0 : goal.returns-then-price_at-eq0
 unfolding model.search
@@ -80,11 +80,11 @@ loop-x-preserved c =
           at-loop-test.loop-x-test.true (rw (← at_root.root.ensures, ← at-cell-number.cell_number.ensures.0, ← at-price-at.price_at.ensures.0)
           at-if1.if-price_at-eq0.false)
           ∙ rw (← at-next-of-root.next_of_root.ensures.0),
-      at-next-of-root.next_of_root.auto.1.0 ∙ at-loop.loop-x.invariant.3,
+      at-next-of-root.next_of_root.auto.kept ∙ at-loop.loop-x.invariant.3,
     )
 
 pub shape_of-t : goal.shape_of-t
-shape_of-t c = c.loop-x.invariant.1 ∙ c.first_pass.auto.0
+shape_of-t c = c.loop-x.invariant.1 ∙ c.first_pass.auto.t
 
 pub returns : goal.returns
 unfolding model.search

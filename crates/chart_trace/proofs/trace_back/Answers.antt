@@ -26,7 +26,7 @@ loop-first-preserved-in-Pair c =
     let c₉ = c₅ in
     let c₁₁ = c₉ in
     let c₁₅ = c₁₁ in (
-      c₉.trace_node-back.auto.1.1.1.0 ∙ c₁₁.loop-first.invariant.0,
+      c₉.trace_node-back.auto.trace ∙ c₁₁.loop-first.invariant.0,
       rw (c.left_part-left.ensures, c₉.trace_node-back.ensures.2) (descends _ _
           _ c₁₁.loop-first.invariant.1 c₉.trace_node-back.ensures.0 c₉.trace_node-back.ensures.1 c₁₅.requires.0.last c₃.in-Pair.is c₅.rule_within-rule.ensures
           c.part_number.ensures.0 c.part_number.ensures.1),
@@ -36,7 +36,7 @@ pub shape_of-trace-then-n-eq0 : goal.shape_of-trace-then-n-eq0
 shape_of-trace-then-n-eq0 c =
     let c₇ = c in
     let c₉ = c₇ in
-    c₇.trace_node-back.auto.1.1.1.0 ∙ c₉.loop-first.invariant.0
+    c₇.trace_node-back.auto.trace ∙ c₉.loop-first.invariant.0
 
 pub returns-then-n-eq0 : goal.returns-then-n-eq0
 returns-then-n-eq0 c = λ f h.
@@ -65,7 +65,7 @@ loop-first-preserved c =
     let c₄ = c₂ in
     let c₈ = c₄ in
     let c₁₀ = c₈ in (
-      c₈.trace_node-back.auto.1.1.1.0 ∙ c₁₀.loop-first.invariant.0,
+      c₈.trace_node-back.auto.trace ∙ c₁₀.loop-first.invariant.0,
       rw (c.numbered_part-part.ensures, c₈.trace_node-back.ensures.2) (resumes _ _ _
           c₁₀.loop-first.invariant.1 c₈.trace_node-back.ensures.0 _ c₂.in-Word.is c₄.rule_within-rule.ensures (omega arith)),
     )

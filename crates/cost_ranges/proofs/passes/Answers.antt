@@ -71,6 +71,6 @@ returns c =
     at-first-weight.first_weight-greatest.new.1.1.1.0
     at-enumerate.enumerate-found.ensures.0 at-enumerate.enumerate-found.ensures.1.0 at-if1.if-found-eq0.false at-root-weight.root_weight-least.ensures
     at-trace-root.trace_root-numbers.ensures.0 at-trace-root.trace_root-numbers.ensures.1
-    at-enumerate.enumerate-found.auto.0 at-first-weight.first_weight-greatest.ensures.1 at-first-weight.first_weight-greatest.auto.1.1.1.0
+    at-enumerate.enumerate-found.auto.t at-first-weight.first_weight-greatest.ensures.1 at-first-weight.first_weight-greatest.auto.work
     at-has-least.has_least-stands.ensures.0 at-has-least.has_least-stands.ensures.1 at-clear-table2.clear_table-2.ensures
     c.decide.ensures

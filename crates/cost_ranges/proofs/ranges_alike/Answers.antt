@@ -48,4 +48,4 @@ returns c =
     let room : table_size a.sizes.symbols a.heard.last 1 ≤ length a.work.now = rw numbers at at-if1.if-work-table_numbers.false in
     alike_passed a.rules.now a.sizes a.low.now a.high.now a.heard a.work.now room at-lay-out.lay_out-table.ensures.0
     at-passes.passes.ensures.0
-    at-passes.passes.ensures.1 at-passes.passes.auto.1.1.1.1.0
+    at-passes.passes.ensures.1 at-passes.passes.auto.work

@@ -32,7 +32,7 @@ write_sheet-requires c =
     let at-z = at_wide in
     let at-read-marked-block = at-z in
     let b = rw at-z.in-Grammar.is at at-read-marked-block.read_marked_block.ensures.bounds in
-    (omega arith, omega (arith, b.rules, at_wide.wide-count.ensures.0, at-join-marks.join_marks.auto.1.1.1.0))
+    (omega arith, omega (arith, b.rules, at_wide.wide-count.ensures.0, at-join-marks.join_marks.auto.joined))
 
 pub returns-then-marked : goal.returns-then-marked
 unfolding grammar_to_sheet
@@ -63,7 +63,7 @@ write_sheet-requires-in-Grammar c =
     let at-z = at_wide in
     let at-read-marked-block = at-z in
     let b = rw at-z.in-Grammar.is at at-read-marked-block.read_marked_block.ensures.bounds in
-    (omega arith, omega (arith, b.rules, at_wide.wide-count.ensures.0, at-read-marked-block.read_marked_block.auto.1.0))
+    (omega arith, omega (arith, b.rules, at_wide.wide-count.ensures.0, at-read-marked-block.read_marked_block.auto.rules))
 
 pub returns-in-Refused : goal.returns-in-Refused
 unfolding grammar_to_sheet

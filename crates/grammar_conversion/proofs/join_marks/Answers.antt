@@ -28,7 +28,7 @@ loop-i-preserved c =
     let at-loop = at-loop-test in
     let at-args = at-loop in (
       omega (arith, at-loop-test.loop-i-test.true),
-      c.join_rule.auto.1.1.1.0 ∙ at-loop.loop-i.invariant.1,
+      c.join_rule.auto.joined ∙ at-loop.loop-i.invariant.1,
       rows_turn at-args.args.rules.now at-args.args.marks.now at-args.args.n at-loop.loop-i.i at-loop-test.loop-i-test.true
           at-loop.loop-i.joined c.join_rule.ensures ∙ at-loop.loop-i.invariant.2,
     )

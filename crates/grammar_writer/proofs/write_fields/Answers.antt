@@ -67,10 +67,10 @@ write_rules-requires c =
       omega (
         arith,
         room,
-        at-write-field.write_field.auto.0,
-        at-write-field2.write_field-2.auto.0,
-        at-write-field3.write_field-3.auto.0,
-        at-write-field4.write_field-4.auto.0,
+        at-write-field.write_field.auto.out,
+        at-write-field2.write_field-2.auto.out,
+        at-write-field3.write_field-3.auto.out,
+        at-write-field4.write_field-4.auto.out,
       ),
     )
 

@@ -22,7 +22,7 @@ write_field-requires c =
     let room = mark_room f.symbols f.words a.rule a.mark f.marked c.if-form.true in (
       omega (arith, at-args.requires.0, at-write-rule.write_rule-next.ensures.1),
       omega arith,
-      omega (arith, at-args.requires.2, room, at-write-rule.write_rule-next.ensures.0, at-write-rule.write_rule-next.auto.0),
+      omega (arith, at-args.requires.2, room, at-write-rule.write_rule-next.ensures.0, at-write-rule.write_rule-next.auto.out),
     )
 
 pub overflow_add-result : goal.overflow_add-result

@@ -130,7 +130,7 @@ loop-i-preserved c =
     let more = read_on rules es (bytes 31 a.block.now) a.graph.last (2 * a.n - 1) l.i from l.bit at-loop-test.loop-i-test.true read.0
     next in
     let further = rw c.in-Onward.is at at-follow.follow.ensures.1 in
-    let kept = at-follow.follow.auto.1.1.1.1.0 in
+    let kept = at-follow.follow.auto.stack in
     let x = at-node.in-Node.node in
     let keeps = kept_more rules (bytes 31 a.block.now) (2 * a.n - 1) l.walk l.i l.bit at-loop-test.loop-i-test.true
     (omega (arith, l.invariant.8, at-args.requires)) read.0

@@ -91,7 +91,7 @@ loop-i-preserved c =
       omega (arith, t.loop-i-test.true),
       omega (arith, l.inv.1, (near k).3),
       simp length-set l.inv.2,
-      c.store_edge.auto.0 ∙ l.inv.3,
+      c.store_edge.auto.edges ∙ l.inv.3,
       edge_passed _ _ _ _ _ _ l.inv.4 t.loop-i-test.true k.read_edge.ensures k.in-Edge.is (near k).1
           (near k).2
           (rw s.edge_key-key.ensures at s.seen.ensures) at-if1.if-seen.false s.edge_key-key.ensures

@@ -21,6 +21,6 @@ returns c =
       made = at-enumerate.enumerate-m.ensures.0;
       number = at-enumerate.enumerate-m.ensures.1.0;
       blocks = at-write-readings.write_readings.ensures;
-      size = at-enumerate.enumerate-m.auto.0;
+      size = at-enumerate.enumerate-m.auto.t;
       emptied = at_clear.clear_table.ensures;
     }

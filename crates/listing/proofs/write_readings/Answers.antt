@@ -63,7 +63,7 @@ loop-x-preserved c =
     let size = a.form.size in
     let part = at-write-rank.write_rank.new.1.1.1.1.1.0 in (
       omega (arith, at-write-rank.loop-x-test.true),
-      same_len_mid (l.x * size) (length l.out - l.x * size) l.out part at-write-rank.write_rank.auto.1.1.1.1.1.0 ∙ l.invariant.1,
+      same_len_mid (l.x * size) (length l.out - l.x * size) l.out part at-write-rank.write_rank.auto.out ∙ l.invariant.1,
       written_more a.t.now a.rules.now a.d a.form at-start.requires.1 l.x a.out.now l.invariant.2 at-write-rank.write_rank.ensures,
     )
 

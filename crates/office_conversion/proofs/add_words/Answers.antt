@@ -57,8 +57,8 @@ loop-j-preserved c =
       omega arith,
       omega arith,
       omega arith,
-      at-add-item.add_item-k.auto.1.1.0 ∙ at-loop.loop-j.invariant.3,
-      at-add-item.add_item-k.auto.1.1.1.0 ∙ at-loop.loop-j.invariant.4,
+      at-add-item.add_item-k.auto.rules ∙ at-loop.loop-j.invariant.3,
+      at-add-item.add_item-k.auto.places ∙ at-loop.loop-j.invariant.4,
       x,
       λ a hs rs v.
           let (gs, w, e) = at-loop.loop-j.invariant.6 a hs rs v in (

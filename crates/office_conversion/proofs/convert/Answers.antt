@@ -72,8 +72,8 @@ loop-i-preserved c =
       at-loop.loop-i.invariant.1,
       omega arith,
       omega arith,
-      at-convert-rule.convert_rule-k.auto.1.1.0 ∙ at-loop.loop-i.invariant.4,
-      at-convert-rule.convert_rule-k.auto.1.1.1.0 ∙ at-loop.loop-i.invariant.5,
+      at-convert-rule.convert_rule-k.auto.rules ∙ at-loop.loop-i.invariant.4,
+      at-convert-rule.convert_rule-k.auto.places ∙ at-loop.loop-i.invariant.5,
       rw c.number_at.ensures.0 (one_more at-args.args.sheet.now at-args.args.base.symbols at-args.args.base.rules
           at-args.args.rules.now v l (at-convert-rule.convert_rule-k.ensures.1 at-args.args.rules.now v.hs v.rs v.size v.holds)),
     )

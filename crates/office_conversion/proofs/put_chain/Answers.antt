@@ -79,7 +79,7 @@ loop-j-preserved c =
     let rest = rw at_wide.wide.ensures.0 at at-top-of.top_of-rest.ensures in
     let new = rw at-wide2.wide-in-loop-j.ensures.0 at c.put_rule.ensures in (
       omega arith,
-      c.put_rule.auto.0 ∙ at-loop.loop-j.invariant.1,
+      c.put_rule.auto.rules ∙ at-loop.loop-j.invariant.1,
       chain_turn at-args.args.sheet.now at-args.args.places.now at-args.args.base.symbols at-args.args.base.rules at-args.args.k
           at-args.args.p at-args.args.n at-loop.loop-j.rules at-loop.loop-j.j at-loop-test.loop-j-test.true first rest new
           ∙ at-loop.loop-j.invariant.2,

@@ -18,7 +18,7 @@ overflow_add-result c =
     omega (
       arith,
       call_reading a.grammar.now a.utterance.now (place_at a.handed a.opened) a.work.now a.out.now
-          e.called e.kept e.computed t.next-answer.auto.1.1.1.0 c.in-Reading.is,
+          e.called e.kept e.computed t.next-answer.auto.work c.in-Reading.is,
     )
 
 pub refusal-requires : goal.refusal-requires
@@ -27,7 +27,7 @@ refusal-requires c =
     let a = (start t).args in
     let e = t.next-answer.ensures in
     call_refusal a.grammar.now a.utterance.now (place_at a.handed a.opened) a.work.now a.out.now
-    e.called e.kept e.computed t.next-answer.auto.1.1.1.0 c.in-Refused.is
+    e.called e.kept e.computed t.next-answer.auto.work c.in-Refused.is
 
 pub returns-in-Reading : goal.returns-in-Reading
 returns-in-Reading c =
@@ -35,7 +35,7 @@ returns-in-Reading c =
     let a = (start t).args in
     let e = t.next-answer.ensures in
     answered a.grammar.now a.utterance.now (place_at a.handed a.opened) a.work.now a.out.now
-    e.called e.kept e.computed t.next-answer.auto.1.1.1.0 Reading c.in-Reading.is
+    e.called e.kept e.computed t.next-answer.auto.work Reading c.in-Reading.is
 
 pub returns-in-NoMore : goal.returns-in-NoMore
 returns-in-NoMore c =
@@ -43,7 +43,7 @@ returns-in-NoMore c =
     let a = (start t).args in
     let e = t.next-answer.ensures in
     answered a.grammar.now a.utterance.now (place_at a.handed a.opened) a.work.now a.out.now
-    e.called e.kept e.computed t.next-answer.auto.1.1.1.0 NoMore c.in-NoMore.is
+    e.called e.kept e.computed t.next-answer.auto.work NoMore c.in-NoMore.is
 
 pub returns-in-Full : goal.returns-in-Full
 returns-in-Full c =
@@ -51,7 +51,7 @@ returns-in-Full c =
     let a = (start t).args in
     let e = t.next-answer.ensures in
     answered a.grammar.now a.utterance.now (place_at a.handed a.opened) a.work.now a.out.now
-    e.called e.kept e.computed t.next-answer.auto.1.1.1.0 Full c.in-Full.is
+    e.called e.kept e.computed t.next-answer.auto.work Full c.in-Full.is
 
 pub returns-in-Refused : goal.returns-in-Refused
 returns-in-Refused c =
@@ -59,4 +59,4 @@ returns-in-Refused c =
     let a = (start t).args in
     let e = t.next-answer.ensures in
     turned_away a.grammar.now a.utterance.now (place_at a.handed a.opened) a.work.now a.out.now
-    e.called e.kept e.computed t.next-answer.auto.1.1.1.0 c.in-Refused.is c.refusal.ensures
+    e.called e.kept e.computed t.next-answer.auto.work c.in-Refused.is c.refusal.ensures

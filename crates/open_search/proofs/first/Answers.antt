@@ -31,7 +31,7 @@ slice_bounds-zero-end-2 c =
     let start = at-enumerate in
     let a = start.args in
     sym (length-take-le _ _ (rw length-append
-    (omega (arith, at-enumerate.enumerate.auto.0, front_size a.rules.now a.edges.now a.plan a.work.now start.requires.2))))
+    (omega (arith, at-enumerate.enumerate.auto.t, front_size a.rules.now a.edges.now a.plan a.work.now start.requires.2))))
 
 pub returns : goal.returns
 returns c =
@@ -46,5 +46,5 @@ returns c =
     let first = table_first a.rules.now a.edges.now a.plan a.work.now start.requires.2 start.requires.3 made in
     goes_back table a.rules.now a.edges.now a.plan 0 a.work.now a.out.now first at-settle.settle-answer.ensures.0
     at-settle.settle-answer.ensures.1 at-is-reading.is_reading.ensures at-if1.if-is_reading.false
-    (zeros_again a.rules.now a.edges.now a.plan a.work.now start.requires.2 start.requires.3 made at-enumerate.enumerate.auto.0
+    (zeros_again a.rules.now a.edges.now a.plan a.work.now start.requires.2 start.requires.3 made at-enumerate.enumerate.auto.t
     c.zero.ensures refl)

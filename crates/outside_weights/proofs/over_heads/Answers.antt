@@ -47,7 +47,7 @@ loop-a-preserved c =
     let at-loop-test = at-push-node in
     let at-loop = at-loop-test in (
       omega (arith, at-loop-test.loop-a-test.true),
-      at-push-node.push_node.auto.0 ∙ at-loop.loop-a.invariant.1,
+      at-push-node.push_node.auto.t ∙ at-loop.loop-a.invariant.1,
       at-push-node.push_node.ensures.1 ∙ at-loop.loop-a.invariant.2,
       at-push-node.push_node.ensures.0 ∙ rw (iter_more, ← at-loop.loop-a.invariant.3, at-loop.loop-a.invariant.2),
     )

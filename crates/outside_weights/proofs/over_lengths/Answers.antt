@@ -38,7 +38,7 @@ loop-x-preserved c =
     let at-loop-test = at-over-spans in
     let at-loop = at-loop-test in (
       omega (arith, at-loop-test.loop-x-test.true),
-      at-over-spans.over_spans.auto.0 ∙ at-loop.loop-x.invariant.1,
+      at-over-spans.over_spans.auto.t ∙ at-loop.loop-x.invariant.1,
       at-over-spans.over_spans.ensures.1 ∙ at-loop.loop-x.invariant.2,
       at-over-spans.over_spans.ensures.0 ∙ rw (iter_more, ← at-loop.loop-x.invariant.3, at-loop.loop-x.invariant.2),
     )

@@ -54,7 +54,7 @@ loop-from-preserved c =
     let at-loop-test = at-over-heads in
     let at-loop = at-loop-test in (
       omega (arith, at-loop-test.loop-from-test.true),
-      at-over-heads.over_heads.auto.0 ∙ at-loop.loop-from.invariant.1,
+      at-over-heads.over_heads.auto.t ∙ at-loop.loop-from.invariant.1,
       at-over-heads.over_heads.ensures.1 ∙ at-loop.loop-from.invariant.2,
       at-over-heads.over_heads.ensures.0 ∙ rw (iter_more, ← at-loop.loop-from.invariant.3, at-loop.loop-from.invariant.2),
     )

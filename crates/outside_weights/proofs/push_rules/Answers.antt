@@ -40,7 +40,7 @@ loop-y-preserved c =
     let at-loop = at-loop-test in (
       omega (arith, at-loop.loop-y.invariant.0),
       omega (arith, at-loop-test.loop-y-test.true, at-loop.loop-y.invariant.0),
-      at-push-rule.push_rule.auto.0 ∙ at-loop.loop-y.invariant.2,
+      at-push-rule.push_rule.auto.t ∙ at-loop.loop-y.invariant.2,
       at-push-rule.push_rule.ensures.1 ∙ at-loop.loop-y.invariant.3,
       at-push-rule.push_rule.ensures.0 ∙ rw (
         from_more _ _ _ _

@@ -74,7 +74,7 @@ loop-x-preserved c =
     let at-loop-test = at-cell-number in
     let at-loop = at-loop-test in (
       omega (arith, at-loop-test.loop-x-test.true),
-      at-push-split.push_split.auto.0 ∙ at-loop.loop-x.invariant.1,
+      at-push-split.push_split.auto.t ∙ at-loop.loop-x.invariant.1,
       at-push-split.push_split.ensures.1 ∙ at-loop.loop-x.invariant.2,
       at-push-split.push_split.ensures.0 ∙ rw
           (iter_more, ← at-loop.loop-x.invariant.3, at-loop.loop-x.invariant.2, at-cell-number.cell_number.ensures.0, at-cell-number2.cell_number-in-loop-x.ensures.0),

@@ -34,7 +34,7 @@ loop-i-preserved c =
     let at-args = at-loop in (
       omega (arith, at-loop-test.loop-i-test.true),
       omega (arith, c.show_rule-k.ensures.1, at-loop.loop-i.invariant.1),
-      c.show_rule-k.auto.1.1.0 ∙ at-loop.loop-i.invariant.2,
+      c.show_rule-k.auto.shown ∙ at-loop.loop-i.invariant.2,
       one_more at-args.args.marks.now at-args.args.walk.now at-loop.loop-i.i at-loop.loop-i.k c.show_rule-k.result
           at-loop.loop-i.shown c.show_rule-k.new.1.1.0
           (omega (arith, at-loop-test.loop-i-test.true, at-args.requires.0)) at-loop.loop-i.invariant.3 c.show_rule-k.ensures.2,

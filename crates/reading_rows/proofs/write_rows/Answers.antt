@@ -118,9 +118,9 @@ loop-k-preserved c =
       rows_within at-loop.loop-k.k at-args.args.m (length at-args.args.shown.now) at-loop-test.loop-k-test.true at-args.requires.1
           at-args.requires.3,
     ) in
-    let size : length part ≡ 50 = c.write_row.auto.1.1.1.1.1.0 ∙ row_length l.k l.shown room in (
+    let size : length part ≡ 50 = c.write_row.auto.row ∙ row_length l.k l.shown room in (
       omega (arith, at-loop-test.loop-k-test.true),
-      same_len_mid (l.k * 50) (l.k * 50 + 50 - l.k * 50) l.shown part c.write_row.auto.1.1.1.1.1.0 ∙ l.invariant.1,
+      same_len_mid (l.k * 50) (l.k * 50 + 50 - l.k * 50) l.shown part c.write_row.auto.row ∙ l.invariant.1,
       rows_more a.rules.now a.marks.now a.s a.out.now l.k at-size-of.type_size.result at-size-of.type_size.ensures a.shown.now
           l.shown part l.invariant.2 size room c.write_row.ensures,
     )

@@ -49,7 +49,7 @@ loop-i-preserved c =
     let e = c.raise_node-own.ensures in (
       omega arith,
       omega (arith, e.1.1, at-loop.loop-i.invariant.1),
-      c.raise_node-own.auto.1.1.1.1.0 ∙ at-loop.loop-i.invariant.2,
+      c.raise_node-own.auto.costs ∙ at-loop.loop-i.invariant.2,
       next_remain a.rules.now a.trace.now a.nodes at-loop.loop-i.i a.high.now (nodes_in a.rules.now (take (2 * a.nodes) a.trace.now))
           at-loop-test.loop-i-test.true
           at-args.requires.1 e.0 e.1.0 at-loop.loop-i.invariant.3,

@@ -125,7 +125,7 @@ loop-i-preserved c =
       omega (arith, at-loop-test.loop-i-test.true),
       omega (arith, at-loop.loop-i.invariant.1, (near (before-10)).1),
       simp length-set at-loop.loop-i.invariant.2,
-      c.store_rule.auto.0 ∙ at-loop.loop-i.invariant.3,
+      c.store_rule.auto.rules ∙ at-loop.loop-i.invariant.3,
       simp length-set at-loop.loop-i.invariant.4,
       rule_passed _ _ _ _ _ _ at-loop.loop-i.invariant.5 (omega (arith, at-loop-test.loop-i-test.true)) _ at-read-marked.read_marked-read.ensures.0
           (near (before-10)).0 at-read2.in-Rule.is

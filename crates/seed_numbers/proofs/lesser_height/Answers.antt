@@ -8,6 +8,6 @@ returns-then-other-height c = (lower _ _ _ _ c.requires c.wrapping_sub_usize-oth
 
 pub returns-else-other-height : goal.returns-else-other-height
 returns-else-other-height c = (
-  not_lower _ _ _ _ c.requires c.wrapping_sub_usize-other.ensures c.wrapping_sub_usize-other.type-inv c.if-other-height.false,
+  not_lower _ _ _ _ c.requires c.wrapping_sub_usize-other.ensures c.wrapping_sub_usize-other.type_inv c.if-other-height.false,
   search rules,
 )

@@ -93,7 +93,7 @@ loop-i-preserved c =
     let cs = l.invariant.3.0 in (
       omega arith,
       omega (arith, (bounds k).1),
-      c.store_candidate.auto.0 ∙ l.invariant.2,
+      c.store_candidate.auto.slots ∙ l.invariant.2,
       (
         cs ++ (candidate (word x.0) x.1.0 ∷ []),
         simp length-append (omega arith),

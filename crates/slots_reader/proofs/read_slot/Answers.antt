@@ -43,7 +43,7 @@ read_candidates-requires c =
     ))
 
 pub shape_of-slots : goal.shape_of-slots
-shape_of-slots c = c.read_candidates.auto.1.1.1.1.1.1.0 ∙ simp length-set
+shape_of-slots c = c.read_candidates.auto.slots ∙ simp length-set
 
 pub returns : goal.returns
 returns c =

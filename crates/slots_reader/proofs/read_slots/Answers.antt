@@ -35,7 +35,7 @@ pub shape_of-slots-in-Refused : goal.shape_of-slots-in-Refused
 shape_of-slots-in-Refused c =
     let at-read-slot = c in
     let at-loop = at-read-slot in
-    at-read-slot.read_slot.auto.1.1.1.1.1.0 ∙ at-loop.loop-i.invariant.3
+    at-read-slot.read_slot.auto.slots ∙ at-loop.loop-i.invariant.3
 
 pub returns-in-Refused : goal.returns-in-Refused
 returns-in-Refused c =
@@ -69,7 +69,7 @@ loop-i-preserved c =
       omega arith,
       omega arith,
       omega arith,
-      at-read-slot.read_slot.auto.1.1.1.1.1.0 ∙ l.invariant.3,
+      at-read-slot.read_slot.auto.slots ∙ l.invariant.3,
       (
         u ++ (r.0 ∷ []),
         simp length-append (omega arith),

@@ -66,7 +66,7 @@ loop-i-preserved c =
       omega arith,
       omega arith,
       omega arith,
-      c.slot_edges.auto.1.1.1.1.0 ∙ l.invariant.3,
+      c.slot_edges.auto.edges ∙ l.invariant.3,
       (
         es ++ fs,
         simp length-append (omega arith),

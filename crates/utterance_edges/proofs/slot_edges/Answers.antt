@@ -67,7 +67,7 @@ loop-k-preserved c =
     let es = l.invariant.2.0 in
     let e = edge a.slot (a.slot + 1) (word at-narrow-at.narrow_at-word.result) at-narrow-at2.narrow_at-cost.result in (
       omega arith,
-      c.store_edge.auto.0 ∙ l.invariant.1,
+      c.store_edge.auto.edges ∙ l.invariant.1,
       (
         es ++ (e ∷ []),
         simp length-append (omega arith),

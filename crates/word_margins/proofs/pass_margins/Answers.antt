@@ -21,8 +21,8 @@ returns-then-found-eq0 c =
       told.0,
       (
         (
-          c.zero.ensures ∙ ap (λ (n : ℕ). replicate n 0) at-enumerate.enumerate-found.auto.0,
-          ap length (sym at-enumerate.enumerate-found.ensures.0) ∙ at-enumerate.enumerate-found.auto.0,
+          c.zero.ensures ∙ ap (λ (n : ℕ). replicate n 0) at-enumerate.enumerate-found.auto.t,
+          ap length (sym at-enumerate.enumerate-found.ensures.0) ∙ at-enumerate.enumerate-found.auto.t,
         ),
         told.1,
       ),
@@ -66,8 +66,8 @@ returns c =
       told.0,
       (
         (
-          c.zero-2.ensures ∙ ap (λ (n : ℕ). replicate n 0) (at_fill_lem.fill.auto.0 ∙ at-enumerate.enumerate-found.auto.0),
-          ap length (sym at-enumerate.enumerate-found.ensures.0) ∙ at-enumerate.enumerate-found.auto.0,
+          c.zero-2.ensures ∙ ap (λ (n : ℕ). replicate n 0) (at_fill_lem.fill.auto.t ∙ at-enumerate.enumerate-found.auto.t),
+          ap length (sym at-enumerate.enumerate-found.ensures.0) ∙ at-enumerate.enumerate-found.auto.t,
         ),
         told.1,
       ),

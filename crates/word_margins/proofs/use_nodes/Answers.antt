@@ -48,7 +48,7 @@ loop-i-preserved c =
     let at-loop = at-loop-test in
     let at-args = at-loop in (
       omega (arith, at-loop-test.loop-i-test.true),
-      c.use_node.auto.1.1.1.0 ∙ at-loop.loop-i.invariant.1,
+      c.use_node.auto.used ∙ at-loop.loop-i.invariant.1,
       next_used at-args.args.rules.now at-args.args.trace.now at-args.args.nodes at-loop.loop-i.i at-loop-test.loop-i-test.true
           at-args.requires.1 at-loop.loop-i.used c.use_node.ensures ∙ at-loop.loop-i.invariant.2,
     )

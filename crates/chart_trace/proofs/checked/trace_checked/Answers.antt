@@ -77,7 +77,7 @@ loop-scope-preserved-in-Pairing c =
     let c₁₃ = c₁₁ in
     let c₁₅ = c₁₃ in
     let c₂₀ = c₁₅ in (
-      c₈.store_node.auto.0 ∙ c₁₅.loop-scope.invariant.0,
+      c₈.store_node.auto.trace ∙ c₁₅.loop-scope.invariant.0,
       rw (c.left_part-left.ensures, c₈.store_node.ensures)
           (descends _ _ _ c₁₅.loop-scope.invariant.1 (c₁₀.back_pointer-back.ensures.0 ∙ ap back_pointer c₁₃.tree_of-tree.ensures.1) c₁₀.back_pointer-back.ensures.1
           c₂₀.requires.0.last
@@ -110,7 +110,7 @@ pub shape_of-trace-in-Wrong : goal.shape_of-trace-in-Wrong
 shape_of-trace-in-Wrong c =
     let c₅ = c in
     let c₁₂ = c₅ in
-    c₅.store_node.auto.0 ∙ c₁₂.loop-scope.invariant.0
+    c₅.store_node.auto.trace ∙ c₁₂.loop-scope.invariant.0
 
 pub returns-in-Wrong : goal.returns-in-Wrong
 returns-in-Wrong c =
@@ -128,7 +128,7 @@ pub shape_of-trace-then-n-eq0 : goal.shape_of-trace-then-n-eq0
 shape_of-trace-then-n-eq0 c =
     let c₇ = c in
     let c₁₄ = c₇ in
-    c₇.store_node.auto.0 ∙ c₁₄.loop-scope.invariant.0
+    c₇.store_node.auto.trace ∙ c₁₄.loop-scope.invariant.0
 
 pub returns-then-n-eq0 : goal.returns-then-n-eq0
 returns-then-n-eq0 c =
@@ -165,7 +165,7 @@ loop-scope-preserved c =
     let c₁₁ = c₁₀ in
     let c₁₃ = c₁₁ in
     let c₁₅ = c₁₃ in (
-      c₈.store_node.auto.0 ∙ c₁₅.loop-scope.invariant.0,
+      c₈.store_node.auto.trace ∙ c₁₅.loop-scope.invariant.0,
       rw (c.numbered_part-here.ensures, c₈.store_node.ensures) (resumes _ _ _ c₁₅.loop-scope.invariant.1
           (c₁₀.back_pointer-back.ensures.0 ∙ ap back_pointer c₁₃.tree_of-tree.ensures.1) _
           (seen_as _ _ _ _ _ c₅.checked_node-node.ensures.0 c₃.in-Leaf.is).3 refl (omega arith)),
