@@ -1,6 +1,5 @@
 -- By the digits of the disjunction.
 use Rattle.masks.proofs.Digits.{put_or}
-use borrow.Author.Rules.{rules}
 use Rattle.masks.proofs.put.Goals as goal
 
 pub returns : goal.returns
