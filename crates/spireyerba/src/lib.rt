@@ -1,4 +1,4 @@
-// The library for C and Rust (include/spireyerba.h): each exported function is a call of a service, with the answer as one
+// The functions of the library for C and Rust (include/spireyerba.h): each public function is a call of a service, with the answer as one
 // number: 0 or more is the answer, less than 0 is minus the refusal's number.
 #![tactic(auto)]
 
@@ -31,8 +31,7 @@ use open_search::Place;
 use specimen::Answered;
 
 // The block of a grammar sheet, at the front of the output.
-#[unsafe(no_mangle)]
-pub extern "C" fn spireyerba_grammar_to_block(sheet: &[u32], out: &mut [u8]) -> i32
+pub fn spireyerba_grammar_to_block(sheet: &[u32], out: &mut [u8]) -> i32
     ensures answered_as { AnsweredAs length written (fitting (grammar_to_block sheet.now) out.old) out.old result out.new }
     ensures grammar_to_block { demands.GrammarToBlock sheet.now out.old result out.new }
 {
@@ -40,8 +39,7 @@ pub extern "C" fn spireyerba_grammar_to_block(sheet: &[u32], out: &mut [u8]) -> 
 }
 
 // The sheet of a grammar block.
-#[unsafe(no_mangle)]
-pub extern "C" fn spireyerba_grammar_to_sheet(block: &[u8], out: &mut [u32]) -> i32
+pub fn spireyerba_grammar_to_sheet(block: &[u8], out: &mut [u32]) -> i32
     ensures answered_as { AnsweredAs length written (fitting (grammar_to_sheet block.now) out.old) out.old result out.new }
     ensures grammar_to_sheet { demands.GrammarToSheet block.now out.old result out.new }
 {
@@ -49,8 +47,7 @@ pub extern "C" fn spireyerba_grammar_to_sheet(block: &[u8], out: &mut [u32]) -> 
 }
 
 // The block of an office sheet, a grammar's with marks.
-#[unsafe(no_mangle)]
-pub extern "C" fn spireyerba_office_to_block(sheet: &[u32], out: &mut [u8]) -> i32
+pub fn spireyerba_office_to_block(sheet: &[u32], out: &mut [u8]) -> i32
     ensures answered_as { AnsweredAs length written (fitting (office_to_block sheet.now) out.old) out.old result out.new }
     ensures office_to_block { demands.OfficeToBlock sheet.now out.old result out.new }
 {
@@ -58,12 +55,7 @@ pub extern "C" fn spireyerba_office_to_block(sheet: &[u32], out: &mut [u8]) -> i
 }
 
 // The block of an utterance sheet under a grammar.
-#[unsafe(no_mangle)]
-pub extern "C" fn spireyerba_utterance_to_block(
-    grammar: &[u8],
-    sheet: &[u32],
-    out: &mut [u8],
-) -> i32
+pub fn spireyerba_utterance_to_block(grammar: &[u8], sheet: &[u32], out: &mut [u8]) -> i32
     ensures answered_as { AnsweredAs length written (fitting (utterance_to_block grammar.now sheet.now) out.old) out.old result
         out.new }
     ensures utterance_to_block { demands.UtteranceToBlock grammar.now sheet.now out.old result out.new }
@@ -72,12 +64,7 @@ pub extern "C" fn spireyerba_utterance_to_block(
 }
 
 // The sheet of an utterance block under a grammar.
-#[unsafe(no_mangle)]
-pub extern "C" fn spireyerba_utterance_to_sheet(
-    grammar: &[u8],
-    block: &[u8],
-    out: &mut [u32],
-) -> i32
+pub fn spireyerba_utterance_to_sheet(grammar: &[u8], block: &[u8], out: &mut [u32]) -> i32
     ensures answered_as { AnsweredAs length written (fitting (utterance_to_sheet grammar.now block.now) out.old) out.old result
         out.new }
     ensures utterance_to_sheet { demands.UtteranceToSheet grammar.now block.now out.old result out.new }
@@ -86,8 +73,7 @@ pub extern "C" fn spireyerba_utterance_to_sheet(
 }
 
 // The readings of the least derivations, one after another at the front of the output: their number.
-#[unsafe(no_mangle)]
-pub extern "C" fn spireyerba_listing(
+pub fn spireyerba_listing(
     grammar: &[u8],
     utterance: &[u8],
     wanted: u32,
@@ -104,8 +90,7 @@ pub extern "C" fn spireyerba_listing(
 }
 
 // The same within the limits of the panel for plan desks.
-#[unsafe(no_mangle)]
-pub extern "C" fn spireyerba_panel_listing(
+pub fn spireyerba_panel_listing(
     grammar: &[u8],
     utterance: &[u8],
     wanted: u32,
@@ -122,8 +107,7 @@ pub extern "C" fn spireyerba_panel_listing(
 }
 
 // Whether a reading passes the check: 0 if it does.
-#[unsafe(no_mangle)]
-pub extern "C" fn spireyerba_check(grammar: &[u8], utterance: &[u8], reading: &[u8]) -> i32
+pub fn spireyerba_check(grammar: &[u8], utterance: &[u8], reading: &[u8]) -> i32
     ensures value { result ≡ check_code (check grammar.now utterance.now reading.now) }
     ensures check { demands.Check grammar.now utterance.now reading.now result }
 {
@@ -131,8 +115,7 @@ pub extern "C" fn spireyerba_check(grammar: &[u8], utterance: &[u8], reading: &[
 }
 
 // The chance of a reading that passes the check, by the share of each rule: 0, with the product in `chance`.
-#[unsafe(no_mangle)]
-pub extern "C" fn spireyerba_chance(
+pub fn spireyerba_chance(
     grammar: &[u8],
     utterance: &[u8],
     reading: &[u8],
@@ -156,8 +139,7 @@ pub extern "C" fn spireyerba_chance(
 }
 
 // The least word string of the wanted length that the grammar derives: the length, or 0 where there is none.
-#[unsafe(no_mangle)]
-pub extern "C" fn spireyerba_specimen(grammar: &[u8], wanted: u32, out: &mut [u8]) -> i32
+pub fn spireyerba_specimen(grammar: &[u8], wanted: u32, out: &mut [u8]) -> i32
     ensures answered_as { AnsweredAs string_length output_of (specimen grammar.now wanted (length out.old)) out.old result
         out.new }
     ensures specimen { demands.Specimen grammar.now wanted out.old result out.new }
@@ -172,13 +154,7 @@ pub extern "C" fn spireyerba_specimen(grammar: &[u8], wanted: u32, out: &mut [u8
 
 // A word string of the wanted length that the grammar derives: the least, or if `first` is 0 the least above the one at the front of the
 // output. The length, or 0 where there is none.
-#[unsafe(no_mangle)]
-pub extern "C" fn spireyerba_next_phrase(
-    grammar: &[u8],
-    wanted: u32,
-    first: u32,
-    out: &mut [u8],
-) -> i32
+pub fn spireyerba_next_phrase(grammar: &[u8], wanted: u32, first: u32, out: &mut [u8]) -> i32
     ensures answered_as { AnsweredAs string_length output_of (next grammar.now wanted first out.old) out.old result
         out.new }
     ensures next_phrase { demands.NextPhrase grammar.now wanted first out.old result out.new }
@@ -193,8 +169,7 @@ pub extern "C" fn spireyerba_next_phrase(
 
 // How the first weight varies where costs are known within ranges, between those of two blocks: 0 where there is no derivation, else the least and the
 // greatest first weight in `least` and `greatest`, with 1 if the first reading for the low costs is outweighed under some choice, and 2 if under none.
-#[unsafe(no_mangle)]
-pub extern "C" fn spireyerba_cost_ranges(
+pub fn spireyerba_cost_ranges(
     grammar: &[u8],
     low: &[u8],
     high: &[u8],
@@ -225,8 +200,7 @@ pub extern "C" fn spireyerba_cost_ranges(
 }
 
 // The words to listen to again, four numbers each at the front of the output: their number.
-#[unsafe(no_mangle)]
-pub extern "C" fn spireyerba_word_margins(
+pub fn spireyerba_word_margins(
     grammar: &[u8],
     utterance: &[u8],
     work: &mut [u32],
@@ -242,13 +216,7 @@ pub extern "C" fn spireyerba_word_margins(
 }
 
 // Opens a listing: 0, with the place of no readings handed out and the work table all zeros.
-#[unsafe(no_mangle)]
-pub extern "C" fn spireyerba_open(
-    grammar: &[u8],
-    utterance: &[u8],
-    place: &mut Place,
-    work: &mut [u32],
-) -> i32
+pub fn spireyerba_open(grammar: &[u8], utterance: &[u8], place: &mut Place, work: &mut [u32]) -> i32
     ensures { OpenedAs (opening grammar.now utterance.now (length work.old)) place.old work.old
         (returned result place.new work.new)
         × onebyone.Open grammar.now utterance.now place.old work.old
@@ -264,8 +232,7 @@ pub extern "C" fn spireyerba_open(
 
 // One more reading of an open listing at the front of the output: 1, or 0 where there are no more and 2 where all that can be listed were handed
 // out.
-#[unsafe(no_mangle)]
-pub extern "C" fn spireyerba_next(
+pub fn spireyerba_next(
     grammar: &[u8],
     utterance: &[u8],
     place: &mut Place,

@@ -20,8 +20,7 @@ returns-then-code-eq2 c = simp (ne_eqb _ _ c.if-code-eq0.false, ne_eqb _ _ c.if-
 pub returns-then-last-lt-SIBLING : goal.returns-then-last-lt-SIBLING
 unfolding shifted
 returns-then-last-lt-SIBLING c =
-    let at-if1 = c in
-    simp (ne_eqb _ _ at-if1.if-code-eq0.false, ne_eqb _ _ c.if-code-eq1.false, ne_eqb _ _ c.if-code-eq2.false) (omega (arith, c.if-last-lt-SIBLING.true))
+    simp (ne_eqb _ _ c.if-code-eq0.false, ne_eqb _ _ c.if-code-eq1.false, ne_eqb _ _ c.if-code-eq2.false) (omega (arith, c.if-last-lt-SIBLING.true))
 
 pub returns-else-last-lt-SIBLING : goal.returns-else-last-lt-SIBLING
 unfolding shifted
