@@ -9,7 +9,7 @@ use Rattle.chart_leaves.proofs.first_leaf.Goals as goal
 pub returns-then-lacks : goal.returns-then-lacks
 returns-then-lacks c = (
   c.no_key.ensures ∙ sym (no_leaves _ _ _ _ 0 no_key
-      (c.requires.0.2 (rw c.wide.ensures.0 at (c.lacks.ensures c.if-lacks.true)))),
+      (c.requires.from_le_last_place.2 (rw c.wide.ensures.0 at (c.lacks.ensures c.if-lacks.true)))),
   rw c.no_key.ensures (le_refl no_key),
 )
 
