@@ -3,7 +3,6 @@ use mathlib.Core.Path.{sym, ◌∙◌}
 use native.Mathlib.Nat.{le_refl}
 use Rattle.chart_keys.specs.Keys.{no_key}
 use Rattle.chart_candidates.proofs.PassedOver.{leaves_below, no_leaves}
-use borrow.Author.Rules.{rules}
 use Rattle.chart_leaves.proofs.first_leaf.Goals as goal
 
 pub returns-then-lacks : goal.returns-then-lacks
