@@ -32,14 +32,10 @@ read_rule-requires c = (omega arith, c.requires.1)
 
 pub returns-in-Refused : goal.returns-in-Refused
 returns-in-Refused c =
-    let at-read-rule = c in
-    let l = at-read-rule.loop-i in
-    let a = at-read-rule.args in
-    sym (rules_stop a.sheet.now a.v.symbols a.v.words a.count l.i l.at at-read-rule.loop-i-test.true l.invariant.1
-    at-read-rule.read_rule.ensures c.in-Refused.is) ∙ l.invariant.3
-
-pub rule_place-place-requires : goal.rule_place-place-requires
-rule_place-place-requires c = omega arith
+    let l = c.loop-i in
+    let a = c.args in
+    sym (rules_stop a.sheet.now a.v.symbols a.v.words a.count l.i l.at c.loop-i-test.true l.invariant.1
+    c.read_rule.ensures c.in-Refused.is) ∙ l.invariant.3
 
 pub repeated-requires : goal.repeated-requires
 repeated-requires c =
@@ -49,40 +45,28 @@ repeated-requires c =
 
 pub returns-then-repeated : goal.returns-then-repeated
 returns-then-repeated c =
-    let at_next = c in
-    let at-read-rule = at_next in
-    let l = at-read-rule.loop-i in
-    let s = at-read-rule in
-    let a = s.args in
-    sym (rules_repeat a.sheet.now a.v.symbols a.v.words a.count l.i l.at at-read-rule.loop-i-test.true l.invariant.1
-    at-read-rule.read_rule.ensures s.requires.1.some_symbol s.requires.1.some_word at_next.in-Upto.is
+    let l = c.loop-i in
+    let a = c.args in
+    sym (rules_repeat a.sheet.now a.v.symbols a.v.words a.count l.i l.at c.loop-i-test.true l.invariant.1
+    c.read_rule.ensures c.requires.1.some_symbol c.requires.1.some_word c.in-Upto.is
     (sym c.if-repeated.true ∙ c.repeated.ensures)) ∙ l.invariant.3
 
 pub bounds-filter-place : goal.bounds-filter-place
 bounds-filter-place c =
     omega (arith, c.rule_place-place.ensures.1, c.loop-i.invariant.4)
 
-pub overflow_add-i : goal.overflow_add-i
-overflow_add-i c = omega arith
-
-pub loop-i-smaller : goal.loop-i-smaller
-loop-i-smaller c = omega arith
-
 pub loop-i-preserved : goal.loop-i-preserved
 loop-i-preserved c =
     let place = c.rule_place-place.ensures in
-    let at_next = c in
-    let at-read-rule = at_next in
-    let l = at-read-rule.loop-i in
-    let s = at-read-rule in
-    let a = s.args in
-    let end = rule_end a.sheet.now a.v.symbols a.v.words a.count l.i l.at at-read-rule.loop-i-test.true l.invariant.1
-    at-read-rule.read_rule.ensures s.requires.1.some_symbol s.requires.1.some_word at_next.in-Upto.is in (
-      omega (arith, at-read-rule.loop-i-test.true),
+    let l = c.loop-i in
+    let a = c.args in
+    let end = rule_end a.sheet.now a.v.symbols a.v.words a.count l.i l.at c.loop-i-test.true l.invariant.1
+    c.read_rule.ensures c.requires.1.some_symbol c.requires.1.some_word c.in-Upto.is in (
+      omega (arith, c.loop-i-test.true),
       end.0,
       omega (arith, end.1, l.invariant.2),
-      sym (rules_go_on a.sheet.now a.v.symbols a.v.words a.count l.i l.at at-read-rule.loop-i-test.true l.invariant.1
-          at-read-rule.read_rule.ensures s.requires.1.some_symbol s.requires.1.some_word at_next.in-Upto.is
+      sym (rules_go_on a.sheet.now a.v.symbols a.v.words a.count l.i l.at c.loop-i-test.true l.invariant.1
+          c.read_rule.ensures c.requires.1.some_symbol c.requires.1.some_word c.in-Upto.is
           (sym c.if-repeated.false ∙ c.repeated.ensures)) ∙ l.invariant.3,
       simp length-set l.invariant.4,
       filters_next a.sheet.now l.filter l.i l.at _ l.invariant.1 place.0 (omega (arith, place.1, l.invariant.4)) l.invariant.5,

@@ -7,5 +7,4 @@ use Rattle.office_reader.proofs.repeated.Goals as goal
 
 pub returns-then-filter-place-eq0 : goal.returns-then-filter-place-eq0
 returns-then-filter-place-eq0 c =
-    let s = c in
-    filters_miss rule_alike rule_place _ _ s.args.filter.now s.requires.4 (rw s.requires.3 at c.if-filter-place-eq0.true)
+    filters_miss rule_alike rule_place _ _ c.args.filter.now c.requires.4 (rw c.requires.3 at c.if-filter-place-eq0.true)
