@@ -2,7 +2,6 @@
 use native.Mathlib.Omega.{arith}
 use Rattle.packing.specs.Heard.{heard_block}
 use Rattle.inputs.proofs.BlocksRead.{grammar_refused, grammar_read}
-use borrow.Author.Rules.{rules}
 use Rattle.inputs.proofs.read_inputs.Goals as goal
 
 pub read_heard-requires : goal.read_heard-requires

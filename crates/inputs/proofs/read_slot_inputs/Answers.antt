@@ -2,7 +2,6 @@
 use native.Mathlib.Omega.{arith}
 use Rattle.packing.specs.Heard.{as_slots}
 use Rattle.inputs.proofs.BlocksRead.{grammar_refused, grammar_read}
-use borrow.Author.Rules.{rules}
 use Rattle.inputs.proofs.read_slot_inputs.Goals as goal
 
 pub read_slots-requires : goal.read_slots-requires
