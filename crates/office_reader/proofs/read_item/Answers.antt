@@ -1,13 +1,9 @@
 -- `office_reader::read_item` meets its contract: its two fields are taken as the definition takes them.
-use mathlib.Core.Path.{◌≡◌, sym}
-use Prim.Native.Nat.{◌+◌}
 use native.Mathlib.Omega.{arith}
-use Rattle.packing.specs.Parse.{parsed}
-use Rattle.packing.specs.Source.{numbers, field_at}
+use Rattle.packing.specs.Source.{numbers}
 use Rattle.packing.proofs.Taking.{field_at_numbers_out}
 use Rattle.rules_reader.proofs.Taken.{got, missed}
 use Rattle.office.specs.Sheet.{item_kind, item_from}
-use borrow.Author.Rules.{rules}
 use Rattle.office_reader.proofs.read_item.Goals as goal
 
 pub returns-in_default : goal.returns-in_default

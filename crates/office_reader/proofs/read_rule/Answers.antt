@@ -1,17 +1,14 @@
 -- `office_reader::read_rule` meets its contract: head, weight and count are taken as the definition takes them, then the items.
-use mathlib.Core.Path.{◌≡◌, refl, sym, ◌∙◌}
-use Prim.Native.Nat.{◌+◌}
+use mathlib.Core.Path.{refl, sym, ◌∙◌}
 use native.Mathlib.Omega.{arith}
 use Rattle.packing.specs.Meaning as M
-use Rattle.packing.specs.Parse.{parsed}
-use Rattle.packing.specs.Source.{numbers, field_at}
+use Rattle.packing.specs.Source.{numbers}
 use Rattle.packing.specs.Grammar as G
 use Rattle.packing.proofs.Taking.{field_at_numbers_out}
 use Rattle.rules_reader.proofs.Taken.{got, missed}
 use Rattle.office.specs.Office.{rule}
 use Rattle.office.specs.Sheet.{item_count, items_from, office_rule_from}
 use Rattle.office_reader.proofs.Passing.{passed_map}
-use borrow.Author.Rules.{rules}
 use Rattle.office_reader.proofs.read_rule.Goals as goal
 
 pub returns-in_default : goal.returns-in_default

@@ -1,18 +1,13 @@
 -- `office_reader::read_rules` meets its contract: the rules read so far stand in the sheet and in the filter, and what is left ends where all ends.
-use mathlib.Core.Path.{◌≡◌, refl, sym, ◌∙◌}
-use mathlib.Core.List.{[]}
-use Prim.Native.Nat.{◌+◌, ◌-◌, ◌*◌, ◌≤◌}
+use mathlib.Core.Path.{refl, sym, ◌∙◌}
 use native.Mathlib.Omega.{arith}
-use borrow.Author.Rules.{rules}
-use lib.ListN.{length, replicate, length-set}
-use Rattle.office.specs.Sheet.{rule_alike, office_rules_from}
+use lib.ListN.{replicate, length-set}
+use Rattle.office.specs.Sheet.{rule_alike}
 use Rattle.office.specs.Flat.{behind_all, office_rules_at}
-use Rattle.rules_reader.specs.Rules.{Filters}
 use Rattle.rules_reader.proofs.Filter.{filters_none}
-use Rattle.office_reader.specs.Answer.{reached_of}
 use Rattle.office_reader.specs.Filter.{rule_place}
 use Rattle.office_reader.proofs.Places.{filters_next}
-use Rattle.office_reader.proofs.Passing.{Rules, rules_start, rules_stop, rules_repeat, rules_go_on, rule_end, rules_end}
+use Rattle.office_reader.proofs.Passing.{rules_start, rules_stop, rules_repeat, rules_go_on, rule_end, rules_end}
 use Rattle.office_reader.proofs.read_rules.Goals as goal
 
 pub loop-i-init : goal.loop-i-init

@@ -2,7 +2,6 @@
 use mathlib.Core.Path.{subst}
 use Rattle.grammar_reader.specs.Parts.{SizesNear}
 use Rattle.office_reader.proofs.Whole.{no_sizes, no_rules, surplus, whole}
-use borrow.Author.Rules.{rules}
 use Rattle.office_reader.proofs.read_sheet.Goals as goal
 
 pub read_rules-requires : goal.read_rules-requires

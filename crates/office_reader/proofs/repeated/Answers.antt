@@ -2,7 +2,6 @@
 use Rattle.rules_reader.proofs.Filter.{filters_miss}
 use Rattle.office.specs.Sheet.{rule_alike}
 use Rattle.office_reader.specs.Filter.{rule_place}
-use borrow.Author.Rules.{rules}
 use Rattle.office_reader.proofs.repeated.Goals as goal
 
 pub returns-then-filter-place-eq0 : goal.returns-then-filter-place-eq0

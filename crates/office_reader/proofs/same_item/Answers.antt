@@ -1,7 +1,6 @@
 -- `office_reader::same_item` meets its contract: a case for each two kinds.
 use mathlib.Core.Path.{sym, ◌∙◌}
 use Rattle.office_reader.proofs.Likeness.{symbols_alike, symbol_word, word_symbol, words_alike}
-use borrow.Author.Rules.{rules}
 use Rattle.office_reader.proofs.same_item.Goals as goal
 
 pub returns-then-narrow_at-eq-SYMBOL_ITEM-2 : goal.returns-then-narrow_at-eq-SYMBOL_ITEM-2

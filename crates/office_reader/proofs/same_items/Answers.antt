@@ -1,10 +1,7 @@
 -- `office_reader::same_items` meets its contract: items that are left are alike where all are.
-use mathlib.Core.Path.{◌≡◌, sym, ◌∙◌}
-use Prim.Native.Nat.{◌-◌, ◌≤◌}
+use mathlib.Core.Path.{sym, ◌∙◌}
 use native.Mathlib.Omega.{arith}
-use Rattle.office.specs.Sheet.{items_alike}
-use Rattle.office.specs.Flat.{items_at}
-use Rattle.office_reader.proofs.Likeness.{Left, alike_start, alike_here, unlike_here, alike_end}
+use Rattle.office_reader.proofs.Likeness.{alike_start, alike_here, unlike_here, alike_end}
 use Rattle.office_reader.proofs.same_items.Goals as goal
 
 pub loop-i-init : goal.loop-i-init

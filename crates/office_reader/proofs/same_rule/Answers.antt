@@ -1,7 +1,6 @@
 -- `office_reader::same_rule` meets its contract: heads, counts, then items.
 use mathlib.Core.Path.{sym, ◌∙◌}
 use Rattle.office_reader.proofs.Likeness.{heads_differ, counts_differ, heads_same}
-use borrow.Author.Rules.{rules}
 use Rattle.office_reader.proofs.same_rule.Goals as goal
 
 pub returns-then-n-m : goal.returns-then-n-m
