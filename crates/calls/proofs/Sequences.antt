@@ -313,4 +313,4 @@ every_list_agrees search s calls b is N m work out work' out' listing k l code f
         let tree : h.tree ≡ t = rank.no_other h.tree h.ranked.derivation h.ranked.rank in
         let long = packed_length g okg u okh h.tree h.ranked.derivation in
         ap (take (output_length g u)) h.written ∙ take_at (packed g u h.tree) (drop (output_length g u) (s.out k)) (output_length g u) long
-        ∙ ap (packed g u) tree ∙ sym bytes
+        ∙ ap (packed g u) tree ∙ sym {b = packed g u t} bytes
