@@ -31,6 +31,7 @@ spans_suc (suc m) =
 -- no two cells share a number: it is the span's and the head's, written with the symbols as digits, and the spans that end before place k
 -- come before those that end there
 pub spans_before : (k m : ℕ) → k < m → spans k + k ≤ spans m
+spans_before k zero h = elim h [ ]
 spans_before k (suc m) h =
     ⊎_elim (λ e. subst (λ (x : ℕ). spans k + k ≤ spans (suc x)) e (omega (arith, spans_suc k)))
     (λ l. omega (arith, spans_before k m l, spans_suc m)) (eq-or-lt_of_le {n = k} {m = m} (omega arith))

@@ -96,7 +96,7 @@ module _ (g : Grammar) (n : ℕ) (within : All (Within g.symbols g.words) g.rule
     by_same : (a : Edge) → EdgeWithin a → (rule : R.Rule) → Within S g.words rule
         → through_by outer a (some rule) ≡ through_by outer' a (some rule)
     unfolding through_by
-    by_same a h (Pair H L R w) b = refl
+    by_same (edge i k x c) (h, l) (Pair H L R w) b = refl
     by_same (edge i k x c) (h, l) (Word H y w) b = rw (agree H i k b.0 h l (omega arith))
 
     pub through_same : (a : Edge) → EdgeWithin a → through g outer a ≡ through g outer' a

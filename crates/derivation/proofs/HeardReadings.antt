@@ -5,7 +5,7 @@ use Prim.Native.Nat.{ℕ, ◌-◌, ◌*◌, ◌≤◌}
 use native.Mathlib.Omega.{arith}
 use lib.ListN.{length}
 use Rattle.packing.specs.declared.Sym.{Sym}
-use Rattle.packing.specs.Meaning.{Grammar, Reading, edges, Graph, Heard, slots, graph, last_place, heard_edges, GraphReading}
+use Rattle.packing.specs.Meaning.{Grammar, Reading, Graph, Heard, slots, graph, last_place, heard_edges, GraphReading}
 use Rattle.packing.specs.Reading.{block_of_reading}
 use Rattle.packing.specs.GraphReading.{graph_reading_length, padded, word_nodes}
 use Rattle.packing.specs.Valid.{ValidGrammar, ValidReading, ValidGraph, ValidHeard, ValidGraphReading}
@@ -14,7 +14,7 @@ use Rattle.packing.proofs.Widths.{length_reading, length_small}
 use Rattle.packing.proofs.Graph.{valid_places, valid_edge_count, valid_edge, one_edge}
 use Rattle.packing.proofs.GraphReading.{length_graph_reading, length_less, length_padded, graph_length_small, graph_reading_valid, graph_reading_decided}
 use Rattle.derivation.specs.Derivation.{Tree, leaf, Derives, by_word_rule, weight, Derivation, reading}
-use Rattle.derivation.specs.Heard.{path_length, trace, graph_reading, own_block, output_length, packed}
+use Rattle.derivation.specs.Heard.{path_length, graph_reading, own_block, output_length, packed}
 use Rattle.derivation.proofs.Ranges.{valid_rules, valid_light, valid_ascending, valid_cheap, valid_slots}
 use Rattle.derivation.proofs.Slots.{CheapEdges, edges_apart, edges_short, edges_cheap}
 use Rattle.derivation.proofs.Paths.{Forward, path_bound, forward_weight}

@@ -76,7 +76,7 @@ mem_map f [] m = absurd (Memᴰ.not-nil m)
 mem_map f (a ∷ l) m =
     ⊎_elim (λ e. (a, Memᴰ.head refl, e)) (λ n. let (x, k, e) = mem_map f l n in (x, Memᴰ.tail k, e)) (Memᴰ.cases_cons m)
 
-map_mem : {A B : Type 0} (f : A → B) {l : List A} {x : A} → x ∈ l → f x ∈ map f l
+map_mem : {A B : Type 0} (f : A → B) {x : A} {l : List A} → x ∈ l → f x ∈ map f l
 map_mem f (Memᴰ.head e) = Memᴰ.head (ap f e)
 map_mem f (Memᴰ.tail m) = Memᴰ.tail (map_mem f m)
 

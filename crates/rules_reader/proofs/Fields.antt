@@ -10,10 +10,17 @@ use lib.Dec.{eqb}
 use Rattle.bits.specs.Bits.{pick}
 use Rattle.packing.specs.Parse.{parsed}
 use Rattle.packing.specs.Source.{Source, field_at}
-use Rattle.packing.specs.Grammar.{symbol, rule_word, nothing, first_of, second_of}
+use Rattle.packing.specs.Grammar.{rule_kind, symbol, rule_word, weight_field, nothing, first_of, second_of}
 use Rattle.packing.proofs.Widths.{byte_width}
 use Rattle.packing.specs.Ranges.{Ranges}
 use Rattle.rules_reader.proofs.Taken.{taken}
+
+module _ (src : Source) (at : ℕ) {v next : ℕ} where
+  pub kind_taken : field_at src at rule_kind ≡ parsed v next → (v ≤ 1) × (next ≤ at + 1)
+  kind_taken e = omega (arith, taken rule_kind 1 src at (omega arith) (omega arith) e)
+
+  pub weight_taken : field_at src at weight_field ≡ parsed v next → next ≤ at + 16
+  weight_taken e = (taken weight_field 16 src at (omega arith) (omega arith) e).1
 
 module _ {S W : ℕ} (ranges : Ranges S W) (src : Source) (at : ℕ) {v next : ℕ} where
   pub symbol_taken : field_at src at (symbol S) ≡ parsed v next → (v ≤ 31) × (next ≤ at + 8)

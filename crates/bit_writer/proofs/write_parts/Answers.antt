@@ -1,9 +1,6 @@
 -- After each turn the bits put are the upper ones of the value, and each part is put within one byte.
-use mathlib.Core.Path.{◌≡◌, refl}
-use Prim.Native.Nat.{◌≤◌, ◌-◌, ◌/◌, ◌^◌}
+use mathlib.Core.Path.{refl}
 use native.Mathlib.Omega.{arith}
-use borrow.Author.Rules.{rules}
-use lib.ListN.{length}
 use Rattle.bits.specs.Put.{put}
 use Rattle.bits.proofs.Put.{put_more, put_all}
 use Rattle.bit_writer.proofs.write_parts.Goals as goal

@@ -6,13 +6,11 @@ use Rattle.chart_entries.proofs.price_at.Goals as goal
 
 pub returns-then-rank-d : goal.returns-then-rank-d
 unfolding price_at
-returns-then-rank-d c =
-    let at-entry-of = c in
-    let at-if1 = at-entry-of in (
-      simp (lt-ltb _ _ at-if1.if-rank-d.true) (rw
-          (c.price_of.ensures.0, c.narrow_at.ensures, c.narrow_at-then-rank-d.ensures, at-entry-of.entry_of-at.ensures.0)),
-      search rules,
-    )
+returns-then-rank-d c = (
+  simp (lt-ltb _ _ c.if-rank-d.true) (rw
+      (c.price_of.ensures.0, c.narrow_at.ensures, c.narrow_at-then-rank-d.ensures, c.entry_of-at.ensures.0)),
+  search rules,
+)
 
 pub returns-else-rank-d : goal.returns-else-rank-d
 unfolding price_at

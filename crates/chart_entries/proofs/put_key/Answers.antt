@@ -6,11 +6,8 @@ use Rattle.chart_entries.proofs.put_key.Goals as goal
 
 pub returns-then-key-lt-PRICES : goal.returns-then-key-lt-PRICES
 returns-then-key-lt-PRICES c =
-    let at-put-found = c in
-    let at-if1 = at-put-found in
-    let at-args = at-if1 in
-    rw (c.put_last_rank.ensures, at-put-found.put_found.ensures)
-    (sym (put_some _ _ _ _ at-args.args.key (search rules) at-if1.if-key-lt-PRICES.true))
+    rw (c.put_last_rank.ensures, c.put_found.ensures)
+    (sym (put_some _ _ _ _ c.args.key (search rules) c.if-key-lt-PRICES.true))
 
 pub returns-else-key-lt-PRICES : goal.returns-else-key-lt-PRICES
 returns-else-key-lt-PRICES c = sym (put_none _ _ _ _ c.args.key (search rules) c.if-key-lt-PRICES.false)

@@ -1,15 +1,11 @@
 -- The test is the definition's.
 use borrow.Author.Tests.{lt-ltb, le-ltb}
 use Rattle.chart_table.specs.Table.{last_rank, put_last_rank}
-use borrow.Author.Rules.{rules}
 use Rattle.chart_entries.proofs.put_last_rank.Goals as goal
 
 pub returns-then-tally-rank : goal.returns-then-tally-rank
 unfolding last_rank put_last_rank
-returns-then-tally-rank c =
-    let at-if1 = c in
-    let at-beside-at = at-if1 in
-    simp (← at-beside-at.beside_at-tally.ensures.0, lt-ltb _ _ at-if1.if-tally-rank.true) (rw c.put_beside.ensures)
+returns-then-tally-rank c = simp (← c.beside_at-tally.ensures.0, lt-ltb _ _ c.if-tally-rank.true) (rw c.put_beside.ensures)
 
 pub returns-else-tally-rank : goal.returns-else-tally-rank
 unfolding last_rank put_last_rank

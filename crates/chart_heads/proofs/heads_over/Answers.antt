@@ -11,13 +11,11 @@ loop-y-init c = (search rules, record { has = λ z h l. absurd (omega (arith, h,
 
 pub loop-y-preserved : goal.loop-y-preserved
 loop-y-preserved c =
-    let at-loop = c in
-    (search rules, heads_next c.edge_heads-heads.result at-loop.loop-y.invariant.1 (rw c.number_at.ensures.0 at c.edge_heads-heads.ensures))
+    (search rules, heads_next c.edge_heads-heads.result c.loop-y.invariant.1 (rw c.number_at.ensures.0 at c.edge_heads-heads.ensures))
 
 pub returns : goal.returns
 returns c =
-    let at-class-start = c in
     record {
-      has = λ z h l. c.loop-y.invariant.1.has z (omega (arith, h, at-class-start.class_start-start.ensures.0))
+      has = λ z h l. c.loop-y.invariant.1.has z (omega (arith, h, c.class_start-start.ensures.0))
           (omega (arith, l, c.class_end-end.ensures.0, c.loop-y-test.false));
     }

@@ -5,7 +5,5 @@ use Rattle.chart_heads.proofs.live_heads.Goals as goal
 
 pub returns : goal.returns
 returns c =
-    let at-narrow-at2 = c in
-    let at-narrow-at = at-narrow-at2 in
-    rw (at-narrow-at.narrow_at-left.ensures, at-narrow-at2.narrow_at-right.ensures, c.narrow_at-first_strays.ensures, c.narrow_at-second_strays.ensures)
+    rw (c.narrow_at-left.ensures, c.narrow_at-right.ensures, c.narrow_at-first_strays.ensures, c.narrow_at-second_strays.ensures)
     (live_parts _ _ _ _)

@@ -13,20 +13,14 @@ pub loop-y-init : goal.loop-y-init
 loop-y-init c = (search rules, c.class_start-start.ensures.0, search rules, rw c.class_start-start.ensures.0 (more_none _ _ _ _ _))
 
 pub loop-y-preserved : goal.loop-y-preserved
-loop-y-preserved c =
-    let at-capped = c in
-    let at-number-at2 = at-capped in
-    let at-number-at = at-number-at2 in
-    let at-loop = at-number-at in
-    let at_only = at-loop in
-    let at_pre = at_only in (
-      search rules,
-      search rules,
-      search rules,
-      more_next at-capped.capped.result at-number-at2.number_at-x.result at_only.only-own.result at_pre.requires.0.3 at-loop.loop-y.invariant.3
-          (rw (← at-number-at.number_at.ensures.0) at-number-at2.number_at-x.ensures.0) at-capped.capped.ensures.0 at_only.only-own.ensures
-          c.put.ensures,
-    )
+loop-y-preserved c = (
+  search rules,
+  search rules,
+  search rules,
+  more_next c.capped.result c.number_at-x.result c.only-own.result c.requires.0.3 c.loop-y.invariant.3
+      (rw (← c.number_at.ensures.0) c.number_at-x.ensures.0) c.capped.ensures.0 c.only-own.ensures
+      c.put.ensures,
+)
 
 pub shape_of-masks : goal.shape_of-masks
 shape_of-masks c = c.loop-y.invariant.2

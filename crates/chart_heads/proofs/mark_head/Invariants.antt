@@ -11,7 +11,8 @@ use Rattle.chart_heads.proofs.mark_head.Given as goal
 
 abbrev pub invariant-loop-y : goal.invariant-loop-y
 invariant-loop-y l =
-    (l.start ≤ l.y) × (l.start ≡ class_start l.index l.column.base l.head) × (length l.masks ≡ length l.initial.masks) × MembersMore l.rules l.index l.column l.head l.y l.initial.masks l.masks
+    (l.start ≤ l.y) × (l.start ≡ class_start l.index l.column.base l.head) × (length l.masks ≡ length l.initial.masks)
+    × MembersMore l.rules l.index l.column l.head l.y l.initial.masks l.masks
 
 abbrev pub decreases-loop-y : goal.decreases-loop-y
 decreases-loop-y l = l.end - l.y

@@ -11,13 +11,12 @@ pub loop-head-init : goal.loop-head-init
 loop-head-init c = (search rules, search rules, members_none _ _ _ _, grown_none _)
 
 pub loop-head-preserved : goal.loop-head-preserved
-loop-head-preserved c =
-    let at-loop = c in (
-      search rules,
-      search rules,
-      members_next at-loop.loop-head.invariant.2 c.mark_head.ensures,
-      grown_more at-loop.loop-head.invariant.3 c.mark_head.ensures.grown,
-    )
+loop-head-preserved c = (
+  search rules,
+  search rules,
+  members_next c.loop-head.invariant.2 c.mark_head.ensures,
+  grown_more c.loop-head.invariant.3 c.mark_head.ensures.grown,
+)
 
 pub shape_of-masks : goal.shape_of-masks
 shape_of-masks c = c.loop-head.invariant.1

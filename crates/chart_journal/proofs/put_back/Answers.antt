@@ -1,9 +1,8 @@
 -- What is left to put back, put back, is all of it put back.
 use mathlib.Core.Path.{◌≡◌, refl, ◌∙◌}
 use mathlib.Core.List.{List}
-use Prim.Native.Nat.{ℕ, zero, suc, ◌-◌, ◌<◌, ◌≤◌}
+use Prim.Native.Nat.{ℕ, zero, suc, ◌-◌, ◌<◌}
 use native.Mathlib.Omega.{arith}
-use lib.ListN.{length}
 use Rattle.chart_journal.specs.Journal.{restore_entry, restore_all}
 use borrow.Author.Rules.{rules}
 use Rattle.chart_journal.proofs.put_back.Goals as goal
@@ -24,13 +23,12 @@ pub restore_entry-requires : goal.restore_entry-requires
 restore_entry-requires c = search (rules, c.loop-n.invariant)
 
 pub loop-n-preserved : goal.loop-n-preserved
-loop-n-preserved c =
-    let at-loop = c in (
-      search (rules, at-loop.loop-n.invariant),
-      at-loop.loop-n.invariant.1,
-      c.restore_entry.auto.t ∙ at-loop.loop-n.invariant.2,
-      rw c.restore_entry.ensures (restore_less _ _ _ (search rules) ∙ at-loop.loop-n.invariant.3),
-    )
+loop-n-preserved c = (
+  search (rules, c.loop-n.invariant),
+  c.loop-n.invariant.1,
+  c.restore_entry.auto.t ∙ c.loop-n.invariant.2,
+  rw c.restore_entry.ensures (restore_less _ _ _ (search rules) ∙ c.loop-n.invariant.3),
+)
 
 pub shape_of-t : goal.shape_of-t
 shape_of-t c = c.loop-n.invariant.2

@@ -1,5 +1,5 @@
 -- By the tests, in the other order.
-use Rattle.std.proofs.Common.{sym, ◌∙◌, rules}
+use Rattle.std.proofs.Common.{sym, ◌∙◌}
 use Rattle.chart_keys.specs.Keys.{lesser}
 use Rattle.chart_keys.proofs.Numbers.{lesser_best}
 use Rattle.chart_keys.proofs.lesser.Goals as goal

@@ -13,4 +13,4 @@ wraps x r small fits e = go (ℕ_discrete x 0)
     go (no z) = rw (ne_eqb x 0 z) (omega (arith, z))
 
 pub returns : goal.returns
-returns c = (wraps _ _ c.requires c.wrapping_sub_usize.type_inv c.wrapping_sub_usize.ensures, search rules)
+returns c = (wraps _ _ c.requires c.wrapping_sub_usize.type_inv c.wrapping_sub_usize.ensures.value, search rules)

@@ -22,25 +22,19 @@ loop-y-init c = (search rules, search rules, sym (from_none _ _ _))
 
 pub loop-y-preserved : goal.loop-y-preserved
 loop-y-preserved c =
-    let at-loop = c in
-    let h = at-loop.loop-y.invariant.0 in (
+    let h = c.loop-y.invariant.0 in (
       search rules,
       search rules,
-      rw (from_more, from_turn, ← at-loop.loop-y.invariant.2, ← c.number_at-in-loop-y.ensures.0) c.word_leaf-so_far.ensures,
+      rw (from_more, from_turn, ← c.loop-y.invariant.2, ← c.number_at-in-loop-y.ensures.0) c.word_leaf-so_far.ensures,
     )
 
 pub returns : goal.returns
 unfolding edge_leaves
 returns c =
-    let at-class-end = c in
-    let at-class-start = at-class-end in
-    let at_wide = at-class-start in
-    let at-if1 = at_wide in
-    let at-number-at = at-if1 in
     simp (
-      ← at-number-at.number_at.ensures.0,
-      eq-eqb _ _ at-if1.if-number_at-c.false,
-      ← at_wide.wide-head.ensures.0,
-      ← at-class-start.class_start-start.ensures.0,
-      ← at-class-end.class_end-end.ensures.0,
+      ← c.number_at.ensures.0,
+      eq-eqb _ _ c.if-number_at-c.false,
+      ← c.wide-head.ensures.0,
+      ← c.class_start-start.ensures.0,
+      ← c.class_end-end.ensures.0,
     ) (c.loop-y.invariant.2 ∙ iter_end _ _ _ _ c.loop-y.invariant.1 (omega arith))

@@ -15,7 +15,9 @@ use Rattle.chart_leaves.proofs.edge_leaves.Given as goal
 
 abbrev pub invariant-loop-y : goal.invariant-loop-y
 invariant-loop-y l = (l.start ≤ l.y) × (l.y - l.start ≤ l.end - l.start)
-    × (key_number l.so_far ≡ over (λ x l.y. word_leaf l.edges l.e (key_number l.floor) x (get_or l.index l.y 0) (rule_at l.rules (get_or l.index l.y 0))) (key_number l.initial.so_far) l.start l.y)
+    × (key_number l.so_far
+    ≡ over (λ x z. word_leaf l.edges l.e (key_number l.floor) x (get_or l.index z 0) (rule_at l.rules (get_or l.index z 0)))
+    (key_number l.initial.so_far) l.start l.y)
 
 abbrev pub decreases-loop-y : goal.decreases-loop-y
 decreases-loop-y l = l.end - l.y

@@ -7,13 +7,11 @@ use borrow.Author.Rules.{rules}
 use Rattle.chart_leaves.proofs.first_leaf.Goals as goal
 
 pub returns-then-lacks : goal.returns-then-lacks
-returns-then-lacks c =
-    let at_wide = c in
-    let at_pre = at_wide in (
-      c.no_key.ensures ∙ sym (no_leaves _ _ _ _ 0 no_key
-          (at_pre.requires.0.2 (rw at_wide.wide.ensures.0 at (c.lacks.ensures c.if-lacks.true)))),
-      rw c.no_key.ensures (le_refl no_key),
-    )
+returns-then-lacks c = (
+  c.no_key.ensures ∙ sym (no_leaves _ _ _ _ 0 no_key
+      (c.requires.0.2 (rw c.wide.ensures.0 at (c.lacks.ensures c.if-lacks.true)))),
+  rw c.no_key.ensures (le_refl no_key),
+)
 
 pub returns : goal.returns
 returns c = (c.least_leaf.ensures, rw c.least_leaf.ensures (leaves_below _ _ _ _ 0 no_key))

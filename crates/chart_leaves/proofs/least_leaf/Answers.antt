@@ -16,17 +16,14 @@ loop-y-init c = (search rules, search rules, c.no_key-least.ensures ∙ sym (fro
 
 pub loop-y-preserved : goal.loop-y-preserved
 loop-y-preserved c =
-    let at-loop = c in
-    let h = at-loop.loop-y.invariant.0 in (
+    let h = c.loop-y.invariant.0 in (
       search rules,
       search rules,
-      rw (from_more, from_turn, ← at-loop.loop-y.invariant.2, ← c.number_at.ensures.0) c.masked_leaves-least.ensures,
+      rw (from_more, from_turn, ← c.loop-y.invariant.2, ← c.number_at.ensures.0) c.masked_leaves-least.ensures,
     )
 
 pub returns : goal.returns
 unfolding leaves
 returns c =
-    let at-class-end = c in
-    let at-class-start = at-class-end in
-    simp (← at-class-start.class_start-start.ensures.0, ← at-class-end.class_end-end.ensures.0)
+    simp (← c.class_start-start.ensures.0, ← c.class_end-end.ensures.0)
     (c.loop-y.invariant.2 ∙ iter_end _ _ _ _ c.loop-y.invariant.1 (omega arith))

@@ -13,7 +13,7 @@ use Rattle.chart_leaves.proofs.least_leaf.Given as goal
 
 abbrev pub invariant-loop-y : goal.invariant-loop-y
 invariant-loop-y l = (l.start ≤ l.y) × (l.y - l.start ≤ l.end - l.start)
-    × (key_number l.least ≡ over (λ x l.y. edge_leaves l.rules l.edges l.index l.c 0 x (get_or l.index l.y 0)) no_key l.start l.y)
+    × (key_number l.least ≡ over (λ x z. edge_leaves l.rules l.edges l.index l.c 0 x (get_or l.index z 0)) no_key l.start l.y)
 
 abbrev pub decreases-loop-y : goal.decreases-loop-y
 decreases-loop-y l = l.end - l.y

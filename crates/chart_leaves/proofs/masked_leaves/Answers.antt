@@ -7,8 +7,6 @@ use Rattle.chart_leaves.proofs.masked_leaves.Goals as goal
 
 pub returns-then-lacks : goal.returns-then-lacks
 returns-then-lacks c =
-    let at-edge-heads = c in
-    let at-args = at-edge-heads in
-    let a = at-args.args in
-    sym (word_passed a.rules.now a.edges.now a.index.now a.masks.now a.c 0 (key_number a.best) a.e at-edge-heads.edge_heads.result
-    at-args.requires.2 at-edge-heads.edge_heads.ensures (rw c.wide.ensures.0 at (c.lacks.ensures c.if-lacks.true)))
+    let a = c.args in
+    sym (word_passed a.rules.now a.edges.now a.index.now a.masks.now a.c 0 (key_number a.best) a.e c.edge_heads.result
+    c.requires.2 c.edge_heads.ensures (rw c.wide.ensures.0 at (c.lacks.ensures c.if-lacks.true)))

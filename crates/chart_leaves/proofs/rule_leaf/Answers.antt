@@ -11,17 +11,9 @@ returns-in-Pair c = simp (← c.rule_at-rule.ensures, c.in-Pair.is)
 pub returns-then-word-narrow_at : goal.returns-then-word-narrow_at
 unfolding word_leaf
 returns-then-word-narrow_at c =
-    let at-number-at = c in
-    let at-if1 = at-number-at in
-    let at-narrow-at = at-if1 in
-    let at-rule = at-narrow-at in
-    let at-rule-at = at-rule in
-    simp (← at-rule-at.rule_at-rule.ensures, at-rule.in-Word.is, ← at-narrow-at.narrow_at.ensures, eq-eqb _ _ at-if1.if-word-narrow_at.true)
-    (rw (c.lesser.ensures, c.back_number-back.ensures.0, c.leaf_price-price.ensures, at-number-at.number_at-cost.ensures.0))
+    simp (← c.rule_at-rule.ensures, c.in-Word.is, ← c.narrow_at.ensures, eq-eqb _ _ c.if-word-narrow_at.true)
+    (rw (c.lesser.ensures, c.back_number-back.ensures.0, c.leaf_price-price.ensures, c.number_at-cost.ensures.0))
 
 pub returns-else-word-narrow_at : goal.returns-else-word-narrow_at
 unfolding word_leaf
-returns-else-word-narrow_at c =
-    let at-rule = c in
-    let at-rule-at = at-rule in
-    simp (← at-rule-at.rule_at-rule.ensures, at-rule.in-Word.is, ← c.narrow_at.ensures, ne_eqb _ _ c.if-word-narrow_at.false)
+returns-else-word-narrow_at c = simp (← c.rule_at-rule.ensures, c.in-Word.is, ← c.narrow_at.ensures, ne_eqb _ _ c.if-word-narrow_at.false)

@@ -10,18 +10,15 @@ pub loop-y-init : goal.loop-y-init
 loop-y-init c = (search rules, record { has = λ z h l. absurd (omega (arith, h, l)) })
 
 pub loop-y-preserved : goal.loop-y-preserved
-loop-y-preserved c =
-    let at-loop = c in
-    let at-args = at-loop in (
-      search rules,
-      rw (c.word_bit-filter.ensures, c.narrow_at.ensures, c.number_at-r.ensures.0)
-          (filter_next at-args.args.rules.now at-loop.loop-y.invariant.1),
-    )
+loop-y-preserved c = (
+  search rules,
+  rw (c.word_bit-filter.ensures, c.narrow_at.ensures, c.number_at-r.ensures.0)
+      (filter_next c.args.rules.now c.loop-y.invariant.1),
+)
 
 pub returns : goal.returns
 returns c =
-    let at-class-start = c in
     record {
-      has = λ z h l. c.loop-y.invariant.1.has z (omega (arith, h, at-class-start.class_start-start.ensures.0))
+      has = λ z h l. c.loop-y.invariant.1.has z (omega (arith, h, c.class_start-start.ensures.0))
           (omega (arith, l, c.class_end-end.ensures.0, c.loop-y-test.false));
     }

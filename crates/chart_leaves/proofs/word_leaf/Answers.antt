@@ -7,6 +7,5 @@ use Rattle.chart_leaves.proofs.word_leaf.Goals as goal
 
 pub returns-then-word-heard : goal.returns-then-word-heard
 returns-then-word-heard c =
-    let at-args = c in
-    sym (other_word at-args.args.rules.now at-args.args.edges.now at-args.args.e (key_number at-args.args.floor)
-    (key_number at-args.args.best) at-args.args.r (λ q. c.if-word-heard.true (c.narrow_at-word.ensures ∙ q ∙ sym at-args.requires.2)))
+    sym (other_word c.args.rules.now c.args.edges.now c.args.e (key_number c.args.floor)
+    (key_number c.args.best) c.args.r (λ q. c.if-word-heard.true (c.narrow_at-word.ensures ∙ q ∙ sym c.requires.2)))

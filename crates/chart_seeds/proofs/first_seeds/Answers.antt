@@ -6,6 +6,5 @@ use Rattle.chart_seeds.proofs.first_seeds.Goals as goal
 
 pub returns : goal.returns
 returns c =
-    let at_pre = c in
-    sym (seeds_passed _ _ _ at_pre.requires.1 _ 0 _ at_pre.requires.0.last at_pre.requires.2 at_pre.args.rules.now at_pre.args.index.now
+    sym (seeds_passed _ _ _ c.requires.1 _ 0 _ c.requires.0.last c.requires.2 c.args.rules.now c.args.index.now
     (c.has_seeds.ensures c.if-has_seeds.false))

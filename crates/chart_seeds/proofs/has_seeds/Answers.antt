@@ -16,17 +16,14 @@ pub returns-then-parts_meet : goal.returns-then-parts_meet
 returns-then-parts_meet c = λ e. absurd (false≢true (sym e))
 
 pub loop-y-preserved : goal.loop-y-preserved
-loop-y-preserved c =
-    let at-loop = c in (
-      search rules,
-      below_more _ _ at-loop.loop-y.invariant.1
-          (λ l. rw (← c.number_at.ensures.0) (c.parts_meet.ensures c.if-parts_meet.false)),
-    )
+loop-y-preserved c = (
+  search rules,
+  below_more _ _ c.loop-y.invariant.1
+      (λ l. rw (← c.number_at.ensures.0) (c.parts_meet.ensures c.if-parts_meet.false)),
+)
 
 pub returns : goal.returns
 returns c =
-    let at-class-start = c in
-    let at_wide = at-class-start in
-    λ e z h l. let s = rw at_wide.wide-head.ensures.0 at at-class-start.class_start-start.ensures.0 in let s₂ =
-    rw at_wide.wide-head.ensures.0 at c.class_end-end.ensures.0 in c.loop-y.invariant.1 z (omega (arith, l, s₂, c.loop-y-test.false))
+    λ e z h l. let s = rw c.wide-head.ensures.0 at c.class_start-start.ensures.0 in let s₂ =
+    rw c.wide-head.ensures.0 at c.class_end-end.ensures.0 in c.loop-y.invariant.1 z (omega (arith, l, s₂, c.loop-y-test.false))
     (omega (arith, h, s))

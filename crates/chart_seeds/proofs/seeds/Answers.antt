@@ -20,31 +20,25 @@ loop-y-init c = (search rules, search rules, sym (from_none _ _ _))
 
 pub masked_seeds-so_far-requires : goal.masked_seeds-so_far-requires
 masked_seeds-so_far-requires c =
-    let at-class-start = c in
-    let at-args = at-class-start in
-    let a = at-args.args in (
-      at-args.requires.0,
+    let a = c.args in (
+      c.requires.0,
       c.number_at-r.ensures.1,
-      at-args.requires.1,
+      c.requires.1,
       rw c.loop-y.invariant.2 (le_trans
           (rules_below a.t.now a.d a.index.now a.rules.now a.c (key_number a.range.floor) (key_number a.range.best)
-          at-class-start.class_start-start.result c.loop-y.y) at-args.requires.2),
+          c.class_start-start.result c.loop-y.y) c.requires.2),
     )
 
 pub loop-y-preserved : goal.loop-y-preserved
 loop-y-preserved c =
-    let at-loop = c in
-    let h = at-loop.loop-y.invariant.0 in (
+    let h = c.loop-y.invariant.0 in (
       search rules,
       search rules,
-      rw (from_more, from_turn, ← at-loop.loop-y.invariant.2, ← c.number_at-r.ensures.0) c.masked_seeds-so_far.ensures,
+      rw (from_more, from_turn, ← c.loop-y.invariant.2, ← c.number_at-r.ensures.0) c.masked_seeds-so_far.ensures,
     )
 
 pub returns : goal.returns
 unfolding seeds
 returns c =
-    let at-class-end = c in
-    let at-class-start = at-class-end in
-    let at_wide = at-class-start in
-    simp (← at_wide.wide-head.ensures.0, ← at-class-start.class_start-start.ensures.0, ← at-class-end.class_end-end.ensures.0)
+    simp (← c.wide-head.ensures.0, ← c.class_start-start.ensures.0, ← c.class_end-end.ensures.0)
     (c.loop-y.invariant.2 ∙ iter_end _ _ _ _ c.loop-y.invariant.1 (omega (arith, c.loop-y-test.false)))

@@ -23,17 +23,11 @@ pub pair_key-key-requires : goal.pair_key-key-requires
 pair_key-key-requires c = rw (c.left_part-left.ensures, c.right_part-right.ensures, c.seed.ensures) (search rules)
 
 pub overflow_step-j-in-loop-j : goal.overflow_step-j-in-loop-j
-overflow_step-j-in-loop-j c =
-    let at-loop-test = c in
-    let at_pre = at-loop-test in
-    next_fits _ _ at-loop-test.loop-j-test.true at_pre.requires.0.last
+overflow_step-j-in-loop-j c = next_fits _ _ c.loop-j-test.true c.requires.0.last
 
 pub loop-j-preserved : goal.loop-j-preserved
 loop-j-preserved c =
-    let at-right-part = c in
-    let at-left-part = at-right-part in
-    let at-loop = at-left-part in
-    let h = at-loop.loop-j.invariant.0 in (
+    let h = c.loop-j.invariant.0 in (
       search rules,
       search rules,
       rw (
@@ -42,9 +36,9 @@ loop-j-preserved c =
         c.lesser-so_far.ensures,
         c.pair_key-key.ensures,
         c.seed.ensures,
-        at-right-part.right_part-right.ensures,
-        at-left-part.left_part-left.ensures,
-        at-loop.loop-j.invariant.2,
+        c.right_part-right.ensures,
+        c.left_part-left.ensures,
+        c.loop-j.invariant.2,
       ),
     )
 

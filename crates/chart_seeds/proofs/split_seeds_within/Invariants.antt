@@ -17,7 +17,8 @@ use Rattle.chart_seeds.proofs.split_seeds_within.Given as goal
 abbrev pub invariant-loop-j : goal.invariant-loop-j
 invariant-loop-j l = InRange l.step l.first l.end l.j l.x l.y × (l.height + (l.low + 1) ≤ ceiling_number l.best)
     × ((floor : Key) → InNumbers floor → l.low ≡ floor_number floor
-    → Kept l.t l.rule (key_number floor) (key_number l.best) l.step l.first l.end l.initial.x l.initial.y l.j l.x l.y (key_of_number l.best (l.height + (l.low + 1))))
+    → Kept l.t l.rule (key_number floor) (key_number l.best) l.step l.first l.end l.initial.x l.initial.y l.j l.x l.y
+    (key_of_number l.best (l.height + (l.low + 1))))
     × ((floor : Key) → Long l.t l.rule (key_number floor) (key_number l.best) l.step l.first l.end l.initial.x l.initial.y) × (l.stride ≡ l.step * l.j)
 
 abbrev pub decreases-loop-j : goal.decreases-loop-j

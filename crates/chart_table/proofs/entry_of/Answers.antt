@@ -24,13 +24,11 @@ returns-then-rank-eq0 c = (simp (eq-eqb _ _ c.if-rank-eq0.true), search rules)
 
 pub returns-else-rank-eq0 : goal.returns-else-rank-eq0
 unfolding entry_of
-returns-else-rank-eq0 c =
-    let c₂ = c in
-    let c₃ = c₂ in (
-      simp (ne_eqb _ _ c₂.if-rank-eq0.false),
-      omega (
-        arith,
-        ranks_small c₃.args.number c₃.args.d.ranks (search rules)
-            (search rules),
-      ),
-    )
+returns-else-rank-eq0 c = (
+  simp (ne_eqb _ _ c.if-rank-eq0.false),
+  omega (
+    arith,
+    ranks_small c.args.number c.args.d.ranks (search rules)
+        (search rules),
+  ),
+)

@@ -2,7 +2,6 @@
 use native.Mathlib.Omega.{arith}
 use borrow.Author.Tests.{eq-eqb, ne_eqb}
 use Rattle.chart_tags.specs.Tags.{shifted}
-use borrow.Author.Rules.{rules}
 use Rattle.chart_tags.proofs.shifted.Goals as goal
 
 pub returns-then-code-eq0 : goal.returns-then-code-eq0
@@ -20,8 +19,7 @@ returns-then-code-eq2 c = simp (ne_eqb _ _ c.if-code-eq0.false, ne_eqb _ _ c.if-
 pub returns-then-last-lt-SIBLING : goal.returns-then-last-lt-SIBLING
 unfolding shifted
 returns-then-last-lt-SIBLING c =
-    let at-if1 = c in
-    simp (ne_eqb _ _ at-if1.if-code-eq0.false, ne_eqb _ _ c.if-code-eq1.false, ne_eqb _ _ c.if-code-eq2.false) (omega (arith, c.if-last-lt-SIBLING.true))
+    simp (ne_eqb _ _ c.if-code-eq0.false, ne_eqb _ _ c.if-code-eq1.false, ne_eqb _ _ c.if-code-eq2.false) (omega (arith, c.if-last-lt-SIBLING.true))
 
 pub returns-else-last-lt-SIBLING : goal.returns-else-last-lt-SIBLING
 unfolding shifted

@@ -87,7 +87,7 @@ returns-in_default-follow c =
     let es : List Edge = edges_of a.edges.now a.graph.edges in
     let from : State = standing l.stack (Onward l.at) in
     let read = rw at-node.in-Node.is at at-read-node.read_node.ensures in
-    let next = sym (ap (standing at-follow.follow.new.1.1.1.1.0) c.in_default-follow.is) ∙ at-follow.follow.ensures.0 in (
+    let next = sym (ap (standing at-follow.follow.new.stack) c.in_default-follow.is) ∙ at-follow.follow.ensures.0 in (
       read_lost rules es (bytes 31 a.block.now) a.graph.last (2 * a.n - 1) l.i from l.bit at-loop-test.loop-i-test.true _ read.0 next
           ∙ l.invariant.7,
       tt,
@@ -126,7 +126,7 @@ loop-i-preserved c =
     let es : List Edge = edges_of a.edges.now a.graph.edges in
     let from : State = standing l.stack (Onward l.at) in
     let read = rw at-node.in-Node.is at at-read-node.read_node.ensures in
-    let next = sym (ap (standing at-follow.follow.new.1.1.1.1.0) c.in-Onward.is) ∙ at-follow.follow.ensures.0 in
+    let next = sym (ap (standing at-follow.follow.new.stack) c.in-Onward.is) ∙ at-follow.follow.ensures.0 in
     let more = read_on rules es (bytes 31 a.block.now) a.graph.last (2 * a.n - 1) l.i from l.bit at-loop-test.loop-i-test.true read.0
     next in
     let further = rw c.in-Onward.is at at-follow.follow.ensures.1 in

@@ -2,7 +2,6 @@
 use native.Mathlib.Omega.{arith}
 use borrow.Author.Tests.{eqb-true}
 use Rattle.masks.proofs.Digits.{shift_lacks}
-use borrow.Author.Rules.{rules}
 use Rattle.masks.proofs.lacks.Goals as goal
 
 pub returns : goal.returns

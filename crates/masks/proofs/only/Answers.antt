@@ -1,7 +1,6 @@
 -- By the digits of a shifted 1.
 use native.Mathlib.Omega.{arith}
 use Rattle.masks.proofs.Digits.{shift_only}
-use borrow.Author.Rules.{rules}
 use Rattle.masks.proofs.only.Goals as goal
 
 pub returns : goal.returns

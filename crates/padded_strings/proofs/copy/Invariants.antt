@@ -1,11 +1,8 @@
 -- Each turn stores one byte more of what is copied. Assumes nothing.
-use mathlib.Core.Path.{◌≡◌, refl, ap, ◌∙◌}
+use mathlib.Core.Path.{◌≡◌}
 use Prim.Native.Nat.{◌-◌, ◌≤◌}
-use native.Mathlib.Numerals.{add-one}
-use native.Mathlib.Omega.{arith}
 use lib.ListN.{length}
-use lib.Seq.{paste, paste-zero, paste-suc}
-use borrow.Author.Rules.{rules}
+use lib.Seq.{paste}
 use Rattle.padded_strings.proofs.copy.Given as goal
 
 abbrev pub invariant-loop-x : goal.invariant-loop-x

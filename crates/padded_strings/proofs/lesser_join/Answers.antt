@@ -1,5 +1,4 @@
 -- Each way out is one of the definition's cases. Assumes nothing.
-use borrow.Author.Rules.{rules}
 use borrow.Author.Tests.{eq-eqb, ne_eqb}
 use Rattle.phrases.specs.Padded.{lesser_join}
 use Rattle.padded_strings.proofs.lesser_join.Goals as goal

@@ -1,5 +1,4 @@
 -- The test is the definition's. Assumes nothing.
-use borrow.Author.Rules.{rules}
 use borrow.Author.Tests.{lt-ltb, le-ltb}
 use Rattle.phrases.specs.Padded.{lesser_word}
 use Rattle.padded_strings.proofs.lesser_word.Goals as goal

@@ -1,6 +1,5 @@
 -- The two symbols stand on the stack in the place of the head, where there is room.
 use native.Mathlib.Omega.{arith}
-use borrow.Author.Rules.{rules}
 use borrow.Author.Tests.{lt-ltb, le-ltb}
 use lib.ListN.{length-set}
 use Rattle.parse_stack.proofs.Heads.{heads_pushed}
@@ -8,12 +7,6 @@ use Rattle.parse_stack.proofs.pair_step.Goals as goal
 
 pub bounds-stack-height-then-height-at : goal.bounds-stack-height-then-height-at
 bounds-stack-height-then-height-at c = simp length-set (omega arith)
-
-add-t9 : tie.Need-overflow-add-t9
-add-t9 c = search rules
-
-add-t12 : tie.Need-overflow-add-t12
-add-t12 c = search rules
 
 pub returns-then-height-at : goal.returns-then-height-at
 returns-then-height-at c =

@@ -1,5 +1,4 @@
 -- `rules_reader::below` meets its contract: its width is the one looked up. Assumes nothing.
-use borrow.Author.Rules.{rules}
 use Rattle.rules_reader.proofs.below.Goals as goal
 
 pub returns : goal.returns

@@ -1,6 +1,5 @@
 -- `rules_reader::first_of` meets its contract: its test is the definition's. Assumes nothing.
 use borrow.Author.Tests.{eq-eqb, ne_eqb}
-use borrow.Author.Rules.{rules}
 use Rattle.rules_reader.proofs.first_of.Goals as goal
 
 pub returns-then-kind-eq-PAIR_RULE : goal.returns-then-kind-eq-PAIR_RULE

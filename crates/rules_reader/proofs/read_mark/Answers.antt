@@ -1,5 +1,4 @@
 -- `rules_reader::read_mark` meets its contract: its test is the definition's. Assumes nothing.
-use borrow.Author.Rules.{rules}
 use Rattle.rules_reader.proofs.read_mark.Goals as goal
 
 pub returns-then-marked : goal.returns-then-marked

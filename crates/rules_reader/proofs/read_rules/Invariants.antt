@@ -1,15 +1,11 @@
 -- `rules_reader::read_rules` meets its contract: after each turn the rules read so far are those of the definition, and their
 -- numbers and marks stand at the arrays' fronts. Assumes nothing.
-use mathlib.Core.Path.{◌≡◌, refl, sym, subst, ◌∙◌}
-use Prim.Native.Nat.{◌+◌, ◌-◌, ◌*◌, ◌≤◌, ◌<◌}
-use native.Mathlib.Omega.{arith}
-use borrow.Author.Rules.{rules}
-use lib.Dec.{eqb}
-use lib.ListN.{length, take, replicate, length-set}
+use mathlib.Core.Path.{◌≡◌}
+use Prim.Native.Nat.{◌+◌, ◌-◌, ◌*◌, ◌≤◌}
+use lib.ListN.{length, take}
 use Rattle.packing.specs.Read.{source_of}
-use Rattle.rules_reader.specs.Rules.{MarkedNear, Sound, filter_place, Filtered}
-use Rattle.rules_reader.proofs.Filter.{filters_none, filtered_more}
-use Rattle.rules_reader.proofs.Turns.{ReadSoFar, none_passed, all_passed, rule_refused, rule_repeated, rule_passed}
+use Rattle.rules_reader.specs.Rules.{Filtered}
+use Rattle.rules_reader.proofs.Turns.{ReadSoFar}
 use Rattle.rules_reader.proofs.read_rules.Given as goal
 
 abbrev pub invariant-loop-i : goal.invariant-loop-i

@@ -1,6 +1,5 @@
 -- `rules_reader::repeated` meets its contract: a key that the filter does not have is none of those read. Assumes nothing.
 use lib.ListN.{take}
-use borrow.Author.Rules.{rules}
 use Rattle.rules_reader.proofs.Filter.{filters_miss}
 use Rattle.rules_reader.proofs.repeated.Goals as goal
 

@@ -1,6 +1,5 @@
 -- `rules_reader::second_of` meets its contract: its test is the definition's. Assumes nothing.
 use native.Mathlib.Omega.{arith}
-use borrow.Author.Rules.{rules}
 use borrow.Author.Tests.{eq-eqb, ne_eqb}
 use Rattle.rules_reader.proofs.second_of.Goals as goal
 

@@ -1,12 +1,8 @@
 -- `rules_reader::seen` meets its contract: the flag says whether the key is among those passed. Assumes nothing.
-use mathlib.Core.Path.{◌≡◌, refl, ◌∙◌}
-use mathlib.Core.Logic.{⊎_elim}
-use native.Mathlib.Omega.{arith}
+use mathlib.Core.Path.{◌≡◌}
 use Prim.Native.Nat.{◌≤◌, ◌-◌}
 use lib.ListN.{take}
-use Rattle.packing.specs.Alike.{any_like}
 use Rattle.rules_reader.specs.Rules.{among}
-use Rattle.rules_reader.proofs.Keys.{among_hit, among_miss}
 use Rattle.rules_reader.proofs.seen.Given as goal
 
 abbrev pub invariant-loop-i : goal.invariant-loop-i

@@ -4,7 +4,6 @@ use Prim.Native.Nat.{◌+◌, ◌*◌}
 use native.Mathlib.Omega.{arith}
 use lib.ListN.{length-set}
 use Rattle.packing.specs.Store.{store_all}
-use borrow.Author.Rules.{rules}
 use Rattle.rules_reader.proofs.store_rule.Goals as goal
 
 pub bounds-rules-at-2 : goal.bounds-rules-at-2

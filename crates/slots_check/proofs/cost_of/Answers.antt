@@ -1,12 +1,13 @@
 -- What is left of the candidates after k turns costs the word what all of them do.
 use mathlib.Core.Path.{◌≡◌, sym, ap, ◌∙◌}
+use mathlib.Core.List.{List}
 use mathlib.Core.Option.{Option, none, some}
-use Prim.Native.Nat.{ℕ, ◌+◌, ◌-◌, ◌*◌, ◌≤◌}
+use Prim.Native.Nat.{ℕ, ◌+◌, ◌-◌, ◌*◌, ◌<◌}
 use native.Mathlib.Nat.{sub-zero, add-zero}
 use native.Mathlib.Omega.{arith}
-use borrow.Author.Rules.{rules}
 use borrow.Author.Tests.{lt-ltb, le-ltb}
 use lib.Dec.{ltb}
+use lib.ListN.{get_or}
 use Rattle.bits.specs.Bits.{pick}
 use Rattle.packing.specs.declared.Word as W
 use Rattle.packing.specs.Meaning.{not_heard, word}
@@ -28,28 +29,31 @@ pub overflow_add-at-then-number_at-wanted : goal.overflow_add-at-then-number_at-
 overflow_add-at-then-number_at-wanted c = omega arith
 
 -- the word is there, and what it costs decides
-listed : (c : goal.After-number-at2 invariant-loop decreases-loop) (o : Option ℕ)
-    → pick (ltb c.number_at-cost.result not_heard) (some c.number_at-cost.result) none ≡ o
-    → let at_wide = c in
-    let a = at_wide.args in
-    o ≡ cost_of a.word (candidates_of a.slots.now a.count a.start)
-listed c o e =
-    let at_test = c in
-    let at-loop = at_test in
-    let at_wide = at-loop in
-    let a = at_wide.args in
-    let l = at-loop.loop-k in
-    let x : W.Word = word at_wide.wide-wanted.result in
-    let same : x ≡ a.word = ap word at_wide.wide-wanted.ensures.0 in
-    let is = sym c.number_at.ensures.0 ∙ c.if-number_at-wanted.true in
-    let here = cost_here x a.slots.now a.start a.count l.k at_test.loop-k-test.true is in
-    rw (← same) (sym e ∙ rw c.number_at-cost.ensures.0 (sym here ∙ l.invariant.1))
+module _ (x y : W.Word) (l : List ℕ) (start count k v : ℕ) (same : x ≡ y) (h : k < count) where
+  listed : get_or l (start + 2 * k) 0 ≡ x.0 → v ≡ get_or l (start + 2 * k + 1) 0
+      → cost_of x (candidates_of l (count - k) (start + 2 * k)) ≡ cost_of x (candidates_of l count start)
+      → (o : Option ℕ) → pick (ltb v not_heard) (some v) none ≡ o → o ≡ cost_of y (candidates_of l count start)
+  listed is e rest o p = rw (← same) (sym p ∙ rw e (sym (cost_here x l start count k h is) ∙ rest))
 
 pub returns-then-cost-lt-UNHEARD : goal.returns-then-cost-lt-UNHEARD
-returns-then-cost-lt-UNHEARD c = (listed c _ (rw (lt-ltb _ _ c.if-cost-lt-UNHEARD.true)), c.number_at-cost.ensures.1)
+returns-then-cost-lt-UNHEARD c =
+    let a = c.args in
+    let l = c.loop-k in
+    let is = sym c.number_at.ensures.0 ∙ c.if-number_at-wanted.true in (
+      listed (word c.wide-wanted.result) a.word a.slots.now a.start a.count l.k c.number_at-cost.result (ap word c.wide-wanted.ensures.0)
+          c.loop-k-test.true is c.number_at-cost.ensures.0 l.invariant.1 _ (rw (lt-ltb _ _ c.if-cost-lt-UNHEARD.true)),
+      c.number_at-cost.ensures.1,
+    )
 
 pub returns-then-number_at-wanted : goal.returns-then-number_at-wanted
-returns-then-number_at-wanted c = (listed c _ (rw (le-ltb _ _ c.if-cost-lt-UNHEARD.false)), tt)
+returns-then-number_at-wanted c =
+    let a = c.args in
+    let l = c.loop-k in
+    let is = sym c.number_at.ensures.0 ∙ c.if-number_at-wanted.true in (
+      listed (word c.wide-wanted.result) a.word a.slots.now a.start a.count l.k c.number_at-cost.result (ap word c.wide-wanted.ensures.0)
+          c.loop-k-test.true is c.number_at-cost.ensures.0 l.invariant.1 _ (rw (le-ltb _ _ c.if-cost-lt-UNHEARD.false)),
+      tt,
+    )
 
 pub overflow_add-k : goal.overflow_add-k
 overflow_add-k c = omega arith

@@ -1,18 +1,9 @@
 -- What is left of the candidates after k turns costs the word what all of them do.
-use mathlib.Core.Path.{◌≡◌, sym, ap, ◌∙◌}
-use mathlib.Core.Option.{Option, none, some}
-use Prim.Native.Nat.{ℕ, ◌+◌, ◌-◌, ◌*◌, ◌≤◌}
-use native.Mathlib.Nat.{sub-zero, add-zero}
-use native.Mathlib.Omega.{arith}
-use borrow.Author.Rules.{rules}
-use borrow.Author.Tests.{lt-ltb, le-ltb}
-use lib.Dec.{ltb}
-use Rattle.bits.specs.Bits.{pick}
-use Rattle.packing.specs.declared.Word as W
-use Rattle.packing.specs.Meaning.{not_heard, word}
+use mathlib.Core.Path.{◌≡◌}
+use Prim.Native.Nat.{◌+◌, ◌-◌, ◌*◌, ◌≤◌}
+use Rattle.packing.specs.Meaning.{word}
 use Rattle.derivation.specs.Walk.{cost_of}
 use Rattle.packing.specs.Flat.{candidates_of}
-use Rattle.slots_check.proofs.Arrays.{cost_end, cost_here, cost_next}
 use Rattle.slots_check.proofs.cost_of.Given as goal
 
 abbrev pub invariant-loop-k : goal.invariant-loop-k

@@ -5,7 +5,6 @@ use Rattle.packing.specs.Flat.{rules_of, slots_of}
 use Rattle.parse_stack.specs.Stack.{heads_of}
 use Rattle.parse_stack.proofs.Fits.{pair_there, word_there}
 use Rattle.slots_check.proofs.Steps.{nothing_fits, pair_fits, word_fits}
-use borrow.Author.Rules.{rules}
 use Rattle.slots_check.proofs.follow.Goals as goal
 
 pub pair_step-requires : goal.pair_step-requires
@@ -37,7 +36,7 @@ returns-in-Pair c =
     let at-args = at-fitting in
     let a = at-args.args in
     let fit = sym at-fitting.fitting.ensures ∙ at_first.in-Pair.is in (
-      pair_fits (rules_of a.rules.now a.count) a.slots.now a.stack.now a.at a.r c.pair_step.new.0
+      pair_fits (rules_of a.rules.now a.count) a.slots.now a.stack.now a.at a.r c.pair_step.new.stack
           c.pair_step.result fit c.pair_step.ensures.0,
       c.pair_step.ensures.1,
     )

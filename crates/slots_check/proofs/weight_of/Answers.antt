@@ -1,14 +1,11 @@
 -- After i numbers the arrays hold the state that the run has come to, with no more parts than slots.
-use mathlib.Core.Path.{◌≡◌, refl, sym, ap, ◌∙◌}
-use mathlib.Core.List.{List, [], ◌∷◌}
-use Prim.Native.Nat.{◌-◌, ◌*◌, ◌^◌, ◌≤◌}
+use mathlib.Core.Path.{refl, sym, ap, ◌∙◌}
+use mathlib.Core.List.{List}
+use Prim.Native.Nat.{◌-◌, ◌*◌}
 use native.Mathlib.Omega.{arith}
-use borrow.Author.Rules.{rules}
-use lib.ListN.{length, take, drop}
 use Rattle.packing.specs.declared.Rule as R
-use Rattle.packing.specs.Meaning.{symbol_of}
-use Rattle.derivation.specs.Walk.{State, onward, run, finished, walk_weight}
-use Rattle.packing.specs.Flat.{rules_of, slots_of}
+use Rattle.derivation.specs.Walk.{State, finished, walk_weight}
+use Rattle.packing.specs.Flat.{rules_of}
 use Rattle.parse_stack.specs.Stack.{heads_of}
 use Rattle.slots_check.specs.Slots.{state_of}
 use Rattle.parse_stack.specs.declared.Step.TheVariants.{Onward}
@@ -42,7 +39,7 @@ returns-in_default c =
     let followed = at-follow.follow in
     let rules : List R.Rule = rules_of a.rules.now a.count in
     let from : State = state_of a.slots.now l.stack (Onward l.at) in
-    let next = sym (ap (state_of a.slots.now followed.new.1.1.1.0) c.in_default.is) ∙ followed.ensures.0 in
+    let next = sym (ap (state_of a.slots.now followed.new.stack) c.in_default.is) ∙ followed.ensures.0 in
     let lost = run_lost rules from a.walk.now (2 * a.n - 1) l.i (omega arith) at_test.loop-i-test.true
     at-follow.number_at.ensures.0 next in
     ap finished (sym lost ∙ l.invariant.6)
@@ -64,11 +61,11 @@ loop-i-preserved c =
     let followed = at-follow.follow in
     let rules : List R.Rule = rules_of a.rules.now a.count in
     let from : State = state_of a.slots.now l.stack (Onward l.at) in
-    let next = sym (ap (state_of a.slots.now followed.new.1.1.1.0) at_next.in-Onward.is) ∙ followed.ensures.0 in
+    let next = sym (ap (state_of a.slots.now followed.new.stack) at_next.in-Onward.is) ∙ followed.ensures.0 in
     let more = run_more rules from a.walk.now (2 * a.n - 1) l.i (omega arith) at_test.loop-i-test.true
     at-follow.number_at.ensures.0 next in
     let further = rw at_next.in-Onward.is at followed.ensures.1 in
-    let kept = followed.auto.1.1.1.0 in
+    let kept = followed.auto.stack in
     (omega arith, kept ∙ l.invariant.1, omega arith, omega arith, omega arith, omega arith, more ∙ l.invariant.6)
 
 pub returns-then-at-eq0 : goal.returns-then-at-eq0

@@ -1,18 +1,13 @@
 -- After i numbers the arrays hold the state that the run has come to, with no more parts than slots.
-use mathlib.Core.Path.{◌≡◌, refl, sym, ap, ◌∙◌}
-use mathlib.Core.List.{List, [], ◌∷◌}
+use mathlib.Core.Path.{◌≡◌}
+use mathlib.Core.List.{[], ◌∷◌}
 use Prim.Native.Nat.{◌-◌, ◌*◌, ◌^◌, ◌≤◌}
-use native.Mathlib.Omega.{arith}
-use borrow.Author.Rules.{rules}
 use lib.ListN.{length, take, drop}
-use Rattle.packing.specs.declared.Rule as R
 use Rattle.packing.specs.Meaning.{symbol_of}
-use Rattle.derivation.specs.Walk.{State, onward, run, finished, walk_weight}
+use Rattle.derivation.specs.Walk.{onward, run}
 use Rattle.packing.specs.Flat.{rules_of, slots_of}
-use Rattle.parse_stack.specs.Stack.{heads_of}
 use Rattle.slots_check.specs.Slots.{state_of}
 use Rattle.parse_stack.specs.declared.Step.TheVariants.{Onward}
-use Rattle.slots_check.proofs.Steps.{run_more, run_lost, run_over, at_end, not_at_end}
 use Rattle.slots_check.proofs.weight_of.Given as goal
 
 abbrev pub invariant-loop-i : goal.invariant-loop-i

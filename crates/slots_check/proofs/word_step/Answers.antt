@@ -2,7 +2,6 @@
 use mathlib.Core.Path.{◌≡◌, sym, ap, ◌∙◌}
 use mathlib.Core.Option.{none, some}
 use native.Mathlib.Omega.{arith}
-use borrow.Author.Rules.{rules}
 use Rattle.derivation.specs.Walk.{cost_of, leaf_step}
 use Rattle.parse_stack.specs.Stack.{number_of}
 use Rattle.slots_check.specs.Slots.{slot_at}

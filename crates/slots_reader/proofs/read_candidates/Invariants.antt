@@ -1,21 +1,14 @@
 -- `slots_reader::read_candidates` meets its contract: the candidates read so far stand in the array, and what the
 -- definition reads behind them is what it reads from the start. Assumes nothing.
-use mathlib.Core.Path.{◌≡◌, refl, sym, ◌∙◌}
-use mathlib.Core.List.{List, [], ◌∷◌, ◌++◌}
-use Prim.Native.Nat.{◌+◌, ◌-◌, ◌*◌, ◌≤◌, ◌<◌}
-use native.Mathlib.Omega.{arith}
-use borrow.Author.Rules.{rules}
-use lib.ListN.{length, length-append}
-use Rattle.packing.specs.Meaning.{Candidate, candidate, word}
-use Rattle.packing.specs.Parse.{parsed}
-use Rattle.packing.specs.Source.{Source}
+use mathlib.Core.Path.{◌≡◌}
+use mathlib.Core.List.{List, []}
+use Prim.Native.Nat.{◌+◌, ◌-◌, ◌*◌, ◌≤◌}
+use lib.ListN.{length}
+use Rattle.packing.specs.Meaning.{Candidate}
 use Rattle.packing.specs.Read.{source_of}
-use Rattle.packing.specs.Utterance.{candidates_from, candidates_entries}
+use Rattle.packing.specs.Utterance.{candidates_from}
 use Rattle.packing.specs.Store.{store_all}
-use Rattle.slots_reader.specs.Placed.{candidate_from, candidate_numbers, placed, not_placed}
-use Rattle.slots_reader.proofs.Numbers.{length_numbers, candidate_stored}
-use Rattle.slots_reader.proofs.FieldInversion.{candidate_told}
-use Rattle.slots_reader.proofs.Candidates.{candidate_near, candidates_stop, candidates_go_on, candidates_end}
+use Rattle.slots_reader.specs.Placed.{candidate_numbers}
 use Rattle.slots_reader.proofs.read_candidates.Given as goal
 
 abbrev pub invariant-loop-i : goal.invariant-loop-i

@@ -1,21 +1,14 @@
 -- `slots_reader::read_slots` meets its contract: the slots read so far stand in the array, and what the definition
 -- reads behind them is what it reads from the start. Assumes nothing.
-use mathlib.Core.Path.{◌≡◌, refl, sym, ◌∙◌}
-use mathlib.Core.List.{[], ◌∷◌, ◌++◌}
+use mathlib.Core.Path.{◌≡◌}
+use mathlib.Core.List.{[]}
 use Prim.Native.Nat.{◌+◌, ◌-◌, ◌*◌, ◌≤◌}
-use native.Mathlib.Omega.{arith}
-use borrow.Author.Rules.{rules}
-use lib.ListN.{length, length-append}
+use lib.ListN.{length}
 use Rattle.packing.specs.Meaning.{Utterance}
-use Rattle.packing.specs.Source.{Source}
 use Rattle.packing.specs.Read.{source_of}
-use Rattle.packing.specs.Utterance.{slots_from, slots_entries}
+use Rattle.packing.specs.Utterance.{slots_from}
 use Rattle.packing.specs.Flat.{slot_numbers}
 use Rattle.packing.specs.Store.{store_all}
-use Rattle.slots_reader.specs.Placed.{not_placed}
-use Rattle.slots_reader.proofs.FieldInversion.{placed_at, placed_told, not_placed_told}
-use Rattle.slots_reader.proofs.Numbers.{length_numbers, slot_more, slot_stored}
-use Rattle.slots_reader.proofs.Slots.{slots_stop, slots_go_on, slots_end, slot_near}
 use Rattle.slots_reader.proofs.read_slots.Given as goal
 
 abbrev pub invariant-loop-i : goal.invariant-loop-i

@@ -3,7 +3,6 @@ use mathlib.Core.Path.{refl}
 use native.Mathlib.Omega.{arith}
 use lib.ListN.{length-set}
 use Rattle.packing.specs.Store.{store_all}
-use borrow.Author.Rules.{rules}
 use Rattle.slots_reader.proofs.store_candidate.Goals as goal
 
 pub bounds-slots-p-2 : goal.bounds-slots-p-2

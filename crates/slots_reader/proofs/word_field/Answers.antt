@@ -1,5 +1,4 @@
 -- `slots_reader::word_field` meets its contract: the width is the table's. Assumes nothing.
-use borrow.Author.Rules.{rules}
 use Rattle.slots_reader.proofs.word_field.Goals as goal
 
 pub returns : goal.returns

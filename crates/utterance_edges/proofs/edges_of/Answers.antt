@@ -1,16 +1,14 @@
 -- `utterance_edges::edges_of` meets its contract: the edges stored so far and those of the slots that are left are the
 -- array's. Assumes nothing.
 use mathlib.Core.Path.{◌≡◌, refl, sym, ◌∙◌}
-use mathlib.Core.List.{List, [], ◌++◌}
-use Prim.Native.Nat.{◌+◌, ◌-◌, ◌*◌, ◌≤◌}
+use mathlib.Core.List.{[], ◌++◌}
+use Prim.Native.Nat.{◌+◌, ◌-◌}
 use native.Mathlib.Omega.{arith}
-use borrow.Author.Rules.{rules}
-use lib.ListN.{length, length-append}
-use Rattle.packing.specs.Meaning.{Edge}
+use lib.ListN.{length-append}
 use Rattle.packing.specs.Flat.{edge_numbers}
 use Rattle.packing.specs.Store.{store_all}
 use Rattle.packing.proofs.Flat.{length_edges, overlaid_begins, stored_overlaid}
-use Rattle.utterance_edges.specs.Edges.{candidate_edges, slots_edges}
+use Rattle.utterance_edges.specs.Edges.{candidate_edges}
 use Rattle.utterance_edges.proofs.Edges.{edges_stored, length_candidate_edges, slot_edges_more, slot_edges_end}
 use Rattle.utterance_edges.proofs.edges_of.Goals as goal
 
@@ -21,46 +19,12 @@ loop-i-init c =
     let z : a.count - 0 ≡ a.count = omega arith in
     (omega arith, omega arith, omega arith, refl, ([], refl, refl, rw z))
 
-pub overflow_cast-i : goal.overflow_cast-i
-overflow_cast-i c = omega arith
-
-pub overflow_add-p : goal.overflow_add-p
-overflow_add-p c = omega arith
-
-pub overflow_mul-found : goal.overflow_mul-found
-overflow_mul-found c = omega arith
-
-pub slot_edges-requires : goal.slot_edges-requires
-slot_edges-requires c = omega arith
-
-pub overflow_add-found : goal.overflow_add-found
-overflow_add-found c = omega arith
-
-pub overflow_mul-p : goal.overflow_mul-p
-overflow_mul-p c = omega arith
-
-pub overflow_add-p-in-loop-i : goal.overflow_add-p-in-loop-i
-overflow_add-p-in-loop-i c = omega arith
-
-pub overflow_add-p-in-loop-i-2 : goal.overflow_add-p-in-loop-i-2
-overflow_add-p-in-loop-i-2 c = omega arith
-
-pub overflow_add-i : goal.overflow_add-i
-overflow_add-i c = omega arith
-
-pub loop-i-smaller : goal.loop-i-smaller
-loop-i-smaller c = omega arith
-
 pub loop-i-preserved : goal.loop-i-preserved
 loop-i-preserved c =
-    let at-candidates-at = c in
-    let at-loop-test = at-candidates-at in
-    let at-loop = at-loop-test in
-    let at-args = at-loop in
-    let l = at-loop.loop-i in
-    let a = at-args.args in
+    let l = c.loop-i in
+    let a = c.args in
     let es = l.invariant.4.0 in
-    let n = at-candidates-at.candidates_at-n.result in
+    let n = c.candidates_at-n.result in
     let fs = candidate_edges a.slots.now l.i n (l.p + 1) in
     let m = length_candidate_edges a.slots.now l.i n (l.p + 1) in (
       omega arith,
@@ -71,13 +35,10 @@ loop-i-preserved c =
         es ++ fs,
         simp length-append (omega arith),
         edges_stored a.edges.now 0 es fs l.invariant.4.2 (omega arith) c.slot_edges.ensures,
-        sym (slot_edges_more a.slots.now a.count l.i l.p es at-loop-test.loop-i-test.true at-candidates-at.candidates_at-n.ensures)
+        sym (slot_edges_more a.slots.now a.count l.i l.p es c.loop-i-test.true c.candidates_at-n.ensures)
             ∙ l.invariant.4.3,
       ),
     )
-
-pub shape_of-edges : goal.shape_of-edges
-shape_of-edges c = c.loop-i.invariant.3
 
 pub returns : goal.returns
 returns c =

@@ -1,17 +1,13 @@
 -- `utterance_edges::edges_of` meets its contract: the edges stored so far and those of the slots that are left are the
 -- array's. Assumes nothing.
-use mathlib.Core.Path.{◌≡◌, refl, sym, ◌∙◌}
-use mathlib.Core.List.{List, [], ◌++◌}
-use Prim.Native.Nat.{◌+◌, ◌-◌, ◌*◌, ◌≤◌}
-use native.Mathlib.Omega.{arith}
-use borrow.Author.Rules.{rules}
-use lib.ListN.{length, length-append}
+use mathlib.Core.Path.{◌≡◌}
+use mathlib.Core.List.{List, ◌++◌}
+use Prim.Native.Nat.{◌-◌, ◌*◌, ◌≤◌}
+use lib.ListN.{length}
 use Rattle.packing.specs.Meaning.{Edge}
 use Rattle.packing.specs.Flat.{edge_numbers}
 use Rattle.packing.specs.Store.{store_all}
-use Rattle.packing.proofs.Flat.{length_edges, overlaid_begins, stored_overlaid}
-use Rattle.utterance_edges.specs.Edges.{candidate_edges, slots_edges}
-use Rattle.utterance_edges.proofs.Edges.{edges_stored, length_candidate_edges, slot_edges_more, slot_edges_end}
+use Rattle.utterance_edges.specs.Edges.{slots_edges}
 use Rattle.utterance_edges.proofs.edges_of.Given as goal
 
 abbrev pub invariant-loop-i : goal.invariant-loop-i

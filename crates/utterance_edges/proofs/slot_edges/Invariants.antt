@@ -1,17 +1,13 @@
 -- `utterance_edges::slot_edges` meets its contract: the edges stored so far and those that are left are the slot's. Assumes
 -- nothing.
-use mathlib.Core.Path.{◌≡◌, refl, sym, ◌∙◌}
-use mathlib.Core.List.{List, [], ◌∷◌, ◌++◌}
+use mathlib.Core.Path.{◌≡◌}
+use mathlib.Core.List.{List, ◌++◌}
 use Prim.Native.Nat.{◌+◌, ◌-◌, ◌*◌, ◌≤◌}
-use native.Mathlib.Nat.{add-zero}
-use native.Mathlib.Omega.{arith}
-use borrow.Author.Rules.{rules}
-use lib.ListN.{length, length-append}
-use Rattle.packing.specs.Meaning.{Edge, edge, word}
+use lib.ListN.{length}
+use Rattle.packing.specs.Meaning.{Edge}
 use Rattle.packing.specs.Flat.{edge_numbers}
 use Rattle.packing.specs.Store.{store_all}
 use Rattle.utterance_edges.specs.Edges.{candidate_edges}
-use Rattle.utterance_edges.proofs.Edges.{edges_stored, candidate_edge, candidate_edges_end}
 use Rattle.utterance_edges.proofs.slot_edges.Given as goal
 
 abbrev pub invariant-loop-k : goal.invariant-loop-k

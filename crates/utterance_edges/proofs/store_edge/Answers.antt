@@ -4,7 +4,6 @@ use Prim.Native.Nat.{◌+◌}
 use native.Mathlib.Omega.{arith}
 use lib.ListN.{length-set}
 use Rattle.packing.specs.Store.{store_all}
-use borrow.Author.Rules.{rules}
 use Rattle.utterance_edges.proofs.store_edge.Goals as goal
 
 pub bounds-edges-p-2 : goal.bounds-edges-p-2

@@ -1,7 +1,6 @@
 -- `utterance_reader::read_sheet` meets its contract: slots and end are the definition's. Assumes nothing.
 use Rattle.utterance_reader.proofs.FieldInversion.{slots_told, no_slots_told}
 use Rattle.utterance_reader.proofs.Answers.{promised_refusal, promised_slots, sheet_stops, sheet_goes_on, sheet_ends}
-use borrow.Author.Rules.{rules}
 use Rattle.utterance_reader.proofs.read_sheet.Goals as goal
 
 pub returns-then-at-sheet : goal.returns-then-at-sheet
@@ -12,8 +11,7 @@ returns-then-at-sheet c =
 
 pub returns-in-Refused : goal.returns-in-Refused
 returns-in-Refused c =
-    let at-read-utterance = c in
-    promised_refusal _ _ (sheet_stops _ _ (no_slots_told at-read-utterance.read_utterance.ensures c.in-Refused.is))
+    promised_refusal _ _ (sheet_stops _ _ (no_slots_told c.read_utterance.ensures c.in-Refused.is))
 
 pub returns-else-at-sheet : goal.returns-else-at-sheet
 returns-else-at-sheet c =
