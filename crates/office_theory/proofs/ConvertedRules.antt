@@ -149,11 +149,11 @@ module _ (o : Office) where
 
     pub pair_at : (r : ℕ) {A : Sym} {w : ℕ} {x y : Item} {l : List Item} → At o.rules r (rule A w (x ∷ y ∷ l))
         → (X : Sym) × (Z : Sym) × At (convert o).rules r (Pair A X Z w) × Spell (x ∷ []) X × Spell (y ∷ l) Z
-    pair_at r {A} {w} {x} {y} {l} p = let (c, a, b) = office_rule r p in go c a b
+    pair_at r {A} {w} {x} {y} {l} p = let (c, a, b) = office_rule r p in go x c a b
       where
-        go : (c : R.Rule) → At (convert o).rules r c → Become (rule A w (x ∷ y ∷ l)) c
+        go : (x : Item) (c : R.Rule) → At (convert o).rules r c → Become (rule A w (x ∷ y ∷ l)) c
             → (X : Sym) × (Z : Sym) × At (convert o).rules r (Pair A X Z w) × Spell (x ∷ []) X × Spell (y ∷ l) Z
-        go _ a (pair_rule_lem {X = X} {Z = Z} s t) = (X, Z, a, s, t)
+        go _ _ a (pair_rule_lem {X = X} {Z = Z} s t) = (X, Z, a, s, t)
 
     pub not_one_symbol : (r : ℕ) {A B : Sym} {w : ℕ} → At o.rules r (rule A w (symbol B ∷ [])) → ⊥
     not_one_symbol r p = (ranges r p).2

@@ -17,8 +17,8 @@ ghost use Rattle.outside_theory.specs.Model.{
   over_heads,
   over_spans,
   over_lengths,
-  fill,
 };
+ghost use Rattle.outside_weights.specs.Model.{fill};
 
 use arrays::{number_at, rule_at, wide};
 use chart_classes::{INDEX_NUMBERS, PAIR_BASE, class_end, class_start};
@@ -188,7 +188,7 @@ fn over_lengths(t: &mut [u32], masks: &[u32], rules: &[u32], index: &[u32], d: L
 pub fn fill(t: &mut [u32], rules: &[u32], pass: Pass)
     requires { Passable pass }
     ensures { (fourths t.new
-        ≡ fill (replicate (length t.old / 4) 0) (plain t.old) rules.now pass.rules pass.table)
+        ≡ fill (replicate (length t.old / 4) 0) (plain t.old) rules.now pass)
         × (plain t.new ≡ plain t.old) }
 {
     let d = pass.table;

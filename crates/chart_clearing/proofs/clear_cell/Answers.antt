@@ -17,13 +17,11 @@ unfolding iter
 loop-x-init c = (search rules, refl, refl)
 
 pub loop-x-preserved : goal.loop-x-preserved
-loop-x-preserved c =
-    let c₂ = c in
-    let c₅ = c₂ in (
-      search rules,
-      c₂.clear_entry.auto.t ∙ c₅.loop-x.invariant.1,
-      rw (iter_more, ← c₅.loop-x.invariant.2) c₂.clear_entry.ensures,
-    )
+loop-x-preserved c = (
+  search rules,
+  c.clear_entry.auto.t ∙ c.loop-x.invariant.1,
+  rw (iter_more, ← c.loop-x.invariant.2) c.clear_entry.ensures,
+)
 
 pub shape_of-t : goal.shape_of-t
 shape_of-t c = c.loop-x.invariant.1

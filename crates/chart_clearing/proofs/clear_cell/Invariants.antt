@@ -10,7 +10,7 @@ use borrow.Author.Rules.{rules}
 use Rattle.chart_clearing.proofs.clear_cell.Given as goal
 
 abbrev pub invariant-loop-x : goal.invariant-loop-x
-invariant-loop-x l = (l.x ≤ l.m) × (length l.t ≡ length l.initial.t) × (l.t ≡ iter (λ u l.x. clear_entry u l.d l.number l.x) l.initial.t l.x)
+invariant-loop-x l = (l.x ≤ l.m) × (length l.t ≡ length l.initial.t) × (l.t ≡ iter (λ u x. clear_entry u l.d l.number x) l.initial.t l.x)
 
 abbrev pub decreases-loop-x : goal.decreases-loop-x
 decreases-loop-x l = l.m - l.x

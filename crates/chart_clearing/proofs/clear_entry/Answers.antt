@@ -10,8 +10,4 @@ returns-then-at-t c = rw (c.clear_within.ensures, c.entry_of-at.ensures.0)
 pub returns : goal.returns
 unfolding clear_entry
 returns c =
-    let at-store3 = c in
-    let at-store2 = at-store3 in
-    let at_store = at-store2 in
-    let at-entry-of = at_store in
-    rw (c.store-4.ensures, at-store3.store-3.ensures, at-store2.store-2.ensures, at_store.store.ensures, at-entry-of.entry_of-at.ensures.0)
+    rw (c.store-4.ensures, c.store-3.ensures, c.store-2.ensures, c.store.ensures, c.entry_of-at.ensures.0)

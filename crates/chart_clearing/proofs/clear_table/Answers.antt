@@ -13,13 +13,11 @@ unfolding iter
 loop-c-init c = (search rules, refl, refl)
 
 pub loop-c-preserved : goal.loop-c-preserved
-loop-c-preserved c =
-    let c₂ = c in
-    let c₅ = c₂ in (
-      search rules,
-      c₂.clear_cell.auto.t ∙ c₅.loop-c.invariant.1,
-      rw (iter_more, ← c₅.loop-c.invariant.2) c₂.clear_cell.ensures,
-    )
+loop-c-preserved c = (
+  search rules,
+  c.clear_cell.auto.t ∙ c.loop-c.invariant.1,
+  rw (iter_more, ← c.loop-c.invariant.2) c.clear_cell.ensures,
+)
 
 pub shape_of-t : goal.shape_of-t
 shape_of-t c = c.loop-c.invariant.1

@@ -9,7 +9,7 @@ use borrow.Author.Rules.{rules}
 use Rattle.chart_clearing.proofs.clear_table.Given as goal
 
 abbrev pub invariant-loop-c : goal.invariant-loop-c
-invariant-loop-c l = (l.c ≤ l.d.cells) × (length l.t ≡ length l.initial.t) × (l.t ≡ iter (λ u l.c. clear_cell u l.d l.c) l.initial.t l.c)
+invariant-loop-c l = (l.c ≤ l.d.cells) × (length l.t ≡ length l.initial.t) × (l.t ≡ iter (λ u c. clear_cell u l.d c) l.initial.t l.c)
 
 abbrev pub decreases-loop-c : goal.decreases-loop-c
 decreases-loop-c l = l.d.cells - l.c

@@ -6,12 +6,8 @@ use Rattle.chart_queue.proofs.keep_initial.Goals as goal
 
 pub returns-then-is_initial : goal.returns-then-is_initial
 returns-then-is_initial c =
-    let at-beside-at = c in
-    let at-if1 = at-beside-at in
-    let at-is-initial = at-if1 in
-    let at-back-pointer = at-is-initial in
-    rw (c.put_beside.ensures, at-beside-at.beside_at-tally.ensures.0)
-    (sym (keep_one _ _ _ _ (initial_is _ at-back-pointer.back_pointer.ensures.0 at-is-initial.is_initial.ensures at-if1.if-is_initial.true)))
+    rw (c.put_beside.ensures, c.beside_at-tally.ensures.0)
+    (sym (keep_one _ _ _ _ (initial_is _ c.back_pointer.ensures.0 c.is_initial.ensures c.if-is_initial.true)))
 
 pub returns-else-is_initial : goal.returns-else-is_initial
 returns-else-is_initial c = sym (keep_none _ _ _ _ (initial_is _ c.back_pointer.ensures.0 c.is_initial.ensures c.if-is_initial.false))

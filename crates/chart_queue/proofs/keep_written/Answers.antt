@@ -22,14 +22,10 @@ returns-then-kept-eq0 c = let a = c.args in nothing_kept a.t.now a.kept.now a.d 
 pub returns : goal.returns
 unfolding keep_written
 returns c =
-    let at-entry-of4 = c in
-    let at-entry-of3 = at-entry-of4 in
-    let at-entry-of2 = at-entry-of3 in
-    let at-entry-of = at-entry-of2 in
     rw (
       c.keep_four.ensures,
-      at-entry-of.entry_of.ensures.0,
-      at-entry-of2.entry_of-2.ensures.0,
-      at-entry-of3.entry_of-3.ensures.0,
-      at-entry-of4.entry_of-4.ensures.0,
+      c.entry_of.ensures.0,
+      c.entry_of-2.ensures.0,
+      c.entry_of-3.ensures.0,
+      c.entry_of-4.ensures.0,
     )

@@ -1,5 +1,5 @@
 -- The loop is the iteration over the queue, with the least key so far beside its place.
-use mathlib.Core.Path.{◌≡◌, refl, sym, ◌∙◌}
+use mathlib.Core.Path.{◌≡◌, refl, ◌∙◌}
 use mathlib.Core.Logic.{⊎_elim}
 use Prim.Native.Nat.{◌-◌, ◌≤◌}
 use Rattle.packing.specs.Loop.{iter}

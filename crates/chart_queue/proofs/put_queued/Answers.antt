@@ -8,13 +8,10 @@ use Rattle.chart_queue.proofs.put_queued.Goals as goal
 pub returns : goal.returns
 unfolding put_queued
 returns c =
-    let at-keep-initial = c in
-    let at-tag-of = at-keep-initial in
-    let at-args = at-tag-of in
     rw (
-      digits_div at-args.args.key.price {m = key_unit} {r = at-args.args.key.back} (search rules),
-      digits_mod at-args.args.key.price {m = key_unit} {r = at-args.args.key.back} (search rules),
+      digits_div c.args.key.price {m = key_unit} {r = c.args.key.back} (search rules),
+      digits_mod c.args.key.price {m = key_unit} {r = c.args.key.back} (search rules),
       c.put_beside.ensures,
-      at-keep-initial.keep_initial.ensures,
-      at-tag-of.tag_of-tag.ensures.0,
+      c.keep_initial.ensures,
+      c.tag_of-tag.ensures.0,
     )

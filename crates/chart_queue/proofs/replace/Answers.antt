@@ -6,20 +6,14 @@ use Rattle.chart_queue.proofs.replace.Goals as goal
 
 pub put_queued-requires : goal.put_queued-requires
 put_queued-requires c =
-    let at-args = c in
-    search (rules, price_fits at-args.args.key c.is_some.ensures c.if-is_some.true)
+    search (rules, price_fits c.args.key c.is_some.ensures c.if-is_some.true)
 
 pub returns-then-is_some : goal.returns-then-is_some
 unfolding replace
 returns-then-is_some c =
-    let at-if1 = c in
-    let at-is-some = at-if1 in
-    simp (← at-is-some.is_some.ensures, at-if1.if-is_some.true) c.put_queued.ensures
+    simp (← c.is_some.ensures, c.if-is_some.true) c.put_queued.ensures
 
 pub returns : goal.returns
 unfolding replace
 returns c =
-    let at-move-queued = c in
-    let at-if1 = at-move-queued in
-    let at-is-some = at-if1 in
-    simp (← at-is-some.is_some.ensures, at-if1.if-is_some.false) (rw (c.put_queue_length.ensures, at-move-queued.move_queued.ensures))
+    simp (← c.is_some.ensures, c.if-is_some.false) (rw (c.put_queue_length.ensures, c.move_queued.ensures))

@@ -11,11 +11,9 @@ returns-then-is_initial c = (
 )
 
 pub returns : goal.returns
-returns c =
-    let at-is-initial = c in
-    let at-back-pointer = at-is-initial in (
-      rw (c.code_of.ensures.0, c.back_at.ensures.0)
-          (sym (tag_rank _ _ _ _ _ (initial_is _ at-back-pointer.back_pointer.ensures.0 at-is-initial.is_initial.ensures
-          c.if-is_initial.false))),
-      search (rules, c.code_of.ensures.1),
-    )
+returns c = (
+  rw (c.code_of.ensures.0, c.back_at.ensures.0)
+      (sym (tag_rank _ _ _ _ _ (initial_is _ c.back_pointer.ensures.0 c.is_initial.ensures
+      c.if-is_initial.false))),
+  search (rules, c.code_of.ensures.1),
+)

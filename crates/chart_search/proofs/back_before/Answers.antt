@@ -6,5 +6,4 @@ use Rattle.chart_search.proofs.back_before.Goals as goal
 pub returns : goal.returns
 unfolding back_before
 returns c =
-    let at-cell-number = c in
-    (rw (← at-cell-number.cell_number.ensures.0, ← c.back_at.ensures.0) c.back_pointer.ensures.0, c.back_pointer.ensures.1)
+    (rw (← c.cell_number.ensures.0, ← c.back_at.ensures.0) c.back_pointer.ensures.0, c.back_pointer.ensures.1)

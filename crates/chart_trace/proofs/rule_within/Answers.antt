@@ -5,8 +5,7 @@ use Rattle.chart_trace.proofs.rule_within.Goals as goal
 
 pub returns-then-b-c : goal.returns-then-b-c
 returns-then-b-c c =
-    let c₄ = c in
-    simp (lt-ltb _ _ c₄.if-c-b.true, lt-ltb _ _ c.if-b-c.true) c.rule_at.ensures
+    simp (lt-ltb _ _ c.if-c-b.true, lt-ltb _ _ c.if-b-c.true) c.rule_at.ensures
 
 pub returns-else-b-c : goal.returns-else-b-c
 returns-else-b-c c = simp (lt-ltb _ _ c.if-c-b.true, le-ltb _ _ c.if-b-c.false)

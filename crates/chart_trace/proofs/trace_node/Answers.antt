@@ -3,13 +3,8 @@ use borrow.Author.Rules.{rules}
 use Rattle.chart_trace.proofs.trace_node.Goals as goal
 
 pub returns : goal.returns
-returns c =
-    let c₂ = c in
-    let c₇ = c₂ in
-    let c₁₀ = c₇ in
-    let c₁₁ = c₁₀ in
-    let c₁₂ = c₁₁ in (
-      rw (← c₁₂.cell_number.ensures.0, ← c₁₁.back_at.ensures.0) c₁₀.back_pointer-back.ensures.0,
-      c₁₀.back_pointer-back.ensures.1,
-      rw (← c₇.store.ensures) c₂.store-2.ensures,
-    )
+returns c = (
+  rw (← c.cell_number.ensures.0, ← c.back_at.ensures.0) c.back_pointer-back.ensures.0,
+  c.back_pointer-back.ensures.1,
+  rw (← c.store.ensures) c.store-2.ensures,
+)

@@ -1,14 +1,13 @@
 -- `office_conversion::add_words` meets its contract: the words that are left, added, give what all give.
-use mathlib.Core.Path.{◌≡◌, refl, sym, ◌∙◌}
-use mathlib.Core.List.{List, [], ◌∷◌}
-use Prim.Native.Nat.{ℕ, ◌+◌, ◌-◌, ◌*◌, ◌≤◌}
-use native.Mathlib.Omega.{arith}
+use mathlib.Core.Path.{◌≡◌}
+use mathlib.Core.List.{List}
+use Prim.Native.Nat.{ℕ, ◌+◌, ◌-◌, ◌≤◌}
 use lib.ListN.{length}
 use Rattle.packing.specs.declared.Rule as K
-use Rattle.office.specs.Flat.{item_at, items_at}
+use Rattle.office.specs.Flat.{items_at}
 use Rattle.office.specs.Conversion.{Helper, with_words}
 use Rattle.office_conversion.specs.Pass.{Holds, WordsBelow}
-use Rattle.office_conversion.proofs.Words.{Rest, rest_start, rest_more, below_first, words_more, words_end}
+use Rattle.office_conversion.proofs.Words.{Rest}
 use Rattle.office_conversion.proofs.add_words.Given as goal
 
 abbrev pub invariant-loop-j : goal.invariant-loop-j

@@ -1,9 +1,8 @@
 -- `office_conversion::convert` meets its contract: what is left, converted behind what is done, gives all.
-use mathlib.Core.Path.{◌≡◌, refl, sym, ◌∙◌}
-use Prim.Native.Nat.{◌+◌, ◌-◌, ◌*◌, ◌≤◌, ◌<◌}
-use native.Mathlib.Omega.{arith}
+use mathlib.Core.Path.{◌≡◌}
+use Prim.Native.Nat.{◌+◌, ◌-◌, ◌*◌, ◌≤◌}
 use lib.ListN.{length}
-use Rattle.office_conversion.proofs.Rules.{ConvertedSoFar, none_passed, next_passable, one_more, all_passed}
+use Rattle.office_conversion.proofs.Rules.{ConvertedSoFar}
 use Rattle.office_conversion.proofs.convert.Given as goal
 
 abbrev pub invariant-loop-i : goal.invariant-loop-i

@@ -1,9 +1,8 @@
 -- `office_conversion::put_chain` meets its contract: the links that are left, stored, give the whole chain.
-use mathlib.Core.Path.{◌≡◌, refl, ◌∙◌}
+use mathlib.Core.Path.{◌≡◌}
 use Prim.Native.Nat.{◌+◌, ◌-◌, ◌≤◌}
-use native.Mathlib.Omega.{arith}
 use lib.ListN.{length}
-use Rattle.office_conversion.proofs.Chains.{Left, chain_start, chain_turn, chain_end}
+use Rattle.office_conversion.proofs.Chains.{Left}
 use Rattle.office_conversion.proofs.put_chain.Given as goal
 
 abbrev pub invariant-loop-j : goal.invariant-loop-j

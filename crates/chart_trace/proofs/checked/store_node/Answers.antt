@@ -4,6 +4,4 @@ use Rattle.chart_trace.proofs.checked.store_node.Goals as goal
 
 pub returns : goal.returns
 returns c =
-    let c₂ = c in
-    let c₇ = c₂ in
-    rw (← c₇.store.ensures) c₂.store-2.ensures
+    rw (← c.store.ensures) c.store-2.ensures

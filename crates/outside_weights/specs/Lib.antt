@@ -1,0 +1,2 @@
+-- What `outside_weights` states.
+pub mod Model
