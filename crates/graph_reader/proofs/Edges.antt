@@ -1,6 +1,6 @@
 -- An edge is its two places, then a word and its cost as a candidate has them. Assumes nothing.
 use mathlib.Core.Path.{◌≡◌, refl}
-use Prim.Native.Nat.{ℕ, ◌+◌, ◌-◌, ◌≤◌}
+use Prim.Native.Nat.{ℕ, ◌+◌, ◌≤◌}
 use native.Mathlib.Omega.{arith}
 use Rattle.packing.specs.Meaning as M
 use Rattle.packing.specs.Meaning.{candidate, edge, word}

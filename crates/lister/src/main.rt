@@ -2,11 +2,14 @@
 // grammar.bin. It reads both files and prints the numbers that `lines` shows.
 #![tactic(auto)]
 
-ghost use Rattle.io.specs.Counts.{IsPrefixLen};
+ghost use Rattle.std.specs.Io.{ReadsAtMost};
 
 use inputs::Listed;
 use printing::{print, print_end, print_further, print_rows};
 use reading_rows::SHOWN_NUMBERS;
+use std::io::Read;
+use std::rt::Files;
+use std::{fs, io};
 
 // What document 01 has the lister take of each file and lend to the listing.
 const BLOCK_BYTES: usize = 2048;
@@ -15,24 +18,29 @@ const WORK_NUMBERS: usize = 8192;
 
 const OUTPUT_BYTES: usize = 1024;
 
-// The first bytes of a file, as many as there is room for; none of one that is missing.
-fn read_file(path: &[u8], bytes: &mut [u8]) -> usize
-    ensures { IsPrefixLen result bytes.new }
+// The first bytes of a file, as many as there is room for; none of one that cannot be opened.
+fn read_file(rt: &impl Files, path: &str, bytes: &mut [u8]) -> io::Result<usize>
+    ensures { ReadsAtMost result bytes.new }
 {
-    let file = os::open_read(path);
-    if file < 0 {
-        return 0;
+    let Ok(mut file) = fs::open(rt, path) else {
+        return Ok(0);
+    };
+    let mut done = 0;
+    while done < bytes.len() {
+        let n = file.read(&mut bytes[done..])?;
+        if n == 0 {
+            break;
+        }
+        done += n;
     }
-    let n = io::read_full(file, bytes);
-    libc::close(file);
-    n
+    Ok(done)
 }
 
-fn main() {
+fn main(rt: HostRuntime) -> io::Result<()> {
     let mut grammar = [0u8; BLOCK_BYTES];
     let mut utterance = [0u8; BLOCK_BYTES];
-    let g = read_file(b"grammar.bin", &mut grammar);
-    let u = read_file(b"utterance.bin", &mut utterance);
+    let g = read_file(&rt, "grammar.bin", &mut grammar)?;
+    let u = read_file(&rt, "utterance.bin", &mut utterance)?;
     let mut work = [0u32; WORK_NUMBERS];
     let mut out = [0u8; OUTPUT_BYTES];
     let mut shown = [0u32; SHOWN_NUMBERS];
@@ -44,15 +52,15 @@ fn main() {
         &mut shown,
     ) {
         Listed::Found(m) => {
-            print(b"readings");
-            print_further(m);
-            print_end();
-            print_rows(&shown, m);
+            print(&rt, b"readings")?;
+            print_further(&rt, m)?;
+            print_end(&rt)?;
+            print_rows(&rt, &shown, m)
         }
         Listed::Refused(n) => {
-            print(b"refused");
-            print_further(n as usize);
-            print_end();
+            print(&rt, b"refused")?;
+            print_further(&rt, n as usize)?;
+            print_end(&rt)
         }
     }
 }

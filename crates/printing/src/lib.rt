@@ -4,48 +4,49 @@
 ghost use Rattle.std.specs.Prelude.{◌≤◌, ◌<◌};
 
 use arrays::number_at;
-use libc::STDOUT_FILENO;
 use reading_rows::{COUNT_AT, RANK_AT, ROW_NUMBERS, RULES_AT, WEIGHT_AT};
+use std::io;
 
 // Bytes as they are.
-pub fn print(text: &[u8]) {
-    io::write_all(STDOUT_FILENO, text);
+pub fn print(rt: &impl Print, text: &[u8]) -> io::Result<()> {
+    rt.write_all(text)
 }
 
 // A number, and one behind others.
-pub fn print_number(n: usize) {
-    io::print_decimal(STDOUT_FILENO, n as u64);
+pub fn print_number(rt: &impl Print, n: usize) -> io::Result<()> {
+    rt.print(n)
 }
 
-pub fn print_further(n: usize) {
-    print(b" ");
-    print_number(n);
+pub fn print_further(rt: &impl Print, n: usize) -> io::Result<()> {
+    print(rt, b" ")?;
+    print_number(rt, n)
 }
 
 // The end of a line.
-pub fn print_end() {
-    print(b"\n");
+pub fn print_end(rt: &impl Print) -> io::Result<()> {
+    print(rt, b"\n")
 }
 
 // A line: rank, weight, node rule numbers.
-fn print_row(shown: &[u32], k: usize)
+fn print_row(rt: &impl Print, shown: &[u32], k: usize) -> io::Result<()>
     requires { k < 8 }
 {
     let at = k * ROW_NUMBERS;
-    print_number(number_at(shown, at + RANK_AT));
-    print_further(number_at(shown, at + WEIGHT_AT));
+    print_number(rt, number_at(shown, at + RANK_AT))?;
+    print_further(rt, number_at(shown, at + WEIGHT_AT))?;
     let count = number_at(shown, at + COUNT_AT);
     for i in 0..count {
-        print_further(number_at(shown, at + RULES_AT + i));
+        print_further(rt, number_at(shown, at + RULES_AT + i))?;
     }
-    print_end();
+    print_end(rt)
 }
 
 // A line for each of the first m rows.
-pub fn print_rows(shown: &[u32], m: usize)
+pub fn print_rows(rt: &impl Print, shown: &[u32], m: usize) -> io::Result<()>
     requires { m ≤ 8 }
 {
     for k in 0..m {
-        print_row(shown, k);
+        print_row(rt, shown, k)?;
     }
+    Ok(())
 }

@@ -2,7 +2,6 @@
 use mathlib.Core.Path.{sym}
 use native.Mathlib.Omega.{arith}
 use Rattle.bit_writer.proofs.Part.{put_end, end_lt}
-use borrow.Author.Rules.{rules}
 use Rattle.bit_writer.proofs.write_end.Goals as goal
 
 pub overflow_cast-out : goal.overflow_cast-out
@@ -14,4 +13,4 @@ pub returns : goal.returns
 returns c =
     let a = c.args in
     sym (put_end a.width a.value c.lower.result (omega arith) c.lower.ensures a.out.now a.byte
-    (omega (arith, c.slice_known-1.given a.byte)) (omega arith) (omega arith))
+    (grind arith) (omega arith) (omega arith))

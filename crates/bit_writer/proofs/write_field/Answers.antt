@@ -4,7 +4,6 @@ use Prim.Native.Nat.{◌-◌, ◌+◌, ◌*◌, ◌/◌, ◌%◌}
 use native.Mathlib.Omega.{arith}
 use Rattle.bits.specs.Put.{put}
 use Rattle.bits.proofs.Put.{put_append}
-use borrow.Author.Rules.{rules}
 use Rattle.bit_writer.proofs.write_field.Goals as goal
 
 pub returns-else-width-gt0 : goal.returns-else-width-gt0

@@ -4,18 +4,14 @@ use Prim.Native.Nat.{◌/◌, ◌%◌, ◌-◌}
 use native.Mathlib.Omega.{arith}
 use lib.ListN.{get_or, set}
 use Rattle.bit_writer.proofs.Part.{put_part, joined_fits, joined_shl, part_lt}
-use borrow.Author.Rules.{rules}
 use Rattle.bit_writer.proofs.write_part.Goals as goal
-
-pub overflow_cast-kept : goal.overflow_cast-kept
-overflow_cast-kept c = omega (arith, c.slice_known-1.given (c.args.at / 8))
 
 pub overflow_add-y : goal.overflow_add-y
 overflow_add-y c =
     let a = c.args in
     record {
       fits = joined_fits (get_or a.out.now (a.at / 8) 0) (8 - a.at % 8) a.width a.value c.lower.result
-          (omega (arith, c.slice_known-1.given (a.at / 8))) (omega arith) (omega arith) c.lower.ensures;
+          (omega arith) (omega arith) (omega arith) c.lower.ensures;
     }
 
 pub overflow_cast-out : goal.overflow_cast-out
@@ -23,12 +19,12 @@ overflow_cast-out c =
     let a = c.args in
     record {
       fits = part_lt (get_or a.out.now (a.at / 8) 0) (8 - a.at % 8) a.width a.value c.lower.result
-          (omega (arith, c.slice_known-1.given (a.at / 8))) (omega arith) (omega arith) c.lower.ensures;
+          (omega arith) (omega arith) (omega arith) c.lower.ensures;
     }
 
 pub returns : goal.returns
 returns c =
     let a = c.args in
     ap (set a.out.now (a.at / 8)) (joined_shl (get_or a.out.now (a.at / 8) 0) (8 - a.at % 8) a.width a.value c.lower.result
-    (omega (arith, c.slice_known-1.given (a.at / 8))) (omega arith) (omega arith) c.lower.ensures)
+    (omega arith) (omega arith) (omega arith) c.lower.ensures)
     ∙ sym (put_part a.out.now a.at a.width a.value (omega arith) (omega arith) (omega arith))

@@ -1,11 +1,8 @@
 -- After each turn the bits put are the upper ones of the value, and each part is put within one byte.
-use mathlib.Core.Path.{◌≡◌, refl}
+use mathlib.Core.Path.{◌≡◌}
 use Prim.Native.Nat.{◌≤◌, ◌-◌, ◌/◌, ◌^◌}
-use native.Mathlib.Omega.{arith}
-use borrow.Author.Rules.{rules}
 use lib.ListN.{length}
 use Rattle.bits.specs.Put.{put}
-use Rattle.bits.proofs.Put.{put_more, put_all}
 use Rattle.bit_writer.proofs.write_parts.Given as goal
 
 abbrev pub invariant-loop-done : goal.invariant-loop-done

@@ -1,9 +1,8 @@
 -- What is missing from the rank looked at on is what is missing from the first on.
 use mathlib.Core.Path.{◌≡◌, sym, ◌∙◌}
-use Prim.Native.Nat.{◌-◌, ◌≤◌}
+use Prim.Native.Nat.{◌-◌}
 use native.Mathlib.Omega.{arith}
-use borrow.Author.Rules.{rules}
-use Rattle.chart_table.specs.Table.{missing_from, first_missing}
+use Rattle.chart_table.specs.Table.{first_missing}
 use Rattle.chart_entries.proofs.Missing.{missing_end, missing_here, missing_behind}
 use Rattle.chart_entries.proofs.first_missing.Goals as goal
 

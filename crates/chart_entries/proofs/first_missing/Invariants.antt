@@ -1,10 +1,7 @@
 -- What is missing from the rank looked at on is what is missing from the first on.
-use mathlib.Core.Path.{◌≡◌, sym, ◌∙◌}
+use mathlib.Core.Path.{◌≡◌}
 use Prim.Native.Nat.{◌-◌, ◌≤◌}
-use native.Mathlib.Omega.{arith}
-use borrow.Author.Rules.{rules}
 use Rattle.chart_table.specs.Table.{missing_from, first_missing}
-use Rattle.chart_entries.proofs.Missing.{missing_end, missing_here, missing_behind}
 use Rattle.chart_entries.proofs.first_missing.Given as goal
 
 abbrev pub invariant-loop-x : goal.invariant-loop-x

@@ -1,6 +1,5 @@
 -- The lower bits of the second number are read before it is stored.
 use Rattle.chart_table.specs.Table.{put_beside}
-use borrow.Author.Rules.{rules}
 use Rattle.chart_entries.proofs.put_beside.Goals as goal
 
 pub returns : goal.returns

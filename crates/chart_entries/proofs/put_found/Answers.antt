@@ -1,6 +1,5 @@
 -- The upper bits of the second number are read before it is stored.
 use Rattle.chart_table.specs.Table.{put_found}
-use borrow.Author.Rules.{rules}
 use Rattle.chart_entries.proofs.put_found.Goals as goal
 
 pub returns : goal.returns

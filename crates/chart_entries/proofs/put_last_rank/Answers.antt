@@ -1,7 +1,6 @@
 -- The test is the definition's.
 use borrow.Author.Tests.{lt-ltb, le-ltb}
 use Rattle.chart_table.specs.Table.{last_rank, put_last_rank}
-use borrow.Author.Rules.{rules}
 use Rattle.chart_entries.proofs.put_last_rank.Goals as goal
 
 pub returns-then-tally-rank : goal.returns-then-tally-rank

@@ -1,5 +1,4 @@
 -- The entry is read, and written.
-use borrow.Author.Rules.{rules}
 use Rattle.chart_journal.proofs.copy_entry.Goals as goal
 
 pub returns : goal.returns

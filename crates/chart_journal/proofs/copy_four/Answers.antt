@@ -1,6 +1,5 @@
 -- One after another.
 use Rattle.chart_journal.specs.Journal.{write_four}
-use borrow.Author.Rules.{rules}
 use Rattle.chart_journal.proofs.copy_four.Goals as goal
 
 pub returns : goal.returns

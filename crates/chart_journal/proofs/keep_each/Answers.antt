@@ -1,6 +1,5 @@
 -- One after another.
 use Rattle.chart_journal.specs.Journal.{keep_four}
-use borrow.Author.Rules.{rules}
 use Rattle.chart_journal.proofs.keep_each.Goals as goal
 
 pub returns : goal.returns

@@ -1,7 +1,6 @@
 -- By whether there is room, as in the definition.
 use borrow.Author.Tests.{lt-ltb, le-ltb}
 use Rattle.chart_journal.specs.Journal.{keep_entry}
-use borrow.Author.Rules.{rules}
 use Rattle.chart_journal.proofs.keep_entry.Goals as goal
 
 pub returns-then-n-lt-MOST_KEPT : goal.returns-then-n-lt-MOST_KEPT

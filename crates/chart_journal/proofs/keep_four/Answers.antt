@@ -1,7 +1,6 @@
 -- At once where there is room for all, else one after another.
 use native.Mathlib.Omega.{arith}
 use Rattle.chart_journal.proofs.Kept.{kept_at_once}
-use borrow.Author.Rules.{rules}
 use Rattle.chart_journal.proofs.keep_four.Goals as goal
 
 pub returns-then-to-kept : goal.returns-then-to-kept

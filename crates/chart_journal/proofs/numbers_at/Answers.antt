@@ -1,5 +1,4 @@
 -- Four reads, tested at once or one by one.
-use borrow.Author.Rules.{rules}
 use Rattle.chart_journal.proofs.numbers_at.Goals as goal
 
 pub returns : goal.returns

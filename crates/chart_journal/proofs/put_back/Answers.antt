@@ -1,9 +1,8 @@
 -- What is left to put back, put back, is all of it put back.
 use mathlib.Core.Path.{◌≡◌, refl, ◌∙◌}
 use mathlib.Core.List.{List}
-use Prim.Native.Nat.{ℕ, zero, suc, ◌-◌, ◌<◌, ◌≤◌}
+use Prim.Native.Nat.{ℕ, zero, suc, ◌-◌, ◌<◌}
 use native.Mathlib.Omega.{arith}
-use lib.ListN.{length}
 use Rattle.chart_journal.specs.Journal.{restore_entry, restore_all}
 use borrow.Author.Rules.{rules}
 use Rattle.chart_journal.proofs.put_back.Goals as goal

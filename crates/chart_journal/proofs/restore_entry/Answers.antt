@@ -1,6 +1,5 @@
 -- Four stores.
 use Rattle.chart_journal.specs.Journal.{restore_entry}
-use borrow.Author.Rules.{rules}
 use Rattle.chart_journal.proofs.restore_entry.Goals as goal
 
 pub returns : goal.returns

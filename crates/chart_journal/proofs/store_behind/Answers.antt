@@ -2,7 +2,6 @@
 use lib.Seq.{set_out}
 use mathlib.Core.Path.{sym}
 use native.Mathlib.Omega.{arith}
-use borrow.Author.Rules.{rules}
 use Rattle.chart_journal.proofs.store_behind.Goals as goal
 
 pub returns-else-behind-t : goal.returns-else-behind-t

@@ -1,6 +1,5 @@
 -- Six stores, tested at once or one by one.
 use Rattle.chart_journal.specs.Journal.{write_kept}
-use borrow.Author.Rules.{rules}
 use Rattle.chart_journal.proofs.write_kept.Goals as goal
 
 pub returns : goal.returns

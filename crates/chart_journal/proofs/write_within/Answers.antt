@@ -3,7 +3,6 @@ use mathlib.Core.Path.{refl}
 use native.Mathlib.Omega.{arith}
 use lib.ListN.{length-set}
 use Rattle.chart_journal.specs.Journal.{write_kept}
-use borrow.Author.Rules.{rules}
 use Rattle.chart_journal.proofs.write_within.Goals as goal
 
 pub bounds-kept-to-2 : goal.bounds-kept-to-2

@@ -2,7 +2,6 @@
 use mathlib.Core.Bool.{false≢true}
 use native.Mathlib.Omega.{arith}
 use mathlib.Core.Path.{sym}
-use borrow.Author.Rules.{rules}
 use Rattle.chart_masks.proofs.meet.Goals as goal
 
 pub returns-then-masks-lt-MASKS : goal.returns-then-masks-lt-MASKS

@@ -2,7 +2,6 @@
 use native.Mathlib.Omega.{arith}
 use borrow.Author.Tests.{eq-eqb, ne_eqb}
 use Rattle.chart_tags.specs.Tags.{shifted}
-use borrow.Author.Rules.{rules}
 use Rattle.chart_tags.proofs.shifted.Goals as goal
 
 pub returns-then-code-eq0 : goal.returns-then-code-eq0

@@ -1,5 +1,4 @@
 -- `grammar_reader::read_block` meets its contract: what was read, without the marks. Assumes nothing.
-use borrow.Author.Rules.{rules}
 use Rattle.packing.specs.Grammar.{grammar_block}
 use Rattle.grammar_reader.proofs.FieldInversion.{plain_refused, plain_read}
 use Rattle.grammar_reader.proofs.read_block.Goals as goal

@@ -1,5 +1,4 @@
 -- `grammar_reader::read_marked_block` meets its contract: the kind is the one that the block says. Assumes nothing.
-use borrow.Author.Rules.{rules}
 use Rattle.packing.specs.Grammar.{marked_block}
 use Rattle.grammar_reader.proofs.read_marked_block.Goals as goal
 

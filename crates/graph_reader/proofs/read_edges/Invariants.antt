@@ -1,14 +1,10 @@
 -- `graph_reader::read_edges` meets its contract: after each turn the edges read so far are those of the definition, and stand in
 -- the array. Assumes nothing.
-use mathlib.Core.Path.{◌≡◌, refl, sym, ◌∙◌}
-use Prim.Native.Nat.{◌+◌, ◌-◌, ◌*◌, ◌≤◌, ◌<◌}
-use native.Mathlib.Omega.{arith}
-use borrow.Author.Rules.{rules}
-use lib.ListN.{length, length-set}
+use mathlib.Core.Path.{◌≡◌}
+use Prim.Native.Nat.{◌+◌, ◌-◌, ◌*◌, ◌≤◌}
+use lib.ListN.{length}
 use Rattle.packing.specs.Source.{bytes}
-use Rattle.graph_reader.proofs.FieldInversion.{edge_told}
-use Rattle.graph_reader.proofs.Edges.{edge_near}
-use Rattle.graph_reader.proofs.Turns.{ReadSoFar, none_passed, all_passed, edge_refused, edge_repeated, edge_passed}
+use Rattle.graph_reader.proofs.Turns.{ReadSoFar}
 use Rattle.graph_reader.proofs.read_edges.Given as goal
 
 abbrev pub invariant-loop-i : goal.invariant-loop-i

@@ -3,7 +3,6 @@ use mathlib.Core.Path.{subst}
 use native.Mathlib.Omega.{arith}
 use Rattle.graph_reader.specs.Answer.{Sized}
 use Rattle.heard_reader.proofs.Answers.{graph_refused, graph_accepted}
-use borrow.Author.Rules.{rules}
 use Rattle.heard_reader.proofs.read_graph.Goals as goal
 
 pub overflow_sub-result : goal.overflow_sub-result

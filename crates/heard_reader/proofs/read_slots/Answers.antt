@@ -3,15 +3,11 @@ use mathlib.Core.Path.{subst}
 use native.Mathlib.Omega.{arith}
 use Rattle.utterance_reader.specs.Answer.{Sized}
 use Rattle.heard_reader.proofs.Answers.{slots_refused, slots_accepted}
-use borrow.Author.Rules.{rules}
 use Rattle.heard_reader.proofs.read_slots.Goals as goal
 
 pub edges_of-found-requires : goal.edges_of-found-requires
 edges_of-found-requires c =
-    let at_size = c in
-    let at-read-block = at_size in
-    let at_pre = at-read-block in
-    omega (arith, subst Sized at_size.in-Utterance.is at-read-block.read_block.ensures.2, at_pre.requires)
+    omega (arith, subst Sized c.in-Utterance.is c.read_block.ensures.2, c.requires)
 
 pub returns-in-Refused : goal.returns-in-Refused
 returns-in-Refused c = slots_refused _ _ c.read_block.ensures.0 _ _ c.in-Refused.is

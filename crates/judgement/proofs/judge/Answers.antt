@@ -1,6 +1,5 @@
 -- Each way out is the one that the tests on the weight and on the end of the block choose.
 use mathlib.Core.Path.{sym, ap, ◌∙◌}
-use borrow.Author.Rules.{rules}
 use borrow.Author.Tests.{eq-eqb, ne_eqb}
 use Rattle.judgement.specs.declared.Walked.TheVariants.{Nodes}
 use Rattle.judgement.proofs.judge.Goals as goal

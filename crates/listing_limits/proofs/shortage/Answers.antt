@@ -1,6 +1,6 @@
 -- Each test of the code is one of the definition's.
 use mathlib.Core.Path.{◌≡◌}
-use Prim.Native.Nat.{◌*◌, ◌≤◌, ◌<◌}
+use Prim.Native.Nat.{ℕ, ◌*◌, ◌≤◌, ◌<◌}
 use native.Mathlib.Omega.{arith}
 use borrow.Author.Rules.{rules}
 use borrow.Author.Tests.{lt-ltb, le-ltb}
@@ -8,17 +8,18 @@ use lib.Dec.{ltb}
 use Rattle.bits.specs.Bits.{pick}
 use Rattle.chart.specs.WorkTable.{table_size}
 use Rattle.listing_limits.specs.Shortage.{shortage}
+use Rattle.listing_limits.specs.declared.Asked.{Asked}
 use Rattle.chart.proofs.WorkTable.{table_is}
 use Rattle.listing_limits.proofs.Outputs.{output_small}
 use Rattle.listing_limits.proofs.shortage.Goals as goal
 
--- the numbers of the table that is laid out for what is asked for
-numbers : (c : goal.After-table-numbers)
-    → let a = c.args in
-    c.table_numbers.result ≡ table_size a.symbols a.n a.asked.wanted
-numbers c =
-    let a = c.args in
-    table_is a.symbols a.n a.asked.wanted c.lay_out.ensures.0 c.table_numbers.ensures.0
+-- within the limits, what is lent decides
+within : (a : Asked) (S n L work out : ℕ) → n ≤ a.limits.slots → 1 ≤ a.wanted → a.wanted ≤ 256 → a.wanted ≤ a.limits.readings
+    → shortage a S n L work out
+    ≡ pick (ltb work (table_size S n a.wanted)) 22 (pick (ltb out (a.wanted * L)) 23 0)
+unfolding shortage
+within a S n L work out slots some many beyond =
+    rw (le-ltb a.limits.slots n slots, le-ltb a.wanted 1 some, le-ltb 256 a.wanted many, le-ltb a.limits.readings a.wanted beyond)
 
 pub returns-then-asked-n : goal.returns-then-asked-n
 unfolding shortage
@@ -57,48 +58,40 @@ returns-then-asked-wanted c =
       lt-ltb a.asked.limits.readings a.asked.wanted c.if-asked-wanted.true,
     )
 
--- within the limits, what is lent decides
-within : (c : goal.Else4)
-    → let a = c.args in
-    shortage a.asked a.symbols a.n a.size a.work a.out
-    ≡ pick (ltb a.work (table_size a.symbols a.n a.asked.wanted)) 22 (pick (ltb a.out (a.asked.wanted * a.size)) 23 0)
-unfolding shortage
-within c =
-    let at-if3 = c in
-    let at-if2 = at-if3 in
-    let at-if1 = at-if2 in
-    let a = at-if1.args in
-    rw (
-      le-ltb a.asked.limits.slots a.n at-if1.if-asked-n.false,
-      le-ltb a.asked.wanted 1 at-if2.if-wanted-lt1.false,
-      le-ltb 256 a.asked.wanted at-if3.if-wanted-gt-MAX_WANTED.false,
-      le-ltb a.asked.limits.readings a.asked.wanted c.if-asked-wanted.false,
-    )
-
 pub returns-then-work-table_numbers : goal.returns-then-work-table_numbers
 returns-then-work-table_numbers c =
-    let at-if4 = c in
-    let a = at-if4.args in
-    let short : a.work < table_size a.symbols a.n a.asked.wanted = rw (numbers c) at c.if-work-table_numbers.true in
-    rw (within at-if4, lt-ltb _ _ short)
+    let a = c.args in
+    let numbers = table_is a.symbols a.n a.asked.wanted c.lay_out.ensures.0 c.table_numbers.ensures.0 in
+    let short : a.work < table_size a.symbols a.n a.asked.wanted = rw numbers at c.if-work-table_numbers.true in
+    rw (
+      within a.asked a.symbols a.n a.size a.work a.out c.if-asked-n.false c.if-wanted-lt1.false c.if-wanted-gt-MAX_WANTED.false
+          c.if-asked-wanted.false,
+      lt-ltb _ _ short,
+    )
 
 pub overflow_mul-ranks : goal.overflow_mul-ranks
-overflow_mul-ranks c =
-    let at-if3 = c in
-    omega (arith, output_small _ at-if3.if-wanted-gt-MAX_WANTED.false at-if3.requires.2)
-
--- what both ways out of the last test know
-table : (c : goal.Else5)
-    → let a = c.args in
-    table_size a.symbols a.n a.asked.wanted ≤ a.work
-table c = rw (numbers c) at c.if-work-table_numbers.false
+overflow_mul-ranks c = omega (arith, output_small _ c.if-wanted-gt-MAX_WANTED.false c.requires.2)
 
 pub returns-then-out-ranks : goal.returns-then-out-ranks
 returns-then-out-ranks c =
-    let at-if5 = c in
-    rw (within at-if5, le-ltb _ _ (table at-if5), lt-ltb _ _ c.if-out-ranks.true)
+    let a = c.args in
+    let numbers = table_is a.symbols a.n a.asked.wanted c.lay_out.ensures.0 c.table_numbers.ensures.0 in
+    let long : table_size a.symbols a.n a.asked.wanted ≤ a.work = rw numbers at c.if-work-table_numbers.false in
+    rw (
+      within a.asked a.symbols a.n a.size a.work a.out c.if-asked-n.false c.if-wanted-lt1.false c.if-wanted-gt-MAX_WANTED.false
+          c.if-asked-wanted.false,
+      le-ltb _ _ long,
+      lt-ltb _ _ c.if-out-ranks.true,
+    )
 
 pub returns : goal.returns
 returns c =
-    let at-if5 = c in
-    rw (within at-if5, le-ltb _ _ (table at-if5), le-ltb _ _ c.if-out-ranks.false)
+    let a = c.args in
+    let numbers = table_is a.symbols a.n a.asked.wanted c.lay_out.ensures.0 c.table_numbers.ensures.0 in
+    let long : table_size a.symbols a.n a.asked.wanted ≤ a.work = rw numbers at c.if-work-table_numbers.false in
+    rw (
+      within a.asked a.symbols a.n a.size a.work a.out c.if-asked-n.false c.if-wanted-lt1.false c.if-wanted-gt-MAX_WANTED.false
+          c.if-asked-wanted.false,
+      le-ltb _ _ long,
+      le-ltb _ _ c.if-out-ranks.false,
+    )

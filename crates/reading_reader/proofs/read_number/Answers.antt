@@ -1,5 +1,4 @@
 -- The width of a rule number is that of R - 1.
-use borrow.Author.Rules.{rules}
 use Rattle.reading_reader.proofs.read_number.Goals as goal
 
 pub returns : goal.returns

@@ -1,6 +1,6 @@
 -- By the tests.
 use mathlib.Core.Bool.{false≢true}
-use Rattle.std.proofs.Common.{rules, ltb-true}
+use Rattle.std.proofs.Common.{ltb-true}
 use Rattle.seed_numbers.proofs.divides.Goals as goal
 
 pub floor_number-requires : goal.floor_number-requires

@@ -1,6 +1,5 @@
 -- By the tests.
 use mathlib.Core.Bool.{false≢true}
-use Rattle.std.proofs.Common.{rules}
 use Rattle.seed_numbers.proofs.in_numbers.Goals as goal
 
 pub returns : goal.returns

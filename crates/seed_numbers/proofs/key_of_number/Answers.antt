@@ -1,5 +1,5 @@
 -- By the test.
-use Rattle.std.proofs.Common.{rules, eq-eqb, ne_eqb}
+use Rattle.std.proofs.Common.{eq-eqb, ne_eqb}
 use Rattle.seed_numbers.specs.Seeds.{key_of_number}
 use Rattle.seed_numbers.proofs.key_of_number.Goals as goal
 
