@@ -1,10 +1,7 @@
 -- What remains behind the first i candidates is written from bit `at` on, and at the end nothing remains.
 use Prim.Native.Nat.{◌+◌, ◌-◌, ◌*◌, ◌≤◌}
-use native.Mathlib.Nat.{sub-zero, add-zero}
-use native.Mathlib.Omega.{arith}
-use Rattle.bits.proofs.Remaining.{Remaining, all_remain, none_remain, one_within, one_written}
+use Rattle.bits.proofs.Remaining.{Remaining}
 use Rattle.sheet_writer.specs.Arrays.{candidates_fields}
-use Rattle.utterance_writer.proofs.Slots.{candidates_some, candidates_more, candidates_end}
 use Rattle.utterance_writer.proofs.write_candidates.Given as goal
 
 abbrev pub invariant-loop-i : goal.invariant-loop-i
