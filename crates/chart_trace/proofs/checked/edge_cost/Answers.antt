@@ -2,7 +2,6 @@
 use native.Mathlib.Omega.{arith}
 use borrow.Author.Tests.{lt-ltb, le-ltb, eq-eqb, ne_eqb}
 use Rattle.chart_trace.specs.Checked.{edge_fits}
-use borrow.Author.Rules.{rules}
 use Rattle.chart_trace.proofs.checked.edge_cost.Goals as goal
 
 pub returns-then-count-e : goal.returns-then-count-e

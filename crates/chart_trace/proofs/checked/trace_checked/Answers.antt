@@ -1,13 +1,10 @@
 -- The loop's state is that of the back trace, with the weight so far. Where a rank is not found or a node is wrong, the whole spells nothing.
-use mathlib.Core.Path.{◌≡◌, refl, ap, ◌∙◌}
-use Prim.Native.Nat.{◌-◌, ◌*◌}
+use mathlib.Core.Path.{refl, ap, ◌∙◌}
 use native.Mathlib.Omega.{arith}
-use borrow.Author.Rules.{rules}
-use lib.ListN.{length}
 use Rattle.chart_keys.specs.Keys.{back_pointer}
-use Rattle.chart_trace.proofs.Pending.{trace_part, Tracing, starts, descends, resumes, ends, top_low, less_down, less_up}
+use Rattle.chart_trace.proofs.Pending.{starts, descends, resumes, ends, top_low, less_down, less_up}
 use Rattle.chart_trace.proofs.Spelled.{seen_as, not_found, wrong_node, leaf_node, pairing_node, no_tree, one_tree}
-use Rattle.chart_trace.proofs.Weighing.{spelled_part, Weighing, unweighed, spells_nothing, weighs_pair, weighs_leaf, weighs_last}
+use Rattle.chart_trace.proofs.Weighing.{unweighed, spells_nothing, weighs_pair, weighs_leaf, weighs_last}
 use Rattle.chart_trace.proofs.checked.trace_checked.Goals as goal
 
 pub loop-scope-init : goal.loop-scope-init
