@@ -19,8 +19,9 @@ use Rattle.chart_passes.proofs.first_of_heads.Given as goal
 
 abbrev pub invariant-loop-a : goal.invariant-loop-a
 invariant-loop-a l =
-    (l.a ≤ l.n) × (length l.t ≡ length l.initial.t) × (length l.masks ≡ length l.initial.masks) × Covers l.masks l.t l.d × Ruled l.rules l.index l.d l.masks × Live l.masks l.d l.span l.leafy l.live
-    × (l.t ≡ iter (λ x l.a. next_of_span l.rules l.edges l.index l.d (l.span.to - l.span.from) x (cell (symbol_of l.a) l.span.from l.span.to) 0) l.initial.t l.a)
+    (l.a ≤ l.n) × (length l.t ≡ length l.initial.t) × (length l.masks ≡ length l.initial.masks) × Covers l.masks l.t l.d × Ruled l.rules l.index l.d l.masks
+    × Live l.masks l.d l.span l.leafy l.live
+    × (l.t ≡ iter (λ x a. next_of_span l.rules l.edges l.index l.d (l.span.to - l.span.from) x (cell (symbol_of a) l.span.from l.span.to) 0) l.initial.t l.a)
 
 abbrev pub decreases-loop-a : goal.decreases-loop-a
 decreases-loop-a l = l.n - l.a

@@ -15,16 +15,14 @@ unfolding iter
 loop-x-init c = search rules
 
 pub loop-x-preserved : goal.loop-x-preserved
-loop-x-preserved c =
-    let at-first-of-length = c in
-    let at-loop = at-first-of-length in (
-      search rules,
-      search rules,
-      search rules,
-      search rules,
-      search rules,
-      rw (iter_more, ← at-loop.loop-x.invariant.5) at-first-of-length.first_of_length.ensures.0,
-    )
+loop-x-preserved c = (
+  search rules,
+  search rules,
+  search rules,
+  search rules,
+  search rules,
+  rw (iter_more, ← c.loop-x.invariant.5) c.first_of_length.ensures.t_after,
+)
 
 pub returns : goal.returns
 unfolding first_pass

@@ -37,6 +37,6 @@ returns-in-Graph c =
     let a = at-args.args in
     let read = at-read-graph.read_graph in
     let (h, e, z) = accepted_told (graph_block a.words a.heard.now) read.ensures.0 at-found.in-Graph.is in
-    let judged = graph_judged a.words (rules_of a.rules.now a.count) a.heard.now a.reading.now read.new.1.1.0 e read.ensures.1
+    let judged = graph_judged a.words (rules_of a.rules.now a.count) a.heard.now a.reading.now read.new.edges e read.ensures.1
     (ap (λ (s : GraphSize). s.edges) z) (ap (λ (s : GraphSize). s.places - 1) z) (sym (length_rules_at a.rules.now 0 a.count)) in
     rw judged at c.check_path.ensures

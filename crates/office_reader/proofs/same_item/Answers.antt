@@ -11,11 +11,13 @@ returns-then-narrow_at-eq-SYMBOL_ITEM-2 c =
 
 pub returns-then-narrow_at-eq-SYMBOL_ITEM : goal.returns-then-narrow_at-eq-SYMBOL_ITEM
 returns-then-narrow_at-eq-SYMBOL_ITEM c =
-    symbol_word _ _ _ _ (sym c.narrow_at.ensures ∙ c.if-narrow_at-eq-SYMBOL_ITEM.true) (λ e. c.if-narrow_at-eq-SYMBOL_ITEM-2.false (c.narrow_at-then-narrow_at-eq-SYMBOL_ITEM.ensures ∙ e))
+    symbol_word _ _ _ _ (sym c.narrow_at.ensures ∙ c.if-narrow_at-eq-SYMBOL_ITEM.true)
+    (λ e. c.if-narrow_at-eq-SYMBOL_ITEM-2.false (c.narrow_at-then-narrow_at-eq-SYMBOL_ITEM.ensures ∙ e))
 
 pub returns-then-narrow_at-eq-SYMBOL_ITEM-3 : goal.returns-then-narrow_at-eq-SYMBOL_ITEM-3
 returns-then-narrow_at-eq-SYMBOL_ITEM-3 c =
-    word_symbol _ _ _ _ (λ e. c.if-narrow_at-eq-SYMBOL_ITEM.false (c.narrow_at.ensures ∙ e)) (sym c.narrow_at-2.ensures ∙ c.if-narrow_at-eq-SYMBOL_ITEM-3.true)
+    word_symbol _ _ _ _ (λ e. c.if-narrow_at-eq-SYMBOL_ITEM.false (c.narrow_at.ensures ∙ e))
+    (sym c.narrow_at-2.ensures ∙ c.if-narrow_at-eq-SYMBOL_ITEM-3.true)
 
 pub returns : goal.returns
 returns c =

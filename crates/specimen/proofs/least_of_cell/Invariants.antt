@@ -13,7 +13,7 @@ use Rattle.specimen.proofs.least_of_cell.Given as goal
 
 abbrev pub invariant-loop-r : goal.invariant-loop-r
 invariant-loop-r l =
-    (l.r ≤ l.count) × (l.best ≡ iter (λ x l.r. lesser_rule l.table (symbol_of l.a) l.len x (fitted_at l.rules l.r)) no_string l.r)
+    (l.r ≤ l.count) × (l.best ≡ iter (λ x k. lesser_rule l.table (symbol_of l.a) l.len x (fitted_at l.rules k)) no_string l.r)
 
 abbrev pub decreases-loop-r : goal.decreases-loop-r
 decreases-loop-r l = l.count - l.r

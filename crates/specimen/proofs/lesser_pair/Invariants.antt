@@ -9,7 +9,7 @@ use Rattle.specimen.proofs.lesser_pair.Given as goal
 
 abbrev pub invariant-loop-y : goal.invariant-loop-y
 invariant-loop-y l =
-    (l.y ≤ l.len - 1) × (l.lesser ≡ iter (λ x l.y. lesser_split l.table l.len l.b l.c (l.y + 1) x) l.initial.lesser l.y)
+    (l.y ≤ l.len - 1) × (l.lesser ≡ iter (λ x k. lesser_split l.table l.len l.b l.c (k + 1) x) l.initial.lesser l.y)
 
 abbrev pub decreases-loop-y : goal.decreases-loop-y
 decreases-loop-y l = l.len - 1 - l.y

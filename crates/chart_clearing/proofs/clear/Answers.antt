@@ -6,7 +6,7 @@ use Rattle.packing.specs.Loop.{iter}
 use Rattle.packing.proofs.Loop.{iter_more, iter_end}
 use Rattle.chart_table.specs.Table.{clear_cell, clear}
 use borrow.Author.Rules.{rules}
-use Rattle.chart_clearing.proofs.clear_table.Goals as goal
+use Rattle.chart_clearing.proofs.clear.Goals as goal
 
 pub loop-c-init : goal.loop-c-init
 unfolding iter
