@@ -58,7 +58,8 @@ loop-scope-preserved-in-Pairing c = (
       (seen_as _ _ _ _ _ c.checked_node-node.ensures.0 c.in-Pairing.is).2.1 refl c.part_number.ensures.0
       c.part_number.ensures.1),
   rw c.left_part-left.ensures (weighs_pair _ _ _ _ _ c.loop-scope.invariant.2 _ c.back_pointer-back.ensures.1
-      (rw c.loop-scope.invariant.1.room (omega (arith, c.loop-scope.invariant.1.few, c.loop-scope.invariant.1.order, c.requires.0.last))) c.loop-scope.invariant.1.within
+      (rw c.loop-scope.invariant.1.room (omega (arith, c.loop-scope.invariant.1.few, c.loop-scope.invariant.1.order, c.requires.0.last)))
+      c.loop-scope.invariant.1.within
       (pairing_node _ _ _ _ _ _ _ c.loop-scope.invariant.1.order c.tree_of-tree.ensures.0 c.if-tree-eq0.false
       (c.back_pointer-back.ensures.0 ∙ ap back_pointer c.tree_of-tree.ensures.1) c.checked_node-node.ensures.0 c.in-Pairing.is)
       (rw c.in-Pairing.is at c.checked_node-node.ensures.1) c.part_number.ensures.0),
