@@ -1,6 +1,5 @@
 -- Four stores, tested at once or one by one.
 use Rattle.chart_table.specs.Table.{clear_entry}
-use borrow.Author.Rules.{rules}
 use Rattle.chart_clearing.proofs.clear_entry.Goals as goal
 
 pub returns-then-at-t : goal.returns-then-at-t

@@ -1,6 +1,5 @@
 -- As in the definition.
 use Rattle.chart_search.specs.Search.{back_before}
-use borrow.Author.Rules.{rules}
 use Rattle.chart_search.proofs.back_before.Goals as goal
 
 pub returns : goal.returns

@@ -50,7 +50,13 @@ pub returns-after-b-eq0 : goal.returns-after-b-eq0
 unfolding sibling pair_sibling
 returns-after-b-eq0 c =
     rw c.no_key-in-Pair.ensures (elim c.if-b-eq0.branch [
-      | then-b-eq0+else-b-gt0 w ↦ simp (← c.rule_at-rule.ensures, c.in-Pair.is, ne_eqb _ _ c.if-b-eq1.false, eq-eqb _ _ w.if-b-eq0.true, le-ltb _ _ w.if-b-gt0.false)
+      | then-b-eq0+else-b-gt0 w ↦ simp (
+        ← c.rule_at-rule.ensures,
+        c.in-Pair.is,
+        ne_eqb _ _ c.if-b-eq1.false,
+        eq-eqb _ _ w.if-b-eq0.true,
+        le-ltb _ _ w.if-b-gt0.false,
+      )
       | else-b-eq0 w ↦ simp (← c.rule_at-rule.ensures, c.in-Pair.is, ne_eqb _ _ c.if-b-eq1.false, ne_eqb _ _ w.if-b-eq0.false)
     ])
 

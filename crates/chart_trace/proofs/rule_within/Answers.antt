@@ -1,5 +1,4 @@
 -- By the two tests, as in the promise.
-use borrow.Author.Rules.{rules}
 use borrow.Author.Tests.{lt-ltb, le-ltb}
 use Rattle.chart_trace.proofs.rule_within.Goals as goal
 

@@ -1,12 +1,10 @@
 -- The loop's state is as Pending has it: after a node its left part is at hand and its right part pending, and after a leaf the
 -- part on top of the stack. With each turn there is less to trace.
-use mathlib.Core.Path.{◌≡◌, refl, ◌∙◌}
-use Prim.Native.Nat.{◌-◌, ◌*◌}
+use mathlib.Core.Path.{refl, ◌∙◌}
+use Prim.Native.Nat.{◌-◌}
 use native.Mathlib.Omega.{arith}
-use borrow.Author.Rules.{rules}
-use lib.ListN.{length}
 use Rattle.chart_trace.proofs.Trace.{fuel_enough}
-use Rattle.chart_trace.proofs.Pending.{trace_part, Tracing, starts, descends, resumes, ends, top_low, less_down, less_up}
+use Rattle.chart_trace.proofs.Pending.{starts, descends, resumes, ends, top_low, less_down, less_up}
 use Rattle.chart_trace.proofs.trace_back.Goals as goal
 
 pub loop-first-init : goal.loop-first-init

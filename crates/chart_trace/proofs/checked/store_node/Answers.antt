@@ -1,5 +1,4 @@
 -- The same two stores, tested together or each by itself.
-use borrow.Author.Rules.{rules}
 use Rattle.chart_trace.proofs.checked.store_node.Goals as goal
 
 pub returns : goal.returns

@@ -1,13 +1,10 @@
 -- The loop's state is that of the back trace, with the weight so far. Where a rank is not found or a node is wrong, the whole spells nothing.
-use mathlib.Core.Path.{◌≡◌, refl, ap, ◌∙◌}
-use Prim.Native.Nat.{◌-◌, ◌*◌}
+use mathlib.Core.Path.{refl, ap, ◌∙◌}
 use native.Mathlib.Omega.{arith}
-use borrow.Author.Rules.{rules}
-use lib.ListN.{length}
 use Rattle.chart_keys.specs.Keys.{back_pointer}
-use Rattle.chart_trace.proofs.Pending.{trace_part, Tracing, starts, descends, resumes, ends, top_low, less_down, less_up}
+use Rattle.chart_trace.proofs.Pending.{starts, descends, resumes, ends, top_low, less_down, less_up}
 use Rattle.chart_trace.proofs.Spelled.{seen_as, not_found, wrong_node, leaf_node, pairing_node, no_tree, one_tree}
-use Rattle.chart_trace.proofs.Weighing.{spelled_part, Weighing, unweighed, spells_nothing, weighs_pair, weighs_leaf, weighs_last}
+use Rattle.chart_trace.proofs.Weighing.{unweighed, spells_nothing, weighs_pair, weighs_leaf, weighs_last}
 use Rattle.chart_trace.proofs.checked.trace_checked.Goals as goal
 
 pub loop-scope-init : goal.loop-scope-init
@@ -61,7 +58,8 @@ loop-scope-preserved-in-Pairing c = (
       (seen_as _ _ _ _ _ c.checked_node-node.ensures.0 c.in-Pairing.is).2.1 refl c.part_number.ensures.0
       c.part_number.ensures.1),
   rw c.left_part-left.ensures (weighs_pair _ _ _ _ _ c.loop-scope.invariant.2 _ c.back_pointer-back.ensures.1
-      (rw c.loop-scope.invariant.1.room (omega (arith, c.loop-scope.invariant.1.few, c.loop-scope.invariant.1.order, c.requires.0.last))) c.loop-scope.invariant.1.within
+      (rw c.loop-scope.invariant.1.room (omega (arith, c.loop-scope.invariant.1.few, c.loop-scope.invariant.1.order, c.requires.0.last)))
+      c.loop-scope.invariant.1.within
       (pairing_node _ _ _ _ _ _ _ c.loop-scope.invariant.1.order c.tree_of-tree.ensures.0 c.if-tree-eq0.false
       (c.back_pointer-back.ensures.0 ∙ ap back_pointer c.tree_of-tree.ensures.1) c.checked_node-node.ensures.0 c.in-Pairing.is)
       (rw c.in-Pairing.is at c.checked_node-node.ensures.1) c.part_number.ensures.0),
