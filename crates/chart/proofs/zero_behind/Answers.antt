@@ -1,7 +1,6 @@
 -- What is lent is all that stands behind the front.
 use native.Mathlib.Omega.{arith}
 use Rattle.chart.proofs.Front.{put_behind, none_behind}
-use borrow.Author.Rules.{rules}
 use Rattle.chart.proofs.zero_behind.Goals as goal
 
 pub returns-then-front-t : goal.returns-then-front-t

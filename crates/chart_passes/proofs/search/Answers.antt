@@ -1,9 +1,8 @@
 -- The first pass, with masks that have rules and no places, which cover a table of zeros, and then what is left to find of the root in
 -- each turn is what was to be found at the start. (The model's name is a tactic's: it stays qualified.)
-use Prim.Native.Nat.{◌≤◌, ◌-◌}
+use Prim.Native.Nat.{◌-◌}
 use mathlib.Core.Path.{◌≡◌, refl, sym, ◌∙◌}
 use native.Mathlib.Omega.{arith}
-use lib.ListN.{length}
 use Rattle.chart_masks.specs.Masks.{mask_numbers}
 use Rattle.chart_masks.proofs.Covering.{covers_zeros}
 use Rattle.chart_search.specs.Search as model
