@@ -49,20 +49,16 @@ first_rank-requires c =
     )
 
 pub live_heads-live-requires-in-loop-a : goal.live_heads-live-requires-in-loop-a
-live_heads-live-requires-in-loop-a c =
-    (c.requires.0.sized.symbols, omega (arith, c.requires.0.order, c.requires.0.last), c.requires.0.last)
+live_heads-live-requires-in-loop-a c = (c.requires.0.sized.symbols, omega (arith, c.requires.0.order, c.requires.0.last), c.requires.0.last)
 
 pub overflow_add-a : goal.overflow_add-a
-overflow_add-a c =
-    search (rules, c.loop-a-test.true, c.requires.0.sized.symbols)
+overflow_add-a c = search (rules, c.loop-a-test.true, c.requires.0.sized.symbols)
 
 pub next_head-a-requires-in-loop-a : goal.next_head-a-requires-in-loop-a
-next_head-a-requires-in-loop-a c =
-    (omega (arith, c.loop-a-test.true), c.requires.0.sized.symbols)
+next_head-a-requires-in-loop-a c = (omega (arith, c.loop-a-test.true), c.requires.0.sized.symbols)
 
 pub loop-a-smaller : goal.loop-a-smaller
-loop-a-smaller c =
-    search (rules, c.loop-a-test.true, c.next_head-a-in-loop-a.ensures.0, c.next_head-a-in-loop-a.ensures.1)
+loop-a-smaller c = search (rules, c.loop-a-test.true, c.next_head-a-in-loop-a.ensures.0, c.next_head-a-in-loop-a.ensures.1)
 
 pub loop-a-preserved : goal.loop-a-preserved
 loop-a-preserved c = (

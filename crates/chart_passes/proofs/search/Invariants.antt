@@ -8,8 +8,8 @@ use Rattle.chart_passes.proofs.search.Given as goal
 
 abbrev pub invariant-loop-x : goal.invariant-loop-x
 invariant-loop-x l = (l.x ≤ l.m) × (length l.t ≡ length l.initial.t)
-    × (model.further_from l.rules l.edges l.index l.d l.m l.initial.t 0 ≡ model.further_from l.rules l.edges l.index l.d (l.m - l.x) l.t l.x)
-    × (length l.kept ≡ 0)
+    × (model.further_from l.rules l.edges l.index l.d l.m l.initial.t 0
+    ≡ model.further_from l.rules l.edges l.index l.d (l.m - l.x) l.t l.x) × (length l.kept ≡ 0)
 
 abbrev pub decreases-loop-x : goal.decreases-loop-x
 decreases-loop-x l = l.m - l.x
