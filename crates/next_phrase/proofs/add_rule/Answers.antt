@@ -1,6 +1,5 @@
 -- The head's cell is read, and put with what the rule makes. Assumes nothing.
 use Rattle.next_phrase.proofs.Parts.{rule_is}
-use borrow.Author.Rules.{rules}
 use Rattle.next_phrase.proofs.add_rule.Goals as goal
 
 pub returns : goal.returns

@@ -1,10 +1,8 @@
 -- The loop is the definition's, turn by turn. Assumes nothing.
-use mathlib.Core.Path.{◌≡◌, ◌∙◌}
-use Prim.Native.Nat.{◌-◌, ◌≤◌}
-use lib.ListN.{length}
+use mathlib.Core.Path.{◌∙◌}
 use Rattle.packing.specs.Loop.{iter}
 use Rattle.packing.proofs.Loop.{iter_more, iter_end}
-use Rattle.next_phrase.specs.Table.{add_rule, fill_part}
+use Rattle.next_phrase.specs.Table.{fill_part}
 use borrow.Author.Rules.{rules}
 use Rattle.next_phrase.proofs.fill_part.Goals as goal
 

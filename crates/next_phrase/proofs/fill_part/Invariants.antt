@@ -1,11 +1,9 @@
 -- The loop is the definition's, turn by turn. Assumes nothing.
-use mathlib.Core.Path.{◌≡◌, ◌∙◌}
+use mathlib.Core.Path.{◌≡◌}
 use Prim.Native.Nat.{◌-◌, ◌≤◌}
 use lib.ListN.{length}
 use Rattle.packing.specs.Loop.{iter}
-use Rattle.packing.proofs.Loop.{iter_more, iter_end}
-use Rattle.next_phrase.specs.Table.{add_rule, fill_part}
-use borrow.Author.Rules.{rules}
+use Rattle.next_phrase.specs.Table.{add_rule}
 use Rattle.next_phrase.proofs.fill_part.Given as goal
 
 abbrev pub invariant-loop-r : goal.invariant-loop-r

@@ -1,10 +1,8 @@
 -- The loop is the definition's, turn by turn. Assumes nothing.
-use mathlib.Core.Path.{◌≡◌, ◌∙◌}
-use Prim.Native.Nat.{◌-◌, ◌*◌, ◌≤◌}
-use lib.ListN.{length}
+use mathlib.Core.Path.{◌∙◌}
 use Rattle.packing.specs.Loop.{iter}
 use Rattle.packing.proofs.Loop.{iter_more, iter_end}
-use Rattle.next_phrase.specs.Table.{part_step, fill_table}
+use Rattle.next_phrase.specs.Table.{fill_table}
 use Rattle.next_phrase.proofs.Parts.{part_left_out, part_filled}
 use borrow.Author.Rules.{rules}
 use Rattle.next_phrase.proofs.fill_table.Goals as goal

@@ -6,7 +6,6 @@ use Rattle.grammar_reader.specs.Answer.{InBounds}
 use Rattle.grammar_reader.proofs.BlockInversion.{accepted_told, refused_told}
 use Rattle.specimen.proofs.Asked.{asked_block, asked_none, asked_many, asked_short, asked_well}
 use Rattle.next_phrase.proofs.WaysOut.{next_refused, next_told}
-use borrow.Author.Rules.{rules}
 use Rattle.next_phrase.proofs.next_phrase.Goals as goal
 
 pub returns-then-wanted-lt1 : goal.returns-then-wanted-lt1

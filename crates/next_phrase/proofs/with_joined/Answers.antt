@@ -1,6 +1,5 @@
 -- Each number is the definition's. Assumes nothing.
 use Rattle.next_phrase.specs.Table.{with_joined}
-use borrow.Author.Rules.{rules}
 use Rattle.next_phrase.proofs.with_joined.Goals as goal
 
 pub returns : goal.returns

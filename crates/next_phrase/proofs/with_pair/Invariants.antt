@@ -1,10 +1,8 @@
 -- The loop is the definition's, turn by turn. Assumes nothing.
-use mathlib.Core.Path.{◌≡◌, ◌∙◌}
+use mathlib.Core.Path.{◌≡◌}
 use Prim.Native.Nat.{◌+◌, ◌-◌, ◌≤◌}
 use Rattle.packing.specs.Loop.{iter}
-use Rattle.packing.proofs.Loop.{iter_more, iter_end}
 use Rattle.next_phrase.specs.Table.{with_split}
-use borrow.Author.Rules.{rules}
 use Rattle.next_phrase.proofs.with_pair.Given as goal
 
 abbrev pub invariant-loop-y : goal.invariant-loop-y

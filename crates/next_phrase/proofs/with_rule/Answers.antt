@@ -2,7 +2,6 @@
 use borrow.Author.Tests.{eq-eqb, ne_eqb}
 use Rattle.phrases.specs.Recursion.{made}
 use Rattle.next_phrase.specs.Table.{with_rule}
-use borrow.Author.Rules.{rules}
 use Rattle.next_phrase.proofs.with_rule.Goals as goal
 
 pub returns-then-part-eq1 : goal.returns-then-part-eq1

@@ -1,6 +1,5 @@
 -- Both parts' cells are joined. Assumes nothing.
 use Rattle.next_phrase.proofs.Parts.{split_is}
-use borrow.Author.Rules.{rules}
 use Rattle.next_phrase.proofs.with_split.Goals as goal
 
 pub returns : goal.returns

@@ -1,7 +1,6 @@
 -- Each way out is one of the definition's cases. Assumes nothing.
 use borrow.Author.Tests.{eq-eqb, ne_eqb, lt-ltb, le-ltb}
 use Rattle.next_phrase.specs.Table.{with_word}
-use borrow.Author.Rules.{rules}
 use Rattle.next_phrase.proofs.with_word.Goals as goal
 
 pub returns-then-x-y : goal.returns-then-x-y

@@ -1,11 +1,8 @@
 -- Each turn writes one word more. Assumes nothing.
-use mathlib.Core.Path.{◌≡◌, refl}
-use mathlib.Core.List.{List}
-use Prim.Native.Nat.{ℕ, ◌-◌, ◌≤◌}
+use mathlib.Core.Path.{refl}
 use native.Mathlib.Omega.{arith}
-use lib.ListN.{length, drop, length-set}
-use lib.Seq.{paste, paste-zero}
-use Rattle.phrases.specs.Numbers.{placed, Bytes}
+use lib.ListN.{length-set}
+use lib.Seq.{paste-zero}
 use Rattle.next_phrase.proofs.Digits.{digit_more, digits_all}
 use borrow.Author.Rules.{rules}
 use Rattle.next_phrase.proofs.write.Goals as goal

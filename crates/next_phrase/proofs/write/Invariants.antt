@@ -1,13 +1,10 @@
 -- Each turn writes one word more. Assumes nothing.
-use mathlib.Core.Path.{◌≡◌, refl}
+use mathlib.Core.Path.{◌≡◌}
 use mathlib.Core.List.{List}
 use Prim.Native.Nat.{ℕ, ◌-◌, ◌≤◌}
-use native.Mathlib.Omega.{arith}
-use lib.ListN.{length, drop, length-set}
-use lib.Seq.{paste, paste-zero}
+use lib.ListN.{length, drop}
+use lib.Seq.{paste}
 use Rattle.phrases.specs.Numbers.{placed, Bytes}
-use Rattle.next_phrase.proofs.Digits.{digit_more, digits_all}
-use borrow.Author.Rules.{rules}
 use Rattle.next_phrase.proofs.write.Given as goal
 
 abbrev pub invariant-loop-x : goal.invariant-loop-x

@@ -2,7 +2,6 @@
 use mathlib.Core.Path.{◌∙◌}
 use Rattle.outside_theory.specs.Model.{fill}
 use Rattle.outside_weights.proofs.Apart.{found_all}
-use borrow.Author.Rules.{rules}
 use Rattle.outside_weights.proofs.fill.Goals as goal
 
 pub over_lengths-requires : goal.over_lengths-requires

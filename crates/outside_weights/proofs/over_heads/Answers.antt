@@ -1,14 +1,9 @@
 -- The loop is the iteration over the heads.
-use mathlib.Core.Path.{◌≡◌, refl, ◌∙◌}
+use mathlib.Core.Path.{refl, ◌∙◌}
 use native.Mathlib.Omega.{arith}
-use Prim.Native.Nat.{◌-◌, ◌≤◌}
-use lib.ListN.{length}
 use Rattle.packing.specs.Loop.{iter}
 use Rattle.packing.proofs.Loop.{iter_more, iter_end}
-use Rattle.packing.specs.Meaning.{symbol_of}
-use Rattle.chart_table.specs.Table.{cell}
-use Rattle.outside_entries.specs.Entries.{fourths, plain}
-use Rattle.outside_theory.specs.Model.{push_node, over_heads}
+use Rattle.outside_theory.specs.Model.{over_heads}
 use Rattle.outside_weights.proofs.over_heads.Goals as goal
 
 pub loop-a-init : goal.loop-a-init

@@ -1,12 +1,9 @@
 -- The loop is the iteration over the places where a span of the length may start.
-use mathlib.Core.Path.{◌≡◌, refl, ◌∙◌}
+use mathlib.Core.Path.{refl, ◌∙◌}
 use native.Mathlib.Omega.{arith}
-use Prim.Native.Nat.{◌+◌, ◌-◌, ◌≤◌}
-use lib.ListN.{length}
 use Rattle.packing.specs.Loop.{iter}
 use Rattle.packing.proofs.Loop.{iter_more, iter_end}
-use Rattle.outside_entries.specs.Entries.{fourths, plain}
-use Rattle.outside_theory.specs.Model.{over_heads, over_spans}
+use Rattle.outside_theory.specs.Model.{over_spans}
 use Rattle.outside_weights.proofs.over_spans.Goals as goal
 
 pub overflow_add-spans : goal.overflow_add-spans

@@ -1,12 +1,10 @@
 -- The loop is the iteration over the places where a span of the length may start.
-use mathlib.Core.Path.{◌≡◌, refl, ◌∙◌}
-use native.Mathlib.Omega.{arith}
+use mathlib.Core.Path.{◌≡◌}
 use Prim.Native.Nat.{◌+◌, ◌-◌, ◌≤◌}
 use lib.ListN.{length}
 use Rattle.packing.specs.Loop.{iter}
-use Rattle.packing.proofs.Loop.{iter_more, iter_end}
 use Rattle.outside_entries.specs.Entries.{fourths, plain}
-use Rattle.outside_theory.specs.Model.{over_heads, over_spans}
+use Rattle.outside_theory.specs.Model.{over_heads}
 use Rattle.outside_weights.proofs.over_spans.Given as goal
 
 abbrev pub invariant-loop-from : goal.invariant-loop-from

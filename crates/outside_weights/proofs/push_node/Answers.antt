@@ -2,7 +2,6 @@
 use mathlib.Core.Path.{refl}
 use Rattle.outside_entries.specs.Entries.{fourths, plain}
 use Rattle.outside_weights.proofs.Steps.{node_none, node_some}
-use borrow.Author.Rules.{rules}
 use Rattle.outside_weights.proofs.push_node.Goals as goal
 
 pub returns-then-outer-eq0 : goal.returns-then-outer-eq0

@@ -2,7 +2,6 @@
 use mathlib.Core.Path.{refl}
 use Rattle.outside_entries.specs.Entries.{fourths, plain}
 use Rattle.outside_weights.proofs.Apart.{apart_same}
-use borrow.Author.Rules.{rules}
 use Rattle.outside_weights.proofs.push_parts.Goals as goal
 
 pub returns-else-meet : goal.returns-else-meet

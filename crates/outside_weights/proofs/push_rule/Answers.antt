@@ -2,7 +2,6 @@
 use mathlib.Core.Path.{refl}
 use Rattle.outside_entries.specs.Entries.{fourths, plain}
 use Rattle.outside_weights.proofs.Steps.{pair_pushed, word_pushed}
-use borrow.Author.Rules.{rules}
 use Rattle.outside_weights.proofs.push_rule.Goals as goal
 
 pub returns-in-Pair : goal.returns-in-Pair

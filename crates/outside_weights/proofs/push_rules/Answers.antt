@@ -1,15 +1,9 @@
 -- The loop is the iteration over the class of the node's head.
-use mathlib.Core.Path.{◌≡◌, refl, sym, ◌∙◌}
+use mathlib.Core.Path.{refl, sym, ◌∙◌}
 use native.Mathlib.Omega.{arith}
-use Prim.Native.Nat.{◌-◌, ◌≤◌}
-use lib.ListN.{length, get_or}
-use Rattle.packing.specs.Loop.{over}
 use Rattle.packing.proofs.Loop.{iter_end}
-use Rattle.packing.specs.Flat.{rule_at}
-use Rattle.outside_entries.specs.Entries.{fourths, plain}
-use Rattle.outside_theory.specs.Model.{push_rule, push_rules}
+use Rattle.outside_theory.specs.Model.{push_rules}
 use Rattle.outside_weights.proofs.Steps.{from_none, from_more}
-use borrow.Author.Rules.{rules}
 use Rattle.outside_weights.proofs.push_rules.Goals as goal
 
 pub loop-y-init : goal.loop-y-init

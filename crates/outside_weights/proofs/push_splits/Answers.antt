@@ -1,12 +1,8 @@
 -- The loop is the iteration over the places between the node's ends.
-use mathlib.Core.Path.{◌≡◌, refl, ◌∙◌}
+use mathlib.Core.Path.{refl, ◌∙◌}
 use native.Mathlib.Omega.{arith}
-use Prim.Native.Nat.{◌+◌, ◌-◌, ◌≤◌}
-use lib.ListN.{length}
 use Rattle.packing.specs.Loop.{iter}
 use Rattle.packing.proofs.Loop.{iter_more, iter_end}
-use Rattle.chart_table.specs.Table.{cell, cell_number}
-use Rattle.outside_entries.specs.Entries.{fourths, plain, push_split}
 use Rattle.outside_theory.specs.Model.{push_splits}
 use Rattle.outside_weights.proofs.push_splits.Goals as goal
 

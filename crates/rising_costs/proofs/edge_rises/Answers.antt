@@ -1,7 +1,6 @@
 -- Each test of the code is one of the definition's, of the numbers from 4 e on.
 use mathlib.Core.Path.{◌∙◌}
 use Rattle.rising_costs.proofs.Rise.{edge_same, other_word, other_place}
-use borrow.Author.Rules.{rules}
 use Rattle.rising_costs.proofs.edge_rises.Goals as goal
 
 pub returns-then-narrow_at-2 : goal.returns-then-narrow_at-2

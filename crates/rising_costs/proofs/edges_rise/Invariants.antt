@@ -1,10 +1,7 @@
 -- After e turns the first e edges rise, so whether all do is told by the rest.
-use mathlib.Core.Path.{◌≡◌, sym, ◌∙◌}
+use mathlib.Core.Path.{◌≡◌}
 use Prim.Native.Nat.{◌-◌, ◌≤◌}
-use native.Mathlib.Nat.{sub-zero}
-use native.Mathlib.Omega.{arith}
 use Rattle.rising_costs.specs.Model.{edges_rise}
-use Rattle.rising_costs.proofs.Rise.{none_left, falls_here, rises_here}
 use Rattle.rising_costs.proofs.edges_rise.Given as goal
 
 abbrev pub invariant-loop-e : goal.invariant-loop-e

@@ -1,7 +1,6 @@
 -- The rule's kind decides whether the node is a leaf.
 use native.Mathlib.Omega.{arith}
 use Rattle.rising_costs.proofs.Raise.{pair_node, word_node}
-use borrow.Author.Rules.{rules}
 use Rattle.rising_costs.proofs.raise_node.Goals as goal
 
 pub returns-in-Pair : goal.returns-in-Pair

@@ -1,11 +1,10 @@
 -- What remains behind the first i nodes is raised and weighed in the turns to come, and at the end nothing remains.
-use mathlib.Core.Path.{◌≡◌, refl, ◌∙◌}
-use Prim.Native.Nat.{◌-◌, ◌*◌, ◌≤◌}
+use mathlib.Core.Path.{refl, ◌∙◌}
+use Prim.Native.Nat.{◌*◌}
 use native.Mathlib.Omega.{arith}
-use borrow.Author.Rules.{rules}
-use lib.ListN.{length, take}
+use lib.ListN.{take}
 use Rattle.packing.specs.Flat.{nodes_in}
-use Rattle.rising_costs.proofs.Raise.{Remains, all_remain, next_remain, none_remain}
+use Rattle.rising_costs.proofs.Raise.{all_remain, next_remain, none_remain}
 use Rattle.rising_costs.proofs.raise_own.Goals as goal
 
 pub loop-i-init : goal.loop-i-init
