@@ -2,7 +2,6 @@
 -- the closing claim holds.
 use mathlib.Core.Path.{ap, ◌∙◌}
 use native.Mathlib.Omega.{arith}
-use borrow.Author.Rules.{rules}
 use Rattle.packing.specs.Grammar.{grammar_block}
 use Rattle.packing.specs.Flat.{rules_of}
 use Rattle.packing.proofs.Flat.{rules_of_lem}

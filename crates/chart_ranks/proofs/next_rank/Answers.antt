@@ -3,7 +3,6 @@ use mathlib.Core.Path.{sym, ◌∙◌}
 use Prim.Native.Nat.{ℕ, ◌≤◌, ◌<◌}
 use native.Mathlib.Omega.{arith}
 use Rattle.chart_ranks.specs.Ranks.{next_rank}
-use borrow.Author.Rules.{rules}
 use Rattle.chart_ranks.proofs.next_rank.Goals as goal
 
 -- a rank that is kept is below the most

@@ -3,7 +3,6 @@ use native.Mathlib.Omega.{arith}
 use Rattle.chart_keys.specs.Keys.{no_key}
 use Rattle.chart_candidates.proofs.PassedOver.{leaves_below}
 use Rattle.chart_successors.specs.Successors.{least_initial}
-use borrow.Author.Rules.{rules}
 use Rattle.chart_successors.proofs.least_initial.Goals as goal
 
 pub seeds-requires : goal.seeds-requires

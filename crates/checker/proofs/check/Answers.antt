@@ -1,6 +1,5 @@
 -- The array's rules are those of the grammar that was accepted; a slice of bytes has bytes, so the theorem of what passes holds.
 use mathlib.Core.Path.{sym, ap, ◌∙◌}
-use borrow.Author.Rules.{rules}
 use native.Mathlib.Omega.{arith}
 use Rattle.packing.specs.Grammar.{grammar_block}
 use Rattle.grammar_reader.proofs.BlockInversion.{accepted_told, refused_told}

@@ -8,7 +8,6 @@ use Rattle.packing.proofs.Flat.{length_rules_at}
 use Rattle.graph_reader.proofs.BlockInversion.{accepted_told, refused_told}
 use Rattle.graph_reader.specs.declared.GraphSize.{GraphSize}
 use Rattle.checker.proofs.Answered.{graph_judged}
-use borrow.Author.Rules.{rules}
 use Rattle.checker.proofs.check_graph.Goals as goal
 
 pub overflow_sub-graph : goal.overflow_sub-graph

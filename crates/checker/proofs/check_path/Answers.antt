@@ -7,7 +7,6 @@ use Rattle.packing.specs.Flat.{rules_of}
 use Rattle.packing.proofs.Flat.{length_rules_at}
 use Rattle.graph_check.specs.Edges.{edges_of}
 use Rattle.checker.proofs.Answered.{path_judged, path_failed}
-use borrow.Author.Rules.{rules}
 use Rattle.checker.proofs.check_path.Goals as goal
 
 pub weight_of-requires : goal.weight_of-requires

@@ -1,7 +1,6 @@
 -- The array's slots are the utterance that was accepted.
 use mathlib.Core.Path.{refl, sym, ap}
 use mathlib.Core.List.{List}
-use borrow.Author.Rules.{rules}
 use native.Mathlib.Omega.{arith}
 use Rattle.packing.specs.declared.Rule as R
 use Rattle.packing.specs.Utterance.{utterance_block}

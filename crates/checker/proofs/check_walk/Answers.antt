@@ -1,6 +1,5 @@
 -- The numbers read stand in front, so the weight of the derivation that has them is that of the reading's walk.
 use mathlib.Core.Path.{refl}
-use borrow.Author.Rules.{rules}
 use Rattle.packing.specs.Reading.{reading_from}
 use Rattle.reading_reader.proofs.BlockInversion.{parsed_told, failed_told}
 use Rattle.packing.specs.Flat.{rules_of, slots_of}

@@ -6,7 +6,8 @@ use Rattle.found_masks.specs.Marks.{MarkedAll, EndingAt}
 use Rattle.found_masks.proofs.mark_spans.Given as goal
 
 abbrev pub invariant-loop-from : goal.invariant-loop-from
-invariant-loop-from l = (l.from ≤ l.to) × (length l.masks ≡ length l.initial.masks) × MarkedAll l.t l.d (EndingAt l.d.symbols l.to l.from) l.initial.masks l.masks
+invariant-loop-from l = (l.from ≤ l.to) × (length l.masks ≡ length l.initial.masks)
+    × MarkedAll l.t l.d (EndingAt l.d.symbols l.to l.from) l.initial.masks l.masks
 
 abbrev pub decreases-loop-from : goal.decreases-loop-from
 decreases-loop-from l = l.to - l.from

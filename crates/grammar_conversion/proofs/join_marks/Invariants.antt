@@ -9,7 +9,8 @@ use Rattle.grammar_conversion.proofs.join_marks.Given as goal
 
 abbrev pub invariant-loop-i : goal.invariant-loop-i
 invariant-loop-i l =
-    (l.i ≤ l.n) × (length l.joined ≡ length l.initial.joined) × (Left l.rules l.marks l.n l.joined l.i ≡ store_all l.initial.joined 0 (marked_rows l.rules l.marks 0 l.n))
+    (l.i ≤ l.n) × (length l.joined ≡ length l.initial.joined)
+    × (Left l.rules l.marks l.n l.joined l.i ≡ store_all l.initial.joined 0 (marked_rows l.rules l.marks 0 l.n))
 
 abbrev pub decreases-loop-i : goal.decreases-loop-i
 decreases-loop-i l = l.n - l.i

@@ -1,10 +1,8 @@
 -- What is left of the ones, stored behind those that are, gives all. Assumes nothing.
-use mathlib.Core.Path.{◌≡◌, refl, sym, ◌∙◌}
-use Prim.Native.Nat.{◌-◌, ◌≤◌}
+use mathlib.Core.Path.{refl, sym, ◌∙◌}
 use native.Mathlib.Omega.{arith}
 use borrow.Author.Rules.{rules}
-use lib.ListN.{length}
-use Rattle.office_block.proofs.Marks.{Left, ones_turn, ones_end}
+use Rattle.office_block.proofs.Marks.{ones_turn, ones_end}
 use Rattle.office_block.proofs.mark_helpers.Goals as goal
 
 pub loop-i-init : goal.loop-i-init

@@ -1,7 +1,6 @@
 -- What the conversion answers tells what is to be written.
 use mathlib.Core.Path.{sym, ◌∙◌}
 use native.Mathlib.Omega.{arith}
-use borrow.Author.Rules.{rules}
 use Rattle.sheet_writer.proofs.Fit.{handed_up}
 use Rattle.office_block.proofs.Blocks.{not_converted, marks_room, in_ranges, block_told}
 use Rattle.office_block.proofs.office_to_block.Goals as goal

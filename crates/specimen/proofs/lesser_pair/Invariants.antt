@@ -1,10 +1,8 @@
 -- The loop is the definition's, turn by turn. Assumes nothing.
-use mathlib.Core.Path.{◌≡◌, ◌∙◌}
+use mathlib.Core.Path.{◌≡◌}
 use Prim.Native.Nat.{◌+◌, ◌-◌, ◌≤◌}
 use Rattle.packing.specs.Loop.{iter}
-use Rattle.packing.proofs.Loop.{iter_more, iter_end}
 use Rattle.specimen.specs.Table.{lesser_split}
-use borrow.Author.Rules.{rules}
 use Rattle.specimen.proofs.lesser_pair.Given as goal
 
 abbrev pub invariant-loop-y : goal.invariant-loop-y
