@@ -2,7 +2,7 @@
 -- place and table are as they were left after as many readings as the place says. What is handed out passes the check, and is what the listing has at its rank.
 use mathlib.Core.Path.{◌≡◌, refl, sym, ap, subst, ◌∙◌}
 use mathlib.Core.List.{List, ◌++◌, append-nil}
-use Prim.Native.Nat.{ℕ, zero, suc, ◌+◌, ◌-◌, ◌≤◌, ◌<◌}
+use Prim.Native.Nat.{ℕ, zero, suc, ◌-◌, ◌≤◌, ◌<◌}
 use native.Mathlib.Decide.{dec_lt, dec_le}
 use native.Mathlib.Omega.{arith}
 use borrow.Author.Tests.{lt-ltb, le-ltb, ltb-false}
@@ -16,11 +16,10 @@ use Rattle.packing.specs.Parse.{Verdict, accepted, refused, ◌then◌}
 use Rattle.packing.specs.Grammar.{grammar_block}
 use Rattle.packing.specs.Heard.{heard_block}
 use Rattle.packing.specs.GraphReading.{padded}
-use Rattle.packing.specs.Valid.{ValidHeard}
 use Rattle.packing.proofs.Parse.{refused≢accepted, accepted_else, accepted_is}
 use Rattle.packing.proofs.Whole.{grammar_block_out}
 use Rattle.packing.proofs.Heard.{heard_block_out}
-use Rattle.derivation.specs.Derivation.{Tree, Derivation}
+use Rattle.derivation.specs.Derivation.{Tree}
 use Rattle.derivation.specs.Heard.{output_length, own_block, packed}
 use Rattle.derivation.specs.HeardList as list
 use Rattle.derivation.proofs.HeardReadings.{packed_length}
@@ -32,7 +31,6 @@ use Rattle.open_listing.proofs.Decided.{answer_decided, table_decided, output_de
 use Rattle.open_search.specs.declared.Place.{Place}
 use Rattle.open_answer.specs.declared.Answer as A
 use Rattle.open_answer.specs.declared.Answer.TheVariants.{Reading, NoMore, Full, Refused}
-use Rattle.spireyerba.specs.Demands as D
 use Rattle.codes.specs.Demand1.{answers, refuses}
 use Rattle.open_calls.specs.OneByOne.{place_at, next_code, returned, Open, Next, Sequence, CallsInTurn, HandsOut, Idle, Room, OneByOne}
 use Rattle.open_calls.specs.OneByOne.{EveryReading, EveryCall}
@@ -315,4 +313,4 @@ every_list_agrees search s calls b is N m work out work' out' listing k l code f
         let tree : h.tree ≡ t = rank.no_other h.tree h.ranked.derivation h.ranked.rank in
         let long = packed_length g okg u okh h.tree h.ranked.derivation in
         ap (take (output_length g u)) h.written ∙ take_at (packed g u h.tree) (drop (output_length g u) (s.out k)) (output_length g u) long
-        ∙ ap (packed g u) tree ∙ sym bytes
+        ∙ ap (packed g u) tree ∙ sym {b = packed g u t} bytes

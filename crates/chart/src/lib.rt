@@ -5,12 +5,12 @@
 ghost use Rattle.std.specs.Prelude.{◌≡◌, ◌-◌, ◌/◌, ◌<◌, ◌≤◌, length, drop, replicate};
 ghost use Rattle.packing.specs.Store.{store_all};
 ghost use Rattle.chart_keys.specs.Keys.{prices, weight_unit};
-ghost use Rattle.chart_table.specs.Table.{Sized};
+ghost use Rattle.chart_table.specs.Table.{Sized, clear};
 ghost use Rattle.chart.specs.Chart.{enumerate, roots_found, root_weight, root_trace};
 
 use arrays::zero;
 use chart_classes::INDEX_NUMBERS;
-pub use chart_clearing::clear_table;
+use chart_clearing::clear;
 use chart_entries::{first_missing, price_at};
 use chart_index::make_index;
 use chart_keys::WEIGHT_UNIT;
@@ -90,4 +90,12 @@ pub fn trace_root(t: &[u32], rules: &[u32], d: Layout, rank: usize, trace: &mut 
         × (result ≡ length (root_trace t.now rules.now d rank)) }
 {
     trace_back(t, rules, d, root(d), rank, trace)
+}
+
+// Makes the entries of all ranks found 0. An enumerated table is 0 everywhere else.
+pub fn clear_table(t: &mut [u32], d: Layout)
+    requires { Sized d }
+    ensures { t.new ≡ clear t.old d }
+{
+    clear(t, d);
 }

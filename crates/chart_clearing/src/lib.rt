@@ -78,8 +78,8 @@ fn clear_cell(t: &mut [u32], d: Layout, number: usize)
     }
 }
 
-// Makes the entries of all ranks found 0, of every cell. An enumerated table is 0 everywhere else.
-pub fn clear_table(t: &mut [u32], d: Layout)
+// Makes the entries of all ranks found 0, of every cell.
+pub fn clear(t: &mut [u32], d: Layout)
     requires { Sized d }
     ensures { t.new ≡ clear t.old d }
 {

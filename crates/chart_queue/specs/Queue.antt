@@ -75,7 +75,12 @@ extract_min t d number rank lo hi =
 -- of m queued ones stands, place y, and the place behind the last
 unfoldable pub keep_written : (t k : List ℕ) → Layout → ℕ → ℕ → ℕ → ℕ → List ℕ
 keep_written t k d number rank m y =
-    keep_four t k (record { first = entry_of d number 0; second = entry_of d number rank; third = entry_of d number (y + 1); fourth = entry_of d number (m + 1) })
+    keep_four t k (record {
+      first = entry_of d number 0;
+      second = entry_of d number rank;
+      third = entry_of d number (y + 1);
+      fourth = entry_of d number (m + 1);
+    })
 
 abbrev pub keep_min : (t k : List ℕ) → Layout → ℕ → ℕ → List ℕ
 keep_min t k d number rank =

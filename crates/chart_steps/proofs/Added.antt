@@ -50,7 +50,8 @@ module _ (t u : List ℕ) (q : ℕ) (same : SameBut q t u) where
   one_more (suc n) = go (ℕ_discrete n q) (one_more n)
     where
       go : Dec (n ≡ q) → found_among u n ≤ found_among t n + 1
-          → pick (eqb (price_in u (n * 4)) 0) (found_among u n) (found_among u n + 1) ≤ pick (eqb (price_in t (n * 4)) 0) (found_among t n) (found_among t n + 1) + 1
+          → pick (eqb (price_in u (n * 4)) 0) (found_among u n) (found_among u n + 1)
+          ≤ pick (eqb (price_in t (n * 4)) 0) (found_among t n) (found_among t n + 1) + 1
       go (yes e) h =
           omega (
             arith,

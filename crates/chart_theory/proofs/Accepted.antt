@@ -67,7 +67,8 @@ abbrev pub scope : Grammar → Heard → Scope
 scope g h = record { rules = length g.rules; edges = length (heard_edges h); named = names_edges h }
 
 -- weight and costs of a price plus 1
-price_parts : {n : ℕ} (a : Price) → n ≡ price_number a + 1 → costs_in a < weight_unit → ((n - 1) / weight_unit ≡ weight_in a) × ((n - 1) % weight_unit ≡ costs_in a)
+price_parts : {n : ℕ} (a : Price) → n ≡ price_number a + 1 → costs_in a < weight_unit → ((n - 1) / weight_unit ≡ weight_in a)
+    × ((n - 1) % weight_unit ≡ costs_in a)
 price_parts (price w s) e cheap = rw e (omega arith, omega arith)
 
 module _ (g : Grammar) (h : Heard) (N : ℕ) where
@@ -228,7 +229,8 @@ module _ (g : Grammar) (h : Heard) (N : ℕ) where
           }
 
       -- and where none is found, each of the entry's four numbers is 0
-      pub nothing_stands : x < N → price_at t layout (cell_number layout c) x ≡ 0 → (y : ℕ) → y < 4 → get_or t (entry_of layout (cell_number layout c) x + y) 0 ≡ 0
+      pub nothing_stands : x < N → price_at t layout (cell_number layout c) x ≡ 0 → (y : ℕ) → y < 4
+          → get_or t (entry_of layout (cell_number layout c) x + y) 0 ≡ 0
       unfolding lay_out
       nothing_stands kept none y few = go (dec_lt 0 (get_or t (entry_of layout (cell_number layout c) x + y) 0))
         where
@@ -237,6 +239,7 @@ module _ (g : Grammar) (h : Heard) (N : ℕ) where
               let (c', x', in-chart', found, (low, high)) = listed.invariant.nonzero_found _ some in
               let e : entry_of layout (cell_number layout c) x ≡ entry_of layout (cell_number layout c') x' =
               omega (arith, entry_four layout (cell_number layout c) x, entry_four layout (cell_number layout c') x', low, high, few) in
-              let same = same_entry t layout (cell_number layout c) x (cell_number layout c') x' kept (found_kept t layout (cell_number layout c') x' found) e in
+              let same = same_entry t layout (cell_number layout c) x (cell_number layout c') x' kept (found_kept t layout (cell_number layout c') x' found)
+              e in
               absurd (omega (arith, same, none, found))
           go (no nothing) = omega (arith, nothing)

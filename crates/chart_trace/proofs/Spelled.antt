@@ -78,7 +78,8 @@ seen rules edges k c b = go (ltb b.rule k.rules) (rule_at rules b.rule) refl
     go true (Word h x w) e = word_seen rules edges k.edges c b e (eqb h.0 c.head.0) (edge_fits edges k.edges c b.left x) k.named _ w
     go false r e = tt
 
-pub seen_as : (rules edges : List ℕ) (k : Scope) (c : Cell) (b : BackPointer) {n m : CheckedNode} → n ≡ checked_node rules edges k c b → n ≡ m → Seen rules c b m
+pub seen_as : (rules edges : List ℕ) (k : Scope) (c : Cell) (b : BackPointer) {n m : CheckedNode} → n ≡ checked_node rules edges k c b → n ≡ m
+    → Seen rules c b m
 seen_as rules edges k c b e is = subst (Seen rules c b) (sym e ∙ is) (seen rules edges k c b)
 
 -- fuel: parts are over shorter spans

@@ -40,8 +40,10 @@ checks reading = checked_of (check G four_places reading)
 pub third : (checks (96 ∷ 128 ∷ 0 ∷ 1 ∷ 16 ∷ 80 ∷ 96 ∷ []) ≡ Passes)
     × (checks (96 ∷ 128 ∷ 0 ∷ 1 ∷ 16 ∷ 80 ∷ 96 ∷ 0 ∷ []) ≡ Refused 36)
     × (checks (96 ∷ 128 ∷ 0 ∷ 1 ∷ 80 ∷ 80 ∷ 96 ∷ []) ≡ Refused 35)
-unfolding num bits_of ended width_of width_from bits_of_all in_range field_at any_like unlike_from rule_from marked_rule_from grammar_from block_by marked_block grammar_block
-    edge_from graph_from graph_block heard_block trace_entries graph_head_from weight path_length trace trees has_bits fields_from first_with derivation_of check
+unfolding num bits_of ended width_of width_from bits_of_all in_range field_at any_like unlike_from rule_from marked_rule_from grammar_from block_by
+    marked_block grammar_block
+    edge_from graph_from graph_block heard_block trace_entries graph_head_from weight path_length trace trees has_bits fields_from first_with derivation_of
+    check
 third = (refl, refl, refl)
 
 -- 34: an edge that does not start where the path stands, a path that does not end at P − 1, an edge number not below E, another mix of
@@ -52,13 +54,16 @@ pub not_a_walk : (checks (96 ∷ 128 ∷ 0 ∷ 1 ∷ 16 ∷ 16 ∷ 96 ∷ []) �
     × (checks (96 ∷ 128 ∷ 0 ∷ 1 ∷ 32 ∷ 160 ∷ 192 ∷ []) ≡ Refused 34)
     × (checked_of (check two_words one_heard (96 ∷ 64 ∷ 0 ∷ 0 ∷ 192 ∷ 0 ∷ [])) ≡ Refused 34)
     × (checked_of (check two_words one_heard (96 ∷ 64 ∷ 0 ∷ 0 ∷ 224 ∷ 64 ∷ [])) ≡ Passes)
-unfolding num bits_of ended width_of width_from bits_of_all in_range field_at any_like unlike_from rule_from marked_rule_from grammar_from block_by marked_block grammar_block
-    edge_from graph_from graph_block heard_block trace_entries graph_head_from weight path_length trace trees has_bits fields_from first_with derivation_of check
+unfolding num bits_of ended width_of width_from bits_of_all in_range field_at any_like unlike_from rule_from marked_rule_from grammar_from block_by
+    marked_block grammar_block
+    edge_from graph_from graph_block heard_block trace_entries graph_head_from weight path_length trace trees has_bits fields_from first_with derivation_of
+    check
 not_a_walk = (refl, refl, refl, refl, refl, refl)
 
 -- 33 for n 0 or above P − 1, 32 for a reading of slots, 31 for fewer bits than n edges need
 pub not_read : (checks (96 ∷ 0 ∷ 0 ∷ 1 ∷ 16 ∷ 80 ∷ 96 ∷ []) ≡ Refused 33) × (checks (97 ∷ 0 ∷ 0 ∷ 1 ∷ 16 ∷ 80 ∷ 96 ∷ []) ≡ Refused 33)
     × (checks (48 ∷ 128 ∷ 0 ∷ 1 ∷ 16 ∷ 80 ∷ 96 ∷ []) ≡ Refused 32) × (checks (96 ∷ 128 ∷ 0 ∷ 1 ∷ 16 ∷ 80 ∷ []) ≡ Refused 31)
-unfolding num bits_of ended width_of width_from bits_of_all in_range field_at any_like unlike_from rule_from marked_rule_from grammar_from block_by marked_block grammar_block
+unfolding num bits_of ended width_of width_from bits_of_all in_range field_at any_like unlike_from rule_from marked_rule_from grammar_from block_by
+    marked_block grammar_block
     edge_from graph_from graph_block heard_block graph_head_from fields_from check
 not_read = (refl, refl, refl, refl)

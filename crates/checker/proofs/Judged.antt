@@ -59,7 +59,8 @@ bits_out s at (b ∷ bs) e =
     let (l, more) = bits_out s (suc at) bs f in
     (omega arith, go (eqb-true (bit_at s at) b h) more)
   where
-    go : bit_at s at ≡ b → ((k : ℕ) → k < length bs → bit_at s (suc at + k) ≡ get_or bs k 0) → (k : ℕ) → k < length (b ∷ bs) → bit_at s (at + k) ≡ get_or (b ∷ bs) k 0
+    go : bit_at s at ≡ b → ((k : ℕ) → k < length bs → bit_at s (suc at + k) ≡ get_or bs k 0) → (k : ℕ) → k < length (b ∷ bs) → bit_at s (at + k)
+        ≡ get_or (b ∷ bs) k 0
     go h more zero l = rw add-zero h
     go h more (suc k) l = let z : at + suc k ≡ suc at + k = omega arith in rw z (more k (omega arith))
 

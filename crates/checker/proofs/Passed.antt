@@ -17,7 +17,7 @@ use Rattle.packing.specs.Valid.{Bytes, ValidGrammar, ValidUtterance, ValidGraph,
 use Rattle.packing.proofs.Parse.{refused≢accepted, picked_first, accepted_is}
 use Rattle.packing.proofs.Theorems.{reading_block_accepted}
 use Rattle.packing.proofs.GraphTheorems.{graph_reading_accepted}
-use Rattle.derivation.specs.Derivation.{Tree, Derivation, walk, weight, reading}
+use Rattle.derivation.specs.Derivation.{Tree, Derivation, weight, reading}
 use Rattle.derivation.specs.Heard.{path_length, graph_reading, own_block}
 use Rattle.derivation.proofs.Theorems.{reading_packs}
 use Rattle.derivation.proofs.HeardReadings.{path, graph_reading_packs}

@@ -61,6 +61,8 @@ pub examples :
     × (readings G one_edge ≡ accepted ((96 ∷ 64 ∷ 0 ∷ 1 ∷ 224 ∷ 0 ∷ 0 ∷ []) ∷ []))
     × (readings G no_path ≡ accepted [])
     × (readings two_words one_heard ≡ accepted ((96 ∷ 64 ∷ 0 ∷ 0 ∷ 224 ∷ 64 ∷ []) ∷ []))
-unfolding num bits_of pack ended width_of width_from bits_of_all in_range field_at any_like unlike_from rule_from marked_rule_from grammar_from block_by marked_block
-    grammar_block edge_from graph_from graph_block heard_block trace_entries graph_reading_entries block_of_graph_reading graph_reading_length padded ranked graph_reading
+unfolding num bits_of pack ended width_of width_from bits_of_all in_range field_at any_like unlike_from rule_from marked_rule_from grammar_from block_by
+    marked_block
+    grammar_block edge_from graph_from graph_block heard_block trace_entries graph_reading_entries block_of_graph_reading graph_reading_length padded ranked
+    graph_reading
 examples = (refl, refl, refl, refl, refl)

@@ -147,7 +147,8 @@ module _ (g : Grammar) (es : List Edge) (src : Source) where
     cover_pair {i = i} {at = at} {v = v} r p q (also {j = j} {t = s} d₁ t₁ (also {j = k} {n = n} {mid = end} {w = w} {t = t} d₂ t₂ c)) =
         let nodes : Taken src at (trace_entries count (trace (node r j s t))) end =
         rw (trace_append count (trace s) (trace t)) (taken_join q (taken_join t₁ t₂)) in
-        let whole = also (by_pair_rule {i = i} {j = j} {k = k} p (omega (arith, path_bound g es forward d₁)) (omega (arith, path_bound g es forward d₂)) d₁ d₂) nodes
+        let whole = also (by_pair_rule {i = i} {j = j} {k = k} p (omega (arith, path_bound g es forward d₁)) (omega (arith, path_bound g es forward d₂)) d₁
+        d₂) nodes
         c in
         let l : path_length s + path_length t + n ≡ path_length s + (path_length t + n) = omega arith in
         let m : weight g es (node r j s t) + w ≡ v + (weight g es s + (weight g es t + w)) = rw (node_weight_lem g es r j s t p) (omega arith) in
@@ -167,7 +168,8 @@ module _ (g : Grammar) (es : List Edge) (src : Source) where
         (place left : ℕ) (heads : List Sym) (w w' at : ℕ) → weight_at last (runs m (onward place left heads w) at) ≡ some w'
         → (v : ℕ) × Covers heads place left at v × (w + v ≡ w')
 
-    sound_step : (m place left : ℕ) (A : Sym) (heads : List Sym) (w w' at next : ℕ) (x : Node) → Sound m → Taken src at (node_entries count x) next → (s : State)
+    sound_step : (m place left : ℕ) (A : Sym) (heads : List Sym) (w w' at next : ℕ) (x : Node) → Sound m → Taken src at (node_entries count x) next
+        → (s : State)
         → Stepped place left A heads w x s → weight_at last (runs m s next) ≡ some w' → (v : ℕ) × Covers (A ∷ heads) place left at v × (w + v ≡ w')
     sound_step m place left A heads w w' at next _ below k _ lost h = absurd (none≢some (sym (stuck_none g.rules es src last m next) ∙ h))
     sound_step m place left A heads w w' at next _ below k _ (paired {B} {C} {v} {r} p) h =

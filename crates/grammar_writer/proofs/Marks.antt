@@ -48,7 +48,8 @@ module _ (S W : ℕ) (r : Rule) (m : ℕ) where
   -- the rule with its mark stands in `after`, and ends at `end`
   abbrev StandsMarked : Bool → List ℕ → ℕ → List ℕ → ℕ → Type 0
   StandsMarked b out at after end =
-      (end ≡ at + widths (flds (marked_rule_entries b S W (marked r m)))) × (end ≤ at + 42) × (after ≡ puts out at (flds (marked_rule_entries b S W (marked r m))))
+      (end ≡ at + widths (flds (marked_rule_entries b S W (marked r m)))) × (end ≤ at + 42)
+      × (after ≡ puts out at (flds (marked_rule_entries b S W (marked r m))))
 
   module _ (b : Bool) (out : List ℕ) (at : ℕ) {next : ℕ} {after : List ℕ} (s : Stands S W r out at after next) where
     pub mark_stands : b ≡ true → {last : List ℕ} → last ≡ put after next 1 m → StandsMarked b out at last (next + 1)

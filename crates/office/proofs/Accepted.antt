@@ -40,7 +40,8 @@ at_snoc [] x (suc n) e f g = let z : ◌≡◌ {A = ℕ} 0 1 = cc in absurd (ome
 at_snoc (q ∷ qs) x zero e f g = f e
 at_snoc (q ∷ qs) x (suc n) e f g = at_snoc qs x n e f (λ p h. g (ap suc p) h)
 
-not_among : (r : OfficeRule) (qs : List OfficeRule) (n : ℕ) {q : OfficeRule} → get_elem? qs n ≡ some q → any_like rule_alike r qs ≡ false → rule_alike r q ≡ false
+not_among : (r : OfficeRule) (qs : List OfficeRule) (n : ℕ) {q : OfficeRule} → get_elem? qs n ≡ some q → any_like rule_alike r qs ≡ false → rule_alike r q
+    ≡ false
 unfolding any_like
 not_among r [] n e h = let z : ◌≡◌ {A = ℕ} 0 1 = cc in absurd (omega arith)
 not_among r (p ∷ qs) n {q} e h = go (rule_alike r p) refl h n e (λ n e h. not_among r qs n e h)

@@ -59,7 +59,8 @@ office_rules_from s S W n at rs = unlike_from (office_rule_from s S W) rule_alik
 -- S, W and R, then the rules
 unfoldable pub office_from : List ℕ → ℕ → Parse Office
 office_from s at =
-    field_at (numbers s) at (size_field 6 32) ⟫ λ S at. field_at (numbers s) at (size_field 8 200) ⟫ λ W at. field_at (numbers s) at (size_field 9 256) ⟫ λ R at.
+    field_at (numbers s) at (size_field 6 32) ⟫ λ S at. field_at (numbers s) at (size_field 8 200) ⟫ λ W at. field_at (numbers s) at (size_field 9 256) ⟫
+    λ R at.
     office_rules_from s S W R at [] ⟫ λ rs at. parsed (record { symbols = S; words = W; rules = rs }) at
 
 -- the meaning of an office sheet: nothing is left behind the rules, else 41

@@ -27,6 +27,7 @@ pub examples :
     × (office_to_block (1 ∷ 1 ∷ 1 ∷ 0 ∷ 0 ∷ 1 ∷ 1 ∷ 0 ∷ []) ≡ accepted (64 ∷ 64 ∷ 64 ∷ 48 ∷ 0 ∷ 0 ∷ []))
     × (fitting (office_to_block (1 ∷ 1 ∷ 1 ∷ 0 ∷ 0 ∷ 1 ∷ 1 ∷ 0 ∷ [])) (9 ∷ 9 ∷ 9 ∷ 9 ∷ 9 ∷ []) ≡ refused 43)
     × (office_to_block (1 ∷ 1 ∷ 1 ∷ 0 ∷ 0 ∷ 1 ∷ 1 ∷ 0 ∷ 9 ∷ []) ≡ refused 41)
-unfolding bits_of pack width_of width_from bits_of_all field_at in_range any_like unlike_from marked_rules_entries marked_entries block_of_marked fitting item_from items_from
+unfolding bits_of pack width_of width_from bits_of_all field_at in_range any_like unlike_from marked_rules_entries marked_entries block_of_marked fitting
+    item_from items_from
     office_rule_from items_alike rule_alike office_from office_sheet convert convert_marked in_limits office_grammar office_to_block
 examples = (refl, refl, refl, refl)

@@ -66,7 +66,8 @@ all_known (spoken x ∷ l) hs =
 
 -- and the table has their symbols
 module _ (s t : List ℕ) (S : ℕ) (hs : List Helper) (table : (x : ℕ) → x < 200 → get_or t x 0 ≡ tag S hs x) where
-  symbol_named : (k v : ℕ) → Known hs (item_of k v ∷ []) → WordsBelow (item_of k v ∷ []) → M.symbol_of (pick (eqb k 0) v (get_or t v 0)) ≡ named S hs (item_of k v)
+  symbol_named : (k v : ℕ) → Known hs (item_of k v ∷ []) → WordsBelow (item_of k v ∷ []) → M.symbol_of (pick (eqb k 0) v (get_or t v 0))
+      ≡ named S hs (item_of k v)
   unfolding named
   symbol_named k v a b = go (eqb k 0) a b
     where

@@ -99,7 +99,7 @@ module _ {g : Grammar} {es : List Edge} {rules t : List ℕ} {d : Layout} (s : S
         let (x, y, f₁, f₂, is) = sum_found w v (outer s H i (suc (k + b))) (inside g es R k (suc (k + b))) e₂ in
         let got = q (suc (k + b)) (omega arith) (omega arith) x f₁ k in_chart.order (omega arith) in
         let (b', f, m) = got.left z y (ap (λ B. inside g es B i k) (same_sym L A a) ∙ there) f₂ in
-        (b', ap (λ B. outer_in d u B i k) (sym (same_sym L A a)) ∙ f, omega arith)
+        (b', ◌∙◌ {c = some b'} (ap (λ B. outer_in d u B i k) (sym (same_sym L A a))) f, omega arith)
 
     from_right : (rule : R.Rule) → ((h : ℕ) → h < i → RuleGiven h k rule u) → (v : ℕ)
         → as_right (outer s) (inside g es) A i k (some rule) ≡ some v → Under (outer_in d u A i k) v
@@ -111,7 +111,7 @@ module _ {g : Grammar} {es : List Edge} {rules t : List ℕ} {d : Layout} (s : S
         let (x, y, f₁, f₂, is) = sum_found w v (outer s H h k) (inside g es L h i) e₂ in
         let got = q h l x f₁ i l in_chart.order in
         let (b, f, m) = got.right y z f₂ (ap (λ B. inside g es B i k) (same_sym R A a) ∙ there) in
-        (b, ap (λ B. outer_in d u B i k) (sym (same_sym R A a)) ∙ f, omega arith)
+        (b, ◌∙◌ {c = some b} (ap (λ B. outer_in d u B i k) (sym (same_sym R A a))) f, omega arith)
 
     from_around : (v : ℕ) → around S d.last A i k ≡ some v → Under (outer_in d u A i k) v
     unfolding around

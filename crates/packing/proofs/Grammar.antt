@@ -109,14 +109,16 @@ module _ (src : Source) (S W : ℕ) where
         → (length rs ≡ n) × NoTwo marked_alike rs × All (MarkWithin marking) rs × Taken src at (marked_rules_entries marking S W rs) next
     unfolding marked_rules_entries
     rules_out =
-        unlike_all src (marked_rule_from marking src S W) marked_alike 6 (marked_rule_entries marking S W) (marked_rules_entries marking S W) refl (λ r rs. refl)
+        unlike_all src (marked_rule_from marking src S W) marked_alike 6 (marked_rule_entries marking S W) (marked_rules_entries marking S W) refl
+        (λ r rs. refl)
         (MarkWithin marking) alike_marked marked_out
 
     rules_back : {at : ℕ} (rs : List MarkedRule) {next : ℕ} → NoTwo marked_alike rs → All (MarkWithin marking) rs
         → Taken src at (marked_rules_entries marking S W rs) next → rules_from marking src S W (length rs) at [] ≡ parsed rs next
     unfolding marked_rules_entries
     rules_back =
-        all_unlike src (marked_rule_from marking src S W) marked_alike 6 (marked_rule_entries marking S W) (marked_rules_entries marking S W) refl (λ r rs. refl)
+        all_unlike src (marked_rule_from marking src S W) marked_alike 6 (marked_rule_entries marking S W) (marked_rules_entries marking S W) refl
+        (λ r rs. refl)
         (MarkWithin marking) alike_marked marked_back
 
 -- a grammar stands in the source, from a place to the next

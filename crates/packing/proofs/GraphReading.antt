@@ -178,7 +178,8 @@ module _ (isWord : ℕ → Bool) (R L : ℕ) (d e : GraphReading) where
 -- a block for paths of at most `most` edges has the head of its reading and the bits of its nodes, and ends behind them; and what has
 -- these is the block
 module _ (most R : ℕ) (s : List ℕ) (d : GraphReading) where
-  path_field : (at m n : ℕ) {v next : ℕ} → v ≤ n → field_at (bytes 31 s) at (path_edges m) ≡ parsed v next → field_at (bytes 31 s) at (path_edges n) ≡ parsed v next
+  path_field : (at m n : ℕ) {v next : ℕ} → v ≤ n → field_at (bytes 31 s) at (path_edges m) ≡ parsed v next → field_at (bytes 31 s) at (path_edges n)
+      ≡ parsed v next
   path_field at m n l e =
       let (b, v, k, r) = field_at_bytes_out 31 s at (path_edges m) e in
       let f = field_at_bytes 31 s at (path_edges n) b (omega arith, omega arith) in

@@ -59,7 +59,8 @@ module _ (W : ℕ) where
       let es : List Entry = entry (block_kind 5 12) 5 ∷ graph_entries W g in
       go (block_taken 11 es ((omega arith, omega arith), f) (omega arith, graph_room W w l g f)) (block_ended (flds es))
     where
-      go : {s : List ℕ} {next : ℕ} → Taken (bytes 11 s) 0 (entry (block_kind 5 12) 5 ∷ graph_entries W g) next → ended s next ≡ true → graph_block W s ≡ accepted g
+      go : {s : List ℕ} {next : ℕ} → Taken (bytes 11 s) 0 (entry (block_kind 5 12) 5 ∷ graph_entries W g) next → ended s next ≡ true → graph_block W s
+          ≡ accepted g
       go {s} (more k t) e = rw (k, graph_back (bytes 11 s) W g (t, u), e)
 
   graph_kind : (s : List ℕ) {g : Graph} → graph_block W s ≡ accepted g → field s 0 4 ≡ 5

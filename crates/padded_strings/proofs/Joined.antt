@@ -29,5 +29,6 @@ module _ (a b : List ℕ) (i : ℕ) (la : length a ≡ 24) (lb : length b ≡ 24
   pub join_right : (x : ℕ) → i ≤ x → x < 24 → get_or b (x - i) 0 ≡ get_or (join a b i) x 0
   join_right x l k =
       let sum : length (take i a) + (x - i) ≡ x = omega (arith, left_size) in
-      let e : get_or (join a b i) (length (take i a) + (x - i)) 0 ≡ get_or (take (24 - i) b) (x - i) 0 = get_or-append-add (take i a) (take (24 - i) b) (x - i) 0 in
+      let e : get_or (join a b i) (length (take i a) + (x - i)) 0 ≡ get_or (take (24 - i) b) (x - i) 0
+      = get_or-append-add (take i a) (take (24 - i) b) (x - i) 0 in
       sym (get_or-take (24 - i) b (x - i) 0 (omega arith)) ∙ sym e ∙ ap (λ (n : ℕ). get_or (join a b i) n 0) sum

@@ -72,7 +72,8 @@ module _ (rules : List R.Rule) (l : List ℕ) (n r : ℕ) where
   unfolding heads_of
   pair_there {B} {C} {v} = go n
     where
-      go : (n : ℕ) → fit_of rules (heads_of l n) r ≡ F.TheVariants.Pair B C v → (1 ≤ n) × (get_elem? rules r ≡ some (Pair (symbol_of (get_or l (n - 1) 0)) B C v))
+      go : (n : ℕ) → fit_of rules (heads_of l n) r ≡ F.TheVariants.Pair B C v → (1 ≤ n)
+          × (get_elem? rules r ≡ some (Pair (symbol_of (get_or l (n - 1) 0)) B C v))
       go zero e = absurd (nothing≢pair e)
       go (suc m) e = let z : suc m - 1 ≡ m = omega arith in (omega arith, rw z (pair_head (symbol_of (get_or l m 0)) (get_elem? rules r) e))
 

@@ -28,7 +28,8 @@ unfolding heads_of
 heads_top l zero h = absurd (omega arith)
 heads_top l (suc n) h = let z : suc n - 1 ≡ n = omega arith in rw z
 
-pub heads_pushed : (l : List ℕ) (n b c : ℕ) → 1 ≤ n → n < length l → heads_of (set (set l (n - 1) c) n b) (n + 1) ≡ symbol_of b ∷ symbol_of c ∷ heads_of l (n - 1)
+pub heads_pushed : (l : List ℕ) (n b c : ℕ) → 1 ≤ n → n < length l → heads_of (set (set l (n - 1) c) n b) (n + 1) ≡ symbol_of b ∷ symbol_of c
+    ∷ heads_of l (n - 1)
 unfolding heads_of
 heads_pushed l zero b c h k = absurd (omega arith)
 heads_pushed l (suc n) b c h k =

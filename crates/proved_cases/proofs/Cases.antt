@@ -1,7 +1,8 @@
 -- All rows of the table hold: the definitions compute, and what they come to means what the services' theorems say.
 use mathlib.Core.Path.{refl}
 use Rattle.packing.specs.Meaning.{slot_edges, edges_from}
-use Rattle.packing.specs.Grammar.{rule_from, marked_rule_from, grammar_from, block_by, marked_block, grammar_block, marked_rules_entries, marked_entries, block_of_marked}
+use Rattle.packing.specs.Grammar.{rule_from, marked_rule_from, grammar_from, block_by}
+use Rattle.packing.specs.Grammar.{marked_block, grammar_block, marked_rules_entries, marked_entries, block_of_marked}
 use Rattle.packing.specs.Utterance.{
   candidates_from,
   slot_from,
@@ -71,9 +72,11 @@ use Rattle.proved_cases.proofs.OneByOne.{opened}
 
 -- document 01's, and N7's and N9's, of strings
 documents : AllHold P-cases
-unfolding slot_edges edges_from num bits_of pack ended width_of width_from bits_of_all in_range field_at rule_from marked_rule_from any_like unlike_from grammar_from
+unfolding slot_edges edges_from num bits_of pack ended width_of width_from bits_of_all in_range field_at rule_from marked_rule_from any_like unlike_from
+    grammar_from
     block_by marked_block grammar_block marked_rules_entries marked_entries block_of_marked candidates_from slot_from slots_from utterance_from utterance_block
-    heard_block candidates_entries slots_entries utterance_entries block_of_utterance walk_from reading_from walk_entries reading_entries block_of_reading weight
+    heard_block candidates_entries slots_entries utterance_entries block_of_utterance walk_from reading_from walk_entries reading_entries block_of_reading
+    weight
     cost_sum walk reading trees ranked table_size reading_length conditions listed list joined fields_from first_with derivation_of check first_phrase
     specimen word_order next_phrase next bytes_only
 documents =
@@ -109,9 +112,11 @@ documents =
 
 -- of word graphs
 graphs : AllHold N1-cases
-unfolding slot_edges edges_from num bits_of pack ended width_of width_from bits_of_all in_range field_at rule_from marked_rule_from any_like unlike_from grammar_from
+unfolding slot_edges edges_from num bits_of pack ended width_of width_from bits_of_all in_range field_at rule_from marked_rule_from any_like unlike_from
+    grammar_from
     block_by marked_block grammar_block marked_rules_entries marked_entries block_of_marked candidates_from slot_from slots_from utterance_from utterance_block
-    heard_block candidates_entries slots_entries utterance_entries block_of_utterance walk_from reading_from walk_entries reading_entries block_of_reading weight
+    heard_block candidates_entries slots_entries utterance_entries block_of_utterance walk_from reading_from walk_entries reading_entries block_of_reading
+    weight
     cost_sum walk reading trees ranked table_size reading_length conditions listed list joined fields_from first_with derivation_of check edge_from graph_from
     graph_block edges_entries graph_entries block_of_graph trace_entries graph_reading_entries block_of_graph_reading graph_reading_length padded graph_reading
     path_length trace graph_head_from has_bits bytes_only
@@ -139,9 +144,11 @@ offices =
 
 -- of ties
 ties : AllHold N6-cases
-unfolding slot_edges edges_from num bits_of pack ended width_of width_from bits_of_all in_range field_at rule_from marked_rule_from any_like unlike_from grammar_from
+unfolding slot_edges edges_from num bits_of pack ended width_of width_from bits_of_all in_range field_at rule_from marked_rule_from any_like unlike_from
+    grammar_from
     block_by marked_block grammar_block marked_rules_entries marked_entries block_of_marked candidates_from slot_from slots_from utterance_from utterance_block
-    heard_block candidates_entries slots_entries utterance_entries block_of_utterance walk_from reading_from walk_entries reading_entries block_of_reading weight
+    heard_block candidates_entries slots_entries utterance_entries block_of_utterance walk_from reading_from walk_entries reading_entries block_of_reading
+    weight
     cost_sum walk reading trees ranked table_size reading_length conditions listed list joined fields_from first_with derivation_of check first_phrase
     specimen
 ties =
@@ -151,9 +158,11 @@ ties =
 
 -- of the panel
 panels : AllHold N8-cases
-unfolding slot_edges edges_from num bits_of pack ended width_of width_from bits_of_all in_range field_at rule_from marked_rule_from any_like unlike_from grammar_from
+unfolding slot_edges edges_from num bits_of pack ended width_of width_from bits_of_all in_range field_at rule_from marked_rule_from any_like unlike_from
+    grammar_from
     block_by marked_block grammar_block marked_rules_entries marked_entries block_of_marked candidates_from slot_from slots_from utterance_from utterance_block
-    heard_block candidates_entries slots_entries utterance_entries block_of_utterance walk_from reading_from walk_entries reading_entries block_of_reading weight
+    heard_block candidates_entries slots_entries utterance_entries block_of_utterance walk_from reading_from walk_entries reading_entries block_of_reading
+    weight
     cost_sum walk reading trees ranked table_size reading_length conditions listed list joined
 panels =
     panel_row refl
@@ -170,7 +179,8 @@ panels =
 
 -- of costs within ranges
 costs : AllHold N11-cases
-unfolding slot_edges edges_from num bits_of pack ended width_of width_from bits_of_all in_range field_at rule_from marked_rule_from any_like unlike_from grammar_from
+unfolding slot_edges edges_from num bits_of pack ended width_of width_from bits_of_all in_range field_at rule_from marked_rule_from any_like unlike_from
+    grammar_from
     block_by marked_block grammar_block marked_rules_entries marked_entries block_of_marked candidates_from slot_from slots_from utterance_from utterance_block
     candidates_entries slots_entries utterance_entries block_of_utterance weight cost_sum trees ranked table_size slot_rises rises edges_of raised answer_of
     answer ranges_conditions ranged ranges
@@ -186,7 +196,8 @@ costs =
 
 -- of words to listen to again
 listened : AllHold N12-cases
-unfolding slot_edges edges_from num bits_of pack ended width_of width_from bits_of_all in_range field_at rule_from marked_rule_from any_like unlike_from grammar_from
+unfolding slot_edges edges_from num bits_of pack ended width_of width_from bits_of_all in_range field_at rule_from marked_rule_from any_like unlike_from
+    grammar_from
     block_by marked_block grammar_block marked_rules_entries marked_entries block_of_marked candidates_from slot_from slots_from utterance_from utterance_block
     candidates_entries slots_entries utterance_entries block_of_utterance table_size margins_of margins_conditions WordMargins.listed WordMargins.margins
 listened =

@@ -2,7 +2,7 @@
 use mathlib.Core.Path.{◌≡◌, refl, sym, ap, subst, ◌∙◌}
 use mathlib.Core.Bool.{true}
 use mathlib.Core.List.{List, [], ◌∷◌, ◌++◌}
-use Prim.Native.Nat.{ℕ, zero, suc, ◌+◌, ◌*◌, ◌/◌}
+use Prim.Native.Nat.{ℕ, suc, ◌+◌, ◌*◌, ◌/◌}
 use lib.ListN.{length, drop}
 use Rattle.packing.specs.Loop.{iter}
 use Rattle.packing.specs.Store.{store_all}
@@ -157,11 +157,15 @@ left_none = refl
 made : Makes G (slots (U 4)) 0 after_none after_first × Makes G (slots (U 4)) 1 after_first after_second
     × Makes G (slots (U 4)) 2 after_second after_third × Makes G (slots (U 4)) 3 after_third after_fourth
     × Makes G (slots (U 4)) 4 after_fourth after_fifth
-unfolding iter store_all edge_numbers slot_edges edges_from rules_entries table_size join_price lesser part_price cell_number entry_of price_at back_at beside_at
-    put_beside put_found last_rank put_last_rank put_key code_of shifted tag_of tagged_back queued_key queue_length keep_initial put_queued move_queued put_queue_length
+unfolding iter store_all edge_numbers slot_edges edges_from rules_entries table_size join_price lesser part_price cell_number entry_of price_at back_at
+    beside_at
+    put_beside put_found last_rank put_last_rank put_key code_of shifted tag_of tagged_back queued_key queue_length keep_initial put_queued move_queued
+    put_queue_length
     lesser_place least_place replace push extract_min rule_class edge_class members_of count_below group index_rules index_edges make_index pair_key word_leaf
-    edge_leaves leaves split_seeds rule_seeds seeds found_at pair_successors successors pair_sibling sibling least_initial replacement first_rank next_rank extend
-    extend_parts advance_pairing back_before next_of_span first_of_heads first_of_length first_pass next_of_root further_from search lay_out enumerate zeros first_table
+    edge_leaves leaves split_seeds rule_seeds seeds found_at pair_successors successors pair_sibling sibling least_initial replacement first_rank next_rank
+    extend
+    extend_parts advance_pairing back_before next_of_span first_of_heads first_of_length first_pass next_of_root further_from search lay_out enumerate zeros
+    first_table
     next_table seeks table_by
 made = (refl, refl, refl, refl, refl)
 
@@ -182,35 +186,49 @@ left_fifth = left_by G (slots (U 4)) 4 left_fourth made.4
 
 -- the list of these readings
 listed : ByRank G (slots (U 4)) 8 (walked G (first_reading ∷ second_reading ∷ third_reading ∷ fourth_reading ∷ fifth_reading ∷ []))
-unfolding num bits_of pack width_of width_from bits_of_all walk_entries reading_entries block_of_reading slot_edges edges_from weight cost_sum walk reading trees ranked
+unfolding num bits_of pack width_of width_from bits_of_all walk_entries reading_entries block_of_reading slot_edges edges_from weight cost_sum walk reading
+    trees ranked
 listed = by_rank G (slots (U 4)) 8 _ refl
 
 -- each call answers by the table that its search makes, and the last finds none
 asks : Asks G (slots (U 4)) 0 after_none × Asks G (slots (U 4)) 1 after_first × Asks G (slots (U 4)) 2 after_second
     × Asks G (slots (U 4)) 3 after_third × Asks G (slots (U 4)) 4 after_fourth
-unfolding slot_edges edges_from lay_out reading_length meant_by call_by sought_by num bits_of pack ended width_of width_from bits_of_all in_range field_at rule_from
-    marked_rule_from any_like unlike_from grammar_from block_by marked_block grammar_block marked_rules_entries marked_entries block_of_marked candidates_from slot_from
+unfolding slot_edges edges_from lay_out reading_length meant_by call_by sought_by num bits_of pack ended width_of width_from bits_of_all in_range field_at
+    rule_from
+    marked_rule_from any_like unlike_from grammar_from block_by marked_block grammar_block marked_rules_entries marked_entries block_of_marked
+    candidates_from slot_from
     slots_from utterance_from utterance_block heard_block candidates_entries slots_entries utterance_entries block_of_utterance
 asks = (refl, refl, refl, refl, refl)
 
 none_left : called G (slots (U 4)) 5 after_fifth ≡ left NoMore after_fifth output_lent
-unfolding iter store_all edge_numbers slot_edges edges_from rules_entries table_size join_price lesser part_price cell_number entry_of price_at back_at beside_at
-    put_beside put_found last_rank put_last_rank put_key code_of shifted tag_of tagged_back queued_key queue_length keep_initial put_queued move_queued put_queue_length
+unfolding iter store_all edge_numbers slot_edges edges_from rules_entries table_size join_price lesser part_price cell_number entry_of price_at back_at
+    beside_at
+    put_beside put_found last_rank put_last_rank put_key code_of shifted tag_of tagged_back queued_key queue_length keep_initial put_queued move_queued
+    put_queue_length
     lesser_place least_place replace push extract_min rule_class edge_class members_of count_below group index_rules index_edges make_index pair_key word_leaf
-    edge_leaves leaves split_seeds rule_seeds seeds found_at pair_successors successors pair_sibling sibling least_initial replacement first_rank next_rank extend
-    extend_parts advance_pairing back_before next_of_span first_of_heads first_of_length first_pass next_of_root further_from search lay_out enumerate zeros first_table
-    next_table seeks table_by num bits_of pack ended width_of width_from bits_of_all in_range field_at rule_from marked_rule_from any_like unlike_from grammar_from block_by
-    marked_block grammar_block marked_rules_entries marked_entries block_of_marked candidates_from slot_from slots_from utterance_from utterance_block heard_block
-    candidates_entries slots_entries utterance_entries block_of_utterance walk_entries reading_entries block_of_reading reading_length walk_in meant_by settled sought_by
+    edge_leaves leaves split_seeds rule_seeds seeds found_at pair_successors successors pair_sibling sibling least_initial replacement first_rank next_rank
+    extend
+    extend_parts advance_pairing back_before next_of_span first_of_heads first_of_length first_pass next_of_root further_from search lay_out enumerate zeros
+    first_table
+    next_table seeks table_by num bits_of pack ended width_of width_from bits_of_all in_range field_at rule_from marked_rule_from any_like unlike_from
+    grammar_from block_by
+    marked_block grammar_block marked_rules_entries marked_entries block_of_marked candidates_from slot_from slots_from utterance_from utterance_block
+    heard_block
+    candidates_entries slots_entries utterance_entries block_of_utterance walk_entries reading_entries block_of_reading reading_length walk_in meant_by
+    settled sought_by
     call_by root_found root_spelled root_weight root_trace edge_fits any_leaf checked_node spelled_weight trace_back block_at
 none_left = refl
 
 -- of G and U
 pub opened : AllHold N2-cases
-unfolding iter store_all edge_numbers slot_edges edges_from rules_entries table_size cell_number entry_of price_at back_at lay_out zeros seeks num bits_of pack ended
-    width_of width_from bits_of_all in_range field_at rule_from marked_rule_from any_like unlike_from grammar_from block_by marked_block grammar_block marked_rules_entries
-    marked_entries block_of_marked candidates_from slot_from slots_from utterance_from utterance_block heard_block candidates_entries slots_entries utterance_entries
-    block_of_utterance walk_entries reading_entries block_of_reading reading_length walk_in settled root_found root_spelled root_weight root_trace edge_fits any_leaf
+unfolding iter store_all edge_numbers slot_edges edges_from rules_entries table_size cell_number entry_of price_at back_at lay_out zeros seeks num bits_of
+    pack ended
+    width_of width_from bits_of_all in_range field_at rule_from marked_rule_from any_like unlike_from grammar_from block_by marked_block grammar_block
+    marked_rules_entries
+    marked_entries block_of_marked candidates_from slot_from slots_from utterance_from utterance_block heard_block candidates_entries slots_entries
+    utterance_entries
+    block_of_utterance walk_entries reading_entries block_of_reading reading_length walk_in settled root_found root_spelled root_weight root_trace edge_fits
+    any_leaf
     checked_node spelled_weight trace_back block_at weight cost_sum walk reading trees ranked opening in_turn
 opened =
     opens_row refl

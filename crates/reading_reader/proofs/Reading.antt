@@ -48,7 +48,8 @@ pub head_place : (n : ℕ) (s : List ℕ) {w at : ℕ} → head_from n s ≡ par
 unfolding head_from
 head_place n s e =
     let src = bytes 31 s in
-    let (kind, at1, p, e1) = both_parsed (field_at src 0 (block_kind 3 32)) (λ kind at. field_at src at (reading_slots n) ⟫ λ m at. field_at src at reading_weight)
+    let (kind, at1, p, e1) = both_parsed (field_at src 0 (block_kind 3 32))
+    (λ kind at. field_at src at (reading_slots n) ⟫ λ m at. field_at src at reading_weight)
     e in
     let (m, at2, q, e2) = both_parsed (field_at src at1 (reading_slots n)) (λ m at. field_at src at reading_weight) e1 in
     omega (

@@ -39,7 +39,7 @@ module _ (W : ℕ) where
       let es = candidates_entries W 0 cs in
       let (k, n, b) = counted u in (
         length cs + k,
-        simp (map-append, length-append, length-map, length_candidates) (omega (arith, rw length-map at n)),
+        simp (length-append, length-map, length_candidates) (omega (arith, rw length-map at n)),
         rw (map-append fld_of es (slots_entries W u), widths_append, candidates_bits cs 0, add-mul) (omega arith),
       )
 

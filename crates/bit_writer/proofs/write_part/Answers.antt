@@ -6,9 +6,6 @@ use lib.ListN.{get_or, set}
 use Rattle.bit_writer.proofs.Part.{put_part, joined_fits, joined_shl, part_lt}
 use Rattle.bit_writer.proofs.write_part.Goals as goal
 
-pub overflow_cast-kept : goal.overflow_cast-kept
-overflow_cast-kept c = omega arith
-
 pub overflow_add-y : goal.overflow_add-y
 overflow_add-y c =
     let a = c.args in

@@ -11,16 +11,13 @@ loop-done-init c = (omega arith, refl, refl)
 
 pub loop-done-preserved : goal.loop-done-preserved
 loop-done-preserved c =
-    let b = c in
-    let n = b in
-    let l = n.loop-done in
-    let a = n.args in (
+    let l = c.loop-done in
+    let a = c.args in (
       omega arith,
       omega arith,
-      put_more a.out.now a.at a.width a.value l.done n.least-part.result (omega arith) l.invariant.2 b.write_part.ensures,
+      put_more a.out.now a.at a.width a.value l.done c.least-part.result (omega arith) l.invariant.2 c.write_part.ensures,
     )
 
 pub returns : goal.returns
 returns c =
-    let at-args = c in
-    let a = at-args.args in put_all a.out.now a.at a.width a.value c.loop-done.done (omega arith) c.loop-done.invariant.2
+    let a = c.args in put_all a.out.now a.at a.width a.value c.loop-done.done (omega arith) c.loop-done.invariant.2

@@ -1,10 +1,6 @@
 -- After i turns the shares up to i are shares, so whether all are is told by the rest.
-use mathlib.Core.Path.{◌≡◌, refl, sym, ◌∙◌}
-use Prim.Native.Nat.{◌-◌, ◌≤◌}
+use mathlib.Core.Path.{refl, sym, ◌∙◌}
 use native.Mathlib.Omega.{arith}
-use borrow.Author.Rules.{rules}
-use lib.ListN.{length, drop}
-use Rattle.chance.specs.Chance.{are_shares}
 use Rattle.chance.proofs.Shares.{none_left, too_small, too_great, is_share_lem}
 use Rattle.chance.proofs.are_shares.Goals as goal
 

@@ -1,11 +1,8 @@
 -- After i turns the shares up to i are shares, so whether all are is told by the rest.
-use mathlib.Core.Path.{◌≡◌, refl, sym, ◌∙◌}
+use mathlib.Core.Path.{◌≡◌}
 use Prim.Native.Nat.{◌-◌, ◌≤◌}
-use native.Mathlib.Omega.{arith}
-use borrow.Author.Rules.{rules}
 use lib.ListN.{length, drop}
 use Rattle.chance.specs.Chance.{are_shares}
-use Rattle.chance.proofs.Shares.{none_left, too_small, too_great, is_share_lem}
 use Rattle.chance.proofs.are_shares.Given as goal
 
 abbrev pub invariant-loop-i : goal.invariant-loop-i

@@ -2,13 +2,13 @@
 -- the closing claim holds.
 use mathlib.Core.Path.{ap, ◌∙◌}
 use native.Mathlib.Omega.{arith}
-use borrow.Author.Rules.{rules}
 use Rattle.packing.specs.Grammar.{grammar_block}
 use Rattle.packing.specs.Flat.{rules_of}
 use Rattle.packing.proofs.Flat.{rules_of_lem}
 use Rattle.grammar_reader.proofs.BlockInversion.{accepted_told, refused_told}
 use Rattle.checker.specs.Run.{under_rules}
 use Rattle.chance.specs.Answer.{chance_of}
+use Rattle.chance.specs.declared.Outcome.TheVariants.{Refused}
 use Rattle.chance.proofs.Shares.{held}
 use Rattle.chance.proofs.Shown.{promised, by_walk, grammar_refused}
 use Rattle.chance.proofs.chance.Goals as goal
@@ -27,33 +27,27 @@ shared-requires c =
     let at-args = at-read-block in
     let a = at-args.args in
     let size = at-sizes.in-Grammar.sizes in
-    held (under_rules size.words (rules_of at-read-block.read_block.new.1.0 size.rules) a.heard.now a.reading.now)
+    held (under_rules size.words (rules_of at-read-block.read_block.new.rules size.rules) a.heard.now a.reading.now)
     c.check_heard-found.result
-    c.check_heard-found.new.1.1.1.1.1.0 c.check_heard-found.ensures
+    c.check_heard-found.new.walk c.check_heard-found.ensures
 
 pub returns-in-Refused : goal.returns-in-Refused
 returns-in-Refused c =
-    let at-read-block = c in
-    let at-shared-slice-known3 = at-read-block in
-    let at-args = at-shared-slice-known3 in
-    let a = at-args.args in
-    promised a.grammar.now a.heard.now a.reading.now a.shares.now (λ i. (at-shared-slice-known3.shared_slice_known-3-1.given i).fits)
+    let a = c.args in
+    let (value, shown) = promised a.grammar.now a.heard.now a.reading.now a.shares.now (λ i. (c.type_inv.reading i).fits) {r = Refused c.in-Refused.m}
     (grammar_refused a.grammar.now a.heard.now a.reading.now a.shares.now
-    (refused_told (grammar_block a.grammar.now) at-read-block.read_block.ensures.0 c.in-Refused.is))
+    (refused_told (grammar_block a.grammar.now) c.read_block.ensures.0 c.in-Refused.is)) in
+    record { value = value; shown = shown }
 
 pub returns-in-Grammar : goal.returns-in-Grammar
 returns-in-Grammar c =
-    let at-check-heard = c in
-    let at-sizes = at-check-heard in
-    let at-read-block = at-sizes in
-    let at-shared-slice-known3 = at-read-block in
-    let at-args = at-shared-slice-known3 in
-    let a = at-args.args in
-    let read = at-read-block.read_block in
-    let (g, p, z) = accepted_told (grammar_block a.grammar.now) read.ensures.0 at-sizes.in-Grammar.is in
-    let rules = rules_of_lem g read.new.1.0 (rw p at read.ensures.1) in
-    let size = at-sizes.in-Grammar.sizes in
-    promised a.grammar.now a.heard.now a.reading.now a.shares.now (λ i. (at-shared-slice-known3.shared_slice_known-3-1.given i).fits)
-    (c.shared.ensures (under_rules size.words (rules_of read.new.1.0 size.rules) a.heard.now a.reading.now)
-    at-check-heard.check_heard-found.ensures
-    ∙ rw (z, rules) (ap chance_of (by_walk a.grammar.now a.heard.now a.reading.now a.shares.now p)))
+    let a = c.args in
+    let read = c.read_block in
+    let (g, p, z) = accepted_told (grammar_block a.grammar.now) read.ensures.0 c.in-Grammar.is in
+    let rules = rules_of_lem g read.new.rules (rw p at read.ensures.1) in
+    let size = c.in-Grammar.sizes in
+    let (value, shown) = promised a.grammar.now a.heard.now a.reading.now a.shares.now (λ i. (c.type_inv.reading i).fits) {r = c.shared.result}
+    (c.shared.ensures (under_rules size.words (rules_of read.new.rules size.rules) a.heard.now a.reading.now)
+    c.check_heard-found.ensures
+    ∙ rw (z, rules) (ap chance_of (by_walk a.grammar.now a.heard.now a.reading.now a.shares.now p))) in
+    record { value = value; shown = shown }

@@ -1,6 +1,5 @@
 -- The share and 1,024 are floats exactly, so their quotient is the factor.
 use native.Mathlib.Omega.{arith}
-use borrow.Author.Rules.{rules}
 use mathlib.Core.Bool.{false}
 use lib.IntN.{pos}
 use lib.Ieee.{binary64, of_int, of_bits}

@@ -1,12 +1,11 @@
 -- What the factors that are left make of the product so far is the whole product.
 use mathlib.Core.Path.{◌≡◌, sym, ap, ◌∙◌}
-use Prim.Native.Nat.{◌-◌, ◌≤◌}
+use Prim.Native.Nat.{◌-◌}
 use native.Mathlib.Omega.{arith}
-use borrow.Author.Rules.{rules}
 use lib.Ieee.{of_bits}
-use lib.ListN.{get_or, take}
-use Rattle.chance.specs.Chance.{shares_of, one, factor_of, product_of}
-use Rattle.chance.proofs.Shares.{at_most, onward, all_done, one_node}
+use lib.ListN.{get_or}
+use Rattle.chance.specs.Chance.{factor_of}
+use Rattle.chance.proofs.Shares.{at_most, all_done, one_node}
 use Rattle.chance.proofs.product.Goals as goal
 
 pub loop-left-init : goal.loop-left-init

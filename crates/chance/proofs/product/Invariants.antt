@@ -1,12 +1,9 @@
 -- What the factors that are left make of the product so far is the whole product.
-use mathlib.Core.Path.{◌≡◌, sym, ap, ◌∙◌}
-use Prim.Native.Nat.{◌-◌, ◌≤◌}
-use native.Mathlib.Omega.{arith}
-use borrow.Author.Rules.{rules}
-use lib.Ieee.{of_bits}
-use lib.ListN.{get_or, take}
-use Rattle.chance.specs.Chance.{shares_of, one, factor_of, product_of}
-use Rattle.chance.proofs.Shares.{at_most, onward, all_done, one_node}
+use mathlib.Core.Path.{◌≡◌}
+use Prim.Native.Nat.{◌≤◌}
+use lib.ListN.{take}
+use Rattle.chance.specs.Chance.{shares_of, one, product_of}
+use Rattle.chance.proofs.Shares.{onward}
 use Rattle.chance.proofs.product.Given as goal
 
 abbrev pub invariant-loop-left : goal.invariant-loop-left

@@ -1,6 +1,5 @@
 -- Each way out is the one that the tests on the shares choose.
 use mathlib.Core.Path.{sym, ◌∙◌}
-use borrow.Author.Rules.{rules}
 use lib.ListN.{take}
 use Rattle.chance.proofs.Shares.{shared_refused, shared_nodes, other_count, no_shares, all_shares}
 use Rattle.chance.proofs.shared.Goals as goal

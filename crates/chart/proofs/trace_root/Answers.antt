@@ -9,7 +9,4 @@ trace_back-requires c = rw c.root.ensures (search rules)
 
 pub returns : goal.returns
 unfolding root_trace
-returns c =
-    let c₂ = c in
-    let c₄ = c₂ in
-    rw (← c₄.root.ensures) (c₂.trace_back.ensures _ (rw c₄.root.ensures (omega arith)))
+returns c = rw (← c.root.ensures) (c.trace_back.ensures _ (rw c.root.ensures (omega arith)))

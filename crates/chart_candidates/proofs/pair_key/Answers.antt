@@ -1,6 +1,5 @@
 -- Each call has the meaning of its part of the definition.
 use Rattle.chart_candidates.specs.Candidates.{pair_key}
-use borrow.Author.Rules.{rules}
 use Rattle.chart_candidates.proofs.pair_key.Goals as goal
 
 pub returns : goal.returns

@@ -1,10 +1,8 @@
 -- The loop is the iteration over the ranks up to the last found; of a cell that is clear nothing is left to clear.
-use mathlib.Core.Path.{◌≡◌, refl, ◌∙◌}
-use Prim.Native.Nat.{◌-◌, ◌≤◌}
-use lib.ListN.{length}
+use mathlib.Core.Path.{refl, ◌∙◌}
 use Rattle.packing.specs.Loop.{iter}
 use Rattle.packing.proofs.Loop.{iter_more, iter_end}
-use Rattle.chart_table.specs.Table.{clear_entry, clear_cell}
+use Rattle.chart_table.specs.Table.{clear_cell}
 use Rattle.chart_clearing.proofs.Cleared.{cell_clear}
 use borrow.Author.Rules.{rules}
 use Rattle.chart_clearing.proofs.clear_cell.Goals as goal

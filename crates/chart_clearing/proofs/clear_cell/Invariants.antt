@@ -1,12 +1,9 @@
 -- The loop is the iteration over the ranks up to the last found; of a cell that is clear nothing is left to clear.
-use mathlib.Core.Path.{◌≡◌, refl, ◌∙◌}
+use mathlib.Core.Path.{◌≡◌}
 use Prim.Native.Nat.{◌-◌, ◌≤◌}
 use lib.ListN.{length}
 use Rattle.packing.specs.Loop.{iter}
-use Rattle.packing.proofs.Loop.{iter_more, iter_end}
-use Rattle.chart_table.specs.Table.{clear_entry, clear_cell}
-use Rattle.chart_clearing.proofs.Cleared.{cell_clear}
-use borrow.Author.Rules.{rules}
+use Rattle.chart_table.specs.Table.{clear_entry}
 use Rattle.chart_clearing.proofs.clear_cell.Given as goal
 
 abbrev pub invariant-loop-x : goal.invariant-loop-x

@@ -1,7 +1,6 @@
 -- Four stores, none past the end.
 use native.Mathlib.Omega.{arith}
 use lib.ListN.{length-set}
-use borrow.Author.Rules.{rules}
 use Rattle.chart_clearing.proofs.clear_within.Goals as goal
 
 pub bounds-t-at-2 : goal.bounds-t-at-2

@@ -2,7 +2,6 @@
 use mathlib.Core.Bool.{false≢true}
 use borrow.Author.Tests.{eqb-true}
 use Rattle.chart_clearing.proofs.Cleared.{sum_clear}
-use borrow.Author.Rules.{rules}
 use Rattle.chart_clearing.proofs.is_clear.Goals as goal
 
 pub returns-then-at-t : goal.returns-then-at-t

@@ -1,4 +1,3 @@
-use borrow.Author.Rules.{rules}
 use Rattle.chart_heads.proofs.edge_heads.Goals as goal
 
 -- An edge that goes elsewhere says nothing; else the mask of its word is the answer.

@@ -1,9 +1,6 @@
 -- The mask has the heads of every edge so far.
 use Prim.Native.Nat.{◌-◌, ◌≤◌}
-use native.Mathlib.Omega.{arith}
-use borrow.Author.Rules.{rules}
 use Rattle.chart_heads.specs.Heads.{HeadsBefore}
-use Rattle.chart_heads.proofs.Members.{heads_next}
 use Rattle.chart_heads.proofs.heads_over.Given as goal
 
 abbrev pub invariant-loop-y : goal.invariant-loop-y

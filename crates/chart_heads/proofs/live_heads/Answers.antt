@@ -1,6 +1,5 @@
 -- By the digits of the parts.
 use Rattle.chart_heads.proofs.Members.{live_parts}
-use borrow.Author.Rules.{rules}
 use Rattle.chart_heads.proofs.live_heads.Goals as goal
 
 pub returns : goal.returns

@@ -1,10 +1,5 @@
 -- Each number so far has the head in its mask, and nothing is taken from a mask.
-use mathlib.Core.Path.{◌≡◌}
-use Prim.Native.Nat.{◌-◌, ◌≤◌}
 use native.Mathlib.Omega.{arith}
-use lib.ListN.{length}
-use Rattle.chart_classes.specs.Classes.{class_start}
-use Rattle.chart_heads.specs.Heads.{MembersMore}
 use Rattle.chart_heads.proofs.Members.{more_none, more_next}
 use borrow.Author.Rules.{rules}
 use Rattle.chart_heads.proofs.mark_head.Goals as goal
@@ -17,7 +12,7 @@ loop-y-preserved c = (
   search rules,
   search rules,
   search rules,
-  more_next c.capped.result c.number_at-x.result c.only-own.result c.requires.0.3 c.loop-y.invariant.3
+  more_next c.capped.result c.number_at-x.result c.only-own.result c.requires.head_le_last_place.3 c.loop-y.invariant.3
       (rw (← c.number_at.ensures.0) c.number_at-x.ensures.0) c.capped.ensures.0 c.only-own.ensures
       c.put.ensures,
 )

@@ -1,12 +1,9 @@
 -- Each number so far has the head in its mask, and nothing is taken from a mask.
 use mathlib.Core.Path.{◌≡◌}
 use Prim.Native.Nat.{◌-◌, ◌≤◌}
-use native.Mathlib.Omega.{arith}
 use lib.ListN.{length}
 use Rattle.chart_classes.specs.Classes.{class_start}
 use Rattle.chart_heads.specs.Heads.{MembersMore}
-use Rattle.chart_heads.proofs.Members.{more_none, more_next}
-use borrow.Author.Rules.{rules}
 use Rattle.chart_heads.proofs.mark_head.Given as goal
 
 abbrev pub invariant-loop-y : goal.invariant-loop-y

@@ -3,8 +3,6 @@ use mathlib.Core.Path.{◌≡◌}
 use Prim.Native.Nat.{◌-◌, ◌≤◌}
 use lib.ListN.{length}
 use Rattle.chart_heads.specs.Heads.{Grown, Members}
-use Rattle.chart_heads.proofs.Members.{grown_none, grown_more, members_none, members_next, members_end}
-use borrow.Author.Rules.{rules}
 use Rattle.chart_heads.proofs.mark_heads.Given as goal
 
 abbrev pub invariant-loop-head : goal.invariant-loop-head

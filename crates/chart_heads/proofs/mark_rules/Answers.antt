@@ -1,6 +1,5 @@
 -- Three columns, one after another.
 use Rattle.chart_heads.proofs.Members.{ruled_zeros}
-use borrow.Author.Rules.{rules}
 use Rattle.chart_heads.proofs.mark_rules.Goals as goal
 
 pub returns : goal.returns

@@ -3,7 +3,6 @@ use mathlib.Core.Path.{refl}
 use native.Mathlib.Omega.{arith}
 use Rattle.chart_layout.specs.Layout.{lay_out}
 use Rattle.chart_layout.proofs.Sizes.{spans_small, cells_small}
-use borrow.Author.Rules.{rules}
 use Rattle.chart_layout.proofs.lay_out.Goals as goal
 
 pub overflow_mul-result : goal.overflow_mul-result

@@ -2,7 +2,6 @@
 use mathlib.Core.Path.{refl}
 use native.Mathlib.Omega.{arith}
 use Rattle.chart_layout.proofs.Sizes.{numbers_small}
-use borrow.Author.Rules.{rules}
 use Rattle.chart_layout.proofs.table_numbers.Goals as goal
 
 pub overflow_mul-result-2 : goal.overflow_mul-result-2

@@ -1,16 +1,11 @@
 -- The loop is the iteration over the members of the head's class.
 use Prim.Native.Nat.{◌≤◌, ◌-◌}
-use mathlib.Core.Path.{◌≡◌, sym, ◌∙◌}
-use native.Mathlib.Omega.{arith}
+use mathlib.Core.Path.{◌≡◌}
 use lib.ListN.{get_or}
-use borrow.Author.Rules.{rules}
 use Rattle.packing.specs.Loop.{over}
-use Rattle.packing.proofs.Loop.{iter_end}
-use Rattle.chart_candidates.proofs.Loops.{from_none, from_more, from_turn}
-use borrow.Author.Tests.{eq-eqb, ne_eqb}
 use Rattle.packing.specs.Flat.{rule_at}
 use Rattle.chart_keys.specs.Keys.{key_number}
-use Rattle.chart_candidates.specs.Candidates.{word_leaf, edge_leaves}
+use Rattle.chart_candidates.specs.Candidates.{word_leaf}
 use Rattle.chart_leaves.proofs.edge_leaves.Given as goal
 
 abbrev pub invariant-loop-y : goal.invariant-loop-y

@@ -2,7 +2,6 @@
 use mathlib.Core.Path.{sym}
 use Rattle.chart_keys.specs.Keys.{key_number}
 use Rattle.chart_candidates.proofs.PassedOver.{filter_passed}
-use borrow.Author.Rules.{rules}
 use Rattle.chart_leaves.proofs.filtered_leaves.Goals as goal
 
 pub returns-then-filter-word_bit-eq0 : goal.returns-then-filter-word_bit-eq0

@@ -3,13 +3,12 @@ use mathlib.Core.Path.{sym, ◌∙◌}
 use native.Mathlib.Nat.{le_refl}
 use Rattle.chart_keys.specs.Keys.{no_key}
 use Rattle.chart_candidates.proofs.PassedOver.{leaves_below, no_leaves}
-use borrow.Author.Rules.{rules}
 use Rattle.chart_leaves.proofs.first_leaf.Goals as goal
 
 pub returns-then-lacks : goal.returns-then-lacks
 returns-then-lacks c = (
   c.no_key.ensures ∙ sym (no_leaves _ _ _ _ 0 no_key
-      (c.requires.0.2 (rw c.wide.ensures.0 at (c.lacks.ensures c.if-lacks.true)))),
+      (c.requires.from_le_last_place.2 (rw c.wide.ensures.0 at (c.lacks.ensures c.if-lacks.true)))),
   rw c.no_key.ensures (le_refl no_key),
 )
 

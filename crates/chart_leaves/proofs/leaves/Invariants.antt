@@ -1,14 +1,10 @@
 -- The loop is the iteration over the edges that leave the cell's first place, with no turn where there is none.
 use Prim.Native.Nat.{◌≤◌, ◌-◌}
-use mathlib.Core.Path.{◌≡◌, sym, ◌∙◌}
-use native.Mathlib.Omega.{arith}
+use mathlib.Core.Path.{◌≡◌}
 use lib.ListN.{get_or}
-use borrow.Author.Rules.{rules}
 use Rattle.packing.specs.Loop.{over}
-use Rattle.packing.proofs.Loop.{iter_end}
-use Rattle.chart_candidates.proofs.Loops.{from_none, from_more, from_turn}
 use Rattle.chart_keys.specs.Keys.{key_number}
-use Rattle.chart_candidates.specs.Candidates.{edge_leaves, leaves}
+use Rattle.chart_candidates.specs.Candidates.{edge_leaves}
 use Rattle.chart_leaves.proofs.leaves.Given as goal
 
 abbrev pub invariant-loop-y : goal.invariant-loop-y

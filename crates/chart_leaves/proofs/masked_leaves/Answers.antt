@@ -2,7 +2,6 @@
 use mathlib.Core.Path.{sym}
 use Rattle.chart_keys.specs.Keys.{key_number}
 use Rattle.chart_candidates.proofs.PassedOver.{word_passed}
-use borrow.Author.Rules.{rules}
 use Rattle.chart_leaves.proofs.masked_leaves.Goals as goal
 
 pub returns-then-lacks : goal.returns-then-lacks

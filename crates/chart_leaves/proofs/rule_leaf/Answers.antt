@@ -1,7 +1,6 @@
 -- By the rule's variant and the test of its word.
 use borrow.Author.Tests.{eq-eqb, ne_eqb}
 use Rattle.chart_candidates.specs.Candidates.{word_leaf}
-use borrow.Author.Rules.{rules}
 use Rattle.chart_leaves.proofs.rule_leaf.Goals as goal
 
 pub returns-in-Pair : goal.returns-in-Pair

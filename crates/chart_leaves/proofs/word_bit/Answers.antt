@@ -2,7 +2,6 @@
 use native.Mathlib.Omega.{arith}
 use Rattle.masks.proofs.Digits.{shifted}
 use Rattle.chart_candidates.specs.PassedOver.{filter_place}
-use borrow.Author.Rules.{rules}
 use Rattle.chart_leaves.proofs.word_bit.Goals as goal
 
 pub returns : goal.returns

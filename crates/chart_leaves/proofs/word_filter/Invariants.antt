@@ -1,9 +1,6 @@
 -- The filter has the word of every rule so far.
 use Prim.Native.Nat.{◌-◌, ◌≤◌}
-use native.Mathlib.Omega.{arith}
-use borrow.Author.Rules.{rules}
 use Rattle.chart_candidates.specs.PassedOver.{WordsBefore}
-use Rattle.chart_candidates.proofs.PassedOver.{filter_next}
 use Rattle.chart_leaves.proofs.word_filter.Given as goal
 
 abbrev pub invariant-loop-y : goal.invariant-loop-y

@@ -2,7 +2,6 @@
 use mathlib.Core.Path.{sym, ◌∙◌}
 use Rattle.chart_keys.specs.Keys.{key_number}
 use Rattle.chart_candidates.proofs.PassedOver.{other_word}
-use borrow.Author.Rules.{rules}
 use Rattle.chart_leaves.proofs.word_leaf.Goals as goal
 
 pub returns-then-word-heard : goal.returns-then-word-heard

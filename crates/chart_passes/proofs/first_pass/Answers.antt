@@ -1,13 +1,9 @@
 -- The loop is the iteration over the lengths.
-use Prim.Native.Nat.{◌+◌, ◌≤◌, ◌-◌}
-use mathlib.Core.Path.{◌≡◌, ◌∙◌}
-use lib.ListN.{length}
+use mathlib.Core.Path.{◌∙◌}
 use borrow.Author.Rules.{rules}
 use Rattle.packing.specs.Loop.{iter}
 use Rattle.packing.proofs.Loop.{iter_more, iter_end}
-use Rattle.chart_masks.specs.Masks.{Covers}
-use Rattle.chart_heads.specs.Heads.{Ruled}
-use Rattle.chart_search.specs.Search.{first_of_length, first_pass}
+use Rattle.chart_search.specs.Search.{first_pass}
 use Rattle.chart_passes.proofs.first_pass.Goals as goal
 
 pub loop-x-init : goal.loop-x-init
@@ -15,16 +11,14 @@ unfolding iter
 loop-x-init c = search rules
 
 pub loop-x-preserved : goal.loop-x-preserved
-loop-x-preserved c =
-    let at-first-of-length = c in
-    let at-loop = at-first-of-length in (
-      search rules,
-      search rules,
-      search rules,
-      search rules,
-      search rules,
-      rw (iter_more, ← at-loop.loop-x.invariant.5) at-first-of-length.first_of_length.ensures.0,
-    )
+loop-x-preserved c = (
+  search rules,
+  search rules,
+  search rules,
+  search rules,
+  search rules,
+  rw (iter_more, ← c.loop-x.invariant.5) c.first_of_length.ensures.t_after,
+)
 
 pub returns : goal.returns
 unfolding first_pass

@@ -1,7 +1,6 @@
 -- By the test, as in the definition.
 use mathlib.Core.Path.{sym}
 use Rattle.chart_queue.proofs.Least.{initial_is, keep_one, keep_none}
-use borrow.Author.Rules.{rules}
 use Rattle.chart_queue.proofs.keep_initial.Goals as goal
 
 pub returns-then-is_initial : goal.returns-then-is_initial

@@ -7,7 +7,6 @@ use lib.ListN.{length}
 use Rattle.chart_table.specs.declared.Layout.{Layout}
 use Rattle.chart_journal.specs.Journal.{keep_entry, keep_four}
 use Rattle.chart_queue.specs.Queue.{keep_written}
-use borrow.Author.Rules.{rules}
 use Rattle.chart_queue.proofs.keep_written.Goals as goal
 
 -- of no numbers nothing is kept

@@ -1,12 +1,9 @@
 -- The loop is the iteration over the queue, with the least key so far beside its place.
-use mathlib.Core.Path.{◌≡◌, refl, sym, ◌∙◌}
-use Prim.Native.Nat.{◌-◌, ◌≤◌}
+use mathlib.Core.Path.{refl, sym, ◌∙◌}
 use Rattle.packing.specs.Loop.{iter}
 use Rattle.packing.proofs.Loop.{iter_more, iter_end}
-use Rattle.chart_keys.specs.Keys.{key_number}
-use Rattle.chart_table.specs.Table.{most_ranks}
 use Rattle.chart_queue.proofs.Least.{place_less, place_stays, queued_is, dearer_stays}
-use Rattle.chart_queue.specs.Queue.{queued_key, lesser_place, least_place}
+use Rattle.chart_queue.specs.Queue.{least_place}
 use borrow.Author.Rules.{rules}
 use Rattle.chart_queue.proofs.least_place.Goals as goal
 use Rattle.chart_queue.proofs.least_place.Goals.{then-n-best+then-before, then-n-best+else-before, else-n-best}

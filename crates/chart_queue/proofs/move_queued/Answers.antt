@@ -1,6 +1,5 @@
 -- What is read is written.
 use Rattle.chart_queue.specs.Queue.{move_queued}
-use borrow.Author.Rules.{rules}
 use Rattle.chart_queue.proofs.move_queued.Goals as goal
 
 pub returns : goal.returns

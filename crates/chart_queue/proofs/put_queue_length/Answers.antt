@@ -1,6 +1,5 @@
 -- The digits above the length stay.
 use Rattle.chart_queue.specs.Queue.{put_queue_length}
-use borrow.Author.Rules.{rules}
 use Rattle.chart_queue.proofs.put_queue_length.Goals as goal
 
 pub returns : goal.returns

@@ -1,6 +1,5 @@
 -- What stands beside the rank.
 use Rattle.chart_queue.specs.Queue.{queued_key}
-use borrow.Author.Rules.{rules}
 use Rattle.chart_queue.proofs.queued_key.Goals as goal
 
 pub returns : goal.returns

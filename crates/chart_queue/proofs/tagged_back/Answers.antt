@@ -1,7 +1,6 @@
 -- By the test, as in the definition.
 use borrow.Author.Tests.{lt-ltb, le-ltb}
 use Rattle.chart_queue.specs.Queue.{tagged_back}
-use borrow.Author.Rules.{rules}
 use Rattle.chart_queue.proofs.tagged_back.Goals as goal
 
 pub returns-then-rank-d : goal.returns-then-rank-d

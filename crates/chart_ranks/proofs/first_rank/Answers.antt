@@ -7,27 +7,19 @@ use borrow.Author.Rules.{rules}
 use Rattle.chart_ranks.proofs.first_rank.Goals as goal
 
 pub first_seeds-key-requires : goal.first_seeds-key-requires
-first_seeds-key-requires c =
-    let at_pre = c in
-    (at_pre.requires.0, λ h. at_pre.requires.2, at_pre.requires.3)
+first_seeds-key-requires c = (c.requires.0, λ h. c.requires.2, c.requires.3)
 
 pub returns-then-key-ge-PRICES : goal.returns-then-key-ge-PRICES
-returns-then-key-ge-PRICES c =
-    let at_pre = c in (
-      rw (← c.first_seeds-key.ensures) (sym (put_none _ _ _ _ c.first_seeds-key.result (search rules) c.if-key-ge-PRICES.true)),
-      (at_pre.requires.2, λ w. w),
-    )
+returns-then-key-ge-PRICES c = record {
+  t_after = rw (← c.first_seeds-key.ensures) (sym (put_none _ _ _ _ c.first_seeds-key.result (search rules) c.if-key-ge-PRICES.true));
+  covers = c.requires.2;
+  ruled = λ w. w;
+}
 
 pub returns : goal.returns
-returns c =
-    let at-put-key = c in
-    let at-cell-number = at-put-key in
-    let at-first-seeds = at-cell-number in
-    let at_pre = at-first-seeds in (
-      rw (← at-cell-number.cell_number.ensures.0, ← at-first-seeds.first_seeds-key.ensures) at-put-key.put_key.ensures,
-      (
-        covers_found at-cell-number.cell_number.result _ at_pre.requires.0 at_pre.requires.1 at_pre.requires.2 at-cell-number.cell_number.ensures.0
-            at-put-key.put_key.ensures c.mark.ensures,
-        λ w. ruled_marked at_pre.requires.0.sized.symbols at_pre.requires.1 (search rules) (search rules) w c.mark.ensures,
-      ),
-    )
+returns c = record {
+  t_after = rw (← c.cell_number.ensures.0, ← c.first_seeds-key.ensures) c.put_key.ensures;
+  covers = covers_found c.cell_number.result _ c.requires.0 c.requires.1 c.requires.2 c.cell_number.ensures.0
+      c.put_key.ensures c.mark.ensures;
+  ruled = λ w. ruled_marked c.requires.0.sized.symbols c.requires.1 (search rules) (search rules) w c.mark.ensures;
+}

@@ -1,6 +1,5 @@
 -- Each call has the meaning of its part of the definition.
 use Rattle.chart_ranks.specs.Ranks.{found_at}
-use borrow.Author.Rules.{rules}
 use Rattle.chart_ranks.proofs.found_at.Goals as goal
 
 pub returns : goal.returns

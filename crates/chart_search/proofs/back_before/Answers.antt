@@ -1,9 +1,7 @@
 -- As in the definition.
 use Rattle.chart_search.specs.Search.{back_before}
-use borrow.Author.Rules.{rules}
 use Rattle.chart_search.proofs.back_before.Goals as goal
 
 pub returns : goal.returns
 unfolding back_before
-returns c =
-    (rw (← c.cell_number.ensures.0, ← c.back_at.ensures.0) c.back_pointer.ensures.0, c.back_pointer.ensures.1)
+returns c = (rw (← c.cell_number.ensures.0, ← c.back_at.ensures.0) c.back_pointer.ensures.0, c.back_pointer.ensures.1)

@@ -1,7 +1,6 @@
 -- Where no rule has parts that meet, there are no seeds.
 use mathlib.Core.Path.{sym}
 use Rattle.chart_candidates.proofs.PassedOver.{seeds_passed}
-use borrow.Author.Rules.{rules}
 use Rattle.chart_seeds.proofs.first_seeds.Goals as goal
 
 pub returns : goal.returns

@@ -1,12 +1,9 @@
 -- No rule passed has parts that meet.
 use mathlib.Core.Bool.{false≢true}
 use mathlib.Core.Path.{sym}
-use Prim.Native.Nat.{ℕ, ◌-◌, ◌≤◌, ◌<◌}
 use native.Mathlib.Omega.{arith}
-use lib.ListN.{get_or}
 use borrow.Author.Count.{below_more}
 use borrow.Author.Rules.{rules}
-use Rattle.chart_candidates.specs.PassedOver.{RuleApart}
 use Rattle.chart_seeds.proofs.has_seeds.Goals as goal
 
 pub loop-y-init : goal.loop-y-init

@@ -1,6 +1,5 @@
 -- By the tests.
 use mathlib.Core.Bool.{false≢true}
-use borrow.Author.Rules.{rules}
 use Rattle.chart_seeds.proofs.is_small.Goals as goal
 
 pub returns : goal.returns

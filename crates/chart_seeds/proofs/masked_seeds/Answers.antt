@@ -1,7 +1,6 @@
 -- A rule whose parts do not meet changes nothing.
 use mathlib.Core.Path.{sym}
 use Rattle.chart_candidates.proofs.PassedOver.{rule_passed}
-use borrow.Author.Rules.{rules}
 use Rattle.chart_seeds.proofs.masked_seeds.Goals as goal
 
 pub returns : goal.returns

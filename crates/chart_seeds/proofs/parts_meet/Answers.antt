@@ -1,7 +1,6 @@
 -- The symbols are those of the rule, if the array has it.
 use mathlib.Core.Bool.{false≢true}
 use mathlib.Core.Path.{sym}
-use borrow.Author.Rules.{rules}
 use Rattle.chart_seeds.proofs.parts_meet.Goals as goal
 
 pub returns-then-rules-at : goal.returns-then-rules-at

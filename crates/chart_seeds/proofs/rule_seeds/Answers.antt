@@ -1,6 +1,5 @@
 -- By the rule's variant.
 use Rattle.chart_candidates.specs.Candidates.{rule_seeds}
-use borrow.Author.Rules.{rules}
 use Rattle.chart_seeds.proofs.rule_seeds.Goals as goal
 
 pub returns-in-Pair : goal.returns-in-Pair

@@ -1,18 +1,12 @@
 -- The loop is the iteration over the members of the head's class. What is found so far is no more than what was before, so a rule
 -- that is passed over changes nothing.
 use Prim.Native.Nat.{◌≤◌, ◌-◌}
-use mathlib.Core.Path.{◌≡◌, sym, ◌∙◌}
-use native.Mathlib.Nat.{le_trans}
-use native.Mathlib.Omega.{arith}
+use mathlib.Core.Path.{◌≡◌}
 use lib.ListN.{get_or}
-use borrow.Author.Rules.{rules}
 use Rattle.packing.specs.Loop.{over}
-use Rattle.packing.proofs.Loop.{iter_end}
-use Rattle.chart_candidates.proofs.Loops.{from_none, from_more, from_turn}
-use Rattle.chart_candidates.proofs.PassedOver.{rules_below}
 use Rattle.packing.specs.Flat.{rule_at}
 use Rattle.chart_keys.specs.Keys.{key_number}
-use Rattle.chart_candidates.specs.Candidates.{rule_seeds, seeds}
+use Rattle.chart_candidates.specs.Candidates.{rule_seeds}
 use Rattle.chart_seeds.proofs.seeds.Given as goal
 
 abbrev pub invariant-loop-y : goal.invariant-loop-y

@@ -9,22 +9,10 @@ pub cell_number-requires-then-c : goal.cell_number-requires-then-c
 cell_number-requires-then-c c = rw c.right_part.ensures (search rules)
 
 pub split_seeds_within-requires : goal.split_seeds_within-requires
-split_seeds_within-requires c = (
-  (
-    c.requires.0,
-    c.is_small.ensures c.if-is_small.true,
-    c.divides.ensures c.if-divides.true,
-  ),
-  (
-    rw (
-      ← c.left_part.ensures,
-      ← c.cell_number.ensures.0,
-      ← c.entry_of-left.ensures.0,
-    ) (search rules),
-    rw (
-      ← c.right_part.ensures,
-      ← c.cell_number-then-c.ensures.0,
-      ← c.entry_of-right.ensures.0,
-    ) (search rules),
-  ),
-)
+split_seeds_within-requires c = record {
+  in_table = (c.requires.0, c.is_small.ensures c.if-is_small.true, c.divides.ensures c.if-divides.true);
+  to_in_bounds = (
+    rw (← c.left_part.ensures, ← c.cell_number.ensures.0, ← c.entry_of-left.ensures.0) (search rules),
+    rw (← c.right_part.ensures, ← c.cell_number-then-c.ensures.0, ← c.entry_of-right.ensures.0) (search rules),
+  );
+}

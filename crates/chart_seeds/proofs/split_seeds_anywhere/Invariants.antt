@@ -1,15 +1,8 @@
 -- The loop is the iteration over the splits.
-use mir.Syntax.{w64}
-use mir.Val.{Fits}
-use Prim.Native.Nat.{ℕ, ◌≤◌, ◌<◌, ◌-◌, ◌+◌}
-use mathlib.Core.Path.{◌≡◌, sym, ◌∙◌}
-use native.Mathlib.Omega.{arith}
-use borrow.Author.Rules.{rules}
+use Prim.Native.Nat.{◌≤◌, ◌-◌, ◌+◌}
+use mathlib.Core.Path.{◌≡◌}
 use Rattle.packing.specs.Loop.{over}
-use Rattle.packing.proofs.Loop.{iter_end}
 use Rattle.chart_keys.specs.Keys.{key_number, lesser}
-use Rattle.chart_candidates.specs.Candidates.{split_seeds}
-use Rattle.chart_candidates.proofs.Loops.{from_none, from_more, from_turn}
 use Rattle.chart_candidates.proofs.Splits.{seed_key}
 use Rattle.chart_seeds.proofs.split_seeds_anywhere.Given as goal
 

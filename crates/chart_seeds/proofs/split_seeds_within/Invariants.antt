@@ -1,17 +1,11 @@
 -- The loop is the iteration over the splits by seeds as numbers, with the parts' first entries as Splits has them. The loop itself knows
 -- the floor by its number only, so what it keeps is said of every floor that has it.
 use Prim.Native.Nat.{◌≤◌, ◌-◌, ◌+◌, ◌*◌}
-use mathlib.Core.Path.{◌≡◌, refl, ◌∙◌}
-use native.Mathlib.Omega.{arith}
-use Rattle.packing.proofs.Loop.{iter_end}
+use mathlib.Core.Path.{◌≡◌}
 use Rattle.chart_keys.specs.declared.Key.{Key}
 use Rattle.chart_keys.specs.Keys.{key_number}
 use Rattle.seed_numbers.specs.Seeds.{InNumbers, floor_number, ceiling_number, key_of_number}
-use Rattle.chart_keys.proofs.Numbers.{join_small}
-use Rattle.seed_numbers.proofs.Seeds.{lesser_number, ceiling_key}
-use Rattle.chart_candidates.specs.Candidates.{split_seeds}
-use Rattle.chart_candidates.proofs.Splits.{InRange, stride_small, stride_next, step_small, Kept, Long, at_first, at_next, left_read, right_read}
-use borrow.Author.Rules.{rules}
+use Rattle.chart_candidates.proofs.Splits.{InRange, Kept, Long}
 use Rattle.chart_seeds.proofs.split_seeds_within.Given as goal
 
 abbrev pub invariant-loop-j : goal.invariant-loop-j

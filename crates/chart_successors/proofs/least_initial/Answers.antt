@@ -3,13 +3,11 @@ use native.Mathlib.Omega.{arith}
 use Rattle.chart_keys.specs.Keys.{no_key}
 use Rattle.chart_candidates.proofs.PassedOver.{leaves_below}
 use Rattle.chart_successors.specs.Successors.{least_initial}
-use borrow.Author.Rules.{rules}
 use Rattle.chart_successors.proofs.least_initial.Goals as goal
 
 pub seeds-requires : goal.seeds-requires
 seeds-requires c =
-    let at_pre = c in
-    (at_pre.requires, λ h. absurd (omega (arith, h)), rw (c.leaves-leaf.ensures, c.no_key.ensures) (leaves_below _ _ _ _ _ no_key))
+    (c.requires, λ h. absurd (omega (arith, h)), rw (c.leaves-leaf.ensures, c.no_key.ensures) (leaves_below _ _ _ _ _ no_key))
 
 pub returns : goal.returns
 unfolding least_initial

@@ -43,7 +43,8 @@ module _ (t : List ℕ) (d : Layout) (c : Cell) (B C : Sym) (w r j p q : ℕ) wh
       → joined_key t d c B C w (back r j p q) ≡ row_key (row (joined w (row_price vl) (row_price vr)) r j p q)
   unfolding pair_key join_price
   pair_value vl vr e e' =
-      rw (e, e', part_price_lem (row_number vl), part_price_lem (row_number vr)) (ap (λ (n : ℕ). key_of n (back_number (back r j p q))) (sum (row_price vl) (row_price vr)))
+      rw (e, e', part_price_lem (row_number vl), part_price_lem (row_number vr))
+      (ap (λ (n : ℕ). key_of n (back_number (back r j p q))) (sum (row_price vl) (row_price vr)))
     where
       sum : (a b : Price) → w * weight_unit + price_number a + price_number b + 1 ≡ price_number (joined w a b) + 1
       sum (price u s) (price u' s') = omega arith

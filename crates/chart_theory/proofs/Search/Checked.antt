@@ -65,8 +65,11 @@ module _ {g : Grammar} {es : List Edge} {rules edges index : List ℕ} {d : Layo
       let (from, h₂) = both (eqb (get_or edges (4 * e) 0) c.from) h₁ in
       let (to, h₃) = both (eqb (get_or edges (4 * e + 1) 0) c.to) h₂ in
       let (carries, heard) = both (eqb (get_or edges (4 * e + 2) 0) x.0) h₃ in
-      let x_is : word (get_or edges (4 * e + 2) 0) ≡ x = ap word (eqb-true _ _ carries) in
-      (rw (eqb-true (get_or edges (4 * e) 0) _ from, eqb-true (get_or edges (4 * e + 1) 0) _ to, x_is) at (s.edge_at_lem e (ltb-true _ _ below)), ltb-true _ _ heard)
+      let x_is : word (get_or edges (4 * e + 2) 0) ≡ x = ap word (eqb-true _ _ carries) in (
+        rw (eqb-true (get_or edges (4 * e) 0) _ from, eqb-true (get_or edges (4 * e + 1) 0) _ to, x_is) at (s.edge_at_lem e (ltb-true _ _ below)),
+        ltb-true _
+            _ heard,
+      )
 
   edge_complete : (c : Cell) (e : ℕ) {x : W.Word} {cost : ℕ} → Offered es e (edge c.from c.to x cost) → edge_fits edges (length es) c e x ≡ true
   unfolding edge_fits

@@ -12,7 +12,8 @@ use Rattle.derivation.specs.Order.{◌▸◌}
 use Rattle.derivation.proofs.Comparison.{compare_lawful, compare_self, compare_same, compare_lt, compare_gt, compare_below, turn_gt}
 use Rattle.derivation.proofs.Rows.{Price, price, weight_in, costs_in, Row, row, row_price, row_order, row_same}
 use Rattle.chart_keys.specs.declared.BackPointer.{BackPointer}
-use Rattle.chart_keys.specs.Keys.{weight_unit, back, back_number, rule_digit, split_digit, left_digit, right_digit, back_pointer, prices, key_unit, key_of, no_key}
+use Rattle.chart_keys.specs.Keys.{weight_unit, back, back_number, rule_digit, split_digit, left_digit}
+use Rattle.chart_keys.specs.Keys.{right_digit, back_pointer, prices, key_unit, key_of, no_key}
 use Rattle.chart_keys.proofs.Numbers.{digits_below}
 
 -- a price as one number

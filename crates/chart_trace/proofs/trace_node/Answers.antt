@@ -1,5 +1,4 @@
 -- The back pointer is the one that the cell has, and the numbers written are its rule's and its left part's.
-use borrow.Author.Rules.{rules}
 use Rattle.chart_trace.proofs.trace_node.Goals as goal
 
 pub returns : goal.returns

@@ -8,7 +8,6 @@ use Rattle.packing.proofs.Flat.{length_rules_at}
 use Rattle.graph_reader.proofs.BlockInversion.{accepted_told, refused_told}
 use Rattle.graph_reader.specs.declared.GraphSize.{GraphSize}
 use Rattle.checker.proofs.Answered.{graph_judged}
-use borrow.Author.Rules.{rules}
 use Rattle.checker.proofs.check_graph.Goals as goal
 
 pub overflow_sub-graph : goal.overflow_sub-graph
@@ -37,6 +36,6 @@ returns-in-Graph c =
     let a = at-args.args in
     let read = at-read-graph.read_graph in
     let (h, e, z) = accepted_told (graph_block a.words a.heard.now) read.ensures.0 at-found.in-Graph.is in
-    let judged = graph_judged a.words (rules_of a.rules.now a.count) a.heard.now a.reading.now read.new.1.1.0 e read.ensures.1
+    let judged = graph_judged a.words (rules_of a.rules.now a.count) a.heard.now a.reading.now read.new.edges e read.ensures.1
     (ap (λ (s : GraphSize). s.edges) z) (ap (λ (s : GraphSize). s.places - 1) z) (sym (length_rules_at a.rules.now 0 a.count)) in
     rw judged at c.check_path.ensures

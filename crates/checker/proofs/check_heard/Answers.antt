@@ -1,6 +1,5 @@
 -- The block's first bits say which kind it has.
 use mathlib.Core.Path.{sym, ◌∙◌}
-use borrow.Author.Rules.{rules}
 use Rattle.checker.proofs.check_heard.Goals as goal
 
 pub returns-then-is_graph : goal.returns-then-is_graph

@@ -7,7 +7,6 @@ use Rattle.packing.specs.Flat.{rules_of}
 use Rattle.packing.proofs.Flat.{length_rules_at}
 use Rattle.graph_check.specs.Edges.{edges_of}
 use Rattle.checker.proofs.Answered.{path_judged, path_failed}
-use borrow.Author.Rules.{rules}
 use Rattle.checker.proofs.check_path.Goals as goal
 
 pub weight_of-requires : goal.weight_of-requires
@@ -53,8 +52,8 @@ returns-in-Head c =
     let a = at-args.args in
     let sized = rw at_head.in-Head.is at at-read-head.read_head.ensures.1 in
     let w = at-weight-of.weight_of in
-    let array = w.new.1.1.1.1.1.1.0 in
-    let room : 2 * at_head.in-Head.head.edges - 1 ≤ length array = omega (arith, sized, w.auto.1.1.1.1.1.1.0, at-args.requires) in
+    let array = w.new.walk in
+    let room : 2 * at_head.in-Head.head.edges - 1 ≤ length array = omega (arith, sized, w.auto.walk, at-args.requires) in
     path_judged a.count a.graph.last (rules_of a.rules.now a.count) (edges_of a.edges.now a.graph.edges) a.reading.now array w.result
     at-read-head.read_head.ensures.0 at_head.in-Head.is (sym (length_rules_at a.rules.now 0 a.count)) w.ensures.0 w.ensures.1 room
     c.judge.ensures

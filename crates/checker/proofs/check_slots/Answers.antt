@@ -1,7 +1,6 @@
 -- The array's slots are the utterance that was accepted.
 use mathlib.Core.Path.{refl, sym, ap}
 use mathlib.Core.List.{List}
-use borrow.Author.Rules.{rules}
 use native.Mathlib.Omega.{arith}
 use Rattle.packing.specs.declared.Rule as R
 use Rattle.packing.specs.Utterance.{utterance_block}
@@ -33,6 +32,6 @@ returns-in-Utterance c =
     let read = at-read-block.read_block in
     let rules : List R.Rule = rules_of a.rules.now a.count in
     let (u, e, z) = accepted_told a.words (utterance_block a.words a.heard.now) read.ensures.0 at-found.in-Utterance.is in
-    let judged = slots_judged a.words rules a.heard.now a.reading.now read.new.1.1.0 e read.ensures.1
+    let judged = slots_judged a.words rules a.heard.now a.reading.now read.new.slots e read.ensures.1
     (ap (λ (s : Slots). s.count) z) (sym (length_rules_at a.rules.now 0 a.count)) in
     rw judged at c.check_walk.ensures

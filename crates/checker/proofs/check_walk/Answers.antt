@@ -1,6 +1,5 @@
 -- The numbers read stand in front, so the weight of the derivation that has them is that of the reading's walk.
 use mathlib.Core.Path.{refl}
-use borrow.Author.Rules.{rules}
 use Rattle.packing.specs.Reading.{reading_from}
 use Rattle.reading_reader.proofs.BlockInversion.{parsed_told, failed_told}
 use Rattle.packing.specs.Flat.{rules_of, slots_of}
@@ -28,5 +27,5 @@ returns-in-Reading c =
     let read = at-read-reading.read_reading in
     let (d, e, w) = parsed_told (reading_from a.n a.count a.reading.now) read.ensures.0 at-weight.in-Reading.is in
     walk_judged a.n a.count (rules_of a.rules.now a.count) (slots_of a.slots.now a.n 0)
-    a.reading.now read.new.1.1.1.0 (number_of c.weight_of.result) e read.ensures.1 c.weight_of.ensures
+    a.reading.now read.new.walk (number_of c.weight_of.result) e read.ensures.1 c.weight_of.ensures
     (rw w c.judge.ensures)

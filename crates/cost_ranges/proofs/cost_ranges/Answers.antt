@@ -6,26 +6,20 @@ use Rattle.cost_ranges.proofs.cost_ranges.Goals as goal
 
 pub ranges_high-requires : goal.ranges_high-requires
 ranges_high-requires c =
-    let at-inputs = c in
-    let at-read-slot-inputs = at-inputs in
-    let k = rw at-inputs.in-Read.is at at-read-slot-inputs.read_slot_inputs.ensures in
+    let k = rw c.in-Read.is at c.read_slot_inputs.ensures in
     (k.bounds.sizes, k.bounds.some_place, k.bounds.places, k.bounds.edges)
 
 pub returns-in-Refused : goal.returns-in-Refused
 returns-in-Refused c =
-    let at-read-slot-inputs = c in
-    let at-args = at-read-slot-inputs in
-    let a = at-args.args in
-    meant a.grammar.now a.low.now a.high.now a.work.now
-    (not_read a.grammar.now a.low.now a.high.now a.work.now (rw c.in-Refused.is at at-read-slot-inputs.read_slot_inputs.ensures))
+    let a = c.args in
+    let told = meant a.grammar.now a.low.now a.high.now a.work.now
+    (not_read a.grammar.now a.low.now a.high.now a.work.now (rw c.in-Refused.is at c.read_slot_inputs.ensures)) in
+    record { promised = told.0; meant = told.1 }
 
 pub returns-in-Read : goal.returns-in-Read
 returns-in-Read c =
-    let at-ranges-high = c in
-    let at-inputs = at-ranges-high in
-    let at-read-slot-inputs = at-inputs in
-    let at-args = at-read-slot-inputs in
-    let a = at-args.args in
-    let k = rw at-inputs.in-Read.is at at-read-slot-inputs.read_slot_inputs.ensures in
-    meant a.grammar.now a.low.now a.high.now a.work.now
-    (read a.grammar.now a.low.now a.high.now a.work.now k at-ranges-high.ranges_high.ensures)
+    let a = c.args in
+    let k = rw c.in-Read.is at c.read_slot_inputs.ensures in
+    let told = meant a.grammar.now a.low.now a.high.now a.work.now
+    (read a.grammar.now a.low.now a.high.now a.work.now k c.ranges_high.ensures) in
+    record { promised = told.0; meant = told.1 }

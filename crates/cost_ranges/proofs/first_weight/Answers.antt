@@ -14,7 +14,5 @@ root_weight-requires c = let p = c.requires in (p.sized, p.some_place, p.some_ra
 
 pub returns : goal.returns
 returns c =
-    let at-enumerate = c in
-    let at-args = at-enumerate in
-    let table = at-enumerate.enumerate.ensures.0 in
-    (table, c.root_weight.ensures ∙ ap (λ (t : List ℕ). root_weight t at-args.args.pass.table 0) table)
+    let table = c.enumerate.ensures.t_after in
+    record { work_after = table; value = c.root_weight.ensures ∙ ap (λ (t : List ℕ). root_weight t c.args.pass.table 0) table }

@@ -17,5 +17,6 @@ returns c =
     let a = c.args in
     let raised = c.raise_own-own.ensures in
     let pass = c.first_weight-least.ensures in
-    least_told a.rules.now (nodes_in a.rules.now (take (2 * a.nodes) a.trace.now)) a.high.now a.costs.now a.pass (length a.work.now)
-    raised.0 raised.1 pass.0 pass.1 c.wide.ensures.0
+    let told = least_told a.rules.now (nodes_in a.rules.now (take (2 * a.nodes) a.trace.now)) a.high.now a.costs.now a.pass (length a.work.now)
+    raised.costs_after raised.value pass.work_after pass.value c.wide.ensures.0 in
+    record { value = told.0; work_after = told.1 }

@@ -38,14 +38,9 @@ passes-requires c =
 
 pub returns : goal.returns
 returns c =
-    let at-passes = c in
-    let at-if1 = at-passes in
-    let at-table-numbers = at-if1 in
-    let at-lay-out = at-table-numbers in
-    let at-args = at-lay-out in
-    let a = at-args.args in
-    let numbers = table_is a.sizes.symbols a.heard.last 1 at-lay-out.lay_out-table.ensures.0 at-table-numbers.table_numbers.ensures.0 in
-    let room : table_size a.sizes.symbols a.heard.last 1 ≤ length a.work.now = rw numbers at at-if1.if-work-table_numbers.false in
-    alike_passed a.rules.now a.sizes a.low.now a.high.now a.heard a.work.now room at-lay-out.lay_out-table.ensures.0
-    at-passes.passes.ensures.0
-    at-passes.passes.ensures.1 at-passes.passes.auto.work
+    let a = c.args in
+    let numbers = table_is a.sizes.symbols a.heard.last 1 c.lay_out-table.ensures.0 c.table_numbers.ensures.0 in
+    let room : table_size a.sizes.symbols a.heard.last 1 ≤ length a.work.now = rw numbers at c.if-work-table_numbers.false in
+    alike_passed a.rules.now a.sizes a.low.now a.high.now a.heard a.work.now room c.lay_out-table.ensures.0
+    c.passes.ensures.value
+    c.passes.ensures.work_after c.passes.auto.work

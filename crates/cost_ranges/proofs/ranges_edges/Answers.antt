@@ -12,18 +12,13 @@ ranges_alike-requires c = c.requires
 
 pub returns-then-both_rise : goal.returns-then-both_rise
 returns-then-both_rise c =
-    let at-ranges-alike = c in
-    let at-if1 = at-ranges-alike in
-    let at-both-rise = at-if1 in
-    let at-args = at-both-rise in
-    let a = at-args.args in
+    let a = c.args in
     edges_alike a.rules.now a.sizes a.low.now a.heard a.high.now a.other a.work.now
-    (sym at-both-rise.both_rise.ensures ∙ at-if1.if-both_rise.true)
-    at-ranges-alike.ranges_alike.ensures
+    (sym c.both_rise.ensures ∙ c.if-both_rise.true)
+    c.ranges_alike.ensures
 
 pub returns : goal.returns
 returns c =
-    let at-args = c in
-    let a = at-args.args in
+    let a = c.args in
     edges_differ a.rules.now a.sizes a.low.now a.heard a.high.now a.other a.work.now
     (sym c.both_rise.ensures ∙ c.if-both_rise.false)

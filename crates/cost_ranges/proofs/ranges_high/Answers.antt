@@ -16,11 +16,7 @@ returns-in-Refused c =
 
 pub returns-in-Heard : goal.returns-in-Heard
 returns-in-Heard c =
-    let at-ranges-edges = c in
-    let at_other = at-ranges-edges in
-    let at-read-slots = at_other in
-    let at-args = at-read-slots in
-    let a = at-args.args in
-    let (h, v, y) = accepted_told (as_slots a.sizes.words a.high.now) at-read-slots.read_slots.ensures.answer at_other.in-Heard.is in
-    high_read a.rules.now a.sizes a.low.now a.heard a.high.now a.work.now at-read-slots.read_slots.new.1.1.0 h v y
-    (rw v at at-read-slots.read_slots.ensures.edges) at-ranges-edges.ranges_edges.ensures
+    let a = c.args in
+    let (h, v, y) = accepted_told (as_slots a.sizes.words a.high.now) c.read_slots.ensures.answer c.in-Heard.is in
+    high_read a.rules.now a.sizes a.low.now a.heard a.high.now a.work.now c.read_slots.new.edges h v y
+    (rw v at c.read_slots.ensures.edges) c.ranges_edges.ensures

@@ -1,6 +1,5 @@
 -- A cell without a tree is passed over.
 use Rattle.found_masks.proofs.Marking.{cell_passed, cell_marked}
-use borrow.Author.Rules.{rules}
 use Rattle.found_masks.proofs.mark_cell.Goals as goal
 
 pub returns-then-price_at-eq0 : goal.returns-then-price_at-eq0

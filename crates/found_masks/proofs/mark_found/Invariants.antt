@@ -1,10 +1,8 @@
 -- The cells that end up to a place are marked.
-use mathlib.Core.Path.{◌≡◌, refl, ◌∙◌}
-use native.Mathlib.Omega.{arith}
+use mathlib.Core.Path.{◌≡◌}
 use Prim.Native.Nat.{◌-◌, ◌≤◌}
 use lib.ListN.{length}
 use Rattle.found_masks.specs.Marks.{MarkedAll, UpTo}
-use Rattle.found_masks.proofs.Marking.{marked_none, marked_more, marked_fewer, next_end}
 use Rattle.found_masks.proofs.mark_found.Given as goal
 
 abbrev pub invariant-loop-x : goal.invariant-loop-x

@@ -1,9 +1,6 @@
 -- The cells of the heads so far are marked.
-use mathlib.Core.Path.{◌≡◌, refl, ◌∙◌}
+use mathlib.Core.Path.{refl, ◌∙◌}
 use native.Mathlib.Omega.{arith}
-use Prim.Native.Nat.{◌-◌, ◌≤◌}
-use lib.ListN.{length}
-use Rattle.found_masks.specs.Marks.{MarkedAll, OfSpan}
 use Rattle.found_masks.proofs.Marking.{marked_none, marked_more, marked_fewer, next_head}
 use Rattle.found_masks.proofs.mark_heads.Goals as goal
 

@@ -1,10 +1,8 @@
 -- The cells of the heads so far are marked.
-use mathlib.Core.Path.{◌≡◌, refl, ◌∙◌}
-use native.Mathlib.Omega.{arith}
+use mathlib.Core.Path.{◌≡◌}
 use Prim.Native.Nat.{◌-◌, ◌≤◌}
 use lib.ListN.{length}
 use Rattle.found_masks.specs.Marks.{MarkedAll, OfSpan}
-use Rattle.found_masks.proofs.Marking.{marked_none, marked_more, marked_fewer, next_head}
 use Rattle.found_masks.proofs.mark_heads.Given as goal
 
 abbrev pub invariant-loop-a : goal.invariant-loop-a

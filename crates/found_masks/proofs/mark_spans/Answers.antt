@@ -1,9 +1,6 @@
 -- The cells that start before a place and end at the other are marked.
-use mathlib.Core.Path.{◌≡◌, refl, ◌∙◌}
+use mathlib.Core.Path.{refl, ◌∙◌}
 use native.Mathlib.Omega.{arith}
-use Prim.Native.Nat.{◌-◌, ◌≤◌}
-use lib.ListN.{length}
-use Rattle.found_masks.specs.Marks.{MarkedAll, EndingAt}
 use Rattle.found_masks.proofs.Marking.{marked_none, marked_more, marked_fewer, next_start}
 use Rattle.found_masks.proofs.mark_spans.Goals as goal
 

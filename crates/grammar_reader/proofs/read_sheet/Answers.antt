@@ -19,8 +19,7 @@ use Rattle.grammar_reader.proofs.read_sheet.Goals as goal
 pub returns-then-sheet-lt-GRAMMAR_SHEET_HEAD : goal.returns-then-sheet-lt-GRAMMAR_SHEET_HEAD
 unfolding marked_sheet sheet_by
 returns-then-sheet-lt-GRAMMAR_SHEET_HEAD c =
-    let at-args = c in
-    rw (lt-ltb (length at-args.args.sheet.now) 3 (omega arith)) (record { answer = refl; stands = tt; laid = tt; bounds = tt })
+    rw (lt-ltb (length c.args.sheet.now) 3 (omega arith)) (record { answer = refl; stands = tt; laid = tt; bounds = tt })
 
 pub is_marked_sheet-marked-requires : goal.is_marked_sheet-marked-requires
 is_marked_sheet-marked-requires c = omega (arith, c.if-sheet-lt-GRAMMAR_SHEET_HEAD.false)
@@ -35,17 +34,11 @@ module _ (s : List ℕ) (b : Bool) {r : MarkedRead} {before rules marks : List �
 
 pub returns-in-Refused : goal.returns-in-Refused
 returns-in-Refused c =
-    let at-read-grammar = c in
-    let at-is-marked-sheet = at-read-grammar in
-    let at-if1 = at-is-marked-sheet in
-    long _ _ at-if1.if-sheet-lt-GRAMMAR_SHEET_HEAD.false at-is-marked-sheet.is_marked_sheet-marked.ensures
-    (end_refused at-read-grammar.read_grammar-read.ensures (λ (at : ℕ). true) 41 c.in-Refused.is)
+    long _ _ c.if-sheet-lt-GRAMMAR_SHEET_HEAD.false c.is_marked_sheet-marked.ensures
+    (end_refused c.read_grammar-read.ensures (λ (at : ℕ). true) 41 c.in-Refused.is)
 
 pub returns-in-Sizes : goal.returns-in-Sizes
 returns-in-Sizes c =
-    let at-read-grammar = c in
-    let at-is-marked-sheet = at-read-grammar in
-    let at-if1 = at-is-marked-sheet in
-    long _ _ at-if1.if-sheet-lt-GRAMMAR_SHEET_HEAD.false at-is-marked-sheet.is_marked_sheet-marked.ensures
-    (end_passed at-read-grammar.read_grammar-read.ensures (λ (at : ℕ). true) 41 c.in-Sizes.is refl
-    (subst (SizesNear _) c.in-Sizes.is at-read-grammar.read_grammar-read.ensures.near).0)
+    long _ _ c.if-sheet-lt-GRAMMAR_SHEET_HEAD.false c.is_marked_sheet-marked.ensures
+    (end_passed c.read_grammar-read.ensures (λ (at : ℕ). true) 41 c.in-Sizes.is refl
+    (subst (SizesNear _) c.in-Sizes.is c.read_grammar-read.ensures.near).0)

@@ -13,13 +13,11 @@ not_pick false = refl
 
 pub returns-then-marked : goal.returns-then-marked
 returns-then-marked c =
-    let at-args = c in
-    λ block. rw (c.in-Sheet.is, c.if-marked.true) (not_pick (eqb (length at-args.args.sheet.now) (3 + 6 * at-args.args.rules)))
+    λ block. rw (c.in-Sheet.is, c.if-marked.true) (not_pick (eqb (length c.args.sheet.now) (3 + 6 * c.args.rules)))
 
 pub returns-in-Block : goal.returns-in-Block
 returns-in-Block c = λ block. rw c.in-Block.is
 
 pub returns-else-marked : goal.returns-else-marked
 returns-else-marked c =
-    let at-args = c in
-    λ block. rw (c.in-Sheet.is, c.if-marked.false) (not_pick (eqb (length at-args.args.sheet.now) (3 + 5 * at-args.args.rules)))
+    λ block. rw (c.in-Sheet.is, c.if-marked.false) (not_pick (eqb (length c.args.sheet.now) (3 + 5 * c.args.rules)))

@@ -2,7 +2,6 @@
 use mathlib.Core.Path.{sym, ap, ◌∙◌}
 use Prim.Native.Nat.{ℕ, ◌+◌, ◌/◌}
 use native.Mathlib.Omega.{arith}
-use borrow.Author.Rules.{rules}
 use Rattle.bits.specs.Fields.{widths}
 use Rattle.bits.proofs.Fields.{length_block}
 use Rattle.sheet_writer.specs.Arrays.{grammar_fields}

@@ -1,6 +1,5 @@
 -- A mark takes one bit, where rules bear marks.
 use native.Mathlib.Omega.{arith}
-use borrow.Author.Rules.{rules}
 use Rattle.grammar_writer.proofs.Marks.{bits_marked, bits_unmarked}
 use Rattle.grammar_writer.proofs.marked_bits.Goals as goal
 

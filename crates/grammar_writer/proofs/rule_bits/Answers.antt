@@ -1,6 +1,5 @@
 -- The widths of a pair rule's fields, and of a word rule's, added up.
 use native.Mathlib.Omega.{arith}
-use borrow.Author.Rules.{rules}
 use Rattle.bits.specs.Fields.{widths}
 use Rattle.grammar_writer.proofs.rule_bits.Goals as goal
 

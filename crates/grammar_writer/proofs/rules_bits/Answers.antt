@@ -1,32 +1,13 @@
 -- What was added up and what the rules behind the first i take is what all of them take, whatever their marks.
-use mathlib.Core.Path.{◌≡◌}
-use mathlib.Core.List.{List}
-use Prim.Native.Nat.{ℕ, ◌+◌, ◌-◌, ◌*◌, ◌≤◌}
 use native.Mathlib.Nat.{sub-zero}
 use native.Mathlib.Omega.{arith}
 use lib.ListN.{get_or}
 use Rattle.bits.specs.Fields.{widths}
-use Rattle.sheet_writer.specs.Arrays.{rules_fields}
 use Rattle.grammar_writer.proofs.Rules.{widths_more, rules_end}
 use Rattle.grammar_writer.proofs.rules_bits.Goals as goal
 
 pub loop-i-init : goal.loop-i-init
 loop-i-init c = (omega arith, omega arith, λ marks. rw sub-zero (omega arith))
-
-pub rule_at-requires : goal.rule_at-requires
-rule_at-requires c = omega arith
-
-pub marked_bits-total-requires : goal.marked_bits-total-requires
-marked_bits-total-requires c = c.requires.1
-
-pub overflow_add-total : goal.overflow_add-total
-overflow_add-total c = omega arith
-
-pub overflow_add-i : goal.overflow_add-i
-overflow_add-i c = omega arith
-
-pub loop-i-smaller : goal.loop-i-smaller
-loop-i-smaller c = omega arith
 
 pub loop-i-preserved : goal.loop-i-preserved
 loop-i-preserved c =
@@ -44,8 +25,7 @@ loop-i-preserved c =
 pub returns : goal.returns
 unfolding widths
 returns c =
-    let at-args = c in
-    let a = at-args.args in
+    let a = c.args in
     let l = c.loop-i in
     let f = a.form in (
       λ marks. omega (arith, rw (rules_end f.marked f.symbols f.words a.rules.now marks f.rules l.i (omega arith)) at (l.invariant.2 marks)),

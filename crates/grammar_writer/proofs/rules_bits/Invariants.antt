@@ -2,12 +2,8 @@
 use mathlib.Core.Path.{◌≡◌}
 use mathlib.Core.List.{List}
 use Prim.Native.Nat.{ℕ, ◌+◌, ◌-◌, ◌*◌, ◌≤◌}
-use native.Mathlib.Nat.{sub-zero}
-use native.Mathlib.Omega.{arith}
-use lib.ListN.{get_or}
 use Rattle.bits.specs.Fields.{widths}
 use Rattle.sheet_writer.specs.Arrays.{rules_fields}
-use Rattle.grammar_writer.proofs.Rules.{widths_more, rules_end}
 use Rattle.grammar_writer.proofs.rules_bits.Given as goal
 
 abbrev pub invariant-loop-i : goal.invariant-loop-i

@@ -1,6 +1,5 @@
 -- The block is written where its length fits.
 use native.Mathlib.Omega.{arith}
-use borrow.Author.Rules.{rules}
 use Rattle.sheet_writer.specs.Arrays.{grammar_fields, block_of}
 use Rattle.sheet_writer.proofs.Fit.{no_room, room}
 use Rattle.grammar_writer.proofs.write_grammar.Goals as goal
@@ -14,15 +13,11 @@ returns-then-out-length c =
 
 pub write_fields-requires : goal.write_fields-requires
 write_fields-requires c =
-    let at_pre = c in
-    (at_pre.requires.0, at_pre.requires.1, omega (arith, c.if-out-length.false, c.grammar_length-length.ensures at_pre.args.marks.now))
+    (c.requires.0, c.requires.1, omega (arith, c.if-out-length.false, c.grammar_length-length.ensures c.args.marks.now))
 
 pub returns : goal.returns
 returns c =
-    let at-if1 = c in
-    let at-grammar-length = at-if1 in
-    let at-args = at-grammar-length in
-    let a = at-args.args in
+    let a = c.args in
     let f = a.form in
     let block = block_of (grammar_fields f.marked f.symbols f.words f.rules a.rules.now a.marks.now) in
-    room block a.out.now (at-grammar-length.grammar_length-length.ensures a.marks.now) at-if1.if-out-length.false c.write_fields.ensures
+    room block a.out.now (c.grammar_length-length.ensures a.marks.now) c.if-out-length.false c.write_fields.ensures

@@ -1,10 +1,7 @@
 -- What remains behind the first i rules is written from bit `at` on, and at the end nothing remains.
 use Prim.Native.Nat.{◌+◌, ◌-◌, ◌*◌, ◌≤◌}
-use native.Mathlib.Nat.{sub-zero}
-use native.Mathlib.Omega.{arith}
-use Rattle.bits.proofs.Remaining.{Remaining, all_remain, none_remain, some_written, some_within}
+use Rattle.bits.proofs.Remaining.{Remaining}
 use Rattle.sheet_writer.specs.Arrays.{rules_fields}
-use Rattle.grammar_writer.proofs.Rules.{rule_fields, rules_more, rules_end}
 use Rattle.grammar_writer.proofs.write_rules.Given as goal
 
 abbrev pub invariant-loop-i : goal.invariant-loop-i

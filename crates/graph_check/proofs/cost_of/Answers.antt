@@ -4,7 +4,6 @@ use Prim.Native.Nat.{◌+◌, ◌*◌}
 use borrow.Author.Tests.{eq-eqb, ne_eqb, lt-ltb, le-ltb}
 use lib.ListN.{get_or}
 use Rattle.graph_check.proofs.Edges.{edge_of, no_edge_of}
-use borrow.Author.Rules.{rules}
 use Rattle.graph_check.proofs.cost_of.Goals as goal
 
 pub returns-then-count-edge : goal.returns-then-count-edge

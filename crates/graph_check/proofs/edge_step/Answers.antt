@@ -7,7 +7,6 @@ use lib.ListN.{get_elem?}
 use Rattle.parse_stack.specs.Stack.{heads_of, number_of}
 use Rattle.graph_check.specs.Edges.{edges_of, cost_at}
 use Rattle.graph_check.proofs.Edges.{not_taken, taken, edge_there}
-use borrow.Author.Rules.{rules}
 use Rattle.graph_check.proofs.edge_step.Goals as goal
 
 pub returns-in_default : goal.returns-in_default

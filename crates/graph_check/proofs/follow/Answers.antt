@@ -6,7 +6,6 @@ use Rattle.parse_stack.specs.Stack.{heads_of}
 use Rattle.parse_stack.proofs.Fits.{pair_there, word_there}
 use Rattle.graph_check.specs.Edges.{edges_of}
 use Rattle.graph_check.proofs.Steps.{nothing_fits, pair_fits, word_fits}
-use borrow.Author.Rules.{rules}
 use Rattle.graph_check.proofs.follow.Goals as goal
 
 pub pair_step-requires : goal.pair_step-requires

@@ -1,23 +1,23 @@
 -- After i nodes the numbers and the stack hold the state that the run has come to, with no more parts than edges are left, and the rule
 -- numbers of the nodes stand in front.
-use mathlib.Core.Path.{◌≡◌, refl, sym, ap, ◌∙◌}
+use mathlib.Core.Path.{refl, sym, ap, ◌∙◌}
 use mathlib.Core.List.{List}
-use Prim.Native.Nat.{◌+◌, ◌-◌, ◌*◌, ◌^◌, ◌≤◌}
+use Prim.Native.Nat.{◌-◌, ◌*◌}
 use native.Mathlib.Nat.{sub-zero}
 use native.Mathlib.Omega.{arith}
 use borrow.Author.Rules.{rules}
 use borrow.Author.Tests.{eq-eqb, ne_eqb}
-use lib.ListN.{length, take, length-set}
+use lib.ListN.{length-set}
 use Rattle.packing.specs.declared.Rule as R
 use Rattle.packing.specs.Meaning.{Edge}
 use Rattle.packing.specs.Source.{bytes}
 use Rattle.packing.specs.Flat.{rules_of, rule_at}
 use Rattle.packing.proofs.Flat.{by_rule}
-use Rattle.derivation.specs.Path.{State, rules_read, run_from, weight_at, path_weight}
+use Rattle.derivation.specs.Path.{State, path_weight}
 use Rattle.parse_stack.specs.Stack.{heads_of, standing}
 use Rattle.parse_stack.specs.declared.Step.TheVariants.{Onward}
 use Rattle.graph_check.specs.Edges.{edges_of}
-use Rattle.graph_check.proofs.Kept.{behind, kept_none, kept_more, kept_all}
+use Rattle.graph_check.proofs.Kept.{kept_none, kept_more, kept_all}
 use Rattle.graph_check.proofs.Steps.{not_read, read_on, read_lost, all_read, at_end, not_at_end}
 use Rattle.graph_check.proofs.weight_of.Goals as goal
 

@@ -14,7 +14,8 @@ use Rattle.graph_reader.proofs.Graphs.{no_places, no_count, no_edges, all_edges,
 use Rattle.graph_reader.proofs.read_body.Goals as goal
 
 -- P that was read and the number of edges, in their ranges
-places_near : (s : List ℕ) (at : ℕ) {P next : ℕ} → field_at (bytes 11 s) at place_count ≡ parsed P next → (2 ≤ P) × (P ≤ 25) × (next ≤ at + 5)
+places_near : (s : List ℕ) (at : ℕ) {P next : ℕ} → field_at (bytes 11 s) at place_count ≡ parsed P next
+    → (2 ≤ P) × (P ≤ 25) × (next ≤ at + 5)
 places_near s at e = omega (arith, taken place_count 5 (bytes 11 s) at (omega arith) (omega arith) e)
 
 count_near : (s : List ℕ) (at : ℕ) {n next : ℕ} → field_at (bytes 11 s) at edge_count ≡ parsed n next → (n ≤ 96) × (next ≤ at + 7)

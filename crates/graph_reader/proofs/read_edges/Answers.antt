@@ -30,7 +30,8 @@ near s W P at few small e h = edge_near (bytes 11 s) W P few small at (edge_told
 
 pub edge_key-key-requires : goal.edge_key-key-requires
 edge_key-key-requires c =
-    let n = near c.args.block.now c.args.words c.args.places c.loop-i.at (omega (arith, c.requires)) (omega (arith, c.requires)) c.read_edge.ensures c.in-Edge.is in
+    let a = c.args in
+    let n = near a.block.now a.words a.places c.loop-i.at (omega (arith, c.requires)) (omega (arith, c.requires)) c.read_edge.ensures c.in-Edge.is in
     (n.0, n.1, n.2)
 
 pub slice_bounds-seen-end : goal.slice_bounds-seen-end
@@ -38,13 +39,15 @@ slice_bounds-seen-end c = sym c.loop-i.invariant.2
 
 pub returns-then-seen : goal.returns-then-seen
 returns-then-seen c =
-    let n = near c.args.block.now c.args.words c.args.places c.loop-i.at (omega (arith, c.requires)) (omega (arith, c.requires)) c.read_edge.ensures c.in-Edge.is in
+    let a = c.args in
+    let n = near a.block.now a.words a.places c.loop-i.at (omega (arith, c.requires)) (omega (arith, c.requires)) c.read_edge.ensures c.in-Edge.is in
     edge_repeated _ _ _ _ _ _ c.loop-i.invariant.4 c.loop-i-test.true c.read_edge.ensures c.in-Edge.is n.1 n.2
     (rw c.edge_key-key.ensures at c.seen.ensures) c.if-seen.true
 
 pub loop-i-preserved : goal.loop-i-preserved
 loop-i-preserved c =
-    let n = near c.args.block.now c.args.words c.args.places c.loop-i.at (omega (arith, c.requires)) (omega (arith, c.requires)) c.read_edge.ensures c.in-Edge.is in
+    let a = c.args in
+    let n = near a.block.now a.words a.places c.loop-i.at (omega (arith, c.requires)) (omega (arith, c.requires)) c.read_edge.ensures c.in-Edge.is in
     let l = c.loop-i in (
       omega (arith, c.loop-i-test.true),
       omega (arith, l.invariant.1, n.3),

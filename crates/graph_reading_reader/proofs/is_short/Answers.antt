@@ -1,7 +1,6 @@
 -- The whole bytes are too few exactly when their bits are. Assumes nothing.
 use lib.ListN.{length}
 use Rattle.graph_reading_reader.proofs.Head.{bytes_lack}
-use borrow.Author.Rules.{rules}
 use Rattle.graph_reading_reader.proofs.is_short.Goals as goal
 
 pub returns : goal.returns

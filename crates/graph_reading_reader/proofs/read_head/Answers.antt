@@ -8,7 +8,6 @@ use Rattle.packing.specs.GraphReading.{path_edges}
 use Rattle.packing.proofs.Parse.{number_told, refusal_told}
 use Rattle.packing.proofs.Bounds.{field_at_range, field_at_next}
 use Rattle.graph_reading_reader.proofs.Head.{no_kind, no_edges, too_short, no_weight, head_read}
-use borrow.Author.Rules.{rules}
 use Rattle.graph_reading_reader.proofs.read_head.Goals as goal
 
 pub returns-in_default : goal.returns-in_default

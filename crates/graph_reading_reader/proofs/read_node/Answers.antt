@@ -13,7 +13,6 @@ use Rattle.packing.proofs.Parse.{number_told, refused_out}
 use Rattle.packing.proofs.Bounds.{field_at_next}
 use Rattle.packing.proofs.Widths.{byte_width}
 use Rattle.graph_reading_reader.proofs.Head.{no_number, no_rule, pair_node, no_edge, word_node}
-use borrow.Author.Rules.{rules}
 use Rattle.graph_reading_reader.proofs.read_node.Goals as goal
 
 pub returns-in_default : goal.returns-in_default

@@ -1,10 +1,8 @@
 -- What is passed is 0: the list is that many zeros and what stood behind them. Assumes nothing.
 use mathlib.Core.Path.{◌≡◌, refl, ◌∙◌}
-use mathlib.Core.List.{◌++◌}
-use Prim.Native.Nat.{◌≤◌, ◌-◌}
 use native.Mathlib.Omega.{arith}
 use borrow.Author.Rules.{rules}
-use lib.ListN.{length, replicate, drop, length-set}
+use lib.ListN.{length-set}
 use Rattle.packing.proofs.Zeros.{zeros_more}
 use Rattle.graph_reading_writer.proofs.clear.Goals as goal
 

@@ -1,25 +1,21 @@
 -- Rule numbers have at most 8 bits each, and edge numbers 7, so that a path within the limit stays far below the largest number. Assumes nothing.
-use Prim.Native.Nat.{◌-◌, ◌*◌, ◌≤◌}
+use Prim.Native.Nat.{◌-◌, ◌*◌}
 use native.Mathlib.Nat.{mul-le-mul_left}
 use native.Mathlib.Omega.{arith}
-use borrow.Author.Rules.{rules}
 use Rattle.packing.specs.GraphReading.{graph_reading_length}
 use Rattle.graph_reading_writer.proofs.graph_reading_length.Goals as goal
 
-walk : (c : goal.After-width-below) → (2 * c.args.n - 1) * c.width_below-width.result ≤ (2 * c.args.n - 1) * 8
-walk c = mul-le-mul_left (2 * c.args.n - 1) c.width_below-width.ensures.1
-
 pub overflow_mul-result-2 : goal.overflow_mul-result-2
-overflow_mul-result-2 c = omega (arith, walk c)
+overflow_mul-result-2 c = omega (arith, mul-le-mul_left (2 * c.args.n - 1) c.width_below-width.ensures.1)
 
 pub overflow_add-result : goal.overflow_add-result
-overflow_add-result c = omega (arith, walk c)
+overflow_add-result c = omega (arith, mul-le-mul_left (2 * c.args.n - 1) c.width_below-width.ensures.1)
 
 pub overflow_add-result-2 : goal.overflow_add-result-2
-overflow_add-result-2 c = omega (arith, walk c)
+overflow_add-result-2 c = omega (arith, mul-le-mul_left (2 * c.args.n - 1) c.width_below-width.ensures.1)
 
 pub overflow_add-result-3 : goal.overflow_add-result-3
-overflow_add-result-3 c = omega (arith, walk c)
+overflow_add-result-3 c = omega (arith, mul-le-mul_left (2 * c.args.n - 1) c.width_below-width.ensures.1)
 
 pub returns : goal.returns
 unfolding graph_reading_length

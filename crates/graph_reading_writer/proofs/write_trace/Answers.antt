@@ -1,71 +1,34 @@
 -- What remains behind the first i nodes is written from bit `at` on, and at the end nothing remains. Assumes nothing.
-use Prim.Native.Nat.{◌+◌, ◌-◌, ◌*◌, ◌≤◌}
+use Prim.Native.Nat.{◌+◌}
 use native.Mathlib.Nat.{sub-zero}
 use native.Mathlib.Omega.{arith}
-use lib.ListN.{take}
-use Rattle.bits.proofs.Remaining.{Remaining, all_remain, none_remain, some_within, some_written}
-use Rattle.packing.specs.Source.{flds}
-use Rattle.packing.specs.Flat.{nodes_in}
-use Rattle.packing.specs.GraphReading.{trace_entries}
+use Rattle.bits.proofs.Remaining.{all_remain, none_remain, some_within, some_written}
 use Rattle.graph_reading_writer.specs.Answer.{node_fields}
 use Rattle.graph_reading_writer.proofs.Trace.{node_at, rest, node_remains, rest_end, node_width}
 use Rattle.graph_reading_writer.proofs.write_trace.Goals as goal
 
-pub width_below-width-requires : goal.width_below-width-requires
-width_below-width-requires c = omega arith
-
 pub loop-i-init : goal.loop-i-init
 loop-i-init c = (omega arith, omega arith, rw sub-zero all_remain)
 
-pub overflow_mul-p : goal.overflow_mul-p
-overflow_mul-p c = omega arith
-
-pub offset_bounds-trace-p : goal.offset_bounds-trace-p
-offset_bounds-trace-p c = omega arith
-
-pub bounds-trace-p : goal.bounds-trace-p
-bounds-trace-p c = omega arith
-
-pub overflow_add-p : goal.overflow_add-p
-overflow_add-p c = omega arith
-
-pub offset_bounds-trace-p-in-loop-i : goal.offset_bounds-trace-p-in-loop-i
-offset_bounds-trace-p-in-loop-i c = omega arith
-
-pub bounds-trace-p-in-loop-i : goal.bounds-trace-p-in-loop-i
-bounds-trace-p-in-loop-i c = omega arith
-
 pub write_node-at-requires : goal.write_node-at-requires
 write_node-at-requires c =
-    let at-loop = c in
-    let at-width-below = at-loop in
-    let at-args = at-width-below in
-    let a = at-args.args in
-    let l = at-loop.loop-i in
-    let w = at-width-below.width_below-width.result in
+    let a = c.args in
+    let l = c.loop-i in
+    let w = c.width_below-width.result in
     let node = node_at a.count a.rules.now a.trace.now l.i in
     let left = rest a.count a.rules.now a.trace.now a.n (l.i + 1) in
-    let r = node_remains a.count a.rules.now a.trace.now a.n l.i at-width-below.width_below-width.ensures.0 (omega arith) (omega arith)
+    let r = node_remains a.count a.rules.now a.trace.now a.n l.i c.width_below-width.ensures.0 (omega arith) (omega arith)
     l.invariant.2 in
     (omega arith, omega arith, omega (arith, some_within (node_fields w node) left r, r.size))
 
-pub overflow_add-i : goal.overflow_add-i
-overflow_add-i c = omega arith
-
-pub loop-i-smaller : goal.loop-i-smaller
-loop-i-smaller c = omega arith
-
 pub loop-i-preserved : goal.loop-i-preserved
 loop-i-preserved c =
-    let at-loop = c in
-    let at-width-below = at-loop in
-    let at-args = at-width-below in
-    let a = at-args.args in
-    let l = at-loop.loop-i in
-    let w = at-width-below.width_below-width.result in
+    let a = c.args in
+    let l = c.loop-i in
+    let w = c.width_below-width.result in
     let node = node_at a.count a.rules.now a.trace.now l.i in
     let left = rest a.count a.rules.now a.trace.now a.n (l.i + 1) in
-    let r = node_remains a.count a.rules.now a.trace.now a.n l.i at-width-below.width_below-width.ensures.0 (omega arith) (omega arith)
+    let r = node_remains a.count a.rules.now a.trace.now a.n l.i c.width_below-width.ensures.0 (omega arith) (omega arith)
     l.invariant.2 in
     let e = c.write_node-at.ensures in
     (omega arith, omega (arith, e.1, node_width w node (omega arith)), some_written (node_fields w node) left r e.0 e.1)

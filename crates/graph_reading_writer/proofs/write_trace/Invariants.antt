@@ -1,19 +1,18 @@
 -- What remains behind the first i nodes is written from bit `at` on, and at the end nothing remains. Assumes nothing.
 use Prim.Native.Nat.{◌+◌, ◌-◌, ◌*◌, ◌≤◌}
-use native.Mathlib.Nat.{sub-zero}
-use native.Mathlib.Omega.{arith}
 use lib.ListN.{take}
-use Rattle.bits.proofs.Remaining.{Remaining, all_remain, none_remain, some_within, some_written}
+use Rattle.bits.proofs.Remaining.{Remaining}
 use Rattle.packing.specs.Source.{flds}
 use Rattle.packing.specs.Flat.{nodes_in}
 use Rattle.packing.specs.GraphReading.{trace_entries}
-use Rattle.graph_reading_writer.specs.Answer.{node_fields}
-use Rattle.graph_reading_writer.proofs.Trace.{node_at, rest, node_remains, rest_end, node_width}
+use Rattle.graph_reading_writer.proofs.Trace.{rest}
 use Rattle.graph_reading_writer.proofs.write_trace.Given as goal
 
 abbrev pub invariant-loop-i : goal.invariant-loop-i
 invariant-loop-i l =
-    (l.i ≤ l.n) × (l.at ≤ 34 + 15 * l.i) × Remaining l.initial.out 34 (flds (trace_entries l.count (nodes_in l.rules (take (2 * l.n) l.trace)))) l.out l.at (rest l.count l.rules l.trace l.n l.i)
+    (l.i ≤ l.n) × (l.at ≤ 34 + 15 * l.i)
+    × Remaining l.initial.out 34 (flds (trace_entries l.count (nodes_in l.rules (take (2 * l.n) l.trace)))) l.out l.at
+    (rest l.count l.rules l.trace l.n l.i)
 
 abbrev pub decreases-loop-i : goal.decreases-loop-i
 decreases-loop-i l = l.n - l.i

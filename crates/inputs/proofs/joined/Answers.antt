@@ -1,5 +1,4 @@
 -- `inputs::joined` meets its contract: each answer has its own. Assumes nothing.
-use borrow.Author.Rules.{rules}
 use Rattle.inputs.proofs.joined.Goals as goal
 
 pub returns-in-Refused : goal.returns-in-Refused

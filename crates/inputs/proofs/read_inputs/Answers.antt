@@ -2,7 +2,6 @@
 use native.Mathlib.Omega.{arith}
 use Rattle.packing.specs.Heard.{heard_block}
 use Rattle.inputs.proofs.BlocksRead.{grammar_refused, grammar_read}
-use borrow.Author.Rules.{rules}
 use Rattle.inputs.proofs.read_inputs.Goals as goal
 
 pub read_heard-requires : goal.read_heard-requires
@@ -15,8 +14,5 @@ returns-in-Refused c = grammar_refused heard_block _ _ c.read_block.ensures.0 c.
 
 pub returns-in-Grammar : goal.returns-in-Grammar
 returns-in-Grammar c =
-    let at-read-heard = c in
-    let at-sizes = at-read-heard in
-    let at-read-block = at-sizes in
-    let e = at-read-block.read_block.ensures in
-    grammar_read heard_block _ _ e.0 _ _ _ _ e.3 e.2 at-sizes.in-Grammar.is at-read-heard.read_heard.ensures c.joined.ensures
+    let e = c.read_block.ensures in
+    grammar_read heard_block _ _ e.0 _ _ _ _ e.3 e.2 c.in-Grammar.is c.read_heard.ensures c.joined.ensures

@@ -2,7 +2,6 @@
 use native.Mathlib.Omega.{arith}
 use Rattle.packing.specs.Heard.{as_slots}
 use Rattle.inputs.proofs.BlocksRead.{grammar_refused, grammar_read}
-use borrow.Author.Rules.{rules}
 use Rattle.inputs.proofs.read_slot_inputs.Goals as goal
 
 pub read_slots-requires : goal.read_slots-requires
@@ -15,8 +14,5 @@ returns-in-Refused c = grammar_refused as_slots _ _ c.read_block.ensures.0 c.in-
 
 pub returns-in-Grammar : goal.returns-in-Grammar
 returns-in-Grammar c =
-    let at-read-slots = c in
-    let at-sizes = at-read-slots in
-    let at-read-block = at-sizes in
-    let e = at-read-block.read_block.ensures in
-    grammar_read as_slots _ _ e.0 _ _ _ _ e.3 e.2 at-sizes.in-Grammar.is at-read-slots.read_slots.ensures c.joined.ensures
+    let e = c.read_block.ensures in
+    grammar_read as_slots _ _ e.0 _ _ _ _ e.3 e.2 c.in-Grammar.is c.read_slots.ensures c.joined.ensures

@@ -5,15 +5,13 @@ use Rattle.lines.proofs.lines.Goals as goal
 
 pub returns-then-shown-lt-SHOWN_NUMBERS : goal.returns-then-shown-lt-SHOWN_NUMBERS
 returns-then-shown-lt-SHOWN_NUMBERS c =
-    let at-listing = c in
-    let at-if1 = at-listing in
-    let a = at-if1.args in
-    let l = at-listing.listing.ensures in
-    no_room a.grammar.now a.heard.now a.work.now a.out.now a.shown.now at-if1.if-shown-lt-SHOWN_NUMBERS.true l.0.answer l.0.work_is
+    let a = c.args in
+    let l = c.listing.ensures in
+    let told = no_room a.grammar.now a.heard.now a.work.now a.out.now a.shown.now c.if-shown-lt-SHOWN_NUMBERS.true l.lists.answer l.lists.work_is in
+    record { lists = told.0; told = told.1 }
 
 pub returns : goal.returns
 returns c =
-    let at-within = c in
-    let at-if1 = at-within in
-    let a = at-if1.args in
-    rw (room_is a.out.now a.shown.now at-if1.if-shown-lt-SHOWN_NUMBERS.false) at-within.lines_within.ensures
+    let a = c.args in
+    let same = room_is a.out.now a.shown.now c.if-shown-lt-SHOWN_NUMBERS.false in
+    record { lists = rw same c.lines_within.ensures.lists; told = rw same c.lines_within.ensures.told }

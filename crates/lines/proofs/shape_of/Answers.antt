@@ -10,7 +10,7 @@ pub returns-in_default : goal.returns-in_default
 returns-in_default c =
     let a = c.args in
     let r = c.read_marked_block-read in
-    no_grammar a.grammar.now a.utterance.now r.new.1.0 r.new.1.1.0 (sym r.ensures.answer ∙ c.in_default.is)
+    no_grammar a.grammar.now a.utterance.now r.new.rules r.new.marks (sym r.ensures.answer ∙ c.in_default.is)
 
 pub read_heard-heard-requires : goal.read_heard-heard-requires
 read_heard-heard-requires c =
@@ -19,28 +19,20 @@ read_heard-heard-requires c =
 
 pub returns-in_default-heard : goal.returns-in_default-heard
 returns-in_default-heard c =
-    let at-read-heard = c in
-    let at_read = at-read-heard in
-    let at-read-marked-block = at_read in
-    let at-args = at-read-marked-block in
-    let a = at-args.args in
-    let r = at-read-marked-block.read_marked_block-read in
-    let W = at_read.in-Grammar.sizes.words in
-    no_heard a.grammar.now a.utterance.now r.new.1.0 r.new.1.1.0 (sym r.ensures.answer ∙ at_read.in-Grammar.is)
-    (heard.refused_told (heard_block W a.utterance.now) at-read-heard.read_heard-heard.ensures.answer c.in_default-heard.is)
+    let a = c.args in
+    let r = c.read_marked_block-read in
+    let W = c.in-Grammar.sizes.words in
+    no_heard a.grammar.now a.utterance.now r.new.rules r.new.marks (sym r.ensures.answer ∙ c.in-Grammar.is)
+    (heard.refused_told (heard_block W a.utterance.now) c.read_heard-heard.ensures.answer c.in_default-heard.is)
 
 pub returns : goal.returns
 returns c =
-    let at-read-heard = c in
-    let at_read = at-read-heard in
-    let at-read-marked-block = at_read in
-    let at-args = at-read-marked-block in
-    let a = at-args.args in
-    let r = at-read-marked-block.read_marked_block-read in
-    let W = at_read.in-Grammar.sizes.words in
-    let (h, w, y) = heard.accepted_told (heard_block W a.utterance.now) at-read-heard.read_heard-heard.ensures.answer c.in-Heard.is in
-    let bounded = rw at_read.in-Grammar.is at r.ensures.bounds in
-    let sized = rw c.in-Heard.is at at-read-heard.read_heard-heard.ensures.sized in
-    both_accepted a.grammar.now a.utterance.now r.new.1.0 r.new.1.1.0 (sym r.ensures.answer ∙ at_read.in-Grammar.is) h w y sized.0
+    let a = c.args in
+    let r = c.read_marked_block-read in
+    let W = c.in-Grammar.sizes.words in
+    let (h, w, y) = heard.accepted_told (heard_block W a.utterance.now) c.read_heard-heard.ensures.answer c.in-Heard.is in
+    let bounded = rw c.in-Grammar.is at r.ensures.bounds in
+    let sized = rw c.in-Heard.is at c.read_heard-heard.ensures.sized in
+    both_accepted a.grammar.now a.utterance.now r.new.rules r.new.marks (sym r.ensures.answer ∙ c.in-Grammar.is) h w y sized.0
     sized.1
     bounded.some_rule bounded.rules r.ensures.stands

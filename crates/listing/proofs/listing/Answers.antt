@@ -6,4 +6,4 @@ use Rattle.listing.proofs.listing.Goals as goal
 pub returns : goal.returns
 returns c =
     let answered = c.listing_within.ensures in
-    (answered.0, in_library _ _ _ _ _ _ _ _ answered.1)
+    record { lists = answered.lists; demand3 = in_library _ _ _ _ _ _ _ _ answered.demand3 }

@@ -7,26 +7,20 @@ use Rattle.listing.proofs.listing_within.Goals as goal
 
 pub list_read-requires : goal.list_read-requires
 list_read-requires c =
-    let at-inputs = c in
-    let at-read-inputs = at-inputs in
-    let k = rw at-inputs.in-Read.is at at-read-inputs.read_inputs.ensures in
+    let k = rw c.in-Read.is at c.read_inputs.ensures in
     k.bounds
 
 pub returns-in-Refused : goal.returns-in-Refused
 returns-in-Refused c =
-    let at-read-inputs = c in
-    let at-args = at-read-inputs in
-    let a = at-args.args in
-    promised a.limits a.grammar.now a.heard.now a.wanted a.work.now a.out.now _ _ _
+    let a = c.args in
+    let told = promised a.limits a.grammar.now a.heard.now a.wanted a.work.now a.out.now _ _ _
     (not_read a.limits a.grammar.now a.heard.now a.wanted a.work.now a.out.now
-    (rw c.in-Refused.is at at-read-inputs.read_inputs.ensures))
+    (rw c.in-Refused.is at c.read_inputs.ensures)) in
+    record { lists = told.0; demand3 = told.1 }
 
 pub returns-in-Read : goal.returns-in-Read
 returns-in-Read c =
-    let at-list-read = c in
-    let at-inputs = at-list-read in
-    let at-read-inputs = at-inputs in
-    let at-args = at-read-inputs in
-    let a = at-args.args in
-    let k = rw at-inputs.in-Read.is at at-read-inputs.read_inputs.ensures in
-    promised a.limits a.grammar.now a.heard.now a.wanted a.work.now a.out.now _ _ _ (at-list-read.list_read.ensures _ _ _ _ k)
+    let a = c.args in
+    let k = rw c.in-Read.is at c.read_inputs.ensures in
+    let told = promised a.limits a.grammar.now a.heard.now a.wanted a.work.now a.out.now _ _ _ (c.list_read.ensures _ _ _ _ k) in
+    record { lists = told.0; demand3 = told.1 }

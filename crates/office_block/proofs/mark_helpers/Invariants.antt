@@ -1,10 +1,8 @@
 -- What is left of the ones, stored behind those that are, gives all. Assumes nothing.
-use mathlib.Core.Path.{◌≡◌, refl, sym, ◌∙◌}
+use mathlib.Core.Path.{◌≡◌}
 use Prim.Native.Nat.{◌-◌, ◌≤◌}
-use native.Mathlib.Omega.{arith}
-use borrow.Author.Rules.{rules}
 use lib.ListN.{length}
-use Rattle.office_block.proofs.Marks.{Left, ones_turn, ones_end}
+use Rattle.office_block.proofs.Marks.{Left}
 use Rattle.office_block.proofs.mark_helpers.Given as goal
 
 abbrev pub invariant-loop-i : goal.invariant-loop-i

@@ -3,58 +3,35 @@ use mathlib.Core.Path.{subst}
 use native.Mathlib.Omega.{arith}
 use Rattle.office_reader.specs.Answer.{InBounds}
 use Rattle.office_conversion.proofs.Whole.{not_read, can_pass, many_symbols, many_rules, in_limits_lem}
-use borrow.Author.Rules.{rules}
 use Rattle.office_conversion.proofs.read_grammar.Goals as goal
 
 pub convert-k-requires : goal.convert-k-requires
 convert-k-requires c =
-    let at-read-sheet = c in
-    let at-args = at-read-sheet in
-    let b = subst InBounds c.in-Office.is at-read-sheet.read_sheet.ensures.1 in
-    (b.some_symbol, b.symbols, b.rules, can_pass at-args.args.sheet.now at-read-sheet.read_sheet.ensures.0 c.in-Office.is)
+    let b = subst InBounds c.in-Office.is c.read_sheet.ensures.1 in
+    (b.some_symbol, b.symbols, b.rules, can_pass c.args.sheet.now c.read_sheet.ensures.0 c.in-Office.is)
 
 pub overflow_add-symbols : goal.overflow_add-symbols
 overflow_add-symbols c =
-    let at-convert = c in
-    let at-z = at-convert in
-    let at-read-sheet = at-z in
-    let b = subst InBounds at-z.in-Office.is at-read-sheet.read_sheet.ensures.1 in omega (arith, b.symbols, at-convert.convert-k.ensures.few)
+    let b = subst InBounds c.in-Office.is c.read_sheet.ensures.1 in omega (arith, b.symbols, c.convert-k.ensures.few)
 
 pub overflow_add-count : goal.overflow_add-count
 overflow_add-count c =
-    let at-convert = c in
-    let at-z = at-convert in
-    let at-read-sheet = at-z in
-    let b = subst InBounds at-z.in-Office.is at-read-sheet.read_sheet.ensures.1 in omega (arith, b.rules, at-convert.convert-k.ensures.few)
+    let b = subst InBounds c.in-Office.is c.read_sheet.ensures.1 in omega (arith, b.rules, c.convert-k.ensures.few)
 
 pub returns-then-symbols-gt-MOST_SYMBOLS : goal.returns-then-symbols-gt-MOST_SYMBOLS
 returns-then-symbols-gt-MOST_SYMBOLS c =
-    let at-convert = c in
-    let at-z = at-convert in
-    let at-read-sheet = at-z in
-    let at-args = at-read-sheet in
-    many_symbols at-args.args.sheet.now at-read-sheet.read_sheet.ensures.0 at-z.in-Office.is at-convert.convert-k.ensures c.if-symbols-gt-MOST_SYMBOLS.true
+    many_symbols c.args.sheet.now c.read_sheet.ensures.0 c.in-Office.is c.convert-k.ensures c.if-symbols-gt-MOST_SYMBOLS.true
 
 pub returns-then-count-gt-MOST_RULES : goal.returns-then-count-gt-MOST_RULES
 returns-then-count-gt-MOST_RULES c =
-    let at-convert = c in
-    let at-z = at-convert in
-    let at-read-sheet = at-z in
-    let at-args = at-read-sheet in
-    many_rules at-args.args.sheet.now at-read-sheet.read_sheet.ensures.0 at-z.in-Office.is at-convert.convert-k.ensures
+    many_rules c.args.sheet.now c.read_sheet.ensures.0 c.in-Office.is c.convert-k.ensures
     (omega (arith, c.if-symbols-gt-MOST_SYMBOLS.false)) c.if-count-gt-MOST_RULES.true
 
 pub returns-in-Refused : goal.returns-in-Refused
 returns-in-Refused c =
-    let at-read-sheet = c in
-    let at-args = at-read-sheet in
-    not_read at-args.args.sheet.now at-read-sheet.read_sheet.ensures.0 at-args.args.rules.now c.in-Refused.is
+    not_read c.args.sheet.now c.read_sheet.ensures.0 c.args.rules.now c.in-Refused.is
 
 pub returns-else-count-gt-MOST_RULES : goal.returns-else-count-gt-MOST_RULES
 returns-else-count-gt-MOST_RULES c =
-    let at-convert = c in
-    let at-z = at-convert in
-    let at-read-sheet = at-z in
-    let at-args = at-read-sheet in
-    in_limits_lem at-args.args.sheet.now at-read-sheet.read_sheet.ensures.0 at-z.in-Office.is at-convert.convert-k.ensures
-    (omega (arith, c.if-symbols-gt-MOST_SYMBOLS.false)) (omega (arith, c.if-count-gt-MOST_RULES.false)) at-args.requires
+    in_limits_lem c.args.sheet.now c.read_sheet.ensures.0 c.in-Office.is c.convert-k.ensures
+    (omega (arith, c.if-symbols-gt-MOST_SYMBOLS.false)) (omega (arith, c.if-count-gt-MOST_RULES.false)) c.requires

@@ -2,7 +2,6 @@
 use mathlib.Core.Path.{sym, ◌∙◌}
 use native.Mathlib.Omega.{arith}
 use Rattle.office_reader.proofs.Places.{symbol_number, word_number}
-use borrow.Author.Rules.{rules}
 use Rattle.office_reader.proofs.item_number.Goals as goal
 
 pub returns-then-narrow_at-eq-SYMBOL_ITEM : goal.returns-then-narrow_at-eq-SYMBOL_ITEM

@@ -1,35 +1,14 @@
 -- `office_reader::items_place` meets its contract: what is left of the items leads to the place of all. Assumes nothing.
-use mathlib.Core.Path.{◌≡◌, sym, ◌∙◌}
-use Prim.Native.Nat.{◌+◌, ◌-◌, ◌*◌, ◌≤◌, ◌<◌}
+use mathlib.Core.Path.{sym, ◌∙◌}
 use native.Mathlib.Omega.{arith}
-use Rattle.office.specs.Flat.{items_at}
-use Rattle.office_reader.specs.Filter.{items_place}
-use Rattle.office_reader.proofs.Places.{Placed, placed_start, placed_on, placed_end}
+use Rattle.office_reader.proofs.Places.{placed_start, placed_on, placed_end}
 use Rattle.office_reader.proofs.items_place.Goals as goal
 
 pub loop-i-init : goal.loop-i-init
 loop-i-init c = (omega arith, omega arith, placed_start _ _ _ _)
 
-pub overflow_mul-place : goal.overflow_mul-place
-overflow_mul-place c = omega arith
-
-pub overflow_mul-i : goal.overflow_mul-i
-overflow_mul-i c = omega arith
-
-pub overflow_add-p : goal.overflow_add-p
-overflow_add-p c = omega arith
-
-pub item_number-requires : goal.item_number-requires
-item_number-requires c = omega arith
-
 pub overflow_add-place : goal.overflow_add-place
 overflow_add-place c = omega (arith, c.item_number.ensures.1)
-
-pub overflow_add-i : goal.overflow_add-i
-overflow_add-i c = omega arith
-
-pub loop-i-smaller : goal.loop-i-smaller
-loop-i-smaller c = omega arith
 
 pub loop-i-preserved : goal.loop-i-preserved
 loop-i-preserved c =

@@ -1,10 +1,9 @@
 -- `office_reader::items_place` meets its contract: what is left of the items leads to the place of all. Assumes nothing.
-use mathlib.Core.Path.{◌≡◌, sym, ◌∙◌}
-use Prim.Native.Nat.{◌+◌, ◌-◌, ◌*◌, ◌≤◌, ◌<◌}
-use native.Mathlib.Omega.{arith}
+use mathlib.Core.Path.{◌≡◌}
+use Prim.Native.Nat.{◌-◌, ◌≤◌, ◌<◌}
 use Rattle.office.specs.Flat.{items_at}
 use Rattle.office_reader.specs.Filter.{items_place}
-use Rattle.office_reader.proofs.Places.{Placed, placed_start, placed_on, placed_end}
+use Rattle.office_reader.proofs.Places.{Placed}
 use Rattle.office_reader.proofs.items_place.Given as goal
 
 abbrev pub invariant-loop-i : goal.invariant-loop-i

@@ -1,11 +1,9 @@
 -- `office_reader::read_items` meets its contract: what is left ends where all ends.
-use mathlib.Core.Path.{◌≡◌, sym, ◌∙◌}
+use mathlib.Core.Path.{◌≡◌}
 use Prim.Native.Nat.{◌+◌, ◌-◌, ◌*◌, ◌≤◌}
-use native.Mathlib.Omega.{arith}
-use borrow.Author.Rules.{rules}
 use Rattle.office.specs.Sheet.{items_from}
 use Rattle.office_reader.specs.Answer.{reached_of}
-use Rattle.office_reader.proofs.Passing.{Items, items_stop, items_go_on, item_end, items_end}
+use Rattle.office_reader.proofs.Passing.{Items}
 use Rattle.office_reader.proofs.read_items.Given as goal
 
 abbrev pub invariant-loop-i : goal.invariant-loop-i

@@ -1,18 +1,14 @@
 -- `office_reader::read_rules` meets its contract: the rules read so far stand in the sheet and in the filter, and what is left ends where all ends.
-use mathlib.Core.Path.{◌≡◌, refl, sym, ◌∙◌}
+use mathlib.Core.Path.{◌≡◌}
 use mathlib.Core.List.{[]}
 use Prim.Native.Nat.{◌+◌, ◌-◌, ◌*◌, ◌≤◌}
-use native.Mathlib.Omega.{arith}
-use borrow.Author.Rules.{rules}
-use lib.ListN.{length, replicate, length-set}
+use lib.ListN.{length}
 use Rattle.office.specs.Sheet.{rule_alike, office_rules_from}
 use Rattle.office.specs.Flat.{behind_all, office_rules_at}
 use Rattle.rules_reader.specs.Rules.{Filters}
-use Rattle.rules_reader.proofs.Filter.{filters_none}
 use Rattle.office_reader.specs.Answer.{reached_of}
 use Rattle.office_reader.specs.Filter.{rule_place}
-use Rattle.office_reader.proofs.Places.{filters_next}
-use Rattle.office_reader.proofs.Passing.{Rules, rules_start, rules_stop, rules_repeat, rules_go_on, rule_end, rules_end}
+use Rattle.office_reader.proofs.Passing.{Rules}
 use Rattle.office_reader.proofs.read_rules.Given as goal
 
 abbrev pub invariant-loop-i : goal.invariant-loop-i

@@ -2,7 +2,6 @@
 use mathlib.Core.Path.{subst}
 use Rattle.grammar_reader.specs.Parts.{SizesNear}
 use Rattle.office_reader.proofs.Whole.{no_sizes, no_rules, surplus, whole}
-use borrow.Author.Rules.{rules}
 use Rattle.office_reader.proofs.read_sheet.Goals as goal
 
 pub read_rules-requires : goal.read_rules-requires
@@ -12,40 +11,28 @@ read_rules-requires c =
 
 pub returns-then-end-sheet : goal.returns-then-end-sheet
 returns-then-end-sheet c =
-    let at-read-rules = c in
-    let at-head2 = at-read-rules in
-    let at-read-sizes = at-head2 in
-    let at-args = at-read-sizes in
-    let b = (subst (SizesNear 23) at-head2.in-Sizes.is at-read-sizes.read_sizes-head.ensures.1).0 in (
-      whole at-args.args.sheet.now at-read-sizes.read_sizes-head.ensures.0 at-head2.in-Sizes.is at-read-rules.read_rules.ensures
+    let b = (subst (SizesNear 23) c.in-Sizes.is c.read_sizes-head.ensures.1).0 in (
+      whole c.args.sheet.now c.read_sizes-head.ensures.0 c.in-Sizes.is c.read_rules.ensures
           c.in-Upto.is b c.if-end-sheet.true,
       b,
     )
 
 pub returns-in-Refused : goal.returns-in-Refused
 returns-in-Refused c =
-    let at-read-sizes = c in
-    let at-args = at-read-sizes in
-    (no_sizes at-args.args.sheet.now at-read-sizes.read_sizes-head.ensures.0 c.in-Refused.is, tt)
+    (no_sizes c.args.sheet.now c.read_sizes-head.ensures.0 c.in-Refused.is, tt)
 
 pub returns-in-Refused-read_rules : goal.returns-in-Refused-read_rules
 returns-in-Refused-read_rules c =
-    let at-read-rules = c in
-    let at-head2 = at-read-rules in
-    let at-read-sizes = at-head2 in
-    let at-args = at-read-sizes in (
-      no_rules at-args.args.sheet.now at-read-sizes.read_sizes-head.ensures.0 at-head2.in-Sizes.is at-read-rules.read_rules.ensures
+    let at-args = c in (
+      no_rules at-args.args.sheet.now c.read_sizes-head.ensures.0 c.in-Sizes.is c.read_rules.ensures
           c.in-Refused-read_rules.is,
       tt,
     )
 
 pub returns-else-end-sheet : goal.returns-else-end-sheet
 returns-else-end-sheet c =
-    let at-read-rules = c in
-    let at-head2 = at-read-rules in
-    let at-read-sizes = at-head2 in
-    let at-args = at-read-sizes in (
-      surplus at-args.args.sheet.now at-read-sizes.read_sizes-head.ensures.0 at-head2.in-Sizes.is at-read-rules.read_rules.ensures
+    let at-args = c in (
+      surplus at-args.args.sheet.now c.read_sizes-head.ensures.0 c.in-Sizes.is c.read_rules.ensures
           c.in-Upto.is c.if-end-sheet.false,
       tt,
     )

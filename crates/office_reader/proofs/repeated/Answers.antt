@@ -2,10 +2,8 @@
 use Rattle.rules_reader.proofs.Filter.{filters_miss}
 use Rattle.office.specs.Sheet.{rule_alike}
 use Rattle.office_reader.specs.Filter.{rule_place}
-use borrow.Author.Rules.{rules}
 use Rattle.office_reader.proofs.repeated.Goals as goal
 
 pub returns-then-filter-place-eq0 : goal.returns-then-filter-place-eq0
 returns-then-filter-place-eq0 c =
-    let s = c in
-    filters_miss rule_alike rule_place _ _ s.args.filter.now s.requires.4 (rw s.requires.3 at c.if-filter-place-eq0.true)
+    filters_miss rule_alike rule_place _ _ c.args.filter.now c.requires.4 (rw c.requires.3 at c.if-filter-place-eq0.true)

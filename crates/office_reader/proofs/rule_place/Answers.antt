@@ -1,6 +1,5 @@
 -- `office_reader::rule_place` meets its contract: the items behind the head. Assumes nothing.
 use Rattle.office_reader.specs.Filter.{rule_place}
-use borrow.Author.Rules.{rules}
 use Rattle.office_reader.proofs.rule_place.Goals as goal
 
 pub returns : goal.returns

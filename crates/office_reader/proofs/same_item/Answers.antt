@@ -1,33 +1,26 @@
 -- `office_reader::same_item` meets its contract: a case for each two kinds.
 use mathlib.Core.Path.{sym, ◌∙◌}
 use Rattle.office_reader.proofs.Likeness.{symbols_alike, symbol_word, word_symbol, words_alike}
-use borrow.Author.Rules.{rules}
 use Rattle.office_reader.proofs.same_item.Goals as goal
 
 pub returns-then-narrow_at-eq-SYMBOL_ITEM-2 : goal.returns-then-narrow_at-eq-SYMBOL_ITEM-2
 returns-then-narrow_at-eq-SYMBOL_ITEM-2 c =
-    let at-narrow-at3 = c in
-    let at-narrow-at2 = at-narrow-at3 in
-    let at-narrow-at = at-narrow-at2 in
-    rw (at-narrow-at.narrow_at-first.ensures, at-narrow-at2.narrow_at-second.ensures)
-    (symbols_alike _ _ _ _ (sym at-narrow-at3.narrow_at.ensures ∙ c.if-narrow_at-eq-SYMBOL_ITEM.true)
+    rw (c.narrow_at-first.ensures, c.narrow_at-second.ensures)
+    (symbols_alike _ _ _ _ (sym c.narrow_at.ensures ∙ c.if-narrow_at-eq-SYMBOL_ITEM.true)
     (sym c.narrow_at-then-narrow_at-eq-SYMBOL_ITEM.ensures ∙ c.if-narrow_at-eq-SYMBOL_ITEM-2.true))
 
 pub returns-then-narrow_at-eq-SYMBOL_ITEM : goal.returns-then-narrow_at-eq-SYMBOL_ITEM
 returns-then-narrow_at-eq-SYMBOL_ITEM c =
-    let at-narrow-at3 = c in
-    symbol_word _ _ _ _ (sym at-narrow-at3.narrow_at.ensures ∙ c.if-narrow_at-eq-SYMBOL_ITEM.true) (λ e. c.if-narrow_at-eq-SYMBOL_ITEM-2.false (c.narrow_at-then-narrow_at-eq-SYMBOL_ITEM.ensures ∙ e))
+    symbol_word _ _ _ _ (sym c.narrow_at.ensures ∙ c.if-narrow_at-eq-SYMBOL_ITEM.true)
+    (λ e. c.if-narrow_at-eq-SYMBOL_ITEM-2.false (c.narrow_at-then-narrow_at-eq-SYMBOL_ITEM.ensures ∙ e))
 
 pub returns-then-narrow_at-eq-SYMBOL_ITEM-3 : goal.returns-then-narrow_at-eq-SYMBOL_ITEM-3
 returns-then-narrow_at-eq-SYMBOL_ITEM-3 c =
-    let at-narrow-at3 = c in
-    word_symbol _ _ _ _ (λ e. c.if-narrow_at-eq-SYMBOL_ITEM.false (at-narrow-at3.narrow_at.ensures ∙ e)) (sym c.narrow_at-2.ensures ∙ c.if-narrow_at-eq-SYMBOL_ITEM-3.true)
+    word_symbol _ _ _ _ (λ e. c.if-narrow_at-eq-SYMBOL_ITEM.false (c.narrow_at.ensures ∙ e))
+    (sym c.narrow_at-2.ensures ∙ c.if-narrow_at-eq-SYMBOL_ITEM-3.true)
 
 pub returns : goal.returns
 returns c =
-    let at-narrow-at3 = c in
-    let at-narrow-at2 = at-narrow-at3 in
-    let at-narrow-at = at-narrow-at2 in
-    rw (at-narrow-at.narrow_at-first.ensures, at-narrow-at2.narrow_at-second.ensures)
-    (words_alike _ _ _ _ (λ e. c.if-narrow_at-eq-SYMBOL_ITEM.false (at-narrow-at3.narrow_at.ensures ∙ e))
+    rw (c.narrow_at-first.ensures, c.narrow_at-second.ensures)
+    (words_alike _ _ _ _ (λ e. c.if-narrow_at-eq-SYMBOL_ITEM.false (c.narrow_at.ensures ∙ e))
     (λ e. c.if-narrow_at-eq-SYMBOL_ITEM-3.false (c.narrow_at-2.ensures ∙ e)))

@@ -1,10 +1,9 @@
 -- `office_reader::same_items` meets its contract: items that are left are alike where all are.
-use mathlib.Core.Path.{◌≡◌, sym, ◌∙◌}
+use mathlib.Core.Path.{◌≡◌}
 use Prim.Native.Nat.{◌-◌, ◌≤◌}
-use native.Mathlib.Omega.{arith}
 use Rattle.office.specs.Sheet.{items_alike}
 use Rattle.office.specs.Flat.{items_at}
-use Rattle.office_reader.proofs.Likeness.{Left, alike_start, alike_here, unlike_here, alike_end}
+use Rattle.office_reader.proofs.Likeness.{Left}
 use Rattle.office_reader.proofs.same_items.Given as goal
 
 abbrev pub invariant-loop-i : goal.invariant-loop-i

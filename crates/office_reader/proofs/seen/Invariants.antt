@@ -1,11 +1,10 @@
 -- `office_reader::seen` meets its contract: the rule is alike one that is left where it is alike one at all.
-use mathlib.Core.Path.{◌≡◌, sym, ◌∙◌}
+use mathlib.Core.Path.{◌≡◌}
 use Prim.Native.Nat.{◌+◌, ◌-◌, ◌*◌, ◌≤◌}
-use native.Mathlib.Omega.{arith}
 use Rattle.packing.specs.Alike.{any_like}
 use Rattle.office.specs.Sheet.{rule_alike}
 use Rattle.office.specs.Flat.{office_rule_at, office_rules_at}
-use Rattle.office_reader.proofs.Likeness.{Among, among_start, among_found, among_on, among_end}
+use Rattle.office_reader.proofs.Likeness.{Among}
 use Rattle.office_reader.proofs.seen.Given as goal
 
 abbrev pub invariant-loop-i : goal.invariant-loop-i

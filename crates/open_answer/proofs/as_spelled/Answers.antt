@@ -5,18 +5,14 @@ use Rattle.open_answer.proofs.as_spelled.Goals as goal
 
 pub returns-then-hand_out : goal.returns-then-hand_out
 returns-then-hand_out c =
-    let at-hand-out = c in
-    let start = at-hand-out in
-    let a = start.args in (
-      spelled_settled a.t.now a.rules.now a.edges.now a.plan a.rank start.requires.0 at-hand-out.hand_out.ensures.0 c.if-hand_out.true,
-      output_by_lem a.t.now a.rules.now a.plan a.rank a.out.now at-hand-out.hand_out.ensures.1 c.if-hand_out.true,
+    let a = c.args in (
+      spelled_settled a.t.now a.rules.now a.edges.now a.plan a.rank c.requires.0 c.hand_out.ensures.0 c.if-hand_out.true,
+      output_by_lem a.t.now a.rules.now a.plan a.rank a.out.now c.hand_out.ensures.1 c.if-hand_out.true,
     )
 
 pub returns : goal.returns
 returns c =
-    let at-hand-out = c in
-    let start = at-hand-out in
-    let a = start.args in (
-      spelled_settled a.t.now a.rules.now a.edges.now a.plan a.rank start.requires.0 at-hand-out.hand_out.ensures.0 c.if-hand_out.false,
-      output_by_lem a.t.now a.rules.now a.plan a.rank a.out.now at-hand-out.hand_out.ensures.1 c.if-hand_out.false,
+    let a = c.args in (
+      spelled_settled a.t.now a.rules.now a.edges.now a.plan a.rank c.requires.0 c.hand_out.ensures.0 c.if-hand_out.false,
+      output_by_lem a.t.now a.rules.now a.plan a.rank a.out.now c.hand_out.ensures.1 c.if-hand_out.false,
     )

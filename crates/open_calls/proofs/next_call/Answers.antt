@@ -6,57 +6,47 @@ use Rattle.open_calls.proofs.OpenCalls.{call_refusal, call_reading, answered, tu
 use borrow.Author.Rules.{rules}
 use Rattle.open_calls.proofs.next_call.Goals as goal
 
--- where the call was made, the entry
-abbrev start : goal.After-next → goal.Start
-start t = t
-
 pub overflow_add-result : goal.overflow_add-result
 overflow_add-result c =
-    let t = c in
-    let a = (start t).args in
-    let e = t.next-answer.ensures in
+    let a = c.args in
+    let e = c.next-answer.ensures in
     omega (
       arith,
       call_reading a.grammar.now a.utterance.now (place_at a.handed a.opened) a.work.now a.out.now
-          e.called e.kept e.computed t.next-answer.auto.work c.in-Reading.is,
+          e.called e.kept e.computed c.next-answer.auto.work c.in-Reading.is,
     )
 
 pub refusal-requires : goal.refusal-requires
 refusal-requires c =
-    let t = c in
-    let a = (start t).args in
-    let e = t.next-answer.ensures in
+    let a = c.args in
+    let e = c.next-answer.ensures in
     call_refusal a.grammar.now a.utterance.now (place_at a.handed a.opened) a.work.now a.out.now
-    e.called e.kept e.computed t.next-answer.auto.work c.in-Refused.is
+    e.called e.kept e.computed c.next-answer.auto.work c.in-Refused.is
 
 pub returns-in-Reading : goal.returns-in-Reading
 returns-in-Reading c =
-    let t = c in
-    let a = (start t).args in
-    let e = t.next-answer.ensures in
+    let a = c.args in
+    let e = c.next-answer.ensures in
     answered a.grammar.now a.utterance.now (place_at a.handed a.opened) a.work.now a.out.now
-    e.called e.kept e.computed t.next-answer.auto.work Reading c.in-Reading.is
+    e.called e.kept e.computed c.next-answer.auto.work Reading c.in-Reading.is
 
 pub returns-in-NoMore : goal.returns-in-NoMore
 returns-in-NoMore c =
-    let t = c in
-    let a = (start t).args in
-    let e = t.next-answer.ensures in
+    let a = c.args in
+    let e = c.next-answer.ensures in
     answered a.grammar.now a.utterance.now (place_at a.handed a.opened) a.work.now a.out.now
-    e.called e.kept e.computed t.next-answer.auto.work NoMore c.in-NoMore.is
+    e.called e.kept e.computed c.next-answer.auto.work NoMore c.in-NoMore.is
 
 pub returns-in-Full : goal.returns-in-Full
 returns-in-Full c =
-    let t = c in
-    let a = (start t).args in
-    let e = t.next-answer.ensures in
+    let a = c.args in
+    let e = c.next-answer.ensures in
     answered a.grammar.now a.utterance.now (place_at a.handed a.opened) a.work.now a.out.now
-    e.called e.kept e.computed t.next-answer.auto.work Full c.in-Full.is
+    e.called e.kept e.computed c.next-answer.auto.work Full c.in-Full.is
 
 pub returns-in-Refused : goal.returns-in-Refused
 returns-in-Refused c =
-    let t = c in
-    let a = (start t).args in
-    let e = t.next-answer.ensures in
+    let a = c.args in
+    let e = c.next-answer.ensures in
     turned_away a.grammar.now a.utterance.now (place_at a.handed a.opened) a.work.now a.out.now
-    e.called e.kept e.computed t.next-answer.auto.work c.in-Refused.is c.refusal.ensures
+    e.called e.kept e.computed c.next-answer.auto.work c.in-Refused.is c.refusal.ensures

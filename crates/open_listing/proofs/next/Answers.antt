@@ -5,9 +5,7 @@ use Rattle.open_listing.proofs.next.Goals as goal
 
 pub plan_of-requires : goal.plan_of-requires
 plan_of-requires c =
-    let at-inputs = c in
-    let at-read-inputs = at-inputs in
-    let k = rw at-inputs.in-Read.is at at-read-inputs.read_inputs.ensures in k.bounds
+    let k = rw c.in-Read.is at c.read_inputs.ensures in k.bounds
 
 pub returns-in-Refused : goal.returns-in-Refused
 returns-in-Refused c =
@@ -17,11 +15,7 @@ returns-in-Refused c =
 
 pub returns-in-Read : goal.returns-in-Read
 returns-in-Read c =
-    let at-next-read = c in
-    let at-plan-of = at-next-read in
-    let at-inputs = at-plan-of in
-    let at-read-inputs = at-inputs in
-    let k = rw at-inputs.in-Read.is at at-read-inputs.read_inputs.ensures in
-    let p = read_called k _ at-plan-of.plan_of.ensures.0 at-plan-of.plan_of.ensures.1 _ _ _ at-next-read.next_read.ensures in
-    let computed = read_next k _ at-plan-of.plan_of.ensures.0 _ _ _ at-next-read.next_read.ensures in
+    let k = rw c.in-Read.is at c.read_inputs.ensures in
+    let p = read_called k _ c.plan_of.ensures.0 c.plan_of.ensures.1 _ _ _ c.next_read.ensures in
+    let computed = read_next k _ c.plan_of.ensures.0 _ _ _ c.next_read.ensures in
     record { called = p.0; kept = p.1; computed = computed }

@@ -9,9 +9,7 @@ plan_of-plan-requires c = let k = rw c.in-Read.is at c.read_inputs.ensures in k.
 
 pub returns-then-work-table_numbers : goal.returns-then-work-table_numbers
 returns-then-work-table_numbers c =
-    let at-inputs = c in
-    let at-read-inputs = at-inputs in
-    let k = rw at-inputs.in-Read.is at at-read-inputs.read_inputs.ensures in
+    let k = rw c.in-Read.is at c.read_inputs.ensures in
     not_opened_short k c.plan_of-plan.ensures.0 c.table_numbers.ensures.0 _ c.if-work-table_numbers.true
 
 pub returns-in-Refused : goal.returns-in-Refused
@@ -19,12 +17,6 @@ returns-in-Refused c = inputs_not_opened _ _ _ (rw c.in-Refused.is at c.read_inp
 
 pub returns-else-work-table_numbers : goal.returns-else-work-table_numbers
 returns-else-work-table_numbers c =
-    let at-if1 = c in
-    let at-table-numbers = at-if1 in
-    let at-plan-of = at-table-numbers in
-    let at-inputs = at-plan-of in
-    let at-read-inputs = at-inputs in
-    let start = at-read-inputs in
-    let k = rw at-inputs.in-Read.is at at-read-inputs.read_inputs.ensures in
-    opened_zeros k at-plan-of.plan_of-plan.ensures.0 at-table-numbers.table_numbers.ensures.0 start.args.work.now (omega (arith, at-if1.if-work-table_numbers.false))
+    let k = rw c.in-Read.is at c.read_inputs.ensures in
+    opened_zeros k c.plan_of-plan.ensures.0 c.table_numbers.ensures.0 c.args.work.now (omega (arith, c.if-work-table_numbers.false))
     c.zero.ensures

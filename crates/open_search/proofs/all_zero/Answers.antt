@@ -13,15 +13,11 @@ loop-x-init c = (search rules, refl)
 
 pub returns-then-t-x-ne0 : goal.returns-then-t-x-ne0
 returns-then-t-x-ne0 c =
-    let at-loop = c in
-    let start = at-loop in
-    sym (at-loop.loop-x.invariant.1 ∙ not_zero start.args.t.now at-loop.loop-x.x (omega arith) c.if-t-x-ne0.true)
+    sym (c.loop-x.invariant.1 ∙ not_zero c.args.t.now c.loop-x.x (omega arith) c.if-t-x-ne0.true)
 
 pub loop-x-preserved : goal.loop-x-preserved
 loop-x-preserved c =
-    let at-loop = c in
-    let start = at-loop in
-    (at-loop.loop-x.invariant.0, at-loop.loop-x.invariant.1 ∙ zero_on start.args.t.now at-loop.loop-x.x (omega arith) c.if-t-x-ne0.false)
+    (c.loop-x.invariant.0, c.loop-x.invariant.1 ∙ zero_on c.args.t.now c.loop-x.x (omega arith) c.if-t-x-ne0.false)
 
 pub returns : goal.returns
 returns c = sym (c.loop-x.invariant.1 ∙ none_left c.args.t.now c.loop-x.x (omega arith))

@@ -10,41 +10,30 @@ use Rattle.open_search.proofs.first.Goals as goal
 
 pub slice_bounds-enumerate-end-2 : goal.slice_bounds-enumerate-end-2
 slice_bounds-enumerate-end-2 c =
-    let start = c in
-    sym (length-take-le _ _ start.requires.2)
+    sym (length-take-le _ _ c.requires.2)
 
 pub returns-then-is_reading : goal.returns-then-is_reading
 returns-then-is_reading c =
-    let at-settle = c in
-    let at-enumerate = at-settle in
-    let start = at-enumerate in
-    let a = start.args in
+    let a = c.args in
     let table = first_table a.rules.now a.edges.now a.plan a.work.now in
-    let made = at-enumerate.enumerate.ensures.0 in
-    let first = table_first a.rules.now a.edges.now a.plan a.work.now start.requires.2 start.requires.3 made in
-    stays table a.rules.now a.edges.now a.plan 0 a.work.now a.out.now first at-settle.settle-answer.ensures.0 at-settle.settle-answer.ensures.1
+    let made = c.enumerate.ensures.t_after in
+    let first = table_first a.rules.now a.edges.now a.plan a.work.now c.requires.2 c.requires.3 made in
+    stays table a.rules.now a.edges.now a.plan 0 a.work.now a.out.now first c.settle-answer.ensures.0 c.settle-answer.ensures.1
     c.is_reading.ensures c.if-is_reading.true
 
 pub slice_bounds-zero-end-2 : goal.slice_bounds-zero-end-2
 slice_bounds-zero-end-2 c =
-    let at-enumerate = c in
-    let start = at-enumerate in
-    let a = start.args in
+    let a = c.args in
     sym (length-take-le _ _ (rw length-append
-    (omega (arith, at-enumerate.enumerate.auto.t, front_size a.rules.now a.edges.now a.plan a.work.now start.requires.2))))
+    (omega (arith, c.enumerate.auto.t, front_size a.rules.now a.edges.now a.plan a.work.now c.requires.2))))
 
 pub returns : goal.returns
 returns c =
-    let at-if1 = c in
-    let at-is-reading = at-if1 in
-    let at-settle = at-is-reading in
-    let at-enumerate = at-settle in
-    let start = at-enumerate in
-    let a = start.args in
+    let a = c.args in
     let table = first_table a.rules.now a.edges.now a.plan a.work.now in
-    let made = at-enumerate.enumerate.ensures.0 in
-    let first = table_first a.rules.now a.edges.now a.plan a.work.now start.requires.2 start.requires.3 made in
-    goes_back table a.rules.now a.edges.now a.plan 0 a.work.now a.out.now first at-settle.settle-answer.ensures.0
-    at-settle.settle-answer.ensures.1 at-is-reading.is_reading.ensures at-if1.if-is_reading.false
-    (zeros_again a.rules.now a.edges.now a.plan a.work.now start.requires.2 start.requires.3 made at-enumerate.enumerate.auto.t
+    let made = c.enumerate.ensures.t_after in
+    let first = table_first a.rules.now a.edges.now a.plan a.work.now c.requires.2 c.requires.3 made in
+    goes_back table a.rules.now a.edges.now a.plan 0 a.work.now a.out.now first c.settle-answer.ensures.0
+    c.settle-answer.ensures.1 c.is_reading.ensures c.if-is_reading.false
+    (zeros_again a.rules.now a.edges.now a.plan a.work.now c.requires.2 c.requires.3 made c.enumerate.auto.t
     c.zero.ensures refl)

@@ -12,18 +12,14 @@ returns-then-place-ne-OPENED c =
 
 pub slice_bounds-all_zero-end : goal.slice_bounds-all_zero-end
 slice_bounds-all_zero-end c =
-    let start = c in
-    sym (length-take-le _ _ start.requires.1)
+    sym (length-take-le _ _ c.requires.1)
 
 pub returns-then-place-eq0 : goal.returns-then-place-eq0
 returns-then-place-eq0 c =
-    let at-if2 = c in
-    let at-if1 = at-if2 in
-    let a = at-if1.args in
-    at_first a.plan a.place a.work.now at-if1.if-place-ne-OPENED.false at-if2.if-place-eq0.true c.all_zero.ensures
+    let a = c.args in
+    at_first a.plan a.place a.work.now c.if-place-ne-OPENED.false c.if-place-eq0.true c.all_zero.ensures
 
 pub returns : goal.returns
 returns c =
-    let at-if1 = c in
-    let a = at-if1.args in
-    at_later a.plan a.place a.work.now at-if1.if-place-ne-OPENED.false c.if-place-eq0.false
+    let a = c.args in
+    at_later a.plan a.place a.work.now c.if-place-ne-OPENED.false c.if-place-eq0.false

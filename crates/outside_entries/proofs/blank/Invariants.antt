@@ -1,13 +1,9 @@
 -- What is passed is 0: the fourth numbers are that many zeros and what stood behind them.
-use mathlib.Core.Path.{◌≡◌, refl, ◌∙◌}
+use mathlib.Core.Path.{◌≡◌}
 use mathlib.Core.List.{◌++◌}
-use native.Mathlib.Omega.{arith}
 use Prim.Native.Nat.{◌-◌, ◌/◌, ◌≤◌}
-use lib.ListN.{length, length-set, replicate, drop}
-use Rattle.arrays.proofs.Zeros.{zeros_more, zeros_end}
+use lib.ListN.{length, replicate, drop}
 use Rattle.outside_entries.specs.Entries.{fourths, plain}
-use Rattle.outside_entries.proofs.Views.{fourth_set, plain_set, fourths_length}
-use borrow.Author.Rules.{rules}
 use Rattle.outside_entries.proofs.blank.Given as goal
 
 abbrev pub invariant-loop-c : goal.invariant-loop-c

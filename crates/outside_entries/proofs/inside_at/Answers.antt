@@ -3,7 +3,6 @@ use mathlib.Core.Path.{sym, ◌∙◌}
 use native.Mathlib.Omega.{arith}
 use Rattle.outside_entries.proofs.Steps.{inside_none, inside_some}
 use Rattle.outside_entries.proofs.Views.{inside_plain}
-use borrow.Author.Rules.{rules}
 use Rattle.outside_entries.proofs.inside_at.Goals as goal
 
 pub returns-then-price-eq0 : goal.returns-then-price-eq0

@@ -1,7 +1,6 @@
 -- What the calls tell, one after another.
 use native.Mathlib.Omega.{arith}
 use Rattle.outside_entries.proofs.Views.{lower_told}
-use borrow.Author.Rules.{rules}
 use Rattle.outside_entries.proofs.lower.Goals as goal
 
 pub lesser-least-requires : goal.lesser-least-requires

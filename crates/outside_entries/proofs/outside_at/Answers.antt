@@ -1,7 +1,6 @@
 -- It is the fourth number of an entry.
 use mathlib.Core.Path.{sym, ◌∙◌}
 use Rattle.outside_entries.proofs.Views.{fourth_read}
-use borrow.Author.Rules.{rules}
 use Rattle.outside_entries.proofs.outside_at.Goals as goal
 
 pub returns : goal.returns

@@ -3,7 +3,6 @@ use mathlib.Core.Path.{refl, ◌∙◌}
 use native.Mathlib.Omega.{arith}
 use Rattle.outside_entries.specs.Entries.{fourths, plain}
 use Rattle.outside_entries.proofs.Steps.{split_no_left, split_no_right, split_both}
-use borrow.Author.Rules.{rules}
 use Rattle.outside_entries.proofs.push_split.Goals as goal
 
 pub inside_at-own-requires : goal.inside_at-own-requires

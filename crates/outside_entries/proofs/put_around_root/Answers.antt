@@ -2,7 +2,6 @@
 use mathlib.Core.Path.{◌∙◌}
 use native.Mathlib.Omega.{arith}
 use Rattle.outside_entries.proofs.Views.{lower_zeros}
-use borrow.Author.Rules.{rules}
 use Rattle.outside_entries.proofs.put_around_root.Goals as goal
 
 pub cell_number-requires : goal.cell_number-requires

@@ -5,12 +5,11 @@ use borrow.Author.Rules.{rules}
 use Rattle.reading_rows.proofs.graph_line.Goals as goal
 
 pub returns-in_default : goal.returns-in_default
-returns-in_default c =
-    let at-args = c in (
-      omega arith,
-      graph_refused at-args.args.rules.now at-args.args.s at-args.args.block.now _ c.read_head.ensures.0
-          c.in_default.is,
-    )
+returns-in_default c = (
+  omega arith,
+  graph_refused c.args.rules.now c.args.s c.args.block.now _ c.read_head.ensures.0
+      c.in_default.is,
+)
 
 pub overflow_mul-nodes : goal.overflow_mul-nodes
 overflow_mul-nodes c =
@@ -22,19 +21,13 @@ overflow_sub-nodes c = let path = rw c.in-Head.is at c.read_head.ensures.1 in om
 
 pub read_walk-requires : goal.read_walk-requires
 read_walk-requires c =
-    let at_head = c in
-    let at-read-head = at_head in
-    let at_pre = at-read-head in
-    let path = rw at_head.in-Head.is at at-read-head.read_head.ensures.1 in
-    (at_pre.requires.0.some_rule, at_pre.requires.0.rules, omega (arith, path.1, at_pre.requires.0), omega (arith, at_pre.requires.1))
+    let path = rw c.in-Head.is at c.read_head.ensures.1 in
+    (c.requires.0.some_rule, c.requires.0.rules, omega (arith, path.1, c.requires.0), omega (arith, c.requires.1))
 
 pub returns : goal.returns
 returns c =
-    let at_head = c in
-    let at-read-head = at_head in
-    let at_pre = at-read-head in
-    let path = rw at_head.in-Head.is at at-read-head.read_head.ensures.1 in (
-      omega (arith, path.1, at_pre.requires.0),
-      graph_read at_pre.args.rules.now at_pre.args.s at_pre.args.block.now _
-          at-read-head.read_head.ensures.0 at_head.in-Head.is c.read_walk.ensures,
+    let path = rw c.in-Head.is at c.read_head.ensures.1 in (
+      omega (arith, path.1, c.requires.0),
+      graph_read c.args.rules.now c.args.s c.args.block.now _
+          c.read_head.ensures.0 c.in-Head.is c.read_walk.ensures,
     )

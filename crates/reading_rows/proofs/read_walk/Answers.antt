@@ -11,31 +11,26 @@ use Rattle.reading_rows.proofs.Walks.{Remaining, none_read, node_read, no_node, 
 use Rattle.reading_rows.proofs.read_walk.Goals as goal
 
 pub loop-i-init : goal.loop-i-init
-loop-i-init c =
-    let at-args = c in (
-      omega arith,
-      refl,
-      omega arith,
-      none_read (rules_of at-args.args.rules.now at-args.args.count) (bytes 31 at-args.args.block.now)
-          at-args.args.nodes at-args.args.walk.now,
-    )
+loop-i-init c = (
+  omega arith,
+  refl,
+  omega arith,
+  none_read (rules_of c.args.rules.now c.args.count) (bytes 31 c.args.block.now)
+      c.args.nodes c.args.walk.now,
+)
 
 pub read_node-requires : goal.read_node-requires
 read_node-requires c =
-    let at_pre = c in
-    (omega (arith, c.loop-i.invariant.0, c.loop-i.invariant.2, at_pre.requires.2), at_pre.requires.0, at_pre.requires.1)
+    (omega (arith, c.loop-i.invariant.0, c.loop-i.invariant.2, c.requires.2), c.requires.0, c.requires.1)
 
 pub shape_of-walk-in_default : goal.shape_of-walk-in_default
 shape_of-walk-in_default c = search (rules, c.loop-i.invariant.1)
 
 pub returns-in_default : goal.returns-in_default
 returns-in_default c =
-    let at-loop-test = c in
-    let at-loop = at-loop-test in
-    let at-args = at-loop in
     let (n, p) = rw c.in_default.is at c.read_node.ensures in
-    no_node (rules_of at-args.args.rules.now at-args.args.count) (bytes 31 at-args.args.block.now) at-args.args.nodes at-loop.loop-i.i
-    at-loop.loop-i.at at-loop.loop-i.walk at-loop.loop-i.invariant.3 (omega (arith, at-loop-test.loop-i-test.true)) p
+    no_node (rules_of c.args.rules.now c.args.count) (bytes 31 c.args.block.now) c.args.nodes c.loop-i.i
+    c.loop-i.at c.loop-i.walk c.loop-i.invariant.3 (omega (arith, c.loop-i-test.true)) p
 
 pub overflow_cast-walk : goal.overflow_cast-walk
 overflow_cast-walk c =
@@ -44,16 +39,11 @@ overflow_cast-walk c =
 
 pub offset_bounds-walk-i : goal.offset_bounds-walk-i
 offset_bounds-walk-i c =
-    let at-loop = c in
-    let at_pre = at-loop in
-    omega (arith, at-loop.loop-i.invariant.0, at_pre.requires.2)
+    omega (arith, c.loop-i.invariant.0, c.requires.2)
 
 pub bounds-walk-i : goal.bounds-walk-i
 bounds-walk-i c =
-    let at-loop-test = c in
-    let at-loop = at-loop-test in
-    let at_pre = at-loop in
-    omega (arith, at-loop.loop-i.invariant.0, at-loop.loop-i.invariant.1, at-loop-test.loop-i-test.true, at_pre.requires.2, at_pre.requires.3)
+    omega (arith, c.loop-i.invariant.0, c.loop-i.invariant.1, c.loop-i-test.true, c.requires.2, c.requires.3)
 
 pub overflow_step-i : goal.overflow_step-i
 overflow_step-i c = omega (arith, c.loop-i.invariant.0, c.loop-i-test.true)
@@ -63,18 +53,14 @@ loop-i-smaller c = omega (arith, c.loop-i-test.true)
 
 pub loop-i-preserved : goal.loop-i-preserved
 loop-i-preserved c =
-    let at-read-node = c in
-    let at-loop-test = at-read-node in
-    let at-loop = at-loop-test in
-    let at-args = at-loop in
-    let (p, near, small, few) = rw c.in-Node.is at at-read-node.read_node.ensures in (
-      omega (arith, at-loop-test.loop-i-test.true),
-      length-set at-loop.loop-i.walk at-loop.loop-i.i c.in-Node.x.rule ∙ at-loop.loop-i.invariant.1,
-      omega (arith, at-loop.loop-i.invariant.2, near),
-      node_read (rules_of at-args.args.rules.now at-args.args.count) (bytes 31 at-args.args.block.now) at-args.args.nodes at-loop.loop-i.i
-          at-loop.loop-i.at at-loop.loop-i.walk at-loop.loop-i.invariant.3 (omega (arith, at-loop-test.loop-i-test.true))
-          (omega (arith, at-loop.loop-i.invariant.1, at-loop-test.loop-i-test.true, at-args.requires.2, at-args.requires.3)) p
-          (sym (by_rule (rule_at at-args.args.rules.now c.in-Node.x.rule) c.in-Node.x.rule
+    let (p, near, small, few) = rw c.in-Node.is at c.read_node.ensures in (
+      omega (arith, c.loop-i-test.true),
+      length-set c.loop-i.walk c.loop-i.i c.in-Node.x.rule ∙ c.loop-i.invariant.1,
+      omega (arith, c.loop-i.invariant.2, near),
+      node_read (rules_of c.args.rules.now c.args.count) (bytes 31 c.args.block.now) c.args.nodes c.loop-i.i
+          c.loop-i.at c.loop-i.walk c.loop-i.invariant.3 (omega (arith, c.loop-i-test.true))
+          (omega (arith, c.loop-i.invariant.1, c.loop-i-test.true, c.requires.2, c.requires.3)) p
+          (sym (by_rule (rule_at c.args.rules.now c.in-Node.x.rule) c.in-Node.x.rule
           c.in-Node.x.edge)),
     )
 
@@ -83,7 +69,6 @@ shape_of-walk c = search (rules, c.loop-i.invariant.1)
 
 pub returns : goal.returns
 returns c =
-    let at-args = c in
-    all_read (rules_of at-args.args.rules.now at-args.args.count) (bytes 31 at-args.args.block.now) at-args.args.nodes c.loop-i.i
+    all_read (rules_of c.args.rules.now c.args.count) (bytes 31 c.args.block.now) c.args.nodes c.loop-i.i
     c.loop-i.at c.loop-i.walk c.loop-i.invariant.3 (omega (arith, c.loop-i-test.false))
-    (omega (arith, c.loop-i.invariant.0, c.loop-i.invariant.1, at-args.requires.2, at-args.requires.3)) c.loop-i.invariant.0
+    (omega (arith, c.loop-i.invariant.0, c.loop-i.invariant.1, c.requires.2, c.requires.3)) c.loop-i.invariant.0

@@ -24,47 +24,42 @@ loop-k-init c = (omega arith, refl, no_rows _ _ _ _ _)
 
 pub overflow_mul-from : goal.overflow_mul-from
 overflow_mul-from c =
-    let at-args = c in
     omega (
       arith,
-      part_within c.loop-k.k at-args.args.m c.type_size.result (length at-args.args.out.now)
-          c.loop-k-test.true (rw c.type_size.ensures at-args.requires.2),
+      part_within c.loop-k.k c.args.m c.type_size.result (length c.args.out.now)
+          c.loop-k-test.true (rw c.type_size.ensures c.requires.2),
     )
 
 pub overflow_add-upto : goal.overflow_add-upto
 overflow_add-upto c =
-    let at-args = c in
     omega (
       arith,
-      part_within c.loop-k.k at-args.args.m c.type_size.result (length at-args.args.out.now)
-          c.loop-k-test.true (rw c.type_size.ensures at-args.requires.2),
+      part_within c.loop-k.k c.args.m c.type_size.result (length c.args.out.now)
+          c.loop-k-test.true (rw c.type_size.ensures c.requires.2),
     )
 
 pub overflow_mul-at : goal.overflow_mul-at
 overflow_mul-at c =
-    let at-args = c in
     omega (
       arith,
-      rows_within c.loop-k.k at-args.args.m (length at-args.args.shown.now) c.loop-k-test.true at-args.requires.1
-          at-args.requires.3,
+      rows_within c.loop-k.k c.args.m (length c.args.shown.now) c.loop-k-test.true c.requires.1
+          c.requires.3,
     )
 
 pub overflow_add-end : goal.overflow_add-end
 overflow_add-end c =
-    let at-args = c in
     omega (
       arith,
-      rows_within c.loop-k.k at-args.args.m (length at-args.args.shown.now) c.loop-k-test.true at-args.requires.1
-          at-args.requires.3,
+      rows_within c.loop-k.k c.args.m (length c.args.shown.now) c.loop-k-test.true c.requires.1
+          c.requires.3,
     )
 
 pub slice_bounds-write_row-end : goal.slice_bounds-write_row-end
 slice_bounds-write_row-end c =
-    let at-args = c in
     omega (
       arith,
-      part_within c.loop-k.k at-args.args.m c.type_size.result (length at-args.args.out.now)
-          c.loop-k-test.true (rw c.type_size.ensures at-args.requires.2),
+      part_within c.loop-k.k c.args.m c.type_size.result (length c.args.out.now)
+          c.loop-k-test.true (rw c.type_size.ensures c.requires.2),
     )
 
 pub overflow_add-k : goal.overflow_add-k
@@ -75,27 +70,24 @@ overflow_cast-k c = omega (arith, c.loop-k-test.true, c.requires.1)
 
 pub slice_bounds-write_row-end-in-loop-k : goal.slice_bounds-write_row-end-in-loop-k
 slice_bounds-write_row-end-in-loop-k c =
-    let at-args = c in
     omega (
       arith,
       c.loop-k.invariant.1,
-      rows_within c.loop-k.k at-args.args.m (length at-args.args.shown.now)
-          c.loop-k-test.true at-args.requires.1 at-args.requires.3,
+      rows_within c.loop-k.k c.args.m (length c.args.shown.now)
+          c.loop-k-test.true c.requires.1 c.requires.3,
     )
 
 pub write_row-requires : goal.write_row-requires
-write_row-requires c =
-    let at-loop = c in
-    let at_pre = at-loop in (
-      at_pre.requires.0,
-      row_length at-loop.loop-k.k at-loop.loop-k.shown
-          (omega (
-            arith,
-            at-loop.loop-k.invariant.1,
-            rows_within at-loop.loop-k.k at_pre.args.m (length at_pre.args.shown.now)
-                c.loop-k-test.true at_pre.requires.1 at_pre.requires.3,
-          )),
-    )
+write_row-requires c = (
+  c.requires.0,
+  row_length c.loop-k.k c.loop-k.shown
+      (omega (
+        arith,
+        c.loop-k.invariant.1,
+        rows_within c.loop-k.k c.args.m (length c.args.shown.now)
+            c.loop-k-test.true c.requires.1 c.requires.3,
+      )),
+)
 
 pub overflow_step-k : goal.overflow_step-k
 overflow_step-k c = omega (arith, c.loop-k-test.true)
@@ -105,23 +97,19 @@ loop-k-smaller c = omega (arith, c.loop-k-test.true)
 
 pub loop-k-preserved : goal.loop-k-preserved
 loop-k-preserved c =
-    let at-loop-test = c in
-    let at-loop = at-loop-test in
-    let at-size-of = at-loop in
-    let at-args = at-size-of in
-    let a = at-args.args in
-    let l = at-loop.loop-k in
-    let part = c.write_row.new.1.1.1.1.1.0 in
+    let a = c.args in
+    let l = c.loop-k in
+    let part = c.write_row.new.row in
     let room : l.k * 50 + 50 ≤ length l.shown = omega (
       arith,
       l.invariant.1,
-      rows_within at-loop.loop-k.k at-args.args.m (length at-args.args.shown.now) at-loop-test.loop-k-test.true at-args.requires.1
-          at-args.requires.3,
+      rows_within c.loop-k.k c.args.m (length c.args.shown.now) c.loop-k-test.true c.requires.1
+          c.requires.3,
     ) in
     let size : length part ≡ 50 = c.write_row.auto.row ∙ row_length l.k l.shown room in (
-      omega (arith, at-loop-test.loop-k-test.true),
+      omega (arith, c.loop-k-test.true),
       same_len_mid (l.k * 50) (l.k * 50 + 50 - l.k * 50) l.shown part c.write_row.auto.row ∙ l.invariant.1,
-      rows_more a.rules.now a.marks.now a.s a.out.now l.k at-size-of.type_size.result at-size-of.type_size.ensures a.shown.now
+      rows_more a.rules.now a.marks.now a.s a.out.now l.k c.type_size.result c.type_size.ensures a.shown.now
           l.shown part l.invariant.2 size room c.write_row.ensures,
     )
 
@@ -130,6 +118,5 @@ shape_of-shown c = c.loop-k.invariant.1
 
 pub returns : goal.returns
 returns c =
-    let at-args = c in
-    let all : c.loop-k.k ≡ at-args.args.m = omega (arith, c.loop-k-test.false, c.loop-k.invariant.0) in
+    let all : c.loop-k.k ≡ c.args.m = omega (arith, c.loop-k-test.false, c.loop-k.invariant.0) in
     rw all at c.loop-k.invariant.2

@@ -1,18 +1,17 @@
 -- What remains behind the first i numbers is written from bit `at` on, and at the end nothing remains.
 use Prim.Native.Nat.{◌+◌, ◌-◌, ◌*◌, ◌≤◌}
-use native.Mathlib.Nat.{sub-zero}
-use native.Mathlib.Omega.{arith}
 use lib.ListN.{take}
-use Rattle.bits.proofs.Remaining.{Remaining, all_remain, none_remain, one_within, one_written}
+use Rattle.bits.proofs.Remaining.{Remaining}
 use Rattle.packing.specs.Source.{flds}
 use Rattle.packing.specs.Reading.{walk_entries}
 use Rattle.reading_writer.specs.Answer.{walk_in}
-use Rattle.reading_writer.proofs.Walk.{rest, rest_more, rest_end}
+use Rattle.reading_writer.proofs.Walk.{rest}
 use Rattle.reading_writer.proofs.write_walk.Given as goal
 
 abbrev pub invariant-loop-i : goal.invariant-loop-i
 invariant-loop-i l =
-    (l.i ≤ l.n) × (l.at ≤ 34 + 8 * l.i) × Remaining l.initial.out l.start (flds (walk_entries l.rules (walk_in (take (2 * l.n) l.trace)))) l.out l.at (rest l.rules l.trace l.n l.i)
+    (l.i ≤ l.n) × (l.at ≤ 34 + 8 * l.i)
+    × Remaining l.initial.out l.start (flds (walk_entries l.rules (walk_in (take (2 * l.n) l.trace)))) l.out l.at (rest l.rules l.trace l.n l.i)
 
 abbrev pub decreases-loop-i : goal.decreases-loop-i
 decreases-loop-i l = l.n - l.i

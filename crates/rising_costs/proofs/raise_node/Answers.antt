@@ -12,7 +12,7 @@ returns-in-Pair c =
     let a = at-args.args in
     let (kept, weighs) = pair_node a.rules.now a.high.now a.costs.now a.rule a.edge at-rule-at.rule_at-kind.ensures at_wide.wide.ensures.0
     c.in-Pair.is c.wide-in-Pair.ensures.0 in
-    (kept, (weighs, omega (arith, c.wide-in-Pair.ensures.1)))
+    record { costs_after = kept; value = (weighs, omega (arith, c.wide-in-Pair.ensures.1)) }
 
 pub returns-in-Word : goal.returns-in-Word
 returns-in-Word c =
@@ -27,4 +27,4 @@ returns-in-Word c =
     let (raised, weighs) = word_node a.rules.now a.high.now a.costs.now a.rule a.edge at-rule-at.rule_at-kind.ensures
     at_wide.wide.ensures.0 at-kind2.in-Word.is at-wide3.wide-in-Word.ensures.0
     at-narrow-at.narrow_at-cost.ensures at_store.store.ensures c.wide-in-Word-2.ensures.0 c.wide-in-Word-3.ensures.0 in
-    (raised, (weighs, omega (arith, c.wide-in-Word-2.ensures.1, c.wide-in-Word-3.ensures.1)))
+    record { costs_after = raised; value = (weighs, omega (arith, c.wide-in-Word-2.ensures.1, c.wide-in-Word-3.ensures.1)) }

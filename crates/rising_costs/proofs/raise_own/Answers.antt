@@ -32,7 +32,7 @@ pub bounds-trace-p-in-loop-i : goal.bounds-trace-p-in-loop-i
 bounds-trace-p-in-loop-i c = omega arith
 
 pub overflow_add-own : goal.overflow_add-own
-overflow_add-own c = omega (arith, c.raise_node-own.ensures.1.1, c.loop-i.invariant.1)
+overflow_add-own c = omega (arith, c.raise_node-own.ensures.value.1, c.loop-i.invariant.1)
 
 pub overflow_add-i : goal.overflow_add-i
 overflow_add-i c = omega arith
@@ -48,11 +48,11 @@ loop-i-preserved c =
     let a = at-args.args in
     let e = c.raise_node-own.ensures in (
       omega arith,
-      omega (arith, e.1.1, at-loop.loop-i.invariant.1),
+      omega (arith, e.value.1, at-loop.loop-i.invariant.1),
       c.raise_node-own.auto.costs ∙ at-loop.loop-i.invariant.2,
       next_remain a.rules.now a.trace.now a.nodes at-loop.loop-i.i a.high.now (nodes_in a.rules.now (take (2 * a.nodes) a.trace.now))
           at-loop-test.loop-i-test.true
-          at-args.requires.1 e.0 e.1.0 at-loop.loop-i.invariant.3,
+          at-args.requires.1 e.costs_after e.value.0 at-loop.loop-i.invariant.3,
     )
 
 pub shape_of-costs : goal.shape_of-costs
@@ -62,5 +62,6 @@ pub returns : goal.returns
 returns c =
     let at-args = c in
     let a = at-args.args in
-    none_remain a.rules.now a.trace.now a.nodes c.loop-i.i a.high.now (nodes_in a.rules.now (take (2 * a.nodes) a.trace.now))
-    c.loop-i-test.false c.loop-i.invariant.3
+    let all = none_remain a.rules.now a.trace.now a.nodes c.loop-i.i a.high.now (nodes_in a.rules.now (take (2 * a.nodes) a.trace.now))
+    c.loop-i-test.false c.loop-i.invariant.3 in
+    record { costs_after = all.0; value = all.1 }

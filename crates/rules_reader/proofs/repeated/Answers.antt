@@ -5,7 +5,6 @@ use Rattle.rules_reader.proofs.repeated.Goals as goal
 
 pub returns-then-filter-filter_place-eq0 : goal.returns-then-filter-filter_place-eq0
 returns-then-filter-filter_place-eq0 c =
-    let at-args = c in
-    let a = at-args.args in
-    filters_miss _ _ a.key (take a.n a.keys.now) a.filter.now at-args.requires.2
+    let a = c.args in
+    filters_miss _ _ a.key (take a.n a.keys.now) a.filter.now c.requires.2
     (rw c.filter_place.ensures.0 at c.if-filter-filter_place-eq0.true)

@@ -1,8 +1,6 @@
 -- Where there is room, the head and the numbers are copied one behind the other.
-use mathlib.Core.Path.{◌∙◌}
 use mathlib.Core.List.{◌++◌}
 use native.Mathlib.Omega.{arith}
-use borrow.Author.Rules.{rules}
 use lib.ListN.{take}
 use Rattle.sheet_writer.proofs.Copied.{length_two, copied_two}
 use Rattle.sheet_writer.proofs.Fit.{no_room, room}
@@ -16,9 +14,7 @@ returns-then-out-length c =
 
 pub returns : goal.returns
 returns c =
-    let at_copy = c in
-    let at-args = at_copy in
-    let a = at-args.args in
+    let a = c.args in
     let n = length_two a.out.now a.head.now a.numbers.now a.n (omega arith) in
     let e = copied_two a.out.now a.head.now a.numbers.now a.n (omega arith) in
-    room (a.head.now ++ take a.n a.numbers.now) a.out.now n (omega arith) (rw at_copy.copy.ensures at c.copy-2.ensures ∙ e)
+    room (a.head.now ++ take a.n a.numbers.now) a.out.now n (omega arith) (cc)

@@ -1,13 +1,9 @@
 -- The loop is the definition's, turn by turn. Assumes nothing.
-use mathlib.Core.Path.{◌≡◌, ◌∙◌}
-use Prim.Native.Nat.{◌-◌, ◌*◌, ◌≤◌}
-use lib.ListN.{length}
+use mathlib.Core.Path.{◌∙◌}
 use borrow.Author.Rules.{rules}
 use Rattle.packing.specs.Loop.{iter}
 use Rattle.packing.proofs.Loop.{iter_more, iter_end}
-use Rattle.phrases.specs.Padded.{put_string}
 use Rattle.phrases.specs.Recursion.{fill}
-use Rattle.specimen.specs.Table.{least_of_cell}
 use Rattle.specimen.proofs.fill_table.Goals as goal
 
 pub loop-c-init : goal.loop-c-init

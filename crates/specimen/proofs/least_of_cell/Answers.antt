@@ -1,12 +1,9 @@
 -- The loop is the definition's, turn by turn. Assumes nothing.
-use mathlib.Core.Path.{◌≡◌, ◌∙◌}
-use Prim.Native.Nat.{◌-◌, ◌≤◌}
+use mathlib.Core.Path.{◌∙◌}
 use Rattle.packing.specs.Loop.{iter}
-use Rattle.packing.specs.Meaning.{symbol_of}
 use Rattle.packing.proofs.Loop.{iter_more, iter_end}
-use Rattle.phrases.specs.Padded.{no_string}
 use Rattle.phrases.specs.Recursion.{by_rules, least_of, least_at}
-use Rattle.specimen.specs.Table.{fitted_at, lesser_split, lesser_rule}
+use Rattle.specimen.specs.Table.{lesser_split, lesser_rule}
 use Rattle.specimen.proofs.Parts.{passed_over}
 use borrow.Author.Rules.{rules}
 use Rattle.specimen.proofs.least_of_cell.Goals as goal

@@ -1,9 +1,7 @@
 -- The loop is the definition's, turn by turn. Assumes nothing.
-use mathlib.Core.Path.{◌≡◌, ◌∙◌}
-use Prim.Native.Nat.{◌+◌, ◌-◌, ◌≤◌}
+use mathlib.Core.Path.{◌∙◌}
 use Rattle.packing.specs.Loop.{iter}
 use Rattle.packing.proofs.Loop.{iter_more, iter_end}
-use Rattle.specimen.specs.Table.{lesser_split}
 use borrow.Author.Rules.{rules}
 use Rattle.specimen.proofs.lesser_pair.Goals as goal
 

@@ -1,5 +1,4 @@
 -- Each arm of the match is the definition's clause for that rule. Assumes nothing.
-use borrow.Author.Rules.{rules}
 use borrow.Author.Tests.{eq-eqb, ne_eqb}
 use Rattle.phrases.specs.Recursion.{made, by_rule}
 use Rattle.specimen.specs.Table.{lesser_rule}

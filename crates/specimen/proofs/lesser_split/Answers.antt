@@ -1,6 +1,5 @@
 -- Both strings stand where the definition reads them. Assumes nothing.
 use Rattle.specimen.proofs.Parts.{split_is}
-use borrow.Author.Rules.{rules}
 use Rattle.specimen.proofs.lesser_split.Goals as goal
 
 pub returns : goal.returns

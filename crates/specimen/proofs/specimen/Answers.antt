@@ -5,7 +5,6 @@ use Rattle.packing.proofs.Whole.{grammar_block_out}
 use Rattle.grammar_reader.specs.Answer.{InBounds}
 use Rattle.grammar_reader.proofs.BlockInversion.{accepted_told, refused_told}
 use Rattle.specimen.proofs.Asked.{asked_block, asked_none, asked_many, asked_short, asked_well, specimen_refused, specimen_accepted}
-use borrow.Author.Rules.{rules}
 use Rattle.specimen.proofs.specimen.Goals as goal
 
 pub returns-then-wanted-lt1 : goal.returns-then-wanted-lt1

@@ -7,35 +7,31 @@ use Rattle.spireyerba.proofs.Demands.{chances}
 use Rattle.spireyerba.proofs.spireyerba_chance.Goals as goal
 
 pub refusal-requires : goal.refusal-requires
-refusal-requires c = shown_small (chance_small _ _ _ _) c.chance-answer.ensures.0 c.in-Refused.is
+refusal-requires c = shown_small (chance_small _ _ _ _) c.chance-answer.ensures.value c.in-Refused.is
 
 pub returns-in-Product : goal.returns-in-Product
 returns-in-Product c =
-    let at-chance = c in
-    let at-shared-slice-known3 = at-chance in
-    let at-args = at-shared-slice-known3 in
-    let a = at-args.args in
-    let answered = at-chance.chance-answer.ensures in
-    let code = shown_code_lem (chance_small a.grammar.now a.utterance.now a.reading.now a.shares.now) answered.0 c.in-Product.is in
-    let float = written_float (chance a.grammar.now a.utterance.now a.reading.now a.shares.now) a.chance.now answered.0
-    c.in-Product.is in (
-      record { code_is = code; left_is = float },
-      chances a.grammar.now a.utterance.now a.reading.now a.shares.now
-          (λ i. (at-shared-slice-known3.shared_slice_known-3-1.given i).fits) code float answered.0 answered.1,
-    )
+    let a = c.args in
+    let answered = c.chance-answer.ensures in
+    let code = shown_code_lem (chance_small a.grammar.now a.utterance.now a.reading.now a.shares.now) answered.value c.in-Product.is in
+    let float = written_float (chance a.grammar.now a.utterance.now a.reading.now a.shares.now) a.chance.now answered.value
+    c.in-Product.is in
+    record {
+      answered_as = record { code_is = code; left_is = float };
+      chance = chances a.grammar.now a.utterance.now a.reading.now a.shares.now
+          (λ i. (c.shared_slice_known-3-1.given i).fits) code float answered.value answered.shown;
+    }
 
 pub returns-in-Refused : goal.returns-in-Refused
 returns-in-Refused c =
-    let at-chance = c in
-    let at-shared-slice-known3 = at-chance in
-    let at-args = at-shared-slice-known3 in
-    let a = at-args.args in
-    let answered = at-chance.chance-answer.ensures in
-    let code = shown_number (chance_small a.grammar.now a.utterance.now a.reading.now a.shares.now) answered.0
+    let a = c.args in
+    let answered = c.chance-answer.ensures in
+    let code = shown_number (chance_small a.grammar.now a.utterance.now a.reading.now a.shares.now) answered.value
     c.in-Refused.is c.refusal.ensures in
-    let float = kept_float (chance a.grammar.now a.utterance.now a.reading.now a.shares.now) a.chance.now answered.0
-    c.in-Refused.is in (
-      record { code_is = code; left_is = float },
-      chances a.grammar.now a.utterance.now a.reading.now a.shares.now
-          (λ i. (at-shared-slice-known3.shared_slice_known-3-1.given i).fits) code float answered.0 answered.1,
-    )
+    let float = kept_float (chance a.grammar.now a.utterance.now a.reading.now a.shares.now) a.chance.now answered.value
+    c.in-Refused.is in
+    record {
+      answered_as = record { code_is = code; left_is = float };
+      chance = chances a.grammar.now a.utterance.now a.reading.now a.shares.now
+          (λ i. (c.shared_slice_known-3-1.given i).fits) code float answered.value answered.shown;
+    }

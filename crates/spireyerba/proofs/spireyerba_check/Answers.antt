@@ -6,10 +6,10 @@ use Rattle.spireyerba.proofs.Demands.{checks}
 use Rattle.spireyerba.proofs.spireyerba_check.Goals as goal
 
 pub checked_code-requires : goal.checked_code-requires
-checked_code-requires c = checked_small (check_small _ _ _) c.check.ensures.0
+checked_code-requires c = checked_small (check_small _ _ _) c.check.ensures.value
 
 pub returns : goal.returns
 returns c =
     let answered = c.check.ensures in
-    let code = checked_number (check_small _ _ _) answered.0 c.checked_code.ensures in
-    (code, checks _ _ _ (λ i. (c.shared_slice_known-3-1.given i).fits) code answered.0 answered.1)
+    let code = checked_number (check_small _ _ _) answered.value c.checked_code.ensures in
+    record { value = code; check = checks _ _ _ (λ i. (c.shared_slice_known-3-1.given i).fits) code answered.value answered.variant }

@@ -6,10 +6,10 @@ use Rattle.spireyerba.proofs.Demands.{grammar_to_sheet_lem}
 use Rattle.spireyerba.proofs.spireyerba_grammar_to_sheet.Goals as goal
 
 pub written_code-requires : goal.written_code-requires
-written_code-requires c = written_small (small_grammar_sheet _ _) c.grammar_to_sheet.ensures.0.0
+written_code-requires c = written_small (small_grammar_sheet _ _) c.grammar_to_sheet.ensures.writes.0
 
 pub returns : goal.returns
 returns c =
     let answered = c.grammar_to_sheet.ensures in
-    let code = written_number (small_grammar_sheet _ _) answered.0.0 c.written_code.ensures in
-    (record { code_is = code; left_is = answered.0.1 }, grammar_to_sheet_lem _ _ code answered.0.1 answered.0.0 answered.1)
+    let code = written_number (small_grammar_sheet _ _) answered.writes.0 c.written_code.ensures in
+    record { answered_as = record { code_is = code; left_is = answered.writes.1 }; grammar_to_sheet = grammar_to_sheet_lem _ _ code answered.writes.1 answered.writes.0 answered.turns_back }

@@ -14,16 +14,16 @@ pub returns-in-Written : goal.returns-in-Written
 returns-in-Written c =
     let s = c.next_phrase-answer.ensures in
     let code = answered_number (next_wanted _ _ _ _) s.0 c.in-Written.is c.count.ensures in
-    (record { code_is = code; left_is = s.1 }, continues _ _ _ _ code s.1)
+    record { answered_as = record { code_is = code; left_is = s.1 }; next_phrase = continues _ _ _ _ code s.1 }
 
 pub returns-in-Nothing : goal.returns-in-Nothing
 returns-in-Nothing c =
     let s = c.next_phrase-answer.ensures in
     let code = answered_code_lem (next_wanted _ _ _ _) s.0 c.in-Nothing.is in
-    (record { code_is = code; left_is = s.1 }, continues _ _ _ _ code s.1)
+    record { answered_as = record { code_is = code; left_is = s.1 }; next_phrase = continues _ _ _ _ code s.1 }
 
 pub returns-in-Refused : goal.returns-in-Refused
 returns-in-Refused c =
     let s = c.next_phrase-answer.ensures in
     let code = answered_number (next_wanted _ _ _ _) s.0 c.in-Refused.is c.refusal.ensures in
-    (record { code_is = code; left_is = s.1 }, continues _ _ _ _ code s.1)
+    record { answered_as = record { code_is = code; left_is = s.1 }; next_phrase = continues _ _ _ _ code s.1 }

@@ -12,4 +12,4 @@ pub returns : goal.returns
 returns c =
     let answered = c.office_to_block.ensures in
     let code = written_number (small_office_block _ _) answered.0 c.written_code.ensures in
-    (record { code_is = code; left_is = answered.1 }, office_to_block_lem _ _ code answered.1)
+    record { answered_as = record { code_is = code; left_is = answered.1 }; office_to_block = office_to_block_lem _ _ code answered.1 }

@@ -6,11 +6,11 @@ use Rattle.spireyerba.proofs.Demands.{panel_lists}
 use Rattle.spireyerba.proofs.spireyerba_panel_listing.Goals as goal
 
 pub listed_code-requires : goal.listed_code-requires
-listed_code-requires c = listed_small (panel_small _ _ _ _ _) c.listing_within.ensures.0.answer
+listed_code-requires c = listed_small (panel_small _ _ _ _ _) c.listing_within.ensures.lists.answer
 
 pub returns : goal.returns
 returns c =
-    let answered = c.listing_within.ensures.0 in
+    let answered = c.listing_within.ensures.lists in
     let code = listed_number (panel_small _ _ _ _ _) answered.answer c.listed_code.ensures in
     let meant = panel_lists _ _ _ _ _ code answered.work_is answered.output_is in
-    (record { code_is = code; work_is = answered.work_is; output_is = answered.output_is }, meant)
+    record { listed_as = record { code_is = code; work_is = answered.work_is; output_is = answered.output_is }; panel_listing = meant }

@@ -6,10 +6,10 @@ use Rattle.spireyerba.proofs.Demands.{utterance_to_block_lem}
 use Rattle.spireyerba.proofs.spireyerba_utterance_to_block.Goals as goal
 
 pub written_code-requires : goal.written_code-requires
-written_code-requires c = written_small (small_utterance_block _ _ _) c.utterance_to_block.ensures.0.0
+written_code-requires c = written_small (small_utterance_block _ _ _) c.utterance_to_block.ensures.writes.0
 
 pub returns : goal.returns
 returns c =
     let answered = c.utterance_to_block.ensures in
-    let code = written_number (small_utterance_block _ _ _) answered.0.0 c.written_code.ensures in
-    (record { code_is = code; left_is = answered.0.1 }, utterance_to_block_lem _ _ _ code answered.0.1 answered.0.0 answered.1)
+    let code = written_number (small_utterance_block _ _ _) answered.writes.0 c.written_code.ensures in
+    record { answered_as = record { code_is = code; left_is = answered.writes.1 }; utterance_to_block = utterance_to_block_lem _ _ _ code answered.writes.1 answered.writes.0 answered.turns_back }

@@ -7,12 +7,10 @@ use Rattle.traced_readings.proofs.form_of.Goals as goal
 
 pub returns-then-graph : goal.returns-then-graph
 returns-then-graph c =
-    let at-start = c in
-    let a = at-start.args in
-    rw (c.if-graph.true, c.graph_reading_length-size.ensures) (refl, size_within _ true at-start.requires.1 at-start.requires.3)
+    let a = c.args in
+    rw (c.if-graph.true, c.graph_reading_length-size.ensures) (refl, size_within _ true c.requires.1 c.requires.3)
 
 pub returns-else-graph : goal.returns-else-graph
 returns-else-graph c =
-    let at-start = c in
-    let a = at-start.args in
-    rw (c.if-graph.false, c.reading_length-size.ensures) (refl, size_within _ false at-start.requires.1 at-start.requires.3)
+    let a = c.args in
+    rw (c.if-graph.false, c.reading_length-size.ensures) (refl, size_within _ false c.requires.1 c.requires.3)

@@ -1,7 +1,6 @@
 -- What the reader answers tells what is to be written.
 use mathlib.Core.Path.{sym, ◌∙◌}
 use native.Mathlib.Omega.{arith}
-use borrow.Author.Rules.{rules}
 use Rattle.packing.specs.Parse.{accepted}
 use Rattle.packing.specs.Utterance.{utterance_block, sheet_of_utterance}
 use Rattle.sheet_writer.proofs.Fit.{handed_up}
@@ -20,19 +19,14 @@ write_sheet-requires c =
 
 pub returns-in-Refused : goal.returns-in-Refused
 returns-in-Refused c =
-    let at-read-block = c in
-    let at-args = at-read-block in
-    let a = at-args.args in
-    let r = at-read-block.read_block in
+    let a = c.args in
+    let r = c.read_block in
     handed_up a.out.now (refusal_told a.words (utterance_block a.words a.block.now) (λ u. accepted (sheet_of_utterance a.words u))
     (sym r.ensures.0 ∙ c.in-Refused.is))
 
 pub returns-in-Utterance : goal.returns-in-Utterance
 returns-in-Utterance c =
-    let at-u = c in
-    let at-read-block = at-u in
-    let at-args = at-read-block in
-    let a = at-args.args in
-    let r = at-read-block.read_block in
-    let e = sheet_told a.words (utterance_block a.words a.block.now) (sym r.ensures.0 ∙ at-u.in-Utterance.is) r.new.1.1.0 r.ensures.1 in
+    let a = c.args in
+    let r = c.read_block in
+    let e = sheet_told a.words (utterance_block a.words a.block.now) (sym r.ensures.0 ∙ c.in-Utterance.is) r.new.slots r.ensures.1 in
     rw e c.write_sheet.ensures

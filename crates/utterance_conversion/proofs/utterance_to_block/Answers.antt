@@ -1,7 +1,6 @@
 -- The grammar block is read for its words, and the utterance converted under them; what is written turns back.
 use mathlib.Core.Path.{sym, ◌∙◌}
 use native.Mathlib.Omega.{arith}
-use borrow.Author.Rules.{rules}
 use Rattle.packing.specs.Grammar.{grammar_block}
 use Rattle.packing.specs.Conversion.{utterance_to_block, block_under}
 use Rattle.packing.proofs.Theorems.{utterance_sheet_and_back}
@@ -11,26 +10,22 @@ use Rattle.utterance_conversion.proofs.utterance_to_block.Goals as goal
 
 pub sheet_to_block-requires : goal.sheet_to_block-requires
 sheet_to_block-requires c =
-    let at-read-block = c in
-    omega (arith, rw c.in-Grammar.is at at-read-block.read_block.ensures.2)
+    omega (arith, rw c.in-Grammar.is at c.read_block.ensures.2)
 
 pub returns-in-Refused : goal.returns-in-Refused
 unfolding utterance_to_block
 returns-in-Refused c =
-    let at-read-block = c in
-    let at-start = at-read-block in
-    let a = at-start.args in
-    and_back (utterance_to_block a.grammar.now a.sheet.now) (utterance_sheet_and_back a.grammar.now a.sheet.now) a.out.now
+    let a = c.args in
+    let (writes, back) = and_back (utterance_to_block a.grammar.now a.sheet.now) (utterance_sheet_and_back a.grammar.now a.sheet.now) a.out.now
     (handed_up a.out.now (refusal_told (grammar_block a.grammar.now) (λ g. block_under g.words a.sheet.now)
-    (sym at-read-block.read_block.ensures.0 ∙ c.in-Refused.is)))
+    (sym c.read_block.ensures.0 ∙ c.in-Refused.is))) in
+    record { writes = writes; turns_back = back }
 
 pub returns-in-Grammar : goal.returns-in-Grammar
 unfolding utterance_to_block
 returns-in-Grammar c =
-    let at-z = c in
-    let at-read-block = at-z in
-    let at-start = at-read-block in
-    let a = at-start.args in
-    and_back (utterance_to_block a.grammar.now a.sheet.now) (utterance_sheet_and_back a.grammar.now a.sheet.now) a.out.now
-    (rw (words_told (grammar_block a.grammar.now) (sym at-read-block.read_block.ensures.0 ∙ at-z.in-Grammar.is) (λ W. block_under W a.sheet.now))
-    c.sheet_to_block.ensures)
+    let a = c.args in
+    let (writes, back) = and_back (utterance_to_block a.grammar.now a.sheet.now) (utterance_sheet_and_back a.grammar.now a.sheet.now) a.out.now
+    (rw (words_told (grammar_block a.grammar.now) (sym c.read_block.ensures.0 ∙ c.in-Grammar.is) (λ W. block_under W a.sheet.now))
+    c.sheet_to_block.ensures) in
+    record { writes = writes; turns_back = back }

@@ -1,10 +1,7 @@
 -- What remains behind the first i slots is written from bit `at` on, and at the end nothing remains.
 use Prim.Native.Nat.{◌-◌, ◌≤◌}
-use native.Mathlib.Nat.{sub-zero}
-use native.Mathlib.Omega.{arith}
-use Rattle.bits.proofs.Remaining.{Remaining, all_remain, none_remain}
+use Rattle.bits.proofs.Remaining.{Remaining}
 use Rattle.sheet_writer.specs.Arrays.{slots_fields}
-use Rattle.utterance_writer.proofs.Slots.{slots_end, slot_within, slot_written}
 use Rattle.utterance_writer.proofs.write_slots.Given as goal
 
 abbrev pub invariant-loop-i : goal.invariant-loop-i

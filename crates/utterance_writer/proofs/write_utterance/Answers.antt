@@ -1,7 +1,6 @@
 -- The block is written where its length, told by how many numbers the slots take, fits.
 use mathlib.Core.Path.{◌∙◌}
 use native.Mathlib.Omega.{arith}
-use borrow.Author.Rules.{rules}
 use Rattle.sheet_writer.specs.Arrays.{utterance_fields, block_of}
 use Rattle.sheet_writer.proofs.Fit.{no_room, room}
 use Rattle.utterance_writer.proofs.Slots.{block_length, slots_small}
@@ -15,16 +14,12 @@ returns-then-out-length c =
 
 pub write_fields-requires : goal.write_fields-requires
 write_fields-requires c =
-    let at-args = c in
-    let a = at-args.args in
-    let n = block_length a.words a.slots.now a.n a.numbers at-args.requires.5 in
-    omega (arith, slots_small a.words a.slots.now a.n a.numbers at-args.requires.5 (omega arith) (omega arith) (omega arith))
+    let a = c.args in
+    let n = block_length a.words a.slots.now a.n a.numbers c.requires.5 in
+    omega (arith, slots_small a.words a.slots.now a.n a.numbers c.requires.5 (omega arith) (omega arith) (omega arith))
 
 pub returns : goal.returns
 returns c =
-    let at-if1 = c in
-    let at-utterance-length = at-if1 in
-    let at-args = at-utterance-length in
-    let a = at-args.args in
-    let n = at-utterance-length.utterance_length-length.ensures ∙ block_length a.words a.slots.now a.n a.numbers at-args.requires.5 in
-    room (block_of (utterance_fields a.words a.n a.slots.now)) a.out.now n at-if1.if-out-length.false c.write_fields.ensures
+    let a = c.args in
+    let n = c.utterance_length-length.ensures ∙ block_length a.words a.slots.now a.n a.numbers c.requires.5 in
+    room (block_of (utterance_fields a.words a.n a.slots.now)) a.out.now n c.if-out-length.false c.write_fields.ensures

@@ -12,8 +12,7 @@ use Rattle.word_margins.proofs.use_nodes.Goals as goal
 
 pub loop-i-init : goal.loop-i-init
 loop-i-init c =
-    let at-args = c in
-    (omega arith, refl, all_used at-args.args.rules.now at-args.args.trace.now at-args.args.nodes at-args.args.used.now)
+    (omega arith, refl, all_used c.args.rules.now c.args.trace.now c.args.nodes c.args.used.now)
 
 pub overflow_mul-p : goal.overflow_mul-p
 overflow_mul-p c = omega (arith, c.requires.0, c.loop-i-test.true)
@@ -35,29 +34,23 @@ bounds-trace-p-in-loop-i c = omega (arith, c.requires.1, c.loop-i-test.true)
 
 pub overflow_step-i : goal.overflow_step-i
 overflow_step-i c =
-    let at-loop-test = c in
-    let at_pre = at-loop-test in
-    omega (arith, at_pre.requires.0, at-loop-test.loop-i-test.true)
+    omega (arith, c.requires.0, c.loop-i-test.true)
 
 pub loop-i-smaller : goal.loop-i-smaller
 loop-i-smaller c = omega (arith, c.loop-i-test.true)
 
 pub loop-i-preserved : goal.loop-i-preserved
-loop-i-preserved c =
-    let at-loop-test = c in
-    let at-loop = at-loop-test in
-    let at-args = at-loop in (
-      omega (arith, at-loop-test.loop-i-test.true),
-      c.use_node.auto.used ∙ at-loop.loop-i.invariant.1,
-      next_used at-args.args.rules.now at-args.args.trace.now at-args.args.nodes at-loop.loop-i.i at-loop-test.loop-i-test.true
-          at-args.requires.1 at-loop.loop-i.used c.use_node.ensures ∙ at-loop.loop-i.invariant.2,
-    )
+loop-i-preserved c = (
+  omega (arith, c.loop-i-test.true),
+  c.use_node.auto.used ∙ c.loop-i.invariant.1,
+  next_used c.args.rules.now c.args.trace.now c.args.nodes c.loop-i.i c.loop-i-test.true
+      c.requires.1 c.loop-i.used c.use_node.ensures ∙ c.loop-i.invariant.2,
+)
 
 pub shape_of-used : goal.shape_of-used
 shape_of-used c = c.loop-i.invariant.1
 
 pub returns : goal.returns
 returns c =
-    let at-args = c in
-    none_used at-args.args.rules.now at-args.args.trace.now at-args.args.nodes c.loop-i.i c.loop-i-test.false c.loop-i.used
+    none_used c.args.rules.now c.args.trace.now c.args.nodes c.loop-i.i c.loop-i-test.false c.loop-i.used
     ∙ c.loop-i.invariant.2

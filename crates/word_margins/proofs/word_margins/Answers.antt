@@ -5,26 +5,20 @@ use Rattle.word_margins.proofs.word_margins.Goals as goal
 
 pub margins_read-requires : goal.margins_read-requires
 margins_read-requires c =
-    let at-inputs = c in
-    let at-read-slot-inputs = at-inputs in
-    let k = rw at-inputs.in-Read.is at at-read-slot-inputs.read_slot_inputs.ensures in
+    let k = rw c.in-Read.is at c.read_slot_inputs.ensures in
     k.bounds
 
 pub returns-in-Refused : goal.returns-in-Refused
 returns-in-Refused c =
-    let at-read-slot-inputs = c in
-    let at-args = at-read-slot-inputs in
-    let a = at-args.args in
-    meant a.grammar.now a.utterance.now a.work.now a.out.now
+    let a = c.args in
+    let told = meant a.grammar.now a.utterance.now a.work.now a.out.now
     (not_read a.grammar.now a.utterance.now a.work.now a.out.now
-    (rw c.in-Refused.is at at-read-slot-inputs.read_slot_inputs.ensures))
+    (rw c.in-Refused.is at c.read_slot_inputs.ensures)) in
+    record { lists = told.0; meant = told.1 }
 
 pub returns-in-Read : goal.returns-in-Read
 returns-in-Read c =
-    let at-margins-read = c in
-    let at-inputs = at-margins-read in
-    let at-read-slot-inputs = at-inputs in
-    let at-args = at-read-slot-inputs in
-    let a = at-args.args in
-    let k = rw at-inputs.in-Read.is at at-read-slot-inputs.read_slot_inputs.ensures in
-    meant a.grammar.now a.utterance.now a.work.now a.out.now (at-margins-read.margins_read.ensures _ _ _ _ k)
+    let a = c.args in
+    let k = rw c.in-Read.is at c.read_slot_inputs.ensures in
+    let told = meant a.grammar.now a.utterance.now a.work.now a.out.now (c.margins_read.ensures _ _ _ _ k) in
+    record { lists = told.0; meant = told.1 }

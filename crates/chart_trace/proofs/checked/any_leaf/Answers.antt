@@ -1,9 +1,6 @@
 -- The edges behind e do not fit.
-use mathlib.Core.Path.{◌≡◌, refl, sym, ◌∙◌}
-use Prim.Native.Nat.{◌≤◌}
+use mathlib.Core.Path.{refl, sym, ◌∙◌}
 use native.Mathlib.Omega.{arith}
-use borrow.Author.Rules.{rules}
-use Rattle.chart_trace.specs.Checked.{any_leaf}
 use Rattle.chart_trace.proofs.Leaf.{leaf_read, none_left, fits, unfit, last_fits, last_unfit}
 use Rattle.chart_trace.proofs.checked.any_leaf.Goals as goal
 

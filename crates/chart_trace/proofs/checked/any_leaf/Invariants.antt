@@ -1,10 +1,7 @@
 -- The edges behind e do not fit.
-use mathlib.Core.Path.{◌≡◌, refl, sym, ◌∙◌}
+use mathlib.Core.Path.{◌≡◌}
 use Prim.Native.Nat.{◌≤◌}
-use native.Mathlib.Omega.{arith}
-use borrow.Author.Rules.{rules}
 use Rattle.chart_trace.specs.Checked.{any_leaf}
-use Rattle.chart_trace.proofs.Leaf.{leaf_read, none_left, fits, unfit, last_fits, last_unfit}
 use Rattle.chart_trace.proofs.checked.any_leaf.Given as goal
 
 abbrev pub invariant-loop-e : goal.invariant-loop-e

@@ -1,7 +1,6 @@
 -- By the cost of edge e, and by whether leaves name their edges.
 use native.Mathlib.Omega.{arith}
 use Rattle.chart_trace.proofs.Leaf.{fits, unfit, leaf_read}
-use borrow.Author.Rules.{rules}
 use Rattle.chart_trace.proofs.checked.checked_leaf.Goals as goal
 
 pub returns-then-cost-lt-NOT_HEARD : goal.returns-then-cost-lt-NOT_HEARD

@@ -3,7 +3,6 @@ use native.Mathlib.Omega.{arith}
 use borrow.Author.Tests.{lt-ltb, le-ltb, eq-eqb, ne_eqb}
 use Rattle.chart_trace.specs.Checked.{checked_node}
 use Rattle.chart_trace.proofs.Spelled.{by_rule}
-use borrow.Author.Rules.{rules}
 use Rattle.chart_trace.proofs.checked.checked_node.Goals as goal
 
 pub returns-then-scope-b : goal.returns-then-scope-b

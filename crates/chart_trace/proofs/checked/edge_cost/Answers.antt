@@ -2,7 +2,6 @@
 use native.Mathlib.Omega.{arith}
 use borrow.Author.Tests.{lt-ltb, le-ltb, eq-eqb, ne_eqb}
 use Rattle.chart_trace.specs.Checked.{edge_fits}
-use borrow.Author.Rules.{rules}
 use Rattle.chart_trace.proofs.checked.edge_cost.Goals as goal
 
 pub returns-then-count-e : goal.returns-then-count-e
@@ -17,7 +16,13 @@ returns-then-edge-c c =
 pub returns-then-edge-c-2 : goal.returns-then-edge-c-2
 unfolding edge_fits
 returns-then-edge-c-2 c = (
-  simp (lt-ltb _ _ c.if-count-e.false, ← c.edge_numbers-edge.ensures.0, eq-eqb _ _ c.if-edge-c.false, ← c.edge_numbers-edge.ensures.1, ne_eqb _ _ c.if-edge-c-2.true),
+  simp (
+    lt-ltb _ _ c.if-count-e.false,
+    ← c.edge_numbers-edge.ensures.0,
+    eq-eqb _ _ c.if-edge-c.false,
+    ← c.edge_numbers-edge.ensures.1,
+    ne_eqb _ _ c.if-edge-c-2.true,
+  ),
   λ l. absurd (omega arith),
 )
 

@@ -1,19 +1,16 @@
 -- The loop's state is that of the back trace, with the weight so far. Where a rank is not found or a node is wrong, the whole spells nothing.
-use mathlib.Core.Path.{◌≡◌, refl, ap, ◌∙◌}
+use mathlib.Core.Path.{◌≡◌}
 use Prim.Native.Nat.{◌-◌, ◌*◌}
-use native.Mathlib.Omega.{arith}
-use borrow.Author.Rules.{rules}
 use lib.ListN.{length}
-use Rattle.chart_keys.specs.Keys.{back_pointer}
-use Rattle.chart_trace.proofs.Pending.{trace_part, Tracing, starts, descends, resumes, ends, top_low, less_down, less_up}
-use Rattle.chart_trace.proofs.Spelled.{seen_as, not_found, wrong_node, leaf_node, pairing_node, no_tree, one_tree}
-use Rattle.chart_trace.proofs.Weighing.{spelled_part, Weighing, unweighed, spells_nothing, weighs_pair, weighs_leaf, weighs_last}
+use Rattle.chart_trace.proofs.Pending.{trace_part, Tracing}
+use Rattle.chart_trace.proofs.Weighing.{spelled_part, Weighing}
 use Rattle.chart_trace.proofs.checked.trace_checked.Given as goal
 
 abbrev pub invariant-loop-scope : goal.invariant-loop-scope
 invariant-loop-scope l =
     (length l.trace ≡ length l.initial.trace)
-    × Tracing l.t l.rules l.d l.initial.here.cell.from l.initial.here.cell.to l.initial.trace (trace_part l.t l.rules l.d l.initial.here) l.trace l.stack l.n l.here l.next
+    × Tracing l.t l.rules l.d l.initial.here.cell.from l.initial.here.cell.to l.initial.trace
+    (trace_part l.t l.rules l.d l.initial.here) l.trace l.stack l.n l.here l.next
     × Weighing l.t l.rules l.edges l.scope l.d (spelled_part l.t l.rules l.edges l.scope l.d l.initial.here) l.stack l.n l.here l.next l.weight
 
 abbrev pub decreases-loop-scope : goal.decreases-loop-scope

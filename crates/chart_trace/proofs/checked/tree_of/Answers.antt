@@ -1,7 +1,6 @@
 -- The entry's numbers are those that both definitions read.
 use borrow.Author.Tests.{lt-ltb}
 use Rattle.chart_table.specs.Table.{price_at, back_at}
-use borrow.Author.Rules.{rules}
 use Rattle.chart_trace.proofs.checked.tree_of.Goals as goal
 
 pub returns-then-at-t : goal.returns-then-at-t

@@ -1,12 +1,10 @@
 -- The loop is the iteration over the cells.
-use mathlib.Core.Path.{◌≡◌, refl, ◌∙◌}
-use Prim.Native.Nat.{◌-◌, ◌≤◌}
-use lib.ListN.{length}
+use mathlib.Core.Path.{refl, ◌∙◌}
 use Rattle.packing.specs.Loop.{iter}
 use Rattle.packing.proofs.Loop.{iter_more, iter_end}
-use Rattle.chart_table.specs.Table.{clear_cell, clear}
+use Rattle.chart_table.specs.Table.{clear}
 use borrow.Author.Rules.{rules}
-use Rattle.chart_clearing.proofs.clear_table.Goals as goal
+use Rattle.chart_clearing.proofs.clear.Goals as goal
 
 pub loop-c-init : goal.loop-c-init
 unfolding iter
