@@ -94,4 +94,5 @@ pub not_read : (l : Limits) (grammar heard : List ℕ) (N : ℕ) (work out : Lis
     → Lists work_after output_after (list l grammar heard N (length work) (length out)) work out (Refused n) work out
 unfolding list
 not_read l grammar heard N work out e =
-    rw (meant_first heard_block grammar heard (λ g h. listed l g h N (length work) (length out)), e) (record { answer = refl; work_is = refl; output_is = refl })
+    rw (meant_first heard_block grammar heard (λ g h. listed l g h N (length work) (length out)), e)
+    (record { answer = refl; work_is = refl; output_is = refl })

@@ -138,7 +138,8 @@ module _ (g : Grammar) (h : Heard) (ok : ValidHeard g.words h) (table : List ℕ
   one_spelled (leaf_spelled is same) (node_spelled is' at left right) d d' = let z : ◌≡◌ {A = ℕ} 0 1 = cc in absurd (omega arith)
   one_spelled (node_spelled is at left right) (leaf_spelled is' same) d d' = let z : ◌≡◌ {A = ℕ} 0 1 = cc in absurd (omega arith)
   one_spelled {A = A} {i} {k} (node_spelled {B = B} {C = C} {r = r} {j = j} {p = p} {q = q} {y = y₁} {z = z₁} is at left right)
-      (node_spelled {B = B'} {C = C'} {r = r'} {j = j'} {p = p'} {q = q'} {y = y₂} {z = z₂} is' at' left' right') (by_pair_rule {B = B₁} {C = C₁} a₁ l₁ m₁ dl dr)
+      (node_spelled {B = B'} {C = C'} {r = r'} {j = j'} {p = p'} {q = q'} {y = y₂} {z = z₂} is' at' left' right')
+      (by_pair_rule {B = B₁} {C = C₁} a₁ l₁ m₁ dl dr)
       (by_pair_rule {B = B₂} {C = C₂} a₂ l₂ m₂ dl' dr') =
       let er : r' ≡ r = cc in
       let ej : j' ≡ j = cc in

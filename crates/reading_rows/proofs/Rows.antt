@@ -29,7 +29,8 @@ row_is rank w n l part e h p =
     ap (λ (r : List ℕ). rank ∷ w ∷ n ∷ r) is ∙ ap (λ (i : ℕ). rank ∷ w ∷ i ∷ l ++ zeros (47 - length l)) e
 
 pub row_written : (rank w n : ℕ) (row₀ l blank part x₁ x₂ x₃ : List ℕ) → length row₀ ≡ 50 → blank ≡ replicate (length row₀) 0 → n ≡ length l → n ≤ 47
-    → part ≡ l ++ drop n (take (length blank - 3) (drop 3 blank)) → x₁ ≡ set (put_mid 3 (length blank - 3) blank part) 0 rank → x₂ ≡ set x₁ 1 w → x₃ ≡ set x₂ 2 n
+    → part ≡ l ++ drop n (take (length blank - 3) (drop 3 blank)) → x₁ ≡ set (put_mid 3 (length blank - 3) blank part) 0 rank → x₂ ≡ set x₁ 1 w → x₃
+    ≡ set x₂ 2 n
     → x₃ ≡ row rank w l
 row_written rank w n row₀ l blank part x₁ x₂ x₃ long is e h p a b c =
     let all : blank ≡ zeros 50 = is ∙ ap zeros long in

@@ -35,7 +35,8 @@ module _ (rules : List R.Rule) (src : Source) (nodes : ℕ) where
         go rest q (rw z at p)
       where
         go : (rest : List ℕ) → take i array ++ rest ≡ l → rules_read rules src (suc (nodes - (i + 1))) at ≡ parsed rest next
-            → (x : Node) × (mid : ℕ) × (rest : List ℕ) × (node_from rules src at ≡ parsed x mid) × (rules_read rules src (nodes - (i + 1)) mid ≡ parsed rest next)
+            → (x : Node) × (mid : ℕ) × (rest : List ℕ) × (node_from rules src at ≡ parsed x mid)
+            × (rules_read rules src (nodes - (i + 1)) mid ≡ parsed rest next)
             × (take i array ++ (node_rule x ∷ rest) ≡ l)
         go rest q p =
             through (node_from rules src at) _ p λ x mid a p. through (rules_read rules src (nodes - (i + 1)) mid) _ p λ more end b p.

@@ -121,7 +121,8 @@ module _ (g : Grammar) (okg : ValidGrammar g) (rules : List ℕ) (has_rules : Be
   }
 
   some_list : ¬ (roots_found table (layout g (slots u) 1) ≡ 0)
-      → table_list rules array (first_used rules table (layout g (slots u) 1) (replicate 168 0)) (pass_of g u) (root_weight table (layout g (slots u) 1) 0) table
+      → table_list rules array (first_used rules table (layout g (slots u) 1) (replicate 168 0)) (pass_of g u) (root_weight table (layout g (slots u) 1) 0)
+      table
       ≡ margins_of g u
   unfolding lay_out margins_of listed_for
   some_list n =

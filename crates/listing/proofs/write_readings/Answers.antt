@@ -23,10 +23,18 @@ pub overflow_mul-at : goal.overflow_mul-at
 overflow_mul-at c = omega (arith, within c.loop-x.x c.args.m c.args.form.size (length c.loop-x.out) c.loop-x-test.true (omega (arith, c.requires)))
 
 pub slice_bounds-write_rank-count : goal.slice_bounds-write_rank-count
-slice_bounds-write_rank-count c = omega (arith, within c.loop-x.x c.args.m c.args.form.size (length c.loop-x.out) c.loop-x-test.true (omega (arith, c.requires)))
+slice_bounds-write_rank-count c = omega (
+  arith,
+  within c.loop-x.x c.args.m c.args.form.size (length c.loop-x.out) c.loop-x-test.true
+      (omega (arith, c.requires)),
+)
 
 pub slice_bounds-write_rank-start : goal.slice_bounds-write_rank-start
-slice_bounds-write_rank-start c = omega (arith, within c.loop-x.x c.args.m c.args.form.size (length c.loop-x.out) c.loop-x-test.true (omega (arith, c.requires)))
+slice_bounds-write_rank-start c = omega (
+  arith,
+  within c.loop-x.x c.args.m c.args.form.size (length c.loop-x.out) c.loop-x-test.true
+      (omega (arith, c.requires)),
+)
 
 pub slice_bounds-write_rank-end : goal.slice_bounds-write_rank-end
 slice_bounds-write_rank-end c = omega arith
@@ -36,7 +44,11 @@ write_rank-requires c = (
   c.requires.0,
   c.requires.1,
   omega (arith, c.requires, c.loop-x-test.true),
-  simp (length-take, length-drop) (omega (arith, within c.loop-x.x c.args.m c.args.form.size (length c.loop-x.out) c.loop-x-test.true (omega (arith, c.requires)))),
+  simp (length-take, length-drop) (omega (
+    arith,
+    within c.loop-x.x c.args.m c.args.form.size (length c.loop-x.out) c.loop-x-test.true
+        (omega (arith, c.requires)),
+  )),
 )
 
 pub overflow_step-x : goal.overflow_step-x

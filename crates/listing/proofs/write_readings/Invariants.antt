@@ -12,7 +12,8 @@ use Rattle.listing.proofs.Written.{written_more}
 use Rattle.listing.proofs.write_readings.Given as goal
 
 abbrev pub invariant-loop-x : goal.invariant-loop-x
-invariant-loop-x l = (l.x ≤ l.m) × (length l.out ≡ length l.initial.out) × (l.out ≡ blocks_at l.t l.rules l.d l.form l.x ++ drop (l.x * l.form.size) l.initial.out)
+invariant-loop-x l = (l.x ≤ l.m) × (length l.out ≡ length l.initial.out)
+    × (l.out ≡ blocks_at l.t l.rules l.d l.form l.x ++ drop (l.x * l.form.size) l.initial.out)
 
 abbrev pub decreases-loop-x : goal.decreases-loop-x
 decreases-loop-x l = l.m - l.x

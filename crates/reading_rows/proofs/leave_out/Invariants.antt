@@ -10,7 +10,8 @@ use Rattle.reading_rows.proofs.leave_out.Given as goal
 
 abbrev pub invariant-loop-i : goal.invariant-loop-i
 invariant-loop-i l =
-    (l.i ≤ l.nodes) × (l.k ≤ l.i) × (length l.shown ≡ length l.initial.shown) × (take l.k l.shown ≡ without_marked l.marks (take l.i l.walk)) × (drop l.k l.shown ≡ drop l.k l.initial.shown)
+    (l.i ≤ l.nodes) × (l.k ≤ l.i) × (length l.shown ≡ length l.initial.shown) × (take l.k l.shown ≡ without_marked l.marks (take l.i l.walk))
+    × (drop l.k l.shown ≡ drop l.k l.initial.shown)
 
 abbrev pub decreases-loop-i : goal.decreases-loop-i
 decreases-loop-i l = l.nodes - l.i

@@ -12,7 +12,8 @@ use Rattle.reading_rows.proofs.read_walk.Given as goal
 
 abbrev pub invariant-loop-i : goal.invariant-loop-i
 invariant-loop-i l =
-    (l.i ≤ l.nodes) × (length l.walk ≡ length l.initial.walk) × (l.at ≤ 34 + 15 * l.i) × Remaining (rules_of l.rules l.count) (bytes 31 l.block) l.nodes l.i l.at l.walk
+    (l.i ≤ l.nodes) × (length l.walk ≡ length l.initial.walk) × (l.at ≤ 34 + 15 * l.i)
+    × Remaining (rules_of l.rules l.count) (bytes 31 l.block) l.nodes l.i l.at l.walk
 
 abbrev pub decreases-loop-i : goal.decreases-loop-i
 decreases-loop-i l = l.nodes - l.i

@@ -12,4 +12,8 @@ pub returns : goal.returns
 returns c =
     let answered = c.grammar_to_block.ensures in
     let code = written_number (small_grammar_block _ _) answered.writes.0 c.written_code.ensures in
-    record { answered_as = record { code_is = code; left_is = answered.writes.1 }; grammar_to_block = grammar_to_block_lem _ _ code answered.writes.1 answered.writes.0 answered.turns_back }
+    record {
+      answered_as = record { code_is = code; left_is = answered.writes.1 };
+      grammar_to_block
+          = grammar_to_block_lem _ _ code answered.writes.1 answered.writes.0 answered.turns_back;
+    }

@@ -12,4 +12,8 @@ pub returns : goal.returns
 returns c =
     let answered = c.listing.ensures.lists in
     let code = listed_number (library_small _ _ _ _ _) answered.answer c.listed_code.ensures in
-    record { listed_as = record { code_is = code; work_is = answered.work_is; output_is = answered.output_is }; listing = lists _ _ _ _ _ code answered.work_is answered.output_is }
+    record {
+      listed_as = record { code_is = code; work_is = answered.work_is; output_is = answered.output_is };
+      listing
+          = lists _ _ _ _ _ code answered.work_is answered.output_is;
+    }
