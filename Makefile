@@ -5,7 +5,8 @@
 # make uninstall  takes them away again
 # make test       all tests, from nothing
 # make bench      the library's times beside those of Rust on the same inputs
-# make clean      removes all that was built
+# make proved     the archive and the programs alone, with the proofs that they need
+# make clean      removes all that was built, and what was kept of proofs
 
 PREFIX ?= /usr/local
 export PREFIX DESTDIR BINDIR LIBDIR INCLUDEDIR DATADIR PYTHONDIR
@@ -13,20 +14,27 @@ export PREFIX DESTDIR BINDIR LIBDIR INCLUDEDIR DATADIR PYTHONDIR
 archive := target/staticlib/libspireyerba.a
 text_interface := $(shell sed -n 's/^.define SPIREYERBA_TEXT_INTERFACE //p' include/spireyerba_text.h)
 
-.PHONY: all quick command libraries install uninstall test bench clean
+.PHONY: all quick proved command libraries install uninstall test bench clean
 
 all:
-	rt check
-	rt staticlib spireyerba
-	$(MAKE) command libraries
+	rt all check
+	$(MAKE) proved command libraries
 
 quick:
-	rt check
-	rt staticlib spireyerba
+	rt all check
+	$(MAKE) proved
 	cargo test --release --locked --workspace
 
+# `rt lib` and `rt run` prove what is not proved yet; a program stays where it was run.
+proved:
+	cd crates/spireyerba_c && rt lib
+	install -D -m 644 crates/spireyerba_c/out/libspireyerba_c.a $(archive)
+	for program in lister run_cases; do \
+		(cd crates/$$program && rt run >/dev/null) && install -D crates/$$program/out/$$program target/bin/$$program || exit 1; \
+	done
+
 $(archive):
-	rt staticlib spireyerba
+	$(MAKE) proved
 
 command: $(archive)
 	cargo build --release --locked --package spireyerba-cli
@@ -46,11 +54,10 @@ uninstall: command
 test:
 	.ci/run
 
-bench:
-	rt staticlib spireyerba
+bench: proved
 	cargo build --profile bench --locked --package spireyerba-cli
 	if command -v python3 >/dev/null; then $(MAKE) -s libraries && PYTHONPATH=python python3 python/bench.py; fi
 	cargo run --profile bench --locked --package spireyerba-bench
 
 clean:
-	rm -rf target
+	rm -rf target crates/*/out

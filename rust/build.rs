@@ -1,5 +1,5 @@
 //! Links the proved library: that of the folder which `SPIREYERBA_LIB_DIR` names, as `make install` leaves it, or the one that
-//! `rt staticlib spireyerba` writes.
+//! `make proved` writes.
 
 use std::path::{Path, PathBuf};
 
@@ -16,7 +16,7 @@ fn main() {
     println!("cargo:rustc-link-search=native={}", folder.display());
     println!("cargo:rustc-link-lib=static=spireyerba");
     if !archive.exists() {
-        println!("cargo:warning=no {}: run `rt staticlib spireyerba`, or set {FOLDER}", archive.display());
+        println!("cargo:warning=no {}: run `make proved`, or set {FOLDER}", archive.display());
     }
     let (said_in, before) = match installed {
         Some(folder) => (folder.join("pkgconfig/spireyerba.pc"), "Version: "),

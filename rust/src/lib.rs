@@ -24,7 +24,7 @@
 //!
 //! This crate calls the library that the repository proves, `target/staticlib/libspireyerba.a`. Whatever is searched,
 //! weighed or checked, the library does it: here are its functions for Rust, values in place of numbers, and texts.
-//! `rt staticlib spireyerba` builds the library, which has to stand there before this crate is linked; where it is installed,
+//! `make proved` builds the library, which has to stand there before this crate is linked; where it is installed,
 //! `SPIREYERBA_LIB_DIR` names its folder. [`LIBRARY_VERSION`] is its version.
 //!
 //! | module | has |

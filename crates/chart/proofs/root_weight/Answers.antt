@@ -8,5 +8,4 @@ cell_number-requires c = rw c.root.ensures (search rules)
 
 pub returns : goal.returns
 unfolding root_weight
-returns c =
-    rw (← c.root.ensures, ← c.cell_number.ensures.0, ← c.price_at.ensures.0) c.found_weight.ensures
+returns c = rw (← c.root.ensures, ← c.cell_number.ensures.0, ← c.price_at.ensures.0) c.found_weight.ensures

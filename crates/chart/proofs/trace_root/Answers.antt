@@ -9,5 +9,4 @@ trace_back-requires c = rw c.root.ensures (search rules)
 
 pub returns : goal.returns
 unfolding root_trace
-returns c =
-    rw (← c.root.ensures) (c.trace_back.ensures _ (rw c.root.ensures (omega arith)))
+returns c = rw (← c.root.ensures) (c.trace_back.ensures _ (rw c.root.ensures (omega arith)))

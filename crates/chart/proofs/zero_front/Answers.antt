@@ -2,7 +2,6 @@
 use mathlib.Core.Path.{sym}
 use lib.Seq.{length-take-le}
 use Rattle.chart.proofs.Front.{front_zeros}
-use borrow.Author.Rules.{rules}
 use Rattle.chart.proofs.zero_front.Goals as goal
 
 pub slice_bounds-zero-end-then-front-t : goal.slice_bounds-zero-end-then-front-t

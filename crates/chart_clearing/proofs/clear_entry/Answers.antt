@@ -8,5 +8,4 @@ returns-then-at-t c = rw (c.clear_within.ensures, c.entry_of-at.ensures.0)
 
 pub returns : goal.returns
 unfolding clear_entry
-returns c =
-    rw (c.store-4.ensures, c.store-3.ensures, c.store-2.ensures, c.store.ensures, c.entry_of-at.ensures.0)
+returns c = rw (c.store-4.ensures, c.store-3.ensures, c.store-2.ensures, c.store.ensures, c.entry_of-at.ensures.0)

@@ -1,18 +1,15 @@
 -- The loop is the iteration over the heads, which nothing changes from one live head to the next, and the masks cover the table at
 -- each turn.
-use Prim.Native.Nat.{◌+◌, ◌≤◌, ◌-◌}
-use mathlib.Core.Path.{◌≡◌, refl, ◌∙◌}
+use Prim.Native.Nat.{◌+◌}
+use mathlib.Core.Path.{refl, ◌∙◌}
 use native.Mathlib.Omega.{arith}
-use lib.ListN.{length}
 use borrow.Author.Rules.{rules}
 use Rattle.packing.specs.Meaning.{symbol_of}
 use Rattle.packing.specs.Loop.{iter}
 use Rattle.packing.proofs.Loop.{iter_more, iter_end}
 use Rattle.chart_table.specs.Table.{cell}
-use Rattle.chart_masks.specs.Masks.{Covers}
-use Rattle.chart_heads.specs.Heads.{Ruled, Live}
 use Rattle.chart_heads.proofs.Members.{heads_complete}
-use Rattle.chart_search.specs.Search.{next_of_span, first_of_heads}
+use Rattle.chart_search.specs.Search.{first_of_heads}
 use Rattle.chart_passes.proofs.Fuel.{first_of_span}
 use Rattle.chart_passes.proofs.Heads.{lacked_heads}
 use Rattle.chart_passes.proofs.first_of_heads.Goals as goal
@@ -52,20 +49,16 @@ first_rank-requires c =
     )
 
 pub live_heads-live-requires-in-loop-a : goal.live_heads-live-requires-in-loop-a
-live_heads-live-requires-in-loop-a c =
-    (c.requires.0.sized.symbols, omega (arith, c.requires.0.order, c.requires.0.last), c.requires.0.last)
+live_heads-live-requires-in-loop-a c = (c.requires.0.sized.symbols, omega (arith, c.requires.0.order, c.requires.0.last), c.requires.0.last)
 
 pub overflow_add-a : goal.overflow_add-a
-overflow_add-a c =
-    search (rules, c.loop-a-test.true, c.requires.0.sized.symbols)
+overflow_add-a c = search (rules, c.loop-a-test.true, c.requires.0.sized.symbols)
 
 pub next_head-a-requires-in-loop-a : goal.next_head-a-requires-in-loop-a
-next_head-a-requires-in-loop-a c =
-    (omega (arith, c.loop-a-test.true), c.requires.0.sized.symbols)
+next_head-a-requires-in-loop-a c = (omega (arith, c.loop-a-test.true), c.requires.0.sized.symbols)
 
 pub loop-a-smaller : goal.loop-a-smaller
-loop-a-smaller c =
-    search (rules, c.loop-a-test.true, c.next_head-a-in-loop-a.ensures.0, c.next_head-a-in-loop-a.ensures.1)
+loop-a-smaller c = search (rules, c.loop-a-test.true, c.next_head-a-in-loop-a.ensures.0, c.next_head-a-in-loop-a.ensures.1)
 
 pub loop-a-preserved : goal.loop-a-preserved
 loop-a-preserved c = (

@@ -1,20 +1,14 @@
 -- The loop is the iteration over the heads, which nothing changes from one live head to the next, and the masks cover the table at
 -- each turn.
-use Prim.Native.Nat.{◌+◌, ◌≤◌, ◌-◌}
-use mathlib.Core.Path.{◌≡◌, refl, ◌∙◌}
-use native.Mathlib.Omega.{arith}
+use Prim.Native.Nat.{◌≤◌, ◌-◌}
+use mathlib.Core.Path.{◌≡◌}
 use lib.ListN.{length}
-use borrow.Author.Rules.{rules}
 use Rattle.packing.specs.Meaning.{symbol_of}
 use Rattle.packing.specs.Loop.{iter}
-use Rattle.packing.proofs.Loop.{iter_more, iter_end}
 use Rattle.chart_table.specs.Table.{cell}
 use Rattle.chart_masks.specs.Masks.{Covers}
 use Rattle.chart_heads.specs.Heads.{Ruled, Live}
-use Rattle.chart_heads.proofs.Members.{heads_complete}
-use Rattle.chart_search.specs.Search.{next_of_span, first_of_heads}
-use Rattle.chart_passes.proofs.Fuel.{first_of_span}
-use Rattle.chart_passes.proofs.Heads.{lacked_heads}
+use Rattle.chart_search.specs.Search.{next_of_span}
 use Rattle.chart_passes.proofs.first_of_heads.Given as goal
 
 abbrev pub invariant-loop-a : goal.invariant-loop-a

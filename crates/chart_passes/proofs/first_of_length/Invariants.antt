@@ -1,13 +1,11 @@
 -- The loop is the iteration over the places that a span can start at.
 use Prim.Native.Nat.{◌+◌, ◌≤◌, ◌-◌}
-use mathlib.Core.Path.{◌≡◌, ◌∙◌}
+use mathlib.Core.Path.{◌≡◌}
 use lib.ListN.{length}
-use borrow.Author.Rules.{rules}
 use Rattle.packing.specs.Loop.{iter}
-use Rattle.packing.proofs.Loop.{iter_more, iter_end}
 use Rattle.chart_masks.specs.Masks.{Covers}
 use Rattle.chart_heads.specs.Heads.{Ruled}
-use Rattle.chart_search.specs.Search.{first_of_heads, first_of_length}
+use Rattle.chart_search.specs.Search.{first_of_heads}
 use Rattle.chart_passes.proofs.first_of_length.Given as goal
 
 abbrev pub invariant-loop-i : goal.invariant-loop-i

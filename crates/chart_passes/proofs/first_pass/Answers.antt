@@ -1,13 +1,9 @@
 -- The loop is the iteration over the lengths.
-use Prim.Native.Nat.{◌+◌, ◌≤◌, ◌-◌}
-use mathlib.Core.Path.{◌≡◌, ◌∙◌}
-use lib.ListN.{length}
+use mathlib.Core.Path.{◌∙◌}
 use borrow.Author.Rules.{rules}
 use Rattle.packing.specs.Loop.{iter}
 use Rattle.packing.proofs.Loop.{iter_more, iter_end}
-use Rattle.chart_masks.specs.Masks.{Covers}
-use Rattle.chart_heads.specs.Heads.{Ruled}
-use Rattle.chart_search.specs.Search.{first_of_length, first_pass}
+use Rattle.chart_search.specs.Search.{first_pass}
 use Rattle.chart_passes.proofs.first_pass.Goals as goal
 
 pub loop-x-init : goal.loop-x-init

@@ -1,9 +1,8 @@
 -- The first pass, with masks that have rules and no places, which cover a table of zeros, and then what is left to find of the root in
 -- each turn is what was to be found at the start. (The model's name is a tactic's: it stays qualified.)
-use Prim.Native.Nat.{◌≤◌, ◌-◌}
+use Prim.Native.Nat.{◌-◌}
 use mathlib.Core.Path.{◌≡◌, refl, sym, ◌∙◌}
 use native.Mathlib.Omega.{arith}
-use lib.ListN.{length}
 use Rattle.chart_masks.specs.Masks.{mask_numbers}
 use Rattle.chart_masks.proofs.Covering.{covers_zeros}
 use Rattle.chart_search.specs.Search as model
@@ -30,8 +29,7 @@ pub cell_number-requires : goal.cell_number-requires
 cell_number-requires c = rw c.root.ensures (search rules)
 
 pub shape_of-t-then-price_at-eq0 : goal.shape_of-t-then-price_at-eq0
-shape_of-t-then-price_at-eq0 c =
-    c.loop-x.invariant.1 ∙ c.first_pass.auto.t
+shape_of-t-then-price_at-eq0 c = c.loop-x.invariant.1 ∙ c.first_pass.auto.t
 
 pub returns-then-price_at-eq0 : goal.returns-then-price_at-eq0
 unfolding model.search
@@ -46,8 +44,7 @@ pub slice_bounds-next_of_root-end : goal.slice_bounds-next_of_root-end
 slice_bounds-next_of_root-end c = search (rules, c.loop-x.invariant.3)
 
 pub next_of_root-requires : goal.next_of_root-requires
-next_of_root-requires c =
-    (c.requires.0, c.requires.1, omega (arith, c.loop-x-test.true))
+next_of_root-requires c = (c.requires.0, c.requires.1, omega (arith, c.loop-x-test.true))
 
 pub loop-x-preserved : goal.loop-x-preserved
 loop-x-preserved c =

@@ -6,8 +6,7 @@ use Rattle.chart_queue.proofs.extract_min.Goals as goal
 use Rattle.chart_queue.proofs.extract_min.Goals.{then-m-gt0+else-before, else-m-gt0}
 
 pub push-requires : goal.push-requires
-push-requires c =
-    search (rules, c.requires, c.queue_length-m.ensures)
+push-requires c = search (rules, c.requires, c.queue_length-m.ensures)
 
 pub returns-then-before : goal.returns-then-before
 unfolding extract_min

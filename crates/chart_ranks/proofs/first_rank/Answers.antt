@@ -7,8 +7,7 @@ use borrow.Author.Rules.{rules}
 use Rattle.chart_ranks.proofs.first_rank.Goals as goal
 
 pub first_seeds-key-requires : goal.first_seeds-key-requires
-first_seeds-key-requires c =
-    (c.requires.0, λ h. c.requires.2, c.requires.3)
+first_seeds-key-requires c = (c.requires.0, λ h. c.requires.2, c.requires.3)
 
 pub returns-then-key-ge-PRICES : goal.returns-then-key-ge-PRICES
 returns-then-key-ge-PRICES c = record {

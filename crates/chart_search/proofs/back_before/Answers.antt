@@ -4,5 +4,4 @@ use Rattle.chart_search.proofs.back_before.Goals as goal
 
 pub returns : goal.returns
 unfolding back_before
-returns c =
-    (rw (← c.cell_number.ensures.0, ← c.back_at.ensures.0) c.back_pointer.ensures.0, c.back_pointer.ensures.1)
+returns c = (rw (← c.cell_number.ensures.0, ← c.back_at.ensures.0) c.back_pointer.ensures.0, c.back_pointer.ensures.1)

@@ -10,8 +10,7 @@ unfolding replacement
 returns-then-is_initial c = rw (sym c.is_initial.ensures ∙ c.if-is_initial.true) c.least_initial.ensures
 
 pub sibling-requires : goal.sibling-requires
-sibling-requires c =
-    search (rules, c.requires, inner_split c.args.last.back (sym c.is_initial.ensures ∙ c.if-is_initial.false))
+sibling-requires c = search (rules, c.requires, inner_split c.args.last.back (sym c.is_initial.ensures ∙ c.if-is_initial.false))
 
 pub returns : goal.returns
 unfolding replacement

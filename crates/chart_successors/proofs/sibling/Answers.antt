@@ -9,8 +9,7 @@ pub overflow_add-b : goal.overflow_add-b
 overflow_add-b c = search (rules, c.requires.1.left)
 
 pub pair_key-other-requires : goal.pair_key-other-requires
-pair_key-other-requires c =
-    rw (c.left_part-left.ensures, c.right_part-right.ensures, c.with_ranks.ensures) (search (rules, c.requires))
+pair_key-other-requires c = rw (c.left_part-left.ensures, c.right_part-right.ensures, c.with_ranks.ensures) (search (rules, c.requires))
 
 pub returns-then-b-eq1 : goal.returns-then-b-eq1
 unfolding sibling pair_sibling
@@ -50,14 +49,10 @@ pub returns-after-b-eq0 : goal.returns-after-b-eq0
 unfolding sibling pair_sibling
 returns-after-b-eq0 c =
     rw c.no_key-in-Pair.ensures (elim c.if-b-eq0.branch [
-      | then-b-eq0+else-b-gt0 w ↦ simp (
-        ← c.rule_at-rule.ensures,
-        c.in-Pair.is,
-        ne_eqb _ _ c.if-b-eq1.false,
-        eq-eqb _ _ w.if-b-eq0.true,
-        le-ltb _ _ w.if-b-gt0.false,
-      )
-      | else-b-eq0 w ↦ simp (← c.rule_at-rule.ensures, c.in-Pair.is, ne_eqb _ _ c.if-b-eq1.false, ne_eqb _ _ w.if-b-eq0.false)
+      | then-b-eq0+else-b-gt0 w ↦
+          simp (← c.rule_at-rule.ensures, c.in-Pair.is, ne_eqb _ _ c.if-b-eq1.false, eq-eqb _ _ w.if-b-eq0.true, le-ltb _ _ w.if-b-gt0.false)
+      | else-b-eq0 w ↦
+          simp (← c.rule_at-rule.ensures, c.in-Pair.is, ne_eqb _ _ c.if-b-eq1.false, ne_eqb _ _ w.if-b-eq0.false)
     ])
 
 pub returns-in-Word : goal.returns-in-Word

@@ -27,8 +27,7 @@ returns-then-b-ne0 c =
     ))
 
 pub overflow_add-b-in-Pair : goal.overflow_add-b-in-Pair
-overflow_add-b-in-Pair c =
-    search (rules, c.requires.1.left)
+overflow_add-b-in-Pair c = search (rules, c.requires.1.left)
 
 pub pair_key-next_left-requires : goal.pair_key-next_left-requires
 pair_key-next_left-requires c =

@@ -3,8 +3,7 @@ use borrow.Author.Tests.{lt-ltb, le-ltb}
 use Rattle.chart_trace.proofs.rule_within.Goals as goal
 
 pub returns-then-b-c : goal.returns-then-b-c
-returns-then-b-c c =
-    simp (lt-ltb _ _ c.if-c-b.true, lt-ltb _ _ c.if-b-c.true) c.rule_at.ensures
+returns-then-b-c c = simp (lt-ltb _ _ c.if-c-b.true, lt-ltb _ _ c.if-b-c.true) c.rule_at.ensures
 
 pub returns-else-b-c : goal.returns-else-b-c
 returns-else-b-c c = simp (lt-ltb _ _ c.if-c-b.true, le-ltb _ _ c.if-b-c.false)

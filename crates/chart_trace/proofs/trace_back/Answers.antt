@@ -8,12 +8,10 @@ use Rattle.chart_trace.proofs.Pending.{starts, descends, resumes, ends, top_low,
 use Rattle.chart_trace.proofs.trace_back.Goals as goal
 
 pub loop-first-init : goal.loop-first-init
-loop-first-init c =
-    (refl, starts _ _ _ _ _ _ refl c.requires.0.order c.requires.0.last c.requires.1)
+loop-first-init c = (refl, starts _ _ _ _ _ _ refl c.requires.0.order c.requires.0.last c.requires.1)
 
 pub loop-first-smaller-in-Pair : goal.loop-first-smaller-in-Pair
-loop-first-smaller-in-Pair c =
-    rw c.left_part-left.ensures (less_down _ _ _ _ c.loop-first.invariant.1.order c.loop-first.invariant.1.few)
+loop-first-smaller-in-Pair c = rw c.left_part-left.ensures (less_down _ _ _ _ c.loop-first.invariant.1.order c.loop-first.invariant.1.few)
 
 pub loop-first-preserved-in-Pair : goal.loop-first-preserved-in-Pair
 loop-first-preserved-in-Pair c = (
@@ -24,8 +22,7 @@ loop-first-preserved-in-Pair c = (
 )
 
 pub shape_of-trace-then-n-eq0 : goal.shape_of-trace-then-n-eq0
-shape_of-trace-then-n-eq0 c =
-    c.trace_node-back.auto.trace ∙ c.loop-first.invariant.0
+shape_of-trace-then-n-eq0 c = c.trace_node-back.auto.trace ∙ c.loop-first.invariant.0
 
 pub returns-then-n-eq0 : goal.returns-then-n-eq0
 returns-then-n-eq0 c = λ f h.
@@ -35,8 +32,7 @@ returns-then-n-eq0 c = λ f h.
     c.if-n-eq0.true c.trace_node-back.ensures.2)
 
 pub numbered_part-part-requires : goal.numbered_part-part-requires
-numbered_part-part-requires c =
-    top_low _ _ _ _ c.loop-first.invariant.1 (omega arith)
+numbered_part-part-requires c = top_low _ _ _ _ c.loop-first.invariant.1 (omega arith)
 
 pub loop-first-smaller : goal.loop-first-smaller
 loop-first-smaller c =

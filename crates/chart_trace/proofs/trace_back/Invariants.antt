@@ -8,7 +8,8 @@ use Rattle.chart_trace.proofs.trace_back.Given as goal
 
 abbrev pub invariant-loop-first : goal.invariant-loop-first
 invariant-loop-first l =
-    (length l.trace ≡ length l.initial.trace) × Tracing l.t l.rules l.d l.initial.part.cell.from l.initial.part.cell.to l.initial.trace
+    (length l.trace ≡ length l.initial.trace)
+    × Tracing l.t l.rules l.d l.initial.part.cell.from l.initial.part.cell.to l.initial.trace
     (trace_part l.t l.rules l.d l.initial.part) l.trace l.stack l.n l.part l.next
 
 abbrev pub decreases-loop-first : goal.decreases-loop-first

@@ -47,13 +47,8 @@ returns c =
     let src = source_of c.args.src c.args.block.now c.args.sheet.now in
     let s = got src _ {g = size_field 6 32} refl c.field_at-read.ensures c.in-Number.is in
     let w = got src _ {g = size_field 8 200} refl c.field_at-read-2.ensures c.in-Number-read.is in
-    let r = got src _ {g = size_field 9 256} refl c.field_at-read-3.ensures c.in-Number-read-2.is in (
-      rw (s, w, r),
-      omega (
-        arith,
-        taken (size_field 6 32) 6 src _ (omega arith) (omega arith) s,
-        taken (size_field 8 200) 8 src _ (omega arith) (omega arith)
-            w,
-        taken (size_field 9 256) 9 src _ (omega arith) (omega arith) r,
-      ),
-    )
+    let r = got src _ {g = size_field 9 256} refl c.field_at-read-3.ensures c.in-Number-read-2.is in
+    let symbols = taken (size_field 6 32) 6 src _ (omega arith) (omega arith) s in
+    let words = taken (size_field 8 200) 8 src _ (omega arith) (omega arith) w in
+    let rules = taken (size_field 9 256) 9 src _ (omega arith) (omega arith) r in
+    (rw (s, w, r), omega (arith, symbols, words, rules))

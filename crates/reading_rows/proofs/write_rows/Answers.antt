@@ -26,16 +26,16 @@ pub overflow_mul-from : goal.overflow_mul-from
 overflow_mul-from c =
     omega (
       arith,
-      part_within c.loop-k.k c.args.m c.type_size.result (length c.args.out.now)
-          c.loop-k-test.true (rw c.type_size.ensures c.requires.2),
+      part_within c.loop-k.k c.args.m c.size_of-size.result (length c.args.out.now)
+          c.loop-k-test.true (rw c.size_of-size.ensures c.requires.2),
     )
 
 pub overflow_add-upto : goal.overflow_add-upto
 overflow_add-upto c =
     omega (
       arith,
-      part_within c.loop-k.k c.args.m c.type_size.result (length c.args.out.now)
-          c.loop-k-test.true (rw c.type_size.ensures c.requires.2),
+      part_within c.loop-k.k c.args.m c.size_of-size.result (length c.args.out.now)
+          c.loop-k-test.true (rw c.size_of-size.ensures c.requires.2),
     )
 
 pub overflow_mul-at : goal.overflow_mul-at
@@ -58,8 +58,8 @@ pub slice_bounds-write_row-end : goal.slice_bounds-write_row-end
 slice_bounds-write_row-end c =
     omega (
       arith,
-      part_within c.loop-k.k c.args.m c.type_size.result (length c.args.out.now)
-          c.loop-k-test.true (rw c.type_size.ensures c.requires.2),
+      part_within c.loop-k.k c.args.m c.size_of-size.result (length c.args.out.now)
+          c.loop-k-test.true (rw c.size_of-size.ensures c.requires.2),
     )
 
 pub overflow_add-k : goal.overflow_add-k
@@ -109,7 +109,7 @@ loop-k-preserved c =
     let size : length part ≡ 50 = c.write_row.auto.row ∙ row_length l.k l.shown room in (
       omega (arith, c.loop-k-test.true),
       same_len_mid (l.k * 50) (l.k * 50 + 50 - l.k * 50) l.shown part c.write_row.auto.row ∙ l.invariant.1,
-      rows_more a.rules.now a.marks.now a.s a.out.now l.k c.type_size.result c.type_size.ensures a.shown.now
+      rows_more a.rules.now a.marks.now a.s a.out.now l.k c.size_of-size.result c.size_of-size.ensures a.shown.now
           l.shown part l.invariant.2 size room c.write_row.ensures,
     )
 

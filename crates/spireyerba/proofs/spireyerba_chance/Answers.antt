@@ -19,7 +19,7 @@ returns-in-Product c =
     record {
       answered_as = record { code_is = code; left_is = float };
       chance = chances a.grammar.now a.utterance.now a.reading.now a.shares.now
-          (λ i. (c.shared_slice_known-3-1.given i).fits) code float answered.value answered.shown;
+          (λ i. (c.type_inv.reading i).fits) code float answered.value answered.shown;
     }
 
 pub returns-in-Refused : goal.returns-in-Refused
@@ -33,5 +33,5 @@ returns-in-Refused c =
     record {
       answered_as = record { code_is = code; left_is = float };
       chance = chances a.grammar.now a.utterance.now a.reading.now a.shares.now
-          (λ i. (c.shared_slice_known-3-1.given i).fits) code float answered.value answered.shown;
+          (λ i. (c.type_inv.reading i).fits) code float answered.value answered.shown;
     }

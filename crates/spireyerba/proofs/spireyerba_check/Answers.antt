@@ -12,4 +12,4 @@ pub returns : goal.returns
 returns c =
     let answered = c.check.ensures in
     let code = checked_number (check_small _ _ _) answered.value c.checked_code.ensures in
-    record { value = code; check = checks _ _ _ (λ i. (c.shared_slice_known-3-1.given i).fits) code answered.value answered.variant }
+    record { value = code; check = checks _ _ _ (λ i. (c.type_inv.reading i).fits) code answered.value answered.variant }

@@ -6,7 +6,8 @@ use Rattle.utterance_writer.proofs.write_candidates.Given as goal
 
 abbrev pub invariant-loop-i : goal.invariant-loop-i
 invariant-loop-i l =
-    (l.i ≤ l.n) × Remaining l.initial.out l.start (candidates_fields l.words l.slots l.p l.n) l.out l.at
+    (l.i ≤ l.n)
+    × Remaining l.initial.out l.start (candidates_fields l.words l.slots l.p l.n) l.out l.at
     (candidates_fields l.words l.slots (l.p + 2 * l.i) (l.n - l.i))
 
 abbrev pub decreases-loop-i : goal.decreases-loop-i

@@ -2,5 +2,4 @@
 use Rattle.chart_trace.proofs.checked.store_node.Goals as goal
 
 pub returns : goal.returns
-returns c =
-    rw (← c.store.ensures) c.store-2.ensures
+returns c = rw (← c.store.ensures) c.store-2.ensures

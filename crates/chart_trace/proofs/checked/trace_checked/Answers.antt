@@ -8,12 +8,10 @@ use Rattle.chart_trace.proofs.Weighing.{unweighed, spells_nothing, weighs_pair, 
 use Rattle.chart_trace.proofs.checked.trace_checked.Goals as goal
 
 pub loop-scope-init : goal.loop-scope-init
-loop-scope-init c =
-    (refl, starts _ _ _ _ _ _ refl c.requires.0.order c.requires.0.last c.requires.1, unweighed _ _ _ _ _ _ _)
+loop-scope-init c = (refl, starts _ _ _ _ _ _ refl c.requires.0.order c.requires.0.last c.requires.1, unweighed _ _ _ _ _ _ _)
 
 pub shape_of-trace-then-tree-eq0 : goal.shape_of-trace-then-tree-eq0
-shape_of-trace-then-tree-eq0 c =
-    c.loop-scope.invariant.0
+shape_of-trace-then-tree-eq0 c = c.loop-scope.invariant.0
 
 pub returns-then-tree-eq0 : goal.returns-then-tree-eq0
 returns-then-tree-eq0 c =
@@ -34,16 +32,13 @@ overflow_add-weight c =
     }
 
 pub offset_bounds-stack-n : goal.offset_bounds-stack-n
-offset_bounds-stack-n c =
-    record { fits = omega (arith, c.loop-scope.invariant.1.few, c.requires.0.last) }
+offset_bounds-stack-n c = record { fits = omega (arith, c.loop-scope.invariant.1.few, c.requires.0.last) }
 
 pub bounds-stack-n : goal.bounds-stack-n
-bounds-stack-n c =
-    omega (arith, c.loop-scope.invariant.1.few, c.loop-scope.invariant.1.order, c.requires.0.last)
+bounds-stack-n c = omega (arith, c.loop-scope.invariant.1.few, c.loop-scope.invariant.1.order, c.requires.0.last)
 
 pub overflow_add-n : goal.overflow_add-n
-overflow_add-n c =
-    record { fits = omega (arith, c.loop-scope.invariant.1.few, c.requires.0.last) }
+overflow_add-n c = record { fits = omega (arith, c.loop-scope.invariant.1.few, c.requires.0.last) }
 
 pub loop-scope-smaller-in-Pairing : goal.loop-scope-smaller-in-Pairing
 loop-scope-smaller-in-Pairing c =
@@ -79,8 +74,7 @@ overflow_add-weight-in-Leaf c =
     }
 
 pub shape_of-trace-in-Wrong : goal.shape_of-trace-in-Wrong
-shape_of-trace-in-Wrong c =
-    c.store_node.auto.trace ∙ c.loop-scope.invariant.0
+shape_of-trace-in-Wrong c = c.store_node.auto.trace ∙ c.loop-scope.invariant.0
 
 pub returns-in-Wrong : goal.returns-in-Wrong
 returns-in-Wrong c =
@@ -89,8 +83,7 @@ returns-in-Wrong c =
     (c.back_pointer-back.ensures.0 ∙ ap back_pointer c.tree_of-tree.ensures.1) c.checked_node-node.ensures.0 c.in-Wrong.is))
 
 pub shape_of-trace-then-n-eq0 : goal.shape_of-trace-then-n-eq0
-shape_of-trace-then-n-eq0 c =
-    c.store_node.auto.trace ∙ c.loop-scope.invariant.0
+shape_of-trace-then-n-eq0 c = c.store_node.auto.trace ∙ c.loop-scope.invariant.0
 
 pub returns-then-n-eq0 : goal.returns-then-n-eq0
 returns-then-n-eq0 c =
@@ -101,8 +94,7 @@ returns-then-n-eq0 c =
     (seen_as _ _ _ _ _ c.checked_node-node.ensures.0 c.in-Leaf.is).3 refl c.if-n-eq0.true c.store_node.ensures)
 
 pub numbered_part-here-requires : goal.numbered_part-here-requires
-numbered_part-here-requires c =
-    top_low _ _ _ _ c.loop-scope.invariant.1 (omega arith)
+numbered_part-here-requires c = top_low _ _ _ _ c.loop-scope.invariant.1 (omega arith)
 
 pub loop-scope-smaller : goal.loop-scope-smaller
 loop-scope-smaller c =

@@ -9,8 +9,8 @@ use Rattle.chart_trace.proofs.checked.trace_checked.Given as goal
 abbrev pub invariant-loop-scope : goal.invariant-loop-scope
 invariant-loop-scope l =
     (length l.trace ≡ length l.initial.trace)
-    × Tracing l.t l.rules l.d l.initial.here.cell.from l.initial.here.cell.to l.initial.trace (trace_part l.t l.rules l.d l.initial.here) l.trace l.stack
-    l.n l.here l.next
+    × Tracing l.t l.rules l.d l.initial.here.cell.from l.initial.here.cell.to l.initial.trace
+    (trace_part l.t l.rules l.d l.initial.here) l.trace l.stack l.n l.here l.next
     × Weighing l.t l.rules l.edges l.scope l.d (spelled_part l.t l.rules l.edges l.scope l.d l.initial.here) l.stack l.n l.here l.next l.weight
 
 abbrev pub decreases-loop-scope : goal.decreases-loop-scope
