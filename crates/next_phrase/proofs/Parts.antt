@@ -43,7 +43,8 @@ pub head_is : (rules : List ℕ) (r : ℕ) → (head_of (fitted_at rules r)).0 �
 head_is rules r = go (eqb (get_or rules (5 * r) 0) 0)
   where
     go : (x : Bool) → (head_of (fitted (pick x
-        (Pair (symbol_of (get_or rules (5 * r + 1) 0)) (symbol_of (get_or rules (5 * r + 3) 0)) (symbol_of (get_or rules (5 * r + 4) 0)) (get_or rules (5 * r + 2) 0))
+        (Pair (symbol_of (get_or rules (5 * r + 1) 0)) (symbol_of (get_or rules (5 * r + 3) 0)) (symbol_of (get_or rules (5 * r + 4) 0))
+        (get_or rules (5 * r + 2) 0))
         (Word (symbol_of (get_or rules (5 * r + 1) 0)) (word (get_or rules (5 * r + 3) 0)) (get_or rules (5 * r + 2) 0))))).0 ≡ get_or rules (5 * r + 1) 0
     go true = refl
     go false = refl

@@ -12,17 +12,12 @@ bounds-shares-i c = omega arith
 
 pub returns-then-share-lt-MIN_SHARE : goal.returns-then-share-lt-MIN_SHARE
 returns-then-share-lt-MIN_SHARE c =
-    let at-loop = c in
-    let at-args = at-loop in
-    sym (too_small at-args.args.shares.now at-loop.loop-i.i c.loop-i-test.true c.if-share-lt-MIN_SHARE.true) ∙ at-loop.loop-i.invariant.1
+    sym (too_small c.args.shares.now c.loop-i.i c.loop-i-test.true c.if-share-lt-MIN_SHARE.true) ∙ c.loop-i.invariant.1
 
 pub returns-then-share-gt-MAX_SHARE : goal.returns-then-share-gt-MAX_SHARE
 returns-then-share-gt-MAX_SHARE c =
-    let at-loop-test = c in
-    let at-loop = at-loop-test in
-    let at-args = at-loop in
-    sym (too_great at-args.args.shares.now at-loop.loop-i.i at-loop-test.loop-i-test.true c.if-share-lt-MIN_SHARE.false c.if-share-gt-MAX_SHARE.true)
-    ∙ at-loop.loop-i.invariant.1
+    sym (too_great c.args.shares.now c.loop-i.i c.loop-i-test.true c.if-share-lt-MIN_SHARE.false c.if-share-gt-MAX_SHARE.true)
+    ∙ c.loop-i.invariant.1
 
 pub overflow_add-i : goal.overflow_add-i
 overflow_add-i c = omega arith
@@ -31,14 +26,11 @@ pub loop-i-smaller : goal.loop-i-smaller
 loop-i-smaller c = omega arith
 
 pub loop-i-preserved : goal.loop-i-preserved
-loop-i-preserved c =
-    let at-loop-test = c in
-    let at-loop = at-loop-test in
-    let at-args = at-loop in (
-      omega arith,
-      is_share_lem at-args.args.shares.now at-loop.loop-i.i at-loop-test.loop-i-test.true c.if-share-lt-MIN_SHARE.false c.if-share-gt-MAX_SHARE.false
-          ∙ at-loop.loop-i.invariant.1,
-    )
+loop-i-preserved c = (
+  omega arith,
+  is_share_lem c.args.shares.now c.loop-i.i c.loop-i-test.true c.if-share-lt-MIN_SHARE.false c.if-share-gt-MAX_SHARE.false
+      ∙ c.loop-i.invariant.1,
+)
 
 pub returns : goal.returns
 returns c = sym (none_left c.args.shares.now c.loop-i.i c.loop-i-test.false) ∙ c.loop-i.invariant.1

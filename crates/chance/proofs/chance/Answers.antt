@@ -15,19 +15,14 @@ use Rattle.chance.proofs.chance.Goals as goal
 
 pub check_heard-found-requires : goal.check_heard-found-requires
 check_heard-found-requires c =
-    let at-sizes = c in
-    let at-read-block = at-sizes in
-    let bounded = rw at-sizes.in-Grammar.is at at-read-block.read_block.ensures.2 in
+    let bounded = rw c.in-Grammar.is at c.read_block.ensures.2 in
     omega arith
 
 pub shared-requires : goal.shared-requires
 shared-requires c =
-    let at-sizes = c in
-    let at-read-block = at-sizes in
-    let at-args = at-read-block in
-    let a = at-args.args in
-    let size = at-sizes.in-Grammar.sizes in
-    held (under_rules size.words (rules_of at-read-block.read_block.new.rules size.rules) a.heard.now a.reading.now)
+    let a = c.args in
+    let size = c.in-Grammar.sizes in
+    held (under_rules size.words (rules_of c.read_block.new.rules size.rules) a.heard.now a.reading.now)
     c.check_heard-found.result
     c.check_heard-found.new.walk c.check_heard-found.ensures
 

@@ -20,8 +20,7 @@ overflow_sub-i c = omega arith
 
 pub factor-f-requires : goal.factor-f-requires
 factor-f-requires c =
-    let at-args = c in
-    rw c.narrow_at-share.ensures (at_most at-args.args.shares.now at-args.requires.0 _)
+    rw c.narrow_at-share.ensures (at_most c.args.shares.now c.requires.0 _)
 
 pub overflow_sub-left : goal.overflow_sub-left
 overflow_sub-left c = omega arith
@@ -31,18 +30,14 @@ loop-left-smaller c = omega arith
 
 pub loop-left-preserved : goal.loop-left-preserved
 loop-left-preserved c =
-    let at-loop-test = c in
-    let at-loop = at-loop-test in
-    let at-args = at-loop in
-    let a = at-args.args in
+    let a = c.args in
     let share = c.narrow_at-share.ensures ∙ ap (λ r. get_or a.shares.now r 0) c.number_at.ensures.0 in
-    let node = one_node a.shares.now a.walk.now a.nodes at-loop.loop-left.left at-loop.loop-left.p c.factor-f.result at-args.requires.1
-    at-loop-test.loop-left-test.true at-loop.loop-left.invariant.0
+    let node = one_node a.shares.now a.walk.now a.nodes c.loop-left.left c.loop-left.p c.factor-f.result c.requires.1
+    c.loop-left-test.true c.loop-left.invariant.0
     (c.factor-f.ensures ∙ ap factor_of share) in
-    (omega arith, node ∙ at-loop.loop-left.invariant.1)
+    (omega arith, node ∙ c.loop-left.invariant.1)
 
 pub returns : goal.returns
 returns c =
-    let at-args = c in
-    sym (all_done at-args.args.shares.now at-args.args.walk.now at-args.args.nodes c.loop-left.left c.loop-left.p at-args.requires.1
+    sym (all_done c.args.shares.now c.args.walk.now c.args.nodes c.loop-left.left c.loop-left.p c.requires.1
     c.loop-left-test.false) ∙ c.loop-left.invariant.1

@@ -6,20 +6,15 @@ use Rattle.chance.proofs.shared.Goals as goal
 
 pub product-requires : goal.product-requires
 product-requires c =
-    let at-found2 = c in
-    let at_pre = at-found2 in
-    (sym c.are_shares.ensures ∙ c.if-are_shares.true, rw at-found2.in-Nodes.is at at_pre.requires)
+    (sym c.are_shares.ensures ∙ c.if-are_shares.true, rw c.in-Nodes.is at c.requires)
 
 pub returns-then-are_shares : goal.returns-then-are_shares
 returns-then-are_shares c =
-    let at-if1 = c in
-    let at-found2 = at-if1 in
-    let at-args = at-found2 in
-    let a = at-args.args in
-    let n = at-found2.in-Nodes.n in
-    rw (at-found2.in-Nodes.is, c.product.ensures)
+    let a = c.args in
+    let n = c.in-Nodes.n in
+    rw (c.in-Nodes.is, c.product.ensures)
     (shared_nodes a.count a.shares.now a.walk.now n
-    (all_shares a.count a.shares.now (take n a.walk.now) at-if1.if-shares-count.true
+    (all_shares a.count a.shares.now (take n a.walk.now) c.if-shares-count.true
     (sym c.are_shares.ensures ∙ c.if-are_shares.true)))
 
 pub returns-then-shares-count : goal.returns-then-shares-count

@@ -14,9 +14,7 @@ use Rattle.checker.proofs.check.Goals as goal
 
 pub check_heard-requires : goal.check_heard-requires
 check_heard-requires c =
-    let at-sizes = c in
-    let at-read-block = at-sizes in
-    let bounded = rw at-sizes.in-Grammar.is at at-read-block.read_block.ensures.2 in
+    let bounded = rw c.in-Grammar.is at c.read_block.ensures.2 in
     omega arith
 
 pub returns-in-Refused : goal.returns-in-Refused

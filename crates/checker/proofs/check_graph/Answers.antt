@@ -17,11 +17,8 @@ overflow_sub-graph c =
 
 pub check_path-requires : goal.check_path-requires
 check_path-requires c =
-    let at-found = c in
-    let at-read-graph = at-found in
-    let at_pre = at-read-graph in
-    let sized = rw at-found.in-Graph.is at at-read-graph.read_graph.ensures.2 in
-    omega (arith, sized, at_pre.requires)
+    let sized = rw c.in-Graph.is at c.read_graph.ensures.2 in
+    omega (arith, sized, c.requires)
 
 pub returns-in-Refused : goal.returns-in-Refused
 returns-in-Refused c =
@@ -30,12 +27,9 @@ returns-in-Refused c =
 
 pub returns-in-Graph : goal.returns-in-Graph
 returns-in-Graph c =
-    let at-found = c in
-    let at-read-graph = at-found in
-    let at-args = at-read-graph in
-    let a = at-args.args in
-    let read = at-read-graph.read_graph in
-    let (h, e, z) = accepted_told (graph_block a.words a.heard.now) read.ensures.0 at-found.in-Graph.is in
+    let a = c.args in
+    let read = c.read_graph in
+    let (h, e, z) = accepted_told (graph_block a.words a.heard.now) read.ensures.0 c.in-Graph.is in
     let judged = graph_judged a.words (rules_of a.rules.now a.count) a.heard.now a.reading.now read.new.edges e read.ensures.1
     (ap (λ (s : GraphSize). s.edges) z) (ap (λ (s : GraphSize). s.places - 1) z) (sym (length_rules_at a.rules.now 0 a.count)) in
     rw judged at c.check_path.ensures

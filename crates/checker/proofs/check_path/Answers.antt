@@ -16,25 +16,17 @@ weight_of-requires c =
 
 pub overflow_mul-n : goal.overflow_mul-n
 overflow_mul-n c =
-    let at_head = c in
-    let at-read-head = at_head in
-    let at_pre = at-read-head in
-    let sized = rw at_head.in-Head.is at at-read-head.read_head.ensures.1 in
-    omega (arith, sized, at_pre.requires)
+    let sized = rw c.in-Head.is at c.read_head.ensures.1 in
+    omega (arith, sized, c.requires)
 
 pub overflow_sub-n : goal.overflow_sub-n
 overflow_sub-n c =
-    let at_head = c in
-    let at-read-head = at_head in
-    let at_pre = at-read-head in
-    let sized = rw at_head.in-Head.is at at-read-head.read_head.ensures.1 in
-    omega (arith, sized, at_pre.requires)
+    let sized = rw c.in-Head.is at c.read_head.ensures.1 in
+    omega (arith, sized, c.requires)
 
 pub judge-requires : goal.judge-requires
 judge-requires c =
-    let at_head = c in
-    let at-read-head = at_head in
-    let sized = rw at_head.in-Head.is at at-read-head.read_head.ensures.1 in
+    let sized = rw c.in-Head.is at c.read_head.ensures.1 in
     omega (arith, sized)
 
 pub returns-in-Refused : goal.returns-in-Refused
@@ -45,15 +37,11 @@ returns-in-Refused c =
 
 pub returns-in-Head : goal.returns-in-Head
 returns-in-Head c =
-    let at-weight-of = c in
-    let at_head = at-weight-of in
-    let at-read-head = at_head in
-    let at-args = at-read-head in
-    let a = at-args.args in
-    let sized = rw at_head.in-Head.is at at-read-head.read_head.ensures.1 in
-    let w = at-weight-of.weight_of in
+    let a = c.args in
+    let sized = rw c.in-Head.is at c.read_head.ensures.1 in
+    let w = c.weight_of in
     let array = w.new.walk in
-    let room : 2 * at_head.in-Head.head.edges - 1 ≤ length array = omega (arith, sized, w.auto.walk, at-args.requires) in
+    let room : 2 * c.in-Head.head.edges - 1 ≤ length array = omega (arith, sized, w.auto.walk, c.requires) in
     path_judged a.count a.graph.last (rules_of a.rules.now a.count) (edges_of a.edges.now a.graph.edges) a.reading.now array w.result
-    at-read-head.read_head.ensures.0 at_head.in-Head.is (sym (length_rules_at a.rules.now 0 a.count)) w.ensures.0 w.ensures.1 room
+    c.read_head.ensures.0 c.in-Head.is (sym (length_rules_at a.rules.now 0 a.count)) w.ensures.0 w.ensures.1 room
     c.judge.ensures

@@ -18,20 +18,15 @@ check_walk-requires c =
 
 pub returns-in-Refused : goal.returns-in-Refused
 returns-in-Refused c =
-    let at-read-block = c in
-    let at-args = at-read-block in
-    let a = at-args.args in
-    rw (refused_told a.words (utterance_block a.words a.heard.now) at-read-block.read_block.ensures.0 c.in-Refused.is) (refl, tt)
+    let a = c.args in
+    rw (refused_told a.words (utterance_block a.words a.heard.now) c.read_block.ensures.0 c.in-Refused.is) (refl, tt)
 
 pub returns-in-Utterance : goal.returns-in-Utterance
 returns-in-Utterance c =
-    let at-found = c in
-    let at-read-block = at-found in
-    let at-args = at-read-block in
-    let a = at-args.args in
-    let read = at-read-block.read_block in
+    let a = c.args in
+    let read = c.read_block in
     let rules : List R.Rule = rules_of a.rules.now a.count in
-    let (u, e, z) = accepted_told a.words (utterance_block a.words a.heard.now) read.ensures.0 at-found.in-Utterance.is in
+    let (u, e, z) = accepted_told a.words (utterance_block a.words a.heard.now) read.ensures.0 c.in-Utterance.is in
     let judged = slots_judged a.words rules a.heard.now a.reading.now read.new.slots e read.ensures.1
     (ap (λ (s : Slots). s.count) z) (sym (length_rules_at a.rules.now 0 a.count)) in
     rw judged at c.check_walk.ensures

@@ -13,19 +13,14 @@ judge-requires c =
 
 pub returns-in-Refused : goal.returns-in-Refused
 returns-in-Refused c =
-    let at-read-reading = c in
-    let at-args = at-read-reading in
-    let a = at-args.args in
-    rw (failed_told (reading_from a.n a.count a.reading.now) at-read-reading.read_reading.ensures.0 c.in-Refused.is) (refl, tt)
+    let a = c.args in
+    rw (failed_told (reading_from a.n a.count a.reading.now) c.read_reading.ensures.0 c.in-Refused.is) (refl, tt)
 
 pub returns-in-Reading : goal.returns-in-Reading
 returns-in-Reading c =
-    let at-weight = c in
-    let at-read-reading = at-weight in
-    let at-args = at-read-reading in
-    let a = at-args.args in
-    let read = at-read-reading.read_reading in
-    let (d, e, w) = parsed_told (reading_from a.n a.count a.reading.now) read.ensures.0 at-weight.in-Reading.is in
+    let a = c.args in
+    let read = c.read_reading in
+    let (d, e, w) = parsed_told (reading_from a.n a.count a.reading.now) read.ensures.0 c.in-Reading.is in
     walk_judged a.n a.count (rules_of a.rules.now a.count) (slots_of a.slots.now a.n 0)
     a.reading.now read.new.walk (number_of c.weight_of.result) e read.ensures.1 c.weight_of.ensures
     (rw w c.judge.ensures)

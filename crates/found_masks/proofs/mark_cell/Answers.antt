@@ -4,8 +4,7 @@ use Rattle.found_masks.proofs.mark_cell.Goals as goal
 
 pub returns-then-price_at-eq0 : goal.returns-then-price_at-eq0
 returns-then-price_at-eq0 c =
-    let at-args = c in
-    cell_passed at-args.args.t.now at-args.args.d at-args.args.c c.cell_number.ensures.0
+    cell_passed c.args.t.now c.args.d c.args.c c.cell_number.ensures.0
     c.price_at.ensures.0 c.if-price_at-eq0.true
 
 pub returns : goal.returns

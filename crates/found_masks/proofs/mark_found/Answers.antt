@@ -9,39 +9,30 @@ loop-x-init c = (omega arith, refl, marked_none (λ x p. omega (arith, p.1, p.2)
 
 pub overflow_add-x : goal.overflow_add-x
 overflow_add-x c =
-    let at_pre = c in
-    omega (arith, at_pre.requires.0.places, c.loop-x-test.true)
+    omega (arith, c.requires.0.places, c.loop-x-test.true)
 
 pub mark_spans-requires : goal.mark_spans-requires
 mark_spans-requires c =
-    let at_pre = c in
-    (at_pre.requires.0, omega (arith, c.loop-x-test.true), omega (arith, c.loop-x.invariant.1, at_pre.requires.1))
+    (c.requires.0, omega (arith, c.loop-x-test.true), omega (arith, c.loop-x.invariant.1, c.requires.1))
 
 pub overflow_step-x : goal.overflow_step-x
 overflow_step-x c =
-    let at-loop-test = c in
-    let at_pre = at-loop-test in
-    omega (arith, at_pre.requires.0.places, at-loop-test.loop-x-test.true)
+    omega (arith, c.requires.0.places, c.loop-x-test.true)
 
 pub loop-x-smaller : goal.loop-x-smaller
 loop-x-smaller c =
-    let at-loop-test = c in
-    omega (arith, at-loop-test.loop-x-test.true)
+    omega (arith, c.loop-x-test.true)
 
 pub loop-x-preserved : goal.loop-x-preserved
-loop-x-preserved c =
-    let at-mark-spans = c in
-    let at-loop-test = at-mark-spans in
-    let at-loop = at-loop-test in (
-      omega (arith, at-loop-test.loop-x-test.true),
-      at-mark-spans.mark_spans.ensures.size ∙ at-loop.loop-x.invariant.1,
-      marked_more at-loop.loop-x.invariant.2 at-mark-spans.mark_spans.ensures (next_end _ _),
-    )
+loop-x-preserved c = (
+  omega (arith, c.loop-x-test.true),
+  c.mark_spans.ensures.size ∙ c.loop-x.invariant.1,
+  marked_more c.loop-x.invariant.2 c.mark_spans.ensures (next_end _ _),
+)
 
 pub shape_of-masks : goal.shape_of-masks
 shape_of-masks c = c.loop-x.invariant.1
 
 pub returns : goal.returns
 returns c =
-    let at-loop = c in
-    marked_fewer at-loop.loop-x.invariant.2 (λ x p. (p.0, p.1, omega (arith, p.2, c.loop-x-test.false, at-loop.loop-x.invariant.0)))
+    marked_fewer c.loop-x.invariant.2 (λ x p. (p.0, p.1, omega (arith, p.2, c.loop-x-test.false, c.loop-x.invariant.0)))

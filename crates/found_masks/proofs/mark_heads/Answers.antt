@@ -9,44 +9,35 @@ loop-a-init c = (omega arith, refl, marked_none (λ x p. omega (arith, p.0)))
 
 pub overflow_cast-c : goal.overflow_cast-c
 overflow_cast-c c =
-    let at_pre = c in
-    omega (arith, at_pre.requires.0.symbols, c.loop-a-test.true)
+    omega (arith, c.requires.0.symbols, c.loop-a-test.true)
 
 pub mark_cell-requires : goal.mark_cell-requires
-mark_cell-requires c =
-    let at_pre = c in (
-      at_pre.requires.0,
-      at_pre.requires.1,
-      at_pre.requires.2,
-      omega (arith, at_pre.requires.0.symbols, c.loop-a-test.true),
-      omega (arith, c.loop-a.invariant.1, at_pre.requires.3),
-    )
+mark_cell-requires c = (
+  c.requires.0,
+  c.requires.1,
+  c.requires.2,
+  omega (arith, c.requires.0.symbols, c.loop-a-test.true),
+  omega (arith, c.loop-a.invariant.1, c.requires.3),
+)
 
 pub overflow_step-a : goal.overflow_step-a
 overflow_step-a c =
-    let at-loop-test = c in
-    let at_pre = at-loop-test in
-    omega (arith, at_pre.requires.0.symbols, at-loop-test.loop-a-test.true)
+    omega (arith, c.requires.0.symbols, c.loop-a-test.true)
 
 pub loop-a-smaller : goal.loop-a-smaller
 loop-a-smaller c =
-    let at-loop-test = c in
-    omega (arith, at-loop-test.loop-a-test.true)
+    omega (arith, c.loop-a-test.true)
 
 pub loop-a-preserved : goal.loop-a-preserved
-loop-a-preserved c =
-    let at-mark-cell = c in
-    let at-loop-test = at-mark-cell in
-    let at-loop = at-loop-test in (
-      omega (arith, at-loop-test.loop-a-test.true),
-      at-mark-cell.mark_cell.ensures.size ∙ at-loop.loop-a.invariant.1,
-      marked_more at-loop.loop-a.invariant.2 at-mark-cell.mark_cell.ensures (next_head _ _ _),
-    )
+loop-a-preserved c = (
+  omega (arith, c.loop-a-test.true),
+  c.mark_cell.ensures.size ∙ c.loop-a.invariant.1,
+  marked_more c.loop-a.invariant.2 c.mark_cell.ensures (next_head _ _ _),
+)
 
 pub shape_of-masks : goal.shape_of-masks
 shape_of-masks c = c.loop-a.invariant.1
 
 pub returns : goal.returns
 returns c =
-    let at-loop = c in
-    marked_fewer at-loop.loop-a.invariant.2 (λ x p. (omega (arith, p.0, c.loop-a-test.false, at-loop.loop-a.invariant.0), p.1, p.2))
+    marked_fewer c.loop-a.invariant.2 (λ x p. (omega (arith, p.0, c.loop-a-test.false, c.loop-a.invariant.0), p.1, p.2))

@@ -9,34 +9,26 @@ loop-from-init c = (omega arith, refl, marked_none (λ x p. omega (arith, p.1)))
 
 pub mark_heads-requires : goal.mark_heads-requires
 mark_heads-requires c =
-    let at_pre = c in
-    (at_pre.requires.0, c.loop-from-test.true, at_pre.requires.1, omega (arith, c.loop-from.invariant.1, at_pre.requires.2))
+    (c.requires.0, c.loop-from-test.true, c.requires.1, omega (arith, c.loop-from.invariant.1, c.requires.2))
 
 pub overflow_step-from : goal.overflow_step-from
 overflow_step-from c =
-    let at-loop-test = c in
-    let at_pre = at-loop-test in
-    omega (arith, at_pre.requires.0.places, at_pre.requires.1, at-loop-test.loop-from-test.true)
+    omega (arith, c.requires.0.places, c.requires.1, c.loop-from-test.true)
 
 pub loop-from-smaller : goal.loop-from-smaller
 loop-from-smaller c =
-    let at-loop-test = c in
-    omega (arith, at-loop-test.loop-from-test.true)
+    omega (arith, c.loop-from-test.true)
 
 pub loop-from-preserved : goal.loop-from-preserved
-loop-from-preserved c =
-    let at-mark-heads = c in
-    let at-loop-test = at-mark-heads in
-    let at-loop = at-loop-test in (
-      omega (arith, at-loop-test.loop-from-test.true),
-      at-mark-heads.mark_heads.ensures.size ∙ at-loop.loop-from.invariant.1,
-      marked_more at-loop.loop-from.invariant.2 at-mark-heads.mark_heads.ensures (next_start _ _ _),
-    )
+loop-from-preserved c = (
+  omega (arith, c.loop-from-test.true),
+  c.mark_heads.ensures.size ∙ c.loop-from.invariant.1,
+  marked_more c.loop-from.invariant.2 c.mark_heads.ensures (next_start _ _ _),
+)
 
 pub shape_of-masks : goal.shape_of-masks
 shape_of-masks c = c.loop-from.invariant.1
 
 pub returns : goal.returns
 returns c =
-    let at-loop = c in
-    marked_fewer at-loop.loop-from.invariant.2 (λ x p. (p.0, omega (arith, p.1, c.loop-from-test.false, at-loop.loop-from.invariant.0), p.2))
+    marked_fewer c.loop-from.invariant.2 (λ x p. (p.0, omega (arith, p.1, c.loop-from-test.false, c.loop-from.invariant.0), p.2))

@@ -13,43 +13,27 @@ returns-then-count-edge c =
 
 pub returns-then-cost-lt-UNHEARD : goal.returns-then-cost-lt-UNHEARD
 returns-then-cost-lt-UNHEARD c =
-    let at_wide = c in
-    let at-number-at2 = at_wide in
-    let at-if2 = at-number-at2 in
-    let at-number-at = at-if2 in
-    let at-if1 = at-number-at in
-    let at-args = at-if1 in
-    let a = at-args.args in
-    let there = edge_of a.edges.now a.count a.edge at-if1.if-count-edge.false in
-    let starts = eq-eqb (get_or a.edges.now (4 * a.edge) 0) a.place (sym at-number-at.number_at.ensures.0 ∙ at-if2.if-number_at-place.true) in
+    let a = c.args in
+    let there = edge_of a.edges.now a.count a.edge c.if-count-edge.false in
+    let starts = eq-eqb (get_or a.edges.now (4 * a.edge) 0) a.place (sym c.number_at.ensures.0 ∙ c.if-number_at-place.true) in
     let carries = eq-eqb (get_or a.edges.now (4 * a.edge + 2) 0) a.word.0
-    (sym at-number-at2.number_at-then-number_at-place.ensures.0 ∙ c.if-number_at-wide.true ∙ at_wide.wide.ensures.0) in
+    (sym c.number_at-then-number_at-place.ensures.0 ∙ c.if-number_at-wide.true ∙ c.wide.ensures.0) in
     (rw (there, starts, carries, ← c.number_at-cost.ensures.0, lt-ltb _ _ c.if-cost-lt-UNHEARD.true), c.number_at-cost.ensures.1)
 
 pub returns-then-number_at-wide : goal.returns-then-number_at-wide
 returns-then-number_at-wide c =
-    let at_wide = c in
-    let at-number-at2 = at_wide in
-    let at-if2 = at-number-at2 in
-    let at-number-at = at-if2 in
-    let at-if1 = at-number-at in
-    let at-args = at-if1 in
-    let a = at-args.args in
-    let there = edge_of a.edges.now a.count a.edge at-if1.if-count-edge.false in
-    let starts = eq-eqb (get_or a.edges.now (4 * a.edge) 0) a.place (sym at-number-at.number_at.ensures.0 ∙ at-if2.if-number_at-place.true) in
+    let a = c.args in
+    let there = edge_of a.edges.now a.count a.edge c.if-count-edge.false in
+    let starts = eq-eqb (get_or a.edges.now (4 * a.edge) 0) a.place (sym c.number_at.ensures.0 ∙ c.if-number_at-place.true) in
     let carries = eq-eqb (get_or a.edges.now (4 * a.edge + 2) 0) a.word.0
-    (sym at-number-at2.number_at-then-number_at-place.ensures.0 ∙ c.if-number_at-wide.true ∙ at_wide.wide.ensures.0) in
+    (sym c.number_at-then-number_at-place.ensures.0 ∙ c.if-number_at-wide.true ∙ c.wide.ensures.0) in
     (rw (there, starts, carries, ← c.number_at-cost.ensures.0, le-ltb _ _ c.if-cost-lt-UNHEARD.false), tt)
 
 pub returns-then-number_at-place : goal.returns-then-number_at-place
 returns-then-number_at-place c =
-    let at-if2 = c in
-    let at-number-at = at-if2 in
-    let at-if1 = at-number-at in
-    let at-args = at-if1 in
-    let a = at-args.args in
-    let there = edge_of a.edges.now a.count a.edge at-if1.if-count-edge.false in
-    let starts = eq-eqb (get_or a.edges.now (4 * a.edge) 0) a.place (sym at-number-at.number_at.ensures.0 ∙ at-if2.if-number_at-place.true) in
+    let a = c.args in
+    let there = edge_of a.edges.now a.count a.edge c.if-count-edge.false in
+    let starts = eq-eqb (get_or a.edges.now (4 * a.edge) 0) a.place (sym c.number_at.ensures.0 ∙ c.if-number_at-place.true) in
     let other = ne_eqb (get_or a.edges.now (4 * a.edge + 2) 0) a.word.0
     (λ e. c.if-number_at-wide.false (c.number_at-then-number_at-place.ensures.0 ∙ e ∙ sym c.wide.ensures.0)) in
     (rw (there, starts, other), tt)

@@ -11,31 +11,24 @@ use Rattle.graph_check.proofs.edge_step.Goals as goal
 
 pub returns-in_default : goal.returns-in_default
 returns-in_default c =
-    let at-args = c in
-    let a = at-args.args in
+    let a = c.args in
     let e : cost_at a.word a.at.place (get_elem? (edges_of a.edges.now a.count) a.edge) ≡ none = sym c.cost_of.ensures.0
     ∙ ap number_of c.in_default.is in
     (λ stack. sym (not_taken a.word a.at.place (a.at.left - 1) (heads_of stack (a.at.height - 1)) (a.at.weight + a.weight) _ e), tt)
 
 pub overflow_add-result-2 : goal.overflow_add-result-2
 overflow_add-result-2 c =
-    let at-cost = c in
-    let at-cost-of = at-cost in
-    let small = rw at-cost.in-Number.is at at-cost-of.cost_of.ensures.1 in
+    let small = rw c.in-Number.is at c.cost_of.ensures.1 in
     omega (arith, small, c.wide.ensures.1)
 
 pub returns : goal.returns
 returns c =
-    let at-number-at = c in
-    let at-cost = at-number-at in
-    let at-cost-of = at-cost in
-    let at-args = at-cost-of in
-    let a = at-args.args in
-    let e : cost_at a.word a.at.place (get_elem? (edges_of a.edges.now a.count) a.edge) ≡ some at-cost.in-Number.cost =
-    sym at-cost-of.cost_of.ensures.0 ∙ ap number_of at-cost.in-Number.is in
+    let a = c.args in
+    let e : cost_at a.word a.at.place (get_elem? (edges_of a.edges.now a.count) a.edge) ≡ some c.in-Number.cost =
+    sym c.cost_of.ensures.0 ∙ ap number_of c.in-Number.is in
     let there = edge_there a.word a.at.place a.edges.now a.count a.edge e in
-    let small = rw at-cost.in-Number.is at at-cost-of.cost_of.ensures.1 in (
-      λ stack. rw (at-number-at.number_at.ensures.0, c.wide.ensures.0, there)
+    let small = rw c.in-Number.is at c.cost_of.ensures.1 in (
+      λ stack. rw (c.number_at.ensures.0, c.wide.ensures.0, there)
           (sym (taken a.word a.at.place (a.at.left - 1) (heads_of stack (a.at.height - 1)) (a.at.weight + a.weight) _ _ _ _ _ (rw there at e))),
-      omega (arith, small, c.wide.ensures.1, at-number-at.number_at.ensures.1),
+      omega (arith, small, c.wide.ensures.1, c.number_at.ensures.1),
     )

@@ -22,8 +22,7 @@ edge_step-requires c =
 
 pub returns-in-Nothing : goal.returns-in-Nothing
 returns-in-Nothing c =
-    let at-args = c in
-    let a = at-args.args in
+    let a = c.args in
     let fit = sym c.fitting.ensures ∙ c.in-Nothing.is in (
       nothing_fits (rules_of a.rules.now a.count) (edges_of a.edges.now a.graph.edges) (rule_at a.rules.now a.node.rule) a.at.place
           a.at.left
@@ -40,10 +39,8 @@ returns-in-Pair c =
 
 pub returns-in-Word : goal.returns-in-Word
 returns-in-Word c =
-    let at-fitting = c in
-    let at-args = at-fitting in
-    let a = at-args.args in
-    let fit = sym at-fitting.fitting.ensures ∙ c.in-Word.is in
+    let a = c.args in
+    let fit = sym c.fitting.ensures ∙ c.in-Word.is in
     let goes = word_fits a.rules.now a.count (edges_of a.edges.now a.graph.edges) a.stack.now a.at a.node.rule a.node.edge
     (omega arith) fit in
     (c.edge_step.ensures.0 a.stack.now ∙ sym goes, c.edge_step.ensures.1)

@@ -51,16 +51,13 @@ shape_of-walk-in_default c = omega arith
 
 pub returns-in_default : goal.returns-in_default
 returns-in_default c =
-    let at-loop-test = c in
-    let at-loop = at-loop-test in
-    let at-args = at-loop in
-    let a = at-args.args in
-    let l = at-loop.loop-i in
+    let a = c.args in
+    let l = c.loop-i in
     let rules : List R.Rule = rules_of a.rules.now a.count in
     let es : List Edge = edges_of a.edges.now a.graph.edges in
     let from : State = standing l.stack (Onward l.at) in
     let (n, p) = rw c.in_default.is at c.read_node.ensures in
-    (not_read rules es (bytes 31 a.block.now) a.graph.last (2 * a.n - 1) l.i from l.bit at-loop-test.loop-i-test.true p ∙ l.invariant.7, tt)
+    (not_read rules es (bytes 31 a.block.now) a.graph.last (2 * a.n - 1) l.i from l.bit c.loop-i-test.true p ∙ l.invariant.7, tt)
 
 pub slice_bounds-follow-end : goal.slice_bounds-follow-end
 slice_bounds-follow-end c = omega arith
@@ -75,29 +72,21 @@ shape_of-walk-in_default-follow c = omega arith
 
 pub returns-in_default-follow : goal.returns-in_default-follow
 returns-in_default-follow c =
-    let at-follow = c in
-    let at-node = at-follow in
-    let at-read-node = at-node in
-    let at-loop-test = at-read-node in
-    let at-loop = at-loop-test in
-    let at-args = at-loop in
-    let a = at-args.args in
-    let l = at-loop.loop-i in
+    let a = c.args in
+    let l = c.loop-i in
     let rules : List R.Rule = rules_of a.rules.now a.count in
     let es : List Edge = edges_of a.edges.now a.graph.edges in
     let from : State = standing l.stack (Onward l.at) in
-    let read = rw at-node.in-Node.is at at-read-node.read_node.ensures in
-    let next = sym (ap (standing at-follow.follow.new.stack) c.in_default-follow.is) ∙ at-follow.follow.ensures.0 in (
-      read_lost rules es (bytes 31 a.block.now) a.graph.last (2 * a.n - 1) l.i from l.bit at-loop-test.loop-i-test.true _ read.0 next
+    let read = rw c.in-Node.is at c.read_node.ensures in
+    let next = sym (ap (standing c.follow.new.stack) c.in_default-follow.is) ∙ c.follow.ensures.0 in (
+      read_lost rules es (bytes 31 a.block.now) a.graph.last (2 * a.n - 1) l.i from l.bit c.loop-i-test.true _ read.0 next
           ∙ l.invariant.7,
       tt,
     )
 
 pub overflow_cast-walk : goal.overflow_cast-walk
 overflow_cast-walk c =
-    let at-node = c in
-    let at-read-node = at-node in
-    let read = rw at-node.in-Node.is at at-read-node.read_node.ensures in
+    let read = rw c.in-Node.is at c.read_node.ensures in
     search (rules, read.2)
 
 pub offset_bounds-walk-i : goal.offset_bounds-walk-i
@@ -114,26 +103,20 @@ loop-i-smaller c = omega arith
 
 pub loop-i-preserved : goal.loop-i-preserved
 loop-i-preserved c =
-    let at-follow = c in
-    let at-node = at-follow in
-    let at-read-node = at-node in
-    let at-loop-test = at-read-node in
-    let at-loop = at-loop-test in
-    let at-args = at-loop in
-    let a = at-args.args in
-    let l = at-loop.loop-i in
+    let a = c.args in
+    let l = c.loop-i in
     let rules : List R.Rule = rules_of a.rules.now a.count in
     let es : List Edge = edges_of a.edges.now a.graph.edges in
     let from : State = standing l.stack (Onward l.at) in
-    let read = rw at-node.in-Node.is at at-read-node.read_node.ensures in
-    let next = sym (ap (standing at-follow.follow.new.stack) c.in-Onward.is) ∙ at-follow.follow.ensures.0 in
-    let more = read_on rules es (bytes 31 a.block.now) a.graph.last (2 * a.n - 1) l.i from l.bit at-loop-test.loop-i-test.true read.0
+    let read = rw c.in-Node.is at c.read_node.ensures in
+    let next = sym (ap (standing c.follow.new.stack) c.in-Onward.is) ∙ c.follow.ensures.0 in
+    let more = read_on rules es (bytes 31 a.block.now) a.graph.last (2 * a.n - 1) l.i from l.bit c.loop-i-test.true read.0
     next in
-    let further = rw c.in-Onward.is at at-follow.follow.ensures.1 in
-    let kept = at-follow.follow.auto.stack in
-    let x = at-node.in-Node.node in
-    let keeps = kept_more rules (bytes 31 a.block.now) (2 * a.n - 1) l.walk l.i l.bit at-loop-test.loop-i-test.true
-    (omega (arith, l.invariant.8, at-args.requires)) read.0
+    let further = rw c.in-Onward.is at c.follow.ensures.1 in
+    let kept = c.follow.auto.stack in
+    let x = c.in-Node.node in
+    let keeps = kept_more rules (bytes 31 a.block.now) (2 * a.n - 1) l.walk l.i l.bit c.loop-i-test.true
+    (omega (arith, l.invariant.8, c.requires)) read.0
     (by_rule (rule_at a.rules.now x.rule) x.rule x.edge) in (
       omega arith,
       kept ∙ l.invariant.1,
@@ -152,18 +135,14 @@ shape_of-walk-then-at-graph c = omega arith
 
 pub returns-then-at-graph : goal.returns-then-at-graph
 returns-then-at-graph c =
-    let at-if1 = c in
-    let at-loop-test = at-if1 in
-    let at-loop = at-loop-test in
-    let at-args = at-loop in
-    let a = at-args.args in
-    let l = at-loop.loop-i in
+    let a = c.args in
+    let l = c.loop-i in
     let rules : List R.Rule = rules_of a.rules.now a.count in
     let es : List Edge = edges_of a.edges.now a.graph.edges in
     let from : State = standing l.stack (Onward l.at) in
-    let over = all_read rules es (bytes 31 a.block.now) a.graph.last (2 * a.n - 1) l.i from l.bit at-loop-test.loop-i-test.false in
-    let end = at_end l.stack l.at a.graph.last at-if1.if-at-eq0.true l.invariant.2 in
-    let all = kept_all rules (bytes 31 a.block.now) (2 * a.n - 1) l.walk l.i l.bit at-loop-test.loop-i-test.false l.invariant.0 in
+    let over = all_read rules es (bytes 31 a.block.now) a.graph.last (2 * a.n - 1) l.i from l.bit c.loop-i-test.false in
+    let end = at_end l.stack l.at a.graph.last c.if-at-eq0.true l.invariant.2 in
+    let all = kept_all rules (bytes 31 a.block.now) (2 * a.n - 1) l.walk l.i l.bit c.loop-i-test.false l.invariant.0 in
     (sym (rw (eq-eqb l.at.place a.graph.last c.if-at-graph.true) at end) ∙ sym over ∙ l.invariant.7, (l.bit, sym l.invariant.9 ∙ all))
 
 pub shape_of-walk-then-at-eq0 : goal.shape_of-walk-then-at-eq0
@@ -171,17 +150,13 @@ shape_of-walk-then-at-eq0 c = omega arith
 
 pub returns-then-at-eq0 : goal.returns-then-at-eq0
 returns-then-at-eq0 c =
-    let at-if1 = c in
-    let at-loop-test = at-if1 in
-    let at-loop = at-loop-test in
-    let at-args = at-loop in
-    let a = at-args.args in
-    let l = at-loop.loop-i in
+    let a = c.args in
+    let l = c.loop-i in
     let rules : List R.Rule = rules_of a.rules.now a.count in
     let es : List Edge = edges_of a.edges.now a.graph.edges in
     let from : State = standing l.stack (Onward l.at) in
-    let over = all_read rules es (bytes 31 a.block.now) a.graph.last (2 * a.n - 1) l.i from l.bit at-loop-test.loop-i-test.false in
-    let end = at_end l.stack l.at a.graph.last at-if1.if-at-eq0.true l.invariant.2 in
+    let over = all_read rules es (bytes 31 a.block.now) a.graph.last (2 * a.n - 1) l.i from l.bit c.loop-i-test.false in
+    let end = at_end l.stack l.at a.graph.last c.if-at-eq0.true l.invariant.2 in
     (sym (rw (ne_eqb l.at.place a.graph.last c.if-at-graph.false) at end) ∙ sym over ∙ l.invariant.7, tt)
 
 pub shape_of-walk : goal.shape_of-walk

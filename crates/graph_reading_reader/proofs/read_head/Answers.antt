@@ -12,11 +12,9 @@ use Rattle.graph_reading_reader.proofs.read_head.Goals as goal
 
 pub returns-in_default : goal.returns-in_default
 returns-in_default c =
-    let at-number = c in
-    let at-args = at-number in
-    let a = at-args.args in
+    let a = c.args in
     let s = a.block.now in
-    let p = refusal_told (field_at (bytes 31 s) 0 (block_kind 6 32)) at-number.number-kind.ensures c.in_default.is c.refusal.ensures in
+    let p = refusal_told (field_at (bytes 31 s) 0 (block_kind 6 32)) c.number-kind.ensures c.in_default.is c.refusal.ensures in
     rw (no_kind a.most a.rules s p) (refl, tt)
 
 pub number-found-requires : goal.number-found-requires
@@ -28,54 +26,36 @@ number-found-requires c =
 
 pub returns-in_default-found : goal.returns-in_default-found
 returns-in_default-found c =
-    let at-number2 = c in
-    let at-kind = at-number2 in
-    let at-number = at-kind in
-    let at-args = at-number in
-    let a = at-args.args in
+    let a = c.args in
     let s = a.block.now in
-    let p = number_told (field_at (bytes 31 s) 0 (block_kind 6 32)) at-number.number-kind.ensures at-kind.in-Number.is in
-    let q = refusal_told (field_at (bytes 31 s) _ (path_edges a.most)) at-number2.number-found.ensures c.in_default-found.is
+    let p = number_told (field_at (bytes 31 s) 0 (block_kind 6 32)) c.number-kind.ensures c.in-Number.is in
+    let q = refusal_told (field_at (bytes 31 s) _ (path_edges a.most)) c.number-found.ensures c.in_default-found.is
     c.refusal-in_default-found.ensures in
     rw (no_edges a.most a.rules s _ p q) (refl, tt)
 
 pub reading_bits-end-requires : goal.reading_bits-end-requires
 reading_bits-end-requires c =
-    let at-number2 = c in
-    let at-kind = at-number2 in
-    let at-number = at-kind in
-    let at-args = at-number in
-    let a = at-args.args in
+    let a = c.args in
     let s = a.block.now in
-    let p = number_told (field_at (bytes 31 s) 0 (block_kind 6 32)) at-number.number-kind.ensures at-kind.in-Number.is in
-    let q = number_told (field_at (bytes 31 s) _ (path_edges a.most)) at-number2.number-found.ensures c.in-Number-found.is in
+    let p = number_told (field_at (bytes 31 s) 0 (block_kind 6 32)) c.number-kind.ensures c.in-Number.is in
+    let q = number_told (field_at (bytes 31 s) _ (path_edges a.most)) c.number-found.ensures c.in-Number-found.is in
     omega (arith, field_at_range (path_edges a.most) (bytes 31 s) _ q)
 
 pub returns-then-is_short : goal.returns-then-is_short
 returns-then-is_short c =
-    let at-found = c in
-    let at-number2 = at-found in
-    let at-kind = at-number2 in
-    let at-number = at-kind in
-    let at-args = at-number in
-    let a = at-args.args in
+    let a = c.args in
     let s = a.block.now in
-    let p = number_told (field_at (bytes 31 s) 0 (block_kind 6 32)) at-number.number-kind.ensures at-kind.in-Number.is in
-    let q = number_told (field_at (bytes 31 s) _ (path_edges a.most)) at-number2.number-found.ensures at-found.in-Number-found.is in
+    let p = number_told (field_at (bytes 31 s) 0 (block_kind 6 32)) c.number-kind.ensures c.in-Number.is in
+    let q = number_told (field_at (bytes 31 s) _ (path_edges a.most)) c.number-found.ensures c.in-Number-found.is in
     let short = rw c.reading_bits-end.ensures.0 at (sym c.is_short.ensures ∙ c.if-is_short.true) in
     rw (too_short a.most a.rules s _ p _ q short) (refl, tt)
 
 pub number-last-requires : goal.number-last-requires
 number-last-requires c =
-    let at-found = c in
-    let at-number2 = at-found in
-    let at-kind = at-number2 in
-    let at-number = at-kind in
-    let at-args = at-number in
-    let a = at-args.args in
+    let a = c.args in
     let s = a.block.now in
-    let p = number_told (field_at (bytes 31 s) 0 (block_kind 6 32)) at-number.number-kind.ensures at-kind.in-Number.is in
-    let q = number_told (field_at (bytes 31 s) _ (path_edges a.most)) at-number2.number-found.ensures at-found.in-Number-found.is in
+    let p = number_told (field_at (bytes 31 s) 0 (block_kind 6 32)) c.number-kind.ensures c.in-Number.is in
+    let q = number_told (field_at (bytes 31 s) _ (path_edges a.most)) c.number-found.ensures c.in-Number-found.is in
     omega (
       arith,
       field_at_next (block_kind 6 32) (bytes 31 s) 0 4 (omega arith) (omega arith) p,
@@ -84,39 +64,21 @@ number-last-requires c =
 
 pub returns-in_default-last : goal.returns-in_default-last
 returns-in_default-last c =
-    let at-number3 = c in
-    let at-if1 = at-number3 in
-    let at-is-short = at-if1 in
-    let at-reading-bits = at-is-short in
-    let at-found = at-reading-bits in
-    let at-number2 = at-found in
-    let at-kind = at-number2 in
-    let at-number = at-kind in
-    let at-args = at-number in
-    let a = at-args.args in
+    let a = c.args in
     let s = a.block.now in
-    let p = number_told (field_at (bytes 31 s) 0 (block_kind 6 32)) at-number.number-kind.ensures at-kind.in-Number.is in
-    let q = number_told (field_at (bytes 31 s) _ (path_edges a.most)) at-number2.number-found.ensures at-found.in-Number-found.is in
-    let long = rw at-reading-bits.reading_bits-end.ensures.0 at (sym at-is-short.is_short.ensures ∙ at-if1.if-is_short.false) in
-    let r = refusal_told (field_at (bytes 31 s) _ reading_weight) at-number3.number-last.ensures c.in_default-last.is c.refusal-in_default-last.ensures in
+    let p = number_told (field_at (bytes 31 s) 0 (block_kind 6 32)) c.number-kind.ensures c.in-Number.is in
+    let q = number_told (field_at (bytes 31 s) _ (path_edges a.most)) c.number-found.ensures c.in-Number-found.is in
+    let long = rw c.reading_bits-end.ensures.0 at (sym c.is_short.ensures ∙ c.if-is_short.false) in
+    let r = refusal_told (field_at (bytes 31 s) _ reading_weight) c.number-last.ensures c.in_default-last.is c.refusal-in_default-last.ensures in
     rw (no_weight a.most a.rules s _ p _ q long r) (refl, tt)
 
 pub returns : goal.returns
 returns c =
-    let at-number3 = c in
-    let at-if1 = at-number3 in
-    let at-is-short = at-if1 in
-    let at-reading-bits = at-is-short in
-    let at-found = at-reading-bits in
-    let at-number2 = at-found in
-    let at-kind = at-number2 in
-    let at-number = at-kind in
-    let at-args = at-number in
-    let a = at-args.args in
+    let a = c.args in
     let s = a.block.now in
-    let p = number_told (field_at (bytes 31 s) 0 (block_kind 6 32)) at-number.number-kind.ensures at-kind.in-Number.is in
-    let q = number_told (field_at (bytes 31 s) _ (path_edges a.most)) at-number2.number-found.ensures at-found.in-Number-found.is in
-    let long = rw at-reading-bits.reading_bits-end.ensures.0 at (sym at-is-short.is_short.ensures ∙ at-if1.if-is_short.false) in
-    let r = number_told (field_at (bytes 31 s) _ reading_weight) at-number3.number-last.ensures c.in-Number-last.is in
-    rw (head_read a.most a.rules s _ p _ q long r, at-reading-bits.reading_bits-end.ensures.0)
-    (refl, omega (arith, field_at_range (path_edges a.most) (bytes 31 s) _ q, at-reading-bits.reading_bits-end.ensures.1))
+    let p = number_told (field_at (bytes 31 s) 0 (block_kind 6 32)) c.number-kind.ensures c.in-Number.is in
+    let q = number_told (field_at (bytes 31 s) _ (path_edges a.most)) c.number-found.ensures c.in-Number-found.is in
+    let long = rw c.reading_bits-end.ensures.0 at (sym c.is_short.ensures ∙ c.if-is_short.false) in
+    let r = number_told (field_at (bytes 31 s) _ reading_weight) c.number-last.ensures c.in-Number-last.is in
+    rw (head_read a.most a.rules s _ p _ q long r, c.reading_bits-end.ensures.0)
+    (refl, omega (arith, field_at_range (path_edges a.most) (bytes 31 s) _ q, c.reading_bits-end.ensures.1))

@@ -24,16 +24,13 @@ returns-in_default c =
 
 pub returns-then-count-rule : goal.returns-then-count-rule
 returns-then-count-rule c =
-    let at-r = c in
-    let at-read-number = at-r in
-    let at-args = at-read-number in
-    let a = at-args.args in
+    let a = c.args in
     let s = a.block.now in
     let count = length_rules_at a.rules.now 0 a.count in
-    let p = number_told (field_at (bytes 31 s) a.at (rule_number a.count)) at-read-number.read_number.ensures at-r.in-Number.is in
+    let p = number_told (field_at (bytes 31 s) a.at (rule_number a.count)) c.read_number.ensures c.in-Number.is in
     let near = field_at_next (rule_number a.count) (bytes 31 s) a.at 8 (byte_width a.count (omega arith)) (omega arith) p in
     let p' : field_at (bytes 31 s) a.at (rule_number (length (rules_of a.rules.now a.count)))
-    ≡ parsed c.wide-rule.result at-r.in-Number.c.at = rw (count, c.wide-rule.ensures.0) p in (
+    ≡ parsed c.wide-rule.result c.in-Number.c.at = rw (count, c.wide-rule.ensures.0) p in (
       34,
       no_rule (rules_of a.rules.now a.count) (bytes 31 s) a.at c.wide-rule.result _ p'
           (no_rule_of a.rules.now 0 a.count c.wide-rule.result c.if-count-rule.true),
@@ -41,82 +38,59 @@ returns-then-count-rule c =
 
 pub number-requires : goal.number-requires
 number-requires c =
-    let at-r = c in
-    let at-read-number = at-r in
-    let at-args = at-read-number in
-    let a = at-args.args in
+    let a = c.args in
     let s = a.block.now in
     let count = length_rules_at a.rules.now 0 a.count in
-    let p = number_told (field_at (bytes 31 s) a.at (rule_number a.count)) at-read-number.read_number.ensures at-r.in-Number.is in
+    let p = number_told (field_at (bytes 31 s) a.at (rule_number a.count)) c.read_number.ensures c.in-Number.is in
     let near = field_at_next (rule_number a.count) (bytes 31 s) a.at 8 (byte_width a.count (omega arith)) (omega arith) p in
     omega (arith, near)
 
 pub returns-in_default-number : goal.returns-in_default-number
 returns-in_default-number c =
-    let at-enum-told3 = c in
-    let at-rule-at = at-enum-told3 in
-    let at-if1 = at-rule-at in
-    let at_wide = at-if1 in
-    let at-r = at_wide in
-    let at-read-number = at-r in
-    let at-args = at-read-number in
-    let a = at-args.args in
+    let a = c.args in
     let s = a.block.now in
     let count = length_rules_at a.rules.now 0 a.count in
-    let p = number_told (field_at (bytes 31 s) a.at (rule_number a.count)) at-read-number.read_number.ensures at-r.in-Number.is in
+    let p = number_told (field_at (bytes 31 s) a.at (rule_number a.count)) c.read_number.ensures c.in-Number.is in
     let near = field_at_next (rule_number a.count) (bytes 31 s) a.at 8 (byte_width a.count (omega arith)) (omega arith) p in
     let p' : field_at (bytes 31 s) a.at (rule_number (length (rules_of a.rules.now a.count)))
-    ≡ parsed at_wide.wide-rule.result at-r.in-Number.c.at = rw (count, at_wide.wide-rule.ensures.0) p in
-    let is = sym at-rule-at.rule_at.ensures ∙ at-enum-told3.in-Word.is in
-    let there = rule_of a.rules.now a.count at_wide.wide-rule.result at-if1.if-count-rule.false ∙ ap some is in
+    ≡ parsed c.wide-rule.result c.in-Number.c.at = rw (count, c.wide-rule.ensures.0) p in
+    let is = sym c.rule_at.ensures ∙ c.in-Word.is in
+    let there = rule_of a.rules.now a.count c.wide-rule.result c.if-count-rule.false ∙ ap some is in
     let q = refused_out (field_at (bytes 31 s) _ edge_number) (sym c.number.ensures ∙ c.in_default-number.is) in
-    (_, no_edge (rules_of a.rules.now a.count) (bytes 31 s) a.at at_wide.wide-rule.result _ p' there q)
+    (_, no_edge (rules_of a.rules.now a.count) (bytes 31 s) a.at c.wide-rule.result _ p' there q)
 
 pub returns-in-Pair : goal.returns-in-Pair
 returns-in-Pair c =
-    let at-if1 = c in
-    let at_wide = at-if1 in
-    let at-r = at_wide in
-    let at-read-number = at-r in
-    let at-args = at-read-number in
-    let a = at-args.args in
+    let a = c.args in
     let s = a.block.now in
     let count = length_rules_at a.rules.now 0 a.count in
-    let p = number_told (field_at (bytes 31 s) a.at (rule_number a.count)) at-read-number.read_number.ensures at-r.in-Number.is in
+    let p = number_told (field_at (bytes 31 s) a.at (rule_number a.count)) c.read_number.ensures c.in-Number.is in
     let near = field_at_next (rule_number a.count) (bytes 31 s) a.at 8 (byte_width a.count (omega arith)) (omega arith) p in
     let p' : field_at (bytes 31 s) a.at (rule_number (length (rules_of a.rules.now a.count)))
-    ≡ parsed at_wide.wide-rule.result at-r.in-Number.c.at = rw (count, at_wide.wide-rule.ensures.0) p in
+    ≡ parsed c.wide-rule.result c.in-Number.c.at = rw (count, c.wide-rule.ensures.0) p in
     let is = sym c.rule_at.ensures ∙ c.in-Pair.is in
-    let there = rule_of a.rules.now a.count at_wide.wide-rule.result at-if1.if-count-rule.false ∙ ap some is in (
-      pair_node (rules_of a.rules.now a.count) (bytes 31 s) a.at at_wide.wide-rule.result _ p' there ∙ rw is,
+    let there = rule_of a.rules.now a.count c.wide-rule.result c.if-count-rule.false ∙ ap some is in (
+      pair_node (rules_of a.rules.now a.count) (bytes 31 s) a.at c.wide-rule.result _ p' there ∙ rw is,
       omega (arith, near),
-      at_wide.wide-rule.ensures.1,
+      c.wide-rule.ensures.1,
       omega arith,
     )
 
 pub returns-in-Number-number : goal.returns-in-Number-number
 returns-in-Number-number c =
-    let at-number = c in
-    let at-enum-told3 = at-number in
-    let at-rule-at = at-enum-told3 in
-    let at-if1 = at-rule-at in
-    let at_wide = at-if1 in
-    let at-r = at_wide in
-    let at-read-number = at-r in
-    let at-args = at-read-number in
-    let a = at-args.args in
+    let a = c.args in
     let s = a.block.now in
     let count = length_rules_at a.rules.now 0 a.count in
-    let p = number_told (field_at (bytes 31 s) a.at (rule_number a.count)) at-read-number.read_number.ensures at-r.in-Number.is in
+    let p = number_told (field_at (bytes 31 s) a.at (rule_number a.count)) c.read_number.ensures c.in-Number.is in
     let near = field_at_next (rule_number a.count) (bytes 31 s) a.at 8 (byte_width a.count (omega arith)) (omega arith) p in
     let p' : field_at (bytes 31 s) a.at (rule_number (length (rules_of a.rules.now a.count)))
-    ≡ parsed at_wide.wide-rule.result at-r.in-Number.c.at = rw (count, at_wide.wide-rule.ensures.0) p in
-    let is = sym at-rule-at.rule_at.ensures ∙ at-enum-told3.in-Word.is in
-    let there = rule_of a.rules.now a.count at_wide.wide-rule.result at-if1.if-count-rule.false ∙ ap some is in
-    let q = number_told (field_at (bytes 31 s) _ edge_number) at-number.number.ensures c.in-Number-number.is in
+    ≡ parsed c.wide-rule.result c.in-Number.c.at = rw (count, c.wide-rule.ensures.0) p in
+    let is = sym c.rule_at.ensures ∙ c.in-Word.is in
+    let there = rule_of a.rules.now a.count c.wide-rule.result c.if-count-rule.false ∙ ap some is in
+    let q = number_told (field_at (bytes 31 s) _ edge_number) c.number.ensures c.in-Number-number.is in
     let end = field_at_next edge_number (bytes 31 s) _ 7 (omega arith) (omega arith) q in (
-      word_node (rules_of a.rules.now a.count) (bytes 31 s) a.at at_wide.wide-rule.result _ p' there q ∙ rw (is, c.wide.ensures.0),
+      word_node (rules_of a.rules.now a.count) (bytes 31 s) a.at c.wide-rule.result _ p' there q ∙ rw (is, c.wide.ensures.0),
       omega (arith, near, end),
-      at_wide.wide-rule.ensures.1,
+      c.wide-rule.ensures.1,
       c.wide.ensures.1,
     )

@@ -9,22 +9,17 @@ returns-in_default c = λ walk e. rw c.in_default.is
 
 pub returns-then-zero_from : goal.returns-then-zero_from
 returns-then-zero_from c =
-    let at-if1 = c in
-    let at_own = at-if1 in
-    let weight = at-if1.if-w-wide.true ∙ at-if1.wide.ensures.0 in
-    let same = eq-eqb at_own.in-Number.w at_own.args.weight weight in
-    λ walk e. rw (at_own.in-Number.is, same, sym c.zero_from.ensures ∙ c.if-zero_from.true) (ap Nodes (sym e))
+    let weight = c.if-w-wide.true ∙ c.wide.ensures.0 in
+    let same = eq-eqb c.in-Number.w c.args.weight weight in
+    λ walk e. rw (c.in-Number.is, same, sym c.zero_from.ensures ∙ c.if-zero_from.true) (ap Nodes (sym e))
 
 pub returns-then-w-wide : goal.returns-then-w-wide
 returns-then-w-wide c =
-    let at-if1 = c in
-    let at_own = at-if1 in
-    let weight = at-if1.if-w-wide.true ∙ at-if1.wide.ensures.0 in
-    let same = eq-eqb at_own.in-Number.w at_own.args.weight weight in
-    λ walk e. rw (at_own.in-Number.is, same, sym c.zero_from.ensures ∙ c.if-zero_from.false)
+    let weight = c.if-w-wide.true ∙ c.wide.ensures.0 in
+    let same = eq-eqb c.in-Number.w c.args.weight weight in
+    λ walk e. rw (c.in-Number.is, same, sym c.zero_from.ensures ∙ c.if-zero_from.false)
 
 pub returns : goal.returns
 returns c =
-    let at_own = c in
-    let other = ne_eqb at_own.in-Number.w at_own.args.weight (λ f. c.if-w-wide.false (f ∙ sym c.wide.ensures.0)) in
-    λ walk e. rw (at_own.in-Number.is, other)
+    let other = ne_eqb c.in-Number.w c.args.weight (λ f. c.if-w-wide.false (f ∙ sym c.wide.ensures.0)) in
+    λ walk e. rw (c.in-Number.is, other)

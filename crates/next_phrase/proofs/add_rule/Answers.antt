@@ -4,10 +4,5 @@ use Rattle.next_phrase.proofs.add_rule.Goals as goal
 
 pub returns : goal.returns
 returns c =
-    let at-put-cell = c in
-    let at-with-rule = at-put-cell in
-    let at-cell-at = at-with-rule in
-    let at-cell-of = at-cell-at in
-    let at-narrow-at = at-cell-of in
-    rule_is _ _ _ _ _ _ at-narrow-at.narrow_at-head.ensures at-cell-of.cell_of-c.ensures.0 at-cell-at.cell_at-best.ensures at-with-rule.with_rule-next.ensures
-    at-put-cell.put_cell.ensures
+    rule_is _ _ _ _ _ _ c.narrow_at-head.ensures c.cell_of-c.ensures.0 c.cell_at-best.ensures c.with_rule-next.ensures
+    c.put_cell.ensures

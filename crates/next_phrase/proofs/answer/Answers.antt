@@ -8,36 +8,21 @@ use Rattle.next_phrase.proofs.answer.Goals as goal
 
 pub slice_bounds-fill_table-end-3 : goal.slice_bounds-fill_table-end-3
 slice_bounds-fill_table-end-3 c =
-    let at_before = c in
-    let at-start = at_before in
-    let a = at-start.args in sym (length-take-le a.n a.out.now (search rules))
+    let a = c.args in sym (length-take-le a.n a.out.now (search rules))
 
 pub fill_table-requires : goal.fill_table-requires
 fill_table-requires c =
-    let at_before = c in
-    let at-start = at_before in
-    let a = at-start.args in (refl, search rules, omega (arith, length-take-le a.n a.out.now (search rules)))
+    let a = c.args in (refl, search rules, omega (arith, length-take-le a.n a.out.now (search rules)))
 
 pub returns-then-found-lt-NO_STRING : goal.returns-then-found-lt-NO_STRING
 returns-then-found-lt-NO_STRING c = λ g e v b.
-    let at-write = c in
-    let at-if1 = at-write in
-    let at-asked-of = at-if1 in
-    let at-cell-at = at-asked-of in
-    let at-cell-of = at-cell-at in
-    let at-fill-table = at-cell-of in
-    let at-start = at-fill-table in
-    let a = at-start.args in
-    string_said a.n a.first (search rules) (search rules) a.out.now (search rules) a.sizes a.rules.now at-fill-table.fill_table.ensures
-    at-cell-of.cell_of-start.ensures.0 at-cell-at.cell_at.ensures at-asked-of.asked_of-found.ensures g e v b at-if1.if-found-lt-NO_STRING.true
-    at-write.write.ensures
+    let a = c.args in
+    string_said a.n a.first (search rules) (search rules) a.out.now (search rules) a.sizes a.rules.now c.fill_table.ensures
+    c.cell_of-start.ensures.0 c.cell_at.ensures c.asked_of-found.ensures g e v b c.if-found-lt-NO_STRING.true
+    c.write.ensures
 
 pub returns : goal.returns
 returns c = λ g e v b.
-    let at-cell-at = c in
-    let at-cell-of = at-cell-at in
-    let at-fill-table = at-cell-of in
-    let at-start = at-fill-table in
-    let a = at-start.args in
-    nothing_said a.n a.first (search rules) (search rules) a.out.now (search rules) a.sizes a.rules.now at-fill-table.fill_table.ensures
-    at-cell-of.cell_of-start.ensures.0 at-cell-at.cell_at.ensures c.asked_of-found.ensures g e v b c.if-found-lt-NO_STRING.false
+    let a = c.args in
+    nothing_said a.n a.first (search rules) (search rules) a.out.now (search rules) a.sizes a.rules.now c.fill_table.ensures
+    c.cell_of-start.ensures.0 c.cell_at.ensures c.asked_of-found.ensures g e v b c.if-found-lt-NO_STRING.false

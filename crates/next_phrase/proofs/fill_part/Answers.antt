@@ -12,9 +12,7 @@ loop-r-init c = search rules
 
 pub loop-r-preserved : goal.loop-r-preserved
 loop-r-preserved c =
-    let at-add-rule = c in
-    let at-loop = at-add-rule in
-    (search rules, search rules, rw (iter_more, ← at-loop.loop-r.invariant.2) at-add-rule.add_rule.ensures)
+    (search rules, search rules, rw (iter_more, ← c.loop-r.invariant.2) c.add_rule.ensures)
 
 pub returns : goal.returns
 unfolding fill_part

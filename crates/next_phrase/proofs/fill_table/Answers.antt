@@ -13,19 +13,15 @@ loop-p-init c = search rules
 
 pub loop-p-preserved-then-string-from : goal.loop-p-preserved-then-string-from
 loop-p-preserved-then-string-from c =
-    let at-loop = c in
-    (search rules, search rules, rw (iter_more, ← at-loop.loop-p.invariant.2) (part_left_out _ _ _ _ at-loop.loop-p.p c.if-string-from.true))
+    (search rules, search rules, rw (iter_more, ← c.loop-p.invariant.2) (part_left_out _ _ _ _ c.loop-p.p c.if-string-from.true))
 
 pub loop-p-preserved : goal.loop-p-preserved
-loop-p-preserved c =
-    let at-fill-part = c in
-    let at-if1 = at-fill-part in
-    let at-loop = at-if1 in (
-      search rules,
-      search rules,
-      rw (iter_more, ← at-loop.loop-p.invariant.2)
-          (at-fill-part.fill_part.ensures ∙ part_filled _ _ _ _ at-loop.loop-p.p at-if1.if-string-from.false),
-    )
+loop-p-preserved c = (
+  search rules,
+  search rules,
+  rw (iter_more, ← c.loop-p.invariant.2)
+      (c.fill_part.ensures ∙ part_filled _ _ _ _ c.loop-p.p c.if-string-from.false),
+)
 
 pub returns : goal.returns
 unfolding fill_table

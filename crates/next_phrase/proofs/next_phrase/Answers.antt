@@ -10,54 +10,30 @@ use Rattle.next_phrase.proofs.next_phrase.Goals as goal
 
 pub returns-then-wanted-lt1 : goal.returns-then-wanted-lt1
 returns-then-wanted-lt1 c =
-    let at-read2 = c in
-    let at-read-block = at-read2 in
-    let at-start = at-read-block in
-    let (g, e, z) = accepted_told (grammar_block at-start.args.grammar.now) at-read-block.read_block-read.ensures.0 at-read2.in-Grammar.is in
+    let (g, e, z) = accepted_told (grammar_block c.args.grammar.now) c.read_block-read.ensures.0 c.in-Grammar.is in
     next_refused _ _ _ _ (asked_none 6 _ _ _ e c.if-wanted-lt1.true)
 
 pub returns-then-wanted-gt-MAX_WANTED : goal.returns-then-wanted-gt-MAX_WANTED
 returns-then-wanted-gt-MAX_WANTED c =
-    let at-read2 = c in
-    let at-read-block = at-read2 in
-    let at-start = at-read-block in
-    let (g, e, z) = accepted_told (grammar_block at-start.args.grammar.now) at-read-block.read_block-read.ensures.0 at-read2.in-Grammar.is in
+    let (g, e, z) = accepted_told (grammar_block c.args.grammar.now) c.read_block-read.ensures.0 c.in-Grammar.is in
     next_refused _ _ _ _ (asked_many 6 _ _ _ e c.if-wanted-lt1.false c.if-wanted-gt-MAX_WANTED.true)
 
 pub returns-then-out-n : goal.returns-then-out-n
 returns-then-out-n c =
-    let at-if1 = c in
-    let at-read2 = at-if1 in
-    let at-read-block = at-read2 in
-    let at-start = at-read-block in
-    let (g, e, z) = accepted_told (grammar_block at-start.args.grammar.now) at-read-block.read_block-read.ensures.0 at-read2.in-Grammar.is in
-    next_refused _ _ _ _ (asked_short 6 _ _ _ e at-if1.if-wanted-lt1.false c.if-wanted-gt-MAX_WANTED.false c.if-out-n.true)
+    let (g, e, z) = accepted_told (grammar_block c.args.grammar.now) c.read_block-read.ensures.0 c.in-Grammar.is in
+    next_refused _ _ _ _ (asked_short 6 _ _ _ e c.if-wanted-lt1.false c.if-wanted-gt-MAX_WANTED.false c.if-out-n.true)
 
 pub answer-requires : goal.answer-requires
 answer-requires c =
-    let at-if3 = c in
-    let at-if2 = at-if3 in
-    let at-if1 = at-if2 in
-    let at-read2 = at-if1 in
-    let at-read-block = at-read2 in
-    (subst InBounds at-read2.in-Grammar.is at-read-block.read_block-read.ensures.2, at-if1.if-wanted-lt1.false, at-if2.if-wanted-gt-MAX_WANTED.false, at-if3.if-out-n.false)
+    (subst InBounds c.in-Grammar.is c.read_block-read.ensures.2, c.if-wanted-lt1.false, c.if-wanted-gt-MAX_WANTED.false, c.if-out-n.false)
 
 pub returns-in-Refused : goal.returns-in-Refused
 returns-in-Refused c =
-    let at-read-block = c in
-    let at-start = at-read-block in
-    next_refused _ _ _ _ (asked_block 6 _ _ _ (refused_told (grammar_block at-start.args.grammar.now) at-read-block.read_block-read.ensures.0
+    next_refused _ _ _ _ (asked_block 6 _ _ _ (refused_told (grammar_block c.args.grammar.now) c.read_block-read.ensures.0
     c.in-Refused.is))
 
 pub returns-else-out-n : goal.returns-else-out-n
 returns-else-out-n c =
-    let at-answer = c in
-    let at-if3 = at-answer in
-    let at-if2 = at-if3 in
-    let at-if1 = at-if2 in
-    let at-read2 = at-if1 in
-    let at-read-block = at-read2 in
-    let at-start = at-read-block in
-    let (g, e, z) = accepted_told (grammar_block at-start.args.grammar.now) at-read-block.read_block-read.ensures.0 at-read2.in-Grammar.is in
-    rw (next_told _ _ _ _ (asked_well 6 _ _ _ e at-if1.if-wanted-lt1.false at-if2.if-wanted-gt-MAX_WANTED.false at-if3.if-out-n.false))
-    (at-answer.answer.ensures g z (grammar_block_out _ g e).0 (rw e at at-read-block.read_block-read.ensures.1))
+    let (g, e, z) = accepted_told (grammar_block c.args.grammar.now) c.read_block-read.ensures.0 c.in-Grammar.is in
+    rw (next_told _ _ _ _ (asked_well 6 _ _ _ e c.if-wanted-lt1.false c.if-wanted-gt-MAX_WANTED.false c.if-out-n.false))
+    (c.answer.ensures g z (grammar_block_out _ g e).0 (rw e at c.read_block-read.ensures.1))

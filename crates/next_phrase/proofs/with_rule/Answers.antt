@@ -7,23 +7,15 @@ use Rattle.next_phrase.proofs.with_rule.Goals as goal
 pub returns-then-part-eq1 : goal.returns-then-part-eq1
 unfolding with_rule made
 returns-then-part-eq1 c =
-    let at-placed-word = c in
-    let at-if1 = at-placed-word in
-    let at-rule2 = at-if1 in
-    let at-rule-at = at-rule2 in
-    rw (← at-rule-at.rule_at-rule.ensures, at-rule2.in-Word.is, eq-eqb _ _ at-if1.if-part-eq1.true, ← at-placed-word.placed_word-value.ensures)
+    rw (← c.rule_at-rule.ensures, c.in-Word.is, eq-eqb _ _ c.if-part-eq1.true, ← c.placed_word-value.ensures)
     c.with_word.ensures
 
 pub returns-in-Pair : goal.returns-in-Pair
 unfolding with_rule made
 returns-in-Pair c =
-    let at-rule = c in
-    let at-rule-at = at-rule in
-    rw (← at-rule-at.rule_at-rule.ensures, at-rule.in-Pair.is) c.with_pair.ensures
+    rw (← c.rule_at-rule.ensures, c.in-Pair.is) c.with_pair.ensures
 
 pub returns-else-part-eq1 : goal.returns-else-part-eq1
 unfolding with_rule made
 returns-else-part-eq1 c =
-    let at-rule2 = c in
-    let at-rule-at = at-rule2 in
-    rw (← at-rule-at.rule_at-rule.ensures, at-rule2.in-Word.is, ne_eqb _ _ c.if-part-eq1.false)
+    rw (← c.rule_at-rule.ensures, c.in-Word.is, ne_eqb _ _ c.if-part-eq1.false)

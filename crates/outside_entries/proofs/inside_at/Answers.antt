@@ -6,17 +6,15 @@ use Rattle.outside_entries.proofs.Views.{inside_plain}
 use Rattle.outside_entries.proofs.inside_at.Goals as goal
 
 pub returns-then-price-eq0 : goal.returns-then-price-eq0
-returns-then-price-eq0 c =
-    let at-args = c in (
-      inside_none at-args.args.t.now at-args.args.d at-args.args.number c.price_at-price.ensures.0 c.if-price-eq0.true
-          ∙ sym (inside_plain at-args.args.t.now at-args.args.d at-args.args.number),
-      omega arith,
-    )
+returns-then-price-eq0 c = (
+  inside_none c.args.t.now c.args.d c.args.number c.price_at-price.ensures.0 c.if-price-eq0.true
+      ∙ sym (inside_plain c.args.t.now c.args.d c.args.number),
+  omega arith,
+)
 
 pub returns : goal.returns
-returns c =
-    let at-args = c in (
-      inside_some at-args.args.t.now at-args.args.d at-args.args.number c.price_at-price.ensures.0 c.if-price-eq0.false
-          ∙ sym (inside_plain at-args.args.t.now at-args.args.d at-args.args.number),
-      omega (arith, c.price_at-price.ensures.1),
-    )
+returns c = (
+  inside_some c.args.t.now c.args.d c.args.number c.price_at-price.ensures.0 c.if-price-eq0.false
+      ∙ sym (inside_plain c.args.t.now c.args.d c.args.number),
+  omega (arith, c.price_at-price.ensures.1),
+)

@@ -10,10 +10,8 @@ returns-then-b-eq0 c = (lesser_no_second c.args.a c.args.b c.if-a-eq0.false c.if
 
 pub returns-then-b-a : goal.returns-then-b-a
 returns-then-b-a c =
-    let at-args = c in
-    (lesser_second at-args.args.a at-args.args.b c.if-a-eq0.false c.if-b-eq0.false c.if-b-a.true, at-args.requires.1)
+    (lesser_second c.args.a c.args.b c.if-a-eq0.false c.if-b-eq0.false c.if-b-a.true, c.requires.1)
 
 pub returns : goal.returns
 returns c =
-    let at-args = c in
-    (lesser_first at-args.args.a at-args.args.b c.if-a-eq0.false c.if-b-eq0.false c.if-b-a.false, at-args.requires.0)
+    (lesser_first c.args.a c.args.b c.if-a-eq0.false c.if-b-eq0.false c.if-b-a.false, c.requires.0)

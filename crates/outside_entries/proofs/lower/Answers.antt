@@ -8,8 +8,5 @@ lesser-least-requires c = (omega (arith, c.outside_at.ensures.1), c.requires.1)
 
 pub returns : goal.returns
 returns c =
-    let at-lesser = c in
-    let at-outside-at = at-lesser in
-    let at-args = at-outside-at in
-    lower_told at-args.args.t.now at-args.args.number at-args.args.x at-outside-at.outside_at.ensures.0 at-lesser.lesser-least.ensures.0
+    lower_told c.args.t.now c.args.number c.args.x c.outside_at.ensures.0 c.lesser-least.ensures.0
     c.store.ensures

@@ -5,21 +5,16 @@ use Rattle.outside_entries.proofs.Views.{lower_zeros}
 use Rattle.outside_entries.proofs.put_around_root.Goals as goal
 
 pub cell_number-requires : goal.cell_number-requires
-cell_number-requires c =
-    let at_pre = c in (
-      at_pre.requires.0,
-      rw c.root.ensures (omega arith),
-      rw c.root.ensures at_pre.requires.1,
-      rw c.root.ensures at_pre.requires.0.places,
-    )
+cell_number-requires c = (
+  c.requires.0,
+  rw c.root.ensures (omega arith),
+  rw c.root.ensures c.requires.1,
+  rw c.root.ensures c.requires.0.places,
+)
 
 pub returns : goal.returns
-returns c =
-    let at-lower = c in
-    let at-cell-number = at-lower in
-    let at_root = at-cell-number in
-    let at-blank = at_root in (
-      at-lower.lower.ensures.0
-          ∙ rw (at-blank.blank.ensures.0, at-cell-number.cell_number.ensures.0, at_root.root.ensures, lower_zeros),
-      at-lower.lower.ensures.1 ∙ at-blank.blank.ensures.1,
-    )
+returns c = (
+  c.lower.ensures.0
+      ∙ rw (c.blank.ensures.0, c.cell_number.ensures.0, c.root.ensures, lower_zeros),
+  c.lower.ensures.1 ∙ c.blank.ensures.1,
+)

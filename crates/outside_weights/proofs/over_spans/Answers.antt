@@ -8,13 +8,11 @@ use Rattle.outside_weights.proofs.over_spans.Goals as goal
 
 pub overflow_add-spans : goal.overflow_add-spans
 overflow_add-spans c =
-    let at_pre = c in
-    omega (arith, at_pre.requires.0.places)
+    omega (arith, c.requires.0.places)
 
 pub overflow_sub-spans : goal.overflow_sub-spans
 overflow_sub-spans c =
-    let at_pre = c in
-    omega (arith, at_pre.requires.2)
+    omega (arith, c.requires.2)
 
 pub loop-from-init : goal.loop-from-init
 unfolding iter
@@ -22,39 +20,31 @@ loop-from-init c = (omega arith, refl, refl, refl)
 
 pub overflow_add-from : goal.overflow_add-from
 overflow_add-from c =
-    let at_pre = c in
-    omega (arith, at_pre.requires.0.places, at_pre.requires.2, c.loop-from-test.true)
+    omega (arith, c.requires.0.places, c.requires.2, c.loop-from-test.true)
 
 pub over_heads-requires : goal.over_heads-requires
-over_heads-requires c =
-    let at_pre = c in (
-      at_pre.requires.0,
-      omega (arith, at_pre.requires.1),
-      omega (arith, at_pre.requires.2, c.loop-from-test.true),
-      rw c.loop-from.invariant.2 at_pre.requires.3,
-    )
+over_heads-requires c = (
+  c.requires.0,
+  omega (arith, c.requires.1),
+  omega (arith, c.requires.2, c.loop-from-test.true),
+  rw c.loop-from.invariant.2 c.requires.3,
+)
 
 pub overflow_step-from : goal.overflow_step-from
 overflow_step-from c =
-    let at-loop-test = c in
-    let at_pre = at-loop-test in
-    omega (arith, at_pre.requires.0.places, at_pre.requires.2, at-loop-test.loop-from-test.true)
+    omega (arith, c.requires.0.places, c.requires.2, c.loop-from-test.true)
 
 pub loop-from-smaller : goal.loop-from-smaller
 loop-from-smaller c =
-    let at-loop-test = c in
-    omega (arith, at-loop-test.loop-from-test.true)
+    omega (arith, c.loop-from-test.true)
 
 pub loop-from-preserved : goal.loop-from-preserved
-loop-from-preserved c =
-    let at-over-heads = c in
-    let at-loop-test = at-over-heads in
-    let at-loop = at-loop-test in (
-      omega (arith, at-loop-test.loop-from-test.true),
-      at-over-heads.over_heads.auto.t ∙ at-loop.loop-from.invariant.1,
-      at-over-heads.over_heads.ensures.1 ∙ at-loop.loop-from.invariant.2,
-      at-over-heads.over_heads.ensures.0 ∙ rw (iter_more, ← at-loop.loop-from.invariant.3, at-loop.loop-from.invariant.2),
-    )
+loop-from-preserved c = (
+  omega (arith, c.loop-from-test.true),
+  c.over_heads.auto.t ∙ c.loop-from.invariant.1,
+  c.over_heads.ensures.1 ∙ c.loop-from.invariant.2,
+  c.over_heads.ensures.0 ∙ rw (iter_more, ← c.loop-from.invariant.3, c.loop-from.invariant.2),
+)
 
 pub shape_of-t : goal.shape_of-t
 shape_of-t c = c.loop-from.invariant.1
@@ -62,5 +52,4 @@ shape_of-t c = c.loop-from.invariant.1
 pub returns : goal.returns
 unfolding over_spans
 returns c =
-    let at-loop = c in
-    (at-loop.loop-from.invariant.3 ∙ iter_end _ _ _ _ at-loop.loop-from.invariant.0 c.loop-from-test.false, at-loop.loop-from.invariant.2)
+    (c.loop-from.invariant.3 ∙ iter_end _ _ _ _ c.loop-from.invariant.0 c.loop-from-test.false, c.loop-from.invariant.2)

@@ -5,9 +5,8 @@ use Rattle.outside_weights.proofs.Apart.{apart_same}
 use Rattle.outside_weights.proofs.push_parts.Goals as goal
 
 pub returns-else-meet : goal.returns-else-meet
-returns-else-meet c =
-    let at-args = c in (
-      apart_same (plain at-args.args.t.now) at-args.args.d at-args.args.node at-args.args.first at-args.args.second at-args.args.around
-          at-args.requires.4 (c.meet.ensures c.if-meet.false) at-args.requires.2 (fourths at-args.args.t.now),
-      refl,
-    )
+returns-else-meet c = (
+  apart_same (plain c.args.t.now) c.args.d c.args.node c.args.first c.args.second c.args.around
+      c.requires.4 (c.meet.ensures c.if-meet.false) c.requires.2 (fourths c.args.t.now),
+  refl,
+)

@@ -18,63 +18,48 @@ loop-x-init c = (omega arith, refl, refl, refl)
 
 pub overflow_add-split : goal.overflow_add-split
 overflow_add-split c =
-    let at_pre = c in
-    omega (arith, at_pre.requires.0.places, at_pre.requires.1, at_pre.requires.2, c.loop-x-test.true)
+    omega (arith, c.requires.0.places, c.requires.1, c.requires.2, c.loop-x-test.true)
 
 pub overflow_add-split-in-loop-x : goal.overflow_add-split-in-loop-x
 overflow_add-split-in-loop-x c =
-    let at_pre = c in
-    omega (arith, at_pre.requires.0.places, at_pre.requires.1, at_pre.requires.2, c.loop-x-test.true)
+    omega (arith, c.requires.0.places, c.requires.1, c.requires.2, c.loop-x-test.true)
 
 pub cell_number-requires : goal.cell_number-requires
-cell_number-requires c =
-    let at-loop-test = c in
-    let at_pre = at-loop-test in (
-      at_pre.requires.0,
-      omega (arith, at_pre.requires.0.places, at_pre.requires.1, at_pre.requires.2, at-loop-test.loop-x-test.true),
-      omega arith,
-      omega (arith, at_pre.requires.0.places, at_pre.requires.1, at_pre.requires.2, at-loop-test.loop-x-test.true),
-    )
+cell_number-requires c = (
+  c.requires.0,
+  omega (arith, c.requires.0.places, c.requires.1, c.requires.2, c.loop-x-test.true),
+  omega arith,
+  omega (arith, c.requires.0.places, c.requires.1, c.requires.2, c.loop-x-test.true),
+)
 
 pub cell_number-requires-in-loop-x : goal.cell_number-requires-in-loop-x
-cell_number-requires-in-loop-x c =
-    let at-loop-test = c in
-    let at_pre = at-loop-test in (
-      at_pre.requires.0,
-      omega (arith, at_pre.requires.0.places, at_pre.requires.1, at_pre.requires.2, at-loop-test.loop-x-test.true),
-      omega (arith, at_pre.requires.1),
-      omega (arith, at_pre.requires.0.places, at_pre.requires.1, at_pre.requires.2, at-loop-test.loop-x-test.true),
-    )
+cell_number-requires-in-loop-x c = (
+  c.requires.0,
+  omega (arith, c.requires.0.places, c.requires.1, c.requires.2, c.loop-x-test.true),
+  omega (arith, c.requires.1),
+  omega (arith, c.requires.0.places, c.requires.1, c.requires.2, c.loop-x-test.true),
+)
 
 pub push_split-requires : goal.push_split-requires
 push_split-requires c =
-    let at_pre = c in
-    (at_pre.requires.0, c.cell_number.ensures.1, c.cell_number-in-loop-x.ensures.1, at_pre.requires.3)
+    (c.requires.0, c.cell_number.ensures.1, c.cell_number-in-loop-x.ensures.1, c.requires.3)
 
 pub overflow_step-x : goal.overflow_step-x
 overflow_step-x c =
-    let at-loop-test = c in
-    let at_pre = at-loop-test in
-    omega (arith, at_pre.requires.0.places, at_pre.requires.1, at_pre.requires.2, at-loop-test.loop-x-test.true)
+    omega (arith, c.requires.0.places, c.requires.1, c.requires.2, c.loop-x-test.true)
 
 pub loop-x-smaller : goal.loop-x-smaller
 loop-x-smaller c =
-    let at-loop-test = c in
-    omega (arith, at-loop-test.loop-x-test.true)
+    omega (arith, c.loop-x-test.true)
 
 pub loop-x-preserved : goal.loop-x-preserved
-loop-x-preserved c =
-    let at-push-split = c in
-    let at-cell-number2 = at-push-split in
-    let at-cell-number = at-cell-number2 in
-    let at-loop-test = at-cell-number in
-    let at-loop = at-loop-test in (
-      omega (arith, at-loop-test.loop-x-test.true),
-      at-push-split.push_split.auto.t ∙ at-loop.loop-x.invariant.1,
-      at-push-split.push_split.ensures.1 ∙ at-loop.loop-x.invariant.2,
-      at-push-split.push_split.ensures.0 ∙ rw
-          (iter_more, ← at-loop.loop-x.invariant.3, at-loop.loop-x.invariant.2, at-cell-number.cell_number.ensures.0, at-cell-number2.cell_number-in-loop-x.ensures.0),
-    )
+loop-x-preserved c = (
+  omega (arith, c.loop-x-test.true),
+  c.push_split.auto.t ∙ c.loop-x.invariant.1,
+  c.push_split.ensures.1 ∙ c.loop-x.invariant.2,
+  c.push_split.ensures.0 ∙ rw
+      (iter_more, ← c.loop-x.invariant.3, c.loop-x.invariant.2, c.cell_number.ensures.0, c.cell_number-in-loop-x.ensures.0),
+)
 
 pub shape_of-t : goal.shape_of-t
 shape_of-t c = c.loop-x.invariant.1
@@ -82,5 +67,4 @@ shape_of-t c = c.loop-x.invariant.1
 pub returns : goal.returns
 unfolding push_splits
 returns c =
-    let at-loop = c in
-    (at-loop.loop-x.invariant.3 ∙ iter_end _ _ _ _ at-loop.loop-x.invariant.0 c.loop-x-test.false, at-loop.loop-x.invariant.2)
+    (c.loop-x.invariant.3 ∙ iter_end _ _ _ _ c.loop-x.invariant.0 c.loop-x-test.false, c.loop-x.invariant.2)

@@ -6,7 +6,5 @@ use Rattle.padded_strings.proofs.join.Goals as goal
 
 pub returns : goal.returns
 returns c =
-    let at_copy = c in
-    let at-start = at_copy in
-    let a = at-start.args in
-    rw (c.copy-2.ensures, at_copy.copy.ensures) (two_copies a.a.now a.b.now a.i (search rules) (search rules) (search rules) _ refl)
+    let a = c.args in
+    rw (c.copy-2.ensures, c.copy.ensures) (two_copies a.a.now a.b.now a.i (search rules) (search rules) (search rules) _ refl)

@@ -12,44 +12,31 @@ loop-x-init c = (omega arith, refl)
 
 pub returns-then-p-q : goal.returns-then-p-q
 returns-then-p-q c =
-    let at-join-at = c in
-    let at-loop-test = at-join-at in
-    let at-loop = at-loop-test in
-    let at-start = at-loop in
-    let a = at-start.args in
+    let a = c.args in
     let n = join_size a.a.now a.b.now a.i (search rules) (search rules) (search rules) in
-    compared_less (join a.a.now a.b.now a.i) a.best.now at-loop.loop-x.x at-loop.loop-x.invariant.1
-    (omega (arith, n, at-loop-test.loop-x-test.true)) (search rules) (omega (arith, at-join-at.join_at-p.ensures, c.if-p-q.true))
+    compared_less (join a.a.now a.b.now a.i) a.best.now c.loop-x.x c.loop-x.invariant.1
+    (omega (arith, n, c.loop-x-test.true)) (search rules) (omega (arith, c.join_at-p.ensures, c.if-p-q.true))
 
 pub returns-then-q-p : goal.returns-then-q-p
 returns-then-q-p c =
-    let at-join-at = c in
-    let at-loop-test = at-join-at in
-    let at-loop = at-loop-test in
-    let at-start = at-loop in
-    let a = at-start.args in
+    let a = c.args in
     let n = join_size a.a.now a.b.now a.i (search rules) (search rules) (search rules) in
-    compared_more (join a.a.now a.b.now a.i) a.best.now at-loop.loop-x.x at-loop.loop-x.invariant.1
-    (omega (arith, n, at-loop-test.loop-x-test.true)) (search rules) (omega (arith, at-join-at.join_at-p.ensures, c.if-q-p.true))
+    compared_more (join a.a.now a.b.now a.i) a.best.now c.loop-x.x c.loop-x.invariant.1
+    (omega (arith, n, c.loop-x-test.true)) (search rules) (omega (arith, c.join_at-p.ensures, c.if-q-p.true))
 
 pub loop-x-preserved : goal.loop-x-preserved
 loop-x-preserved c =
-    let at-join-at = c in
-    let at-loop-test = at-join-at in
-    let at-loop = at-loop-test in
-    let at-start = at-loop in
-    let a = at-start.args in
+    let a = c.args in
     let n = join_size a.a.now a.b.now a.i (search rules) (search rules) (search rules) in (
       search rules,
-      compared_on (join a.a.now a.b.now a.i) a.best.now at-loop.loop-x.x at-loop.loop-x.invariant.1
-          (omega (arith, n, at-loop-test.loop-x-test.true)) (search rules) (omega (arith, at-join-at.join_at-p.ensures, c.if-p-q.false))
-          (omega (arith, at-join-at.join_at-p.ensures, c.if-q-p.false)),
+      compared_on (join a.a.now a.b.now a.i) a.best.now c.loop-x.x c.loop-x.invariant.1
+          (omega (arith, n, c.loop-x-test.true)) (search rules) (omega (arith, c.join_at-p.ensures, c.if-p-q.false))
+          (omega (arith, c.join_at-p.ensures, c.if-q-p.false)),
     )
 
 pub returns : goal.returns
 returns c =
-    let at-args = c in
-    let a = at-args.args in
+    let a = c.args in
     let n = join_size a.a.now a.b.now a.i (search rules) (search rules) (search rules) in
     compared_end (join a.a.now a.b.now a.i) a.best.now c.loop-x.x c.loop-x.invariant.1 (omega (arith, n, c.loop-x-test.false))
     (search rules)

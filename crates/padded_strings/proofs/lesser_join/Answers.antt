@@ -14,14 +14,9 @@ returns-then-b c = rw (ne_eqb _ _ c.if-a.false, eq-eqb _ _ c.if-b.true)
 pub returns-then-join_precedes : goal.returns-then-join_precedes
 unfolding lesser_join
 returns-then-join_precedes c =
-    let at-join-precedes = c in
-    let at-if2 = at-join-precedes in
-    let at-if1 = at-if2 in
-    rw (ne_eqb _ _ at-if1.if-a.false, ne_eqb _ _ at-if2.if-b.false, ← at-join-precedes.join_precedes.ensures, c.if-join_precedes.true) c.join.ensures
+    rw (ne_eqb _ _ c.if-a.false, ne_eqb _ _ c.if-b.false, ← c.join_precedes.ensures, c.if-join_precedes.true) c.join.ensures
 
 pub returns : goal.returns
 unfolding lesser_join
 returns c =
-    let at-if2 = c in
-    let at-if1 = at-if2 in
-    rw (ne_eqb _ _ at-if1.if-a.false, ne_eqb _ _ at-if2.if-b.false, ← c.join_precedes.ensures, c.if-join_precedes.false)
+    rw (ne_eqb _ _ c.if-a.false, ne_eqb _ _ c.if-b.false, ← c.join_precedes.ensures, c.if-join_precedes.false)

@@ -23,58 +23,38 @@ returns-then-count-r c =
 
 pub returns-then-head-top : goal.returns-then-head-top
 returns-then-head-top c =
-    let at_head = c in
-    let at-rule-at = at_head in
-    let at-narrow-at = at-rule-at in
-    let at-if2 = at-narrow-at in
-    let at-args = at-if2 in
-    let a = at-args.args in
-    let is = sym at-rule-at.rule_at.ensures ∙ at_head.in-Pair.is in
-    let there = rule_of a.rules.now a.count a.r at-if2.if-count-r.false ∙ ap some is in
+    let a = c.args in
+    let is = sym c.rule_at.ensures ∙ c.in-Pair.is in
+    let there = rule_of a.rules.now a.count a.r c.if-count-r.false ∙ ap some is in
     let fit = rule_fit (rules_of a.rules.now a.count) a.stack.now a.height a.r (omega arith) there in
-    let test = eq-eqb at_head.in-Pair.head.0 (get_or a.stack.now (a.height - 1) 0) (c.if-head-top.true ∙ at-narrow-at.narrow_at-top.ensures) in
+    let test = eq-eqb c.in-Pair.head.0 (get_or a.stack.now (a.height - 1) 0) (c.if-head-top.true ∙ c.narrow_at-top.ensures) in
     sym (rw test at fit)
 
 pub returns-then-head-top-2 : goal.returns-then-head-top-2
 returns-then-head-top-2 c =
-    let at-head2 = c in
-    let at-rule-at = at-head2 in
-    let at-narrow-at = at-rule-at in
-    let at-if2 = at-narrow-at in
-    let at-args = at-if2 in
-    let a = at-args.args in
-    let is = sym at-rule-at.rule_at.ensures ∙ at-head2.in-Word.is in
-    let there = rule_of a.rules.now a.count a.r at-if2.if-count-r.false ∙ ap some is in
+    let a = c.args in
+    let is = sym c.rule_at.ensures ∙ c.in-Word.is in
+    let there = rule_of a.rules.now a.count a.r c.if-count-r.false ∙ ap some is in
     let fit = rule_fit (rules_of a.rules.now a.count) a.stack.now a.height a.r (omega arith) there in
-    let test = eq-eqb at-head2.in-Word.head.0 (get_or a.stack.now (a.height - 1) 0) (c.if-head-top-2.true ∙ at-narrow-at.narrow_at-top.ensures) in
+    let test = eq-eqb c.in-Word.head.0 (get_or a.stack.now (a.height - 1) 0) (c.if-head-top-2.true ∙ c.narrow_at-top.ensures) in
     sym (rw test at fit)
 
 pub returns-else-head-top : goal.returns-else-head-top
 returns-else-head-top c =
-    let at_head = c in
-    let at-rule-at = at_head in
-    let at-narrow-at = at-rule-at in
-    let at-if2 = at-narrow-at in
-    let at-args = at-if2 in
-    let a = at-args.args in
-    let is = sym at-rule-at.rule_at.ensures ∙ at_head.in-Pair.is in
-    let there = rule_of a.rules.now a.count a.r at-if2.if-count-r.false ∙ ap some is in
+    let a = c.args in
+    let is = sym c.rule_at.ensures ∙ c.in-Pair.is in
+    let there = rule_of a.rules.now a.count a.r c.if-count-r.false ∙ ap some is in
     let fit = rule_fit (rules_of a.rules.now a.count) a.stack.now a.height a.r (omega arith) there in
-    let test = ne_eqb at_head.in-Pair.head.0 (get_or a.stack.now (a.height - 1) 0)
-    (λ e. c.if-head-top.false (e ∙ sym at-narrow-at.narrow_at-top.ensures)) in
+    let test = ne_eqb c.in-Pair.head.0 (get_or a.stack.now (a.height - 1) 0)
+    (λ e. c.if-head-top.false (e ∙ sym c.narrow_at-top.ensures)) in
     sym (rw test at fit)
 
 pub returns-else-head-top-2 : goal.returns-else-head-top-2
 returns-else-head-top-2 c =
-    let at-head2 = c in
-    let at-rule-at = at-head2 in
-    let at-narrow-at = at-rule-at in
-    let at-if2 = at-narrow-at in
-    let at-args = at-if2 in
-    let a = at-args.args in
-    let is = sym at-rule-at.rule_at.ensures ∙ at-head2.in-Word.is in
-    let there = rule_of a.rules.now a.count a.r at-if2.if-count-r.false ∙ ap some is in
+    let a = c.args in
+    let is = sym c.rule_at.ensures ∙ c.in-Word.is in
+    let there = rule_of a.rules.now a.count a.r c.if-count-r.false ∙ ap some is in
     let fit = rule_fit (rules_of a.rules.now a.count) a.stack.now a.height a.r (omega arith) there in
-    let test = ne_eqb at-head2.in-Word.head.0 (get_or a.stack.now (a.height - 1) 0)
-    (λ e. c.if-head-top-2.false (e ∙ sym at-narrow-at.narrow_at-top.ensures)) in
+    let test = ne_eqb c.in-Word.head.0 (get_or a.stack.now (a.height - 1) 0)
+    (λ e. c.if-head-top-2.false (e ∙ sym c.narrow_at-top.ensures)) in
     sym (rw test at fit)

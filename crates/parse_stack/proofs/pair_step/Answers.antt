@@ -10,12 +10,10 @@ bounds-stack-height-then-height-at c = simp length-set (omega arith)
 
 pub returns-then-height-at : goal.returns-then-height-at
 returns-then-height-at c =
-    let at_wide = c in
-    let at-if1 = at_wide in
-    let a = at-if1.args in
+    let a = c.args in
     let n = a.at.height in
     let pushed = heads_pushed a.stack.now n a.first.0 a.second.0 (omega arith) (omega arith) in
-    (rw (lt-ltb n a.at.left at-if1.if-height-at.true, pushed, at_wide.wide.ensures.0), omega arith)
+    (rw (lt-ltb n a.at.left c.if-height-at.true, pushed, c.wide.ensures.0), omega arith)
 
 pub returns : goal.returns
 returns c =

@@ -9,10 +9,8 @@ edges_rise-requires c = omega (arith, c.requires)
 
 pub returns-then-heard-other-2 : goal.returns-then-heard-other-2
 returns-then-heard-other-2 c =
-    let at-if1 = c in
-    let at-args = at-if1 in
-    let a = at-args.args in
-    c.edges_rise.ensures ∙ sizes_same a.low.now a.high.now a.heard a.other at-if1.if-heard-other.true c.if-heard-other-2.true
+    let a = c.args in
+    c.edges_rise.ensures ∙ sizes_same a.low.now a.high.now a.heard a.other c.if-heard-other.true c.if-heard-other-2.true
 
 pub returns-else-heard-other-2 : goal.returns-else-heard-other-2
 returns-else-heard-other-2 c =

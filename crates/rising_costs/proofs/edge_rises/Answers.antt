@@ -5,17 +5,10 @@ use Rattle.rising_costs.proofs.edge_rises.Goals as goal
 
 pub returns-then-narrow_at-2 : goal.returns-then-narrow_at-2
 returns-then-narrow_at-2 c =
-    let at-if2 = c in
-    let at-narrow-at4 = at-if2 in
-    let at-narrow-at3 = at-narrow-at4 in
-    let at-if1 = at-narrow-at3 in
-    let at-narrow-at2 = at-if1 in
-    let at-narrow-at = at-narrow-at2 in
-    let at-args = at-narrow-at in
-    let a = at-args.args in
-    c.cost_rises.ensures ∙ edge_same a.low.now a.high.now a.e at-narrow-at.narrow_at.ensures at-narrow-at2.narrow_at-2.ensures
-    at-narrow-at3.narrow_at-then-narrow_at.ensures at-narrow-at4.narrow_at-then-narrow_at-2.ensures
-    c.narrow_at-then-narrow_at-2-2.ensures c.narrow_at-then-narrow_at-2-3.ensures at-if1.if-narrow_at.true at-if2.if-narrow_at-2.true
+    let a = c.args in
+    c.cost_rises.ensures ∙ edge_same a.low.now a.high.now a.e c.narrow_at.ensures c.narrow_at-2.ensures
+    c.narrow_at-then-narrow_at.ensures c.narrow_at-then-narrow_at-2.ensures
+    c.narrow_at-then-narrow_at-2-2.ensures c.narrow_at-then-narrow_at-2-3.ensures c.if-narrow_at.true c.if-narrow_at-2.true
 
 pub returns-else-narrow_at-2 : goal.returns-else-narrow_at-2
 returns-else-narrow_at-2 c =

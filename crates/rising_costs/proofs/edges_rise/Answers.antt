@@ -19,21 +19,17 @@ loop-e-smaller c = omega arith
 
 pub loop-e-preserved : goal.loop-e-preserved
 loop-e-preserved c =
-    let at-loop = c in
-    let at-args = at-loop in
-    let a = at-args.args in (
+    let a = c.args in (
       omega arith,
-      rises_here a.low.now a.high.now at-loop.loop-e.e a.count c.loop-e-test.true
-          (sym c.edge_rises.ensures ∙ c.if-edge_rises.true) ∙ at-loop.loop-e.invariant.1,
+      rises_here a.low.now a.high.now c.loop-e.e a.count c.loop-e-test.true
+          (sym c.edge_rises.ensures ∙ c.if-edge_rises.true) ∙ c.loop-e.invariant.1,
     )
 
 pub returns-else-edge_rises : goal.returns-else-edge_rises
 returns-else-edge_rises c =
-    let at-loop = c in
-    let at-args = at-loop in
-    let a = at-args.args in
-    sym (falls_here a.low.now a.high.now at-loop.loop-e.e a.count c.loop-e-test.true
-    (sym c.edge_rises.ensures ∙ c.if-edge_rises.false)) ∙ at-loop.loop-e.invariant.1
+    let a = c.args in
+    sym (falls_here a.low.now a.high.now c.loop-e.e a.count c.loop-e-test.true
+    (sym c.edge_rises.ensures ∙ c.if-edge_rises.false)) ∙ c.loop-e.invariant.1
 
 pub returns : goal.returns
 returns c =

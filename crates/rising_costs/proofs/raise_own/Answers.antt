@@ -41,17 +41,14 @@ loop-i-smaller c = omega arith
 
 pub loop-i-preserved : goal.loop-i-preserved
 loop-i-preserved c =
-    let at-loop-test = c in
-    let at-loop = at-loop-test in
-    let at-args = at-loop in
-    let a = at-args.args in
+    let a = c.args in
     let e = c.raise_node-own.ensures in (
       omega arith,
-      omega (arith, e.value.1, at-loop.loop-i.invariant.1),
-      c.raise_node-own.auto.costs ∙ at-loop.loop-i.invariant.2,
-      next_remain a.rules.now a.trace.now a.nodes at-loop.loop-i.i a.high.now (nodes_in a.rules.now (take (2 * a.nodes) a.trace.now))
-          at-loop-test.loop-i-test.true
-          at-args.requires.1 e.costs_after e.value.0 at-loop.loop-i.invariant.3,
+      omega (arith, e.value.1, c.loop-i.invariant.1),
+      c.raise_node-own.auto.costs ∙ c.loop-i.invariant.2,
+      next_remain a.rules.now a.trace.now a.nodes c.loop-i.i a.high.now (nodes_in a.rules.now (take (2 * a.nodes) a.trace.now))
+          c.loop-i-test.true
+          c.requires.1 e.costs_after e.value.0 c.loop-i.invariant.3,
     )
 
 pub shape_of-costs : goal.shape_of-costs
@@ -59,8 +56,7 @@ shape_of-costs c = c.loop-i.invariant.2
 
 pub returns : goal.returns
 returns c =
-    let at-args = c in
-    let a = at-args.args in
+    let a = c.args in
     let all = none_remain a.rules.now a.trace.now a.nodes c.loop-i.i a.high.now (nodes_in a.rules.now (take (2 * a.nodes) a.trace.now))
     c.loop-i-test.false c.loop-i.invariant.3 in
     record { costs_after = all.0; value = all.1 }

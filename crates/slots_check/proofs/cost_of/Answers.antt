@@ -63,23 +63,18 @@ loop-k-smaller c = omega arith
 
 pub loop-k-preserved : goal.loop-k-preserved
 loop-k-preserved c =
-    let at_test = c in
-    let at-loop = at_test in
-    let at_wide = at-loop in
-    let a = at_wide.args in
-    let l = at-loop.loop-k in
-    let x : W.Word = word at_wide.wide-wanted.result in
-    let next = cost_next x a.slots.now a.start a.count l.k at_test.loop-k-test.true
+    let a = c.args in
+    let l = c.loop-k in
+    let x : W.Word = word c.wide-wanted.result in
+    let next = cost_next x a.slots.now a.start a.count l.k c.loop-k-test.true
     (λ e. c.if-number_at-wanted.false (c.number_at.ensures.0 ∙ e)) in
     (omega arith, next ∙ l.invariant.1)
 
 pub returns : goal.returns
 returns c =
-    let at-loop = c in
-    let at_wide = at-loop in
-    let a = at_wide.args in
-    let l = at-loop.loop-k in
-    let x : W.Word = word at_wide.wide-wanted.result in
-    let same : x ≡ a.word = ap word at_wide.wide-wanted.ensures.0 in
+    let a = c.args in
+    let l = c.loop-k in
+    let x : W.Word = word c.wide-wanted.result in
+    let same : x ≡ a.word = ap word c.wide-wanted.ensures.0 in
     let end = cost_end x a.slots.now a.start a.count l.k c.loop-k-test.false in
     rw (← same) (sym end ∙ l.invariant.1, tt)

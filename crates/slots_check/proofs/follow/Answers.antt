@@ -21,8 +21,7 @@ word_step-requires c =
 
 pub returns-in-Nothing : goal.returns-in-Nothing
 returns-in-Nothing c =
-    let at-args = c in
-    let a = at-args.args in
+    let a = c.args in
     let fit = sym c.fitting.ensures ∙ c.in-Nothing.is in (
       nothing_fits (rules_of a.rules.now a.count) (slots_of a.slots.now a.at.left a.at.place) (heads_of a.stack.now a.at.height)
           a.at.weight a.r fit,
@@ -31,11 +30,8 @@ returns-in-Nothing c =
 
 pub returns-in-Pair : goal.returns-in-Pair
 returns-in-Pair c =
-    let at_first = c in
-    let at-fitting = at_first in
-    let at-args = at-fitting in
-    let a = at-args.args in
-    let fit = sym at-fitting.fitting.ensures ∙ at_first.in-Pair.is in (
+    let a = c.args in
+    let fit = sym c.fitting.ensures ∙ c.in-Pair.is in (
       pair_fits (rules_of a.rules.now a.count) a.slots.now a.stack.now a.at a.r c.pair_step.new.stack
           c.pair_step.result fit c.pair_step.ensures.0,
       c.pair_step.ensures.1,

@@ -31,17 +31,14 @@ follow-requires c = omega (arith, c.number_at.ensures.1)
 pub returns-in_default : goal.returns-in_default
 unfolding walk_weight finished
 returns-in_default c =
-    let at-follow = c in
-    let at_test = at-follow in
-    let at-loop = at_test in
-    let a = at-loop.args in
-    let l = at-loop.loop-i in
-    let followed = at-follow.follow in
+    let a = c.args in
+    let l = c.loop-i in
+    let followed = c.follow in
     let rules : List R.Rule = rules_of a.rules.now a.count in
     let from : State = state_of a.slots.now l.stack (Onward l.at) in
     let next = sym (ap (state_of a.slots.now followed.new.stack) c.in_default.is) ∙ followed.ensures.0 in
-    let lost = run_lost rules from a.walk.now (2 * a.n - 1) l.i (omega arith) at_test.loop-i-test.true
-    at-follow.number_at.ensures.0 next in
+    let lost = run_lost rules from a.walk.now (2 * a.n - 1) l.i (omega arith) c.loop-i-test.true
+    c.number_at.ensures.0 next in
     ap finished (sym lost ∙ l.invariant.6)
 
 pub overflow_add-i : goal.overflow_add-i
@@ -52,42 +49,34 @@ loop-i-smaller c = omega arith
 
 pub loop-i-preserved : goal.loop-i-preserved
 loop-i-preserved c =
-    let at_next = c in
-    let at-follow = at_next in
-    let at_test = at-follow in
-    let at-loop = at_test in
-    let a = at-loop.args in
-    let l = at-loop.loop-i in
-    let followed = at-follow.follow in
+    let a = c.args in
+    let l = c.loop-i in
+    let followed = c.follow in
     let rules : List R.Rule = rules_of a.rules.now a.count in
     let from : State = state_of a.slots.now l.stack (Onward l.at) in
-    let next = sym (ap (state_of a.slots.now followed.new.stack) at_next.in-Onward.is) ∙ followed.ensures.0 in
-    let more = run_more rules from a.walk.now (2 * a.n - 1) l.i (omega arith) at_test.loop-i-test.true
-    at-follow.number_at.ensures.0 next in
-    let further = rw at_next.in-Onward.is at followed.ensures.1 in
+    let next = sym (ap (state_of a.slots.now followed.new.stack) c.in-Onward.is) ∙ followed.ensures.0 in
+    let more = run_more rules from a.walk.now (2 * a.n - 1) l.i (omega arith) c.loop-i-test.true
+    c.number_at.ensures.0 next in
+    let further = rw c.in-Onward.is at followed.ensures.1 in
     let kept = followed.auto.stack in
     (omega arith, kept ∙ l.invariant.1, omega arith, omega arith, omega arith, omega arith, more ∙ l.invariant.6)
 
 pub returns-then-at-eq0 : goal.returns-then-at-eq0
 unfolding walk_weight
 returns-then-at-eq0 c =
-    let at_test = c in
-    let at-loop = at_test in
-    let a = at-loop.args in
-    let l = at-loop.loop-i in
+    let a = c.args in
+    let l = c.loop-i in
     let rules : List R.Rule = rules_of a.rules.now a.count in
     let from : State = state_of a.slots.now l.stack (Onward l.at) in
-    let over = run_over rules from a.walk.now (2 * a.n - 1) l.i at_test.loop-i-test.false in
+    let over = run_over rules from a.walk.now (2 * a.n - 1) l.i c.loop-i-test.false in
     sym (at_end a.slots.now l.stack l.at c.if-at-eq0.true l.invariant.2) ∙ ap finished (sym over ∙ l.invariant.6)
 
 pub returns : goal.returns
 unfolding walk_weight
 returns c =
-    let at_test = c in
-    let at-loop = at_test in
-    let a = at-loop.args in
-    let l = at-loop.loop-i in
+    let a = c.args in
+    let l = c.loop-i in
     let rules : List R.Rule = rules_of a.rules.now a.count in
     let from : State = state_of a.slots.now l.stack (Onward l.at) in
-    let over = run_over rules from a.walk.now (2 * a.n - 1) l.i at_test.loop-i-test.false in
+    let over = run_over rules from a.walk.now (2 * a.n - 1) l.i c.loop-i-test.false in
     sym (not_at_end a.slots.now l.stack l.at c.if-at-eq0.false) ∙ ap finished (sym over ∙ l.invariant.6)

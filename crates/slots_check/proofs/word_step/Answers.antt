@@ -10,30 +10,23 @@ use Rattle.slots_check.proofs.word_step.Goals as goal
 pub returns-in_default : goal.returns-in_default
 unfolding leaf_step
 returns-in_default c =
-    let at-cost-of = c in
-    let at-number = at-cost-of in
-    let a = at-number.args in
-    let cost = rw at-number.number_at-count.ensures.0 at at-cost-of.cost_of.ensures.0 in
+    let a = c.args in
+    let cost = rw c.number_at-count.ensures.0 at c.cost_of.ensures.0 in
     let e : cost_of a.word (slot_at a.slots.now a.at.place) ≡ none = sym cost ∙ ap number_of c.in_default.is in
     (λ stack. rw e, tt)
 
 pub overflow_add-result-4 : goal.overflow_add-result-4
 overflow_add-result-4 c =
-    let at-cost = c in
-    let small = rw at-cost.in-Number.is at at-cost.cost_of.ensures.1 in
+    let small = rw c.in-Number.is at c.cost_of.ensures.1 in
     omega (arith, c.wide.ensures.1)
 
 pub returns : goal.returns
 unfolding leaf_step
 returns c =
-    let at_wide = c in
-    let at-cost = at_wide in
-    let at-cost-of = at-cost in
-    let at-number = at-cost-of in
-    let a = at-number.args in
-    let small = rw at-cost.in-Number.is at at-cost-of.cost_of.ensures.1 in
-    let count = at-number.number_at-count.ensures.0 in
-    let cost = rw count at at-cost-of.cost_of.ensures.0 in
-    let e : cost_of a.word (slot_at a.slots.now a.at.place) ≡ some at-cost.in-Number.cost =
-    sym cost ∙ ap number_of at-cost.in-Number.is in
-    (λ stack. rw (e, count, at_wide.wide.ensures.0), omega (arith, at_wide.wide.ensures.1, at-number.number_at-count.ensures.1))
+    let a = c.args in
+    let small = rw c.in-Number.is at c.cost_of.ensures.1 in
+    let count = c.number_at-count.ensures.0 in
+    let cost = rw count at c.cost_of.ensures.0 in
+    let e : cost_of a.word (slot_at a.slots.now a.at.place) ≡ some c.in-Number.cost =
+    sym cost ∙ ap number_of c.in-Number.is in
+    (λ stack. rw (e, count, c.wide.ensures.0), omega (arith, c.wide.ensures.1, c.number_at-count.ensures.1))

@@ -7,19 +7,12 @@ use Rattle.specimen.proofs.answer.Goals as goal
 pub returns-then-table-start : goal.returns-then-table-start
 returns-then-table-start c =
     λ g e v b.
-    let at-fill-table = c in
-    let at-start = at-fill-table in
-    let a = at-start.args in
-    nothing_said g v a.rules.now b a.n (search rules) (search rules) a.sizes e _ refl at-fill-table.fill_table.ensures
+    let a = c.args in
+    nothing_said g v a.rules.now b a.n (search rules) (search rules) a.sizes e _ refl c.fill_table.ensures
     c.place_of-start.ensures.0 _ c.if-table-start.true
 
 pub returns : goal.returns
 returns c = λ g e v b.
-    let at_copy = c in
-    let at-if1 = at_copy in
-    let at-place-of = at-if1 in
-    let at-fill-table = at-place-of in
-    let at-start = at-fill-table in
-    let a = at-start.args in
-    string_said g v a.rules.now b a.n (search rules) (search rules) a.sizes e _ refl at-fill-table.fill_table.ensures
-    at-place-of.place_of-start.ensures.0 _ at-if1.if-table-start.false at_copy.copy.ensures
+    let a = c.args in
+    string_said g v a.rules.now b a.n (search rules) (search rules) a.sizes e _ refl c.fill_table.ensures
+    c.place_of-start.ensures.0 _ c.if-table-start.false c.copy.ensures

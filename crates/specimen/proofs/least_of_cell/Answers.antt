@@ -13,13 +13,11 @@ unfolding iter
 loop-r-init c = search rules
 
 pub loop-r-preserved-then-narrow_at-a : goal.loop-r-preserved-then-narrow_at-a
-loop-r-preserved-then-narrow_at-a c =
-    let at-loop = c in
-    let at-start = at-loop in (
-      search rules,
-      rw (iter_more, ← at-loop.loop-r.invariant.1)
-          (passed_over _ _ _ _ at-start.args.rules.now at-loop.loop-r.r (λ e. c.if-narrow_at-a.true (c.narrow_at.ensures ∙ e))),
-    )
+loop-r-preserved-then-narrow_at-a c = (
+  search rules,
+  rw (iter_more, ← c.loop-r.invariant.1)
+      (passed_over _ _ _ _ c.args.rules.now c.loop-r.r (λ e. c.if-narrow_at-a.true (c.narrow_at.ensures ∙ e))),
+)
 
 pub loop-r-preserved : goal.loop-r-preserved
 loop-r-preserved c = (search rules, rw (iter_more, ← c.loop-r.invariant.1) c.lesser_rule-next.ensures)

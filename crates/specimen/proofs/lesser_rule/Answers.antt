@@ -7,37 +7,24 @@ use Rattle.specimen.proofs.lesser_rule.Goals as goal
 pub returns-then-head-a : goal.returns-then-head-a
 unfolding lesser_rule by_rule made
 returns-then-head-a c =
-    let at-if1 = c in
-    let at-rule = at-if1 in
-    let at-rule-at = at-rule in
-    rw (← at-rule-at.rule_at-rule.ensures, at-rule.in-Pair.is, eq-eqb _ _ at-if1.if-head-a.true) c.lesser_pair.ensures
+    rw (← c.rule_at-rule.ensures, c.in-Pair.is, eq-eqb _ _ c.if-head-a.true) c.lesser_pair.ensures
 
 pub returns-then-len-eq1 : goal.returns-then-len-eq1
 unfolding lesser_rule by_rule made
 returns-then-len-eq1 c =
-    let at-if3 = c in
-    let at-if2 = at-if3 in
-    let at-rule2 = at-if2 in
-    let at-rule-at = at-rule2 in
-    rw (← at-rule-at.rule_at-rule.ensures, at-rule2.in-Word.is, eq-eqb _ _ at-if2.if-head-a-2.true, eq-eqb _ _ at-if3.if-len-eq1.true) c.lesser_word.ensures
+    rw (← c.rule_at-rule.ensures, c.in-Word.is, eq-eqb _ _ c.if-head-a-2.true, eq-eqb _ _ c.if-len-eq1.true) c.lesser_word.ensures
 
 pub returns-then-head-a-2 : goal.returns-then-head-a-2
 unfolding lesser_rule by_rule made
 returns-then-head-a-2 c =
-    let at-rule2 = c in
-    let at-rule-at = at-rule2 in
-    rw (← at-rule-at.rule_at-rule.ensures, at-rule2.in-Word.is, eq-eqb _ _ c.if-head-a-2.true, ne_eqb _ _ c.if-len-eq1.false)
+    rw (← c.rule_at-rule.ensures, c.in-Word.is, eq-eqb _ _ c.if-head-a-2.true, ne_eqb _ _ c.if-len-eq1.false)
 
 pub returns-else-head-a : goal.returns-else-head-a
 unfolding lesser_rule by_rule made
 returns-else-head-a c =
-    let at-rule = c in
-    let at-rule-at = at-rule in
-    rw (← at-rule-at.rule_at-rule.ensures, at-rule.in-Pair.is, ne_eqb _ _ c.if-head-a.false)
+    rw (← c.rule_at-rule.ensures, c.in-Pair.is, ne_eqb _ _ c.if-head-a.false)
 
 pub returns-else-head-a-2 : goal.returns-else-head-a-2
 unfolding lesser_rule by_rule made
 returns-else-head-a-2 c =
-    let at-rule2 = c in
-    let at-rule-at = at-rule2 in
-    rw (← at-rule-at.rule_at-rule.ensures, at-rule2.in-Word.is, ne_eqb _ _ c.if-head-a-2.false)
+    rw (← c.rule_at-rule.ensures, c.in-Word.is, ne_eqb _ _ c.if-head-a-2.false)

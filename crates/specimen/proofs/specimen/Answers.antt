@@ -9,48 +9,35 @@ use Rattle.specimen.proofs.specimen.Goals as goal
 
 pub returns-then-wanted-lt1 : goal.returns-then-wanted-lt1
 returns-then-wanted-lt1 c =
-    let at_read = c in
-    let at_block = at_read in
-    let block = at_block.args.grammar.now in
-    let (g, e, z) = accepted_told (grammar_block block) at_block.read_block-read.ensures.0 at_read.in-Grammar.is in
+    let block = c.args.grammar.now in
+    let (g, e, z) = accepted_told (grammar_block block) c.read_block-read.ensures.0 c.in-Grammar.is in
     specimen_refused _ _ _ _ (asked_none 24 _ _ _ e c.if-wanted-lt1.true)
 
 pub returns-then-wanted-gt-MAX_LENGTH : goal.returns-then-wanted-gt-MAX_LENGTH
 returns-then-wanted-gt-MAX_LENGTH c =
-    let at_read = c in
-    let at_block = at_read in
-    let block = at_block.args.grammar.now in
-    let (g, e, z) = accepted_told (grammar_block block) at_block.read_block-read.ensures.0 at_read.in-Grammar.is in
+    let block = c.args.grammar.now in
+    let (g, e, z) = accepted_told (grammar_block block) c.read_block-read.ensures.0 c.in-Grammar.is in
     specimen_refused _ _ _ _ (asked_many 24 _ _ _ e c.if-wanted-lt1.false c.if-wanted-gt-MAX_LENGTH.true)
 
 pub returns-then-out-n : goal.returns-then-out-n
 returns-then-out-n c =
-    let at_read = c in
-    let at_block = at_read in
-    let block = at_block.args.grammar.now in
-    let (g, e, z) = accepted_told (grammar_block block) at_block.read_block-read.ensures.0 at_read.in-Grammar.is in
+    let block = c.args.grammar.now in
+    let (g, e, z) = accepted_told (grammar_block block) c.read_block-read.ensures.0 c.in-Grammar.is in
     specimen_refused _ _ _ _ (asked_short 24 _ _ _ e c.if-wanted-lt1.false c.if-wanted-gt-MAX_LENGTH.false c.if-out-n.true)
 
 pub answer-requires : goal.answer-requires
 answer-requires c =
-    let at-if3 = c in
-    let at_read = at-if3 in
-    let sized = subst InBounds at_read.in-Grammar.is at_read.read_block-read.ensures.2 in
-    (sized, at-if3.if-wanted-lt1.false, at-if3.if-wanted-gt-MAX_LENGTH.false, at-if3.if-out-n.false)
+    let sized = subst InBounds c.in-Grammar.is c.read_block-read.ensures.2 in
+    (sized, c.if-wanted-lt1.false, c.if-wanted-gt-MAX_LENGTH.false, c.if-out-n.false)
 
 pub returns-in-Refused : goal.returns-in-Refused
 returns-in-Refused c =
-    let at_read = c in
-    let at_block = at_read in
-    let block = at_block.args.grammar.now in
-    specimen_refused _ _ _ _ (asked_block 24 _ _ _ (refused_told (grammar_block block) at_block.read_block-read.ensures.0 at_read.in-Refused.is))
+    let block = c.args.grammar.now in
+    specimen_refused _ _ _ _ (asked_block 24 _ _ _ (refused_told (grammar_block block) c.read_block-read.ensures.0 c.in-Refused.is))
 
 pub returns-else-out-n : goal.returns-else-out-n
 returns-else-out-n c =
-    let at-if3 = c in
-    let at_read = at-if3 in
-    let at_block = at_read in
-    let block = at_block.args.grammar.now in
-    let (g, e, z) = accepted_told (grammar_block block) at_block.read_block-read.ensures.0 at_read.in-Grammar.is in
-    rw (specimen_accepted _ _ _ (asked_well 24 _ _ _ e at-if3.if-wanted-lt1.false at-if3.if-wanted-gt-MAX_LENGTH.false at-if3.if-out-n.false))
-    (c.answer.ensures g z (grammar_block_out _ g e).0 (rw e at at_block.read_block-read.ensures.1))
+    let block = c.args.grammar.now in
+    let (g, e, z) = accepted_told (grammar_block block) c.read_block-read.ensures.0 c.in-Grammar.is in
+    rw (specimen_accepted _ _ _ (asked_well 24 _ _ _ e c.if-wanted-lt1.false c.if-wanted-gt-MAX_LENGTH.false c.if-out-n.false))
+    (c.answer.ensures g z (grammar_block_out _ g e).0 (rw e at c.read_block-read.ensures.1))
