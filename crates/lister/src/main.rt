@@ -18,7 +18,7 @@ const WORK_NUMBERS: usize = 8192;
 
 const OUTPUT_BYTES: usize = 1024;
 
-// The first bytes of a file, as many as there is room for; none of one that cannot be opened.
+// The first bytes of a file, as many as there is room for; none of one that cannot be opened. Where a read fails, its error: `bytes` may then hold anything.
 fn read_file(rt: &impl Files, path: &str, bytes: &mut [u8]) -> io::Result<usize>
     ensures { ReadsAtMost result bytes.new }
 {

@@ -1,4 +1,5 @@
-// What programs print: bytes, numbers, and rows that `lines` shows.
+// What programs print: bytes, numbers, and rows that `lines` shows. Each function answers the error of a write that fails, and no other; what was written
+// before it stands.
 #![tactic(auto)]
 
 ghost use Rattle.std.specs.Prelude.{◌≤◌, ◌<◌};
