@@ -2,6 +2,7 @@
 // grammar.bin. It reads both files and prints the numbers that `lines` shows.
 #![tactic(auto)]
 
+ghost use Rattle.std.specs.Prelude.{◌≡◌, length};
 ghost use Rattle.std.specs.Io.{ReadsAtMost};
 
 use inputs::Listed;
@@ -18,9 +19,11 @@ const WORK_NUMBERS: usize = 8192;
 
 const OUTPUT_BYTES: usize = 1024;
 
-// The first bytes of a file, as many as there is room for; none of one that cannot be opened. Where a read fails, its error: `bytes` may then hold anything.
+// The first bytes of a file, as many as there is room for; none of one that cannot be opened. Where reading fails, what was read so far stands in
+// `bytes`, and the error is handed up.
 fn read_file(rt: &impl Files, path: &str, bytes: &mut [u8]) -> io::Result<usize>
-    ensures { ReadsAtMost result bytes.new }
+    ensures read { ReadsAtMost result bytes.new }
+    ensures same_room { length bytes.new ≡ length bytes.old }
 {
     let Ok(mut file) = fs::open(rt, path) else {
         return Ok(0);
