@@ -3,8 +3,9 @@
 use std::sync::OnceLock;
 use std::time::{Duration, Instant};
 
-/// The runs of which the shortest counts.
-const RUNS: usize = 3;
+/// Runs are timed until this many in a row are no shorter than the shortest, which counts, and at most so many.
+const NO_SHORTER: usize = 3;
+const MOST_RUNS: usize = 30;
 
 /// The time that this thread has had a core so far, or, where the system does not say it, the time that has passed.
 pub fn thread_time() -> Duration {
@@ -43,7 +44,16 @@ pub fn once<T>(run: impl FnOnce() -> T) -> (Duration, T) {
     (thread_time() - begin, given)
 }
 
-/// The shortest time of some runs.
+/// The shortest time of some runs: what other work on the machine adds to one is left out.
 pub fn time<T>(mut run: impl FnMut() -> T) -> Duration {
-    (0..RUNS).map(|_| once(&mut run).0).min().unwrap_or_default()
+    let (mut shortest, mut since) = (once(&mut run).0, 0);
+    for _ in 1..MOST_RUNS {
+        let time = once(&mut run).0;
+        since = if time < shortest { 0 } else { since + 1 };
+        shortest = shortest.min(time);
+        if since == NO_SHORTER {
+            break;
+        }
+    }
+    shortest
 }

@@ -38,11 +38,25 @@ pub(super) fn is_ctm(text: &str) -> bool {
     is_whole && lines(text).find(is_line).is_some_and(is_word)
 }
 
+/// How many utterances a text has, some of which may be wrong.
+pub(super) fn count(text: &str) -> Result<usize, Error> {
+    let (mut count, mut last) = (0, None);
+    for line in lines(text).filter(is_line) {
+        let mut items = line.items().map(|item| item.text);
+        let name = Some(items.next().zip(items.next()).ok_or_else(|| line.ends(WANTED))?);
+        count += usize::from(name != last);
+        last = name;
+    }
+    Ok(count)
+}
+
 /// Reads the utterances of a text, of which some may be wrong.
 pub(super) fn parse(text: &str) -> Result<Vec<Result<Draft, Unread>>, Error> {
     let mut utterances: Vec<Utterance> = Vec::new();
+    let mut items: Vec<Item> = Vec::with_capacity(NEEDED + 1);
     for line in lines(text).filter(is_line) {
-        let items: Vec<Item> = line.items().take(NEEDED + 1).collect();
+        items.clear();
+        items.extend(line.items().take(NEEDED + 1));
         let [file, channel, ..] = items[..] else { return Err(line.ends(WANTED)) };
         let is_known = |last: &Utterance| last.is_of(file.text, channel.text);
         if !utterances.last().is_some_and(is_known) {

@@ -166,7 +166,7 @@ impl UtteranceReader<'_> {
 
     /// Reads the one lattice of a text as an acceptor, over the labels of the grammar's words.
     pub fn recognised_alone(&self, text: &str) -> Result<Recognised, Error> {
-        alone(self.drafts(without_mark(text))?, text)?.map_err(|unread| *unread.error)?.recognised(self)
+        alone(self.drafts(without_mark(text), true)?, text)?.map_err(|unread| *unread.error)?.recognised(self)
     }
 
     /// Reads all that a text has, of which only some formats have several. Of several one that cannot be read stands between the
@@ -219,7 +219,7 @@ impl UtteranceReader<'_> {
             let id = draft.id.clone();
             draft.recognised(self).map_err(|error| Unread::new(id, error))
         };
-        some_read(self.drafts(without_mark(text))?.into_iter().map(recognised))
+        some_read(self.drafts(without_mark(text), false)?.into_iter().map(recognised))
     }
 
     /// Reads a text in one of the formats that take no lattice: slots, a network that is slots, or a plain word graph; nothing if
@@ -249,7 +249,8 @@ impl UtteranceReader<'_> {
         (!is_wide && !is_other_fst).then(|| Ok(Lattice { dropped: self.left_out(text, format), ..plain? }))
     }
 
-    fn drafts(&self, text: &str) -> Result<Vec<Result<Draft, Unread>>, Error> {
+    /// All that a text has as it is written; if only one is wanted, several may be refused before any is read.
+    fn drafts(&self, text: &str, is_alone: bool) -> Result<Vec<Result<Draft, Unread>>, Error> {
         let one = |draft: Draft| vec![Ok(draft)];
         match self.format.unwrap_or_else(|| Format::of(text)) {
             Format::Slots => self.slots_draft(text).map(one),
@@ -260,6 +261,11 @@ impl UtteranceReader<'_> {
             Format::Slf => self.slf_draft(text).map(one),
             Format::Kaldi => fst::parse_kaldi(text),
             Format::NBest => nbest::parse(text).map(one),
+            // a draft of each takes far longer than their number, which is all that is told
+            Format::Ctm if is_alone => match ctm::count(text)? {
+                count @ 2.. => Err(many(count, text)),
+                _ => ctm::parse(text),
+            },
             Format::Ctm => ctm::parse(text),
             Format::Json => recogniser_json::parse(text).map(one),
         }
@@ -292,6 +298,11 @@ fn lacks_scale(unread: &Unread) -> bool {
 fn alone<T>(mut all: Vec<T>, text: &str) -> Result<T, Error> {
     match (all.len(), all.pop()) {
         (1, Some(only)) => Ok(only),
-        (count, _) => Err(Error::at(super::items::end_of(text), Fault::ManyLattices(count))),
+        (count, _) => Err(many(count, text)),
     }
+}
+
+/// That a text has several, or none, where one was wanted.
+fn many(count: usize, text: &str) -> Error {
+    Error::at(super::items::end_of(text), Fault::ManyLattices(count))
 }
